@@ -1,0 +1,34 @@
+-- The numbers and texts of the kinds of traps.
+use Rattle.std.specs.Prelude.{ℕ, List, Option, Some, None, slice_get, codes, [], ◌∷◌}
+use Rattle.bl_base.specs.declared.trap.Trap.{Trap}
+use Rattle.bl_base.specs.declared.trap.Trap.TheVariants.{Unreachable, DivideByZero, Overflow, OutOfBounds, UndefinedElement, UninitializedElement, TypeMismatch, StackExhausted}
+
+-- the number of a kind
+abbrev pub code_of : Trap → ℕ
+code_of Unreachable = 0
+code_of DivideByZero = 1
+code_of Overflow = 2
+code_of OutOfBounds = 3
+code_of UndefinedElement = 4
+code_of UninitializedElement = 5
+code_of TypeMismatch = 6
+code_of StackExhausted = 7
+
+-- the kinds in the order of their numbers
+abbrev pub kinds : List Trap
+kinds = Unreachable ∷ DivideByZero ∷ Overflow ∷ OutOfBounds ∷ UndefinedElement ∷ UninitializedElement ∷ TypeMismatch ∷ StackExhausted ∷ []
+
+-- the kind of a number, where there is one
+abbrev pub trap_of : ℕ → Option Trap
+trap_of code = slice_get kinds code
+
+-- the text of a kind
+abbrev pub text_of : Trap → List ℕ
+text_of Unreachable = codes "unreachable"
+text_of DivideByZero = codes "integer divide by zero"
+text_of Overflow = codes "integer overflow"
+text_of OutOfBounds = codes "out of bounds memory access"
+text_of UndefinedElement = codes "undefined element"
+text_of UninitializedElement = codes "uninitialized element"
+text_of TypeMismatch = codes "indirect call type mismatch"
+text_of StackExhausted = codes "call stack exhausted"

@@ -1,0 +1,28 @@
+//! What every crate of Blade speaks of: lists and texts, labels, value types, positions, sets of
+//! sites, traps, starts and the ways in which a run ends.
+#![tactic(auto)]
+
+mod list;
+mod memory;
+mod names;
+mod number;
+mod quantity;
+mod run;
+mod sites;
+mod start;
+mod text;
+mod trap;
+
+pub use list::List;
+pub use memory::NoMemory;
+pub use names::{Flow, Label, ValueType};
+pub use number::{Pos, Var};
+pub use quantity::Quantity;
+pub use run::{Pages, Run};
+pub use sites::SiteSet;
+pub use start::{Patch, Start, fits};
+pub use text::Text;
+pub use trap::Trap;
+
+#[cfg(test)]
+mod tests;

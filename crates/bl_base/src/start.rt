@@ -1,0 +1,79 @@
+//! What a run starts from.
+ghost use Rattle.std.specs.Prelude.{◌↔◌, All, IsTrue};
+ghost use Rattle.bl_base.specs.Fits.{Fits, ArgumentFits, ArgumentsFit, PatchFits};
+
+use crate::list::List;
+use crate::names::ValueType;
+use crate::text::Text;
+
+/// Bytes that are written over a memory's first contents.
+#[derive(Debug, Drop)]
+pub struct Patch {
+    /// The memory's number, from 0.
+    pub memory: u32,
+    /// Where in the memory the bytes begin.
+    pub offset: u32,
+    /// The bytes.
+    pub bytes: Text,
+}
+
+/// The arguments of the function that is entered, and patches that are written in order.
+#[derive(Debug, Drop)]
+pub struct Start {
+    /// One for each parameter; one of an i32 is below 2^32.
+    pub args: List<u64>,
+    /// The patches, the first to be written first.
+    pub patches: List<Patch>,
+}
+
+/// Whether a start fits a function of these parameters in a program whose memories have these first
+/// pages: there is an argument for each parameter, one of an i32 is below 2^32, and each patch names
+/// a memory and lies in its first pages. Linear in the arguments and the patches; takes no memory.
+pub fn fits(params: &[ValueType], sizes: &[u32], start: &Start) -> bool
+    ensures { IsTrue result ↔ Fits params.now sizes.now start.now }
+{
+    arguments_fit(params, start.args.as_slice()) && patches_fit(sizes, start.patches.as_slice())
+}
+
+fn arguments_fit(params: &[ValueType], args: &[u64]) -> bool
+    ensures { IsTrue result ↔ ArgumentsFit params.now args.now }
+{
+    if params.len() != args.len() {
+        return false;
+    }
+    for (kind, value) in params.iter().zip(args) {
+        if !argument_fits(*kind, *value) {
+            return false;
+        }
+    }
+    true
+}
+
+fn argument_fits(kind: ValueType, value: u64) -> bool
+    ensures { IsTrue result ↔ ArgumentFits kind value }
+{
+    match kind {
+        ValueType::I32 => value <= u32::MAX as u64,
+        ValueType::I64 => true,
+    }
+}
+
+fn patches_fit(sizes: &[u32], patches: &[Patch]) -> bool
+    ensures { IsTrue result ↔ All (PatchFits sizes.now) patches.now }
+{
+    for patch in patches {
+        if !patch_fits(sizes, patch) {
+            return false;
+        }
+    }
+    true
+}
+
+fn patch_fits(sizes: &[u32], patch: &Patch) -> bool
+    ensures { IsTrue result ↔ PatchFits sizes.now patch.now }
+{
+    match sizes.get(patch.memory as usize) {
+        Some(pages) => patch.offset as u128 + patch.bytes.len() as u128 <= *pages as u128 * 65_536,
+        None => false,
+    }
+}
