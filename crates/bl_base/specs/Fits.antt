@@ -1,5 +1,6 @@
 -- When a start fits a function (WebAssembly 1.0, section 4.5.5, for the arguments).
-use Rattle.std.specs.Prelude.{ℕ, ◌+◌, ◌*◌, ◌^◌, ◌<◌, ◌≤◌, List, [], ◌∷◌, length, All, Option, Some, None, slice_get}
+use Rattle.std.specs.Prelude.{ℕ, ◌+◌, ◌*◌, ◌^◌, ◌<◌, ◌≤◌, List, length, All, Option, Some, None, slice_get}
+use Rattle.std.specs.List.{AllZip}
 use Rattle.bl_base.specs.declared.names.ValueType.{ValueType}
 use Rattle.bl_base.specs.declared.names.ValueType.TheVariants.{I32, I64}
 use Rattle.bl_base.specs.declared.start.Patch.{Patch}
@@ -9,13 +10,6 @@ use Rattle.bl_base.specs.declared.start.Start.{Start}
 abbrev pub ArgumentFits : ValueType → ℕ → Type 0
 ArgumentFits I32 value = value < 2 ^ 32
 ArgumentFits I64 value = value < 2 ^ 64
-
--- there is one argument for each parameter, and each is one of its type
-abbrev pub ArgumentsFit : List ValueType → List ℕ → Type 0
-ArgumentsFit [] [] = Unit {0}
-ArgumentsFit (kind ∷ kinds) (value ∷ values) = ArgumentFits kind value × ArgumentsFit kinds values
-ArgumentsFit [] (value ∷ values) = ⊥
-ArgumentsFit (kind ∷ kinds) [] = ⊥
 
 -- bytes from a place lie in so many pages of 65,536 bytes; with no such memory they don't
 abbrev pub LiesIn : ℕ → ℕ → Option ℕ → Type 0
@@ -28,5 +22,6 @@ PatchFits sizes patch = LiesIn patch.offset (length patch.bytes) (slice_get size
 
 -- the start fits a function of these parameters where the memories have these first pages
 pub record Fits (params : List ValueType) (sizes : List ℕ) (start : Start) : Type 0 where
-  pub arguments : ArgumentsFit params start.args
+  -- one argument for each parameter, each of its type
+  pub arguments : AllZip ArgumentFits params start.args
   pub patches : All (PatchFits sizes) start.patches

@@ -1,5 +1,5 @@
 -- The numbers and texts of the kinds of traps.
-use Rattle.std.specs.Prelude.{ℕ, List, Option, Some, None, slice_get, codes, [], ◌∷◌}
+use Rattle.std.specs.Prelude.{ℕ, List, Option, slice_get, codes, [], ◌∷◌}
 use Rattle.bl_base.specs.declared.trap.Trap.{Trap}
 use Rattle.bl_base.specs.declared.trap.Trap.TheVariants.{Unreachable, DivideByZero, Overflow, OutOfBounds, UndefinedElement, UninitializedElement, TypeMismatch, StackExhausted}
 

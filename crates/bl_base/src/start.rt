@@ -1,6 +1,7 @@
 //! What a run starts from.
 ghost use Rattle.std.specs.Prelude.{◌↔◌, All, IsTrue};
-ghost use Rattle.bl_base.specs.Fits.{Fits, ArgumentFits, ArgumentsFit, PatchFits};
+ghost use Rattle.std.specs.List.{AllZip};
+ghost use Rattle.bl_base.specs.Fits.{ArgumentFits, PatchFits, Fits};
 
 use crate::list::List;
 use crate::names::ValueType;
@@ -36,13 +37,13 @@ pub fn fits(params: &[ValueType], sizes: &[u32], start: &Start) -> bool
 }
 
 fn arguments_fit(params: &[ValueType], args: &[u64]) -> bool
-    ensures { IsTrue result ↔ ArgumentsFit params.now args.now }
+    ensures { IsTrue result ↔ AllZip ArgumentFits params.now args.now }
 {
     if params.len() != args.len() {
         return false;
     }
-    for (kind, value) in params.iter().zip(args) {
-        if !argument_fits(*kind, *value) {
+    for i in 0..params.len() {
+        if !argument_fits(params[i], args[i]) {
             return false;
         }
     }
@@ -61,12 +62,7 @@ fn argument_fits(kind: ValueType, value: u64) -> bool
 fn patches_fit(sizes: &[u32], patches: &[Patch]) -> bool
     ensures { IsTrue result ↔ All (PatchFits sizes.now) patches.now }
 {
-    for patch in patches {
-        if !patch_fits(sizes, patch) {
-            return false;
-        }
-    }
-    true
+    patches.iter().all(|patch| patch_fits(sizes, patch))
 }
 
 fn patch_fits(sizes: &[u32], patch: &Patch) -> bool
