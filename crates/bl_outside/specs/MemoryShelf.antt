@@ -1,0 +1,46 @@
+-- A shelf in memory.
+use Rattle.std.specs.Prelude.{◌≡◌, ℕ, List, [], Option, None, Some, Contains, Result, Ok, Err, ◌⊎◌, Vec, String, string_bytes, refl}
+use Rattle.std.specs.Coded.{Coded, code_by, coded×, coded_ℕ, coded_list}
+use Rattle.std.specs.FinMap as fin
+use Rattle.std.specs.declared.alloc.Global.{Global}
+use Rattle.bl_outside.specs.Faults.{one_more}
+use Rattle.bl_outside.specs.Shelf.{Files, Faults}
+use Rattle.bl_outside.specs.declared.shelf.ShelfError.{ShelfError}
+use Rattle.bl_outside.specs.declared.shelf.ShelfError.TheVariants.{Failed, Memory}
+
+-- the files, the faults, how many calls there were, and the numbers of the calls that fail
+pub record Shelved : Type 0 where
+  pub files : Files
+  pub faults : Faults
+  pub calls : ℕ
+  pub failing : List ℕ
+
+-- a shelf is stored as the tuple of its parts
+abbrev pub shelved_code : Coded Shelved
+shelved_code =
+    code_by (Files × (ℕ × (ℕ × (List ℕ × (ℕ × List ℕ))))) (coded× (fin.code (coded_list coded_ℕ) (coded_list coded_ℕ)) (coded× coded_ℕ (coded× coded_ℕ (coded× (coded_list coded_ℕ) (coded× coded_ℕ (coded_list coded_ℕ))))))
+    (λ s. (s.files, (s.faults.reads, (s.faults.writes, (s.faults.last, (s.calls, s.failing))))))
+    (λ p. record { files = p.0; faults = record { reads = p.1.0; writes = p.1.1.0; last = p.1.1.1.0 }; calls = p.1.1.1.1.0; failing = p.1.1.1.1.1 })
+    (λ _. refl)
+
+-- an entry as a name and bytes
+abbrev pub named : String Global × Vec ℕ Global → List ℕ × List ℕ
+named entry = (string_bytes entry.0, entry.1.items)
+
+-- the call that comes next is one of those that fail
+abbrev pub NextFails : Shelved → Type 0
+NextFails shelf = Contains shelf.failing (one_more shelf.calls)
+
+-- the shelf after a fetch: one call more, and a read fault where it failed
+abbrev pub after_fetch : {X : Type 0} → Result X ShelfError → Shelved → List ℕ → Shelved
+after_fetch (Ok x) shelf name = record shelf { calls = one_more shelf.calls }
+after_fetch (Err Memory) shelf name = record shelf { calls = one_more shelf.calls }
+after_fetch (Err Failed) shelf name =
+    record shelf { calls = one_more shelf.calls; faults = record { reads = one_more shelf.faults.reads; writes = shelf.faults.writes; last = name } }
+
+-- the shelf after a keep: one call more; the entry where it succeeded, a write fault where it failed
+abbrev pub after_keep : Result (Unit {0}) ShelfError → Shelved → List ℕ → List ℕ → Shelved
+after_keep (Ok x) shelf name bytes = record shelf { calls = one_more shelf.calls; files = fin.insert shelf.files name bytes }
+after_keep (Err Memory) shelf name bytes = record shelf { calls = one_more shelf.calls }
+after_keep (Err Failed) shelf name bytes =
+    record shelf { calls = one_more shelf.calls; faults = record { reads = shelf.faults.reads; writes = one_more shelf.faults.writes; last = name } }

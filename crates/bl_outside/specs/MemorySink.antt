@@ -1,0 +1,21 @@
+-- A sink in memory.
+use Rattle.std.specs.Prelude.{ℕ, ◌-◌, List, length, min, Option, None, Some, Result, Ok, Err, if◌then◌else◌, nat_lt, ◌||◌, nat_eq}
+use Rattle.bl_outside.specs.Faults.{one_more}
+use Rattle.bl_outside.specs.declared.sink.SinkFault.{SinkFault}
+
+-- the bytes taken, the most bytes in all where there is a limit, the room that is left for more, and
+-- the count of faults
+pub record Held : Type 0 where
+  pub taken : List ℕ
+  pub limit : Option ℕ
+  pub room : ℕ
+  pub faults : ℕ
+
+-- as many of so many bytes as the limit leaves
+abbrev pub within : Option ℕ → ℕ → ℕ → ℕ
+within None taken count = count
+within (Some limit) taken count = min count (limit - taken)
+
+-- how many bytes of a piece of this length the sink takes: as many as both limit and room leave
+abbrev pub accepted : Held → ℕ → ℕ
+accepted sink count = within sink.limit (length sink.taken) (min count sink.room)
