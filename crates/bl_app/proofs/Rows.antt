@@ -1,0 +1,64 @@
+-- The definitions on one worked module: a function that adds 1 to its parameter.
+use Rattle.std.proofs.Common.{◌≡◌, ℕ, List, [], ◌∷◌, ◌++◌, refl}
+use Rattle.std.specs.Prelude.{length, codes, zero, suc}
+use Rattle.bl_base.specs.declared.trap.Trap.TheVariants as kind
+use Rattle.bl_wasm.specs.declared.instruction.Instr.{Instr}
+use Rattle.bl_wasm.specs.declared.instruction.Instr.TheVariants.{LocalGet, I32Const, I32Add}
+use Rattle.bl_wasm.specs.declared.linked.Linked.{Linked}
+use Rattle.bl_app.specs.declared.program.Program.{Program}
+use Rattle.bl_app.specs.declared.program.Operator.TheVariants as op
+use Rattle.bl_app.specs.declared.program.Operand.TheVariants.{Variable, Constant}
+use Rattle.bl_app.specs.declared.program.Command.{Command}
+use Rattle.bl_app.specs.declared.program.Command.TheVariants.{Set, Jump, Out, Ret, Trap}
+use Rattle.bl_app.specs.Grammar.{module_of, exports_of, codes_of, header, type_section, function_section, section_of}
+use Rattle.bl_app.specs.Linking.{linked_of}
+use Rattle.bl_app.specs.Lowering.{low, set, reads, plain_mark, steps_bound}
+use Rattle.bl_app.specs.Runs.{Next, goes, ends, stuck, returned, Outcome}
+use Rattle.bl_app.specs.Source.{source_step, entering, Config}
+use Rattle.bl_app.specs.Plain.{plain_step, opening, State, placed, Placed}
+
+name : List ℕ
+name = codes "inc"
+
+abbrev items : List Instr
+items = LocalGet 0 ∷ I32Const 1 ∷ I32Add ∷ []
+
+abbrev tree : Linked
+tree = linked_of (codes "inc") (module_of (codes "inc") items)
+
+bytes : header ++ type_section ++ function_section ++ section_of 7 (exports_of (codes "inc")) ++ section_of 10 (codes_of (0x20 ∷ 0 ∷ 0x41 ∷ 1 ∷ 0x6A ∷ 0x0B ∷ []))
+    ≡ 0x00 ∷ 0x61 ∷ 0x73 ∷ 0x6D ∷ 0x01 ∷ 0x00 ∷ 0x00 ∷ 0x00 ∷ 0x01 ∷ 0x06 ∷ 0x01 ∷ 0x60 ∷ 0x01 ∷ 0x7F ∷ 0x01 ∷ 0x7F ∷ 0x03 ∷ 0x02 ∷ 0x01 ∷ 0x00 ∷ 0x07 ∷ 0x07 ∷ 0x01 ∷ 0x03 ∷ 0x69 ∷ 0x6E ∷ 0x63 ∷ 0x00 ∷ 0x00 ∷ 0x0A ∷ 0x09 ∷ 0x01 ∷ 0x07 ∷ 0x00 ∷ 0x20 ∷ 0x00 ∷ 0x41 ∷ 0x01 ∷ 0x6A ∷ 0x0B ∷ []
+bytes = refl
+
+commands : (low tree).commands
+    ≡ Trap kind.Unreachable ∷ Trap kind.DivideByZero ∷ Trap kind.Overflow ∷ Trap kind.OutOfBounds ∷ Trap kind.UndefinedElement ∷ Trap kind.UninitializedElement ∷ Trap kind.TypeMismatch
+    ∷ Jump (record { 0 = 8 })
+    ∷ set 2 op.Move (reads 0) (Constant 0)
+    ∷ set 3 op.Move (Constant 1) (Constant 0)
+    ∷ set 4 op.I32Add (reads 2) (reads 3)
+    ∷ Out plain_mark 0 (reads 4)
+    ∷ Ret ∷ []
+commands = refl
+
+-- so many steps, at most
+run : {C : Type 0} → (C → Next C) → ℕ → Next C → Next C
+run step zero next = next
+run step (suc n) (goes c) = run step n (step c)
+run step (suc n) (ends o) = ends o
+run step (suc n) stuck = stuck
+
+-- five steps and six commands return 0 for the greatest argument
+source_run : run (source_step tree) 5 (goes (entering 0 (4294967295 ∷ []) [])) ≡ ends (returned (0 ∷ []) [])
+unfolding run
+source_run = refl
+
+abbrev entered : List Placed → State
+entered (p ∷ ps) = opening p (4294967295 ∷ [])
+entered [] = record { position = 0; chain = []; registers = λ d v. 0 }
+
+plain_run : run (plain_step (low tree)) 6 (goes (entered (placed (low tree)))) ≡ ends (returned (0 ∷ []) [])
+unfolding run
+plain_run = refl
+
+bound : steps_bound tree ≡ 4
+bound = refl

@@ -1,0 +1,25 @@
+-- Runs of a machine that steps from one configuration to the next, until it ends.
+use Rattle.std.specs.Prelude.{◌≡◌, ℕ, suc, zero, List}
+use Rattle.bl_base.specs.declared.trap.Trap.{Trap}
+
+-- a memory at a run's end: its pages and its bytes
+pub record MemoryState : Type 0 where
+  pub pages : ℕ
+  pub bytes : List ℕ
+
+-- how a run ends: with values or by a trap, and with each memory
+pub data Outcome : Type 0 where
+  returned : (values : List ℕ) → (memories : List MemoryState) → Outcome
+  trapped : (kind : Trap) → (memories : List MemoryState) → Outcome
+
+-- one step: to a configuration, or to the run's end; or there is none
+pub data Next (C : Type 0) : Type 0 where
+  goes : C → Next C
+  ends : Outcome → Next C
+  stuck : Next C
+
+module _ {C : Type 0} (step : C → Next C) where
+  -- the run from a configuration ends with that outcome after exactly so many steps, the last included
+  pub data EndsAfter : ℕ → C → Outcome → Type 0 where
+    last : (c : C) (o : Outcome) → step c ≡ ends o → EndsAfter 1 c o
+    more : (n : ℕ) (c d : C) (o : Outcome) → step c ≡ goes d → EndsAfter n d o → EndsAfter (suc n) c o
