@@ -15,6 +15,11 @@ use Rattle.bl_app.specs.Linking.{linked_of}
 use Rattle.bl_app.specs.Lowering.{low, set, reads, plain_mark, steps_bound}
 use Rattle.bl_app.specs.Runs.{Next, goes, ends, stuck, returned, Outcome}
 use Rattle.bl_app.specs.Source.{source_step, entering, Config}
+use Rattle.std.specs.Fmt.{digits}
+use Rattle.std.specs.Prelude.{Some, None}
+use Rattle.bl_app.specs.Image.{image_of, leb}
+use Rattle.bl_app.specs.Texts.{report_text}
+use Rattle.bl_app.specs.Requests.{module_name, request_of, Request}
 use Rattle.bl_app.specs.Plain.{plain_step, opening, State, placed, Placed}
 
 name : List ℕ
@@ -62,3 +67,24 @@ plain_run = refl
 
 bound : steps_bound tree ≡ 4
 bound = refl
+
+image : image_of (low tree)
+    ≡ 0x42 ∷ 0x4C ∷ 0x49 ∷ 0x4D ∷ 0x01 ∷ 0x00 ∷ 0x00 ∷ 0x01 ∷ 0x01 ∷ 0x7F ∷ 0x00 ∷ 0x01 ∷ 0x7F ∷ 0x05 ∷ 0x06 ∷ 0x01 ∷ 0x07 ∷ 0x69 ∷ 0x6E ∷ 0x63 ∷ 0x2F ∷ 0x69 ∷ 0x6E ∷ 0x63 ∷ 0x00 ∷ 0x04 ∷ 0x08 ∷ 0x00 ∷ 0x00 ∷ 0x00 ∷ 0x02 ∷ 0x00 ∷ 0x00 ∷ 0x00 ∷ 0x00 ∷ 0x00 ∷ 0x03 ∷ 0x01 ∷ 0x01 ∷ 0x00 ∷ 0x00 ∷ 0x6A ∷ 0x04 ∷ 0x00 ∷ 0x02 ∷ 0x00 ∷ 0x03 ∷ 0x07 ∷ 0x00 ∷ 0x00 ∷ 0x00 ∷ 0x04 ∷ 0x08 ∷ []
+unfolding leb
+image = refl
+
+report : report_text (low tree) ≡ codes "functions 1" ++ 10 ∷ [] ++ codes "commands 13" ++ 10 ∷ [] ++ codes "sites 4" ++ 10 ∷ [] ++ codes "protects 0 weight 0" ++ 10 ∷ [] ++ codes "constant-time yes" ++ 10 ∷ []
+unfolding digits
+report = refl
+
+part : module_name (codes "a/b/inc.wasm") ≡ codes "inc"
+part = refl
+
+bare_part : module_name (codes "wasm") ≡ codes "wasm"
+bare_part = refl
+
+words : request_of (codes "blade" ∷ codes "harden" ∷ codes "a" ∷ codes "b" ∷ codes "c" ∷ []) ≡ Some (record { image = codes "a"; certificate = codes "b"; wasm = codes "c" })
+words = refl
+
+same_words : request_of (codes "blade" ∷ codes "harden" ∷ codes "a" ∷ codes "a" ∷ codes "c" ∷ []) ≡ None
+same_words = refl

@@ -78,6 +78,10 @@ module_of name items = record {
   bodies = record { locals = []; items = items } ∷ [];
 }
 
+-- the tree has the form
+abbrev pub HasForm : Module → Type 0
+HasForm tree = (name : List ℕ) × (items : List Instr) × (tree ≡ module_of name items)
+
 -- the bytes spell the tree (section 5.5.16)
 pub record Spells (bytes : List ℕ) (tree : Module) : Type 0 where
   pub name : List ℕ

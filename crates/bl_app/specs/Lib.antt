@@ -1,8 +1,16 @@
+pub mod Answers
+pub mod Form
 pub mod Grammar
+pub mod Image
 pub mod Linking
 pub mod Lowering
 pub mod Meaning
 pub mod Plain
+pub mod Reading
+pub mod Requests
 pub mod Runs
 pub mod Source
+pub mod Status
+pub mod Texts
 pub mod Typing
+pub mod Words

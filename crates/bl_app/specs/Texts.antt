@@ -1,0 +1,46 @@
+-- The texts that are printed and written. Every line ends with a line feed.
+use Rattle.std.specs.Prelude.{ℕ, Bool, true, false, List, [], ◌∷◌, ◌++◌, length, codes, count_by}
+use Rattle.std.specs.Fmt.{decimal}
+use Rattle.bl_app.specs.declared.program.Command.{Command}
+use Rattle.bl_app.specs.declared.program.Command.TheVariants.{Set, Jump, Out, Ret, Trap}
+use Rattle.bl_app.specs.declared.program.Program.{Program}
+
+abbrev pub line : List ℕ → List ℕ
+line text = text ++ 10 ∷ []
+
+-- a command that writes a variable whose value can be protected
+abbrev pub is_site : Command → Bool
+is_site (Set mark operator to a b) = true
+is_site (Out mark index value) = true
+is_site (Jump to) = false
+is_site Ret = false
+is_site (Trap kind) = false
+
+-- the number of sites of a program
+abbrev pub sites : Program → ℕ
+sites program = count_by is_site program.commands
+
+-- the report of a program that has no protects and declares no secret
+abbrev pub report_text : Program → List ℕ
+report_text program =
+    line (codes "functions " ++ decimal (length program.functions))
+    ++ line (codes "commands " ++ decimal (length program.commands))
+    ++ line (codes "sites " ++ decimal (sites program))
+    ++ line (codes "protects 0 weight 0")
+    ++ line (codes "constant-time yes")
+
+-- the certificate without paths
+abbrev pub empty_certificate : List ℕ
+empty_certificate = codes "{\"paths\":[],\"weight\":0}"
+
+abbrev pub usage_text : List ℕ
+usage_text = line (codes "usage: blade COMMAND ARGUMENTS")
+
+abbrev pub unsupported_text : List ℕ → List ℕ
+unsupported_text name = line (codes "unsupported: " ++ name)
+
+abbrev pub read_fault_text : List ℕ → List ℕ
+read_fault_text word = line (codes "read fault: " ++ word)
+
+abbrev pub write_fault_text : List ℕ → List ℕ
+write_fault_text word = line (codes "write fault: " ++ word)

@@ -1,0 +1,36 @@
+//! Exit statuses.
+ghost use Rattle.std.specs.Prelude.{◌≡◌};
+ghost use Rattle.bl_app.specs.Status.{code_of};
+
+/// How a call ended.
+#[derive(Clone, Copy, Debug, PartialEq, Eq)]
+pub enum Status {
+    /// The work is done and all its text is written.
+    Done,
+    /// The words are no request.
+    Usage,
+    /// A file could not be read.
+    ReadFault,
+    /// A file or the stream could not be written.
+    WriteFault,
+    /// The module is outside the form.
+    Unsupported,
+    /// Memory ran out.
+    Memory,
+}
+
+impl Status {
+    /// The number that the process ends with.
+    pub fn code(self) -> u8
+        ensures { result ≡ code_of self }
+    {
+        match self {
+            Status::Done => 0,
+            Status::Usage => 2,
+            Status::ReadFault => 3,
+            Status::WriteFault => 4,
+            Status::Unsupported => 7,
+            Status::Memory => 11,
+        }
+    }
+}
