@@ -4,9 +4,8 @@ use Rattle.std.specs.Coded.{Coded, code_by, coded×, coded_ℕ, coded_list}
 use Rattle.std.specs.FinMap as fin
 use Rattle.std.specs.declared.alloc.Global.{Global}
 use Rattle.bl_outside.specs.Faults.{one_more}
-use Rattle.bl_outside.specs.Shelf.{Files, Faults}
+use Rattle.bl_outside.specs.Shelf.{Files, Faults, faults_after_fetch, faults_after_keep}
 use Rattle.bl_outside.specs.declared.shelf.ShelfError.{ShelfError}
-use Rattle.bl_outside.specs.declared.shelf.ShelfError.TheVariants.{Failed, Memory}
 
 -- the files, the faults, how many calls there were, and the numbers of the calls that fail
 pub record Shelved : Type 0 where
@@ -33,14 +32,14 @@ NextFails shelf = Contains shelf.failing (one_more shelf.calls)
 
 -- the shelf after a fetch: one call more, and a read fault where it failed
 abbrev pub after_fetch : {X : Type 0} → Result X ShelfError → Shelved → List ℕ → Shelved
-after_fetch (Ok x) shelf name = record shelf { calls = one_more shelf.calls }
-after_fetch (Err Memory) shelf name = record shelf { calls = one_more shelf.calls }
-after_fetch (Err Failed) shelf name =
-    record shelf { calls = one_more shelf.calls; faults = record { reads = one_more shelf.faults.reads; writes = shelf.faults.writes; last = name } }
+after_fetch result shelf name = record shelf { calls = one_more shelf.calls; faults = faults_after_fetch result shelf.faults name }
 
--- the shelf after a keep: one call more; the entry where it succeeded, a write fault where it failed
+-- the files after a keep: the entry is new where it succeeded
+abbrev pub files_after_keep : Result (Unit {0}) ShelfError → Files → List ℕ → List ℕ → Files
+files_after_keep (Ok x) files name bytes = fin.insert files name bytes
+files_after_keep (Err e) files name bytes = files
+
+-- the shelf after a keep: one call more, and the entry where it succeeded, else a write fault where it failed
 abbrev pub after_keep : Result (Unit {0}) ShelfError → Shelved → List ℕ → List ℕ → Shelved
-after_keep (Ok x) shelf name bytes = record shelf { calls = one_more shelf.calls; files = fin.insert shelf.files name bytes }
-after_keep (Err Memory) shelf name bytes = record shelf { calls = one_more shelf.calls }
-after_keep (Err Failed) shelf name bytes =
-    record shelf { calls = one_more shelf.calls; faults = record { reads = shelf.faults.reads; writes = one_more shelf.faults.writes; last = name } }
+after_keep result shelf name bytes =
+    record shelf { calls = one_more shelf.calls; files = files_after_keep result shelf.files name bytes; faults = faults_after_keep result shelf.faults name }

@@ -4,7 +4,7 @@ use Rattle.std.specs.Option.{option_map}
 use Rattle.std.specs.Ordering.{nat_cmp}
 use Rattle.std.specs.Cmp.Lexicographic.{slice_cmp}
 use Rattle.std.specs.FinMap as fin
-use Rattle.bl_outside.specs.Faults.{Rose}
+use Rattle.bl_outside.specs.Faults.{Rose, one_more}
 use Rattle.bl_outside.specs.declared.shelf.ShelfError.{ShelfError}
 use Rattle.bl_outside.specs.declared.shelf.ShelfError.TheVariants.{Failed, Memory}
 
@@ -57,3 +57,15 @@ abbrev pub KeepFaults : Result (Unit {0}) ShelfError → Faults → Faults → L
 KeepFaults (Ok x) old new name = new ≡ old
 KeepFaults (Err Failed) old new name = WriteFails old new name
 KeepFaults (Err Memory) old new name = new ≡ old
+
+-- the faults after a fetch, where each read fault counts one and no write fault is counted
+abbrev pub faults_after_fetch : {X : Type 0} → Result X ShelfError → Faults → List ℕ → Faults
+faults_after_fetch (Ok x) old name = old
+faults_after_fetch (Err Failed) old name = record { reads = one_more old.reads; writes = old.writes; last = name }
+faults_after_fetch (Err Memory) old name = old
+
+-- the faults after a keep, where each write fault counts one and no read fault is counted
+abbrev pub faults_after_keep : Result (Unit {0}) ShelfError → Faults → List ℕ → Faults
+faults_after_keep (Ok x) old name = old
+faults_after_keep (Err Failed) old name = record { reads = old.reads; writes = one_more old.writes; last = name }
+faults_after_keep (Err Memory) old name = old

@@ -1,6 +1,6 @@
 -- What a sink means: the bytes taken so far, and a count of faults.
 use Rattle.std.specs.Prelude.{◌≡◌, ℕ, ◌≤◌, List, ◌++◌, Option, Some, None, Result, Ok, Err, take}
-use Rattle.bl_outside.specs.Faults.{Rose}
+use Rattle.bl_outside.specs.Faults.{Rose, one_more}
 use Rattle.bl_outside.specs.declared.sink.SinkFault.{SinkFault}
 
 -- the bytes after a push: as many of the piece as it answers, none where it failed
@@ -13,3 +13,8 @@ after_push (Err e) (Some taken) piece = Some taken
 abbrev pub PushFaults : Result ℕ SinkFault → ℕ → ℕ → Type 0
 PushFaults (Ok n) old new = new ≡ old
 PushFaults (Err e) old new = Rose old new × (old ≤ new)
+
+-- the count after a push, where each fault counts one
+abbrev pub count_after_push : Result ℕ SinkFault → ℕ → ℕ
+count_after_push (Ok n) old = old
+count_after_push (Err e) old = one_more old

@@ -2,7 +2,7 @@
 ghost use Rattle.std.specs.Prelude.{◌≡◌, ◌+◌, ◌≤◌, ◌⊎◌, ◌↔◌, [], None, Some, IsErr, IsTrue, IfOk, OnOk, OnErr, length, take};
 ghost use Rattle.std.specs.FinMap as fin;
 ghost use Rattle.std.specs.Option.{option_map};
-ghost use Rattle.bl_outside.specs.Shelf.{FetchFaults, KeepFaults, Gives, with_file};
+ghost use Rattle.bl_outside.specs.Shelf.{FetchFaults, KeepFaults, ReadFails, WriteFails, Gives, with_file};
 ghost use Rattle.bl_outside.specs.Faults.{one_more};
 ghost use Rattle.bl_outside.specs.MemoryShelf.{NextFails, after_fetch, after_keep};
 
@@ -44,13 +44,13 @@ impl Model for MemoryShelf {
 
 impl MemoryShelf {
     /// A shelf without entries, of which the calls with these numbers fail; takes no memory.
-    pub fn new(alloc: Global, failing: List<u64>) -> MemoryShelf
-        ensures { result ≡ record { files = fin.empty; faults = record { reads = 0; writes = 0; last = [] }; calls = 0; failing = failing } }
+    pub fn new(alloc: Global, fail: List<u64>) -> MemoryShelf
+        ensures { result ≡ record { files = fin.empty; faults = record { reads = 0; writes = 0; last = [] }; calls = 0; failing = fail } }
     {
         MemoryShelf {
             alloc,
             entries: BTreeMap::new(alloc),
-            failing,
+            failing: fail,
             calls: 0,
             reads: 0,
             writes: 0,
@@ -71,6 +71,7 @@ impl MemoryShelf {
     }
 
     /// The bytes of the entry of that name; None exactly where there is none. Takes no memory.
+    #[tactic(auto, using(crate::proofs::Shelves::files))]
     pub fn entry(&self, name: &str) -> Option<&[u8]>
         ensures { option_map (λ bytes. bytes.now) result ≡ fin.get self.now.files name.now }
     {
@@ -91,7 +92,8 @@ impl MemoryShelf {
 
     /// Counts a read fault at that name.
     fn count_read_fault(&mut self, name: Text)
-        ensures { self.new ≡ record self.old { faults = record { reads = one_more self.old.faults.reads; writes = self.old.faults.writes; last = name } } }
+        ensures fault { ReadFails self.old.faults self.new.faults name }
+        ensures shelf { self.new ≡ record self.old { faults = record { reads = one_more self.old.faults.reads; writes = self.old.faults.writes; last = name } } }
     {
         self.reads = self.reads.saturating_add(1);
         self.last = name;
@@ -99,7 +101,8 @@ impl MemoryShelf {
 
     /// Counts a write fault at that name.
     fn count_write_fault(&mut self, name: Text)
-        ensures { self.new ≡ record self.old { faults = record { reads = self.old.faults.reads; writes = one_more self.old.faults.writes; last = name } } }
+        ensures fault { WriteFails self.old.faults self.new.faults name }
+        ensures shelf { self.new ≡ record self.old { faults = record { reads = self.old.faults.reads; writes = one_more self.old.faults.writes; last = name } } }
     {
         self.writes = self.writes.saturating_add(1);
         self.last = name;
