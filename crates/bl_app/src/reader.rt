@@ -32,6 +32,7 @@ impl From<NoMemory> for ReadError {
 }
 
 /// What differs from module to module of the form: the name of the export, and the items' bytes.
+#[derive(Clone, Copy)]
 struct Parts<'a> {
     name: &'a [u8],
     items: &'a [u8],
