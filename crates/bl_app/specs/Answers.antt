@@ -3,6 +3,8 @@ use Rattle.std.specs.Prelude.{◌≡◌, ℕ, ◌≤◌, List, [], ◌∷◌, Op
 use Rattle.std.specs.FinMap as fin
 use Rattle.bl_outside.specs.Faults.{Rose}
 use Rattle.bl_outside.specs.Shelf.{Files, Faults, ReadFails, WriteFails, with_file}
+use Rattle.bl_outside.specs.declared.shelf.ShelfError.{ShelfError}
+use Rattle.bl_outside.specs.declared.shelf.ShelfError.TheVariants.{Failed, Memory}
 use Rattle.bl_wasm.specs.declared.module.Module.{Module}
 use Rattle.bl_app.specs.declared.program.Program.{Program}
 use Rattle.bl_app.specs.Grammar.{Spells}
@@ -32,28 +34,52 @@ pub record Plan : Type 0 where
   pub keeps : List (List ℕ × List ℕ)
   pub text : List ℕ
 
+-- keeping the certificate without paths and then the image, and printing the report
+abbrev pub plan_of : Request → List ℕ → List ℕ → Plan
+plan_of request image report = record {
+  status = 0;
+  keeps = (request.certificate, empty_certificate) ∷ (request.image, image) ∷ [];
+  text = report;
+}
+
+-- what `harden` does with a module of the form
+abbrev pub harden_plan : Request → Module → Plan
+harden_plan request tree =
+    let program = program_of (module_name request.wasm) tree in
+    plan_of request (image_of program) (report_text program)
+
+-- what is done where the module's bytes aren't the form
+abbrev pub unsupported_plan : Request → Plan
+unsupported_plan request = record { status = 7; keeps = []; text = unsupported_text (module_name request.wasm) }
+
+-- what is done where the words are no request
+abbrev pub usage_plan : Plan
+usage_plan = record { status = 2; keeps = []; text = usage_text }
+
 -- what the words ask for where nothing fails
 pub data PlanFor (words : List (List ℕ)) (files : Option Files) : Plan → Type 0 where
-  -- the words are no request
-  usage : request_of words ≡ None → PlanFor words files (record { status = 2; keeps = []; text = usage_text })
-  -- the module's bytes aren't the form
+  usage : request_of words ≡ None → PlanFor words files usage_plan
   unsupported : (request : Request) (bytes : List ℕ) → request_of words ≡ Some request → FileIs files request.wasm bytes → (IsForm bytes → ⊥)
-      → PlanFor words files (record { status = 7; keeps = []; text = unsupported_text (module_name request.wasm) })
-  -- the module's bytes spell a tree of the form: its image is that of the tree's program
+      → PlanFor words files (unsupported_plan request)
   harden : (request : Request) (bytes : List ℕ) (tree : Module) → request_of words ≡ Some request → FileIs files request.wasm bytes → Spells bytes tree → Typed tree
-      → PlanFor words files (record {
-        status = 0;
-        keeps = (request.certificate, empty_certificate) ∷ (request.image, image_of (program_of (module_name request.wasm) tree)) ∷ [];
-        text = report_text (program_of (module_name request.wasm) tree);
-      })
+      → PlanFor words files (harden_plan request tree)
 
--- what a call finds and leaves: the files and faults of its shelf, and what its sink took, with the
--- count of its faults
+-- what a sink took, where that is told, and the count of its faults
+pub record Stream : Type 0 where
+  pub taken : Option (List ℕ)
+  pub faults : ℕ
+
+-- what a call finds and leaves: the files and faults of its shelf, and its sink
 pub record World : Type 0 where
   pub files : Option Files
   pub faults : Faults
-  pub taken : Option (List ℕ)
-  pub sink_faults : ℕ
+  pub sink : Stream
+
+-- nothing is changed
+pub record Unchanged (old new : World) : Type 0 where
+  pub files : new.files ≡ old.files
+  pub faults : new.faults ≡ old.faults
+  pub sink : new.sink ≡ old.sink
 
 -- the files with all of these kept, in order
 abbrev pub with_files : Option Files → List (List ℕ × List ℕ) → Option Files
@@ -67,23 +93,39 @@ took (Some taken) text = Some (taken ++ text)
 
 -- a text was printed, and the status is the one that was meant; or the sink failed after some of it,
 -- and the status is 4
-pub data Said (text : List ℕ) (meant : ℕ) (old new : World) (status : ℕ) : Type 0 where
-  whole : new.taken ≡ took old.taken text → new.sink_faults ≡ old.sink_faults → status ≡ meant → Said text meant old new status
-  cut : (count : ℕ) → new.taken ≡ took old.taken (take count text) → Rose old.sink_faults new.sink_faults → old.sink_faults ≤ new.sink_faults → status ≡ 4 → Said text meant old new status
+pub data Said (text : List ℕ) (meant : ℕ) (old new : Stream) (status : ℕ) : Type 0 where
+  whole : new.taken ≡ took old.taken text → new.faults ≡ old.faults → status ≡ meant → Said text meant old new status
+  cut : (count : ℕ) → new.taken ≡ took old.taken (take count text) → Rose old.faults new.faults → old.faults ≤ new.faults → status ≡ 4 → Said text meant old new status
+
+-- what follows where a file could not be kept: the text, or nothing where there was no memory
+abbrev pub NotKept : ShelfError → List ℕ → Stream → Stream → ℕ → Type 0
+NotKept Failed text old new status = Said text 4 old new status
+NotKept Memory text old new status = (new ≡ old) × (status ≡ 11)
+
+-- how a plan is carried out
+pub data Delivers (plan : Plan) (old new : World) (status : ℕ) : Type 0 where
+  -- all files are kept, and the text is printed
+  all_kept : new.files ≡ with_files old.files plan.keeps → new.faults ≡ old.faults → Said plan.text plan.status old.sink new.sink status → Delivers plan old new status
+  -- a file could not be kept; those before it were
+  not_kept : (before : ℕ) (keep : List ℕ × List ℕ) → slice_get plan.keeps before ≡ Some keep → WriteFails old.faults new.faults keep.0
+      → new.files ≡ with_files old.files (take before plan.keeps) → Said (write_fault_text keep.0) 4 old.sink new.sink status → Delivers plan old new status
+  -- there was no memory to keep a file; those before it were kept, and nothing was printed
+  no_memory_to_keep : (before : ℕ) → new.files ≡ with_files old.files (take before plan.keeps) → new.faults ≡ old.faults → new.sink ≡ old.sink → status ≡ 11 → Delivers plan old new status
 
 -- how a call ends
 pub data Ends (words : List (List ℕ)) (old new : World) (status : ℕ) : Type 0 where
-  -- as planned: all files are kept, and the text is printed
-  as_planned : (plan : Plan) → PlanFor words old.files plan → new.files ≡ with_files old.files plan.keeps → new.faults ≡ old.faults
-      → Said plan.text plan.status old new status → Ends words old new status
+  -- as the words ask for
+  as_planned : (plan : Plan) → PlanFor words old.files plan → Delivers plan old new status → Ends words old new status
   -- the module's file could not be read
   not_read : (request : Request) → request_of words ≡ Some request → ReadFails old.faults new.faults request.wasm → new.files ≡ old.files
-      → Said (read_fault_text request.wasm) 3 old new status → Ends words old new status
-  -- a file could not be kept; those before it were
-  not_kept : (plan : Plan) (before : ℕ) (keep : List ℕ × List ℕ) → PlanFor words old.files plan → slice_get plan.keeps before ≡ Some keep
-      → WriteFails old.faults new.faults keep.0 → new.files ≡ with_files old.files (take before plan.keeps)
-      → Said (write_fault_text keep.0) 4 old new status → Ends words old new status
-  -- there was no memory, before any file was to be kept or after some were; nothing was printed
-  no_memory : new.files ≡ old.files → new.faults ≡ old.faults → new.taken ≡ old.taken → new.sink_faults ≡ old.sink_faults → status ≡ 11 → Ends words old new status
-  no_memory_to_keep : (plan : Plan) (before : ℕ) → PlanFor words old.files plan → new.files ≡ with_files old.files (take before plan.keeps) → new.faults ≡ old.faults
-      → new.taken ≡ old.taken → new.sink_faults ≡ old.sink_faults → status ≡ 11 → Ends words old new status
+      → Said (read_fault_text request.wasm) 3 old.sink new.sink status → Ends words old new status
+  -- there was no memory before any file was to be kept or any text to be printed
+  no_memory : Unchanged old new → status ≡ 11 → Ends words old new status
+
+-- the bytes are a module of the form, and these are the image and the report of its program
+pub record IsHardened (part bytes image report : List ℕ) : Type 0 where
+  pub tree : Module
+  pub spelled : Spells bytes tree
+  pub typed : Typed tree
+  pub is_image : image ≡ image_of (program_of part tree)
+  pub is_report : report ≡ report_text (program_of part tree)

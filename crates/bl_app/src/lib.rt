@@ -1,14 +1,18 @@
 //! The program behind `blade`: from words, files and a stream to an exit status.
 #![tactic(auto)]
 
+mod harden;
 mod image;
 mod link;
 mod lists;
 mod lower;
+mod output;
 mod program;
 mod reader;
 mod report;
 mod status;
+mod top;
 mod words;
 
 pub use program::{Command, ExportDef, FunctionDef, Mark, Operand, Operator, ParamDef, Program};
+pub use top::blade;
