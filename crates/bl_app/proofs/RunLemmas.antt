@@ -29,10 +29,10 @@ module _ {C : Type 0} (step : C → Next C) where
   Comes (suc j) c d = (e : C) × (step c ≡ goes e) × Comes j e d
 
   -- a run is one of the configurations that it starts from
-  run_at : (n : ℕ) (c d : C) (o : Outcome) → d ≡ c → EndsAfter step n c o → EndsAfter step n d o
+  pub run_at : (n : ℕ) (c d : C) (o : Outcome) → d ≡ c → EndsAfter step n c o → EndsAfter step n d o
   run_at n c d o e r = subst (λ x. EndsAfter step n x o) (sym e) r
 
-  run_steps : (m n : ℕ) (c : C) (o : Outcome) → m ≡ n → EndsAfter step m c o → EndsAfter step n c o
+  pub run_steps : (m n : ℕ) (c : C) (o : Outcome) → m ≡ n → EndsAfter step m c o → EndsAfter step n c o
   run_steps m n c o e r = subst (λ k. EndsAfter step k c o) e r
 
   -- a run takes a step
