@@ -1,5 +1,5 @@
 -- Runs of one machine, and of two machines that keep step.
-use Rattle.std.proofs.Common.{◌≡◌, ℕ, zero, suc, ◌+◌, ◌*◌, ◌≤◌, ◌<◌, List, refl, sym, ap, ◌∙◌, subst, arith}
+use Rattle.std.proofs.Common.{◌≡◌, ℕ, zero, suc, ◌+◌, ◌*◌, ◌≤◌, refl, sym, ap, ◌∙◌, subst, arith}
 use Rattle.bl_app.specs.Runs.{Outcome, Next, goes, ends, stuck, EndsAfter, last, more}
 
 -- what a step that isn't stuck gives: one outcome, or one configuration
