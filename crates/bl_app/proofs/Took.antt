@@ -1,10 +1,12 @@
 -- What a sink holds after several texts.
-use Rattle.std.proofs.Common.{◌≡◌, ℕ, ◌+◌, ◌-◌, ◌≤◌, List, [], ◌∷◌, ◌++◌, length, take, drop, Option, Some, None, refl, ap, sym, ◌∙◌, arith, append_assoc}
-use Rattle.std.proofs.Math.Seq.{take-add}
-use Rattle.std.specs.Prelude.{Result, Ok, Err}
+use Rattle.std.proofs.Common.{◌≡◌, ℕ, ◌+◌, ◌-◌, ◌≤◌, List, [], ◌∷◌, ◌++◌, length, take, drop, Option, Some, None, refl, ap, sym, ◌∙◌, arith, append_assoc, length-append, subst}
+use Rattle.std.proofs.Math.Seq.{take-add, take-append-add}
+use Rattle.std.proofs.lemmas.List.{take-append-le}
+use Rattle.bl_outside.specs.Faults.{Rose}
+use Rattle.std.specs.Prelude.{Result, Ok, Err, IsErr}
 use Rattle.bl_outside.specs.declared.sink.SinkFault.{SinkFault}
 use Rattle.bl_outside.specs.Sink.{after_push}
-use Rattle.bl_app.specs.Answers.{took}
+use Rattle.bl_app.specs.Answers.{took, Stream, Whole, Cut, Pushes}
 
 append_nothing : (xs : List ℕ) → xs ++ [] ≡ xs
 append_nothing [] = refl
@@ -33,3 +35,44 @@ push_further done n t u text e =
     ∙ ap (λ v. took v (take n (drop done text))) e
     ∙ took_both t (take done text) (take n (drop done text))
     ∙ ap (took t) (sym (take-add done n text))
+
+-- two texts that were both taken, one after the other
+pub whole_both : (a b : List ℕ) (s t u : Stream) → Whole a s t → Whole b t u → Whole (a ++ b) s u
+whole_both a b s t u first second = record {
+  taken = second.taken ∙ ap (λ w. took w b) first.taken ∙ took_both s.taken a b;
+  faults = second.faults ∙ first.faults;
+}
+
+-- the first of two texts was cut
+pub cut_first : (a b : List ℕ) (s t : Stream) → Cut a s t → Cut (a ++ b) s t
+cut_first a b s t first = record {
+  count = first.count;
+  within = omega (arith, first.within, length-append a b);
+  taken = first.taken ∙ ap (took s.taken) (sym (take-append-le first.count a b first.within));
+  rose = first.rose;
+  not_fell = first.not_fell;
+}
+
+-- the second of two texts was cut
+pub cut_second : (a b : List ℕ) (s t u : Stream) → Whole a s t → Cut b t u → Cut (a ++ b) s u
+cut_second a b s t u first second = record {
+  count = length a + second.count;
+  within = omega (arith, second.within, length-append a b);
+  taken = second.taken ∙ ap (λ w. took w (take second.count b)) first.taken ∙ took_both s.taken a (take second.count b) ∙ ap (took s.taken) (sym (take-append-add a b second.count));
+  rose = subst (λ n. Rose n u.faults) first.faults second.rose;
+  not_fell = subst (λ n. n ≤ u.faults) first.faults second.not_fell;
+}
+
+-- nothing of a text was taken
+pub cut_none : (text : List ℕ) (s t : Stream) → t.taken ≡ s.taken → Rose s.faults t.faults → s.faults ≤ t.faults → Cut text s t
+cut_none text s t same rose not_fell = record { count = 0; within = omega arith; taken = same ∙ sym (took_nothing s.taken); rose = rose; not_fell = not_fell }
+
+-- a call that failed, and cut the text
+pub cut_pushes : (r : Result (Unit {0}) SinkFault) (text : List ℕ) (s t : Stream) → IsErr r → Cut text s t → Pushes r text s t
+cut_pushes (Err e) text s t failed c = c
+cut_pushes (Ok x) text s t failed c = cc
+
+-- a text that was taken, and one that was taken or cut
+pub pushes_both : (r : Result (Unit {0}) SinkFault) (a b : List ℕ) (s t u : Stream) → Whole a s t → Pushes r b t u → Pushes r (a ++ b) s u
+pushes_both (Ok x) a b s t u first second = whole_both a b s t u first second
+pushes_both (Err e) a b s t u first second = cut_second a b s t u first second

@@ -1,8 +1,9 @@
 -- What a call is to do where nothing fails, and how it ends.
-use Rattle.std.specs.Prelude.{◌≡◌, ℕ, ◌≤◌, List, [], ◌∷◌, Option, Some, None, slice_get, take, ◌⊎◌, ◌++◌, All, false}
+use Rattle.std.specs.Prelude.{◌≡◌, ℕ, ◌≤◌, List, [], ◌∷◌, Option, Some, None, Result, Ok, Err, slice_get, take, length, ◌++◌}
 use Rattle.std.specs.FinMap as fin
 use Rattle.bl_outside.specs.Faults.{Rose}
 use Rattle.bl_outside.specs.Shelf.{Files, Faults, ReadFails, WriteFails, with_file}
+use Rattle.bl_outside.specs.declared.sink.SinkFault.{SinkFault}
 use Rattle.bl_outside.specs.declared.shelf.ShelfError.{ShelfError}
 use Rattle.bl_outside.specs.declared.shelf.ShelfError.TheVariants.{Failed, Memory}
 use Rattle.bl_wasm.specs.declared.module.Module.{Module}
@@ -91,11 +92,29 @@ abbrev pub took : Option (List ℕ) → List ℕ → Option (List ℕ)
 took None text = None
 took (Some taken) text = Some (taken ++ text)
 
+-- a text was taken whole, and nothing failed
+pub record Whole (text : List ℕ) (old new : Stream) : Type 0 where
+  pub taken : new.taken ≡ took old.taken text
+  pub faults : new.faults ≡ old.faults
+
+-- the sink failed, after some front of the text
+pub record Cut (text : List ℕ) (old new : Stream) : Type 0 where
+  pub count : ℕ
+  pub within : count ≤ length text
+  pub taken : new.taken ≡ took old.taken (take count text)
+  pub rose : Rose old.faults new.faults
+  pub not_fell : old.faults ≤ new.faults
+
+-- what pushing a text leaves
+abbrev pub Pushes : Result (Unit {0}) SinkFault → List ℕ → Stream → Stream → Type 0
+Pushes (Ok done) text old new = Whole text old new
+Pushes (Err fault) text old new = Cut text old new
+
 -- a text was printed, and the status is the one that was meant; or the sink failed after some of it,
 -- and the status is 4
 pub data Said (text : List ℕ) (meant : ℕ) (old new : Stream) (status : ℕ) : Type 0 where
-  whole : new.taken ≡ took old.taken text → new.faults ≡ old.faults → status ≡ meant → Said text meant old new status
-  cut : (count : ℕ) → new.taken ≡ took old.taken (take count text) → Rose old.faults new.faults → old.faults ≤ new.faults → status ≡ 4 → Said text meant old new status
+  whole : Whole text old new → status ≡ meant → Said text meant old new status
+  cut : Cut text old new → status ≡ 4 → Said text meant old new status
 
 -- what follows where a file could not be kept: the text, or nothing where there was no memory
 abbrev pub NotKept : ShelfError → List ℕ → Stream → Stream → ℕ → Type 0

@@ -1,4 +1,5 @@
 pub mod Answers
+pub mod Causes
 pub mod Form
 pub mod Grammar
 pub mod Image

@@ -1,7 +1,6 @@
 //! The top call.
-ghost use Rattle.std.specs.Prelude.{◌≡◌, ◌≤◌, ◌++◌, ℕ, List as Listed, [], ◌∷◌, Some, map, take, OnOk, OnErr, string_bytes};
-ghost use Rattle.bl_outside.specs.Faults.{Rose};
-ghost use Rattle.bl_app.specs.Answers.{Ends, Delivers, Said, NotKept, plan_of, took};
+ghost use Rattle.std.specs.Prelude.{◌≡◌, ◌++◌, ℕ, List as Listed, [], ◌∷◌, Some, map, string_bytes};
+ghost use Rattle.bl_app.specs.Answers.{Ends, Delivers, Said, NotKept, Pushes, plan_of};
 ghost use Rattle.bl_app.specs.Requests.{request_of};
 ghost use Rattle.bl_app.specs.Status.{code_of};
 ghost use Rattle.bl_app.specs.Texts.{write_fault_text};
@@ -122,9 +121,9 @@ fn say<O: Sink>(out: &mut O, head: &str, tail: &[u8], meant: Status) -> Status
 
 /// Pushes a line of two parts.
 fn push_line<O: Sink>(out: &mut O, head: &str, tail: &[u8]) -> Result<(), SinkFault>
-    ensures ok { OnOk result ((O.taken out.new ≡ took (O.taken out.old) (head.now ++ tail.now ++ 10 ∷ [])) × (O.faults out.new ≡ O.faults out.old)) }
-    ensures cut { OnErr result ((count : ℕ) × (O.taken out.new ≡ took (O.taken out.old) (take count (head.now ++ tail.now ++ 10 ∷ [])))) }
-    ensures err { OnErr result (Rose (O.faults out.old) (O.faults out.new) × (O.faults out.old ≤ O.faults out.new)) }
+    ensures { Pushes result (head.now ++ tail.now ++ 10 ∷ [])
+        (record { taken = O.taken out.old; faults = O.faults out.old })
+        (record { taken = O.taken out.new; faults = O.faults out.new }) }
 {
     push_all(out, head.as_bytes())?;
     push_all(out, tail)?;
