@@ -1,11 +1,13 @@
 -- Steps of carrying out a plan.
 use Rattle.std.proofs.Common.{◌≡◌, ℕ, List, [], ◌∷◌, Option, Some, refl, sym, ◌∙◌, ap, subst, take}
 use Rattle.std.specs.Prelude.{Result, Ok, Err, slice_get}
-use Rattle.bl_outside.specs.Shelf.{Files, Faults, KeepFaults}
+use Rattle.bl_outside.specs.Shelf.{Files, Faults, KeepFaults, Gives}
 use Rattle.bl_outside.specs.declared.shelf.ShelfError.{ShelfError}
 use Rattle.bl_outside.specs.declared.shelf.ShelfError.TheVariants.{Failed, Memory}
-use Rattle.bl_app.specs.Answers.{Plan, World, Stream, Delivers, all_kept, not_kept, no_memory_to_keep, NotKept, Whole, Cut, Said, whole, cut, with_files}
-use Rattle.bl_app.specs.Texts.{write_fault_text}
+use Rattle.bl_app.specs.Answers.{Plan, World, Stream, Delivers, all_kept, not_kept, no_memory_to_keep, NotKept, Said, with_files, Ends, as_planned, harden, unsupported, harden_plan, unsupported_plan, plan_of, IsHardened, IsForm}
+use Rattle.bl_app.specs.Requests.{Request, request_of, module_name}
+use Rattle.bl_app.specs.Texts.{write_fault_text, unsupported_text}
+use Rattle.bl_app.proofs.Files.{fetched_whole, fetched_other}
 
 -- a file could not be kept, after so many were
 pub keep_refused : (plan : Plan) (before : ℕ) (keep : List ℕ × List ℕ) (e : ShelfError) (old new : World) (faults : Faults) (status : ℕ)
@@ -13,3 +15,30 @@ pub keep_refused : (plan : Plan) (before : ℕ) (keep : List ℕ × List ℕ) (e
     → faults ≡ old.faults → KeepFaults (Err e) faults new.faults keep.0 → NotKept e (write_fault_text keep.0) old.sink new.sink status → Delivers plan old new status
 keep_refused plan before keep Failed old new faults status at kept same fails said = not_kept before keep at (subst (λ f. KeepFaults (Err Failed) f new.faults keep.0) same fails) kept said
 keep_refused plan before keep Memory old new faults status at kept same fails said = no_memory_to_keep before kept (fails ∙ same) said.0 said.1
+
+-- a plan that is carried out from a world that differs from an earlier one in nothing
+pub delivers_from : (plan : Plan) (old mid new : World) (status : ℕ) → mid.files ≡ old.files → mid.faults ≡ old.faults → mid.sink ≡ old.sink → Delivers plan mid new status → Delivers plan old new status
+delivers_from plan old mid new status files faults sink d =
+    let same : mid ≡ old = λ i. record { files = files i; faults = faults i; sink = sink i } in
+    subst (λ w. Delivers plan w new status) same d
+
+-- a module of the form that was fetched and hardened ends as the words ask for
+pub hardened_ends : (words : List (List ℕ)) (request : Request) (fetched image report : List ℕ) (old mid new : World) (status : ℕ)
+    → request_of words ≡ Some request → Gives old.files request.wasm 4194304 fetched
+    → IsHardened (module_name request.wasm) fetched image report
+    → mid.files ≡ old.files → mid.faults ≡ old.faults → mid.sink ≡ old.sink
+    → Delivers (plan_of request image report) mid new status → Ends words old new status
+hardened_ends words request fetched image report old mid new status is gives h files faults sink d =
+    let file = fetched_whole old.files request.wasm fetched h.tree gives h.spelled in
+    let same : plan_of request image report ≡ harden_plan request h.tree = λ i. plan_of request (h.is_image i) (h.is_report i) in
+    as_planned (harden_plan request h.tree) (harden request fetched h.tree is file h.spelled h.typed)
+      (subst (λ plan. Delivers plan old new status) same (delivers_from (plan_of request image report) old mid new status files faults sink d))
+
+-- a module outside the form that was fetched ends as the words ask for
+pub unsupported_ends : (words : List (List ℕ)) (request : Request) (fetched : List ℕ) (old new : World) (status : ℕ)
+    → request_of words ≡ Some request → Gives old.files request.wasm 4194304 fetched → (IsForm fetched → ⊥)
+    → new.files ≡ old.files → new.faults ≡ old.faults
+    → Said (unsupported_text (module_name request.wasm)) 7 old.sink new.sink status → Ends words old new status
+unsupported_ends words request fetched old new status is gives not files faults said =
+    let other = fetched_other old.files request.wasm fetched gives not in
+    as_planned (unsupported_plan request) (unsupported request other.0 is other.1 other.2) (all_kept files faults said)

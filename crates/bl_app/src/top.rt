@@ -1,6 +1,7 @@
 //! The top call.
 ghost use Rattle.std.specs.Prelude.{◌≡◌, ◌++◌, ℕ, List as Listed, [], ◌∷◌, Some, map, string_bytes};
 ghost use Rattle.bl_app.specs.Answers.{Ends, Delivers, Said, NotKept, Pushes, plan_of};
+ghost use Rattle.bl_app.specs.Causes.{Causes, Hardens};
 ghost use Rattle.bl_app.specs.Requests.{request_of};
 ghost use Rattle.bl_app.specs.Status.{code_of};
 ghost use Rattle.bl_app.specs.Texts.{write_fault_text};
@@ -24,16 +25,37 @@ const EMPTY_CERTIFICATE: &[u8] = b"{\"paths\":[],\"weight\":0}";
 /// 2 no request, 3 a file could not be read, 4 a file or the sink could not be written, 7 the module is
 /// outside the form, 11 memory ran out. All text goes to the sink.
 pub fn blade<F: Shelf, O: Sink>(alloc: Global, words: &[String], files: &mut F, out: &mut O) -> u8
+    // How the call ends, whatever fails.
     ensures ends { Ends (map string_bytes words.now)
         (record { files = F.files files.old; faults = F.faults files.old; sink = record { taken = O.taken out.old; faults = O.faults out.old } })
         (record { files = F.files files.new; faults = F.faults files.new; sink = record { taken = O.taken out.new; faults = O.faults out.new } })
         result }
+
+    // What each other status says, and when it comes.
+    ensures causes { Causes (map string_bytes words.now)
+        (record { files = F.files files.old; faults = F.faults files.old; sink = record { taken = O.taken out.old; faults = O.faults out.old } })
+        (record { files = F.files files.new; faults = F.faults files.new; sink = record { taken = O.taken out.new; faults = O.faults out.new } })
+        result }
+
+    // What status 0 says: the image means what the module means.
+    ensures hardens { result ≡ 0 → Hardens (map string_bytes words.now)
+        (record { files = F.files files.old; faults = F.faults files.old; sink = record { taken = O.taken out.old; faults = O.faults out.old } })
+        (record { files = F.files files.new; faults = F.faults files.new; sink = record { taken = O.taken out.new; faults = O.faults out.new } }) }
 {
-    let status = match read_words(words) {
+    run(alloc, words, files, out).code()
+}
+
+/// Does what the words ask for.
+fn run<F: Shelf, O: Sink>(alloc: Global, words: &[String], files: &mut F, out: &mut O) -> Status
+    ensures { Ends (map string_bytes words.now)
+        (record { files = F.files files.old; faults = F.faults files.old; sink = record { taken = O.taken out.old; faults = O.faults out.old } })
+        (record { files = F.files files.new; faults = F.faults files.new; sink = record { taken = O.taken out.new; faults = O.faults out.new } })
+        (code_of result) }
+{
+    match read_words(words) {
         Some(words) => run_harden(alloc, &words, files, out),
         None => say(out, "usage: blade COMMAND ARGUMENTS", b"", Status::Usage),
-    };
-    status.code()
+    }
 }
 
 /// Fetches the module, hardens it, and delivers what is written of it.
