@@ -1,7 +1,7 @@
 //! The reader of the form: bytes to a module tree, where they spell one.
-ghost use Rattle.std.specs.Prelude.{◌≡◌, ◌++◌, ◌↔◌, ◌<◌, ℕ, List as Listed, [], ◌∷◌, Err, IsTrue, IfOk, IfSome, IfNone};
+ghost use Rattle.std.specs.Prelude.{◌≡◌, ◌++◌, ◌↔◌, ◌<◌, ℕ, List as Listed, [], ◌∷◌, Err, IsTrue, All, IfOk, IfSome, IfNone};
 ghost use Rattle.bl_app.specs.Answers.{IsForm};
-ghost use Rattle.bl_app.specs.Grammar.{Spells, ItemSpells, ItemsSpell, constant_of, module_of};
+ghost use Rattle.bl_app.specs.Grammar.{Spells, ItemSpells, ItemsSpell, IsPrintable, constant_of, module_of};
 ghost use Rattle.bl_app.specs.Reading.{AreItems, AreParts};
 ghost use Rattle.bl_app.specs.Typing.{Typed, BodyTyped};
 ghost use Rattle.bl_app.specs.declared.reader.ReadError.TheVariants.{Memory};
@@ -75,12 +75,18 @@ fn parts_of(bytes: &[u8]) -> Option<Parts<'_>>
         return None;
     }
     let (name, rest) = rest.split_at(name_size);
-    let items = items_of(rest)?;
-    if name.iter().all(|byte| matches!(byte, 0x20..=0x7E)) {
-        Some(Parts { name, items })
-    } else {
-        None
+    if !is_printable(name) {
+        return None;
     }
+    let items = items_of(rest)?;
+    Some(Parts { name, items })
+}
+
+/// Whether the bytes can be a name of the form, which is of printable characters of ASCII alone.
+fn is_printable(name: &[u8]) -> bool
+    ensures { IsTrue result ↔ All IsPrintable name.now }
+{
+    name.iter().all(|byte| matches!(byte, 0x20..=0x7E))
 }
 
 /// The items' bytes, from the export's index on.
