@@ -1,0 +1,84 @@
+-- Unsigned numbers at a place, by the byte that stands there.
+use Rattle.std.proofs.Common.{◌≡◌, ℕ, ◌+◌, ◌-◌, ◌*◌, ◌^◌, ◌<◌, ◌≤◌, List, [], ◌∷◌, length, get_or, refl, sym, subst, ◌++◌, arith, slice_range, ◌⊎◌, inl, inr}
+use Rattle.std.proofs.lemmas.List.{get_or_default}
+use Rattle.bl_leb.specs.Numbers.{IsUnsigned}
+use Rattle.bl_leb.specs.Spellings.{IsSpelledAt, IsShortest}
+use Rattle.bl_leb.proofs.Places.{spelled_one, spelled_more, begins, one_place, length_range, range_last, range_first}
+use Rattle.bl_leb.proofs.Unsigned.{by_first, with_first, one_end, one_value, not_empty, large_last, zero_last}
+
+-- no empty spelling
+pub not_nothing : (width w : ℕ) → IsUnsigned width [] w → ⊥
+not_nothing width w h = h
+
+-- a byte in the last bits is a number
+pub unsigned_one : (width : ℕ) (bytes : List ℕ) (i n : ℕ) → i < length bytes → n ≡ get_or bytes i n → n < 128 → n < 2 ^ width → IsSpelledAt (IsUnsigned width) bytes i (i + 1) n
+unsigned_one width bytes i n inside is small fits = spelled_one (IsUnsigned width) bytes i n n inside is (small, fits, refl)
+
+-- a byte from 128 on, and the number behind it
+pub unsigned_more : (width : ℕ) (bytes : List ℕ) (i j n m : ℕ) → i < length bytes → n ≡ get_or bytes i n → 128 ≤ n → n < 256 → 7 < width → IsSpelledAt (IsUnsigned (width - 7)) bytes (i + 1) j m → IsSpelledAt (IsUnsigned width) bytes i j (128 * m + (n - 128))
+unsigned_more width bytes i j n m inside is high byte wide h =
+    spelled_more (IsUnsigned width) (IsUnsigned (width - 7)) bytes i j n (128 * m + (n - 128)) m inside is h (λ tail t. with_first width n tail m (128 * m + (n - 128)) high byte wide t refl)
+
+-- a byte that fits neither rule begins no number
+pub unsigned_never : (width : ℕ) (bytes : List ℕ) (i n : ℕ) → i < length bytes → n ≡ get_or bytes i n → ((n < 128) × (2 ^ width ≤ n)) ⊎ ((128 ≤ n) × (width ≤ 7)) → (v j : ℕ) → IsSpelledAt (IsUnsigned width) bytes i j v → ⊥
+unsigned_never width bytes i n inside is bad v j h =
+    let first = begins (IsUnsigned width) bytes i j n v inside is (not_nothing width) h in
+    let cases = by_first width n (slice_range bytes (i + 1) j) v first.1 in
+    elim cases [
+      | inl one ↦ elim bad [ inl b ↦ omega arith | inr b ↦ omega arith ]
+      | inr more ↦ elim bad [ inl b ↦ omega arith | inr b ↦ omega arith ]
+    ]
+
+-- a byte from 128 on begins no number where none begins behind it
+pub unsigned_none : (width : ℕ) (bytes : List ℕ) (i n : ℕ) → i < length bytes → n ≡ get_or bytes i n → 128 ≤ n → ((m j : ℕ) → IsSpelledAt (IsUnsigned (width - 7)) bytes (i + 1) j m → ⊥) → (v j : ℕ) → IsSpelledAt (IsUnsigned width) bytes i j v → ⊥
+unsigned_none width bytes i n inside is high none v j h =
+    let first = begins (IsUnsigned width) bytes i j n v inside is (not_nothing width) h in
+    let cases = by_first width n (slice_range bytes (i + 1) j) v first.1 in
+    elim cases [
+      | inl one ↦ omega arith
+      | inr more ↦ none more.2 j (record { forward = omega (arith, first.0); inside = h.inside; spelled = more.3 })
+    ]
+
+-- at each place at most one number is spelled, and it ends at one place
+pub unsigned_same : (width : ℕ) (bytes : List ℕ) (i j k v w : ℕ) → IsSpelledAt (IsUnsigned width) bytes i j v → IsSpelledAt (IsUnsigned width) bytes i k w → (j ≡ k) × (v ≡ w)
+unsigned_same width bytes i j k v w p q =
+    let same = one_place (IsUnsigned width) bytes i j k v w (λ a b x y f g e. one_end width width a b x y v w f g e) p q in
+    (same.0, one_value width (slice_range bytes i k) v w (rw same.1 at p.spelled) q.spelled)
+
+-- a spelling of one byte, or whose last byte isn't 0, is the shortest
+pub short_found : (width : ℕ) (bytes : List ℕ) (i j v : ℕ) → IsSpelledAt (IsUnsigned width) bytes i j v → (j - i ≤ 1) ⊎ (0 < get_or bytes (j - 1) 0) → IsSpelledAt (IsShortest (IsUnsigned width)) bytes i j v
+short_found width bytes i j v h ends =
+    let forward = h.forward in
+    let inside = h.inside in
+    let size = length_range bytes i j forward inside in
+    record {
+      forward = forward;
+      inside = inside;
+      spelled = elim ends [
+        | inl one ↦ record { spelled = h.spelled; least = λ other q. let some = not_empty width other v q in omega arith }
+        | inr large ↦ (let some = not_empty width (slice_range bytes i j) v h.spelled in
+            let last = range_last bytes i j (omega arith) inside in
+            let whole = large_last width (slice_range bytes i (j - 1)) (get_or bytes (j - 1) 0) v (rw last at h.spelled) large in
+            subst (λ (xs : List ℕ). IsShortest (IsUnsigned width) xs v) (sym last) whole.1)
+      ];
+    }
+
+-- a spelling of more bytes whose last byte is 0 isn't the shortest
+pub short_never : (width : ℕ) (bytes : List ℕ) (i j v : ℕ) → IsSpelledAt (IsUnsigned width) bytes i j v → 1 < j - i → get_or bytes (j - 1) 0 ≡ 0 → (w k : ℕ) → IsSpelledAt (IsShortest (IsUnsigned width)) bytes i k w → ⊥
+short_never width bytes i j v h more zero w k short =
+    let forward = h.forward in
+    let inside = h.inside in
+    let shorter = short.spelled in
+    let same = unsigned_same width bytes i j k v w h (record { forward = short.forward; inside = short.inside; spelled = shorter.spelled }) in
+    let last = range_last bytes i j (omega arith) inside in
+    let first = range_first bytes i (j - 1) (get_or bytes i 0) (omega arith) (omega arith) (get_or_default bytes i 0 (get_or bytes i 0) (omega arith)) in
+    let size = length_range bytes (i + 1) (j - 1) (omega arith) (omega arith) in
+    let whole : slice_range bytes i j ≡ get_or bytes i 0 ∷ (slice_range bytes (i + 1) (j - 1) ++ 0 ∷ []) = rw (last, first, zero) refl in
+    let other = zero_last width (get_or bytes i 0) (slice_range bytes (i + 1) (j - 1)) v (rw whole at h.spelled) in
+    let least = shorter.least other.0 (subst (λ (x : ℕ). IsUnsigned width other.0 x) same.1 other.1) in
+    let long = length_range bytes i k (short.forward) (short.inside) in
+    omega (arith, same.0, least, long, other.2)
+
+-- what isn't spelled isn't spelled shortest
+pub short_none : (width : ℕ) (bytes : List ℕ) (i : ℕ) → ((v j : ℕ) → IsSpelledAt (IsUnsigned width) bytes i j v → ⊥) → (v j : ℕ) → IsSpelledAt (IsShortest (IsUnsigned width)) bytes i j v → ⊥
+short_none width bytes i none v j h = none v j (record { forward = h.forward; inside = h.inside; spelled = h.spelled.spelled })
