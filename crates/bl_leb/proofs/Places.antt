@@ -1,13 +1,15 @@
 -- Spellings at a place, by the byte that stands there.
-use Rattle.std.proofs.Common.{◌≡◌, ℕ, suc, ◌+◌, ◌-◌, ◌<◌, ◌≤◌, List, [], ◌∷◌, length, get_or, take, drop, ap, sym, ◌∙◌, refl, subst, arith, slice_range, add-one, drop-cons, length-drop, ◌++◌, get_or-drop, ◌⊎◌, inl, inr}
+use Rattle.std.proofs.Common.{◌≡◌, ℕ, suc, ◌+◌, ◌-◌, ◌<◌, ◌≤◌, List, [], ◌∷◌, length, get_or, take, drop, ap, sym, ◌∙◌, refl, subst, arith, slice_range, add-one, drop-cons, length-drop, length-append, append_assoc, ◌++◌, get_or-drop, ◌⊎◌, inl, inr}
 use Rattle.std.proofs.Math.Seq.{take-suc}
-use Rattle.std.proofs.lemmas.List.{length-take-le}
+use Rattle.std.proofs.lemmas.List.{length-take-le, drop_at, take_at}
 use Rattle.std.proofs.lemmas.List.Folds.{drop_split}
 use Rattle.bl_leb.specs.Spellings.{IsSpelledAt}
 
+-- no bytes
 take_none : (k : ℕ) (xs : List ℕ) → k ≡ 0 → take k xs ≡ []
 take_none k xs e = rw e refl
 
+-- the first byte and one less of the rest
 take_one_more : (k m n : ℕ) (xs : List ℕ) → k ≡ suc m → take k (n ∷ xs) ≡ n ∷ take m xs
 take_one_more k m n xs e = rw e refl
 
@@ -35,15 +37,6 @@ spelled_more Spells Tail bytes i j n v m inside is tail more =
     let first = range_first bytes i j n (omega arith) inside is in
     record { forward = omega arith; inside = tail.inside; spelled = subst (λ (xs : List ℕ). Spells xs v) (sym first) (more (slice_range bytes (i + 1) j) tail.spelled) }
 
--- past the bytes nothing is spelled
-pub nothing_past : {A : Type 0} (Spells : List ℕ → A → Type 0) (bytes : List ℕ) (i j : ℕ) (v : A) → length bytes ≤ i → ((w : A) → Spells [] w → ⊥) → IsSpelledAt Spells bytes i j v → ⊥
-nothing_past Spells bytes i j v past never h =
-    let forward = h.forward in
-    let inside = h.inside in
-    let same : j ≡ i = omega arith in
-    let empty : slice_range bytes i j ≡ [] = ap (λ k. slice_range bytes i k) same ∙ range_none bytes i in
-    never v (subst (λ (xs : List ℕ). Spells xs v) empty h.spelled)
-
 -- what is spelled at a place begins with the byte there
 pub begins : {A : Type 0} (Spells : List ℕ → A → Type 0) (bytes : List ℕ) (i j n : ℕ) (v : A) → i < length bytes → n ≡ get_or bytes i n → ((w : A) → Spells [] w → ⊥) → IsSpelledAt Spells bytes i j v → (i < j) × Spells (n ∷ slice_range bytes (i + 1) j) v
 begins Spells bytes i j n v inside is never h =
@@ -54,6 +47,7 @@ begins Spells bytes i j n v inside is never h =
       | inr less ↦ (less, subst (λ (xs : List ℕ). Spells xs v) (range_first bytes i j n less inside is) h.spelled)
     ]
 
+-- as many bytes as there are places
 pub length_range : (bytes : List ℕ) (i j : ℕ) → i ≤ j → j ≤ length bytes → length (slice_range bytes i j) ≡ j - i
 length_range bytes i j less inside = length-take-le (j - i) (drop i bytes) (omega (arith, length-drop i bytes))
 
@@ -79,3 +73,15 @@ one_place Spells bytes i j k v w one p q =
     let other = length_range bytes i k g n in
     let lengths = ap length same in
     (omega arith, same)
+
+-- what is spelled is spelled where it stands, whatever is around it
+pub spelled_between : {A : Type 0} (Spells : List ℕ → A → Type 0) (before bytes after : List ℕ) (v : A) → Spells bytes v → IsSpelledAt Spells (before ++ bytes ++ after) (length before) (length before + length bytes) v
+spelled_between Spells before bytes after v h =
+    let rest : drop (length before) (before ++ bytes ++ after) ≡ bytes ++ after = rw append_assoc (drop_at before (bytes ++ after) (length before) refl) in
+    let size : length before + length bytes - length before ≡ length bytes = omega arith in
+    let whole : slice_range (before ++ bytes ++ after) (length before) (length before + length bytes) ≡ bytes = ap (λ xs. take (length before + length bytes - length before) xs) rest ∙ take_at bytes after (length before + length bytes - length before) (sym size) in
+    record {
+      forward = omega arith;
+      inside = omega (arith, length-append {A = ℕ});
+      spelled = subst (λ (xs : List ℕ). Spells xs v) (sym whole) h;
+    }

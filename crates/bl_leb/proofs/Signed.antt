@@ -96,6 +96,7 @@ not_empty width (n ∷ bytes) v p = omega arith
 pub shortest_one : (width n : ℕ) (v : ℤ) → IsSignedByte width n v → IsShortest (IsSigned width) (n ∷ []) v
 shortest_one width n v h = record { spelled = h; least = λ other q. not_empty width other v q }
 
+-- where no byte spells the number alone, each spelling has one byte more than the higher bits need
 longer : (width : ℕ) (bytes other : List ℕ) (m v : ℤ) (n : ℕ) → IsShortest (IsSigned (width - 7)) bytes m → 128 ≤ n → n < 256 → v ≡ pos 128 *ℤ m +ℤ pos (n - 128) → (v <ℤ pos 64 → pos 0 ≤ℤ (v +ℤ pos 64) → ⊥) → IsSigned width other v → 1 + length bytes ≤ length other
 longer width bytes [] m v n short low high is large h = absurd h
 longer width bytes (k ∷ []) m v n short low high is large h =
@@ -162,17 +163,4 @@ appends_more v m b old mid new low byte is large pushed rest width fits =
       bytes = b ∷ high.bytes;
       spelled = shortest_more width b m v high.bytes low byte more.0 high.spelled large is;
       appended = high.appended ∙ ap (λ s. s ++ high.bytes) pushed ∙ append_assoc old (b ∷ []) high.bytes;
-    }
-
--- one byte
-pub appends_one : (v : ℤ) (n : ℕ) (m : ℤ) (old new : List ℕ) → n < 128 → v ≡ pos 128 *ℤ m +ℤ pos n → v <ℤ pos 64 → pos 0 ≤ℤ (v +ℤ pos 64) → new ≡ old ++ n ∷ [] → (width : ℕ) → IsSignedNumber width v → Appends (IsShortest (IsSigned width)) old new v
-appends_one v n m old new small is high low pushed width fits =
-    let cases : (n < 64) ⊎ (64 ≤ n) = grind arith in
-    record {
-      bytes = n ∷ [];
-      spelled = shortest_one width n v (elim cases [
-        | inl plus ↦ inl (plus, omega (arith, ints), omega (arith, ints))
-        | inr minus ↦ inr (minus, small, omega (arith, ints), omega (arith, ints))
-      ]);
-      appended = pushed;
     }

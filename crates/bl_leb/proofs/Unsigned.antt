@@ -68,6 +68,7 @@ not_empty width (n ∷ bytes) v p = omega arith
 pub shortest_one : (width v : ℕ) → v < 128 → v < 2 ^ width → IsShortest (IsUnsigned width) (v ∷ []) v
 shortest_one width v small fits = record { spelled = (small, fits, refl); least = λ other h. not_empty width other v h }
 
+-- each spelling of a number from 128 on has one byte more than the higher bits need
 longer : (width : ℕ) (bytes other : List ℕ) (m v : ℕ) → IsShortest (IsUnsigned (width - 7)) bytes m → 128 * m ≤ v → v < 128 * m + 128 → 0 < m → IsUnsigned width other v → 1 + length bytes ≤ length other
 longer width bytes [] m v short low high large h = absurd h
 longer width bytes (n ∷ []) m v short low high large h = absurd (omega arith)
@@ -140,6 +141,9 @@ appends_more v b old mid new large low pushed rest width fits =
       appended = high.appended ∙ ap (λ s. s ++ high.bytes) pushed ∙ append_assoc old (b ∷ []) high.bytes;
     }
 
--- one byte
-pub appends_one : (v : ℕ) (old new : List ℕ) → v < 128 → new ≡ old ++ v ∷ [] → (width : ℕ) → v < 2 ^ width → Appends (IsShortest (IsUnsigned width)) old new v
-appends_one v old new small pushed width fits = record { bytes = v ∷ []; spelled = shortest_one width v small fits; appended = pushed }
+-- so a spelling that ends in 0 behind another byte isn't the shortest
+pub zero_never : (width n : ℕ) (xs : List ℕ) (v : ℕ) → IsShortest (IsUnsigned width) (n ∷ (xs ++ 0 ∷ [])) v → ⊥
+zero_never width n xs v h =
+    let other = zero_last width n xs v h.spelled in
+    let least = h.least other.0 other.1 in
+    omega (arith, least, other.2, length-append xs (0 ∷ []))

@@ -4,7 +4,7 @@ use Rattle.std.proofs.lemmas.List.{get_or_default}
 use Rattle.bl_leb.specs.Numbers.{IsUnsigned}
 use Rattle.bl_leb.specs.Spellings.{IsSpelledAt, IsShortest}
 use Rattle.bl_leb.proofs.Places.{spelled_one, spelled_more, begins, one_place, length_range, range_last, range_first}
-use Rattle.bl_leb.proofs.Unsigned.{by_first, with_first, one_end, one_value, not_empty, large_last, zero_last}
+use Rattle.bl_leb.proofs.Unsigned.{by_first, with_first, one_end, one_value, not_empty, large_last, zero_never}
 
 -- no empty spelling
 pub not_nothing : (width w : ℕ) → IsUnsigned width [] w → ⊥
@@ -68,17 +68,9 @@ pub short_never : (width : ℕ) (bytes : List ℕ) (i j v : ℕ) → IsSpelledAt
 short_never width bytes i j v h more zero w k short =
     let forward = h.forward in
     let inside = h.inside in
-    let shorter = short.spelled in
-    let same = unsigned_same width bytes i j k v w h (record { forward = short.forward; inside = short.inside; spelled = shorter.spelled }) in
     let last = range_last bytes i j (omega arith) inside in
     let first = range_first bytes i (j - 1) (get_or bytes i 0) (omega arith) (omega arith) (get_or_default bytes i 0 (get_or bytes i 0) (omega arith)) in
-    let size = length_range bytes (i + 1) (j - 1) (omega arith) (omega arith) in
     let whole : slice_range bytes i j ≡ get_or bytes i 0 ∷ (slice_range bytes (i + 1) (j - 1) ++ 0 ∷ []) = rw (last, first, zero) refl in
-    let other = zero_last width (get_or bytes i 0) (slice_range bytes (i + 1) (j - 1)) v (rw whole at h.spelled) in
-    let least = shorter.least other.0 (subst (λ (x : ℕ). IsUnsigned width other.0 x) same.1 other.1) in
-    let long = length_range bytes i k (short.forward) (short.inside) in
-    omega (arith, same.0, least, long, other.2)
-
--- what isn't spelled isn't spelled shortest
-pub short_none : (width : ℕ) (bytes : List ℕ) (i : ℕ) → ((v j : ℕ) → IsSpelledAt (IsUnsigned width) bytes i j v → ⊥) → (v j : ℕ) → IsSpelledAt (IsShortest (IsUnsigned width)) bytes i j v → ⊥
-short_none width bytes i none v j h = none v j (record { forward = h.forward; inside = h.inside; spelled = h.spelled.spelled })
+    let here = unsigned_same width bytes i j k v w h (record { forward = short.forward; inside = short.inside; spelled = short.spelled.spelled }) in
+    let shorter : IsShortest (IsUnsigned width) (slice_range bytes i j) w = subst (λ (e : ℕ). IsShortest (IsUnsigned width) (slice_range bytes i e) w) (sym here.0) short.spelled in
+    zero_never width (get_or bytes i 0) (slice_range bytes (i + 1) (j - 1)) w (subst (λ (xs : List ℕ). IsShortest (IsUnsigned width) xs w) whole shorter)

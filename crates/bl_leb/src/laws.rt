@@ -1,5 +1,5 @@
 //! Laws of the spellings of numbers, at every width. Each function is its contract alone.
-ghost use Rattle.std.specs.Prelude.{◌≡◌, ℕ, ℤ, ◌+◌, ◌-◌, ◌*◌, ◌^◌, ◌<◌, ◌≤◌, List, ◌++◌, length};
+ghost use Rattle.std.specs.Prelude.{◌≡◌, ℕ, ℤ, ◌+◌, ◌-◌, ◌*◌, ◌^◌, ◌<◌, ◌≤◌, List, [], ◌∷◌, ◌++◌, length};
 ghost use Rattle.bl_leb.specs.Numbers.{IsUnsigned, IsSigned, IsSignedNumber};
 ghost use Rattle.bl_leb.specs.Spellings.{IsSpelledAt, IsShortest};
 
@@ -49,4 +49,22 @@ pub fn few_bytes()
         IsUnsigned width bytes v → (1 ≤ length bytes) × (7 * length bytes < width + 7) }
     ensures signed { (width : ℕ) (bytes : List ℕ) (v : ℤ) → 0 < width →
         IsSigned width bytes v → (1 ≤ length bytes) × (7 * length bytes < width + 7) }
+{}
+
+/// What is spelled is spelled where it stands, whatever is before and behind it; so what was written is read
+/// again.
+pub fn read_again()
+    ensures unsigned { (width : ℕ) (before bytes after : List ℕ) (v : ℕ) → IsUnsigned width bytes v →
+        IsSpelledAt (IsUnsigned width) (before ++ bytes ++ after) (length before) (length before + length bytes) v }
+    ensures signed { (width : ℕ) (before bytes after : List ℕ) (v : ℤ) → IsSigned width bytes v →
+        IsSpelledAt (IsSigned width) (before ++ bytes ++ after) (length before) (length before + length bytes) v }
+{}
+
+/// The shortest spelling of an unsigned number is the one whose last byte is no 0 behind another byte.
+pub fn shortest_by_last_byte()
+    ensures one { (width n v : ℕ) → IsUnsigned width (n ∷ []) v → IsShortest (IsUnsigned width) (n ∷ []) v }
+    ensures last { (width last v : ℕ) (bytes : List ℕ) → IsUnsigned width (bytes ++ last ∷ []) v →
+        0 < last → IsShortest (IsUnsigned width) (bytes ++ last ∷ []) v }
+    ensures longer { (width first v : ℕ) (bytes : List ℕ) →
+        ¬ IsShortest (IsUnsigned width) (first ∷ bytes ++ 0 ∷ []) v }
 {}

@@ -1,5 +1,5 @@
 //! Numbers written as bytes.
-ghost use Rattle.std.specs.Prelude.{◌≡◌, ℕ, ℤ, ◌-◌, ◌^◌, ◌<◌, ◌+ℤ◌, ◌≤ℤ◌, ◌<ℤ◌, pos, take, vec_len, OnOk, OnErr};
+ghost use Rattle.std.specs.Prelude.{◌≡◌, ℕ, ◌^◌, ◌<◌, take, vec_len, OnOk, OnErr};
 ghost use Rattle.bl_leb.specs.Numbers.{IsUnsigned, IsSigned, IsSignedNumber};
 ghost use Rattle.bl_leb.specs.Spellings.{IsShortest, Appends};
 
