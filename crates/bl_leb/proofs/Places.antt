@@ -1,6 +1,5 @@
 -- Spellings at a place, by the byte that stands there.
-use Rattle.std.proofs.Common.{◌≡◌, ℕ, suc, ◌+◌, ◌-◌, ◌<◌, ◌≤◌, List, [], ◌∷◌, length, get_or, take, drop, ap, sym, ◌∙◌, refl, subst, arith, slice_range, add-one, drop-cons, length-drop, length-append, append_assoc, ◌++◌, get_or-drop, ◌⊎◌, inl, inr}
-use Rattle.std.proofs.Math.Seq.{take-suc}
+use Rattle.std.proofs.Common.{◌≡◌, ℕ, suc, ◌+◌, ◌-◌, ◌<◌, ◌≤◌, List, [], ◌∷◌, length, get_or, take, drop, ap, sym, ◌∙◌, refl, subst, arith, slice_range, add-one, drop-cons, length-drop, length-append, append_assoc, ◌++◌, ◌⊎◌, inl, inr}
 use Rattle.std.proofs.lemmas.List.{length-take-le, drop_at, take_at}
 use Rattle.std.proofs.lemmas.List.Folds.{drop_split}
 use Rattle.bl_leb.specs.Spellings.{IsSpelledAt}
@@ -50,16 +49,6 @@ begins Spells bytes i j n v inside is never h =
 -- as many bytes as there are places
 pub length_range : (bytes : List ℕ) (i j : ℕ) → i ≤ j → j ≤ length bytes → length (slice_range bytes i j) ≡ j - i
 length_range bytes i j less inside = length-take-le (j - i) (drop i bytes) (omega (arith, length-drop i bytes))
-
--- the last byte, and those before it
-pub range_last : (bytes : List ℕ) (i j : ℕ) → i < j → j ≤ length bytes → slice_range bytes i j ≡ slice_range bytes i (j - 1) ++ get_or bytes (j - 1) 0 ∷ []
-range_last bytes i j less inside =
-    let size = length-drop i bytes in
-    let last = take-suc (drop i bytes) (j - 1 - i) 0 (omega arith) in
-    let count : j - i ≡ suc (j - 1 - i) = omega arith in
-    let place : i + (j - 1 - i) ≡ j - 1 = omega arith in
-    let byte : get_or (drop i bytes) (j - 1 - i) 0 ≡ get_or bytes (j - 1) 0 = get_or-drop i bytes (j - 1 - i) 0 ∙ ap (λ k. get_or bytes k 0) place in
-    ap (λ k. take k (drop i bytes)) count ∙ last ∙ ap (λ b. take (j - 1 - i) (drop i bytes) ++ b ∷ []) byte
 
 -- where no spelling begins another, one ends at each place
 pub one_place : {A : Type 0} (Spells : List ℕ → A → Type 0) (bytes : List ℕ) (i j k : ℕ) (v w : A) → ((a b x y : List ℕ) → Spells a v → Spells b w → a ++ x ≡ b ++ y → a ≡ b) → IsSpelledAt Spells bytes i j v → IsSpelledAt Spells bytes i k w → (j ≡ k) × (slice_range bytes i j ≡ slice_range bytes i k)

@@ -1,5 +1,6 @@
 -- What the grammar of unsigned numbers implies, at every width.
-use Rattle.std.proofs.Common.{◌≡◌, ℕ, ◌+◌, ◌-◌, ◌*◌, ◌^◌, ◌<◌, ◌≤◌, List, [], ◌∷◌, ◌++◌, length, ap, sym, ◌∙◌, refl, arith, length-append, append_assoc, ◌/◌, ◌%◌, ◌⊎◌, inl, inr}
+use Rattle.std.proofs.Common.{◌≡◌, ℕ, ◌+◌, ◌-◌, ◌*◌, ◌^◌, ◌<◌, ◌≤◌, List, [], ◌∷◌, ◌++◌, length, ap, sym, ◌∙◌, refl, arith, length-append, take, get_or, suc, subst, append_assoc, ◌/◌, ◌%◌, ◌⊎◌, inl, inr}
+use Rattle.std.proofs.Math.Seq.{take-suc, take-length}
 use Rattle.std.proofs.lemmas.Nat.{pow-add}
 use Rattle.bl_leb.specs.Numbers.{IsUnsigned}
 use Rattle.bl_leb.proofs.Bits.{power_grows}
@@ -147,3 +148,26 @@ zero_never width n xs v h =
     let other = zero_last width n xs v h.spelled in
     let least = h.least other.0 other.1 in
     omega (arith, least, other.2, length-append xs (0 ∷ []))
+
+-- a list is the elements before its last and that
+pub with_last : (xs : List ℕ) → 1 ≤ length xs → take (length xs - 1) xs ++ get_or xs (length xs - 1) 0 ∷ [] ≡ xs
+with_last xs some =
+    let count : suc (length xs - 1) ≡ length xs = omega arith in
+    sym (take-suc xs (length xs - 1) 0 (omega arith)) ∙ ap (λ k. take k xs) count ∙ take-length xs
+
+-- a spelling of one byte, or whose last byte isn't 0, is the shortest
+pub shortest_if : (width : ℕ) (bytes : List ℕ) (v : ℕ) → (length bytes < 2) ⊎ (0 < get_or bytes (length bytes - 1) 0) → IsUnsigned width bytes v → IsShortest (IsUnsigned width) bytes v
+shortest_if width bytes v (inl short) h = record { spelled = h; least = λ other q. let some = not_empty width other v q in omega arith }
+shortest_if width bytes v (inr large) h =
+    let whole = with_last bytes (not_empty width bytes v h) in
+    let spelled = subst (λ (xs : List ℕ). IsUnsigned width xs v) (sym whole) h in
+    subst (λ (xs : List ℕ). IsShortest (IsUnsigned width) xs v) whole (large_last width (take (length bytes - 1) bytes) (get_or bytes (length bytes - 1) 0) v spelled large).1
+
+-- a spelling of more bytes whose last byte is 0 isn't
+pub never_if : (width : ℕ) (bytes : List ℕ) (v : ℕ) → 2 ≤ length bytes → get_or bytes (length bytes - 1) 0 ≡ 0 → IsShortest (IsUnsigned width) bytes v → ⊥
+never_if width [] v more zero h = omega arith
+never_if width (n ∷ bytes) v more zero h =
+    let place : length (n ∷ bytes) - 1 ≡ suc (length bytes - 1) = omega arith in
+    let last : get_or bytes (length bytes - 1) 0 ≡ 0 = sym (ap (λ k. get_or (n ∷ bytes) k 0) place) ∙ zero in
+    let whole : take (length bytes - 1) bytes ++ 0 ∷ [] ≡ bytes = ap (λ b. take (length bytes - 1) bytes ++ b ∷ []) (sym last) ∙ with_last bytes (omega arith) in
+    zero_never width n (take (length bytes - 1) bytes) v (subst (λ (xs : List ℕ). IsShortest (IsUnsigned width) (n ∷ xs) v) (sym whole) h)

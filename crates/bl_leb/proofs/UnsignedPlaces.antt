@@ -1,10 +1,9 @@
 -- Unsigned numbers at a place, by the byte that stands there.
-use Rattle.std.proofs.Common.{◌≡◌, ℕ, ◌+◌, ◌-◌, ◌*◌, ◌^◌, ◌<◌, ◌≤◌, List, [], ◌∷◌, length, get_or, refl, sym, subst, ◌++◌, arith, slice_range, ◌⊎◌, inl, inr}
-use Rattle.std.proofs.lemmas.List.{get_or_default}
+use Rattle.std.proofs.Common.{◌≡◌, ℕ, ◌+◌, ◌-◌, ◌*◌, ◌^◌, ◌<◌, ◌≤◌, List, [], length, get_or, refl, sym, subst, arith, slice_range, ◌⊎◌, inl, inr}
 use Rattle.bl_leb.specs.Numbers.{IsUnsigned}
 use Rattle.bl_leb.specs.Spellings.{IsSpelledAt, IsShortest}
-use Rattle.bl_leb.proofs.Places.{spelled_one, spelled_more, begins, one_place, length_range, range_last, range_first}
-use Rattle.bl_leb.proofs.Unsigned.{by_first, with_first, one_end, one_value, not_empty, large_last, zero_never}
+use Rattle.bl_leb.proofs.Places.{spelled_one, spelled_more, begins, one_place}
+use Rattle.bl_leb.proofs.Unsigned.{by_first, with_first, one_end, one_value}
 
 -- no empty spelling
 pub not_nothing : (width w : ℕ) → IsUnsigned width [] w → ⊥
@@ -45,32 +44,8 @@ unsigned_same width bytes i j k v w p q =
     let same = one_place (IsUnsigned width) bytes i j k v w (λ a b x y f g e. one_end width width a b x y v w f g e) p q in
     (same.0, one_value width (slice_range bytes i k) v w (rw same.1 at p.spelled) q.spelled)
 
--- a spelling of one byte, or whose last byte isn't 0, is the shortest
-pub short_found : (width : ℕ) (bytes : List ℕ) (i j v : ℕ) → IsSpelledAt (IsUnsigned width) bytes i j v → (j - i ≤ 1) ⊎ (0 < get_or bytes (j - 1) 0) → IsSpelledAt (IsShortest (IsUnsigned width)) bytes i j v
-short_found width bytes i j v h ends =
-    let forward = h.forward in
-    let inside = h.inside in
-    let size = length_range bytes i j forward inside in
-    record {
-      forward = forward;
-      inside = inside;
-      spelled = elim ends [
-        | inl one ↦ record { spelled = h.spelled; least = λ other q. let some = not_empty width other v q in omega arith }
-        | inr large ↦ (let some = not_empty width (slice_range bytes i j) v h.spelled in
-            let last = range_last bytes i j (omega arith) inside in
-            let whole = large_last width (slice_range bytes i (j - 1)) (get_or bytes (j - 1) 0) v (rw last at h.spelled) large in
-            subst (λ (xs : List ℕ). IsShortest (IsUnsigned width) xs v) (sym last) whole.1)
-      ];
-    }
-
--- a spelling of more bytes whose last byte is 0 isn't the shortest
-pub short_never : (width : ℕ) (bytes : List ℕ) (i j v : ℕ) → IsSpelledAt (IsUnsigned width) bytes i j v → 1 < j - i → get_or bytes (j - 1) 0 ≡ 0 → (w k : ℕ) → IsSpelledAt (IsShortest (IsUnsigned width)) bytes i k w → ⊥
-short_never width bytes i j v h more zero w k short =
-    let forward = h.forward in
-    let inside = h.inside in
-    let last = range_last bytes i j (omega arith) inside in
-    let first = range_first bytes i (j - 1) (get_or bytes i 0) (omega arith) (omega arith) (get_or_default bytes i 0 (get_or bytes i 0) (omega arith)) in
-    let whole : slice_range bytes i j ≡ get_or bytes i 0 ∷ (slice_range bytes (i + 1) (j - 1) ++ 0 ∷ []) = rw (last, first, zero) refl in
+-- where what is spelled isn't the shortest, no shortest spelling begins
+pub short_never : (width : ℕ) (bytes : List ℕ) (i j v : ℕ) → IsSpelledAt (IsUnsigned width) bytes i j v → ((w : ℕ) → IsShortest (IsUnsigned width) (slice_range bytes i j) w → ⊥) → (w k : ℕ) → IsSpelledAt (IsShortest (IsUnsigned width)) bytes i k w → ⊥
+short_never width bytes i j v h never w k short =
     let here = unsigned_same width bytes i j k v w h (record { forward = short.forward; inside = short.inside; spelled = short.spelled.spelled }) in
-    let shorter : IsShortest (IsUnsigned width) (slice_range bytes i j) w = subst (λ (e : ℕ). IsShortest (IsUnsigned width) (slice_range bytes i e) w) (sym here.0) short.spelled in
-    zero_never width (get_or bytes i 0) (slice_range bytes (i + 1) (j - 1)) w (subst (λ (xs : List ℕ). IsShortest (IsUnsigned width) xs w) whole shorter)
+    never w (subst (λ (e : ℕ). IsShortest (IsUnsigned width) (slice_range bytes i e) w) (sym here.0) short.spelled)

@@ -11,16 +11,17 @@ IsUnsigned width (n ∷ next ∷ rest) value =
     (2 ^ 7 ≤ n) × (n < 2 ^ 8) × (7 < width)
     × (m : ℕ) × IsUnsigned (width - 7) (next ∷ rest) m × (value ≡ 2 ^ 7 * m + (n - 2 ^ 7))
 
--- The last byte of a signed number of so many bits: below 2^6 and 2^(N - 1) it is the number itself;
--- from 2^6 and from 2^7 - 2^(N - 1) on, below 2^7, it is the number plus 2^7.
+-- A byte that ends a signed number of so many bits.
+-- sN: a byte n below 2^6 and 2^(N - 1) spells n;
+-- a byte n from 2^6 on and below 2^7, and from 2^7 - 2^(N - 1) on, spells n - 2^7.
 abbrev pub IsSignedByte : ℕ → ℕ → ℤ → Type 0
 IsSignedByte width n value =
     ((n < 2 ^ 6) × (n < 2 ^ (width - 1)) × (value ≡ pos n))
     ⊎ ((2 ^ 6 ≤ n) × (n < 2 ^ 7) × (2 ^ 7 ≤ n + 2 ^ (width - 1)) × (value ≡ pos n -ℤ pos (2 ^ 7)))
 
 -- The bytes spell a signed number of so many bits.
--- sN: its last byte as above; a byte n from 2^7 on, where N > 7, and then a spelling of m in N - 7 bits,
--- spell 2^7 m + (n - 2^7).
+-- sN: a byte that ends it, as above;
+-- a byte n from 2^7 on, where N > 7, and then a spelling of m in N - 7 bits, spell 2^7 m + (n - 2^7).
 abbrev pub IsSigned : ℕ → List ℕ → ℤ → Type 0
 IsSigned width [] value = ⊥
 IsSigned width (n ∷ []) value = IsSignedByte width n value

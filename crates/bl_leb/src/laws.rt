@@ -43,7 +43,7 @@ pub fn in_range()
     ensures signed { (width : ℕ) (bytes : List ℕ) (v : ℤ) → IsSigned width bytes v → IsSignedNumber width v }
 {}
 
-/// A spelling of N bits has at most the least whole number from N / 7 on of bytes, and at least one.
+/// A spelling in N bits, N above 0, has at least one byte and at most N / 7, rounded up.
 pub fn few_bytes()
     ensures unsigned { (width : ℕ) (bytes : List ℕ) (v : ℕ) → 0 < width →
         IsUnsigned width bytes v → (1 ≤ length bytes) × (7 * length bytes < width + 7) }

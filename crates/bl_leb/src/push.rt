@@ -60,7 +60,7 @@ fn push_signed_bytes(to: &mut Vec<u8>, v: i32) -> Result<(), NoMemory>
     ensures err { OnErr result (take (vec_len to.old) to.new.items ≡ to.old.items) }
 {
     let low = v.rem_euclid(128) as u8;
-    if -64 <= v && v < 64 {
+    if (-64..64).contains(&v) {
         to.push(low)?;
         return Ok(());
     }

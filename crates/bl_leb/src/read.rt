@@ -1,5 +1,5 @@
 //! Numbers read from bytes.
-ghost use Rattle.std.specs.Prelude.{ℕ, ℤ, ◌<◌, ◌≤◌, ◌^◌, length, IfSome, IfNone};
+ghost use Rattle.std.specs.Prelude.{ℕ, ℤ, ◌<◌, ◌≤◌, ◌^◌, length, IsTrue, IsFalse, IfSome, IfNone};
 ghost use Rattle.bl_leb.specs.Numbers.{IsUnsigned, IsSigned, IsSignedByte, IsSignedNumber};
 ghost use Rattle.bl_leb.specs.Spellings.{IsSpelledAt, IsShortest};
 
@@ -65,8 +65,7 @@ fn read_signed(bytes: &[u8], at: usize, width: u32) -> Option<(i64, usize)>
 
 /// Reads the unsigned number of 32 bits whose spelling begins at `at`, a place of `bytes` or their length
 /// (WebAssembly 1.0, section 5.2.2). Some holds the number and the place after its last byte. None comes
-/// exactly where no spelling begins there: the bytes end before it does, it has more than 5 bytes, or its
-/// fifth has a bit from the fifth on.
+/// exactly where no spelling begins there: the bytes end before it does, or its fifth byte is above 0F.
 pub fn read_u32(bytes: &[u8], at: usize) -> Option<(u32, usize)>
     requires { at ≤ length bytes.now }
     ensures found { IfSome result (λ found. IsSpelledAt (IsUnsigned 32) bytes.now at found.1 found.0) }
@@ -78,8 +77,8 @@ pub fn read_u32(bytes: &[u8], at: usize) -> Option<(u32, usize)>
 
 /// Reads the signed number of 32 bits whose spelling begins at `at`, a place of `bytes` or their length
 /// (WebAssembly 1.0, section 5.2.2). Some holds the number and the place after its last byte. None comes
-/// exactly where no spelling begins there: the bytes end before it does, it has more than 5 bytes, or the
-/// bits of its fifth from the fifth on aren't copies of the sign.
+/// exactly where no spelling begins there: the bytes end before it does, or its fifth byte is none of 00 to
+/// 07 and 78 to 7F.
 pub fn read_i32(bytes: &[u8], at: usize) -> Option<(i32, usize)>
     requires { at ≤ length bytes.now }
     ensures found { IfSome result (λ found. IsSpelledAt (IsSigned 32) bytes.now at found.1 found.0) }
@@ -91,14 +90,27 @@ pub fn read_i32(bytes: &[u8], at: usize) -> Option<(i32, usize)>
 
 /// Reads the signed number of 64 bits whose spelling begins at `at`, a place of `bytes` or their length
 /// (WebAssembly 1.0, section 5.2.2). Some holds the number and the place after its last byte. None comes
-/// exactly where no spelling begins there: the bytes end before it does, it has more than 10 bytes, or the
-/// bits of its tenth from the second on aren't copies of the sign.
+/// exactly where no spelling begins there: the bytes end before it does, or its tenth byte is neither 00 nor
+/// 7F.
 pub fn read_i64(bytes: &[u8], at: usize) -> Option<(i64, usize)>
     requires { at ≤ length bytes.now }
     ensures found { IfSome result (λ found. IsSpelledAt (IsSigned 64) bytes.now at found.1 found.0) }
     ensures none { IfNone result ((value : ℤ) (place : ℕ) → ¬ IsSpelledAt (IsSigned 64) bytes.now at place value) }
 {
     read_signed(bytes, at, 64)
+}
+
+/// Whether a spelling of an unsigned number of 64 bits is the shortest: its last byte is no 0 behind another
+/// byte.
+fn is_shortest(spelling: &[u8]) -> bool
+    ensures shortest { (value : ℕ) → IsTrue result →
+        IsUnsigned 64 spelling.now value → IsShortest (IsUnsigned 64) spelling.now value }
+    ensures longer { (value : ℕ) → IsFalse result → ¬ IsShortest (IsUnsigned 64) spelling.now value }
+{
+    if spelling.len() < 2 {
+        return true;
+    }
+    spelling[spelling.len() - 1] != 0
 }
 
 /// Reads the unsigned number of 64 bits whose shortest spelling begins at `at`, a place of `bytes` or their
@@ -110,7 +122,7 @@ pub fn read_short(bytes: &[u8], at: usize) -> Option<(u64, usize)>
     ensures none { IfNone result ((value place : ℕ) → ¬ IsSpelledAt (IsShortest (IsUnsigned 64)) bytes.now at place value) }
 {
     let (value, place) = read_unsigned(bytes, at, 64)?;
-    if place - at > 1 && bytes[place - 1] == 0 {
+    if !is_shortest(&bytes[at..place]) {
         return None;
     }
     Some((value, place))
