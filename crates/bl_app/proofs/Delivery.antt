@@ -32,7 +32,7 @@ hardened_ends words request fetched image report old mid new status is gives h f
     let file = fetched_whole old.files request.wasm fetched h.tree gives h.spelled in
     let same : plan_of request image report ≡ harden_plan request h.tree = λ i. plan_of request (h.is_image i) (h.is_report i) in
     as_planned (harden_plan request h.tree) (harden request fetched h.tree is file h.spelled h.typed)
-      (subst (λ plan. Delivers plan old new status) same (delivers_from (plan_of request image report) old mid new status files faults sink d))
+    (subst (λ plan. Delivers plan old new status) same (delivers_from (plan_of request image report) old mid new status files faults sink d))
 
 -- a module outside the form that was fetched ends as the words ask for
 pub unsupported_ends : (words : List (List ℕ)) (request : Request) (fetched : List ℕ) (old new : World) (status : ℕ)

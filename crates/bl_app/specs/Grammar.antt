@@ -19,7 +19,7 @@ sized bytes = length bytes ∷ bytes
 abbrev pub section_of : ℕ → List ℕ → List ℕ
 section_of id contents = id ∷ sized contents
 
--- the magic and the version (section 5.5.16)
+-- the magic and the version (section 5.5.15)
 abbrev pub header : List ℕ
 header = 0x00 ∷ 0x61 ∷ 0x73 ∷ 0x6D ∷ 0x01 ∷ 0x00 ∷ 0x00 ∷ 0x00 ∷ []
 
@@ -82,7 +82,7 @@ module_of name items = record {
 abbrev pub HasForm : Module → Type 0
 HasForm tree = (name : List ℕ) × (items : List Instr) × (tree ≡ module_of name items)
 
--- the bytes spell the tree (section 5.5.16)
+-- the bytes spell the tree (section 5.5.15)
 pub record Spells (bytes : List ℕ) (tree : Module) : Type 0 where
   pub name : List ℕ
   pub items : List Instr

@@ -14,7 +14,7 @@ operands_after I32Add (suc (suc count)) = Some (count + 1)
 operands_after I32Add (suc zero) = None
 operands_after I32Add zero = None
 
--- a body goes from so many operands to so many (section 3.3.5)
+-- a body goes from so many operands to so many (section 3.3.6)
 abbrev pub GoesTo : List Instr → Option ℕ → ℕ → Type 0
 GoesTo [] count last = count ≡ Some last
 GoesTo (item ∷ items) None last = ⊥

@@ -16,3 +16,6 @@ mod words;
 
 pub use program::{Command, ExportDef, FunctionDef, Mark, Operand, Operator, ParamDef, Program};
 pub use top::blade;
+
+#[cfg(test)]
+mod tests;
