@@ -1,0 +1,132 @@
+-- What holds of each command of a linked tree's program; the linked tree of a module of the form.
+use Rattle.std.proofs.Common.{◌≡◌, ℕ, zero, suc, ◌+◌, ◌<◌, ◌≤◌, List, [], ◌∷◌, ◌++◌, ◌^◌, length, map, take, refl, ap, sym, subst, arith, length-append}
+use Rattle.std.specs.Prelude.{All, reverse}
+use Rattle.std.proofs.lemmas.List.Elements.{All-nil, All-cons, All-append}
+use Rattle.bl_base.specs.Trap.{kinds}
+use Rattle.bl_base.specs.declared.trap.Trap.{Trap as Kind}
+use Rattle.bl_base.specs.declared.number.Pos.{Pos}
+use Rattle.bl_wasm.specs.declared.instruction.Instr.{Instr}
+use Rattle.bl_wasm.specs.declared.instruction.Instr.TheVariants.{LocalGet, I32Const, I32Add}
+use Rattle.bl_wasm.specs.declared.linked.Linked.{Linked}
+use Rattle.bl_wasm.specs.declared.linked.Function.{Function}
+use Rattle.bl_wasm.specs.declared.module.Module.{Module}
+use Rattle.bl_app.specs.declared.program.Operand.{Operand}
+use Rattle.bl_app.specs.declared.program.Operand.TheVariants.{Constant}
+use Rattle.bl_app.specs.declared.program.Operator.{Operator}
+use Rattle.bl_app.specs.declared.program.Operator.TheVariants as op
+use Rattle.bl_app.specs.declared.program.Command.{Command}
+use Rattle.bl_app.specs.declared.program.Command.TheVariants.{Jump, Out, Ret, Trap}
+use Rattle.bl_app.specs.Lowering.{Frame, low, low_function, low_commands, low_items, variables_of, frame_of, first_rest, set, reads, local_variable, plain_mark, outs, entry, traps, first_position}
+use Rattle.bl_app.specs.Grammar.{Spells, ItemsSpell, no_item, one_more_item, ItemSpells, local_get, i32_const, i32_add, module_of}
+use Rattle.bl_app.specs.Typing.{Typed}
+use Rattle.bl_app.specs.Linking.{linked_of}
+use Rattle.bl_app.specs.Image.{IsEncodable, MarkFits}
+use Rattle.bl_app.specs.Form.{IsLinkedForm, ReadsParameter}
+
+-- it holds of each command that lowering makes
+pub record HoldsOfMade (P : Command → Type 0) : Type 0 where
+  pub sets : (to : ℕ) (operator : Operator) (a b : Operand) → P (set to operator a b)
+  pub out : (index : ℕ) (value : Operand) → P (Out plain_mark index value)
+  pub jump : (to : Pos) → P (Jump to)
+  pub ret : P Ret
+  pub trap : (kind : Kind) → P (Trap kind)
+
+module _ (P : Command → Type 0) (made : HoldsOfMade P) where
+  in_outs : (index : ℕ) (values : List Operand) → All P (outs index values)
+  in_outs index [] = All-cons P Ret [] made.ret (All-nil P)
+  in_outs index (value ∷ values) = All-cons P _ (outs (index + 1) values) (made.out index value) (in_outs (index + 1) values)
+
+  in_entry : (variable count position : ℕ) → All P (entry variable count position)
+  in_entry variable zero position = All-cons P _ [] (made.jump _) (All-nil P)
+  in_entry variable (suc count) position =
+      All-cons P _ (entry (variable + 1) count (position + 1)) (made.sets variable op.Move (Constant 0) (Constant 0)) (in_entry (variable + 1) count (position + 1))
+
+  in_items : (frame : Frame) (items : List Instr) (stack : List Operand) (next : ℕ) → All P (low_items frame items stack next)
+  in_items frame [] stack next = in_outs 0 (reverse (take frame.results stack))
+  in_items frame (LocalGet x ∷ items) stack next =
+      All-cons P _ (low_items frame items (reads next ∷ stack) (next + 1)) (made.sets next op.Move (reads (local_variable frame x)) (Constant 0)) (in_items frame items (reads next ∷ stack) (next + 1))
+  in_items frame (I32Const c ∷ items) stack next =
+      All-cons P _ (low_items frame items (reads next ∷ stack) (next + 1)) (made.sets next op.Move (Constant c) (Constant 0)) (in_items frame items (reads next ∷ stack) (next + 1))
+  in_items frame (I32Add ∷ items) (b ∷ a ∷ stack) next =
+      All-cons P _ (low_items frame items (reads next ∷ stack) (next + 1)) (made.sets next op.I32Add a b) (in_items frame items (reads next ∷ stack) (next + 1))
+  in_items frame (I32Add ∷ items) (b ∷ []) next = All-nil P
+  in_items frame (I32Add ∷ items) [] next = All-nil P
+
+  in_function : (first position : ℕ) (function : Function) → All P (low_function first position function)
+  in_function first position function =
+      let frame = frame_of first function in
+      let locals = length function.locals in
+      All-append P (entry (first_rest frame) locals position) (low_items frame function.items [] (first_rest frame + locals))
+      (in_entry (first_rest frame) locals position)
+      (in_items frame function.items [] (first_rest frame + locals))
+
+  in_commands : (first position : ℕ) (functions : List Function) → All P (low_commands first position functions)
+  in_commands first position [] = All-nil P
+  in_commands first position (function ∷ functions) =
+      let commands = low_function first position function in
+      let next = position + length commands in
+      All-append P commands (low_commands (first + variables_of function) next functions) (in_function first position function) (in_commands (first + variables_of function) next functions)
+
+  in_traps : (given : List Kind) → All P (map Trap given)
+  in_traps [] = All-nil P
+  in_traps (kind ∷ given) = All-cons P (Trap kind) (map Trap given) (made.trap kind) (in_traps given)
+
+  -- what holds of each command that lowering makes holds of each of a program
+  pub in_low : (tree : Linked) → All P (low tree).commands
+  in_low tree = All-append P traps (low_commands 0 first_position tree.functions) (in_traps (take first_position kinds)) (in_commands 0 first_position tree.functions)
+
+marks_fit : HoldsOfMade MarkFits
+marks_fit = record {
+  sets = λ to operator a b. omega arith;
+  out = λ index value. omega arith;
+  jump = λ to. tt;
+  ret = tt;
+  trap = λ kind. tt;
+}
+
+-- each linked tree's program has an image
+pub encodable : (tree : Linked) → IsEncodable (low tree)
+encodable tree = record {
+  traps = omega (arith, length-append traps (low_commands 0 first_position tree.functions));
+  marks = in_low MarkFits marks_fit tree;
+}
+
+item_reads : (bytes : List ℕ) (item : Instr) → ItemSpells bytes item → ReadsParameter item
+item_reads bytes item local_get = refl
+item_reads bytes item (i32_const byte lt) = tt
+item_reads bytes item i32_add = tt
+
+items_read : (bytes : List ℕ) (items : List Instr) → ItemsSpell bytes items → All ReadsParameter items
+items_read bytes items no_item = All-nil ReadsParameter
+items_read bytes items (one_more_item front rest item others s h) =
+    All-cons ReadsParameter item others (item_reads front item s) (items_read rest others h)
+
+item_size : (bytes : List ℕ) (item : Instr) → ItemSpells bytes item → 1 ≤ length bytes
+item_size bytes item local_get = omega arith
+item_size bytes item (i32_const byte lt) = omega arith
+item_size bytes item i32_add = omega arith
+
+-- each item has a byte
+pub items_size : (bytes : List ℕ) (items : List Instr) → ItemsSpell bytes items → length items ≤ length bytes
+items_size bytes items no_item = omega arith
+items_size bytes items (one_more_item front rest item others s h) =
+    omega (arith, length-append front rest, item_size front item s, items_size rest others h)
+
+-- the linked tree of a module of the form has the form
+pub linked_form : (part bytes : List ℕ) (tree : Module) → Spells bytes tree → Typed tree → IsLinkedForm (linked_of part tree)
+linked_form part bytes tree s typed =
+    let is = s.is_tree in
+    let made = module_of s.name s.items in
+    let typed' : Typed made = subst Typed is typed in
+    let size : length s.body ≡ length (s.spelled.front ++ 0x0B ∷ []) = ap length s.spelled.ended in
+    let small : length s.items < 2 ^ 16 = omega (arith, size, s.codes_fit, length-append s.spelled.front (0x0B ∷ []), items_size s.spelled.front s.items s.spelled.spelled) in
+    let form : IsLinkedForm (linked_of part made) = record {
+      items = s.items;
+      body = record {
+        typed = typed' 0 (record { locals = []; items = [] }) (omega arith);
+        locals = items_read s.spelled.front s.items s.spelled.spelled;
+        small = small;
+      };
+      functions = refl;
+    } in
+    subst (λ t. IsLinkedForm (linked_of part t)) (sym is) form
