@@ -12,6 +12,10 @@ leb_grows (suc g) n h =
     let fits : n / 128 < 128 ^ suc g = (let e : 128 ^ suc (suc g) ≡ 128 * 128 ^ suc g = pow-succ' 128 (suc g) in omega arith) in
     ap (λ (ns : List ℕ). cond (ltb n 128) (n ∷ []) ((n % 128 + 128) ∷ ns)) (leb_grows g (n / 128) fits)
 
+pub leb_zero : leb 0 ≡ 0 ∷ []
+unfolding leb
+leb_zero = refl
+
 pub leb_last : (n : ℕ) → n < 128 → leb n ≡ n ∷ []
 unfolding leb
 leb_last n h =
