@@ -30,6 +30,7 @@ pub fn encode(alloc: Global, program: &Program) -> Result<Vec<u8>, NoMemory>
 }
 
 /// Appends a number: groups of seven bits, the lowest first, each but the last with 128 added.
+#[tactic(auto, using(crate::proofs::Numbers::leb_last))]
 fn push_number(to: &mut Vec<u8>, number: u64) -> Result<(), NoMemory>
     ensures { OnOk result (to.new.items ≡ to.old.items ++ leb number) }
 {

@@ -1,5 +1,5 @@
 //! The report of a program.
-ghost use Rattle.std.specs.Prelude.{◌≡◌, IfOk, string_bytes};
+ghost use Rattle.std.specs.Prelude.{◌≡◌, IfOk, string_bytes, count_by};
 ghost use Rattle.bl_app.specs.Texts.{is_site, report_text};
 
 use crate::program::{Command, Program};
@@ -11,16 +11,22 @@ pub fn report(alloc: Global, program: &Program) -> Result<String, NoMemory>
     ensures { IfOk result (λ text. string_bytes text ≡ report_text program.now) }
 {
     let functions = program.functions.len();
-    let commands = program.commands.as_slice();
-    let sites = commands
-        .iter()
-        .filter(|command| is_site_command(command))
-        .count();
+    let commands = program.commands.len();
+    let sites = site_count(program.commands.as_slice());
     let text = format!(in alloc;
-        "functions {functions}\ncommands {}\nsites {sites}\nprotects 0 weight 0\nconstant-time yes\n",
-        commands.len()
+        "functions {functions}\ncommands {commands}\nsites {sites}\nprotects 0 weight 0\nconstant-time yes\n"
     )?;
     Ok(text)
+}
+
+/// The number of commands that write a variable whose value can be protected.
+fn site_count(commands: &[Command]) -> usize
+    ensures { result ≡ count_by is_site commands.now }
+{
+    commands
+        .iter()
+        .filter(|command| is_site_command(command))
+        .count()
 }
 
 /// Whether a command writes a variable whose value can be protected.
