@@ -1,8 +1,8 @@
 -- The files of an ordered map: what it has at a name, and an entry made new.
-use Rattle.std.proofs.Common.{◌≡◌, ℕ, Bool, true, false, cond, List, [], ◌∷◌, Some, None, Option, map, refl, ap, sym, ◌∙◌}
+use Rattle.std.proofs.Common.{◌≡◌, ℕ, Bool, true, false, cond, List, [], ◌∷◌, Some, Option, map, refl, ap, sym, ◌∙◌}
 use Rattle.std.specs.Prelude.{Vec, String, string_bytes}
 use Rattle.std.specs.Option.{option_map}
-use Rattle.std.specs.Ordering.{nat_cmp, eq_by_cmp, is_eq}
+use Rattle.std.specs.Ordering.{nat_cmp, is_eq}
 use Rattle.std.specs.Cmp.{eq_by_cmp_equiv}
 use Rattle.std.specs.Cmp.Lexicographic.{slice_cmp, nat_list_cmp_total}
 use Rattle.std.specs.FinMap.{from_entries, get, insert, find, get-from_entries, get-insert, same_map, slice_cmp-IsAntisymmetric, nat_cmp-IsAntisymmetric}
@@ -12,9 +12,9 @@ use Rattle.std.specs.String.{string_cmp}
 use Rattle.std.specs.Str.{bytes_eq}
 use Rattle.std.specs.declared.alloc.Global.{Global}
 use Rattle.std.proofs.lemmas.Map.Text.{is_eq-slice_cmp, btree_map_updates_text}
-use Rattle.bl_outside.specs.Shelf.{Files}
 use Rattle.bl_outside.specs.MemoryShelf.{named}
 
+-- a scan of the named entries finds what a look-up by bytes does
 find-named : (es : List (String Global × Vec ℕ Global)) (q : List ℕ) → find (slice_cmp nat_cmp) q (map named es) ≡ option_map (λ v. v.items) (lookup (λ k. is_eq (slice_cmp nat_cmp q (string_bytes k))) es)
 find-named [] q = refl
 find-named (e ∷ es) q =
@@ -27,6 +27,7 @@ find-named (e ∷ es) q =
 pub get-files : (m : BTreeMap (String Global) (Vec ℕ Global)) (q : List ℕ) → get (from_entries {R = slice_cmp nat_cmp} (map named m.entries)) q ≡ option_map (λ v. v.items) (get_by_text m q)
 get-files m q = get-from_entries nat_list_cmp_total (map named m.entries) q ∙ find-named m.entries q
 
+-- the bytes of the value that is chosen
 cond-items : (b : Bool) (v : Vec ℕ Global) (w : Option (Vec ℕ Global)) → option_map (λ v. v.items) (cond b (Some v) w) ≡ cond b (Some v.items) (option_map (λ v. v.items) w)
 cond-items b v w = elim b as (λ b. option_map (λ v. v.items) (cond b (Some v) w) ≡ cond b (Some v.items) (option_map (λ v. v.items) w)) [ true ↦ refl | false ↦ refl ]
 

@@ -1,5 +1,5 @@
 -- A shelf in memory.
-use Rattle.std.specs.Prelude.{◌≡◌, ℕ, List, [], Option, None, Some, Contains, Result, Ok, Err, ◌⊎◌, Vec, String, string_bytes, refl}
+use Rattle.std.specs.Prelude.{ℕ, List, Contains, Result, Ok, Err, Vec, String, string_bytes, refl}
 use Rattle.std.specs.Coded.{Coded, code_by, coded×, coded_ℕ, coded_list}
 use Rattle.std.specs.FinMap as fin
 use Rattle.std.specs.declared.alloc.Global.{Global}

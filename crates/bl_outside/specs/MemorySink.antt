@@ -1,7 +1,5 @@
 -- A sink in memory.
-use Rattle.std.specs.Prelude.{ℕ, ◌-◌, List, length, min, Option, None, Some, Result, Ok, Err, if◌then◌else◌, nat_lt, ◌||◌, nat_eq}
-use Rattle.bl_outside.specs.Faults.{one_more}
-use Rattle.bl_outside.specs.declared.sink.SinkFault.{SinkFault}
+use Rattle.std.specs.Prelude.{ℕ, ◌-◌, List, length, min, Option, None, Some}
 
 -- the bytes taken, the most bytes in all where there is a limit, the room that is left for more, and
 -- the count of faults

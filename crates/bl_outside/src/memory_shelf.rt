@@ -13,7 +13,7 @@ use std::collections::BTreeMap;
 use std::marker::Model;
 
 /// Files in an ordered map. The calls of `fetch` and `keep` are numbered together from 1, and those
-/// whose numbers are in a list fail.
+/// whose numbers are in a list fail. The number of a call stays at 2^64 - 1 once it is there.
 #[derive(Drop)]
 pub struct MemoryShelf {
     alloc: Global,
