@@ -1,10 +1,10 @@
 -- Steps of carrying out a plan.
-use Rattle.std.proofs.Common.{◌≡◌, ℕ, List, [], ◌∷◌, Option, Some, refl, sym, ◌∙◌, ap, subst, take}
-use Rattle.std.specs.Prelude.{Result, Ok, Err, slice_get}
-use Rattle.bl_outside.specs.Shelf.{Files, Faults, KeepFaults, Gives}
+use Rattle.std.proofs.Common.{◌≡◌, ℕ, List, Some, ◌∙◌, subst, take}
+use Rattle.std.specs.Prelude.{Err, slice_get}
+use Rattle.bl_outside.specs.Shelf.{Faults, KeepFaults, Gives}
 use Rattle.bl_outside.specs.declared.shelf.ShelfError.{ShelfError}
 use Rattle.bl_outside.specs.declared.shelf.ShelfError.TheVariants.{Failed, Memory}
-use Rattle.bl_app.specs.Answers.{Plan, World, Stream, Delivers, all_kept, not_kept, no_memory_to_keep, NotKept, Said, with_files, Ends, as_planned, harden, unsupported, harden_plan, unsupported_plan, plan_of, IsHardened, IsForm}
+use Rattle.bl_app.specs.Answers.{Plan, World, Delivers, all_kept, not_kept, no_memory_to_keep, NotKept, Said, with_files, Ends, as_planned, harden, unsupported, harden_plan, unsupported_plan, plan_of, IsHardened, IsForm}
 use Rattle.bl_app.specs.Requests.{Request, request_of, module_name}
 use Rattle.bl_app.specs.Texts.{write_fault_text, unsupported_text}
 use Rattle.bl_app.proofs.Files.{fetched_whole, fetched_other}

@@ -1,5 +1,5 @@
 -- The spelling of a number, one group at a time.
-use Rattle.std.proofs.Common.{◌≡◌, ℕ, ◌+◌, ◌*◌, ◌/◌, ◌%◌, ◌^◌, ◌<◌, ◌≤◌, zero, suc, List, [], ◌∷◌, Bool, true, false, cond, ltb, refl, ap, sym, arith, rules, tests}
+use Rattle.std.proofs.Common.{◌≡◌, ℕ, ◌+◌, ◌*◌, ◌/◌, ◌%◌, ◌^◌, ◌<◌, ◌≤◌, zero, suc, List, [], ◌∷◌, true, false, cond, ltb, refl, ap, sym, arith, rules, tests}
 use Rattle.std.proofs.Math.Nat.{pow-succ'}
 use Rattle.bl_app.specs.Image.{leb, leb_within}
 

@@ -1,25 +1,23 @@
 -- The definitions on one worked module: a function that adds 1 to its parameter.
 use Rattle.std.proofs.Common.{◌≡◌, ℕ, List, [], ◌∷◌, ◌++◌, refl}
-use Rattle.std.specs.Prelude.{length, codes, zero, suc}
+use Rattle.std.specs.Prelude.{codes, zero, suc}
 use Rattle.bl_base.specs.declared.trap.Trap.TheVariants as kind
 use Rattle.bl_wasm.specs.declared.instruction.Instr.{Instr}
 use Rattle.bl_wasm.specs.declared.instruction.Instr.TheVariants.{LocalGet, I32Const, I32Add}
 use Rattle.bl_wasm.specs.declared.linked.Linked.{Linked}
-use Rattle.bl_app.specs.declared.program.Program.{Program}
 use Rattle.bl_app.specs.declared.program.Operator.TheVariants as op
-use Rattle.bl_app.specs.declared.program.Operand.TheVariants.{Variable, Constant}
-use Rattle.bl_app.specs.declared.program.Command.{Command}
-use Rattle.bl_app.specs.declared.program.Command.TheVariants.{Set, Jump, Out, Ret, Trap}
+use Rattle.bl_app.specs.declared.program.Operand.TheVariants.{Constant}
+use Rattle.bl_app.specs.declared.program.Command.TheVariants.{Jump, Out, Ret, Trap}
 use Rattle.bl_app.specs.Grammar.{module_of, exports_of, codes_of, header, type_section, function_section, section_of}
 use Rattle.bl_app.specs.Linking.{linked_of}
 use Rattle.bl_app.specs.Lowering.{low, set, reads, plain_mark, steps_bound}
-use Rattle.bl_app.specs.Runs.{Next, goes, ends, stuck, returned, Outcome}
-use Rattle.bl_app.specs.Source.{source_step, entering, Config}
+use Rattle.bl_app.specs.Runs.{Next, goes, ends, stuck, returned}
+use Rattle.bl_app.specs.Source.{source_step, entering}
 use Rattle.std.specs.Fmt.{digits}
 use Rattle.std.specs.Prelude.{Some, None}
 use Rattle.bl_app.specs.Image.{image_of, leb}
 use Rattle.bl_app.specs.Texts.{report_text}
-use Rattle.bl_app.specs.Requests.{module_name, request_of, Request}
+use Rattle.bl_app.specs.Requests.{module_name, request_of}
 use Rattle.bl_app.specs.Plain.{plain_step, opening, State, placed, Placed}
 
 name : List ℕ

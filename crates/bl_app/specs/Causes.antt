@@ -1,12 +1,10 @@
 -- What a caller can rely on of each status.
-use Rattle.std.specs.Prelude.{◌≡◌, ℕ, List, Option, Some, None, All, Bool, false, ◌⊎◌}
+use Rattle.std.specs.Prelude.{◌≡◌, ℕ, List, Option, Some, None, All, false, ◌⊎◌}
 use Rattle.bl_outside.specs.Faults.{Rose}
-use Rattle.bl_outside.specs.Shelf.{Files, Faults, ReadFails, WriteFails, with_file}
+use Rattle.bl_outside.specs.Shelf.{Files, ReadFails, WriteFails, with_file}
 use Rattle.bl_wasm.specs.declared.module.Module.{Module}
-use Rattle.bl_app.specs.declared.program.Mark.{Mark}
 use Rattle.bl_app.specs.declared.program.Command.{Command}
 use Rattle.bl_app.specs.declared.program.Command.TheVariants.{Set, Jump, Out, Ret, Trap}
-use Rattle.bl_app.specs.declared.program.Program.{Program}
 use Rattle.bl_app.specs.Grammar.{Spells}
 use Rattle.bl_app.specs.Typing.{Typed}
 use Rattle.bl_app.specs.Linking.{linked_of}
@@ -14,7 +12,7 @@ use Rattle.bl_app.specs.Image.{image_of}
 use Rattle.bl_app.specs.Meaning.{SameOutcomes}
 use Rattle.bl_app.specs.Requests.{Request, request_of, module_name}
 use Rattle.bl_app.specs.Texts.{report_text, read_fault_text, write_fault_text, empty_certificate}
-use Rattle.bl_app.specs.Answers.{IsForm, FileIs, Stream, World, program_of, took}
+use Rattle.bl_app.specs.Answers.{IsForm, FileIs, World, program_of, took}
 
 -- the command's value isn't protected, where it has one
 abbrev pub IsUnprotected : Command → Type 0

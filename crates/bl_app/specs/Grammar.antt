@@ -2,14 +2,10 @@
 -- type [i32] -> [i32] without locals. A spelling of a whole is the spellings of its parts, one after
 -- another. Counts, sizes and indices of the form are below 128 and are spelled as one byte each.
 use Rattle.std.specs.Prelude.{◌≡◌, ℕ, ◌+◌, ◌-◌, ◌^◌, ◌<◌, ◌≤◌, List, [], ◌∷◌, ◌++◌, length, All, nat_lt, if◌then◌else◌}
-use Rattle.bl_wasm.specs.declared.types.WasmType.{WasmType}
 use Rattle.bl_wasm.specs.declared.types.WasmType.TheVariants.{I32}
-use Rattle.bl_wasm.specs.declared.types.FuncType.{FuncType}
 use Rattle.bl_wasm.specs.declared.instruction.Instr.{Instr}
 use Rattle.bl_wasm.specs.declared.instruction.Instr.TheVariants.{LocalGet, I32Const, I32Add}
 use Rattle.bl_wasm.specs.declared.module.Module.{Module}
-use Rattle.bl_wasm.specs.declared.module.Export.{Export}
-use Rattle.bl_wasm.specs.declared.module.Code.{Code}
 
 -- bytes behind their number (sections 5.1.3 and 5.5.2)
 abbrev pub sized : List ℕ → List ℕ

@@ -1,6 +1,6 @@
 -- The image of a program: its bytes. Each number is spelled as an unsigned LEB128 number in its shortest
 -- spelling, and each program has one image.
-use Rattle.std.specs.Prelude.{ℕ, ◌+◌, ◌-◌, ◌*◌, ◌/◌, ◌%◌, ◌≤◌, All, List, [], ◌∷◌, ◌++◌, length, drop, nat_lt, if◌then◌else◌, zero, suc, codes}
+use Rattle.std.specs.Prelude.{ℕ, ◌+◌, ◌/◌, ◌%◌, ◌≤◌, All, List, [], ◌∷◌, ◌++◌, length, drop, nat_lt, if◌then◌else◌, zero, suc}
 use Rattle.std.specs.List.{flat_map}
 use Rattle.bl_base.specs.Trap.{code_of}
 use Rattle.bl_base.specs.declared.names.Label.{Label}
@@ -8,7 +8,6 @@ use Rattle.bl_base.specs.declared.names.Label.TheVariants.{Public, Secret}
 use Rattle.bl_base.specs.declared.names.ValueType.{ValueType}
 use Rattle.bl_base.specs.declared.names.ValueType.TheVariants.{I32, I64}
 use Rattle.bl_base.specs.declared.number.Var.{Var}
-use Rattle.bl_base.specs.declared.number.Pos.{Pos}
 use Rattle.bl_app.specs.declared.program.Operand.{Operand}
 use Rattle.bl_app.specs.declared.program.Operand.TheVariants.{Variable, Constant}
 use Rattle.bl_app.specs.declared.program.Operator.{Operator}

@@ -1,11 +1,9 @@
 -- Lowering: the program of a linked tree, without protects. A function's variables are its parameters,
 -- its results and the rest, which begin with its other locals; the rest grow by one for each value that
 -- an instruction puts on the stack.
-use Rattle.std.specs.Prelude.{◌≡◌, ℕ, ◌+◌, ◌*◌, ◌-◌, List, [], ◌∷◌, ◌++◌, length, map, nat_lt, if◌then◌else◌, max, false, zero, suc, take, reverse}
+use Rattle.std.specs.Prelude.{ℕ, ◌+◌, ◌*◌, List, [], ◌∷◌, ◌++◌, length, map, nat_lt, if◌then◌else◌, max, false, zero, suc, take, reverse}
 use Rattle.bl_base.specs.Trap.{kinds}
 use Rattle.bl_base.specs.declared.names.Label.TheVariants.{Public}
-use Rattle.bl_base.specs.declared.names.ValueType.{ValueType}
-use Rattle.bl_base.specs.declared.number.Var.{Var}
 use Rattle.bl_wasm.specs.declared.instruction.Instr.{Instr}
 use Rattle.bl_wasm.specs.declared.instruction.Instr.TheVariants.{LocalGet, I32Const, I32Add}
 use Rattle.bl_wasm.specs.declared.linked.Linked.{Linked}
@@ -18,7 +16,6 @@ use Rattle.bl_app.specs.declared.program.Operator.TheVariants as op
 use Rattle.bl_app.specs.declared.program.Mark.{Mark}
 use Rattle.bl_app.specs.declared.program.Command.{Command}
 use Rattle.bl_app.specs.declared.program.Command.TheVariants.{Set, Jump, Out, Ret, Trap}
-use Rattle.bl_app.specs.declared.program.ParamDef.{ParamDef}
 use Rattle.bl_app.specs.declared.program.FunctionDef.{FunctionDef}
 use Rattle.bl_app.specs.declared.program.ExportDef.{ExportDef}
 use Rattle.bl_app.specs.declared.program.Program.{Program}

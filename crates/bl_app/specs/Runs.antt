@@ -1,5 +1,5 @@
 -- Runs of a machine that steps from one configuration to the next, until it ends.
-use Rattle.std.specs.Prelude.{◌≡◌, ℕ, suc, zero, List}
+use Rattle.std.specs.Prelude.{◌≡◌, ℕ, suc, List}
 use Rattle.bl_base.specs.declared.trap.Trap.{Trap}
 
 -- a memory at a run's end: its pages and its bytes

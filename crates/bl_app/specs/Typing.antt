@@ -4,7 +4,6 @@ use Rattle.std.specs.Prelude.{◌≡◌, ℕ, ◌+◌, List, [], ◌∷◌, Opti
 use Rattle.bl_wasm.specs.declared.instruction.Instr.{Instr}
 use Rattle.bl_wasm.specs.declared.instruction.Instr.TheVariants.{LocalGet, I32Const, I32Add}
 use Rattle.bl_wasm.specs.declared.module.Module.{Module}
-use Rattle.bl_wasm.specs.declared.module.Code.{Code}
 
 -- the operands after an item, from those before it; none where there are too few (section 3.3)
 abbrev pub operands_after : Instr → ℕ → Option ℕ

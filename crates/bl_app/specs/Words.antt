@@ -1,5 +1,4 @@
 -- The words of a call as the code keeps them.
-use Rattle.std.specs.Prelude.{ℕ, List}
 use Rattle.bl_app.specs.Requests.{Request}
 use Rattle.bl_app.specs.declared.words.HardenWords.{HardenWords}
 

@@ -1,4 +1,4 @@
-use Rattle.std.proofs.Common.{◌≡◌, subst, sym}
+use Rattle.std.proofs.Common.{subst, sym}
 use Rattle.bl_app.specs.Form.{IsLinkedForm}
 use Rattle.bl_app.specs.Image.{IsEncodable}
 use Rattle.bl_app.proofs.EncodableLemmas.{encodable, linked_form}

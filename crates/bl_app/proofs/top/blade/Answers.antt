@@ -1,4 +1,4 @@
-use Rattle.std.proofs.Common.{◌≡◌, ◌∙◌, ap, sym, refl}
+use Rattle.std.proofs.Common.{◌∙◌, sym}
 use Rattle.bl_app.proofs.CausesLemmas.{causes, hardens}
 use Rattle.bl_app.proofs.top.blade.Goals as goal
 

@@ -1,6 +1,6 @@
-use Rattle.std.proofs.Common.{◌≡◌, ◌∙◌, ap, sym, refl, ◌∷◌, []}
+use Rattle.std.proofs.Common.{◌∙◌, ap, refl}
 use Rattle.bl_outside.specs.Shelf.{with_file}
-use Rattle.bl_app.specs.Answers.{all_kept, whole, cut, plan_of}
+use Rattle.bl_app.specs.Answers.{all_kept, whole, cut}
 use Rattle.bl_app.proofs.Delivery.{keep_refused}
 use Rattle.bl_app.proofs.top.deliver.Goals as goal
 

@@ -1,4 +1,4 @@
-use Rattle.std.proofs.Common.{◌≡◌, ◌∙◌, ap, sym, refl}
+use Rattle.std.proofs.Common.{sym, refl}
 use Rattle.std.specs.Prelude.{map, string_bytes}
 use Rattle.bl_app.specs.Answers.{as_planned, usage_plan, usage, all_kept}
 use Rattle.bl_app.proofs.top.run.Goals as goal
