@@ -9,7 +9,9 @@ use std::process::ExitCode;
 
 /// Where the system doesn't give the words, the status is that of want of memory, or that of no request.
 fn main(rt: HostRuntime) -> ExitCode {
-    let words = match env::args(&rt).and_then(|words| Ok(words.collect::<Vec<String>>(rt.alloc())?)) {
+    let words = match env::args(&rt).and_then(|words| Ok(words.collect::<Vec<String>>(
+        rt.alloc(),
+    )?)) {
         Ok(words) => words,
         Err(e) if e.kind() == ErrorKind::OutOfMemory => return ExitCode::from(11),
         Err(_) => return ExitCode::from(2),
