@@ -1,0 +1,8 @@
+//! The integer operators of WebAssembly 1.0 and the kinds of accesses to memory: their codes, types and meaning.
+#![tactic(auto)]
+
+mod op;
+mod rows;
+
+pub use op::{Op, OpRow, OpTable};
+pub use rows::{by_code, by_image_code, image_code, row, table};
