@@ -1,1 +1,4 @@
+pub mod Groups
+pub mod Integer
+pub mod Numerics
 pub mod Table

@@ -1,6 +1,7 @@
 //! The integer operators of WebAssembly 1.0 and the kinds of accesses to memory: their codes, types and meaning.
 #![tactic(auto)]
 
+mod group;
 mod op;
 mod rows;
 
