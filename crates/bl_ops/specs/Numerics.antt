@@ -6,6 +6,14 @@ use Rattle.bl_ops.specs.Integer.{truth, iadd, isub, imul, idiv_u, idiv_s, irem_u
 use Rattle.bl_ops.specs.declared.op.Op.{Op}
 use Rattle.bl_ops.specs.declared.op.Op.TheVariants.{I32Eqz, I32Eq, I32Ne, I32LtS, I32LtU, I32GtS, I32GtU, I32LeS, I32LeU, I32GeS, I32GeU, I64Eqz, I64Eq, I64Ne, I64LtS, I64LtU, I64GtS, I64GtU, I64LeS, I64LeU, I64GeS, I64GeU, I32Clz, I32Ctz, I32Popcnt, I32Add, I32Sub, I32Mul, I32DivS, I32DivU, I32RemS, I32RemU, I32And, I32Or, I32Xor, I32Shl, I32ShrS, I32ShrU, I32Rotl, I32Rotr, I64Clz, I64Ctz, I64Popcnt, I64Add, I64Sub, I64Mul, I64DivS, I64DivU, I64RemS, I64RemU, I64And, I64Or, I64Xor, I64Shl, I64ShrS, I64ShrU, I64Rotl, I64Rotr, I32WrapI64, I64ExtendI32S, I64ExtendI32U, Move, Select, Outside}
 
+-- the first operand where the third isn't 0, else the second
+abbrev pub select : ℕ → ℕ → ℕ → ℕ
+select a b c = if c % 2 ^ 32 == 0 then b else a
+
+-- 1 where an access that reaches so far from an address ends beyond so many pages of 65,536 bytes
+abbrev pub outside : ℕ → ℕ → ℕ → ℕ
+outside address pages reach = truth (nat_lt (pages % 2 ^ 32 * 65536) (address % 2 ^ 32 + reach % 2 ^ 34))
+
 -- the number that an operator gives: at i32 operands are taken modulo 2 ^ 32
 unfoldable pub meaning : Op → ℕ → ℕ → ℕ → ℕ
 meaning I32Eqz a b c = ieqz 32 (a % 2 ^ 32)
@@ -70,8 +78,8 @@ meaning I32WrapI64 a b c = iwrap 32 a
 meaning I64ExtendI32S a b c = iextend_s 32 64 (a % 2 ^ 32)
 meaning I64ExtendI32U a b c = iextend_u 32 64 (a % 2 ^ 32)
 meaning Move a b c = a
-meaning Select a b c = if c % 2 ^ 32 == 0 then b else a
-meaning Outside a pages reach = truth (nat_lt (pages % 2 ^ 32 * 65536) (a % 2 ^ 32 + reach % 2 ^ 34))
+meaning Select a b c = select a b c
+meaning Outside a b c = outside a b c
 
 -- where a quotient or a remainder is undefined
 abbrev pub by_zero : ℕ → Option Trap

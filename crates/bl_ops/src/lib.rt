@@ -6,4 +6,4 @@ mod op;
 mod rows;
 
 pub use op::{Op, OpRow, OpTable};
-pub use rows::{by_code, by_image_code, image_code, row, table};
+pub use rows::{by_code, by_image_code, eval, image_code, row, table, trap_of};

@@ -1,17 +1,19 @@
-//! The table of operators, from which every call about a code is made.
+//! The table of the operators, and the calls that it makes.
 ghost use Rattle.std.specs.Prelude.{◌≡◌, IfSome, ℕ};
-ghost use Rattle.bl_ops.specs.declared.op.Op.{Op};
+ghost use Rattle.bl_ops.specs.Numerics.{meaning, outside, select, traps};
 ghost use Rattle.bl_ops.specs.Table.{code_of, image_code_of, row_of, rows};
+ghost use Rattle.bl_ops.specs.declared.op.Op.{Op};
 
+use crate::group::{Arithmetic, Bitwise, Comparison, Conversion, Division, Shift, Unary, low};
 use crate::op::{Op, OpRow, OpTable};
-use bl_base::ValueType;
+use bl_base::{Trap, ValueType};
 
-/// The match arms of one call, one for each row of the table: an operator, its code, the number of its operands, their
-/// type, the type of its result, and the group and kind that give its meaning.
+/// What a call makes of the table of operators, a row each: the operator, its code, the number of its operands, their
+/// type, the type of its result, and the group and the kind there that give its meaning.
 macro_rules! by_row {
-    ($column:ident($($argument:expr),*)) => {
-        by_row!(@$column ($($argument),*)
-            I32Eqz 0x45 1 I32 I32 ZeroTest Eqz,
+    ($call:ident($($argument:expr),*)) => {
+        by_row!(@$call ($($argument),*)
+            I32Eqz 0x45 1 I32 I32 Unary Eqz,
             I32Eq 0x46 2 I32 I32 Comparison Eq,
             I32Ne 0x47 2 I32 I32 Comparison Ne,
             I32LtS 0x48 2 I32 I32 Comparison LtS,
@@ -22,7 +24,7 @@ macro_rules! by_row {
             I32LeU 0x4D 2 I32 I32 Comparison LeU,
             I32GeS 0x4E 2 I32 I32 Comparison GeS,
             I32GeU 0x4F 2 I32 I32 Comparison GeU,
-            I64Eqz 0x50 1 I64 I32 ZeroTest Eqz,
+            I64Eqz 0x50 1 I64 I32 Unary Eqz,
             I64Eq 0x51 2 I64 I32 Comparison Eq,
             I64Ne 0x52 2 I64 I32 Comparison Ne,
             I64LtS 0x53 2 I64 I32 Comparison LtS,
@@ -33,9 +35,9 @@ macro_rules! by_row {
             I64LeU 0x58 2 I64 I32 Comparison LeU,
             I64GeS 0x59 2 I64 I32 Comparison GeS,
             I64GeU 0x5A 2 I64 I32 Comparison GeU,
-            I32Clz 0x67 1 I32 I32 Count Clz,
-            I32Ctz 0x68 1 I32 I32 Count Ctz,
-            I32Popcnt 0x69 1 I32 I32 Count Popcnt,
+            I32Clz 0x67 1 I32 I32 Unary Clz,
+            I32Ctz 0x68 1 I32 I32 Unary Ctz,
+            I32Popcnt 0x69 1 I32 I32 Unary Popcnt,
             I32Add 0x6A 2 I32 I32 Arithmetic Add,
             I32Sub 0x6B 2 I32 I32 Arithmetic Sub,
             I32Mul 0x6C 2 I32 I32 Arithmetic Mul,
@@ -51,9 +53,9 @@ macro_rules! by_row {
             I32ShrU 0x76 2 I32 I32 Shift ShrU,
             I32Rotl 0x77 2 I32 I32 Shift Rotl,
             I32Rotr 0x78 2 I32 I32 Shift Rotr,
-            I64Clz 0x79 1 I64 I64 Count Clz,
-            I64Ctz 0x7A 1 I64 I64 Count Ctz,
-            I64Popcnt 0x7B 1 I64 I64 Count Popcnt,
+            I64Clz 0x79 1 I64 I64 Unary Clz,
+            I64Ctz 0x7A 1 I64 I64 Unary Ctz,
+            I64Popcnt 0x7B 1 I64 I64 Unary Popcnt,
             I64Add 0x7C 2 I64 I64 Arithmetic Add,
             I64Sub 0x7D 2 I64 I64 Arithmetic Sub,
             I64Mul 0x7E 2 I64 I64 Arithmetic Mul,
@@ -69,19 +71,14 @@ macro_rules! by_row {
             I64ShrU 0x88 2 I64 I64 Shift ShrU,
             I64Rotl 0x89 2 I64 I64 Shift Rotl,
             I64Rotr 0x8A 2 I64 I64 Shift Rotr,
-            I32WrapI64 0xA7 1 I64 I32 Wrapping Wrap,
-            I64ExtendI32S 0xAC 1 I32 I64 Extension ExtendS,
-            I64ExtendI32U 0xAD 1 I32 I64 Extension ExtendU,
+            I32WrapI64 0xA7 1 I64 I32 Conversion Wrap,
+            I64ExtendI32S 0xAC 1 I32 I64 Conversion ExtendS,
+            I64ExtendI32U 0xAD 1 I32 I64 Conversion ExtendU,
         )
     };
     (@table () $($op:ident $code:literal $operands:tt $from:ident $to:ident $group:ident $kind:ident,)*) => {
         OpTable {
-            rows: [$(OpRow {
-                code: $code,
-                operands: $operands,
-                from: ValueType::$from,
-                to: ValueType::$to,
-            },)*],
+            rows: [$(by_row!(@record $code $operands $from $to),)*],
         }
     };
     (@by_code ($byte:expr) $($op:ident $code:literal $operands:tt $from:ident $to:ident $group:ident $kind:ident,)*) => {
@@ -109,15 +106,40 @@ macro_rules! by_row {
     };
     (@row ($one:expr) $($op:ident $code:literal $operands:tt $from:ident $to:ident $group:ident $kind:ident,)*) => {
         match $one {
-            $(Op::$op => Some(OpRow {
-                code: $code,
-                operands: $operands,
-                from: ValueType::$from,
-                to: ValueType::$to,
-            }),)*
+            $(Op::$op => Some(by_row!(@record $code $operands $from $to)),)*
             Op::Move | Op::Select | Op::Outside => None,
         }
     };
+    (@eval ($one:expr, $a:expr, $b:expr, $c:expr) $($op:ident $code:literal $operands:tt $from:ident $to:ident $group:ident $kind:ident,)*) => {
+        match $one {
+            $(Op::$op => by_row!(@value $operands $from $group $kind, $a, $b),)*
+            Op::Move => $a,
+            Op::Select => chosen($a, $b, $c),
+            Op::Outside => beyond($a, $b, $c),
+        }
+    };
+    (@trap_of ($one:expr, $a:expr, $b:expr) $($op:ident $code:literal $operands:tt $from:ident $to:ident $group:ident $kind:ident,)*) => {
+        match $one {
+            $(Op::$op => by_row!(@trap $from $group $kind, $a, $b),)*
+            Op::Move | Op::Select | Op::Outside => None,
+        }
+    };
+    (@record $code:literal $operands:tt $from:ident $to:ident) => {
+        OpRow {
+            code: $code,
+            operands: $operands,
+            from: ValueType::$from,
+            to: ValueType::$to,
+        }
+    };
+    (@value 1 $from:ident Conversion $kind:ident, $a:expr, $b:expr) => { Conversion::$kind.apply($a) };
+    (@value 1 I32 $group:ident $kind:ident, $a:expr, $b:expr) => { $group::$kind.on_32($a) };
+    (@value 1 I64 $group:ident $kind:ident, $a:expr, $b:expr) => { $group::$kind.on_64($a) };
+    (@value 2 I32 $group:ident $kind:ident, $a:expr, $b:expr) => { $group::$kind.on_32($a, $b) };
+    (@value 2 I64 $group:ident $kind:ident, $a:expr, $b:expr) => { $group::$kind.on_64($a, $b) };
+    (@trap I32 Division $kind:ident, $a:expr, $b:expr) => { Division::$kind.trap_32($a, $b) };
+    (@trap I64 Division $kind:ident, $a:expr, $b:expr) => { Division::$kind.trap_64($a, $b) };
+    (@trap $from:ident $group:ident $kind:ident, $a:expr, $b:expr) => { None };
 }
 
 /// The rows of the 61 integer operators.
@@ -155,4 +177,40 @@ pub fn row(op: Op) -> Option<OpRow>
     ensures { result ≡ row_of op }
 {
     by_row!(row(op))
+}
+
+/// The number that an operator gives of its operands (WebAssembly 1.0, section 4.3.2). An i32 is a number below 2^32, an
+/// i64 one below 2^64; an operand of type i32 is taken modulo 2^32. An operator of one operand takes `a`, one of two
+/// takes `a` and `b`. Where the standard's operator traps, a quotient or remainder by zero is 0, and the quotient that
+/// overflows is the least number. Outside takes an address, the pages of the memory, and the offset and width of the
+/// access together.
+#[tactic(auto, unfolding(crate::specs::Numerics::meaning))]
+pub fn eval(op: Op, a: u64, b: u64, c: u64) -> u64
+    ensures { result ≡ meaning op a b c }
+{
+    by_row!(eval(op, a, b, c))
+}
+
+/// The trap of an operator at its operands: DivideByZero for a quotient or remainder by zero, Overflow for the signed
+/// quotient of the least number by -1, and None elsewhere (WebAssembly 1.0, section 4.3.2).
+#[tactic(auto, unfolding(crate::specs::Numerics::traps))]
+pub fn trap_of(op: Op, a: u64, b: u64) -> Option<Trap>
+    ensures { result ≡ traps op a b }
+{
+    by_row!(trap_of(op, a, b))
+}
+
+/// `a` where `c` isn't 0 as an i32, else `b`.
+fn chosen(a: u64, b: u64, c: u64) -> u64
+    ensures { result ≡ select a b c }
+{
+    if low(c) != 0 { a } else { b }
+}
+
+/// 1 where the access ends beyond the memory, else 0.
+fn beyond(address: u64, pages: u64, reach: u64) -> u64
+    ensures { result ≡ outside address pages reach }
+{
+    let end = u64::from(low(address)) + reach % 0x4_0000_0000;
+    u64::from(end > u64::from(low(pages)) * 65_536)
 }
