@@ -1,3 +1,4 @@
+pub mod Access
 pub mod Groups
 pub mod Integer
 pub mod Numerics
