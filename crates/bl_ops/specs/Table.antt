@@ -1,5 +1,5 @@
 -- The operators' codes, operands and types (WebAssembly 1.0, sections 2.4.1 and 5.4.6).
-use Rattle.std.specs.Prelude.{◌≡◌, ℕ, Bool, true, ◌&&◌, nat_lt, ◌==◌, List, [], ◌∷◌, map, filter_map, find, Option, Some, None, option_map, unwrap_or}
+use Rattle.std.specs.Prelude.{ℕ, Bool, true, ◌&&◌, nat_lt, ◌==◌, List, [], ◌∷◌, filter_map, find, Option, Some, None, option_map, unwrap_or}
 use Rattle.bl_base.specs.declared.names.ValueType.{ValueType}
 use Rattle.bl_base.specs.declared.names.ValueType.TheVariants.{I32, I64}
 use Rattle.bl_ops.specs.declared.op.Op.{Op}
@@ -104,3 +104,11 @@ abbrev pub rise : List ℕ → Bool
 rise [] = true
 rise (x ∷ []) = true
 rise (x ∷ y ∷ rest) = nat_lt x y && rise (y ∷ rest)
+
+-- the integer operator of a code, where there is one
+abbrev pub operator_of : ℕ → Option Op
+operator_of code = find (λ op. image_code_of op == code) operators
+
+-- the operator of a code in an image, where there is one
+abbrev pub image_operator_of : ℕ → Option Op
+image_operator_of code = find (λ op. image_code_of op == code) (Move ∷ Select ∷ Outside ∷ operators)

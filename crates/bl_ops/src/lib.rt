@@ -3,6 +3,7 @@
 
 mod access;
 mod group;
+pub mod laws;
 mod op;
 mod rows;
 
