@@ -128,8 +128,10 @@ ictz_is (suc n) i = by_bit (ictz_is n (i / 2)) (i % 2) refl (omega arith)
   where
     half : (k : ℕ) → i % 2 ^ (suc k + 1) ≡ (i / 2 % 2 ^ (k + 1)) * 2 + i % 2
     half k = ap (λ (x : ℕ). i % 2 ^ x) (omega arith) ∙ mod-pow-add i (k + 1) 1
+
     first : sum_below (suc n) (λ k. truth (eqb (i % 2 ^ (k + 1)) 0)) ≡ truth (eqb (i % 2 ^ (0 + 1)) 0) + sum_below n (λ k. truth (eqb (i % 2 ^ (suc k + 1)) 0))
     first = sum_below-first n (λ k. truth (eqb (i % 2 ^ (k + 1)) 0))
+
     by_bit : sum_below n (λ k. truth (eqb (i / 2 % 2 ^ (k + 1)) 0)) ≡ count_trailing_zeros n (i / 2) → (d : ℕ) → i % 2 ≡ d → d < 2 → sum_below (suc n) (λ k. truth (eqb (i % 2 ^ (k + 1)) 0)) ≡ under d (count_trailing_zeros n (i / 2))
     by_bit rest_is zero e h =
         let rest = sum_below-same n _ _ (λ k _. ap (λ (x : ℕ). truth (eqb x 0)) (half k) ∙ even (i / 2 % 2 ^ (k + 1)) (i % 2) e) in
@@ -239,6 +241,7 @@ shr_s_is w a b p = by_sign (ltb a (2 ^ hbits w)) refl
   where
     within : b % bits w ≤ bits w
     within = omega (arith, half_of w)
+
     by_sign : (t : Bool) → ltb a (2 ^ hbits w) ≡ t → of_z w (shr_z (sel t (pos a) (negsuc (2 ^ bits w - suc a))) (2 ^ (b % bits w))) ≡ a / 2 ^ (b % bits w) + bit a (bits w - 1) * (2 ^ bits w - 2 ^ (bits w - b % bits w))
     by_sign true e = omega (arith, ap (λ (x : ℕ). x * (2 ^ bits w - 2 ^ (bits w - b % bits w))) (low_bit (bits w) (hbits w) a (half_of w) (grind (arith, nat_tests, e))))
     by_sign false e = omega (arith, sign_filled (bits w) (b % bits w) a within p, ap (λ (x : ℕ). x * (2 ^ bits w - 2 ^ (bits w - b % bits w))) (high_bit (bits w) (hbits w) a (half_of w) p (grind (arith, nat_tests, e))))
@@ -270,6 +273,7 @@ signed_is w a h = by_sign (ltb a (2 ^ hbits w)) refl
   where
     place : bits w - 1 ≡ hbits w
     place = omega (arith, half_of w)
+
     by_sign : (t : Bool) → ltb a (2 ^ hbits w) ≡ t → cond (ltb a (2 ^ (bits w - 1))) (pos a) (pos a -ℤ pos (2 ^ bits w)) ≡ sel t (pos a) (negsuc (2 ^ bits w - suc a))
     by_sign true e = rw (place, e) refl
     by_sign false e = rw (place, e) (omega (arith, ints))

@@ -150,7 +150,9 @@ pub fn extend(kind: AccessKind, bytes: u64) -> u64
 {
     match kind {
         AccessKind::I32Load8S => u64::from(i32::from((bytes as u8).cast_signed()).cast_unsigned()),
-        AccessKind::I32Load16S => u64::from(i32::from((bytes as u16).cast_signed()).cast_unsigned()),
+        AccessKind::I32Load16S => u64::from(i32::from(
+            (bytes as u16).cast_signed(),
+        ).cast_unsigned()),
         AccessKind::I64Load8S => i64::from((bytes as u8).cast_signed()).cast_unsigned(),
         AccessKind::I64Load16S => i64::from((bytes as u16).cast_signed()).cast_unsigned(),
         AccessKind::I64Load32S => i64::from((bytes as u32).cast_signed()).cast_unsigned(),

@@ -148,7 +148,9 @@ impl Division {
             return Some(Trap::DivideByZero);
         }
         match self {
-            Division::DivS if a.cast_signed() == i32::MIN && b.cast_signed() == -1 => Some(Trap::Overflow),
+            Division::DivS if a.cast_signed() == i32::MIN && b.cast_signed() == -1 => Some(
+                Trap::Overflow,
+            ),
             _ => None,
         }
     }
@@ -161,7 +163,9 @@ impl Division {
             return Some(Trap::DivideByZero);
         }
         match self {
-            Division::DivS if a.cast_signed() == i64::MIN && b.cast_signed() == -1 => Some(Trap::Overflow),
+            Division::DivS if a.cast_signed() == i64::MIN && b.cast_signed() == -1 => Some(
+                Trap::Overflow,
+            ),
             _ => None,
         }
     }
