@@ -1,10 +1,10 @@
 -- The machine's operations on bits, by sums over bits and by powers of two.
-use Rattle.std.proofs.Common.{◌≡◌, ℕ, zero, suc, ◌+◌, ◌-◌, ◌*◌, ◌/◌, ◌%◌, ◌^◌, ◌<◌, ◌≤◌, min, max, cond, eqb, true, false, ◌⊎◌, inl, inr, ℤ, ◌-ℤ◌, ◌*ℤ◌, refl, sym, ap, subst, ap₂, ◌∙◌, arith, rules, bit_and, bit_or, pow_pos, pow_mono, add-one, mod-eq_of_lt}
+use Rattle.std.proofs.Common.{◌≡◌, ℕ, zero, suc, ◌+◌, ◌-◌, ◌*◌, ◌/◌, ◌%◌, ◌^◌, ◌<◌, ◌≤◌, cond, eqb, true, false, ◌⊎◌, inl, inr, ℤ, ◌-ℤ◌, ◌*ℤ◌, refl, sym, ap, subst, ap₂, ◌∙◌, arith, bit_and, bit_or, pow_pos, pow_mono, mod-eq_of_lt}
 use Rattle.std.specs.Prelude.{bit_xor, count_ones, int_div, int_rem}
 use Rattle.std.proofs.Math.Nat.{mod-one, pow-suc, div-eq_of_lt, mul-one, mul-mod_left, mod_self, div-one, div-le_self, eq-zero-or-pos}
 use Rattle.std.specs.Int.Bits.{or_self}
 use Rattle.std.proofs.Math.IntN.{*ℤ_comm}
-use Rattle.std.proofs.lemmas.Nat.{mod-pow-add, and_le_l, or_lt, xor_lt, ones_cat, leading_length, or_shifted, or_comm, shl-shr, shr_below, div-mul-add, le-div, shr-shr}
+use Rattle.std.proofs.lemmas.Nat.{mod-pow-add, and_le_l, or_lt, xor_lt, ones_cat, leading_length, or_shifted, or_comm, shl-shr, shr_below, div-mul-add, le-div}
 use Rattle.std.proofs.lemmas.Nat.Bits.{bit_at_and, bit_at_or, bit_at_xor}
 use Rattle.std.proofs.lemmas.Int.{quot-rem, ints, of_z-to_z, to_z-of_z}
 use Rattle.std.proofs.lemmas.Bool.{cases_lt}

@@ -1,5 +1,5 @@
 -- The kinds of accesses to memory (WebAssembly 1.0, sections 2.4.4, 4.4.4 and 5.4.4).
-use Rattle.std.specs.Prelude.{ℕ, ◌*◌, ◌≤◌, Bool, true, false}
+use Rattle.std.specs.Prelude.{ℕ, ◌*◌, Bool, true, false}
 use Rattle.bl_base.specs.declared.names.ValueType.{ValueType}
 use Rattle.bl_base.specs.declared.names.ValueType.TheVariants.{I32, I64}
 use Rattle.bl_ops.specs.Integer.{iextend_s, iextend_u, iwrap}

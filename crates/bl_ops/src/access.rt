@@ -6,7 +6,7 @@ ghost use Rattle.bl_ops.specs.declared.access.AccessKind.{AccessKind};
 use bl_base::ValueType;
 
 /// A load or a store of integers (WebAssembly 1.0, section 2.4.4, as section 5.4.4 orders them).
-#[derive(Clone, Copy, Debug, PartialEq, Eq, PartialOrd, Ord)]
+#[derive(Clone, Copy, Debug, PartialEq, Eq)]
 pub enum AccessKind {
     /// `i32.load`
     I32Load,

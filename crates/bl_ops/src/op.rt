@@ -3,7 +3,7 @@ use bl_base::ValueType;
 
 /// An operator: the integer operators of WebAssembly 1.0 (section 2.4.1, as the binary format of section 5.4.6
 /// orders them), and three of an image's own.
-#[derive(Clone, Copy, Debug, PartialEq, Eq, PartialOrd, Ord)]
+#[derive(Clone, Copy, Debug, PartialEq, Eq)]
 pub enum Op {
     /// `i32.eqz`
     I32Eqz,

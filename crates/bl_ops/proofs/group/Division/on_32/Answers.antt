@@ -1,4 +1,4 @@
-use Rattle.std.proofs.Common.{w32, rules, arith, ◌∙◌, sym}
+use Rattle.std.proofs.Common.{w32, rules, arith, ◌∙◌}
 use Rattle.bl_ops.proofs.Bits.{rem_s_from}
 use Rattle.bl_ops.proofs.group.Division.on_32.Goals as goal
 
