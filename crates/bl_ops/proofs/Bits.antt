@@ -264,11 +264,10 @@ shr_s_from w a b r z p reads gives =
 
 -- ---- the remainder is what the quotient leaves
 
-rem_by_quotient : (a d : ℤ) → a -ℤ d *ℤ int_div a d ≡ int_rem a d
+pub rem_by_quotient : (a d : ℤ) → a -ℤ d *ℤ int_div a d ≡ int_rem a d
 rem_by_quotient a d = omega (arith, ints, quot-rem a d, *ℤ_comm d (int_div a d))
 
 signed_is : (w : Width) (a : ℕ) → a < 2 ^ bits w → signed (bits w) a ≡ to_z w a
-unfolding signed
 signed_is w a h = by_sign (ltb a (2 ^ hbits w)) refl
   where
     place : bits w - 1 ≡ hbits w
@@ -279,14 +278,12 @@ signed_is w a h = by_sign (ltb a (2 ^ hbits w)) refl
     by_sign false e = rw (place, e) (omega (arith, ints))
 
 unsigned_is : (w : Width) (z : ℤ) → unsigned (bits w) z ≡ of_z w z
-unfolding unsigned
 unsigned_is w (pos n) = refl
 unsigned_is w (negsuc n) = omega arith
 
 -- what the machine's remainder of signed numbers gives
 pub rem_s_from : (w : Width) (a b r : ℕ) (x y z : ℤ) → a < 2 ^ bits w → b < 2 ^ bits w → 0 < b → SFits w z
     → x ≡ to_z w a → y ≡ to_z w b → z ≡ int_rem (to_z w (of_z w x)) (to_z w (of_z w y)) → r ≡ of_z w (to_z w (of_z w z)) → r ≡ irem_s (bits w) a b
-unfolding irem_s
 rem_s_from w a b r x y z a_fits b_fits some fits x_reads y_reads divides gives =
     let test : eqb b 0 ≡ false = grind (arith, nat_tests) in
     let x_is : to_z w (of_z w x) ≡ signed (bits w) a = ap (λ (v : ℤ). to_z w (of_z w v)) x_reads ∙ ap (to_z w) (of_z-to_z w a a_fits) ∙ sym (signed_is w a a_fits) in

@@ -1,5 +1,5 @@
 -- The kinds of accesses to memory (WebAssembly 1.0, sections 2.4.4, 4.4.4 and 5.4.4).
-use Rattle.std.specs.Prelude.{ℕ, ◌*◌, Bool, true, false}
+use Rattle.std.specs.Prelude.{ℕ, ◌*◌, ◌==◌, Bool, true, false, List, [], ◌∷◌, find, Option}
 use Rattle.bl_base.specs.declared.names.ValueType.{ValueType}
 use Rattle.bl_base.specs.declared.names.ValueType.TheVariants.{I32, I64}
 use Rattle.bl_ops.specs.Integer.{iextend_s, iextend_u, iwrap}
@@ -77,3 +77,11 @@ extended kind bytes = extended_by (access_of kind).way (8 * width_of kind) (bits
 -- the number that the bytes of a store are
 abbrev pub narrowed : AccessKind → ℕ → ℕ
 narrowed kind value = iwrap (8 * width_of kind) value
+
+-- the kinds in the order of their codes
+abbrev pub kinds : List AccessKind
+kinds = I32Load ∷ I64Load ∷ I32Load8S ∷ I32Load8U ∷ I32Load16S ∷ I32Load16U ∷ I64Load8S ∷ I64Load8U ∷ I64Load16S ∷ I64Load16U ∷ I64Load32S ∷ I64Load32U ∷ I32Store ∷ I64Store ∷ I32Store8 ∷ I32Store16 ∷ I64Store8 ∷ I64Store16 ∷ I64Store32 ∷ []
+
+-- the kind of a code, where there is one
+abbrev pub kind_of : ℕ → Option AccessKind
+kind_of code = find (λ kind. code_of kind == code) kinds

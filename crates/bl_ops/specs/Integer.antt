@@ -19,37 +19,37 @@ unfoldable pub from_bits : ℕ → (ℕ → ℕ) → ℕ
 from_bits n b = sum_below n (λ k. b k * 2 ^ k)
 
 -- signed: the two's complement reading of i
-unfoldable pub signed : ℕ → ℕ → ℤ
+abbrev pub signed : ℕ → ℕ → ℤ
 signed n i = if nat_lt i (2 ^ (n - 1)) then pos i else pos i -ℤ pos (2 ^ n)
 
 -- the inverse of signed: a negative number stands for the one that is 2 ^ n above it
-unfoldable pub unsigned : ℕ → ℤ → ℕ
+abbrev pub unsigned : ℕ → ℤ → ℕ
 unsigned n (pos i) = i
 unsigned n (negsuc i) = 2 ^ n - (i + 1)
 
 -- ---- sums and products, modulo 2 ^ n
 
-unfoldable pub iadd : ℕ → ℕ → ℕ → ℕ
+abbrev pub iadd : ℕ → ℕ → ℕ → ℕ
 iadd n a b = (a + b) % 2 ^ n
 
-unfoldable pub isub : ℕ → ℕ → ℕ → ℕ
+abbrev pub isub : ℕ → ℕ → ℕ → ℕ
 isub n a b = (a + 2 ^ n - b) % 2 ^ n
 
-unfoldable pub imul : ℕ → ℕ → ℕ → ℕ
+abbrev pub imul : ℕ → ℕ → ℕ → ℕ
 imul n a b = (a * b) % 2 ^ n
 
 -- ---- quotients, rounded towards zero, and remainders; where the standard has none by zero, 0 stands here
 
-unfoldable pub idiv_u : ℕ → ℕ → ℕ → ℕ
+abbrev pub idiv_u : ℕ → ℕ → ℕ → ℕ
 idiv_u n a b = if b == 0 then 0 else a / b
 
-unfoldable pub idiv_s : ℕ → ℕ → ℕ → ℕ
+abbrev pub idiv_s : ℕ → ℕ → ℕ → ℕ
 idiv_s n a b = if b == 0 then 0 else unsigned n (int_div (signed n a) (signed n b))
 
-unfoldable pub irem_u : ℕ → ℕ → ℕ → ℕ
+abbrev pub irem_u : ℕ → ℕ → ℕ → ℕ
 irem_u n a b = if b == 0 then 0 else a - b * (a / b)
 
-unfoldable pub irem_s : ℕ → ℕ → ℕ → ℕ
+abbrev pub irem_s : ℕ → ℕ → ℕ → ℕ
 irem_s n a b = if b == 0 then 0 else unsigned n (signed n a -ℤ signed n b *ℤ int_div (signed n a) (signed n b))
 
 -- ---- bit by bit
@@ -65,10 +65,10 @@ ixor n a b = from_bits n (λ k. (bit a k + bit b k) % 2)
 
 -- ---- shifts and rotations by b modulo n places
 
-unfoldable pub ishl : ℕ → ℕ → ℕ → ℕ
+abbrev pub ishl : ℕ → ℕ → ℕ → ℕ
 ishl n a b = (a * 2 ^ (b % n)) % 2 ^ n
 
-unfoldable pub ishr_u : ℕ → ℕ → ℕ → ℕ
+abbrev pub ishr_u : ℕ → ℕ → ℕ → ℕ
 ishr_u n a b = a / 2 ^ (b % n)
 
 -- the places that fall free hold the most significant bit
@@ -97,46 +97,46 @@ ipopcnt n i = sum_below n (λ k. bit i k)
 
 -- ---- tests and comparisons
 
-unfoldable pub ieqz : ℕ → ℕ → ℕ
+abbrev pub ieqz : ℕ → ℕ → ℕ
 ieqz n i = truth (i == 0)
 
-unfoldable pub ieq : ℕ → ℕ → ℕ → ℕ
+abbrev pub ieq : ℕ → ℕ → ℕ → ℕ
 ieq n a b = truth (a == b)
 
-unfoldable pub ine : ℕ → ℕ → ℕ → ℕ
+abbrev pub ine : ℕ → ℕ → ℕ → ℕ
 ine n a b = truth (not (a == b))
 
-unfoldable pub ilt_s : ℕ → ℕ → ℕ → ℕ
+abbrev pub ilt_s : ℕ → ℕ → ℕ → ℕ
 ilt_s n a b = truth (int_lt (signed n a) (signed n b))
 
-unfoldable pub ilt_u : ℕ → ℕ → ℕ → ℕ
+abbrev pub ilt_u : ℕ → ℕ → ℕ → ℕ
 ilt_u n a b = truth (nat_lt a b)
 
-unfoldable pub igt_s : ℕ → ℕ → ℕ → ℕ
+abbrev pub igt_s : ℕ → ℕ → ℕ → ℕ
 igt_s n a b = truth (int_lt (signed n b) (signed n a))
 
-unfoldable pub igt_u : ℕ → ℕ → ℕ → ℕ
+abbrev pub igt_u : ℕ → ℕ → ℕ → ℕ
 igt_u n a b = truth (nat_lt b a)
 
-unfoldable pub ile_s : ℕ → ℕ → ℕ → ℕ
+abbrev pub ile_s : ℕ → ℕ → ℕ → ℕ
 ile_s n a b = truth (int_le (signed n a) (signed n b))
 
-unfoldable pub ile_u : ℕ → ℕ → ℕ → ℕ
+abbrev pub ile_u : ℕ → ℕ → ℕ → ℕ
 ile_u n a b = truth (nat_le a b)
 
-unfoldable pub ige_s : ℕ → ℕ → ℕ → ℕ
+abbrev pub ige_s : ℕ → ℕ → ℕ → ℕ
 ige_s n a b = truth (int_le (signed n b) (signed n a))
 
-unfoldable pub ige_u : ℕ → ℕ → ℕ → ℕ
+abbrev pub ige_u : ℕ → ℕ → ℕ → ℕ
 ige_u n a b = truth (nat_le b a)
 
 -- ---- conversions: from m bits, or to m bits
 
-unfoldable pub iwrap : ℕ → ℕ → ℕ
+abbrev pub iwrap : ℕ → ℕ → ℕ
 iwrap m i = i % 2 ^ m
 
-unfoldable pub iextend_u : ℕ → ℕ → ℕ → ℕ
+abbrev pub iextend_u : ℕ → ℕ → ℕ → ℕ
 iextend_u m n i = i
 
-unfoldable pub iextend_s : ℕ → ℕ → ℕ → ℕ
+abbrev pub iextend_s : ℕ → ℕ → ℕ → ℕ
 iextend_s m n i = unsigned n (signed m i)

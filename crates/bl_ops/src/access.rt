@@ -142,7 +142,6 @@ impl AccessKind {
 
 /// The value of a load whose bytes are, little endian, the number `bytes`: extended by sign or by zero to the load's
 /// type (WebAssembly 1.0, section 4.4.4).
-#[tactic(auto, unfolding(crate::specs::Integer::signed, crate::specs::Integer::unsigned, crate::specs::Integer::iextend_s, crate::specs::Integer::iextend_u))]
 pub fn extend(kind: AccessKind, bytes: u64) -> u64
     requires load { IsTrue (is_load kind) }
     requires within { bytes < 2 ^ (8 * width_of kind) }
@@ -161,7 +160,6 @@ pub fn extend(kind: AccessKind, bytes: u64) -> u64
 }
 
 /// The number whose bytes, little endian, a store of that kind writes: the value modulo 2^(8 * width) (section 4.4.4).
-#[tactic(auto, unfolding(crate::specs::Integer::iwrap))]
 pub fn narrow(kind: AccessKind, value: u64) -> u64
     ensures { result ≡ narrowed kind value }
 {

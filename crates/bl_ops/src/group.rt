@@ -78,7 +78,6 @@ pub fn low(a: u64) -> u32
     (a % 0x1_0000_0000) as u32
 }
 
-#[tactic(auto, unfolding(crate::specs::Integer::iadd, crate::specs::Integer::isub, crate::specs::Integer::imul))]
 impl Arithmetic {
     /// At i32, with operands modulo 2^32.
     pub fn on_32(self, a: u64, b: u64) -> u64
@@ -104,7 +103,6 @@ impl Arithmetic {
     }
 }
 
-#[tactic(auto, unfolding(crate::specs::Integer::signed, crate::specs::Integer::unsigned, crate::specs::Integer::idiv_s, crate::specs::Integer::idiv_u, crate::specs::Integer::irem_s, crate::specs::Integer::irem_u))]
 impl Division {
     /// At i32, with operands modulo 2^32. By zero it gives 0; the quotient that overflows is the least number.
     pub fn on_32(self, a: u64, b: u64) -> u64
@@ -197,7 +195,7 @@ impl Bitwise {
     }
 }
 
-#[tactic(auto, using(crate::proofs::Bits::rotations), unfolding(crate::specs::Integer::ishl, crate::specs::Integer::ishr_s, crate::specs::Integer::ishr_u))]
+#[tactic(auto, using(crate::proofs::Bits::rotations))]
 impl Shift {
     /// At i32, with operands modulo 2^32.
     pub fn on_32(self, a: u64, b: u64) -> u64
@@ -228,7 +226,7 @@ impl Shift {
     }
 }
 
-#[tactic(auto, using(crate::proofs::Bits::counts), unfolding(crate::specs::Integer::ieqz))]
+#[tactic(auto, using(crate::proofs::Bits::counts))]
 impl Unary {
     /// At i32, with the operand modulo 2^32.
     pub fn on_32(self, a: u64) -> u64
@@ -256,7 +254,6 @@ impl Unary {
     }
 }
 
-#[tactic(auto, unfolding(crate::specs::Integer::signed, crate::specs::Integer::ieq, crate::specs::Integer::ine, crate::specs::Integer::ilt_s, crate::specs::Integer::ilt_u, crate::specs::Integer::igt_s, crate::specs::Integer::igt_u, crate::specs::Integer::ile_s, crate::specs::Integer::ile_u, crate::specs::Integer::ige_s, crate::specs::Integer::ige_u))]
 impl Comparison {
     /// At i32, with operands modulo 2^32.
     pub fn on_32(self, a: u64, b: u64) -> u64
@@ -298,7 +295,6 @@ impl Comparison {
 
 impl Conversion {
     /// The number at the other width; what is extended is taken modulo 2^32.
-    #[tactic(auto, unfolding(crate::specs::Integer::signed, crate::specs::Integer::unsigned, crate::specs::Integer::iwrap, crate::specs::Integer::iextend_s, crate::specs::Integer::iextend_u))]
     pub fn apply(self, a: u64) -> u64
         ensures { result ≡ conversion self a }
     {

@@ -727,7 +727,6 @@ fn operators_of_an_image(rt: HostRuntime) -> Result<(), Fail> {
 }
 
 /// What a load makes of the bytes, or a store of the value.
-#[tactic(auto, unfolding(crate::specs::Integer::iwrap))]
 fn accessed(code: u8, bytes: u64) -> Option<u64> {
     let kind = AccessKind::by_code(code)?;
     let narrowed = narrow(kind, bytes);
