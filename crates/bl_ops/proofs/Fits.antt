@@ -14,7 +14,9 @@ use Rattle.std.proofs.lemmas.Nat.{and_le_l, or_lt, xor_lt, ones-le, leading_le, 
 use Rattle.std.proofs.lemmas.Bool.Decides.{nat_tests}
 use Rattle.std.proofs.lemmas.Int.{ints}
 use Rattle.std.proofs.Math.Nat.{div-le_self, mod-le, pow-suc}
-use Rattle.bl_ops.proofs.Bits.{iand_is, ior_is, ixor_is, iclz_is, ictz_is, ipopcnt_is, irotl_is, irotr_is, rem_by_quotient}
+use Rattle.bl_ops.proofs.Bits.{iand_is, ior_is, ixor_is, iclz_is, ictz_is, ipopcnt_is}
+use Rattle.bl_ops.proofs.Shifts.{irotl_is, irotr_is}
+use Rattle.bl_ops.proofs.Signed.{rem_by_quotient}
 use Rattle.bl_ops.specs.Integer.{truth, bit, signed, unsigned, idiv_u, idiv_s, irem_u, irem_s, iand, ior, ixor, ishr_u, ishr_s, irotl, irotr, iclz, ictz, ipopcnt, iextend_s}
 
 -- a number of places is below the power of two

@@ -19,9 +19,11 @@ pub record Access : Type 0 where
   pub width : ℕ
   pub way : Way
 
+-- an access by its fields
 abbrev pub access : ℕ → ValueType → ℕ → Way → Access
 access code type width way = record { code = code; type = type; width = width; way = way }
 
+-- the accesses
 abbrev pub access_of : AccessKind → Access
 access_of I32Load = access 0x28 I32 4 Load
 access_of I64Load = access 0x29 I64 8 Load
@@ -43,20 +45,25 @@ access_of I64Store8 = access 0x3C I64 1 Store
 access_of I64Store16 = access 0x3D I64 2 Store
 access_of I64Store32 = access 0x3E I64 4 Store
 
+-- the byte of an access in the binary format
 abbrev pub code_of : AccessKind → ℕ
 code_of kind = (access_of kind).code
 
+-- the type of its value
 abbrev pub type_of : AccessKind → ValueType
 type_of kind = (access_of kind).type
 
+-- how many bytes it reads or writes
 abbrev pub width_of : AccessKind → ℕ
 width_of kind = (access_of kind).width
 
+-- whether an access of that way loads
 abbrev pub loads : Way → Bool
 loads Load = true
 loads LoadSigned = true
 loads Store = false
 
+-- whether an access is a load
 abbrev pub is_load : AccessKind → Bool
 is_load kind = loads (access_of kind).way
 
@@ -65,16 +72,17 @@ abbrev pub bits_of : ValueType → ℕ
 bits_of I32 = 32
 bits_of I64 = 64
 
--- the value that a load makes of the number that its bytes are
+-- a number of m bits, extended to n bits
 abbrev pub extended_by : Way → ℕ → ℕ → ℕ → ℕ
 extended_by Load m n bytes = iextend_u m n bytes
 extended_by LoadSigned m n bytes = iextend_s m n bytes
 extended_by Store m n bytes = iextend_u m n bytes
 
+-- the value that a load makes of the number that its bytes are, little endian
 abbrev pub extended : AccessKind → ℕ → ℕ
 extended kind bytes = extended_by (access_of kind).way (8 * width_of kind) (bits_of (type_of kind)) bytes
 
--- the number that the bytes of a store are
+-- the number that the bytes of a store are, little endian
 abbrev pub narrowed : AccessKind → ℕ → ℕ
 narrowed kind value = iwrap (8 * width_of kind) value
 

@@ -18,22 +18,26 @@ use Rattle.bl_ops.specs.declared.group.Comparison.TheVariants.{Eq, Ne, LtS, LtU,
 use Rattle.bl_ops.specs.declared.group.Conversion.{Conversion}
 use Rattle.bl_ops.specs.declared.group.Conversion.TheVariants.{Wrap, ExtendS, ExtendU}
 
+-- sums and products
 abbrev pub arithmetic : Arithmetic → ℕ → ℕ → ℕ → ℕ
 arithmetic Add n a b = iadd n a b
 arithmetic Sub n a b = isub n a b
 arithmetic Mul n a b = imul n a b
 
+-- quotients and remainders
 abbrev pub division : Division → ℕ → ℕ → ℕ → ℕ
 division DivS n a b = idiv_s n a b
 division DivU n a b = idiv_u n a b
 division RemS n a b = irem_s n a b
 division RemU n a b = irem_u n a b
 
+-- what is done bit by bit
 abbrev pub bitwise : Bitwise → ℕ → ℕ → ℕ → ℕ
 bitwise And n a b = iand n a b
 bitwise Or n a b = ior n a b
 bitwise Xor n a b = ixor n a b
 
+-- shifts and rotations
 abbrev pub shift : Shift → ℕ → ℕ → ℕ → ℕ
 shift Shl n a b = ishl n a b
 shift ShrS n a b = ishr_s n a b
@@ -41,12 +45,14 @@ shift ShrU n a b = ishr_u n a b
 shift Rotl n a b = irotl n a b
 shift Rotr n a b = irotr n a b
 
+-- the test for zero, and counts of bits
 abbrev pub unary : Unary → ℕ → ℕ → ℕ
 unary Eqz n a = ieqz n a
 unary Clz n a = iclz n a
 unary Ctz n a = ictz n a
 unary Popcnt n a = ipopcnt n a
 
+-- comparisons
 abbrev pub comparison : Comparison → ℕ → ℕ → ℕ → ℕ
 comparison Eq n a b = ieq n a b
 comparison Ne n a b = ine n a b
@@ -59,11 +65,13 @@ comparison LeU n a b = ile_u n a b
 comparison GeS n a b = ige_s n a b
 comparison GeU n a b = ige_u n a b
 
+-- between i32 and i64
 abbrev pub conversion : Conversion → ℕ → ℕ
 conversion Wrap a = iwrap 32 a
 conversion ExtendS a = iextend_s 32 64 (a % 2 ^ 32)
 conversion ExtendU a = iextend_u 32 64 (a % 2 ^ 32)
 
+-- where a quotient or a remainder is undefined
 abbrev pub undefined : Division → ℕ → ℕ → ℕ → Option Trap
 undefined DivS n a b = undefined_div_s n a b
 undefined DivU n a b = by_zero b

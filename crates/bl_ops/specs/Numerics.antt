@@ -6,7 +6,7 @@ use Rattle.bl_ops.specs.Integer.{truth, iadd, isub, imul, idiv_u, idiv_s, irem_u
 use Rattle.bl_ops.specs.declared.op.Op.{Op}
 use Rattle.bl_ops.specs.declared.op.Op.TheVariants.{I32Eqz, I32Eq, I32Ne, I32LtS, I32LtU, I32GtS, I32GtU, I32LeS, I32LeU, I32GeS, I32GeU, I64Eqz, I64Eq, I64Ne, I64LtS, I64LtU, I64GtS, I64GtU, I64LeS, I64LeU, I64GeS, I64GeU, I32Clz, I32Ctz, I32Popcnt, I32Add, I32Sub, I32Mul, I32DivS, I32DivU, I32RemS, I32RemU, I32And, I32Or, I32Xor, I32Shl, I32ShrS, I32ShrU, I32Rotl, I32Rotr, I64Clz, I64Ctz, I64Popcnt, I64Add, I64Sub, I64Mul, I64DivS, I64DivU, I64RemS, I64RemU, I64And, I64Or, I64Xor, I64Shl, I64ShrS, I64ShrU, I64Rotl, I64Rotr, I32WrapI64, I64ExtendI32S, I64ExtendI32U, Move, Select, Outside}
 
--- the first operand where the third isn't 0, else the second
+-- the first operand where the third, an i32, isn't 0, else the second (section 4.4.2)
 abbrev pub select : ℕ → ℕ → ℕ → ℕ
 select a b c = if c % 2 ^ 32 == 0 then b else a
 
@@ -81,15 +81,15 @@ meaning Move a b c = a
 meaning Select a b c = select a b c
 meaning Outside a b c = outside a b c
 
--- where a quotient or a remainder is undefined
+-- a quotient or remainder by zero is undefined
 abbrev pub by_zero : ℕ → Option Trap
 by_zero b = if b == 0 then Some DivideByZero else None
 
--- the least number by -1 has a quotient that n bits don't hold
+-- and so is the signed quotient of the least number, 2 ^ (n - 1), by -1, 2 ^ n - 1
 abbrev pub undefined_div_s : ℕ → ℕ → ℕ → Option Trap
 undefined_div_s n a b = if b == 0 then Some DivideByZero else (if a == 2 ^ (n - 1) && b == 2 ^ n - 1 then Some Overflow else None)
 
--- the trap of an operator
+-- the trap where an operator is undefined
 unfoldable pub traps : Op → ℕ → ℕ → Option Trap
 traps I32DivS a b = undefined_div_s 32 (a % 2 ^ 32) (b % 2 ^ 32)
 traps I32DivU a b = by_zero (b % 2 ^ 32)

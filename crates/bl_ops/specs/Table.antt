@@ -1,4 +1,4 @@
--- The operators' codes, operands and types (WebAssembly 1.0, sections 2.4.1 and 5.4.6).
+-- The operators' codes, operands and types (WebAssembly 1.0, sections 2.4.1 and 5.4.5).
 use Rattle.std.specs.Prelude.{ℕ, Bool, true, ◌&&◌, nat_lt, ◌==◌, List, [], ◌∷◌, filter_map, find, Option, Some, None, option_map, unwrap_or}
 use Rattle.bl_base.specs.declared.names.ValueType.{ValueType}
 use Rattle.bl_base.specs.declared.names.ValueType.TheVariants.{I32, I64}
@@ -6,10 +6,11 @@ use Rattle.bl_ops.specs.declared.op.Op.{Op}
 use Rattle.bl_ops.specs.declared.op.Op.TheVariants.{I32Eqz, I32Eq, I32Ne, I32LtS, I32LtU, I32GtS, I32GtU, I32LeS, I32LeU, I32GeS, I32GeU, I64Eqz, I64Eq, I64Ne, I64LtS, I64LtU, I64GtS, I64GtU, I64LeS, I64LeU, I64GeS, I64GeU, I32Clz, I32Ctz, I32Popcnt, I32Add, I32Sub, I32Mul, I32DivS, I32DivU, I32RemS, I32RemU, I32And, I32Or, I32Xor, I32Shl, I32ShrS, I32ShrU, I32Rotl, I32Rotr, I64Clz, I64Ctz, I64Popcnt, I64Add, I64Sub, I64Mul, I64DivS, I64DivU, I64RemS, I64RemU, I64And, I64Or, I64Xor, I64Shl, I64ShrS, I64ShrU, I64Rotl, I64Rotr, I32WrapI64, I64ExtendI32S, I64ExtendI32U, Move, Select, Outside}
 use Rattle.bl_ops.specs.declared.op.OpRow.{OpRow}
 
--- an operator of one operand, and one of two: its code, the type of its operands, the type of its result
+-- the row of an operator of one operand: its code, the type of the operand, the type of the result
 abbrev pub unary : ℕ → ValueType → ValueType → Option OpRow
 unary code from to = Some (record { code = code; operands = 1; from = from; to = to })
 
+-- the row of an operator of two operands of one type
 abbrev pub binary : ℕ → ValueType → ValueType → Option OpRow
 binary code from to = Some (record { code = code; operands = 2; from = from; to = to })
 

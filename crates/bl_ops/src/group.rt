@@ -195,7 +195,7 @@ impl Bitwise {
     }
 }
 
-#[tactic(auto, using(crate::proofs::Bits::rotations))]
+#[tactic(auto, using(crate::proofs::Shifts::rotations))]
 impl Shift {
     /// At i32, with operands modulo 2^32.
     pub fn on_32(self, a: u64, b: u64) -> u64

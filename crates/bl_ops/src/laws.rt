@@ -34,6 +34,7 @@ pub fn access_codes_return(kind: AccessKind)
 /// What a load makes of its bytes is a value of its type, and what a store makes of a value are bytes of its width.
 #[tactic(auto, using(crate::proofs::Fits::load_fits, crate::proofs::Fits::store_fits))]
 pub fn accesses_fit(kind: AccessKind, number: u64)
-    ensures load { number < 2 ^ (8 * width_of kind) → ArgumentFits (type_of kind) (extended kind number) }
+    ensures load { number < 2 ^ (8 * width_of kind)
+        → ArgumentFits (type_of kind) (extended kind number) }
     ensures store { narrowed kind number < 2 ^ (8 * width_of kind) }
 {}

@@ -1,8 +1,8 @@
 //! Operators, their rows and the table of rows.
 use bl_base::ValueType;
 
-/// An operator: the integer operators of WebAssembly 1.0 (section 2.4.1, as the binary format of section 5.4.6
-/// orders them), and three of an image's own.
+/// An operator: the integer operators of WebAssembly 1.0 (section 2.4.1) in the order of their codes (section 5.4.5),
+/// and three of an image.
 #[derive(Clone, Copy, Debug, PartialEq, Eq)]
 pub enum Op {
     /// `i32.eqz`
@@ -129,9 +129,10 @@ pub enum Op {
     I64ExtendI32U,
     /// The first operand itself.
     Move,
-    /// The first operand where the third, as an i32, isn't 0, and else the second (section 4.4.2, `select`).
+    /// The first operand where the third, an i32, isn't 0, and else the second (`select`, section 4.4.2).
     Select,
-    /// 1 where an access of so many bytes lies outside a memory of so many pages, and else 0.
+    /// 1 where an access ends beyond its memory, and else 0. The operands are the address, the pages of the memory, and
+    /// the sum of the access's offset and width.
     Outside,
 }
 

@@ -76,18 +76,24 @@ macro_rules! by_row {
             I64ExtendI32U 0xAD 1 I32 I64 Conversion ExtendU,
         )
     };
-    (@table () $($op:ident $code:literal $operands:tt $from:ident $to:ident $group:ident $kind:ident,)*) => {
+    (@table ()
+        $($op:ident $code:literal $operands:tt $from:ident $to:ident $group:ident $kind:ident,)*
+    ) => {
         OpTable {
             rows: [$(by_row!(@record $code $operands $from $to),)*],
         }
     };
-    (@by_code ($byte:expr) $($op:ident $code:literal $operands:tt $from:ident $to:ident $group:ident $kind:ident,)*) => {
+    (@by_code ($byte:expr)
+        $($op:ident $code:literal $operands:tt $from:ident $to:ident $group:ident $kind:ident,)*
+    ) => {
         match $byte {
             $($code => Some(Op::$op),)*
             _ => None,
         }
     };
-    (@by_image_code ($byte:expr) $($op:ident $code:literal $operands:tt $from:ident $to:ident $group:ident $kind:ident,)*) => {
+    (@by_image_code ($byte:expr)
+        $($op:ident $code:literal $operands:tt $from:ident $to:ident $group:ident $kind:ident,)*
+    ) => {
         match $byte {
             0x00 => Some(Op::Move),
             0x01 => Some(Op::Outside),
@@ -96,7 +102,9 @@ macro_rules! by_row {
             _ => None,
         }
     };
-    (@image_code ($one:expr) $($op:ident $code:literal $operands:tt $from:ident $to:ident $group:ident $kind:ident,)*) => {
+    (@image_code ($one:expr)
+        $($op:ident $code:literal $operands:tt $from:ident $to:ident $group:ident $kind:ident,)*
+    ) => {
         match $one {
             Op::Move => 0x00,
             Op::Outside => 0x01,
@@ -104,13 +112,17 @@ macro_rules! by_row {
             $(Op::$op => $code,)*
         }
     };
-    (@row ($one:expr) $($op:ident $code:literal $operands:tt $from:ident $to:ident $group:ident $kind:ident,)*) => {
+    (@row ($one:expr)
+        $($op:ident $code:literal $operands:tt $from:ident $to:ident $group:ident $kind:ident,)*
+    ) => {
         match $one {
             $(Op::$op => Some(by_row!(@record $code $operands $from $to)),)*
             Op::Move | Op::Select | Op::Outside => None,
         }
     };
-    (@eval ($one:expr, $a:expr, $b:expr, $c:expr) $($op:ident $code:literal $operands:tt $from:ident $to:ident $group:ident $kind:ident,)*) => {
+    (@eval ($one:expr, $a:expr, $b:expr, $c:expr)
+        $($op:ident $code:literal $operands:tt $from:ident $to:ident $group:ident $kind:ident,)*
+    ) => {
         match $one {
             $(Op::$op => by_row!(@value $operands $from $group $kind, $a, $b),)*
             Op::Move => $a,
@@ -118,7 +130,9 @@ macro_rules! by_row {
             Op::Outside => beyond($a, $b, $c),
         }
     };
-    (@trap_of ($one:expr, $a:expr, $b:expr) $($op:ident $code:literal $operands:tt $from:ident $to:ident $group:ident $kind:ident,)*) => {
+    (@trap_of ($one:expr, $a:expr, $b:expr)
+        $($op:ident $code:literal $operands:tt $from:ident $to:ident $group:ident $kind:ident,)*
+    ) => {
         match $one {
             $(Op::$op => by_row!(@trap $from $group $kind, $a, $b),)*
             Op::Move | Op::Select | Op::Outside => None,
@@ -182,8 +196,7 @@ pub fn row(op: Op) -> Option<OpRow>
 /// The number that an operator gives of its operands (WebAssembly 1.0, section 4.3.2). An i32 is a number below 2^32, an
 /// i64 one below 2^64; an operand of type i32 is taken modulo 2^32. An operator of one operand takes `a`, one of two
 /// takes `a` and `b`. Where the standard's operator traps, a quotient or remainder by zero is 0, and the quotient that
-/// overflows is the least number. Outside takes an address, the pages of the memory, and the offset and width of the
-/// access together.
+/// overflows is the least number. Outside reads its address and pages modulo 2^32 and its reach modulo 2^34.
 #[tactic(auto, unfolding(crate::specs::Numerics::meaning))]
 pub fn eval(op: Op, a: u64, b: u64, c: u64) -> u64
     ensures { result ≡ meaning op a b c }
@@ -207,7 +220,7 @@ fn chosen(a: u64, b: u64, c: u64) -> u64
     if low(c) != 0 { a } else { b }
 }
 
-/// 1 where the access ends beyond the memory, else 0.
+/// 1 where an access that reaches so far from the address ends beyond so many pages of 65,536 bytes, else 0.
 fn beyond(address: u64, pages: u64, reach: u64) -> u64
     ensures { result ≡ outside address pages reach }
 {

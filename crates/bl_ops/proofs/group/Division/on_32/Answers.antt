@@ -1,5 +1,5 @@
 use Rattle.std.proofs.Common.{w32, rules, arith, ◌∙◌}
-use Rattle.bl_ops.proofs.Bits.{rem_s_from}
+use Rattle.bl_ops.proofs.Signed.{rem_s_from}
 use Rattle.bl_ops.proofs.group.Division.on_32.Goals as goal
 
 pub returns-in-RemS : goal.returns-in-RemS

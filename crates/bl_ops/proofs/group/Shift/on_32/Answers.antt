@@ -1,5 +1,5 @@
 use Rattle.std.proofs.Common.{w32, rules, ◌∙◌}
-use Rattle.bl_ops.proofs.Bits.{shr_s_from}
+use Rattle.bl_ops.proofs.Shifts.{shr_s_from}
 use Rattle.bl_ops.proofs.group.Shift.on_32.Goals as goal
 
 pub returns-in-ShrS : goal.returns-in-ShrS
