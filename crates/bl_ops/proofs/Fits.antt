@@ -1,7 +1,6 @@
 -- What an operation on n bits gives is below 2 ^ n.
-use Rattle.std.proofs.Common.{◌≡◌, ℕ, zero, suc, ◌+◌, ◌-◌, ◌*◌, ◌/◌, ◌%◌, ◌^◌, ◌<◌, ◌≤◌, Bool, true, false, eqb, ltb, cond, ℤ, pos, negsuc, ◌-ℤ◌, ◌*ℤ◌, neg_ℤ, arith, pow_pos, pow_mono, mod-lt}
+use Rattle.std.proofs.Common.{◌≡◌, ℕ, zero, suc, ◌+◌, ◌-◌, ◌*◌, ◌/◌, ◌%◌, ◌^◌, ◌<◌, ◌≤◌, Bool, true, false, eqb, ltb, cond, ℤ, pos, negsuc, ◌-ℤ◌, ◌*ℤ◌, neg_ℤ, arith, pow_pos, pow_mono, mod-lt, refl, subst}
 use Rattle.std.specs.Prelude.{IfSome, int_div, int_rem, unsigned_abs}
-use Rattle.std.proofs.Common.{refl, subst}
 use Rattle.bl_base.specs.Fits.{ArgumentFits}
 use Rattle.bl_ops.specs.Numerics.{meaning}
 use Rattle.bl_ops.specs.Access.{type_of, width_of, extended, narrowed}

@@ -1,14 +1,12 @@
 -- The machine's rotations and signed shift, by powers of two.
-use Rattle.std.proofs.Common.{◌≡◌, ℕ, suc, ◌+◌, ◌-◌, ◌*◌, ◌/◌, ◌%◌, ◌^◌, ◌<◌, ◌≤◌, true, false, ◌⊎◌, inl, inr, ℤ, refl, sym, ap, subst, ap₂, ◌∙◌, arith, bit_or, pow_pos, pow_mono, mod-eq_of_lt}
+use Rattle.std.proofs.Common.{◌≡◌, ℕ, suc, ◌+◌, ◌-◌, ◌*◌, ◌/◌, ◌%◌, ◌^◌, ◌<◌, ◌≤◌, true, false, ◌⊎◌, inl, inr, ℤ, refl, sym, ap, subst, ap₂, ◌∙◌, arith, bit_or, pow_pos, pow_mono, mod-eq_of_lt, to_z, of_z, pos, negsuc, Bool, ltb, mod-lt, pow-add, add-mul}
 use Rattle.std.proofs.Math.Nat.{div-eq_of_lt, mul-one, mul-mod_left, mod_self, div-one, div-le_self, eq-zero-or-pos}
 use Rattle.std.specs.Int.Bits.{or_self}
-use Rattle.std.proofs.lemmas.Nat.{mod-pow-add, or_shifted, or_comm, shl-shr, shr_below, div-mul-add}
+use Rattle.std.proofs.lemmas.Nat.{mod-pow-add, or_shifted, or_comm, shl-shr, shr_below, div-mul-add, div-add-mod'}
 use Rattle.std.proofs.lemmas.Int.{of_z-to_z}
 use Rattle.std.proofs.lemmas.Bool.Decides.{nat_tests}
 use Rattle.std.specs.Int.{Width}
-use Rattle.std.proofs.Common.{to_z, of_z, pos, negsuc, Bool, ltb, mod-lt, pow-add, add-mul}
 use Rattle.std.proofs.lemmas.Grind.{pow_more}
-use Rattle.std.proofs.lemmas.Nat.{div-add-mod'}
 use mir.Val.{bits, hbits, sel}
 use lib.Signed.{shr_z}
 use Rattle.bl_ops.specs.Integer.{bit, irotl, irotr, ishr_s}

@@ -1,11 +1,10 @@
 -- The machine's signed numbers and their remainder, by readings in two's complement.
-use Rattle.std.proofs.Common.{◌≡◌, ℕ, suc, ◌+◌, ◌-◌, ◌^◌, ◌<◌, cond, eqb, true, false, ℤ, ◌-ℤ◌, ◌*ℤ◌, refl, sym, ap, ap₂, ◌∙◌, arith}
+use Rattle.std.proofs.Common.{◌≡◌, ℕ, suc, ◌+◌, ◌-◌, ◌^◌, ◌<◌, cond, eqb, true, false, ℤ, ◌-ℤ◌, ◌*ℤ◌, refl, sym, ap, ap₂, ◌∙◌, arith, w32, w64, SFits, to_z, of_z, pos, negsuc, Bool, ltb}
 use Rattle.std.specs.Prelude.{int_div, int_rem}
 use Rattle.std.proofs.Math.IntN.{*ℤ_comm}
 use Rattle.std.proofs.lemmas.Int.{quot-rem, ints, of_z-to_z, to_z-of_z}
 use Rattle.std.proofs.lemmas.Bool.Decides.{nat_tests}
 use Rattle.std.specs.Int.{Width, w8, w16, w128}
-use Rattle.std.proofs.Common.{w32, w64, SFits, to_z, of_z, pos, negsuc, Bool, ltb}
 use mir.Val.{bits, hbits, sel}
 use Rattle.bl_ops.specs.Integer.{irem_s, signed, unsigned}
 
