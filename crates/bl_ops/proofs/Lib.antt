@@ -1,0 +1,4 @@
+pub mod Bits
+pub mod Fits
+pub mod Shifts
+pub mod Signed

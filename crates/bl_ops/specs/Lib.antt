@@ -1,0 +1,5 @@
+pub mod Access
+pub mod Groups
+pub mod Integer
+pub mod Numerics
+pub mod Table

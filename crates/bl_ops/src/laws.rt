@@ -1,0 +1,40 @@
+//! Laws of the operators. Each is the contract of a function that does nothing.
+ghost use Rattle.std.specs.Prelude.{◌≡◌, ℕ, ◌*◌, ◌^◌, ◌<◌, IfSome, IsTrue, map};
+ghost use Rattle.bl_base.specs.Fits.{ArgumentFits};
+ghost use Rattle.bl_ops.specs.Access.{code_of, extended, kind_of, narrowed, type_of, width_of};
+ghost use Rattle.bl_ops.specs.Numerics.{meaning};
+ghost use Rattle.bl_ops.specs.Table.{image_code_of, image_operator_of, operator_of, rise, row_of, rows};
+
+use crate::access::AccessKind;
+use crate::op::Op;
+
+/// The codes of the table rise.
+pub fn codes_rise()
+    ensures { IsTrue (rise (map (λ row. row.code) rows)) }
+{}
+
+/// A code that is taken to its operator and back is the same code: the code of an operator's row is that of no other
+/// row, and its code in an image is that of no other operator.
+pub fn codes_return(op: Op)
+    ensures row { IfSome (row_of op) (λ row. operator_of row.code ≡ Some op) }
+    ensures image { image_operator_of (image_code_of op) ≡ Some op }
+{}
+
+/// The number that an operator gives is a value of its row's type.
+#[tactic(auto, using(crate::proofs::Fits::meaning_fits))]
+pub fn values_fit(op: Op, a: u64, b: u64, c: u64)
+    ensures { IfSome (row_of op) (λ row. ArgumentFits row.to (meaning op a b c)) }
+{}
+
+/// A code that is taken to its access and back is the same code.
+pub fn access_codes_return(kind: AccessKind)
+    ensures { kind_of (code_of kind) ≡ Some kind }
+{}
+
+/// What a load makes of its bytes is a value of its type, and what a store makes of a value are bytes of its width.
+#[tactic(auto, using(crate::proofs::Fits::load_fits, crate::proofs::Fits::store_fits))]
+pub fn accesses_fit(kind: AccessKind, number: u64)
+    ensures load { number < 2 ^ (8 * width_of kind)
+        → ArgumentFits (type_of kind) (extended kind number) }
+    ensures store { narrowed kind number < 2 ^ (8 * width_of kind) }
+{}

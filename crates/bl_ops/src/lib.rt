@@ -1,0 +1,15 @@
+//! The integer operators of WebAssembly 1.0 and the kinds of accesses to memory: their codes, types and meaning.
+#![tactic(auto)]
+
+mod access;
+mod group;
+pub mod laws;
+mod op;
+mod rows;
+
+pub use access::{AccessKind, extend, narrow};
+pub use op::{Op, OpRow, OpTable};
+pub use rows::{by_code, by_image_code, eval, image_code, row, table, trap_of};
+
+#[cfg(test)]
+mod tests;
