@@ -1,0 +1,6 @@
+pub mod Codes
+pub mod Instructions
+pub mod Modules
+pub mod Sections
+pub mod Types
+pub mod Values
