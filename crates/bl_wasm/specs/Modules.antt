@@ -15,9 +15,11 @@ abbrev pub version : Spellings
 version = exactly (0x01 ∷ 0x00 ∷ 0x00 ∷ 0x00 ∷ [])
 
 -- customsec*, a section, and then what follows it; the custom sections are those before the section and those behind it
-abbrev pub ◌▷◌ : Spellings → (List CustomSection → Spellings) → List CustomSection → Spellings
-◌▷◌ Section Behind customs bytes = (before : List CustomSection) × (behind : List CustomSection) × (customs ≡ before ++ behind)
-    × (each custom_section before ⨾ Section ⨾ Behind behind) bytes
+pub record ◌▷◌ (Section : Spellings) (Behind : List CustomSection → Spellings) (customs : List CustomSection) (bytes : List ℕ) : Type 0 where
+  pub before : List CustomSection
+  pub after : List CustomSection
+  pub all : customs ≡ before ++ after
+  pub spelled : (each custom_section before ⨾ Section ⨾ Behind after) bytes
 
 -- the sections in their order, with those custom sections among them
 abbrev pub sections : Module → List CustomSection → Spellings

@@ -24,8 +24,12 @@ abbrev pub byte : ℕ → Spellings
 byte n = exactly (n ∷ [])
 
 -- a spelling of the first, and then one of the second
-abbrev pub ◌⨾◌ : Spellings → Spellings → Spellings
-◌⨾◌ First Second bytes = (front : List ℕ) × (rest : List ℕ) × (bytes ≡ front ++ rest) × First front × Second rest
+pub record ◌⨾◌ (First Second : Spellings) (bytes : List ℕ) : Type 0 where
+  pub front : List ℕ
+  pub rest : List ℕ
+  pub whole : bytes ≡ front ++ rest
+  pub first : First front
+  pub second : Second rest
 
 -- where a condition holds
 abbrev pub given : Type 0 → Spellings → Spellings
@@ -65,5 +69,9 @@ abbrev pub name : List ℕ → Spellings
 name these = given (IsUtf8 these) (byte_vec these)
 
 -- size:u32 and then exactly so many bytes (sections 5.5.2 and 5.5.13)
-abbrev pub sized : Spellings → Spellings
-sized Contents bytes = (size : List ℕ) × (contents : List ℕ) × (bytes ≡ size ++ contents) × u32 (length contents) size × Contents contents
+pub record sized (Contents : Spellings) (bytes : List ℕ) : Type 0 where
+  pub size : List ℕ
+  pub contents : List ℕ
+  pub whole : bytes ≡ size ++ contents
+  pub counted : u32 (length contents) size
+  pub spelled : Contents contents
