@@ -4,6 +4,7 @@
 mod float;
 pub mod form;
 mod instruction;
+pub mod laws;
 mod module;
 mod types;
 
