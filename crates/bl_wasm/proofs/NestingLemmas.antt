@@ -114,7 +114,7 @@ parted : (outer : List Construct) (items : List Instr) → Parsed (whole ∷ out
 parted outer items p = inr (record { first = []; second = p.inside; rest = p.rest; split = rw p.split refl; nests = none; nests_too = p.nests; further = p.further })
 
 -- what is open next is known
-on : (known next : List Construct) (items : List Instr) → Some known ≡ Some next → Closes next items → Closes known items
+pub on : (known next : List Construct) (items : List Instr) → Some known ≡ Some next → Closes next items → Closes known items
 on known next items e h = let same : next ≡ known = cc e in rw same at h
 
 parsed : (items : List Instr) (outer : List Construct) → Closes outer items → Parsed outer items
