@@ -1,7 +1,7 @@
 //! Types (WebAssembly 1.0, section 2.3).
 use bl_base::List;
 
-/// A value type. The tree names floats too, so that it can hold every module of the grammar.
+/// A value type (section 2.3.1). The tree names floats too, so that it can hold every module of the grammar.
 #[derive(Clone, Copy, Debug, PartialEq, Eq)]
 pub enum WasmType {
     /// 32 bits.
@@ -14,11 +14,30 @@ pub enum WasmType {
     F64,
 }
 
-/// The type of a function.
+/// The type of a function (section 2.3.3).
 #[derive(Debug, Drop)]
 pub struct FuncType {
     /// The types of its parameters, in order.
     pub params: List<WasmType>,
     /// The types of its results, in order.
     pub results: List<WasmType>,
+}
+
+/// The limits of a memory, in pages of 65,536 bytes (sections 2.3.4 and 2.3.5), or of a table of functions, in slots
+/// (section 2.3.6). A minimum above the maximum is in the tree too.
+#[derive(Clone, Copy, Debug, PartialEq, Eq)]
+pub struct Limits {
+    /// The size at the start.
+    pub min: u32,
+    /// The greatest size, where there is one.
+    pub max: Option<u32>,
+}
+
+/// The type of a global (section 2.3.7).
+#[derive(Clone, Copy, Debug, PartialEq, Eq)]
+pub struct GlobalType {
+    /// The type of its value.
+    pub kind: WasmType,
+    /// Whether it can be set.
+    pub mutable: bool,
 }

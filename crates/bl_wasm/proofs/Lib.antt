@@ -1,0 +1,2 @@
+pub mod NestingLemmas
+mod Rows
