@@ -6,7 +6,7 @@ use Rattle.std.proofs.lemmas.List.{append_assoc, append_cancel_left, append_canc
 use Rattle.bl_wasm.specs.declared.form.Instr.{Instr}
 use Rattle.bl_wasm.specs.declared.form.Instr.TheVariants.{LocalGet, I32Const, I32Add}
 use Rattle.bl_wasm.specs.declared.form.Module.{Module}
-use Rattle.bl_app.specs.Grammar.{ItemSpells, local_get, i32_const, i32_add, ItemsSpell, no_item, one_more_item, Spells, constant_of, header, type_section, function_section, exports_of, codes_of, section_of}
+use Rattle.bl_app.specs.Grammar.{ItemSpells, local_get, i32_const, i32_add, ItemsSpell, no_item, one_more_item, Spells, constant_of, header, type_section, function_section, exports_of, codes_of, section_of, module_of}
 use Rattle.bl_app.specs.Reading.{AreItems, AreParts}
 use Rattle.bl_app.specs.Answers.{IsForm}
 use Rattle.bl_app.specs.Typing.{Typed, BodyTyped, GoesTo, operands_after}
@@ -107,6 +107,13 @@ parts_of_spells bytes tree s = record {
   codes_fit = subst (λ b. length (codes_of b) < 128) s.spelled.ended s.codes_fit;
   whole = s.whole ∙ ap (λ b. header ++ type_section ++ function_section ++ section_of 7 (exports_of s.name) ++ section_of 10 (codes_of b)) s.spelled.ended;
 }
+
+-- bytes spell one tree
+pub one_tree : (bytes : List ℕ) (a b : Module) → Spells bytes a → Spells bytes b → a ≡ b
+one_tree bytes a b s t =
+    let same = parts_are_fixed bytes s.name s.spelled.front t.name t.spelled.front (parts_of_spells bytes a s) (parts_of_spells bytes b t) in
+    let items = items_are_fixed s.spelled.front t.spelled.front s.items t.items s.spelled.spelled t.spelled.spelled same.1 in
+    s.is_tree ∙ (λ i. module_of (same.0 i) (items i)) ∙ sym t.is_tree
 
 -- bytes with parts whose items spell none, or none with a typing, aren't of the form
 pub not_the_form : (bytes name bytes' : List ℕ) → AreParts bytes name bytes' → ((items : List Instr) → ItemsSpell bytes' items → BodyTyped items → ⊥) → IsForm bytes → ⊥

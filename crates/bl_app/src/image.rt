@@ -4,6 +4,7 @@ ghost use Rattle.bl_app.specs.Image.{IsEncodable, MarkFits, image_of, leb, opera
 
 use crate::program::{Command, ExportDef, FunctionDef, Mark, Operand, Operator, ParamDef, Program};
 use bl_base::{Label, NoMemory, ValueType, Var};
+use bl_leb::push_u64;
 use std::alloc::Global;
 
 /// The magic, the version, and the counts of no globals and no memories.
@@ -29,18 +30,11 @@ pub fn encode(alloc: Global, program: &Program) -> Result<Vec<u8>, NoMemory>
     Ok(bytes)
 }
 
-/// Appends a number: groups of seven bits, the lowest first, each but the last with 128 added.
-#[tactic(auto, using(crate::proofs::Numbers::leb_last))]
+/// Appends a number in its shortest spelling.
 fn push_number(to: &mut Vec<u8>, number: u64) -> Result<(), NoMemory>
     ensures { OnOk result (to.new.items ≡ to.old.items ++ leb number) }
 {
-    let mut rest = number;
-    while rest >= 128 {
-        to.push((rest % 128) as u8 + 128)?;
-        rest /= 128;
-    }
-    to.push(rest as u8)?;
-    Ok(())
+    push_u64(to, number)
 }
 
 fn push_function(to: &mut Vec<u8>, function: &FunctionDef) -> Result<(), NoMemory>

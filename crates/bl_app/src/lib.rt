@@ -3,6 +3,7 @@
 
 mod harden;
 mod image;
+pub mod laws;
 mod link;
 mod lists;
 mod lower;

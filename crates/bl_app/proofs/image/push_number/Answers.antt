@@ -1,9 +1,6 @@
-use Rattle.std.proofs.Common.{arith}
-use Rattle.std.proofs.lemmas.Grind.{common_steps}
-use Rattle.bl_app.proofs.Numbers.{leb_more}
+use Rattle.std.proofs.lemmas.Result.{on_ok_weaker}
+use Rattle.bl_app.proofs.Numbers.{appends_leb}
 use Rattle.bl_app.proofs.image.push_number.Goals as goal
 
-pub loop-rest-preserved : goal.loop-rest-preserved
-loop-rest-preserved c =
-    let step = leb_more c.loop-rest.rest (omega arith) (omega arith) in
-    grind (arith, common_steps, step)
+pub returns : goal.returns
+returns c = on_ok_weaker c.push_u64.result (appends_leb c.args.to.now.items c.push_u64.new.to.items c.args.number c.ranges.number.fits) c.push_u64.ensures.ok
