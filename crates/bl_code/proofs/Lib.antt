@@ -1,3 +1,5 @@
+pub mod Instructions
 pub mod Places
+pub mod Shapes
 pub mod Unique
 pub mod Vectors

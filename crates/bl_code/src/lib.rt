@@ -4,8 +4,12 @@
 
 mod error;
 mod format;
+mod types;
 mod values;
 
 pub use error::CodeError;
 pub use format::{Format, read_vec};
-pub use values::read_u32;
+pub use types::{read_block_type, read_value_type};
+pub use values::{
+    read_byte, read_bytes, read_exactly, read_f32, read_f64, read_i32, read_i64, read_name, read_u32,
+};
