@@ -1,5 +1,5 @@
 -- No instruction begins another.
-use Rattle.std.proofs.Common.{◌≡◌, ℕ, ◌≤◌, ◌<◌, List, [], ◌∷◌, ◌++◌, Some, None, Bool, true, false, cond, eqb, ltb, ap, ap₂, sym, ◌∙◌, refl, subst, arith, ◌⊎◌, inl, inr, lit<}
+use Rattle.std.proofs.Common.{◌≡◌, ◌≢◌, ℕ, ◌≤◌, ◌<◌, List, [], ◌∷◌, ◌++◌, Some, None, Bool, true, false, cond, eqb, ltb, ap, ap₂, sym, ◌∙◌, refl, subst, arith, ◌⊎◌, inl, inr, lit<}
 use Rattle.std.specs.Prelude.{Option, ◌==◌, nat_lt, nat_le, if◌then◌else◌, find, IsTrue}
 use Rattle.std.proofs.lemmas.Bool.Decides.{nat_tests}
 use Rattle.bl_ops.specs.Access.{code_of as access_code, kind_of, is_load}
@@ -22,9 +22,10 @@ use Rattle.bl_wasm.specs.declared.instruction.MemoryArgument.{MemoryArgument}
 use Rattle.bl_wasm.specs.declared.types.WasmType.{WasmType}
 use Rattle.bl_wasm.specs.declared.types.WasmType.TheVariants.{I32, I64, F32, F64}
 use Rattle.bl_code.specs.Shapes.{Shape, Bare, Typed, Indexed, Labels, Indirect, Access, Zero, Int32, Int64, Float32, Float64, shape_of, IsCodeOf, immediates}
+use Rattle.bl_code.specs.Laws.{u32_one}
 use Rattle.bl_code.specs.Unique.{Same, IsOne}
 use Rattle.bl_code.proofs.Shapes.{after_byte, only_byte, never_empty, shaped}
-use Rattle.bl_code.proofs.Unique.{byte_same, u32_same, seq_same, vec_one, u32_one, then_same, nothing_same, int_same, f32_same, f64_same}
+use Rattle.bl_code.proofs.Unique.{byte_same, u32_same, seq_same, vec_one, then_same, nothing_same, int_same, f32_same, f64_same}
 
 -- the instruction of a numeric code
 abbrev numeric : ℕ → Option Op → Instr
@@ -173,6 +174,22 @@ type_first F64 a h = (0x7C, h, refl, refl)
 block_first : (x : Option WasmType) (a : List ℕ) → block_type x a → (code : ℕ) × (a ≡ code ∷ []) × (typed_result code ≡ x)
 block_first None a h = (0x40, h, refl)
 block_first (Some x) a h = let p = type_first x a h in (p.0, p.1, rw p.3 (ap Some p.2))
+
+-- a type's spelling has a byte
+pub type_never_empty : (x : WasmType) → value_type x [] → ⊥
+type_never_empty I32 h = cc
+type_never_empty I64 h = cc
+type_never_empty F32 h = cc
+type_never_empty F64 h = cc
+
+pub block_never_empty : (x : Option WasmType) → block_type x [] → ⊥
+block_never_empty None h = cc
+block_never_empty (Some x) h = type_never_empty x h
+
+-- a byte that is neither 40 nor a value type begins no block type
+pub block_none : (code : ℕ) → code ≢ 0x40 → ((x : WasmType) (rest : List ℕ) → value_type x (code ∷ rest) → ⊥) → (x : Option WasmType) (rest : List ℕ) → block_type x (code ∷ rest) → ⊥
+block_none code other none None rest h = other (sym (only_byte 0x40 code rest h).0)
+block_none code other none (Some x) rest h = none x rest h
 
 pub value_type_one : IsOne value_type
 value_type_one = record { same = λ x y. record { both = λ a b u v p q e.

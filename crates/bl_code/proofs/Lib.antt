@@ -1,3 +1,4 @@
+pub mod Immediates
 pub mod Instructions
 pub mod Places
 pub mod Shapes

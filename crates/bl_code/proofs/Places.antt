@@ -6,11 +6,11 @@ use Rattle.std.proofs.lemmas.Result.{err_from_is_err_and}
 use Rattle.std.proofs.lemmas.List.Folds.{drop_split}
 use Rattle.bl_leb.specs.Spellings.{IsSpelledAt}
 use Rattle.bl_wasm.specs.Values.{Spellings, ◌⨾◌, nothing, exactly, byte, given, each, u32, vec}
-use Rattle.bl_code.specs.Reading.{IsAt, NoneAt, Refuses, Reads}
+use Rattle.bl_code.specs.Reading.{IsAt, NoneAt, Refuses, Reads, behind}
 use Rattle.bl_code.specs.Unique.{Same, IsOne}
 use Rattle.bl_code.specs.declared.error.CodeError.{CodeError}
 use Rattle.bl_code.specs.declared.error.CodeError.TheVariants.{Malformed, Memory}
-use Rattle.bl_code.proofs.Unique.{rest_same}
+use Rattle.bl_code.proofs.Unique.{rest_same, byte_same}
 
 -- the bytes from a place to another are such a spelling
 pub record Stands (S : Spellings) (bytes : List ℕ) (start end : ℕ) : Type 0 where
@@ -141,3 +141,46 @@ at_front bytes j s t inside spelled whole =
 -- a `?` hands on why a part wasn't read
 pub passes : {A : Type 0} (B : A → Spellings) (bytes : List ℕ) (i : ℕ) (r : Result (A × ℕ) CodeError) (e : CodeError) → IsErrAnd r (λ y. y ≡ e) → Refuses B bytes i e → Reads B bytes i r
 passes B bytes i r e gives h = let p = err_from_is_err_and r gives in rw (p.1, p.2) h
+
+-- a first byte, and what is left behind it
+by_head : (S : Spellings) (f : List ℕ) → (S [] → ⊥) → S f → (m : ℕ) × (byte m ⨾ (λ t. S (m ∷ t))) f
+by_head S [] never s = absurd (never s)
+by_head S (m ∷ t) never s = (m, record { front = m ∷ []; rest = t; whole = refl; first = refl; second = s })
+
+pub by_first : (S : Spellings) (bytes : List ℕ) (i k : ℕ) → (S [] → ⊥) → Stands S bytes i k → (m : ℕ) × (j : ℕ) × Stands (byte m) bytes i j × Stands (λ t. S (m ∷ t)) bytes j k
+by_first S bytes i k never h =
+    let head = by_head S h.front never h.spelled in
+    let m = head.0 in
+    let split : Stands (byte m ⨾ (λ t. S (m ∷ t))) bytes i k = record { forward = h.forward; inside = h.inside; front = h.front; whole = h.whole; spelled = head.1 } in
+    let two = part bytes i k split in
+    (m, two.0, two.1, two.2)
+
+-- where no byte is, nothing of a byte or more is
+pub err_byte : {A : Type 0} (B : A → Spellings) (bytes : List ℕ) (i : ℕ) (e : CodeError) → ((x : A) → B x [] → ⊥) → Refuses byte bytes i e → Refuses B bytes i e
+err_byte B bytes i Malformed never h = λ x k p.
+    let two = by_first (B x) bytes i k (never x) (stands B bytes i k x p) in
+    h two.0 two.1 (is_at byte bytes i two.1 two.0 two.2)
+err_byte B bytes i Memory never h = tt
+
+-- nothing is spelled where what it goes on with behind its first byte isn't
+pub none_behind : {A : Type 0} (B : A → Spellings) (bytes : List ℕ) (i j n : ℕ) → ((x : A) → B x [] → ⊥) → IsAt byte bytes i j n → NoneAt (behind B n) bytes j → NoneAt B bytes i
+none_behind B bytes i j n never first none x k p =
+    let two = by_first (B x) bytes i k (never x) (stands B bytes i k x p) in
+    let same = same_at bytes i j two.1 (byte_same n two.0) (stands byte bytes i j n first) two.2 in
+    let here = subst (λ (l : ℕ). Stands (λ t. B x (two.0 ∷ t)) bytes l k) (sym same.0) two.3 in
+    none x k (is_at (behind B n) bytes j k x (as_other bytes j k (λ t s. subst (λ (m : ℕ). B x (m ∷ t)) (sym same.1) s) here))
+
+-- a reader of what is left behind the first byte reads the whole
+pub reads_behind : {A : Type 0} (B : A → Spellings) (bytes : List ℕ) (i j n : ℕ) (r : Result (A × ℕ) CodeError) → ((x : A) → B x [] → ⊥) → IsAt byte bytes i j n → Reads (behind B n) bytes j r → Reads B bytes i r
+reads_behind {A} B bytes i j n (Ok found) never first h =
+    let p = stands byte bytes i j n first in
+    let x = found.0 in
+    let k = found.1 in
+    let q = stands (behind B n) bytes j k x h in
+    let both : Stands (byte n ⨾ behind B n x) bytes i k = join bytes i j k p q in
+    is_at B bytes i k x (as_other bytes i k (λ t s. joined x t s) both)
+  where
+    joined : (x : A) (t : List ℕ) → (byte n ⨾ behind B n x) t → B x t
+    joined x t s = subst (B x) (sym (s.whole ∙ ap (λ f. f ++ s.rest) s.first)) s.second
+reads_behind B bytes i j n (Err Malformed) never first h = none_behind B bytes i j n never first h
+reads_behind B bytes i j n (Err Memory) never first h = tt

@@ -2,11 +2,11 @@
 use Rattle.std.proofs.Common.{◌≡◌, ℕ, List, [], ◌∷◌, ◌++◌, length, append_assoc, append-nil, ap, sym, ◌∙◌, refl, subst, arith, length-append}
 use Rattle.std.proofs.lemmas.List.{append_cancel_left}
 use Rattle.bl_leb.proofs.Signed as signed
-use Rattle.bl_leb.proofs.Unsigned as unsigned
 use Rattle.std.specs.Int.{w32, w64, from_le_bytes}
 use Rattle.bl_leb.specs.Numbers.{IsSigned}
 use Rattle.bl_ops.specs.Integer.{unsigned as unsigned_of}
 use Rattle.bl_wasm.specs.Values.{Spellings, ◌⨾◌, nothing, exactly, byte, given, each, u32, int, f32, f64, vec, byte_vec, name, sized}
+use Rattle.bl_code.specs.Laws.{u32_one}
 use Rattle.bl_code.specs.Unique.{Same, IsOne}
 
 -- lists as long as each other that begin the same list are one
@@ -60,12 +60,7 @@ then_same f one = record { both = λ a b u v p q e. let same = one.both a b u v 
 
 -- a number
 pub u32_same : (m n : ℕ) → Same (u32 m) (u32 n) (m ≡ n)
-u32_same m n = record { both = λ a b u v p q e.
-    let same = unsigned.one_end 32 32 a b u v m n p q e in
-    (same, unsigned.one_value 32 b m n (subst (λ (t : List ℕ). u32 m t) same p) q) }
-
-pub u32_one : IsOne u32
-u32_one = record { same = u32_same }
+u32_same m n = u32_one.same m n
 
 -- as many spellings, one after another
 pub each_same : {A : Type 0} {B : A → Spellings} → IsOne B → (xs ys : List A) → length xs ≡ length ys → Same (each B xs) (each B ys) (xs ≡ ys)

@@ -77,6 +77,17 @@ IsZeroCode code = (0x3F ≤ code) × (code ≤ 0x40)
 abbrev pub IsBareCode : ℕ → Type 0
 IsBareCode code = (code ≤ 1) ⊎ (code ≡ 5) ⊎ (code ≡ 0x0B) ⊎ (code ≡ 0x0F) ⊎ ((0x1A ≤ code) × (code ≤ 0x1B)) ⊎ (0x45 ≤ code)
 
+-- the codes of no instruction with immediates
+abbrev pub IsOtherCode : ℕ → Type 0
+IsOtherCode code = (code ≤ 1) ⊎ ((5 ≤ code) × (code ≤ 0x0B)) ⊎ (code ≡ 0x0F) ⊎ ((0x12 ≤ code) × (code ≤ 0x1F)) ⊎ ((0x25 ≤ code) × (code ≤ 0x27)) ⊎ (0x45 ≤ code)
+
+-- a numeric instruction without immediates
+abbrev pub IsNumeric : Instr → Type 0
+IsNumeric (Integer op) = Unit {0}
+IsNumeric (Float op) = Unit {0}
+IsNumeric (Extend op) = Unit {0}
+IsNumeric x = ⊥
+
 -- the codes of instructions with such immediates are among these
 abbrev pub IsCodeOf : Shape → ℕ → Type 0
 IsCodeOf Bare code = IsBareCode code

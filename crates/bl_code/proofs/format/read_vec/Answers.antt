@@ -1,7 +1,7 @@
 use Rattle.std.proofs.Common.{length}
 use Rattle.bl_wasm.specs.Values.{u32, each}
 use Rattle.bl_code.proofs.Places.{passes, err_first, reads_after}
-use Rattle.bl_code.proofs.Unique.{u32_one}
+use Rattle.bl_code.specs.Laws.{u32_one}
 use Rattle.bl_code.proofs.format.read_vec.Goals as goal
 
 pub returns-in_err-count : goal.returns-in_err-count
