@@ -1,4 +1,5 @@
 pub mod Laws
+pub mod Nesting
 pub mod Reading
 pub mod Shapes
 pub mod Unique

@@ -3,6 +3,7 @@ ghost use Rattle.std.specs.Prelude.{◌≡◌};
 ghost use Rattle.bl_code.specs.declared.error.CodeError.TheVariants.{Memory};
 
 use bl_base::NoMemory;
+use std::alloc::AllocFailed;
 use thiserror::Error;
 
 /// Why a reader gives nothing.
@@ -20,6 +21,14 @@ impl From<NoMemory> for CodeError {
     ghost from_gives = { λ _ e. e ≡ Memory };
 
     fn from(_e: NoMemory) -> CodeError {
+        CodeError::Memory
+    }
+}
+
+impl<T: Drop> From<AllocFailed<T>> for CodeError {
+    ghost from_gives = { λ _ e. e ≡ Memory };
+
+    fn from(_e: AllocFailed<T>) -> CodeError {
         CodeError::Memory
     }
 }

@@ -3,12 +3,14 @@
 #![tactic(auto)]
 
 mod error;
+mod expression;
 mod format;
 mod instruction;
 mod types;
 mod values;
 
 pub use error::CodeError;
+pub use expression::read_expression;
 pub use format::{Format, read_vec};
 pub use instruction::{Index, read_instr};
 pub use types::{read_block_type, read_value_type};
