@@ -1,7 +1,7 @@
 -- Nesting, item by item.
-use Rattle.std.proofs.Common.{◌≡◌, ℕ, ◌+◌, ◌≤◌, ◌<◌, List, [], ◌∷◌, ◌++◌, length, drop, Option, Some, None, append_assoc, append-nil, ap, sym, ◌∙◌, refl, subst, arith, ◌⊎◌, inl, inr}
+use Rattle.std.proofs.Common.{◌≡◌, ℕ, ◌+◌, ◌≤◌, ◌<◌, List, [], ◌∷◌, ◌++◌, length, drop, reverse, slice_range, Option, Some, None, append_assoc, append-nil, ap, sym, ◌∙◌, refl, subst, arith, ◌⊎◌, inl, inr}
 use Rattle.std.specs.Prelude.{option_and_then}
-use Rattle.std.proofs.lemmas.List.{append_cancel_right}
+use Rattle.std.proofs.lemmas.List.{append_cancel_right, length-reverse}
 use Rattle.bl_wasm.specs.Values.{Spellings, ◌⨾◌, byte, each, given}
 use Rattle.bl_wasm.specs.Instructions.{instruction, expression, IsPlain, Nests, none, plain, block, loop, if_then, if_else}
 use Rattle.bl_wasm.specs.declared.instruction.Instr.{Instr}
@@ -14,7 +14,9 @@ use Rattle.bl_code.specs.declared.error.CodeError.TheVariants.{Malformed, Memory
 use Rattle.bl_code.specs.declared.expression.Open.{Open}
 use Rattle.bl_code.specs.declared.expression.Open.TheVariants.{BeforeElse, Other}
 use Rattle.bl_code.proofs.Instructions.{instruction_one}
-use Rattle.bl_code.proofs.Places.{Stands, stands, is_at, at_front}
+use Rattle.bl_code.proofs.Places.{Stands, stands, is_at, at_front, one_at, join, as_other}
+use Rattle.bl_code.proofs.Shapes.{never_empty}
+use Rattle.bl_leb.proofs.Places.{range_none}
 use Rattle.bl_code.proofs.Unique.{each_same}
 use Rattle.bl_code.proofs.Vectors.{more, Parting, parting}
 
@@ -203,3 +205,49 @@ expression_one = record { same = λ x y. record { both = λ a b u v p q e. expre
         let f = spelled_whole x a p.1 in
         let g = spelled_whole y b q.1 in
         by_part x y a b u v p.0 q.0 f g e (parting instruction_one (x ++ End ∷ []) (y ++ End ∷ []) a b u v f g e)
+
+-- one more item
+pub run_more : (p : List Instr) (start st next : List Open) (x : Instr) → run p start ≡ Some st → stepped x st ≡ Some next → run (p ++ x ∷ []) start ≡ Some next
+run_more [] start st next x e s =
+    let same : start ≡ st = cc in
+    ap (option_and_then (run [])) (ap (stepped x) same ∙ s)
+run_more (y ∷ p) start st next x e s =
+    let q = one_step (stepped y start) p st e in
+    ap (option_and_then (run (p ++ x ∷ []))) q.1 ∙ run_more p q.0 st next x q.2 s
+
+-- an item that may not stand and ends nothing ends no expression
+pub err_nest : (bytes : List ℕ) (i j k : ℕ) (p : List Instr) (st : List Open) (x : Instr) (e : CodeError) → IsAt (each instruction) bytes i j p → run p [] ≡ Some st → IsAt instruction bytes j k x
+    → (x ≡ End → st ≡ [] → ⊥) → (e ≡ Malformed → stepped x st ≡ None) → Refuses expression bytes i e
+err_nest bytes i j k p st x Malformed front nested here other stuck = none_expression bytes i j p st front nested never
+  where
+    never : (y : Instr) (m : ℕ) → IsAt instruction bytes j m y → ((y ≡ End) × (st ≡ [])) ⊎ ((next : List Open) × (stepped y st ≡ Some next)) → ⊥
+    never y m q (inl h) = other ((one_at bytes j k m x y instruction_one here q).1 ∙ h.0) h.1
+    never y m q (inr h) =
+        let same = (one_at bytes j k m x y instruction_one here q).1 in
+        let none_left : stepped y st ≡ None = ap (λ z. stepped z st) (sym same) ∙ stuck refl in
+        cc
+err_nest bytes i j k p st x Memory front nested here other stuck = tt
+
+-- nested items and an end
+pub last_at : (bytes : List ℕ) (i j k : ℕ) (p : List Instr) → IsAt (each instruction) bytes i j p → run p [] ≡ Some [] → IsAt instruction bytes j k End → IsAt expression bytes i k p
+last_at bytes i j k p front nested here =
+    let a = stands (each instruction) bytes i j p front in
+    let b : Stands (byte 0x0B) bytes j k = stands instruction bytes j k End here in
+    let both = join bytes i j k a b in
+    let nests = nests_if p nested in
+    is_at expression bytes i k p (as_other bytes i k (λ t s. (nests, s)) both)
+
+-- an instruction has a byte
+pub instruction_forward : (bytes : List ℕ) (i j : ℕ) (x : Instr) → IsAt instruction bytes i j x → (i < j) × (j ≤ length bytes)
+instruction_forward bytes i j x h =
+    let f = h.forward in
+    let cases : (i ≡ j) ⊎ (i < j) = grind arith in
+    elim cases [
+      | inl same ↦ absurd (never_empty x (subst (λ (t : List ℕ). instruction x t) (ap (λ k. slice_range bytes i k) (sym same) ∙ range_none bytes i) h.spelled))
+      | inr less ↦ (less, h.inside)
+    ]
+
+-- what is empty backwards is empty
+pub none_backwards : (xs : List Open) → reverse xs ≡ [] → xs ≡ []
+none_backwards [] e = refl
+none_backwards (x ∷ xs) e = absurd (omega (arith, ap length e, length-reverse (x ∷ xs)))
