@@ -1,5 +1,6 @@
 pub mod Immediates
 pub mod Instructions
+pub mod Limits
 pub mod Nesting
 pub mod Places
 pub mod Shapes

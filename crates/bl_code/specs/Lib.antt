@@ -1,4 +1,5 @@
 pub mod Laws
+pub mod Limits
 pub mod Nesting
 pub mod Reading
 pub mod Shapes

@@ -204,8 +204,8 @@ fn read_memory_size(code: u8, bytes: &[u8], at: usize) -> Result<(Instr, usize),
     requires code { IsZeroCode code }
     ensures { Reads (behind instruction code) bytes.now at result }
 {
-    let (zero, place) = read_byte(bytes, at)?;
-    if zero != 0 {
+    let (reserved, place) = read_byte(bytes, at)?;
+    if reserved != 0 {
         return Err(CodeError::Malformed);
     }
     if code == 0x3F {
