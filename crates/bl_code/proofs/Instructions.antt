@@ -46,10 +46,10 @@ choose code (row ∷ rows) last = (if code == row.0 then row.1 else choose code 
 abbrev bare : ℕ → Instr
 bare code =
     (if nat_lt code 0x45
-      then choose code ((0x00, Unreachable) ∷ (0x01, Nop) ∷ (0x05, Else) ∷ (0x0B, End) ∷ (0x0F, Return) ∷ (0x1A, Drop) ∷ []) Select
-      else (if nat_lt 0xBF code
-        then choose code ((0xC0, Extend I32Extend8S) ∷ (0xC1, Extend I32Extend16S) ∷ (0xC2, Extend I64Extend8S) ∷ (0xC3, Extend I64Extend16S) ∷ []) (Extend I64Extend32S)
-        else numeric code (operator_of code)))
+    then choose code ((0x00, Unreachable) ∷ (0x01, Nop) ∷ (0x05, Else) ∷ (0x0B, End) ∷ (0x0F, Return) ∷ (0x1A, Drop) ∷ []) Select
+    else (if nat_lt 0xBF code
+    then choose code ((0xC0, Extend I32Extend8S) ∷ (0xC1, Extend I32Extend16S) ∷ (0xC2, Extend I64Extend8S) ∷ (0xC3, Extend I64Extend16S) ∷ []) (Extend I64Extend32S)
+    else numeric code (operator_of code)))
 
 -- the instruction of a code and of immediates
 abbrev rebuilt : ℕ → Shape → Instr
@@ -192,18 +192,26 @@ block_none code other none None rest h = other (sym (only_byte 0x40 code rest h)
 block_none code other none (Some x) rest h = none x rest h
 
 pub value_type_one : IsOne value_type
-value_type_one = record { same = λ x y. record { both = λ a b u v p q e.
-    let f = type_first x a p in
-    let g = type_first y b q in
-    let same = (byte_same f.0 g.0).both a b u v f.1 g.1 e in
-    (same.0, sym f.2 ∙ ap typed same.1 ∙ g.2) } }
+value_type_one = record {
+  same = λ x y. record {
+    both = λ a b u v p q e.
+        let f = type_first x a p in
+        let g = type_first y b q in
+        let same = (byte_same f.0 g.0).both a b u v f.1 g.1 e in
+        (same.0, sym f.2 ∙ ap typed same.1 ∙ g.2);
+  };
+}
 
 pub block_type_one : IsOne block_type
-block_type_one = record { same = λ x y. record { both = λ a b u v p q e.
-    let f = block_first x a p in
-    let g = block_first y b q in
-    let same = (byte_same f.0 g.0).both a b u v f.1 g.1 e in
-    (same.0, sym f.2 ∙ ap typed_result same.1 ∙ g.2) } }
+block_type_one = record {
+  same = λ x y. record {
+    both = λ a b u v p q e.
+        let f = block_first x a p in
+        let g = block_first y b q in
+        let same = (byte_same f.0 g.0).both a b u v f.1 g.1 e in
+        (same.0, sym f.2 ∙ ap typed_result same.1 ∙ g.2);
+  };
+}
 
 abbrev made : ℕ → ℕ → MemoryArgument
 made alignment offset = record { alignment = alignment; offset = offset }

@@ -4,5 +4,6 @@ pub mod Limits
 pub mod Nesting
 pub mod Places
 pub mod Shapes
+pub mod Sizes
 pub mod Unique
 pub mod Vectors

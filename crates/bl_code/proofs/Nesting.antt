@@ -69,8 +69,15 @@ front f nests over [] xs h = nests xs h
 front f nests over (Other ∷ st) xs h = (f h.0, h.1, nests h.0 h.2, ap f h.3 ∙ over h.0 (End ∷ h.1), h.4)
 front f nests over (BeforeElse ∷ st) xs (inl h) = inl (f h.0, h.1, nests h.0 h.2, ap f h.3 ∙ over h.0 (End ∷ h.1), h.4)
 front f nests over (BeforeElse ∷ st) xs (inr h) =
-    inr (f h.0, h.1, h.2, nests h.0 h.3, h.4,
-      ap f (h.5 ∙ append_assoc h.0 (Else ∷ h.1) (End ∷ h.2)) ∙ over h.0 (Else ∷ (h.1 ++ End ∷ h.2)) ∙ sym (append_assoc (f h.0) (Else ∷ h.1) (End ∷ h.2)), h.6)
+    inr (
+      f h.0,
+      h.1,
+      h.2,
+      nests h.0 h.3,
+      h.4,
+      ap f (h.5 ∙ append_assoc h.0 (Else ∷ h.1) (End ∷ h.2)) ∙ over h.0 (Else ∷ (h.1 ++ End ∷ h.2)) ∙ sym (append_assoc (f h.0) (Else ∷ h.1) (End ∷ h.2)),
+      h.6,
+    )
 
 -- items behind which nothing is open close what was open
 closes : (xs : List Instr) (st : List Open) → run xs st ≡ Some [] → Closes st xs

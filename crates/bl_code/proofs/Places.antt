@@ -56,8 +56,7 @@ part bytes i k h =
     let g = h.inside in
     let whole : drop i bytes ≡ a ++ (b ++ drop k bytes) = h.whole ∙ ap (λ t. t ++ drop k bytes) s.whole ∙ append_assoc a b (drop k bytes) in
     let behind : drop (i + length a) bytes ≡ b ++ drop k bytes = sym (drop-drop (length a) i bytes) ∙ ap (drop (length a)) whole ∙ drop_at a (b ++ drop k bytes) (length a) refl in
-    let long : length bytes - i ≡ length a + (length b + (length bytes - k)) = omega (arith, length-drop i bytes, length-drop k bytes, ap length whole, length-append a (b ++ drop k bytes), length-append b (drop k bytes)) in
-    (
+    let long : length bytes - i ≡ length a + (length b + (length bytes - k)) = omega (arith, length-drop i bytes, length-drop k bytes, ap length whole, length-append a (b ++ drop k bytes), length-append b (drop k bytes)) in (
       i + length a,
       record { forward = omega arith; inside = omega arith; front = a; whole = whole ∙ ap (λ t. a ++ t) (sym behind); spelled = s.first },
       record { forward = omega arith; inside = g; front = b; whole = behind; spelled = s.second },

@@ -54,7 +54,7 @@ parting one [] (y ∷ ys) a b u v p q e =
 parting one (x ∷ xs) [] a b u v p q e = inl (x ∷ xs, refl)
 parting {B} one (x ∷ xs) (y ∷ ys) a b u v p q e =
     let whole : p.front ++ (p.rest ++ u) ≡ q.front ++ (q.rest ++ v)
-        = sym (append_assoc p.front p.rest u) ∙ ap (λ t. t ++ u) (sym p.whole) ∙ e ∙ ap (λ t. t ++ v) q.whole ∙ append_assoc q.front q.rest v in
+    = sym (append_assoc p.front p.rest u) ∙ ap (λ t. t ++ u) (sym p.whole) ∙ e ∙ ap (λ t. t ++ v) q.whole ∙ append_assoc q.front q.rest v in
     let fronts = (one.same x y).both p.front q.front (p.rest ++ u) (q.rest ++ v) p.first q.first whole in
     longer B x y xs ys u fronts.1 (parting one xs ys p.rest q.rest u v p.second q.second (rest_same p.front q.front (p.rest ++ u) (q.rest ++ v) fronts.0 whole))
 

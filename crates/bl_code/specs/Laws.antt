@@ -7,6 +7,10 @@ use Rattle.bl_code.specs.Unique.{IsOne}
 
 -- of numbers
 pub u32_one : IsOne u32
-u32_one = record { same = λ m n. record { both = λ a b u v p q e.
-    let same = one_end 32 32 a b u v m n p q e in
-    (same, one_value 32 b m n (subst (λ (t : List ℕ). u32 m t) same p) q) } }
+u32_one = record {
+  same = λ m n. record {
+    both = λ a b u v p q e.
+        let same = one_end 32 32 a b u v m n p q e in
+        (same, one_value 32 b m n (subst (λ (t : List ℕ). u32 m t) same p) q);
+  };
+}

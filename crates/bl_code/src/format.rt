@@ -1,6 +1,6 @@
 //! Formats: parts of the grammar, each with its reader.
 ghost use Rattle.std.specs.Prelude.{◌≡◌, ◌≤◌, ℕ, List as Listed, length};
-ghost use Rattle.bl_wasm.specs.Values.{given, each, vec};
+ghost use Rattle.bl_wasm.specs.Values.{given, each, vec, sized};
 ghost use Rattle.bl_code.specs.Reading.{Reads};
 ghost use Rattle.bl_code.specs.Unique.{IsOne};
 
@@ -57,4 +57,26 @@ pub fn read_vec<F: Format>(
 {
     let (count, place) = read_u32(bytes, at)?;
     read_each::<F>(alloc, bytes, place, count)
+}
+
+/// Reads a format behind its size (WebAssembly 1.0, sections 5.5.2 and 5.5.13): it takes exactly the bytes that the size
+/// counts. Malformed too where fewer bytes are left than that, or the format ends before them.
+pub fn read_sized<F: Format>(
+    alloc: Global,
+    bytes: &[u8],
+    at: usize,
+) -> Result<(F::Tree, usize), CodeError>
+    requires { at ≤ length bytes.now }
+    ensures { Reads (λ tree. sized (F.spellings tree)) bytes.now at result }
+{
+    let (size, place) = read_u32(bytes, at)?;
+    if bytes.len() - place < size as usize {
+        return Err(CodeError::Malformed);
+    }
+    let end = place + size as usize;
+    let (tree, after) = F::read(alloc, &bytes[..end], place)?;
+    if after != end {
+        return Err(CodeError::Malformed);
+    }
+    Ok((tree, after))
 }

@@ -27,8 +27,8 @@ returns-in_err-nest c =
     let l = c.loop-constructs in
     passes _ c.args.bytes.now c.args.at c.from_residual-in_err-nest.result _ c.from_residual-in_err-nest.ensures.1
     (err_nest c.args.bytes.now c.args.at l.place c.in_ok-item.after l.items (reverse l.constructs.items) c.in_ok-item.item _ l.invariant.read l.invariant.nested c.in_ok-item.ensures
-      (λ is none. let yes = c.is_last.ensures.1 (c.deref.ensures.value ∙ none_backwards l.constructs.items none, is) in let no = c.if-is_last.false in cc)
-      (λ e. c.in_err-nest.ensures.malformed (ap Err e)))
+    (λ is none. let yes = c.is_last.ensures.1 (c.deref.ensures.value ∙ none_backwards l.constructs.items none, is) in let no = c.if-is_last.false in cc)
+    (λ e. c.in_err-nest.ensures.malformed (ap Err e)))
 
 pub loop-constructs-smaller : goal.loop-constructs-smaller
 loop-constructs-smaller c =
