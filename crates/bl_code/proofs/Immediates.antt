@@ -1,5 +1,5 @@
 -- What begins no instruction, by the readers of immediates.
-use Rattle.std.proofs.Common.{◌≡◌, ◌≢◌, ℕ, ◌≤◌, List, [], ◌∷◌, ◌++◌, length, Option, None, sym, ap, ◌∙◌, refl, subst, arith}
+use Rattle.std.proofs.Common.{◌≡◌, ◌≢◌, ℕ, List, [], ◌∷◌, Option, None, refl, subst, arith}
 use Rattle.bl_ops.specs.Access.{code_of as access_code}
 use Rattle.bl_ops.specs.declared.access.AccessKind.{AccessKind}
 use Rattle.bl_wasm.specs.Codes.{float_access_code}
@@ -8,14 +8,14 @@ use Rattle.bl_wasm.specs.Values.{Spellings, ◌⨾◌, byte, u32, int, f32, f64,
 use Rattle.bl_wasm.specs.Instructions.{instruction, memory_argument}
 use Rattle.bl_wasm.specs.declared.float.FloatAccess.{FloatAccess}
 use Rattle.bl_wasm.specs.declared.instruction.Instr.{Instr}
-use Rattle.bl_wasm.specs.declared.instruction.Instr.TheVariants.{Unreachable, Load, Store, FloatAccess as FloatAccessed}
+use Rattle.bl_wasm.specs.declared.instruction.Instr.TheVariants.{Load, Store, FloatAccess as FloatAccessed}
 use Rattle.bl_wasm.specs.declared.instruction.MemoryArgument.{MemoryArgument}
 use Rattle.bl_wasm.specs.declared.types.WasmType.{WasmType}
 use Rattle.bl_code.specs.Laws.{u32_one}
 use Rattle.bl_code.specs.Reading.{IsAt, NoneAt, Refuses, behind}
 use Rattle.bl_code.specs.Shapes.{Shape, Bare, Typed, Indexed, Labels, Indirect, Access, Zero, Int32, Int64, Float32, Float64, shape_of, IsCodeOf, immediates, IsTypedCode, IsIndexedCode, IsAccessCode, IsZeroCode, IsOtherCode}
 use Rattle.bl_code.specs.declared.error.CodeError.{CodeError}
-use Rattle.bl_code.proofs.Places.{Stands, stands, is_at, one_at, same_at, err_along, none_along, none_second}
+use Rattle.bl_code.proofs.Places.{stands, is_at, one_at, same_at, err_along}
 use Rattle.bl_code.proofs.Shapes.{after_byte, shaped}
 use Rattle.bl_code.proofs.Unique.{byte_same}
 

@@ -1,6 +1,6 @@
 -- No instruction begins another.
-use Rattle.std.proofs.Common.{◌≡◌, ◌≢◌, ℕ, ◌≤◌, ◌<◌, List, [], ◌∷◌, ◌++◌, Some, None, Bool, true, false, cond, eqb, ltb, ap, ap₂, sym, ◌∙◌, refl, subst, arith, ◌⊎◌, inl, inr, lit<}
-use Rattle.std.specs.Prelude.{Option, ◌==◌, nat_lt, nat_le, if◌then◌else◌, find, IsTrue}
+use Rattle.std.proofs.Common.{◌≡◌, ◌≢◌, ℕ, ◌≤◌, ◌<◌, List, [], ◌∷◌, ◌++◌, Some, None, Bool, true, false, ap, ap₂, sym, ◌∙◌, refl, subst, arith, ◌⊎◌, inl, inr, lit<}
+use Rattle.std.specs.Prelude.{Option, ◌==◌, nat_lt, if◌then◌else◌, find, IsTrue}
 use Rattle.std.proofs.lemmas.Bool.Decides.{nat_tests}
 use Rattle.bl_ops.specs.Access.{code_of as access_code, kind_of, is_load}
 use Rattle.bl_ops.specs.Table.{code_of, operator_of, operators, image_code_of}
@@ -10,7 +10,6 @@ use Rattle.bl_ops.specs.declared.op.Op.{Op}
 use Rattle.bl_ops.specs.declared.op.Op.TheVariants.{I32Eqz, Move, Select as Selected, Outside}
 use Rattle.bl_wasm.specs.Codes.{IsFloatCode, float_access_code, sign_extension_code}
 use Rattle.bl_wasm.specs.Types.{block_type, value_type}
-use Rattle.bl_wasm.specs.Values.{Spellings, ◌⨾◌, byte, u32, vec, int, f32, f64}
 use Rattle.bl_wasm.specs.Instructions.{instruction, memory_argument}
 use Rattle.bl_wasm.specs.declared.float.FloatAccess.{FloatAccess}
 use Rattle.bl_wasm.specs.declared.float.FloatAccess.TheVariants.{F32Load, F64Load, F32Store, F64Store}

@@ -1,15 +1,14 @@
 -- Limits, behind their first byte.
-use Rattle.std.proofs.Common.{◌≡◌, ◌≢◌, ℕ, ◌≤◌, List, [], ◌∷◌, ◌++◌, length, Option, Some, None, ap, ap₂, sym, ◌∙◌, refl, subst, arith, append-nil}
+use Rattle.std.proofs.Common.{◌≡◌, ◌≢◌, ℕ, List, [], ◌∷◌, ◌++◌, Option, Some, None, ap, ap₂, sym, ◌∙◌, refl, subst, arith, append-nil}
 use Rattle.std.specs.Prelude.{unwrap_or}
 use Rattle.bl_wasm.specs.Types.{limits, limits_of}
 use Rattle.bl_wasm.specs.Values.{Spellings, ◌⨾◌, byte, u32}
 use Rattle.bl_wasm.specs.declared.types.Limits.{Limits}
-use Rattle.bl_code.specs.Laws.{u32_one}
 use Rattle.bl_code.specs.Limits.{maximum}
 use Rattle.bl_code.specs.Reading.{IsAt, NoneAt, Refuses, behind}
 use Rattle.bl_code.specs.Unique.{Same, IsOne}
 use Rattle.bl_code.specs.declared.error.CodeError.{CodeError}
-use Rattle.bl_code.proofs.Places.{err_first, err_second, err_along, stands, is_at, join, as_other}
+use Rattle.bl_code.proofs.Places.{err_along, stands, is_at, join, as_other}
 use Rattle.bl_code.proofs.Shapes.{after_byte}
 use Rattle.bl_code.proofs.Immediates.{before}
 use Rattle.bl_code.proofs.Unique.{byte_same, u32_same, seq_same, then_same}

@@ -2,13 +2,13 @@
 use Rattle.std.proofs.Common.{◌≡◌, ℕ, ◌+◌, ◌≤◌, ◌<◌, List, [], ◌∷◌, ◌++◌, length, drop, reverse, slice_range, Option, Some, None, append_assoc, append-nil, ap, sym, ◌∙◌, refl, subst, arith, ◌⊎◌, inl, inr}
 use Rattle.std.specs.Prelude.{option_and_then}
 use Rattle.std.proofs.lemmas.List.{append_cancel_right, length-reverse}
-use Rattle.bl_wasm.specs.Values.{Spellings, ◌⨾◌, byte, each, given}
+use Rattle.bl_wasm.specs.Values.{◌⨾◌, byte, each}
 use Rattle.bl_wasm.specs.Instructions.{instruction, expression, IsPlain, Nests, none, plain, block, loop, if_then, if_else}
 use Rattle.bl_wasm.specs.declared.instruction.Instr.{Instr}
-use Rattle.bl_wasm.specs.declared.instruction.Instr.TheVariants.{Unreachable, Block, Loop, If, Else, End}
-use Rattle.bl_code.specs.Nesting.{stepped, parted, ended}
+use Rattle.bl_wasm.specs.declared.instruction.Instr.TheVariants.{Block, Loop, If, Else, End}
+use Rattle.bl_code.specs.Nesting.{stepped}
 use Rattle.bl_code.specs.Reading.{IsAt, NoneAt, Refuses}
-use Rattle.bl_code.specs.Unique.{Same, IsOne}
+use Rattle.bl_code.specs.Unique.{IsOne}
 use Rattle.bl_code.specs.declared.error.CodeError.{CodeError}
 use Rattle.bl_code.specs.declared.error.CodeError.TheVariants.{Malformed, Memory}
 use Rattle.bl_code.specs.declared.expression.Open.{Open}

@@ -1,11 +1,10 @@
 -- Spellings at a place, by the combinators of the grammar.
-use Rattle.std.proofs.Common.{◌≡◌, ℕ, suc, ◌+◌, ◌-◌, ◌<◌, ◌≤◌, List, [], ◌∷◌, ◌++◌, length, take, drop, get_or, append_assoc, append-nil, ap, sym, ◌∙◌, refl, subst, arith, slice_range, length-append, length-drop, add-one, drop-cons, Result, Ok, Err}
-use Rattle.std.proofs.lemmas.List.{take_at, drop_at, drop-drop, append_cancel_left}
+use Rattle.std.proofs.Common.{◌≡◌, ℕ, ◌+◌, ◌-◌, ◌≤◌, List, [], ◌∷◌, ◌++◌, length, take, drop, append_assoc, ap, sym, ◌∙◌, refl, subst, arith, slice_range, length-append, length-drop, Result, Ok, Err}
+use Rattle.std.proofs.lemmas.List.{take_at, drop_at, drop-drop}
 use Rattle.std.specs.Result.{IsErrAnd}
 use Rattle.std.proofs.lemmas.Result.{err_from_is_err_and}
 use Rattle.std.proofs.lemmas.List.Folds.{drop_split}
-use Rattle.bl_leb.specs.Spellings.{IsSpelledAt}
-use Rattle.bl_wasm.specs.Values.{Spellings, ◌⨾◌, nothing, exactly, byte, given, each, u32, vec}
+use Rattle.bl_wasm.specs.Values.{Spellings, ◌⨾◌, byte, given}
 use Rattle.bl_code.specs.Reading.{IsAt, NoneAt, Refuses, Reads, behind}
 use Rattle.bl_code.specs.Unique.{Same, IsOne}
 use Rattle.bl_code.specs.declared.error.CodeError.{CodeError}

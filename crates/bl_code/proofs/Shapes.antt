@@ -1,5 +1,5 @@
 -- The grammar of instructions by their codes and immediates.
-use Rattle.std.proofs.Common.{◌≡◌, ◌≢◌, ℕ, ◌≤◌, ◌<◌, List, [], ◌∷◌, ◌++◌, Some, None, Bool, true, ◌&&◌, IsTrue, ap, sym, ◌∙◌, refl, subst, arith, ◌⊎◌, inl, inr, lit≤}
+use Rattle.std.proofs.Common.{◌≡◌, ℕ, ◌≤◌, List, [], ◌∷◌, ◌++◌, Some, None, Bool, true, ◌&&◌, IsTrue, ap, ◌∙◌, refl, subst, arith}
 use Rattle.std.specs.Prelude.{nat_le, Option}
 use Rattle.std.proofs.lemmas.Bool.Decides.{nat_tests}
 use Rattle.bl_ops.specs.Access.{code_of as access_code}
@@ -8,7 +8,7 @@ use Rattle.bl_ops.specs.declared.access.AccessKind.{AccessKind}
 use Rattle.bl_ops.specs.declared.access.AccessKind.TheVariants.{I32Load}
 use Rattle.bl_ops.specs.declared.op.Op.{Op}
 use Rattle.bl_ops.specs.declared.op.Op.TheVariants.{I32Eqz}
-use Rattle.bl_wasm.specs.Codes.{IsFloatCode, float_access_code, sign_extension_code}
+use Rattle.bl_wasm.specs.Codes.{float_access_code, sign_extension_code}
 use Rattle.bl_wasm.specs.Values.{Spellings, ◌⨾◌, byte}
 use Rattle.bl_wasm.specs.Instructions.{instruction}
 use Rattle.bl_wasm.specs.declared.float.FloatAccess.{FloatAccess}
@@ -17,7 +17,7 @@ use Rattle.bl_wasm.specs.declared.instruction.SignExtension.{SignExtension}
 use Rattle.bl_wasm.specs.declared.instruction.SignExtension.TheVariants.{I32Extend8S, I32Extend16S, I64Extend8S, I64Extend16S, I64Extend32S}
 use Rattle.bl_wasm.specs.declared.instruction.Instr.{Instr}
 use Rattle.bl_wasm.specs.declared.instruction.Instr.TheVariants.{Unreachable, Nop, Block, Loop, If, Else, End, Br, BrIf, BrTable, Return, Call, CallIndirect, Drop, Select, LocalGet, LocalSet, LocalTee, GlobalGet, GlobalSet, Load, Store, FloatAccess as FloatAccessed, MemorySize, MemoryGrow, I32Const, I64Const, F32Const, F64Const, Integer, Float, Extend}
-use Rattle.bl_code.specs.Shapes.{Shape, shape_of, IsCodeOf, immediates}
+use Rattle.bl_code.specs.Shapes.{shape_of, IsCodeOf, immediates}
 
 -- a byte, and what stands behind it
 pub after_byte : {S : Spellings} (c code : ℕ) (rest : List ℕ) → (byte c ⨾ S) (code ∷ rest) → (c ≡ code) × S rest

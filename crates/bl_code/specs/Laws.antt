@@ -1,5 +1,5 @@
 -- That no spelling of a rule begins another, for the readers of the rules.
-use Rattle.std.specs.Prelude.{List, ℕ, ◌≡◌}
+use Rattle.std.specs.Prelude.{List, ℕ}
 use Rattle.std.proofs.Common.{subst}
 use Rattle.bl_leb.proofs.Unsigned.{one_end, one_value}
 use Rattle.bl_wasm.specs.Values.{u32}

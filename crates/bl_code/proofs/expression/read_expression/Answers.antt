@@ -1,10 +1,8 @@
-use Rattle.std.proofs.Common.{◌≡◌, ◌-◌, ◌<◌, [], ◌∷◌, ◌++◌, List, ℕ, Some, Err, length, reverse, ap, sym, ◌∙◌, refl, subst, arith, true, false}
-use Rattle.bl_wasm.specs.Instructions.{instruction, expression}
+use Rattle.std.proofs.Common.{◌≡◌, [], Some, Err, reverse, ap, sym, ◌∙◌, subst, arith}
+use Rattle.bl_wasm.specs.Instructions.{instruction}
 use Rattle.bl_wasm.specs.declared.instruction.Instr.{Instr}
-use Rattle.bl_wasm.specs.declared.instruction.Instr.TheVariants.{End}
-use Rattle.bl_leb.specs.Spellings.{IsSpelledAt}
 use Rattle.bl_code.specs.Reading.{IsAt}
-use Rattle.bl_code.proofs.Nesting.{run, run_more, err_expression, err_nest, last_at, instruction_forward, none_backwards}
+use Rattle.bl_code.proofs.Nesting.{run_more, err_expression, err_nest, last_at, instruction_forward, none_backwards}
 use Rattle.bl_code.proofs.Places.{passes}
 use Rattle.bl_code.proofs.Vectors.{each_more}
 use Rattle.bl_code.proofs.expression.read_expression.Goals as goal

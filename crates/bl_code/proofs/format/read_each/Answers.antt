@@ -1,6 +1,4 @@
-use Rattle.std.proofs.Common.{◌≡◌, ◌+◌, ◌++◌, ◌∷◌, [], length, arith, subst, sym, List, length-append, ap, ◌∙◌, ℕ}
-use Rattle.bl_wasm.specs.Values.{each, given}
-use Rattle.bl_code.specs.Reading.{IsAt}
+use Rattle.std.proofs.Common.{◌+◌, ◌∷◌, [], arith, length-append, ap, ◌∙◌}
 use Rattle.bl_code.proofs.Places.{passes}
 use Rattle.bl_code.proofs.Vectors.{each_more, err_more}
 use Rattle.bl_code.proofs.format.read_each.Goals as goal

@@ -1,4 +1,4 @@
-use Rattle.std.proofs.Common.{◌≡◌, ◌≤◌, length}
+use Rattle.std.proofs.Common.{◌≡◌, length}
 use Rattle.bl_wasm.specs.Values.{each}
 use Rattle.bl_code.specs.Reading.{IsAt}
 use Rattle.bl_code.proofs.format.read_each.Given as goal

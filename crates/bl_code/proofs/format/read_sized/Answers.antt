@@ -1,4 +1,4 @@
-use Rattle.std.proofs.Common.{◌≡◌, ◌+◌, ◌-◌, ◌≤◌, ◌<◌, ◌≢◌, length, take, sym, arith}
+use Rattle.std.proofs.Common.{◌+◌, ◌≤◌, ◌<◌, length, arith}
 use Rattle.bl_code.proofs.Places.{passes}
 use Rattle.bl_code.proofs.Sizes.{err_size, none_short, err_contents, none_elsewhere, sized_read}
 use Rattle.bl_code.proofs.format.read_sized.Goals as goal

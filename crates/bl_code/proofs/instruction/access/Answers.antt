@@ -1,4 +1,3 @@
-use Rattle.std.proofs.Common.{◌≡◌}
 use Rattle.bl_code.proofs.Immediates.{none_access}
 use Rattle.bl_code.proofs.instruction.access.Goals as goal
 

@@ -1,7 +1,6 @@
-use Rattle.std.proofs.Common.{◌≡◌, refl, subst}
+use Rattle.std.proofs.Common.{refl}
 use Rattle.bl_wasm.specs.Values.{u32}
 use Rattle.bl_wasm.specs.Instructions.{instruction}
-use Rattle.bl_leb.specs.Spellings.{IsSpelledAt}
 use Rattle.bl_code.specs.Reading.{behind, IsAt}
 use Rattle.bl_code.specs.Shapes.{Shape}
 use Rattle.bl_code.specs.Laws.{u32_one}

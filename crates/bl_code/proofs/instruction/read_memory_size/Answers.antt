@@ -1,4 +1,3 @@
-use Rattle.std.proofs.Common.{◌≡◌, refl, subst}
 use Rattle.bl_wasm.specs.Values.{byte}
 use Rattle.bl_code.specs.Shapes.{Shape}
 use Rattle.bl_code.specs.declared.error.CodeError.TheVariants.{Malformed}

@@ -1,4 +1,3 @@
-use Rattle.std.proofs.Common.{◌≡◌}
 use Rattle.bl_wasm.specs.Types.{block_type}
 use Rattle.bl_code.proofs.Instructions.{block_none, block_never_empty}
 use Rattle.bl_code.proofs.Places.{none_behind}
