@@ -1,0 +1,9 @@
+pub mod Immediates
+pub mod Instructions
+pub mod Limits
+pub mod Nesting
+pub mod Places
+pub mod Shapes
+pub mod Sizes
+pub mod Unique
+pub mod Vectors
