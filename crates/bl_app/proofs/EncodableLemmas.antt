@@ -5,11 +5,11 @@ use Rattle.std.proofs.lemmas.List.Elements.{All-nil, All-cons, All-append}
 use Rattle.bl_base.specs.Trap.{kinds}
 use Rattle.bl_base.specs.declared.trap.Trap.{Trap as Kind}
 use Rattle.bl_base.specs.declared.number.Pos.{Pos}
-use Rattle.bl_wasm.specs.declared.instruction.Instr.{Instr}
-use Rattle.bl_wasm.specs.declared.instruction.Instr.TheVariants.{LocalGet, I32Const, I32Add}
-use Rattle.bl_wasm.specs.declared.linked.Linked.{Linked}
-use Rattle.bl_wasm.specs.declared.linked.Function.{Function}
-use Rattle.bl_wasm.specs.declared.module.Module.{Module}
+use Rattle.bl_wasm.specs.declared.form.Instr.{Instr}
+use Rattle.bl_wasm.specs.declared.form.Instr.TheVariants.{LocalGet, I32Const, I32Add}
+use Rattle.bl_wasm.specs.declared.form.Linked.{Linked}
+use Rattle.bl_wasm.specs.declared.form.Function.{Function}
+use Rattle.bl_wasm.specs.declared.form.Module.{Module}
 use Rattle.bl_app.specs.declared.program.Operand.{Operand}
 use Rattle.bl_app.specs.declared.program.Operand.TheVariants.{Constant}
 use Rattle.bl_app.specs.declared.program.Operator.{Operator}

@@ -3,9 +3,9 @@ use Rattle.std.proofs.Common.{◌≡◌, ℕ, ◌+◌, ◌-◌, ◌<◌, ◌≤�
 use Rattle.std.specs.Str.{bytes_eq}
 use Rattle.std.proofs.lemmas.Slice.Eq.{bytes_eq-Decides}
 use Rattle.std.proofs.lemmas.List.{append_assoc, append_cancel_left, append_cancel_right, drop_more, length-append, take_at, drop_at, take_rest, take-append-drop}
-use Rattle.bl_wasm.specs.declared.instruction.Instr.{Instr}
-use Rattle.bl_wasm.specs.declared.instruction.Instr.TheVariants.{LocalGet, I32Const, I32Add}
-use Rattle.bl_wasm.specs.declared.module.Module.{Module}
+use Rattle.bl_wasm.specs.declared.form.Instr.{Instr}
+use Rattle.bl_wasm.specs.declared.form.Instr.TheVariants.{LocalGet, I32Const, I32Add}
+use Rattle.bl_wasm.specs.declared.form.Module.{Module}
 use Rattle.bl_app.specs.Grammar.{ItemSpells, local_get, i32_const, i32_add, ItemsSpell, no_item, one_more_item, Spells, constant_of, header, type_section, function_section, exports_of, codes_of, section_of}
 use Rattle.bl_app.specs.Reading.{AreItems, AreParts}
 use Rattle.bl_app.specs.Answers.{IsForm}

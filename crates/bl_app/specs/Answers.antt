@@ -6,7 +6,7 @@ use Rattle.bl_outside.specs.Shelf.{Files, Faults, ReadFails, WriteFails, with_fi
 use Rattle.bl_outside.specs.declared.sink.SinkFault.{SinkFault}
 use Rattle.bl_outside.specs.declared.shelf.ShelfError.{ShelfError}
 use Rattle.bl_outside.specs.declared.shelf.ShelfError.TheVariants.{Failed, Memory}
-use Rattle.bl_wasm.specs.declared.module.Module.{Module}
+use Rattle.bl_wasm.specs.declared.form.Module.{Module}
 use Rattle.bl_app.specs.declared.program.Program.{Program}
 use Rattle.bl_app.specs.Grammar.{Spells}
 use Rattle.bl_app.specs.Typing.{Typed}

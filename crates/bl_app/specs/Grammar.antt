@@ -3,9 +3,9 @@
 -- another. Counts, sizes and indices of the form are below 128 and are spelled as one byte each.
 use Rattle.std.specs.Prelude.{◌≡◌, ℕ, ◌+◌, ◌-◌, ◌^◌, ◌<◌, ◌≤◌, List, [], ◌∷◌, ◌++◌, length, All, nat_lt, if◌then◌else◌}
 use Rattle.bl_wasm.specs.declared.types.WasmType.TheVariants.{I32}
-use Rattle.bl_wasm.specs.declared.instruction.Instr.{Instr}
-use Rattle.bl_wasm.specs.declared.instruction.Instr.TheVariants.{LocalGet, I32Const, I32Add}
-use Rattle.bl_wasm.specs.declared.module.Module.{Module}
+use Rattle.bl_wasm.specs.declared.form.Instr.{Instr}
+use Rattle.bl_wasm.specs.declared.form.Instr.TheVariants.{LocalGet, I32Const, I32Add}
+use Rattle.bl_wasm.specs.declared.form.Module.{Module}
 
 -- bytes behind their number (sections 5.1.3 and 5.5.2)
 abbrev pub sized : List ℕ → List ℕ

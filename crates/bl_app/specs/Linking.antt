@@ -7,13 +7,13 @@ use Rattle.bl_base.specs.declared.names.ValueType.TheVariants.{I32, I64}
 use Rattle.bl_wasm.specs.declared.types.WasmType.{WasmType}
 use Rattle.bl_wasm.specs.declared.types.WasmType.TheVariants as wasm
 use Rattle.bl_wasm.specs.declared.types.FuncType.{FuncType}
-use Rattle.bl_wasm.specs.declared.module.Module.{Module}
-use Rattle.bl_wasm.specs.declared.module.Export.{Export}
-use Rattle.bl_wasm.specs.declared.module.Code.{Code}
+use Rattle.bl_wasm.specs.declared.form.Module.{Module}
+use Rattle.bl_wasm.specs.declared.form.Export.{Export}
+use Rattle.bl_wasm.specs.declared.form.Code.{Code}
 use Rattle.bl_wasm.specs.declared.module.LocalRun.{LocalRun}
-use Rattle.bl_wasm.specs.declared.linked.Linked.{Linked}
-use Rattle.bl_wasm.specs.declared.linked.Function.{Function}
-use Rattle.bl_wasm.specs.declared.linked.Exported.{Exported}
+use Rattle.bl_wasm.specs.declared.form.Linked.{Linked}
+use Rattle.bl_wasm.specs.declared.form.Function.{Function}
+use Rattle.bl_wasm.specs.declared.form.Exported.{Exported}
 
 -- an integer type; no float comes here, since a module with floats is refused before
 abbrev pub value_type : WasmType → ValueType

@@ -4,11 +4,11 @@
 use Rattle.std.specs.Prelude.{ℕ, ◌+◌, ◌*◌, List, [], ◌∷◌, ◌++◌, length, map, nat_lt, if◌then◌else◌, max, false, zero, suc, take, reverse}
 use Rattle.bl_base.specs.Trap.{kinds}
 use Rattle.bl_base.specs.declared.names.Label.TheVariants.{Public}
-use Rattle.bl_wasm.specs.declared.instruction.Instr.{Instr}
-use Rattle.bl_wasm.specs.declared.instruction.Instr.TheVariants.{LocalGet, I32Const, I32Add}
-use Rattle.bl_wasm.specs.declared.linked.Linked.{Linked}
-use Rattle.bl_wasm.specs.declared.linked.Function.{Function}
-use Rattle.bl_wasm.specs.declared.linked.Exported.{Exported}
+use Rattle.bl_wasm.specs.declared.form.Instr.{Instr}
+use Rattle.bl_wasm.specs.declared.form.Instr.TheVariants.{LocalGet, I32Const, I32Add}
+use Rattle.bl_wasm.specs.declared.form.Linked.{Linked}
+use Rattle.bl_wasm.specs.declared.form.Function.{Function}
+use Rattle.bl_wasm.specs.declared.form.Exported.{Exported}
 use Rattle.bl_app.specs.declared.program.Operand.{Operand}
 use Rattle.bl_app.specs.declared.program.Operand.TheVariants.{Variable, Constant}
 use Rattle.bl_app.specs.declared.program.Operator.{Operator}

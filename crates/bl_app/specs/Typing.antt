@@ -1,9 +1,9 @@
 -- Validity (WebAssembly 1.0, section 3), cut to the form, whose operands are all i32: a stack type is a
 -- number of operands.
 use Rattle.std.specs.Prelude.{◌≡◌, ℕ, ◌+◌, List, [], ◌∷◌, Option, Some, None, suc, zero, All}
-use Rattle.bl_wasm.specs.declared.instruction.Instr.{Instr}
-use Rattle.bl_wasm.specs.declared.instruction.Instr.TheVariants.{LocalGet, I32Const, I32Add}
-use Rattle.bl_wasm.specs.declared.module.Module.{Module}
+use Rattle.bl_wasm.specs.declared.form.Instr.{Instr}
+use Rattle.bl_wasm.specs.declared.form.Instr.TheVariants.{LocalGet, I32Const, I32Add}
+use Rattle.bl_wasm.specs.declared.form.Module.{Module}
 
 -- the operands after an item, from those before it; none where there are too few (section 3.3)
 abbrev pub operands_after : Instr → ℕ → Option ℕ

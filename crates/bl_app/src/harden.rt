@@ -1,6 +1,6 @@
 //! `harden`: from a module's bytes to its image and report.
 ghost use Rattle.std.specs.Prelude.{◌≡◌, ℕ, IfOk, Err, string_bytes};
-ghost use Rattle.bl_wasm.specs.declared.module.Module.{Module};
+ghost use Rattle.bl_wasm.specs.declared.form.Module.{Module};
 ghost use Rattle.bl_app.specs.Answers.{IsForm, IsHardened};
 
 use crate::image::encode;

@@ -5,7 +5,7 @@ ghost use Rattle.bl_app.specs.Linking.{linked_of};
 
 use crate::lists::one;
 use bl_base::{List, NoMemory, Text, ValueType};
-use bl_wasm::{Exported, Function, Linked, Module};
+use bl_wasm::form::{Exported, Function, Linked, Module};
 use std::alloc::Global;
 
 /// The linked tree of a module of the form under that name. The body is moved, not copied.

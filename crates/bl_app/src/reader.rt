@@ -8,7 +8,8 @@ ghost use Rattle.bl_app.specs.declared.reader.ReadError.TheVariants.{Memory};
 
 use crate::lists::one;
 use bl_base::{List, NoMemory, Text};
-use bl_wasm::{Code, Export, FuncType, Instr, Module, WasmType};
+use bl_wasm::form::{Code, Export, Instr, Module};
+use bl_wasm::{FuncType, WasmType};
 use std::alloc::Global;
 use thiserror::Error;
 

@@ -1,1 +1,2 @@
+pub mod NestingLemmas
 mod Rows

@@ -1,17 +1,20 @@
 -- The grammar on worked modules.
-use Rattle.std.proofs.Common.{ℕ, ◌<◌, List, [], ◌∷◌, ◌++◌, length, None, inl, inr, refl, sym, arith, append-nil}
-use Rattle.std.specs.Prelude.{codes, pos}
+use Rattle.std.proofs.Common.{ℕ, ◌<◌, List, [], ◌∷◌, ◌++◌, length, Some, None, inl, inr, refl, sym, arith, append-nil}
+use Rattle.std.specs.Prelude.{codes, pos, negsuc}
 use Rattle.std.specs.Str.{IsAscii}
 use Rattle.std.proofs.lemmas.Str.{IsUtf8-from_ascii}
 use Rattle.std.proofs.lemmas.Str.Ascii.{IsAscii-nil, IsAscii-cons}
 use Rattle.bl_ops.specs.declared.op.Op.TheVariants.{I32Add}
+use Rattle.bl_ops.specs.declared.access.AccessKind.TheVariants.{I32Load, I64Store8}
 use Rattle.bl_wasm.specs.Values.{Spellings, ◌⨾◌, byte, u32, each, vec, name, sized}
 use Rattle.bl_wasm.specs.Types.{value_type, function_type}
-use Rattle.bl_wasm.specs.Instructions.{Nests, none, plain, expression}
-use Rattle.bl_wasm.specs.Sections.{section, export_entry, local_run, code_entry}
+use Rattle.bl_wasm.specs.Instructions.{Nests, none, plain, loop, if_else, instruction, expression}
+use Rattle.bl_wasm.proofs.NestingLemmas.{closes, on}
+use Rattle.bl_wasm.specs.Nesting.{part, whole, Closes}
+use Rattle.bl_wasm.specs.Sections.{section, custom_section, export_entry, local_run, code_entry}
 use Rattle.bl_wasm.specs.Modules.{Spells, ◌▷◌}
 use Rattle.bl_wasm.specs.declared.instruction.Instr.{Instr}
-use Rattle.bl_wasm.specs.declared.instruction.Instr.TheVariants.{LocalGet, I32Const, Integer}
+use Rattle.bl_wasm.specs.declared.instruction.Instr.TheVariants.{LocalGet, I32Const, Integer, CallIndirect, BrTable, Load, Store, F32Const, If, Nop, Else, Loop, Br, End}
 use Rattle.bl_wasm.specs.declared.module.CustomSection.{CustomSection}
 use Rattle.bl_wasm.specs.declared.module.Module.{Module}
 use Rattle.bl_wasm.specs.declared.module.Code.{Code}
@@ -163,3 +166,71 @@ add_one_spelled = (
       (here [] (0x0A ∷ 0x09 ∷ 0x01 ∷ 0x07 ∷ 0x00 ∷ 0x20 ∷ 0x00 ∷ 0x41 ∷ 0x01 ∷ 0x6A ∷ 0x0B ∷ []) [] (inl (stands 10 (0x01 ∷ 0x07 ∷ 0x00 ∷ 0x20 ∷ 0x00 ∷ 0x41 ∷ 0x01 ∷ 0x6A ∷ 0x0B ∷ []) (omega arith) (single code_entry add_one_code _ code)))
       (here [] [] [] (inr (refl, refl)) refl)))))))))))),
 )
+
+-- -1, unsigned
+minus_one : instruction (I32Const 4294967295) (0x41 ∷ 0x7F ∷ [])
+minus_one = after _ (negsuc 0, inr (omega arith, omega arith, omega arith, refl), refl)
+
+-- the zero of call_indirect in two bytes
+long_zero : instruction (CallIndirect 1) (0x11 ∷ 0x01 ∷ 0x80 ∷ 0x00 ∷ [])
+long_zero = after _ (both (0x01 ∷ []) _ (small 1 (omega arith)) (omega arith, omega arith, omega arith, 0, (omega arith, omega arith, refl), refl))
+
+-- a size in five bytes
+long_size : u32 9 (0x89 ∷ 0x80 ∷ 0x80 ∷ 0x80 ∷ 0x00 ∷ [])
+long_size = (
+  omega arith,
+  omega arith,
+  omega arith,
+  0,
+  (
+    omega arith,
+    omega arith,
+    omega arith,
+    0,
+    (
+      omega arith,
+      omega arith,
+      omega arith,
+      0,
+      (omega arith, omega arith, omega arith, 0, (omega arith, omega arith, refl), refl),
+      refl,
+    ),
+    refl,
+  ),
+  refl,
+)
+
+-- labels and the default
+table : instruction (BrTable (0 ∷ 1 ∷ []) 2) (0x0E ∷ 0x02 ∷ 0x00 ∷ 0x01 ∷ 0x02 ∷ [])
+table = after _ (both (0x02 ∷ 0x00 ∷ 0x01 ∷ []) _
+    (counted u32 (0 ∷ 1 ∷ []) (0x00 ∷ 0x01 ∷ []) (omega arith) (both (0x00 ∷ []) _ (small 0 (omega arith)) (both (0x01 ∷ []) [] (small 1 (omega arith)) refl)))
+    (small 2 (omega arith)))
+
+-- a load, and a store beside it
+load : instruction (Load I32Load (record { alignment = 2; offset = 4 })) (0x28 ∷ 0x02 ∷ 0x04 ∷ [])
+load = (refl, after _ (both (0x02 ∷ []) (0x04 ∷ []) (small 2 (omega arith)) (small 4 (omega arith))))
+
+store : instruction (Store I64Store8 (record { alignment = 0; offset = 4 })) (0x3C ∷ 0x00 ∷ 0x04 ∷ [])
+store = (refl, after _ (both (0x00 ∷ []) (0x04 ∷ []) (small 0 (omega arith)) (small 4 (omega arith))))
+
+-- 1.0 as a float
+one : instruction (F32Const 0x3F800000) (0x43 ∷ 0x00 ∷ 0x00 ∷ 0x80 ∷ 0x3F ∷ [])
+one = after _ (refl, refl)
+
+-- an if with two parts, the second one a loop
+nested : Nests (If None ∷ Nop ∷ Else ∷ Loop (Some I32) ∷ Br 0 ∷ End ∷ End ∷ [])
+nested = if_else None (Nop ∷ []) (Loop (Some I32) ∷ Br 0 ∷ End ∷ []) [] (plain Nop [] tt none)
+    (loop (Some I32) (Br 0 ∷ []) [] (plain (Br 0) [] tt none) none) none
+
+-- a second else has no if
+two_parts : Nests (If None ∷ Else ∷ Else ∷ End ∷ []) → ⊥
+two_parts n =
+    let c = closes (If None ∷ Else ∷ Else ∷ End ∷ []) n in
+    let first : Closes (part ∷ []) (Else ∷ Else ∷ End ∷ []) = on (part ∷ []) c.0 (Else ∷ Else ∷ End ∷ []) c.1 c.2 in
+    let second : Closes (whole ∷ []) (Else ∷ End ∷ []) = on (whole ∷ []) first.0 (Else ∷ End ∷ []) first.1 first.2 in
+    absurd (cc second.1)
+
+-- a custom section may hold any bytes behind its name
+custom : custom_section (record { name = codes "a"; bytes = 0xFF ∷ [] }) (0x00 ∷ 0x03 ∷ 0x01 ∷ 0x61 ∷ 0xFF ∷ [])
+custom = stands 0 (0x01 ∷ 0x61 ∷ 0xFF ∷ []) (omega arith) (both (0x01 ∷ 0x61 ∷ []) (0xFF ∷ [])
+    (named (codes "a") (omega arith) (IsAscii-cons 0x61 [] (omega arith) IsAscii-nil)) refl)

@@ -20,7 +20,7 @@ memory_argument m = u32 m.alignment ⨾ u32 m.offset
 abbrev pub integer : Op → Spellings
 integer op bytes = (code : ℕ) × (code_of op ≡ Some code) × byte code bytes
 
--- instr (section 5.4); of a block, a loop or an if what stands before its items
+-- instr (section 5.4); of a block, loop or if, what stands before its items
 abbrev pub instruction : Instr → Spellings
 -- control instructions (section 5.4.1); the zero of call_indirect may be spelled as any u32
 instruction Unreachable = byte 0x00
@@ -60,7 +60,7 @@ instruction (Integer op) = integer op
 instruction (Float op) = given (IsFloatCode op) (byte op)
 instruction (Extend op) = byte (sign_extension_code op)
 
--- neither does it begin or end something nor part it
+-- an item that neither opens nor parts nor closes a construct
 abbrev pub IsPlain : Instr → Type 0
 IsPlain (Block type) = ⊥
 IsPlain (Loop type) = ⊥

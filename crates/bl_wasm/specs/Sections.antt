@@ -84,7 +84,7 @@ export_entry entry = name entry.name ⨾ export_kind entry.kind ⨾ u32 entry.in
 abbrev pub export_section : List Export → Spellings
 export_section exports = vec_section 7 export_entry exports
 
--- startsec: it may be missing (section 5.5.11)
+-- startsec, which may be missing (section 5.5.11)
 abbrev pub start_section : Option ℕ → Spellings
 start_section (Some function) = section 8 (u32 function)
 start_section None = nothing

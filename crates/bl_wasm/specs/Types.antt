@@ -14,7 +14,7 @@ value_type I64 = byte 0x7E
 value_type F32 = byte 0x7D
 value_type F64 = byte 0x7C
 
--- blocktype: no result, or one (sections 5.3.2 and 5.4.1)
+-- blocktype: no result, or one (section 5.3.2)
 abbrev pub block_type : Option WasmType → Spellings
 block_type None = byte 0x40
 block_type (Some result) = value_type result

@@ -83,9 +83,9 @@ pub enum Instr {
     I32Const(u32),
     /// `i64.const` of that number, unsigned.
     I64Const(u64),
-    /// `f32.const` of the float with those bits (IEEE 754, the lowest bit last).
+    /// `f32.const` of the float whose bits are those of this number (IEEE 754, binary32).
     F32Const(u32),
-    /// `f64.const` of the float with those bits.
+    /// `f64.const` of the float whose bits are those of this number (IEEE 754, binary64).
     F64Const(u64),
     /// A numeric operator on integers, one of the 61 that have a code.
     Integer(Op),

@@ -1,15 +1,15 @@
-//! The module tree and the linked tree (WebAssembly 1.0, section 2), and the binary grammar of the former (section 5).
+//! The module tree (WebAssembly 1.0, section 2) and its binary grammar (section 5).
 #![tactic(auto)]
 
 mod float;
+pub mod form;
 mod instruction;
-mod linked;
+pub mod laws;
 mod module;
 mod types;
 
 pub use float::{FloatAccess, FloatOp};
 pub use instruction::{Instr, MemoryArgument, SignExtension};
-pub use linked::{Exported, Function, Linked};
 pub use module::{
     Code, CustomSection, DataSegment, DefinedGlobal, ElementSegment, Export, ExportKind, Import,
     ImportKind, LocalRun, Module,

@@ -1,5 +1,5 @@
 use Rattle.std.proofs.lemmas.Bool.{false≢true}
-use Rattle.bl_wasm.specs.declared.instruction.Instr.TheVariants.{I32Add, LocalGet}
+use Rattle.bl_wasm.specs.declared.form.Instr.TheVariants.{I32Add, LocalGet}
 use Rattle.bl_app.proofs.ReaderLemmas.{goes_on, too_few}
 use Rattle.bl_app.proofs.reader.is_typed.Goals as goal
 

@@ -1,5 +1,5 @@
 use Rattle.std.proofs.Common.{◌++◌, length, List}
-use Rattle.bl_wasm.specs.declared.instruction.Instr.{Instr}
+use Rattle.bl_wasm.specs.declared.form.Instr.{Instr}
 use Rattle.bl_app.specs.Grammar.{ItemsSpell}
 use Rattle.bl_app.proofs.reader.read_items.Given as goal
 
