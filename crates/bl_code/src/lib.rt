@@ -6,6 +6,7 @@ mod error;
 mod expression;
 mod format;
 mod instruction;
+pub mod laws;
 mod types;
 mod values;
 
