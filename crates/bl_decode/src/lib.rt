@@ -1,0 +1,7 @@
+//! Modules read from the binary format (WebAssembly 1.0, section 5).
+#![tactic(auto)]
+
+mod limits;
+mod supported;
+
+pub use supported::is_supported;
