@@ -1,5 +1,5 @@
 -- Laws of the limits.
-use Rattle.std.proofs.Common.{◌≡◌, ℕ, ◌+◌, ◌<◌, List, [], ◌∷◌, length, drop, get_or, max, Option, Some, None, IsSome, refl, add-one, ap, absurd, cc, sym, ◌∙◌, drop-cons, zero-add, arith}
+use Rattle.std.proofs.Common.{◌≡◌, ℕ, ◌+◌, ◌<◌, List, [], ◌∷◌, length, drop, get_or, max, Option, Some, None, IsSome, refl, add-one, ap, sym, ◌∙◌, drop-cons, zero-add, arith}
 use Rattle.std.specs.Option.{option_or}
 use Rattle.bl_wasm.specs.declared.instruction.Instr.{Instr}
 use Rattle.bl_decode.specs.Limits.{Excess, first_in, greatest_open, open_at}
@@ -9,7 +9,7 @@ greatest_open_more items places = rw add-one refl
 
 or_found : (a b : Option Excess) → IsSome a → option_or a b ≡ a
 or_found (Some x) b is = refl
-or_found None b is = absurd is
+or_found None b is = cc
 
 pub first_in_found : {A : Type 0} (found : A → Option Excess) (xs : List A) (i : ℕ) (d : A) → i < length xs → IsSome (found (get_or xs i d)) → first_in found (drop i xs) ≡ found (get_or xs i d)
 first_in_found found xs i d h is = rw (drop-cons xs i d h) (or_found _ _ is)

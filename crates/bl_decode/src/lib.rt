@@ -4,4 +4,5 @@
 mod limits;
 mod supported;
 
+pub use limits::first_excess;
 pub use supported::is_supported;
