@@ -1,1 +1,5 @@
 pub mod Excesses
+pub mod Firsts
+pub mod Sizes
+pub mod Tails
+pub mod Uniques

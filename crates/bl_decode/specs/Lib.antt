@@ -1,2 +1,4 @@
-pub mod Supported
+pub mod Chains
 pub mod Limits
+pub mod Supported
+pub mod Whole

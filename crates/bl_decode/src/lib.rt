@@ -1,8 +1,13 @@
 //! Modules read from the binary format (WebAssembly 1.0, section 5).
 #![tactic(auto)]
 
+mod chain;
+mod customs;
+mod error;
 mod limits;
+mod sized;
 mod supported;
 
+pub use error::DecodeError;
 pub use limits::first_excess;
 pub use supported::is_supported;
