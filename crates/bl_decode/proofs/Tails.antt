@@ -1,15 +1,21 @@
 -- Sections with custom sections among them.
-use Rattle.std.proofs.Common.{◌≡◌, ◌⊎◌, inl, inr, ℕ, zero, suc, ◌+◌, ◌<◌, ◌≤◌, List, [], ◌∷◌, ◌++◌, length, append_assoc, append-nil, ap, ap₂, sym, ◌∙◌, refl, subst, arith, drop, drop-cons, get_or, add-zero, length-drop, length-append, slice_get, Option, Some, ◌-◌}
+use Rattle.std.proofs.Common.{◌≡◌, ◌⊎◌, inl, inr, ℕ, zero, suc, ◌+◌, ◌<◌, ◌≤◌, List, [], ◌∷◌, ◌++◌, length, append_assoc, append-nil, ap, ap₂, sym, ◌∙◌, refl, subst, arith, drop, drop-cons, get_or, add-zero, length-drop, length-append, slice_get, Option, Some, Result, Ok, Err, ◌-◌}
+use Rattle.std.specs.Result.{IsErrAnd}
+use Rattle.std.proofs.lemmas.List.{drop_all}
 use Rattle.std.proofs.lemmas.Option.{slice_get_within}
+use Rattle.std.proofs.lemmas.Result.{err_from_is_err_and}
 use Rattle.bl_wasm.specs.Values.{Spellings, ◌⨾◌, each}
 use Rattle.bl_wasm.specs.Sections.{custom_section}
 use Rattle.bl_wasm.specs.Modules.{◌▷◌}
 use Rattle.bl_wasm.specs.declared.module.CustomSection.{CustomSection}
-use Rattle.bl_code.specs.Reading.{IsAt}
+use Rattle.bl_code.specs.Reading.{IsAt, Refuses}
+use Rattle.bl_code.specs.declared.error.CodeError.{CodeError}
+use Rattle.bl_code.specs.declared.error.CodeError.TheVariants.{Malformed, Memory}
+use Rattle.bl_code.proofs.Vectors.{each_more}
 use Rattle.bl_code.specs.Unique.{Same, IsOne}
 use Rattle.bl_code.proofs.Unique.{rest_same}
 use Rattle.bl_code.proofs.Places.{Stands, stands, is_at, at_front}
-use Rattle.bl_decode.specs.Chains.{Begins, IsSection, CustomFirst, IsTail, IsLink, CustomsRead, CustomMalformed, TailRead}
+use Rattle.bl_decode.specs.Chains.{Begins, IsSection, CustomFirst, IsTail, IsLink, CustomsRead, CustomsPassed, CustomMalformed, TailRead, ReadsCustoms, ReadsSection, ReadsTail}
 use Rattle.bl_decode.proofs.Firsts.{one_first, begins_all, begins_rest, begins_at, at_begins}
 use Rattle.bl_decode.proofs.Uniques.{custom_one, custom_begins}
 
@@ -258,3 +264,67 @@ chain_read S R bytes i place end old new newer x y read there rest =
         spelled = record { front = p.front; rest = drop place bytes; whole = p.whole; first = p.spelled; second = record { front = q.front; rest = drop end bytes; whole = q.whole; first = q.spelled; second = rest.spelled } };
       };
     }
+
+-- no custom sections at first
+pub customs_none : (bytes : List ℕ) (i : ℕ) (old : List CustomSection) → i ≤ length bytes → CustomsPassed bytes i i old old
+customs_none bytes i old inside = record {
+    customs = [];
+    appended = sym (append-nil old);
+    there = is_at (each custom_section) bytes i i [] (record { forward = omega arith; inside = inside; front = []; whole = refl; spelled = refl })
+  }
+
+-- one more
+pub customs_more : (bytes : List ℕ) (i j k : ℕ) (old new : List CustomSection) (c : CustomSection) → CustomsPassed bytes i j old new → IsAt custom_section bytes j k c → CustomsPassed bytes i k old (new ++ c ∷ [])
+customs_more bytes i j k old new c passed there = record {
+    customs = passed.customs ++ c ∷ [];
+    appended = ap (λ t. t ++ c ∷ []) passed.appended ∙ append_assoc old passed.customs (c ∷ []);
+    there = each_more custom_section bytes i j k passed.customs c passed.there there
+  }
+
+-- why a custom section isn't read is why they aren't
+pub customs_err : (bytes : List ℕ) (i j : ℕ) (old now new : List CustomSection) (r : Result ℕ CodeError) (e : CodeError) → IsErrAnd r (λ y. y ≡ e) → CustomsPassed bytes i j old now → slice_get bytes j ≡ Some 0 → Refuses custom_section bytes j e → ReadsCustoms bytes i old new r
+customs_err bytes i j old now new r e gives passed first h = let p = err_from_is_err_and r gives in rw (p.1, p.2) (refused e h)
+  where
+    refused : (e : CodeError) → Refuses custom_section bytes j e → ReadsCustoms bytes i old new (Err e)
+    refused Malformed none = record { customs = passed.customs; end = j; there = passed.there; zero = first; none = none }
+    refused Memory none = tt
+
+-- why custom sections aren't read is why sections among them aren't
+pub tail_err_customs : {A : Type 0} {least : ℕ} (Q : A → List CustomSection → Spellings) → IsTail least Q → (bytes : List ℕ) (i : ℕ) (old now new : List CustomSection) (r : Result A CodeError) (e : CodeError) → IsErrAnd r (λ y. y ≡ e) → ReadsCustoms bytes i old now (Err e) → ReadsTail Q bytes i old new r
+tail_err_customs Q tail bytes i old now new r e gives h = let p = err_from_is_err_and r gives in rw (p.1, p.2) (refused e h)
+  where
+    refused : (e : CodeError) → ReadsCustoms bytes i old now (Err e) → ReadsTail Q bytes i old new (Err e)
+    refused Malformed malformed = none_custom Q tail bytes i malformed
+    refused Memory none = tt
+
+-- so is why the section isn't
+pub tail_err_section : {A B : Type 0} {id least : ℕ} (S : A → Spellings) (R : B → List CustomSection → Spellings) → IsLink id least S R → (bytes : List ℕ) (i place : ℕ) (old now new : List CustomSection) (r : Result (A × B) CodeError) (e : CodeError) → IsErrAnd r (λ y. y ≡ e) → CustomsRead bytes i place old now → ReadsSection id S bytes place (Err e) → ReadsTail (λ (t : A × B). S t.0 ▷ R t.1) bytes i old new r
+tail_err_section {A} {B} {id} S R link bytes i place old now new r e gives read h = let p = err_from_is_err_and r gives in rw (p.1, p.2) (refused e h)
+  where
+    refused : (e : CodeError) → ReadsSection id S bytes place (Err e) → ReadsTail (λ (t : A × B). S t.0 ▷ R t.1) bytes i old new (Err e)
+    refused Malformed none = λ t customs spelled. none_section S R link bytes i place old now read none.0 none.1 t.0 t.1 customs spelled
+    refused Memory none = tt
+
+-- and why what is behind it isn't
+pub tail_err_rest : {A B : Type 0} {id least : ℕ} (S : A → Spellings) (R : B → List CustomSection → Spellings) → IsLink id least S R → (bytes : List ℕ) (i place end : ℕ) (old now newer new : List CustomSection) (z : A) (r : Result (A × B) CodeError) (e : CodeError) → IsErrAnd r (λ y. y ≡ e) → CustomsRead bytes i place old now → ReadsSection id S bytes place (Ok (z, end)) → ReadsTail R bytes end now newer (Err e) → ReadsTail (λ (t : A × B). S t.0 ▷ R t.1) bytes i old new r
+tail_err_rest {A} {B} {id} S R link bytes i place end old now newer new z r e gives read there h = let p = err_from_is_err_and r gives in rw (p.1, p.2) (refused e h)
+  where
+    refused : (e : CodeError) → ReadsTail R bytes end now newer (Err e) → ReadsTail (λ (t : A × B). S t.0 ▷ R t.1) bytes i old new (Err e)
+    refused Malformed none = λ t customs spelled. none_behind_section S R link bytes i place end old now z read there.0 there.1 none t.0 t.1 customs spelled
+    refused Memory none = tt
+
+-- more bytes behind the last custom section
+pub none_end : (bytes : List ℕ) (i end : ℕ) (old new : List CustomSection) → CustomsRead bytes i end old new → end < length bytes → (customs : List CustomSection) → each custom_section customs (drop i bytes) → ⊥
+none_end bytes i end old new read more customs h =
+    let p = stands (each custom_section) bytes i end read.customs read.there in
+    let rest = behind_customs {Q = λ (x : Unit {0}). each custom_section} end_tail tt customs read.customs (drop i bytes) p.front (drop end bytes) h p.whole p.spelled in
+    elim (customs_begin rest.0 (drop end bytes) rest.2) [
+    | inl none ↦ omega (arith, length-drop end bytes, ap length none)
+    | inr begun ↦ read.ended (at_begins bytes end 0 begun)
+    ]
+
+pub end_read : (bytes : List ℕ) (i end : ℕ) (old new : List CustomSection) → CustomsRead bytes i end old new → length bytes ≤ end → TailRead (λ (x : Unit {0}). each custom_section) bytes i old new tt
+end_read bytes i end old new read all =
+    let p = stands (each custom_section) bytes i end read.customs read.there in
+    let whole : drop i bytes ≡ p.front = p.whole ∙ ap (λ t. p.front ++ t) (drop_all end bytes all) ∙ append-nil p.front in
+    record { customs = read.customs; appended = read.appended; spelled = subst (each custom_section read.customs) (sym whole) p.spelled }

@@ -50,6 +50,12 @@ ReadsSection {A} id S bytes start (Ok found) = IsAt S bytes start found.1 found.
 ReadsSection {A} id S bytes start (Err Malformed) = (slice_get bytes start ≡ Some id) × ((x : A) (end : ℕ) → start < end → IsAt S bytes start end x → ⊥)
 ReadsSection {A} id S bytes start (Err Memory) = Unit {0}
 
+-- custom sections that stand there, behind the old ones
+pub record CustomsPassed (bytes : List ℕ) (start end : ℕ) (old new : List CustomSection) : Type 0 where
+  pub customs : List CustomSection
+  pub appended : new ≡ old ++ customs
+  pub there : IsAt (each custom_section) bytes start end customs
+
 -- custom sections that stand there, behind the old ones, and no byte 0 behind them
 pub record CustomsRead (bytes : List ℕ) (start end : ℕ) (old new : List CustomSection) : Type 0 where
   pub customs : List CustomSection

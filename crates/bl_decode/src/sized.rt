@@ -1,5 +1,5 @@
 //! What stands behind its size (WebAssembly 1.0, sections 5.5.2 and 5.5.13).
-ghost use Rattle.std.specs.Prelude.{◌≡◌, ◌≤◌, ◌↔◌, ℕ, IsTrue, length, slice_get, IfSome, IfNone};
+ghost use Rattle.std.specs.Prelude.{◌≡◌, ◌≤◌, ◌<◌, ◌↔◌, ℕ, IsTrue, length, slice_get, IfSome, IfNone};
 ghost use Rattle.bl_wasm.specs.Values.{byte_vec, sized};
 ghost use Rattle.bl_code.specs.Reading.{IsAt, NoneAt, Reads};
 ghost use Rattle.bl_decode.specs.Whole.{ReadsAll};
@@ -9,7 +9,8 @@ use std::alloc::Global;
 
 /// Whether that byte stands at that place.
 pub(crate) fn stands_at(bytes: &[u8], at: usize, byte: u8) -> bool
-    ensures { IsTrue result ↔ (slice_get bytes.now at ≡ Some byte) }
+    ensures stands { IsTrue result ↔ (slice_get bytes.now at ≡ Some byte) }
+    ensures inside { IsTrue result → at < length bytes.now }
 {
     bytes.get(at) == Some(&byte)
 }
