@@ -1,0 +1,84 @@
+//! Types (WebAssembly 1.0, section 5.3).
+ghost use Rattle.std.specs.Prelude.{◌≡◌, ◌≤◌, ℕ, List, [], ◌∷◌, length, IfSome, IfNone};
+ghost use Rattle.bl_wasm.specs.Types.{value_type, block_type, limits};
+ghost use Rattle.bl_code.specs.Reading.{Reads, behind};
+ghost use Rattle.bl_code.specs.Limits.{maximum};
+
+use crate::error::CodeError;
+use crate::values::{read_byte, read_u32};
+use bl_wasm::{Limits, WasmType};
+
+/// The value type of that code; None where the byte is the code of none (section 5.3.1).
+fn value_type_of(code: u8) -> Option<WasmType>
+    ensures found { IfSome result (λ kind. value_type kind (code ∷ [])) }
+    ensures none { IfNone result ((kind : _) (rest : List ℕ) → value_type kind (code ∷ rest) → ⊥) }
+{
+    match code {
+        0x7F => Some(WasmType::I32),
+        0x7E => Some(WasmType::I64),
+        0x7D => Some(WasmType::F32),
+        0x7C => Some(WasmType::F64),
+        _ => None,
+    }
+}
+
+/// Reads a value type (section 5.3.1).
+pub fn read_value_type(bytes: &[u8], at: usize) -> Result<(WasmType, usize), CodeError>
+    requires { at ≤ length bytes.now }
+    ensures { Reads value_type bytes.now at result }
+{
+    let (code, place) = read_byte(bytes, at)?;
+    match value_type_of(code) {
+        Some(kind) => Ok((kind, place)),
+        None => Err(CodeError::Malformed),
+    }
+}
+
+/// Reads a block type (sections 5.3.2 and 5.4.1): the type of the result, where there is one.
+pub fn read_block_type(bytes: &[u8], at: usize) -> Result<(Option<WasmType>, usize), CodeError>
+    requires { at ≤ length bytes.now }
+    ensures { Reads block_type bytes.now at result }
+{
+    let (code, place) = read_byte(bytes, at)?;
+    if code == 0x40 {
+        return Ok((None, place));
+    }
+    match value_type_of(code) {
+        Some(kind) => Ok((Some(kind), place)),
+        None => Err(CodeError::Malformed),
+    }
+}
+
+/// Reads limits (section 5.3.4): 00 and the minimum, or 01, the minimum and the maximum.
+pub fn read_limits(bytes: &[u8], at: usize) -> Result<(Limits, usize), CodeError>
+    requires { at ≤ length bytes.now }
+    ensures { Reads limits bytes.now at result }
+{
+    let (form, place) = read_byte(bytes, at)?;
+    read_bounds(form, bytes, place)
+}
+
+/// Reads what stands behind the first byte of limits.
+fn read_bounds(form: u8, bytes: &[u8], at: usize) -> Result<(Limits, usize), CodeError>
+    requires { at ≤ length bytes.now }
+    ensures { Reads (behind limits form) bytes.now at result }
+{
+    let (min, place) = read_u32(bytes, at)?;
+    let (max, place) = read_max(form, bytes, place)?;
+    Ok((Limits { min, max }, place))
+}
+
+/// Reads the maximum of limits of that first byte, where they have one.
+fn read_max(form: u8, bytes: &[u8], at: usize) -> Result<(Option<u32>, usize), CodeError>
+    requires { at ≤ length bytes.now }
+    ensures { Reads (maximum form) bytes.now at result }
+{
+    match form {
+        0x00 => Ok((None, at)),
+        0x01 => {
+            let (max, place) = read_u32(bytes, at)?;
+            Ok((Some(max), place))
+        }
+        _ => Err(CodeError::Malformed),
+    }
+}
