@@ -3,8 +3,11 @@
 
 mod chain;
 mod customs;
+mod entries;
 mod error;
+mod formats;
 mod limits;
+mod sections;
 mod sized;
 mod supported;
 
