@@ -1,5 +1,7 @@
 pub mod Excesses
 pub mod Firsts
+pub mod ImportForms
+pub mod Optionals
 pub mod Sizes
 pub mod Tails
 pub mod Uniques

@@ -11,7 +11,8 @@ use Rattle.bl_code.specs.Reading.{IsAt, NoneAt, Refuses, Reads}
 use Rattle.bl_code.specs.Unique.{Same, IsOne}
 use Rattle.bl_code.specs.declared.error.CodeError.{CodeError}
 use Rattle.bl_code.specs.declared.error.CodeError.TheVariants.{Malformed, Memory}
-use Rattle.bl_code.proofs.Unique.{u32_one, byte_vec_one, byte_same}
+use Rattle.bl_code.specs.Laws.{u32_one}
+use Rattle.bl_code.proofs.Unique.{byte_vec_one, byte_same}
 use Rattle.bl_code.proofs.Places.{Stands, stands, is_at, join, part, same_at, at_front, none_first, none_after, one_at, as_other}
 use Rattle.bl_decode.specs.Whole.{ReadsAll}
 use Rattle.bl_decode.specs.Chains.{Begins}
@@ -94,7 +95,7 @@ none_id B id bytes i other x k h =
     other (at_begins bytes i id (begins_all id p.front (drop k bytes) (drop i bytes) p.whole (section_begins id (B x) p.front p.spelled)))
 
 -- the byte alone
-id_at : (bytes : List ℕ) (i id : ℕ) → slice_get bytes i ≡ Some id → Stands (byte id) bytes i (i + 1)
+pub id_at : (bytes : List ℕ) (i id : ℕ) → slice_get bytes i ≡ Some id → Stands (byte id) bytes i (i + 1)
 id_at bytes i id h =
     let b = begins_at bytes i id h in
     let within = slice_get_within bytes i id h in
@@ -116,3 +117,11 @@ section_parts B id bytes i k x h =
 pub err_section : {A : Type 0} (B : A → Spellings) (id : ℕ) (bytes : List ℕ) (i : ℕ) (e : CodeError) → Refuses (λ x. sized (B x)) bytes (i + 1) e → Refuses (λ x. section id (B x)) bytes i e
 err_section B id bytes i Malformed none = λ x k h. none x k (section_parts B id bytes i k x h).1
 err_section B id bytes i Memory none = tt
+
+pub at_byte : (n : ℕ) (bytes : List ℕ) (i : ℕ) → slice_get bytes i ≡ Some n → IsAt (λ (x : Unit {0}). byte n) bytes i (i + 1) tt
+at_byte n bytes i h = is_at (λ (x : Unit {0}). byte n) bytes i (i + 1) tt (id_at bytes i n h)
+
+pub none_byte : (n : ℕ) (bytes : List ℕ) (i : ℕ) → (slice_get bytes i ≡ Some n → ⊥) → NoneAt (λ (x : Unit {0}). byte n) bytes i
+none_byte n bytes i other x k h =
+    let p = stands (λ (x : Unit {0}). byte n) bytes i k x h in
+    other (at_begins bytes i n (record { behind = drop k bytes; whole = p.whole ∙ ap (λ t. t ++ drop k bytes) p.spelled }))

@@ -1,4 +1,5 @@
 pub mod Chains
+pub mod Decoding
 pub mod Laws
 pub mod Limits
 pub mod Supported

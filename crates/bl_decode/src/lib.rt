@@ -1,4 +1,4 @@
-//! Modules read from the binary format (WebAssembly 1.0, section 5).
+//! Modules read from the binary format (WebAssembly 1.0, section 5), with what is supported of them and their limits.
 #![tactic(auto)]
 
 mod chain;
@@ -6,11 +6,12 @@ mod customs;
 mod entries;
 mod error;
 mod formats;
+pub mod laws;
 mod limits;
+mod module;
 mod sections;
 mod sized;
 mod supported;
 
 pub use error::DecodeError;
-pub use limits::first_excess;
-pub use supported::is_supported;
+pub use module::decode;

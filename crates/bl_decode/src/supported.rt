@@ -130,7 +130,7 @@ fn are_integer_segments(segments: &[DataSegment]) -> bool
 }
 
 /// Whether the module is supported.
-pub fn is_supported(tree: &Module) -> bool
+pub(crate) fn is_supported(tree: &Module) -> bool
     ensures { IsTrue result ↔ IsSupported tree.now }
 {
     if tree.start.is_some() {
