@@ -4,4 +4,5 @@ pub mod ImportForms
 pub mod Optionals
 pub mod Sizes
 pub mod Tails
+pub mod Trees
 pub mod Uniques

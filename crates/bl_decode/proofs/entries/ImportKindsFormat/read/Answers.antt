@@ -1,4 +1,4 @@
-use Rattle.std.proofs.Common.{◌≡◌, ℕ, subst}
+use Rattle.std.proofs.Common.{◌≡◌, ℕ, subst, rules}
 use Rattle.bl_code.specs.Reading.{IsAt}
 use Rattle.bl_wasm.specs.Values.{byte, u32}
 use Rattle.bl_wasm.specs.Types.{limits, table_type, global_type}
@@ -50,4 +50,6 @@ returns-in_ok-global-in-3 c =
     at_kind global_type Global 3 c.args.bytes.now c.args.at c.in_ok-code.place c.in_ok-global-in-3.end c.in_ok-global-in-3.global (λ z t h. h) (subst (λ (n : ℕ). IsAt byte c.args.bytes.now c.args.at c.in_ok-code.place n) c.in-3.is c.in_ok-code.ensures) c.in_ok-global-in-3.ensures
 
 pub returns-in_default : goal.returns-in_default
-returns-in_default c = let h = c.in_default in ?
+returns-in_default c =
+    none_kind c.in_ok-code.code c.args.bytes.now c.args.at c.in_ok-code.place
+    (λ e. search rules) (λ e. search rules) (λ e. search rules) (λ e. search rules) c.in_ok-code.ensures
