@@ -29,30 +29,30 @@ never {n} e h = let no : [] ≡ n ∷ h.behind = sym e ∙ h.whole in cc
 -- what is missing
 gone : {A C : Type 0} {id : ℕ} {B : C → Spellings} {some : C → A} {none : A} {S : A → Spellings} → IsOptional id B some none S → (x : A) → S x [] → x ≡ none
 gone {id} {B} is x h = elim (is.parts x [] h) [
-    | inl p ↦ absurd (never refl (section_begins id (B p.0) [] p.2))
-    | inr p ↦ p.0
-    ]
+  | inl p ↦ absurd (never refl (section_begins id (B p.0) [] p.2))
+  | inr p ↦ p.0
+]
 
 -- what stands there
 there : {A C : Type 0} {id : ℕ} {B : C → Spellings} {some : C → A} {none : A} {S : A → Spellings} → IsOptional id B some none S → (x : A) (t : List ℕ) → S x t → (t ≡ [] → ⊥) → (y : C) × (x ≡ some y) × section id (B y) t
 there is x t h full = elim (is.parts x t h) [
-    | inl p ↦ p
-    | inr p ↦ absurd (full p.1)
-    ]
+  | inl p ↦ p
+  | inr p ↦ absurd (full p.1)
+]
 
 pub optional_section : {A C : Type 0} {id : ℕ} {B : C → Spellings} {some : C → A} {none : A} {S : A → Spellings} → IsOptional id B some none S → IsOne B → IsSection id S
 optional_section {id} {B} {some} is one = record {
-    begins = λ x t h. elim (is.parts x t h) [
-      | inl p ↦ inr (section_begins id (B p.0) t p.2)
-      | inr p ↦ inl p.1
-      ];
-    missing = λ x y p q. gone is x p ∙ sym (gone is y q);
-    standing = λ x y a b u v p q front other e.
+  begins = λ x t h. elim (is.parts x t h) [
+    | inl p ↦ inr (section_begins id (B p.0) t p.2)
+    | inr p ↦ inl p.1
+  ];
+  missing = λ x y p q. gone is x p ∙ sym (gone is y q);
+  standing = λ x y a b u v p q front other e.
       let l = there is x a p (λ empty. never empty front) in
       let r = there is y b q (λ empty. never empty other) in
       let same = ((marked_one id (λ z. sized (B z)) (sized_one one)).same l.0 r.0).both a b u v l.2 r.2 e in
-      (same.0, l.1 ∙ ap some same.1 ∙ sym r.1)
-  }
+      (same.0, l.1 ∙ ap some same.1 ∙ sym r.1);
+}
 
 pub reads_missing : {A C : Type 0} {id : ℕ} {B : C → Spellings} {some : C → A} {none : A} {S : A → Spellings} → IsOptional id B some none S → (bytes : List ℕ) (i : ℕ) → i ≤ length bytes → (slice_get bytes i ≡ Some id → ⊥) → ReadsSection id S bytes i (Ok (none, i))
 reads_missing {none} {S} is bytes i inside other =
@@ -65,11 +65,14 @@ reads_standing {id} {B} {some} {S} is bytes i end y first h =
     (is_at S bytes i end (some y) (record { forward = p.forward; inside = p.inside; front = p.front; whole = p.whole; spelled = is.standing y p.front p.spelled }), λ e. omega arith)
 
 pub reads_error : {A C : Type 0} {id : ℕ} {B : C → Spellings} {some : C → A} {none : A} {S : A → Spellings} → IsOptional id B some none S → (bytes : List ℕ) (i : ℕ) (e : CodeError) → slice_get bytes i ≡ Some id → Refuses (λ z. sized (B z)) bytes (i + 1) e → ReadsSection id S bytes i (Err e)
-reads_error {id} {B} {S} is bytes i Malformed first h = (first, λ x end less p.
-    let f = p.forward in
-    let g = p.inside in
-    let y = there is x _ p.spelled (λ empty. let short = ap length empty in omega (arith, length_range bytes i end f g)) in
-    h y.0 end (section_parts B id bytes i end y.0 (record { forward = f; inside = g; spelled = y.2 })).1)
+reads_error {id} {B} {S} is bytes i Malformed first h = (
+  first,
+  λ x end less p.
+      let f = p.forward in
+      let g = p.inside in
+      let y = there is x _ p.spelled (λ empty. let short = ap length empty in omega (arith, length_range bytes i end f g)) in
+      h y.0 end (section_parts B id bytes i end y.0 (record { forward = f; inside = g; spelled = y.2 })).1,
+)
 reads_error is bytes i Memory first h = tt
 
 pub reads_tail : {C : Type 0} {id : ℕ} {B : C → Spellings} {none : C} {S : C → Spellings} → IsOptional id B (λ x. x) none S → (bytes : List ℕ) (i : ℕ) (r : Result (C × ℕ) CodeError) → slice_get bytes i ≡ Some id → Reads (λ z. sized (B z)) bytes (i + 1) r → ReadsSection id S bytes i r
@@ -82,10 +85,10 @@ err_section_passes is bytes i r e gives first h = let p = err_from_is_err_and r 
 -- vectors
 pub vectors_optional : {A : Type 0} (id : ℕ) (B : A → Spellings) → IsOptional id (vec B) (λ x. x) [] (vec_section id B)
 vectors_optional id B = record {
-    parts = λ x t h. elim h [ inl p ↦ inl (x, refl, p) | inr p ↦ inr p ];
-    standing = λ y t h. inl h;
-    missing = inr (refl, refl)
-  }
+  parts = λ x t h. elim h [ inl p ↦ inl (x, refl, p) | inr p ↦ inr p ];
+  standing = λ y t h. inl h;
+  missing = inr (refl, refl);
+}
 
 pub vectors_section : {A : Type 0} (id : ℕ) (B : A → Spellings) → IsOne B → IsSection id (vec_section id B)
 vectors_section id B one = optional_section (vectors_optional id B) (vec_one one)

@@ -23,11 +23,11 @@ pub none_short : (bytes : List ℕ) (i j size : ℕ) → IsAt u32 bytes i j size
 none_short bytes i j size first short =
     none_after {F = u32} {S = exactly} length bytes i j size u32_one first
     (λ x k h.
-      let f = h.forward in
-      let g = h.inside in
-      let long = ap length h.spelled.1 in
-      let count = h.spelled.0 in
-      omega (arith, length_range bytes j k f g))
+    let f = h.forward in
+    let g = h.inside in
+    let long = ap length h.spelled.1 in
+    let count = h.spelled.0 in
+    omega (arith, length_range bytes j k f g))
 
 -- as many bytes as the size says
 pub at_size : (bytes : List ℕ) (i j size : ℕ) → IsAt u32 bytes i j size → size ≤ length bytes - j → IsAt byte_vec bytes i (j + size) (slice_range bytes j (j + size))

@@ -64,21 +64,21 @@ behind_customs {Q} tail x customs (c ∷ cs) bytes front rest h e some =
 
 pub end_tail : IsTail 12 (λ (x : Unit {0}). each custom_section)
 end_tail = record {
-    begins = λ x customs bytes h. elim (customs_begin customs bytes h) [ inl e ↦ inl e | inr b ↦ inr (0, b, inl refl) ];
-    customs_first = λ x customs bytes h begins. custom_first customs bytes h begins;
-    one = λ x y customs others bytes p q. (refl, customs_one customs others bytes p q)
+  begins = λ x customs bytes h. elim (customs_begin customs bytes h) [ inl e ↦ inl e | inr b ↦ inr (0, b, inl refl) ];
+  customs_first = λ x customs bytes h begins. custom_first customs bytes h begins;
+  one = λ x y customs others bytes p q. (refl, customs_one customs others bytes p q);
 }
 
 -- ids above 0 and below the least don't begin a tail
 pub no_id : {B : Type 0} {least : ℕ} {R : B → List CustomSection → Spellings} (id : ℕ) → IsTail least R → 0 < id → id < least → (y : B) (customs : List CustomSection) (bytes : List ℕ) → R y customs bytes → Begins id bytes → ⊥
 no_id id tail positive rising y customs bytes h begins =
     elim (tail.begins y customs bytes h) [
-    | inl none ↦ (let e : [] ≡ id ∷ begins.behind = sym none ∙ begins.whole in cc)
-    | inr found ↦ (let same = one_first id found.0 bytes begins found.1 in
-        elim found.2 [
-        | inl none ↦ omega arith
-        | inr above ↦ omega arith
-        ])
+      | inl none ↦ (let e : [] ≡ id ∷ begins.behind = sym none ∙ begins.whole in cc)
+      | inr found ↦ (let same = one_first id found.0 bytes begins found.1 in
+          elim found.2 [
+            | inl none ↦ omega arith
+            | inr above ↦ omega arith
+          ])
     ]
 
 -- a section, and what follows it
@@ -86,25 +86,35 @@ customs_of : {A B : Type 0} {least : ℕ} {S : A → Spellings} {R : B → List 
 customs_of {S} {R} id positive is_section is_tail x y customs [] after bytes front rest all first second e begins =
     let begun = begins_rest 0 front rest bytes e first begins in
     elim (is_section.begins x second.front second.first) [
-    | inl none ↦
-        let f = is_tail.customs_first y after second.rest second.second (begins_rest 0 second.front second.rest rest second.whole none begun) in
-        record {
-          custom = f.custom; others = f.others; all = all ∙ f.all; front = f.front; behind = f.behind;
-          whole = e ∙ ap (λ t. t ++ rest) first ∙ second.whole ∙ ap (λ t. t ++ second.rest) none ∙ f.whole;
-          first = f.first;
-          second = record {
-            before = []; after = f.others; all = refl;
-            spelled = record { front = []; rest = f.behind; whole = refl; first = refl; second = record { front = []; rest = f.behind; whole = refl; first = subst (S x) none second.first; second = f.second } };
-          };
-        }
-    | inr stands ↦ absurd (let same = one_first 0 id rest begun (begins_all id second.front second.rest rest second.whole stands) in omega arith)
+      | inl none ↦
+          let f = is_tail.customs_first y after second.rest second.second (begins_rest 0 second.front second.rest rest second.whole none begun) in
+          record {
+            custom = f.custom;
+            others = f.others;
+            all = all ∙ f.all;
+            front = f.front;
+            behind = f.behind;
+            whole = e ∙ ap (λ t. t ++ rest) first ∙ second.whole ∙ ap (λ t. t ++ second.rest) none ∙ f.whole;
+            first = f.first;
+            second = record {
+              before = [];
+              after = f.others;
+              all = refl;
+              spelled = record { front = []; rest = f.behind; whole = refl; first = refl; second = record { front = []; rest = f.behind; whole = refl; first = subst (S x) none second.first; second = f.second } };
+            };
+          }
+      | inr stands ↦ absurd (let same = one_first 0 id rest begun (begins_all id second.front second.rest rest second.whole stands) in omega arith)
     ]
 customs_of {S} {R} id positive is_section is_tail x y customs (c ∷ cs) after bytes front rest all first second e begins = record {
-    custom = c; others = cs ++ after; all = all; front = first.front; behind = first.rest ++ rest;
-    whole = e ∙ ap (λ t. t ++ rest) first.whole ∙ append_assoc first.front first.rest rest;
-    first = first.first;
-    second = record { before = cs; after = after; all = refl; spelled = record { front = first.rest; rest = rest; whole = refl; first = first.second; second = second } };
-  }
+  custom = c;
+  others = cs ++ after;
+  all = all;
+  front = first.front;
+  behind = first.rest ++ rest;
+  whole = e ∙ ap (λ t. t ++ rest) first.whole ∙ append_assoc first.front first.rest rest;
+  first = first.first;
+  second = record { before = cs; after = after; all = refl; spelled = record { front = first.rest; rest = rest; whole = refl; first = first.second; second = second } };
+}
 
 pub chain_customs : {A B : Type 0} {least : ℕ} {S : A → Spellings} {R : B → List CustomSection → Spellings} (id : ℕ) → 0 < id → IsSection id S → IsTail least R → (x : A) (y : B) (customs : List CustomSection) (bytes : List ℕ) → (S x ▷ R y) customs bytes → Begins 0 bytes → CustomFirst (S x ▷ R y) customs bytes
 chain_customs {S} {R} id positive is_section is_tail x y customs bytes h begins =
@@ -125,13 +135,13 @@ begins_of : {A B : Type 0} {least : ℕ} {S : A → Spellings} {R : B → List C
 begins_of id rising is_section is_tail x y [] after bytes front rest first second e =
     let same : bytes ≡ rest = e ∙ ap (λ t. t ++ rest) first in
     elim (is_section.begins x second.front second.first) [
-    | inl none ↦
-        let inside : bytes ≡ second.rest = same ∙ second.whole ∙ ap (λ t. t ++ second.rest) none in
-        elim (is_tail.begins y after second.rest second.second) [
-        | inl empty ↦ inl (inside ∙ empty)
-        | inr found ↦ inr (found.0, record { behind = found.1.behind; whole = inside ∙ found.1.whole }, elim found.2 [ inl none ↦ inl none | inr above ↦ inr (omega arith) ])
-        ]
-    | inr stands ↦ inr (id, begins_all id second.front second.rest bytes (same ∙ second.whole) stands, inr (omega arith))
+      | inl none ↦
+          let inside : bytes ≡ second.rest = same ∙ second.whole ∙ ap (λ t. t ++ second.rest) none in
+          elim (is_tail.begins y after second.rest second.second) [
+            | inl empty ↦ inl (inside ∙ empty)
+            | inr found ↦ inr (found.0, record { behind = found.1.behind; whole = inside ∙ found.1.whole }, elim found.2 [ inl none ↦ inl none | inr above ↦ inr (omega arith) ])
+          ]
+      | inr stands ↦ inr (id, begins_all id second.front second.rest bytes (same ∙ second.whole) stands, inr (omega arith))
     ]
 begins_of id rising is_section is_tail x y (c ∷ cs) after bytes front rest first second e =
     inr (0, begins_all 0 front rest bytes e (begins_all 0 first.front first.rest front first.whole (custom_begins c first.front first.first)), inl refl)
@@ -140,27 +150,27 @@ begins_of id rising is_section is_tail x y (c ∷ cs) after bytes front rest fir
 opened_one : {A B : Type 0} {least : ℕ} {S : A → Spellings} {R : B → List CustomSection → Spellings} (id : ℕ) → 0 < id → id < least → IsSection id S → IsTail least R → (x z : A) (y w : B) (customs others : List CustomSection) (bytes : List ℕ) → (S x ⨾ R y customs) bytes → (S z ⨾ R w others) bytes → (x ≡ z) × (y ≡ w) × (customs ≡ others)
 opened_one {S} {R} id positive rising is_section is_tail x z y w customs others bytes p q =
     elim (is_section.begins x p.front p.first) [
-    | inl none ↦
-        let left : bytes ≡ p.rest = p.whole ∙ ap (λ t. t ++ p.rest) none in
-        elim (is_section.begins z q.front q.first) [
-        | inl empty ↦
-            let right : bytes ≡ q.rest = q.whole ∙ ap (λ t. t ++ q.rest) empty in
-            let same = is_tail.one y w customs others q.rest (subst (R y customs) (sym left ∙ right) p.second) q.second in
-            (is_section.missing x z (subst (S x) none p.first) (subst (S z) empty q.first), same.0, same.1)
-        | inr stands ↦ absurd (no_id id is_tail positive rising y customs bytes (subst (R y customs) (sym left) p.second) (begins_all id q.front q.rest bytes q.whole stands))
-        ]
-    | inr begun ↦
-        elim (is_section.begins z q.front q.first) [
-        | inl empty ↦
-            let right : bytes ≡ q.rest = q.whole ∙ ap (λ t. t ++ q.rest) empty in
-            absurd (no_id id is_tail positive rising w others bytes (subst (R w others) (sym right) q.second) (begins_all id p.front p.rest bytes p.whole begun))
-        | inr stands ↦
-            let whole : p.front ++ p.rest ≡ q.front ++ q.rest = sym p.whole ∙ q.whole in
-            let fronts = is_section.standing x z p.front q.front p.rest q.rest p.first q.first begun stands whole in
-            let rests = rest_same p.front q.front p.rest q.rest fronts.0 whole in
-            let same = is_tail.one y w customs others q.rest (subst (R y customs) rests p.second) q.second in
-            (fronts.1, same.0, same.1)
-        ]
+      | inl none ↦
+          let left : bytes ≡ p.rest = p.whole ∙ ap (λ t. t ++ p.rest) none in
+          elim (is_section.begins z q.front q.first) [
+            | inl empty ↦
+                let right : bytes ≡ q.rest = q.whole ∙ ap (λ t. t ++ q.rest) empty in
+                let same = is_tail.one y w customs others q.rest (subst (R y customs) (sym left ∙ right) p.second) q.second in
+                (is_section.missing x z (subst (S x) none p.first) (subst (S z) empty q.first), same.0, same.1)
+            | inr stands ↦ absurd (no_id id is_tail positive rising y customs bytes (subst (R y customs) (sym left) p.second) (begins_all id q.front q.rest bytes q.whole stands))
+          ]
+      | inr begun ↦
+          elim (is_section.begins z q.front q.first) [
+            | inl empty ↦
+                let right : bytes ≡ q.rest = q.whole ∙ ap (λ t. t ++ q.rest) empty in
+                absurd (no_id id is_tail positive rising w others bytes (subst (R w others) (sym right) q.second) (begins_all id p.front p.rest bytes p.whole begun))
+            | inr stands ↦
+                let whole : p.front ++ p.rest ≡ q.front ++ q.rest = sym p.whole ∙ q.whole in
+                let fronts = is_section.standing x z p.front q.front p.rest q.rest p.first q.first begun stands whole in
+                let rests = rest_same p.front q.front p.rest q.rest fronts.0 whole in
+                let same = is_tail.one y w customs others q.rest (subst (R y customs) rests p.second) q.second in
+                (fronts.1, same.0, same.1)
+          ]
     ]
 
 chain_one : {A B : Type 0} {least : ℕ} {S : A → Spellings} {R : B → List CustomSection → Spellings} (id : ℕ) → 0 < id → id < least → IsSection id S → IsTail least R → (x z : A) (y w : B) (customs others : List CustomSection) (bytes : List ℕ) → (S x ▷ R y) customs bytes → (S z ▷ R w) others bytes → (x ≡ z) × (y ≡ w) × (customs ≡ others)
@@ -189,12 +199,12 @@ pair_same p q a b = ap₂ (λ x y. (x, y)) a b
 
 pub chain_tail : {A B : Type 0} {id least : ℕ} {S : A → Spellings} {R : B → List CustomSection → Spellings} → IsLink id least S R → IsTail id (λ (t : A × B). S t.0 ▷ R t.1)
 chain_tail {id} {S} {R} link = record {
-      begins = λ t customs bytes h. begins_of {S = S} {R = R} id link.rising link.section link.tail t.0 t.1 h.before h.after bytes h.spelled.front h.spelled.rest h.spelled.first h.spelled.second h.spelled.whole;
-      customs_first = λ t customs bytes h begins. chain_customs {S = S} {R = R} id link.positive link.section link.tail t.0 t.1 customs bytes h begins;
-      one = λ p q customs others bytes h k.
-        let same = chain_one {S = S} {R = R} id link.positive link.rising link.section link.tail p.0 q.0 p.1 q.1 customs others bytes h k in
-        (pair_same p q same.0 same.1, same.2)
-    }
+  begins = λ t customs bytes h. begins_of {S = S} {R = R} id link.rising link.section link.tail t.0 t.1 h.before h.after bytes h.spelled.front h.spelled.rest h.spelled.first h.spelled.second h.spelled.whole;
+  customs_first = λ t customs bytes h begins. chain_customs {S = S} {R = R} id link.positive link.section link.tail t.0 t.1 customs bytes h begins;
+  one = λ p q customs others bytes h k.
+      let same = chain_one {S = S} {R = R} id link.positive link.rising link.section link.tail p.0 q.0 p.1 q.1 customs others bytes h k in
+      (pair_same p q same.0 same.1, same.2);
+}
 
 -- behind custom sections a byte 0 begins none: nothing is spelled
 pub none_custom : {A : Type 0} {least : ℕ} (Q : A → List CustomSection → Spellings) → IsTail least Q → (bytes : List ℕ) (i : ℕ) → CustomMalformed bytes i → (x : A) (customs : List CustomSection) → Q x customs (drop i bytes) → ⊥
@@ -219,10 +229,10 @@ none_section {id} S R link bytes i place old new read first none x y customs h =
     let begins = begins_at bytes place id first in
     let within = slice_get_within bytes place id first in
     elim (link.section.begins x q.front q.first) [
-    | inl empty ↦ no_id id link.tail link.positive link.rising y left.0 q.rest q.second (begins_rest id q.front q.rest (drop place bytes) q.whole empty begins)
-    | inr stands ↦
-        let longer : 0 < length q.front = omega (arith, ap length stands.whole) in
-        none x (place + length q.front) (omega arith) (is_at S bytes place (place + length q.front) x (at_front bytes place q.front q.rest (omega arith) q.first q.whole))
+      | inl empty ↦ no_id id link.tail link.positive link.rising y left.0 q.rest q.second (begins_rest id q.front q.rest (drop place bytes) q.whole empty begins)
+      | inr stands ↦
+          let longer : 0 < length q.front = omega (arith, ap length stands.whole) in
+          none x (place + length q.front) (omega arith) (is_at S bytes place (place + length q.front) x (at_front bytes place q.front q.rest (omega arith) q.first q.whole))
     ]
 
 -- behind the section nothing is spelled
@@ -232,23 +242,23 @@ none_behind_section {id} S R link bytes i place end old new z read there greedy 
     let q = left.1 in
     let p = stands S bytes place end z there in
     elim (link.section.begins z p.front p.spelled) [
-    | inl missing ↦
-        let here : drop place bytes ≡ drop end bytes = p.whole ∙ ap (λ t. t ++ drop end bytes) missing in
-        elim (link.section.begins x q.front q.first) [
-        | inl empty ↦ none y left.0 (subst (R y left.0) (sym (ap (λ t. t ++ q.rest) empty) ∙ sym q.whole ∙ here) q.second)
-        | inr begun ↦
-            let further = greedy (at_begins bytes place id (begins_all id q.front q.rest (drop place bytes) q.whole begun)) in
-            let inside = p.inside in
-            omega (arith, length-drop place bytes, length-drop end bytes, ap length here)
-        ]
-    | inr begun ↦
-        elim (link.section.begins x q.front q.first) [
-        | inl empty ↦ no_id id link.tail link.positive link.rising y left.0 q.rest q.second (begins_rest id q.front q.rest (drop place bytes) q.whole empty (begins_all id p.front (drop end bytes) (drop place bytes) p.whole begun))
-        | inr other ↦
-            let whole : q.front ++ q.rest ≡ p.front ++ drop end bytes = sym q.whole ∙ p.whole in
-            let same = link.section.standing x z q.front p.front q.rest (drop end bytes) q.first p.spelled other begun whole in
-            none y left.0 (subst (R y left.0) (rest_same q.front p.front q.rest (drop end bytes) same.0 whole) q.second)
-        ]
+      | inl missing ↦
+          let here : drop place bytes ≡ drop end bytes = p.whole ∙ ap (λ t. t ++ drop end bytes) missing in
+          elim (link.section.begins x q.front q.first) [
+            | inl empty ↦ none y left.0 (subst (R y left.0) (sym (ap (λ t. t ++ q.rest) empty) ∙ sym q.whole ∙ here) q.second)
+            | inr begun ↦
+                let further = greedy (at_begins bytes place id (begins_all id q.front q.rest (drop place bytes) q.whole begun)) in
+                let inside = p.inside in
+                omega (arith, length-drop place bytes, length-drop end bytes, ap length here)
+          ]
+      | inr begun ↦
+          elim (link.section.begins x q.front q.first) [
+            | inl empty ↦ no_id id link.tail link.positive link.rising y left.0 q.rest q.second (begins_rest id q.front q.rest (drop place bytes) q.whole empty (begins_all id p.front (drop end bytes) (drop place bytes) p.whole begun))
+            | inr other ↦
+                let whole : q.front ++ q.rest ≡ p.front ++ drop end bytes = sym q.whole ∙ p.whole in
+                let same = link.section.standing x z q.front p.front q.rest (drop end bytes) q.first p.spelled other begun whole in
+                none y left.0 (subst (R y left.0) (rest_same q.front p.front q.rest (drop end bytes) same.0 whole) q.second)
+          ]
     ]
 
 -- custom sections, the section and what is behind it
@@ -260,7 +270,9 @@ chain_read S R bytes i place end old new newer x y read there rest =
       customs = read.customs ++ rest.customs;
       appended = rest.appended ∙ ap (λ t. t ++ rest.customs) read.appended ∙ append_assoc old read.customs rest.customs;
       spelled = record {
-        before = read.customs; after = rest.customs; all = refl;
+        before = read.customs;
+        after = rest.customs;
+        all = refl;
         spelled = record { front = p.front; rest = drop place bytes; whole = p.whole; first = p.spelled; second = record { front = q.front; rest = drop end bytes; whole = q.whole; first = q.spelled; second = rest.spelled } };
       };
     }
@@ -268,18 +280,18 @@ chain_read S R bytes i place end old new newer x y read there rest =
 -- no custom sections at first
 pub customs_none : (bytes : List ℕ) (i : ℕ) (old : List CustomSection) → i ≤ length bytes → CustomsPassed bytes i i old old
 customs_none bytes i old inside = record {
-    customs = [];
-    appended = sym (append-nil old);
-    there = is_at (each custom_section) bytes i i [] (record { forward = omega arith; inside = inside; front = []; whole = refl; spelled = refl })
-  }
+  customs = [];
+  appended = sym (append-nil old);
+  there = is_at (each custom_section) bytes i i [] (record { forward = omega arith; inside = inside; front = []; whole = refl; spelled = refl });
+}
 
 -- one more
 pub customs_more : (bytes : List ℕ) (i j k : ℕ) (old new : List CustomSection) (c : CustomSection) → CustomsPassed bytes i j old new → IsAt custom_section bytes j k c → CustomsPassed bytes i k old (new ++ c ∷ [])
 customs_more bytes i j k old new c passed there = record {
-    customs = passed.customs ++ c ∷ [];
-    appended = ap (λ t. t ++ c ∷ []) passed.appended ∙ append_assoc old passed.customs (c ∷ []);
-    there = each_more custom_section bytes i j k passed.customs c passed.there there
-  }
+  customs = passed.customs ++ c ∷ [];
+  appended = ap (λ t. t ++ c ∷ []) passed.appended ∙ append_assoc old passed.customs (c ∷ []);
+  there = each_more custom_section bytes i j k passed.customs c passed.there there;
+}
 
 -- why a custom section isn't read is why they aren't
 pub customs_err : (bytes : List ℕ) (i j : ℕ) (old now new : List CustomSection) (r : Result ℕ CodeError) (e : CodeError) → IsErrAnd r (λ y. y ≡ e) → CustomsPassed bytes i j old now → slice_get bytes j ≡ Some 0 → Refuses custom_section bytes j e → ReadsCustoms bytes i old new r
@@ -319,8 +331,8 @@ none_end bytes i end old new read more customs h =
     let p = stands (each custom_section) bytes i end read.customs read.there in
     let rest = behind_customs {Q = λ (x : Unit {0}). each custom_section} end_tail tt customs read.customs (drop i bytes) p.front (drop end bytes) h p.whole p.spelled in
     elim (customs_begin rest.0 (drop end bytes) rest.2) [
-    | inl none ↦ omega (arith, length-drop end bytes, ap length none)
-    | inr begun ↦ read.ended (at_begins bytes end 0 begun)
+      | inl none ↦ omega (arith, length-drop end bytes, ap length none)
+      | inr begun ↦ read.ended (at_begins bytes end 0 begun)
     ]
 
 pub end_read : (bytes : List ℕ) (i end : ℕ) (old new : List CustomSection) → CustomsRead bytes i end old new → length bytes ≤ end → TailRead (λ (x : Unit {0}). each custom_section) bytes i old new tt

@@ -148,10 +148,19 @@ parts_of m = (m.types, (m.imports, (m.functions, (m.tables, (m.memories, (m.glob
 -- a module by what its sections hold
 abbrev module_of : Tree_1 → List CustomSection → Module
 module_of t customs = record {
-    types = t.0; imports = t.1.0; functions = t.1.1.0; tables = t.1.1.1.0; memories = t.1.1.1.1.0; globals = t.1.1.1.1.1.0;
-    exports = t.1.1.1.1.1.1.0; start = t.1.1.1.1.1.1.1.0; elements = t.1.1.1.1.1.1.1.1.0; bodies = t.1.1.1.1.1.1.1.1.1.0;
-    segments = t.1.1.1.1.1.1.1.1.1.1.0; customs = customs
-  }
+  types = t.0;
+  imports = t.1.0;
+  functions = t.1.1.0;
+  tables = t.1.1.1.0;
+  memories = t.1.1.1.1.0;
+  globals = t.1.1.1.1.1.0;
+  exports = t.1.1.1.1.1.1.0;
+  start = t.1.1.1.1.1.1.1.0;
+  elements = t.1.1.1.1.1.1.1.1.0;
+  bodies = t.1.1.1.1.1.1.1.1.1.0;
+  segments = t.1.1.1.1.1.1.1.1.1.1.0;
+  customs = customs;
+}
 
 -- bytes spell the sections of one module
 pub one_tree : (x y : Module) (bytes : List ℕ) → sections x x.customs bytes → sections y y.customs bytes → x ≡ y
@@ -164,7 +173,7 @@ pub behind_header : (S : Spellings) (bytes : List ℕ) → (magic ⨾ version �
 behind_header S bytes h =
     let rest = h.second in
     let whole : bytes ≡ (0x00 ∷ 0x61 ∷ 0x73 ∷ 0x6D ∷ []) ++ ((0x01 ∷ 0x00 ∷ 0x00 ∷ 0x00 ∷ []) ++ rest.rest)
-        = h.whole ∙ ap (λ f. f ++ h.rest) h.first ∙ ap (λ r. (0x00 ∷ 0x61 ∷ 0x73 ∷ 0x6D ∷ []) ++ r) (rest.whole ∙ ap (λ f. f ++ rest.rest) rest.first) in
+    = h.whole ∙ ap (λ f. f ++ h.rest) h.first ∙ ap (λ r. (0x00 ∷ 0x61 ∷ 0x73 ∷ 0x6D ∷ []) ++ r) (rest.whole ∙ ap (λ f. f ++ rest.rest) rest.first) in
     subst S (sym (ap (drop 8) whole)) rest.second
 
 pub spelled_sections : (bytes : List ℕ) (x : Module) → Spells bytes x → sections x x.customs (drop 8 bytes)

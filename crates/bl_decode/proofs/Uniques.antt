@@ -10,12 +10,14 @@ use Rattle.bl_decode.specs.Chains.{Begins}
 
 -- what stands behind a size, by all of it
 pub sized_whole : {S T : Spellings} {P : Type 0} → ((t : List ℕ) → S t → T t → P) → Same (sized S) (sized T) P
-sized_whole {S} f = record { both = λ a b u v p q e.
-    let whole : p.size ++ (p.contents ++ u) ≡ q.size ++ (q.contents ++ v)
-        = sym (append_assoc p.size p.contents u) ∙ ap (λ t. t ++ u) (sym p.whole) ∙ e ∙ ap (λ t. t ++ v) q.whole ∙ append_assoc q.size q.contents v in
-    let sizes = (u32_same (length p.contents) (length q.contents)).both p.size q.size (p.contents ++ u) (q.contents ++ v) p.counted q.counted whole in
-    let contents = front_same p.contents q.contents u v sizes.1 (rest_same p.size q.size (p.contents ++ u) (q.contents ++ v) sizes.0 whole) in
-    (p.whole ∙ ap (λ t. t ++ p.contents) sizes.0 ∙ ap (λ t. q.size ++ t) contents ∙ sym q.whole, f q.contents (subst S contents p.spelled) q.spelled) }
+sized_whole {S} f = record {
+  both = λ a b u v p q e.
+      let whole : p.size ++ (p.contents ++ u) ≡ q.size ++ (q.contents ++ v)
+      = sym (append_assoc p.size p.contents u) ∙ ap (λ t. t ++ u) (sym p.whole) ∙ e ∙ ap (λ t. t ++ v) q.whole ∙ append_assoc q.size q.contents v in
+      let sizes = (u32_same (length p.contents) (length q.contents)).both p.size q.size (p.contents ++ u) (q.contents ++ v) p.counted q.counted whole in
+      let contents = front_same p.contents q.contents u v sizes.1 (rest_same p.size q.size (p.contents ++ u) (q.contents ++ v) sizes.0 whole) in
+      (p.whole ∙ ap (λ t. t ++ p.contents) sizes.0 ∙ ap (λ t. q.size ++ t) contents ∙ sym q.whole, f q.contents (subst S contents p.spelled) q.spelled);
+}
 
 same_custom : (c d : CustomSection) → c.name ≡ d.name → c.bytes ≡ d.bytes → c ≡ d
 same_custom c d p q = ap₂ made p q

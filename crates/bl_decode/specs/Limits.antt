@@ -77,13 +77,13 @@ targets_above _ = None
 abbrev pub function_excess : List FuncType → ℕ × Code → Option Excess
 function_excess types function =
     option_or (above quantity.Locals 4096 (locals_of types function.0 function.1))
-        (option_or (above quantity.Nesting 256 (nesting_of function.1.items))
-            (first_in targets_above function.1.items))
+    (option_or (above quantity.Nesting 256 (nesting_of function.1.items))
+    (first_in targets_above function.1.items))
 
 -- the first quantity that a module exceeds
 abbrev pub first_excess : Module → Option Excess
 first_excess tree =
     option_or (above quantity.Functions 10000 (functions_of tree))
-        (option_or (first_in (λ table. above quantity.Table 1024 table.min) tree.tables)
-            (option_or (first_in (λ memory. above quantity.Memory 256 memory.min) tree.memories)
-                (first_in (function_excess tree.types) (zip tree.functions tree.bodies))))
+    (option_or (first_in (λ table. above quantity.Table 1024 table.min) tree.tables)
+    (option_or (first_in (λ memory. above quantity.Memory 256 memory.min) tree.memories)
+    (first_in (function_excess tree.types) (zip tree.functions tree.bodies))))

@@ -26,8 +26,10 @@ impl Format for FunctionTypes {
     ghost one = { function_type_one };
 
     fn read(alloc: Global, bytes: &[u8], at: usize) -> Result<(FuncType, usize), CodeError> {
-        let ((_, (params, results)), end) =
-            Then::<Byte<0x60>, Then<Vector<ValueTypes>, Vector<ValueTypes>>>::read(alloc, bytes, at)?;
+        let ((_, (params, results)), end) = Then::<
+            Byte<0x60>,
+            Then<Vector<ValueTypes>, Vector<ValueTypes>>,
+        >::read(alloc, bytes, at)?;
         Ok((FuncType { params, results }, end))
     }
 }
@@ -109,8 +111,9 @@ impl Format for Imports {
     ghost one = { import_entry_one };
 
     fn read(alloc: Global, bytes: &[u8], at: usize) -> Result<(Import, usize), CodeError> {
-        let ((from, (name, kind)), end) =
-            Then::<Names, Then<Names, ImportKinds>>::read(alloc, bytes, at)?;
+        let ((from, (name, kind)), end) = Then::<Names, Then<Names, ImportKinds>>::read(
+            alloc, bytes, at,
+        )?;
         Ok((Import { from, name, kind }, end))
     }
 }
@@ -164,8 +167,9 @@ impl Format for Exports {
     ghost one = { export_entry_one };
 
     fn read(alloc: Global, bytes: &[u8], at: usize) -> Result<(Export, usize), CodeError> {
-        let ((name, (kind, index)), end) =
-            Then::<Names, Then<ExportKinds, Index>>::read(alloc, bytes, at)?;
+        let ((name, (kind, index)), end) = Then::<Names, Then<ExportKinds, Index>>::read(
+            alloc, bytes, at,
+        )?;
         Ok((Export { name, kind, index }, end))
     }
 }
@@ -181,8 +185,10 @@ impl Format for Elements {
     ghost one = { element_entry_one };
 
     fn read(alloc: Global, bytes: &[u8], at: usize) -> Result<(ElementSegment, usize), CodeError> {
-        let ((table, (offset, functions)), end) =
-            Then::<Index, Then<Expressions, Vector<Index>>>::read(alloc, bytes, at)?;
+        let ((table, (offset, functions)), end) = Then::<
+            Index,
+            Then<Expressions, Vector<Index>>,
+        >::read(alloc, bytes, at)?;
         Ok((
             ElementSegment {
                 table,
@@ -223,7 +229,9 @@ impl Format for Bodies {
     ghost one = { function_code_one };
 
     fn read(alloc: Global, bytes: &[u8], at: usize) -> Result<(Code, usize), CodeError> {
-        let ((locals, items), end) = Then::<Vector<LocalRuns>, Expressions>::read(alloc, bytes, at)?;
+        let ((locals, items), end) = Then::<Vector<LocalRuns>, Expressions>::read(
+            alloc, bytes, at,
+        )?;
         if !are_few(locals.as_slice()) {
             return Err(CodeError::Malformed);
         }
@@ -271,8 +279,9 @@ impl Format for Segments {
     ghost one = { data_entry_one };
 
     fn read(alloc: Global, bytes: &[u8], at: usize) -> Result<(DataSegment, usize), CodeError> {
-        let ((memory, (offset, bytes)), end) =
-            Then::<Index, Then<Expressions, Bytes>>::read(alloc, bytes, at)?;
+        let ((memory, (offset, bytes)), end) = Then::<Index, Then<Expressions, Bytes>>::read(
+            alloc, bytes, at,
+        )?;
         Ok((
             DataSegment {
                 memory,

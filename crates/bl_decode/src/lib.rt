@@ -15,3 +15,6 @@ mod supported;
 
 pub use error::DecodeError;
 pub use module::decode;
+
+#[cfg(test)]
+mod tests;

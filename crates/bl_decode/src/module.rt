@@ -21,8 +21,12 @@ fn read_sections(alloc: Global, bytes: &[u8], at: usize) -> Result<Module, CodeE
     ensures { ReadsAll (λ tree these. sections tree tree.customs these) (drop at bytes.now) result }
 {
     let mut customs = List::new(alloc);
-    let (types, (imports, (functions, (tables, rest)))) =
-        Sections::read(alloc, bytes, at, &mut customs)?;
+    let (types, (imports, (functions, (tables, rest)))) = Sections::read(
+        alloc,
+        bytes,
+        at,
+        &mut customs,
+    )?;
     let (memories, (globals, (exports, (start, rest)))) = rest;
     let (elements, (bodies, (segments, _))) = rest;
     Ok(Module {

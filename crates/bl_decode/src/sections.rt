@@ -3,9 +3,7 @@ ghost use Rattle.std.specs.Prelude.{◌≡◌, ◌≤◌, ℕ, length, List as L
 ghost use Rattle.bl_wasm.specs.Sections.{start_section, vec_section};
 
 use crate::chain::{Chain, End, Section};
-use crate::entries::{
-    Codes, Elements, Exports, FunctionTypes, Globals, Imports, Segments, Tables,
-};
+use crate::entries::{Codes, Elements, Exports, FunctionTypes, Globals, Imports, Segments, Tables};
 use crate::formats::{Memories, Vector};
 use crate::sized::{read_sized, stands_at};
 use bl_base::List;
@@ -51,8 +49,10 @@ impl Section for Start {
 }
 
 /// From the element section on.
-pub(crate) type FromElements =
-    Chain<Vectors<Elements, 9>, Chain<Vectors<Codes, 10>, Chain<Vectors<Segments, 11>, End>>>;
+pub(crate) type FromElements = Chain<
+    Vectors<Elements, 9>,
+    Chain<Vectors<Codes, 10>, Chain<Vectors<Segments, 11>, End>>,
+>;
 
 /// From the memory section on.
 pub(crate) type FromMemories = Chain<

@@ -3,7 +3,8 @@ ghost use Rattle.std.specs.Prelude.{◌↔◌, All, IfSome, IsTrue};
 ghost use Rattle.bl_decode.specs.Supported.{IsInteger, IsIntegerCode, IsIntegerFunction, IsIntegerImport, IsIntegerInstr, IsSupported};
 
 use bl_wasm::{
-    Code, DataSegment, DefinedGlobal, ElementSegment, FuncType, Import, ImportKind, Instr, LocalRun, Module, WasmType,
+    Code, DataSegment, DefinedGlobal, ElementSegment, FuncType, Import, ImportKind, Instr,
+    LocalRun, Module, WasmType,
 };
 
 /// Whether the type is one of integers.
@@ -119,14 +120,18 @@ fn are_integer_globals(globals: &[DefinedGlobal]) -> bool
 fn are_integer_elements(segments: &[ElementSegment]) -> bool
     ensures { IsTrue result ↔ All (λ segment. All IsIntegerInstr segment.offset) segments.now }
 {
-    segments.iter().all(|segment| are_integer_instrs(segment.offset.as_slice()))
+    segments
+        .iter()
+        .all(|segment| are_integer_instrs(segment.offset.as_slice()))
 }
 
 /// Whether the offsets of data segments are without floats.
 fn are_integer_segments(segments: &[DataSegment]) -> bool
     ensures { IsTrue result ↔ All (λ segment. All IsIntegerInstr segment.offset) segments.now }
 {
-    segments.iter().all(|segment| are_integer_instrs(segment.offset.as_slice()))
+    segments
+        .iter()
+        .all(|segment| are_integer_instrs(segment.offset.as_slice()))
 }
 
 /// Whether the module is supported.

@@ -24,7 +24,7 @@ pub returns-in_err-custom : goal.returns-in_err-custom
 returns-in_err-custom c =
     passes custom_section c.args.bytes.now c.args.at c.from_residual.result _ c.from_residual.ensures.1
     (err_section (λ (custom : CustomSection). name custom.name ⨾ exactly custom.bytes) 0 c.args.bytes.now c.args.at _
-      (err_sized (λ (custom : CustomSection). name custom.name ⨾ exactly custom.bytes) c.args.bytes.now _ (c.args.at + 1) c.in-Some.end _ c.in-Some.ensures.found c.in_err-custom.ensures))
+    (err_sized (λ (custom : CustomSection). name custom.name ⨾ exactly custom.bytes) c.args.bytes.now _ (c.args.at + 1) c.in-Some.end _ c.in-Some.ensures.found c.in_err-custom.ensures))
 
 pub returns : goal.returns
 returns c =

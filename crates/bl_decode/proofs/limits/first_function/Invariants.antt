@@ -9,5 +9,5 @@ abbrev pub invariant-loop-kind : goal.invariant-loop-kind
 invariant-loop-kind l = record {
   can : (goal.iterator-loop-kind).can_next l.kind-iterator;
   finite : (goal.iterator-loop-kind).is_finite l.kind-iterator;
-  rest : first_in (function_excess l.types) (zip (iter_rest (zip_first l.kind-iterator)) (iter_rest (zip_second l.kind-iterator))) ≡ first_in (function_excess l.types) (zip l.kinds l.bodies)
+  rest : first_in (function_excess l.types) (zip (iter_rest (zip_first l.kind-iterator)) (iter_rest (zip_second l.kind-iterator))) ≡ first_in (function_excess l.types) (zip l.kinds l.bodies);
 }

@@ -6,5 +6,5 @@ abbrev pub invariant-loop-item : goal.invariant-loop-item
 invariant-loop-item l = record {
   begun : l.begun ≡ count_by begins (take l.item-index l.items);
   ended : l.ended ≡ count_by ends (take l.item-index l.items);
-  deepest : l.deepest ≡ greatest_open l.items (l.item-index + 1)
+  deepest : l.deepest ≡ greatest_open l.items (l.item-index + 1);
 }

@@ -16,13 +16,15 @@ first_excess-requires c = few_locals c.args.bytes.now c.in-Ok.tree c.in-Ok.ensur
 
 pub returns-in-Some-clause-only : goal.returns-in-Some-clause-only
 returns-in-Some-clause-only c = λ tree h.
-    let same = one_spelled c.args.bytes.now c.in-Ok.tree tree c.in-Ok.ensures h in
-    (subst IsSupported same (c.is_supported.ensures.0 c.if-not-is_supported.false),
-      subst (λ (t : Module). first_excess t ≡ Some (c.in-Some.which, c.in-Some.value)) same (sym c.first_excess.ensures ∙ c.in-Some.is))
+    let same = one_spelled c.args.bytes.now c.in-Ok.tree tree c.in-Ok.ensures h in (
+      subst IsSupported same (c.is_supported.ensures.0 c.if-not-is_supported.false),
+      subst (λ (t : Module). first_excess t ≡ Some (c.in-Some.which, c.in-Some.value)) same (sym c.first_excess.ensures ∙ c.in-Some.is),
+    )
 
 pub returns-in-None-clause-only : goal.returns-in-None-clause-only
 returns-in-None-clause-only c = λ tree h.
-    let same = one_spelled c.args.bytes.now c.in-Ok.tree tree c.in-Ok.ensures h in
-    (same,
+    let same = one_spelled c.args.bytes.now c.in-Ok.tree tree c.in-Ok.ensures h in (
+      same,
       subst IsSupported same (c.is_supported.ensures.0 c.if-not-is_supported.false),
-      subst (λ (t : Module). first_excess t ≡ None) same (sym c.first_excess.ensures ∙ c.in-None.is))
+      subst (λ (t : Module). first_excess t ≡ None) same (sym c.first_excess.ensures ∙ c.in-None.is),
+    )

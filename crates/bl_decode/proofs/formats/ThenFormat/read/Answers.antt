@@ -16,5 +16,5 @@ pub returns : goal.returns
 returns g c =
     is_at (λ tree. g.A.Format.spellings tree.0 ⨾ g.B.Format.spellings tree.1) c.args.bytes.now c.args.at c.in_ok-second.end (c.in_ok-first.first, c.in_ok-second.second)
     (join c.args.bytes.now c.args.at c.in_ok-first.place c.in_ok-second.end
-      (stands g.A.Format.spellings c.args.bytes.now c.args.at c.in_ok-first.place c.in_ok-first.first c.in_ok-first.ensures)
-      (stands g.B.Format.spellings c.args.bytes.now c.in_ok-first.place c.in_ok-second.end c.in_ok-second.second c.in_ok-second.ensures))
+    (stands g.A.Format.spellings c.args.bytes.now c.args.at c.in_ok-first.place c.in_ok-first.first c.in_ok-first.ensures)
+    (stands g.B.Format.spellings c.args.bytes.now c.in_ok-first.place c.in_ok-second.end c.in_ok-second.second c.in_ok-second.ensures))

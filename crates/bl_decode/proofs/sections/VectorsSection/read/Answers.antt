@@ -5,7 +5,7 @@ pub returns-then-not-stands_at : goal.returns-then-not-stands_at
 returns-then-not-stands_at g c =
     rw c.new.ensures
     (reads_missing (vectors_optional g.row.ID g.F.Format.spellings) c.args.bytes.now c.args.at c.requires
-      (λ stands. let h = c.stands_at.ensures.stands.1 stands in cc))
+    (λ stands. let h = c.stands_at.ensures.stands.1 stands in cc))
 
 pub returns : goal.returns
 returns g c =
