@@ -49,8 +49,13 @@ fn a_module_is_decoded_whole(rt: HostRuntime) -> Result<(), Fail> {
     let tree = decode(alloc, &LOADS).expect(&rt, "the module is decoded");
     assert_eq!(rt; tree.types.len(), 1);
     assert_eq!(rt; tree.functions.as_slice(), [0].as_slice());
-    assert_eq!(rt; tree.bodies.as_slice()[0].items.len(), 3);
-    assert_eq!(rt; tree.exports.as_slice()[0].name.as_slice(), b"f".as_slice());
+    for code in tree.bodies.as_slice() {
+        assert_eq!(rt; code.items.len(), 3);
+    }
+    for export in tree.exports.as_slice() {
+        assert_eq!(rt; export.name.as_slice(), b"f".as_slice());
+    }
+    assert_eq!(rt; (tree.bodies.len(), tree.exports.len()), (1, 1));
     let long = [0x0A, 0x8C, 0x80, 0x80, 0x80, 0x00];
     assert_eq!(rt;
         refusal(alloc, &[&LOADS[8..32], &long, &LOADS[34..]])?,
