@@ -1,0 +1,22 @@
+-- Laws of the limits.
+use Rattle.std.proofs.Common.{◌≡◌, ◌⊎◌, inl, inr, ℕ, ◌+◌, ◌<◌, List, [], ◌∷◌, length, drop, get_or, max, Option, Some, None, IsSome, refl, add-one, ap, sym, ◌∙◌, drop-cons, zero-add, arith}
+use Rattle.std.specs.List.{zip}
+use Rattle.std.specs.Option.{option_or}
+use Rattle.bl_wasm.specs.declared.instruction.Instr.{Instr}
+use Rattle.bl_decode.specs.Limits.{Excess, first_in, greatest_open, open_at}
+
+pub greatest_open_more : (items : List Instr) (places : ℕ) → greatest_open items (places + 1) ≡ max (greatest_open items places) (open_at items places)
+greatest_open_more items places = rw add-one refl
+
+or_found : (a b : Option Excess) → IsSome a → option_or a b ≡ a
+or_found (Some x) b is = refl
+or_found None b is = cc
+
+pub first_in_found : {A : Type 0} (found : A → Option Excess) (xs : List A) (i : ℕ) (d : A) → i < length xs → IsSome (found (get_or xs i d)) → first_in found (drop i xs) ≡ found (get_or xs i d)
+first_in_found found xs i d h is = rw (drop-cons xs i d h) (or_found _ _ is)
+
+pub none_in_zip : {A B : Type 0} (found : A × B → Option Excess) (xs : List A) (ys : List B) → (xs ≡ []) ⊎ (ys ≡ []) → first_in found (zip xs ys) ≡ None
+none_in_zip found [] ys empty = refl
+none_in_zip found (x ∷ xs) [] empty = refl
+none_in_zip found (x ∷ xs) (y ∷ ys) (inl e) = cc
+none_in_zip found (x ∷ xs) (y ∷ ys) (inr e) = cc

@@ -1,0 +1,88 @@
+//! Modules (WebAssembly 1.0, section 5.5.15).
+ghost use Rattle.std.specs.Prelude.{◌≡◌, ◌≤◌, ℕ, drop, length, List as Listed};
+ghost use Rattle.bl_wasm.specs.Modules.{Spells, sections};
+ghost use Rattle.bl_wasm.specs.declared.module.Module.{Module};
+ghost use Rattle.bl_decode.specs.Decoding.{Answers, AnswersOf};
+ghost use Rattle.bl_decode.specs.Whole.{ReadsAll};
+
+use crate::chain::Tail;
+use crate::error::DecodeError;
+use crate::limits::first_excess;
+use crate::sections::Sections;
+use crate::supported::is_supported;
+use bl_base::List;
+use bl_code::CodeError;
+use bl_wasm::Module;
+use std::alloc::Global;
+
+/// Reads the sections of a module from `at` to the end of the bytes.
+fn read_sections(alloc: Global, bytes: &[u8], at: usize) -> Result<Module, CodeError>
+    requires { at ≤ length bytes.now }
+    ensures { ReadsAll (λ tree these. sections tree tree.customs these) (drop at bytes.now) result }
+{
+    let mut customs = List::new(alloc);
+    let (types, (imports, (functions, (tables, rest)))) = Sections::read(
+        alloc,
+        bytes,
+        at,
+        &mut customs,
+    )?;
+    let (memories, (globals, (exports, (start, rest)))) = rest;
+    let (elements, (bodies, (segments, _))) = rest;
+    Ok(Module {
+        types,
+        imports,
+        functions,
+        tables,
+        memories,
+        globals,
+        exports,
+        start,
+        elements,
+        bodies,
+        segments,
+        customs,
+    })
+}
+
+/// Reads the module that the bytes spell, all of them.
+fn read_module(alloc: Global, bytes: &[u8]) -> Result<Module, CodeError>
+    ensures { ReadsAll (λ tree these. Spells these tree) bytes.now result }
+{
+    let [0x00, 0x61, 0x73, 0x6D, 0x01, 0x00, 0x00, 0x00, ..] = bytes else {
+        return Err(CodeError::Malformed);
+    };
+    let tree = read_sections(alloc, bytes, 8)?;
+    if tree.functions.len() != tree.bodies.len() {
+        return Err(CodeError::Malformed);
+    }
+    Ok(tree)
+}
+
+/// Decodes the module that the bytes spell (WebAssembly 1.0, section 5), by every spelling of it.
+///
+/// Malformed comes exactly where the bytes spell no module. Unsupported comes exactly where they spell one that has a
+/// float type or an instruction on floats, a start function, or an extension by sign. Limit comes exactly where they spell
+/// one that has none of these and more than 10,000 functions with the imported ones, a table of more than 1,024 slots, a
+/// memory of more than 256 pages, or a function with more than 4,096 locals with its parameters, more than 256 blocks,
+/// loops and ifs open at one place, or a br_table of more than 1,024 targets beside the default. The first three are tested
+/// in this order, and then the last three, in this order, for each function in turn; the value is that of the first table,
+/// memory, function or br_table that has too many. Nothing is read by recursion but the spelling of a number, and no room
+/// is made that the bytes don't fill.
+pub fn decode(alloc: Global, bytes: &[u8]) -> Result<Module, DecodeError>
+    ensures answer { Answers bytes.now result }
+    ensures only { (tree : Module) → Spells bytes.now tree → AnswersOf tree result }
+{
+    let tree = match read_module(alloc, bytes) {
+        Ok(tree) => tree,
+        Err(CodeError::Malformed) => return Err(DecodeError::Malformed),
+        Err(CodeError::Memory) => return Err(DecodeError::Memory),
+    };
+    if !is_supported(&tree) {
+        return Err(DecodeError::Unsupported);
+    }
+    match first_excess(&tree) {
+        Some((which, value)) => Err(DecodeError::Limit { which, value }),
+        None => Ok(tree),
+    }
+}

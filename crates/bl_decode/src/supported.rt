@@ -1,0 +1,160 @@
+//! Whether a tree is supported: no floats, no start function, no extension by sign.
+ghost use Rattle.std.specs.Prelude.{◌↔◌, All, IfSome, IsTrue};
+ghost use Rattle.bl_decode.specs.Supported.{IsInteger, IsIntegerCode, IsIntegerFunction, IsIntegerImport, IsIntegerInstr, IsSupported};
+
+use bl_wasm::{
+    Code, DataSegment, DefinedGlobal, ElementSegment, FuncType, Import, ImportKind, Instr,
+    LocalRun, Module, WasmType,
+};
+
+/// Whether the type is one of integers.
+fn is_integer(kind: WasmType) -> bool
+    ensures { IsTrue result ↔ IsInteger kind }
+{
+    matches!(kind, WasmType::I32 | WasmType::I64)
+}
+
+/// Whether the types are all types of integers.
+fn are_integers(kinds: &[WasmType]) -> bool
+    ensures { IsTrue result ↔ All IsInteger kinds.now }
+{
+    kinds.iter().all(|kind| is_integer(*kind))
+}
+
+/// Whether the type of a function has integers alone.
+#[tactic(auto, unfolding(crate::specs::Supported::IsIntegerFunction))]
+fn is_integer_function(kind: &FuncType) -> bool
+    ensures { IsTrue result ↔ IsIntegerFunction kind.now }
+{
+    are_integers(kind.params.as_slice()) && are_integers(kind.results.as_slice())
+}
+
+/// Whether the types of functions have integers alone.
+fn are_integer_functions(kinds: &[FuncType]) -> bool
+    ensures { IsTrue result ↔ All IsIntegerFunction kinds.now }
+{
+    kinds.iter().all(|kind| is_integer_function(kind))
+}
+
+/// Whether the import is no global of floats.
+fn is_integer_import(kind: ImportKind) -> bool
+    ensures { IsTrue result ↔ IsIntegerImport kind }
+{
+    match kind {
+        ImportKind::Global(kind) => is_integer(kind.kind),
+        _ => true,
+    }
+}
+
+/// Whether the imports are no globals of floats.
+fn are_integer_imports(imports: &[Import]) -> bool
+    ensures { IsTrue result ↔ All (λ entry. IsIntegerImport entry.kind) imports.now }
+{
+    imports.iter().all(|entry| is_integer_import(entry.kind))
+}
+
+/// Whether a block's result is an integer, where it has one.
+fn is_integer_block(kind: Option<WasmType>) -> bool
+    ensures { IsTrue result ↔ IfSome kind IsInteger }
+{
+    match kind {
+        Some(kind) => is_integer(kind),
+        None => true,
+    }
+}
+
+/// Whether the instruction is one of version 1.0 without floats.
+fn is_integer_instr(item: &Instr) -> bool
+    ensures { IsTrue result ↔ IsIntegerInstr item.now }
+{
+    match item {
+        Instr::Block(kind) | Instr::Loop(kind) | Instr::If(kind) => is_integer_block(*kind),
+        Instr::FloatAccess { .. }
+        | Instr::F32Const(_)
+        | Instr::F64Const(_)
+        | Instr::Float(_)
+        | Instr::Extend(_) => false,
+        _ => true,
+    }
+}
+
+/// Whether the instructions are all of version 1.0 without floats.
+fn are_integer_instrs(items: &[Instr]) -> bool
+    ensures { IsTrue result ↔ All IsIntegerInstr items.now }
+{
+    items.iter().all(is_integer_instr)
+}
+
+/// Whether the locals are integers, those of empty runs too.
+fn are_integer_locals(runs: &[LocalRun]) -> bool
+    ensures { IsTrue result ↔ All (λ run. IsInteger run.kind) runs.now }
+{
+    runs.iter().all(|run| is_integer(run.kind))
+}
+
+/// Whether the code of a function is without floats.
+#[tactic(auto, unfolding(crate::specs::Supported::IsIntegerCode))]
+fn is_integer_code(code: &Code) -> bool
+    ensures { IsTrue result ↔ IsIntegerCode code.now }
+{
+    are_integer_locals(code.locals.as_slice()) && are_integer_instrs(code.items.as_slice())
+}
+
+/// Whether the code of each function is without floats.
+fn are_integer_codes(bodies: &[Code]) -> bool
+    ensures { IsTrue result ↔ All IsIntegerCode bodies.now }
+{
+    bodies.iter().all(|code| is_integer_code(code))
+}
+
+/// Whether the globals are integers, with first values of integers.
+fn are_integer_globals(globals: &[DefinedGlobal]) -> bool
+    ensures { IsTrue result ↔ All (λ global. IsInteger global.kind.kind × All IsIntegerInstr global.first) globals.now }
+{
+    globals.iter().all(|global| {
+        is_integer(global.kind.kind) && are_integer_instrs(global.first.as_slice())
+    })
+}
+
+/// Whether the offsets of element segments are without floats.
+fn are_integer_elements(segments: &[ElementSegment]) -> bool
+    ensures { IsTrue result ↔ All (λ segment. All IsIntegerInstr segment.offset) segments.now }
+{
+    segments
+        .iter()
+        .all(|segment| are_integer_instrs(segment.offset.as_slice()))
+}
+
+/// Whether the offsets of data segments are without floats.
+fn are_integer_segments(segments: &[DataSegment]) -> bool
+    ensures { IsTrue result ↔ All (λ segment. All IsIntegerInstr segment.offset) segments.now }
+{
+    segments
+        .iter()
+        .all(|segment| are_integer_instrs(segment.offset.as_slice()))
+}
+
+/// Whether the module is supported.
+pub(crate) fn is_supported(tree: &Module) -> bool
+    ensures { IsTrue result ↔ IsSupported tree.now }
+{
+    if tree.start.is_some() {
+        return false;
+    }
+    if !are_integer_functions(tree.types.as_slice()) {
+        return false;
+    }
+    if !are_integer_imports(tree.imports.as_slice()) {
+        return false;
+    }
+    if !are_integer_globals(tree.globals.as_slice()) {
+        return false;
+    }
+    if !are_integer_elements(tree.elements.as_slice()) {
+        return false;
+    }
+    if !are_integer_codes(tree.bodies.as_slice()) {
+        return false;
+    }
+    are_integer_segments(tree.segments.as_slice())
+}

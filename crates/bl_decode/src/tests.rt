@@ -1,0 +1,180 @@
+use super::*;
+use bl_base::{NoMemory, Quantity};
+use std::alloc::Global;
+use std::test::Fail;
+
+const HEADER: [u8; 8] = [0x00, 0x61, 0x73, 0x6D, 0x01, 0x00, 0x00, 0x00];
+
+/// A module whose one function loads from what it loaded.
+const LOADS: [u8; 46] = [
+    0x00, 0x61, 0x73, 0x6D, 0x01, 0x00, 0x00, 0x00, 0x01, 0x06, 0x01, 0x60, 0x01, 0x7F, 0x01, 0x7F,
+    0x03, 0x02, 0x01, 0x00, 0x05, 0x03, 0x01, 0x00, 0x01, 0x07, 0x05, 0x01, 0x01, 0x66, 0x00, 0x00,
+    0x0A, 0x0C, 0x01, 0x0A, 0x00, 0x20, 0x00, 0x28, 0x02, 0x00, 0x28, 0x02, 0x00, 0x0B,
+];
+
+/// The type section of the one type of no parameters and no results.
+const TYPE: [u8; 6] = [0x01, 0x04, 0x01, 0x60, 0x00, 0x00];
+
+/// The function section of one function of the first type.
+const FUNCTION: [u8; 4] = [0x03, 0x02, 0x01, 0x00];
+
+/// The code section of one function without items.
+const CODE: [u8; 6] = [0x0A, 0x04, 0x01, 0x02, 0x00, 0x0B];
+
+/// Why the header with those sections behind it isn't decoded; None where it is.
+fn refusal(alloc: Global, sections: &[&[u8]]) -> Result<Option<DecodeError>, NoMemory> {
+    let mut bytes = Vec::from_slice(alloc, &HEADER)?;
+    for section in sections {
+        bytes.extend_from_slice(section)?;
+    }
+    Ok(decode(alloc, &bytes).err())
+}
+
+/// The bytes, so many times.
+fn times(alloc: Global, bytes: &[u8], count: u32) -> Result<Vec<u8>, NoMemory> {
+    let mut all = Vec::new(alloc);
+    for _ in 0..count {
+        all.extend_from_slice(bytes)?;
+    }
+    Ok(all)
+}
+
+#[test]
+fn a_module_is_decoded_whole(rt: HostRuntime) -> Result<(), Fail> {
+    let alloc = rt.alloc();
+    for len in 0..LOADS.len() {
+        let whole = len == 8 || len == 16;
+        assert_eq!(rt; decode(alloc, &LOADS[..len]).is_ok(), whole);
+    }
+    let tree = decode(alloc, &LOADS).expect(&rt, "the module is decoded");
+    assert_eq!(rt; tree.types.len(), 1);
+    assert_eq!(rt; tree.functions.as_slice(), [0].as_slice());
+    for code in tree.bodies.as_slice() {
+        assert_eq!(rt; code.items.len(), 3);
+    }
+    for export in tree.exports.as_slice() {
+        assert_eq!(rt; export.name.as_slice(), b"f".as_slice());
+    }
+    assert_eq!(rt; (tree.bodies.len(), tree.exports.len()), (1, 1));
+    let long = [0x0A, 0x8C, 0x80, 0x80, 0x80, 0x00];
+    assert_eq!(rt;
+        refusal(alloc, &[&LOADS[8..32], &long, &LOADS[34..]])?,
+        None
+    );
+    Ok(())
+}
+
+#[test]
+fn each_refusal_has_its_cause(rt: HostRuntime) -> Result<(), Fail> {
+    let alloc = rt.alloc();
+    let malformed = Some(DecodeError::Malformed);
+    let custom = [0x00, 0x03, 0x01, 0x61, 0xFF];
+    let table: [(&[&[u8]], Option<DecodeError>); 14] = [
+        (&[&custom, &TYPE, &custom, &FUNCTION, &CODE, &custom], None),
+        // sections out of order, and of unequal counts
+        (&[&FUNCTION, &TYPE, &CODE], malformed),
+        (&[&TYPE, &FUNCTION], malformed),
+        (&[&TYPE, &TYPE], malformed),
+        // a name that isn't UTF-8
+        (&[&[0x00, 0x02, 0x01, 0xFF]], malformed),
+        // 2^32 - 1 types
+        (&[&[0x01, 0x05, 0xFF, 0xFF, 0xFF, 0xFF, 0x0F]], malformed),
+        // a section longer than its contents, and code shorter than its size
+        (&[&[0x01, 0x05, 0x01, 0x60, 0x00, 0x00, 0x00]], malformed),
+        (
+            &[
+                &TYPE,
+                &FUNCTION,
+                &[0x0A, 0x05, 0x01, 0x03, 0x00, 0x0B, 0x0B],
+            ],
+            malformed,
+        ),
+        // 2^32 locals
+        (
+            &[
+                &TYPE,
+                &FUNCTION,
+                &[
+                    0x0A, 0x0C, 0x01, 0x0A, 0x02, 0xFF, 0xFF, 0xFF, 0xFF, 0x0F, 0x7F, 0x01, 0x7F,
+                    0x0B,
+                ],
+            ],
+            malformed,
+        ),
+        // a float, a start function, an extension by sign
+        (
+            &[&[0x01, 0x05, 0x01, 0x60, 0x01, 0x7C, 0x00]],
+            Some(DecodeError::Unsupported),
+        ),
+        (
+            &[&TYPE, &FUNCTION, &[0x08, 0x01, 0x00], &CODE],
+            Some(DecodeError::Unsupported),
+        ),
+        (
+            &[
+                &TYPE,
+                &FUNCTION,
+                &[0x0A, 0x05, 0x01, 0x03, 0x00, 0xC0, 0x0B],
+            ],
+            Some(DecodeError::Unsupported),
+        ),
+        // a table of 1,025 slots, and a memory of 257 pages
+        (
+            &[&[0x04, 0x05, 0x01, 0x70, 0x00, 0x81, 0x08]],
+            Some(DecodeError::Limit {
+                which: Quantity::Table,
+                value: 1025,
+            }),
+        ),
+        (
+            &[&[0x05, 0x04, 0x01, 0x00, 0x81, 0x02]],
+            Some(DecodeError::Limit {
+                which: Quantity::Memory,
+                value: 257,
+            }),
+        ),
+    ];
+    for (sections, cause) in table {
+        assert_eq!(rt; refusal(alloc, sections)?, cause);
+    }
+    Ok(())
+}
+
+#[test]
+fn limits_are_tested_in_their_order(rt: HostRuntime) -> Result<(), Fail> {
+    let alloc = rt.alloc();
+    // 10,001 functions
+    let indices = times(alloc, &[0x00], 10_001)?;
+    let codes = times(alloc, &[0x02, 0x00, 0x0B], 10_001)?;
+    let many: [&[u8]; 5] = [
+        &TYPE,
+        &[0x03, 0x93, 0x4E, 0x91, 0x4E],
+        &indices,
+        &[0x0A, 0xB5, 0xEA, 0x01, 0x91, 0x4E],
+        &codes,
+    ];
+    let functions = DecodeError::Limit {
+        which: Quantity::Functions,
+        value: 10_001,
+    };
+    assert_eq!(rt; refusal(alloc, &many)?, Some(functions));
+    // 257 blocks round a br_table of 1,025 targets
+    let blocks = times(alloc, &[0x02, 0x40], 257)?;
+    let targets = times(alloc, &[0x00], 1_026)?;
+    let ends = times(alloc, &[0x0B], 258)?;
+    let deep: [&[u8]; 7] = [
+        &TYPE,
+        &FUNCTION,
+        &[0x0A, 0x8D, 0x0E, 0x01, 0x8A, 0x0E, 0x00],
+        &blocks,
+        &[0x0E, 0x81, 0x08],
+        &targets,
+        &ends,
+    ];
+    let nesting = DecodeError::Limit {
+        which: Quantity::Nesting,
+        value: 257,
+    };
+    assert_eq!(rt; refusal(alloc, &deep)?, Some(nesting));
+    Ok(())
+}
