@@ -1,0 +1,5 @@
+pub mod Cuts
+pub mod Flows
+pub mod Networks
+pub mod Searches
+pub mod Split
