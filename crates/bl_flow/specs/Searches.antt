@@ -16,3 +16,8 @@ pub record AreRows (links : List Link) (rows : List (List ℕ)) : Type 0 where
       (slice_index (slice_index_or rows part []) place < length links)
       × ((link_at links (slice_index (slice_index_or rows part []) place)).from ≡ part)
   pub full : (k : ℕ) → k < length links → Contains (slice_index_or rows (link_at links k).from []) k
+
+-- a link of the list with room leads out of the set nowhere
+abbrev pub IsClosed : List Link → List ℕ → (ℕ → Bool) → Type 0
+IsClosed links rooms set =
+    (k : ℕ) → k < length links → 0 < slice_index rooms k → IsTrue (set (link_at links k).from) → IsTrue (set (link_at links k).to)

@@ -32,7 +32,7 @@ end_link n v = record { from = out_part v; to = out_part n; enters = None }
 -- the links of the split network: through the nodes first
 abbrev pub links_of : Network → List Link
 links_of n =
-    map node_link (range_with_len 0 (size n)) ++ map arc_link n.arcs ++ map (start_link (size n)) n.starts ++ map (end_link (size n)) n.ends
+    map node_link (range_with_len 0 (size n)) ++ (map arc_link n.arcs ++ (map (start_link (size n)) n.starts ++ map (end_link (size n)) n.ends))
 
 -- the same link, the other way
 abbrev pub turned : Link → Link

@@ -1,0 +1,7 @@
+pub mod Amounts
+pub mod BothWays
+pub mod Duality
+pub mod Links
+pub mod NearSides
+pub mod Reach
+pub mod Sums
