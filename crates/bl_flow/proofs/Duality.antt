@@ -27,14 +27,14 @@ nothing_if : (b : Bool) → amount_if b 0 ≡ 0
 nothing_if true = refl
 nothing_if false = refl
 
-share_past : (n : Network) (cut : ℕ → Bool) (k : ℕ) → size n ≤ k → share n cut k ≡ 0
+pub share_past : (n : Network) (cut : ℕ → Bool) (k : ℕ) → size n ≤ k → share n cut k ≡ 0
 share_past n cut k above = rw (slice_get_past n.weights k above) (nothing_if (cut k))
 
 weight_some : (o : Option ℕ) (d : ℕ) → IsSome o → unwrap_or o d ≡ unwrap_or o 0
 weight_some None d e = absurd (false≢true e)
 weight_some (Some w) d e = refl
 
-share_in : (n : Network) (cut : ℕ → Bool) (k : ℕ) → cut k ≡ true → IsSome (weight_at n k) → capacity n k ≡ share n cut k
+pub share_in : (n : Network) (cut : ℕ → Bool) (k : ℕ) → cut k ≡ true → IsSome (weight_at n k) → capacity n k ≡ share n cut k
 share_in n cut k e some = rw e (weight_some (weight_at n k) (2 ^ 63) some)
 
 pub shares_sum : (n : Network) (cut : ℕ → Bool) → sum_below (link_count n) (share n cut) ≡ cut_weight n cut
