@@ -6,3 +6,4 @@ pub mod NearSides
 pub mod Optimal
 pub mod Reach
 pub mod Sums
+pub mod Ways

@@ -46,6 +46,10 @@ both_ways links = links ++ map turned links
 abbrev pub link_at : List Link → ℕ → Link
 link_at links k = slice_index_or links k (record { from = 0; to = 0; enters = None })
 
+-- the node that a link enters, if it enters one
+abbrev pub entered : List Link → ℕ → Option ℕ
+entered links k = (link_at links k).enters
+
 -- how much a link can take: no sum of weights comes to the bound of those without one
 abbrev pub capacity : Network → ℕ → ℕ
 capacity n k = unwrap_or (weight_at n k) (2 ^ 63)
