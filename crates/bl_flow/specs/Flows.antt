@@ -1,9 +1,9 @@
 -- Flows in the split network, as what each link can still take, each way.
-use Rattle.std.specs.Prelude.{◌≡◌, ℕ, ◌+◌, ◌<◌, ◌≤◌, Bool, List, [], ◌∷◌, length, slice_index, if◌then◌else◌, count_by, nat_eq}
+use Rattle.std.specs.Prelude.{◌≡◌, ℕ, ◌+◌, ◌*◌, ◌<◌, ◌≤◌, Bool, List, [], ◌∷◌, length, slice_index, if◌then◌else◌, count_by, nat_eq}
 use Rattle.bl_flow.specs.declared.network.Network.{Network}
 use Rattle.bl_flow.specs.declared.split.Link.{Link}
 use Rattle.bl_flow.specs.Networks.{size, sum_below}
-use Rattle.bl_flow.specs.Split.{links_of, link_at, capacity, in_part, out_part}
+use Rattle.bl_flow.specs.Split.{links_of, both_ways, link_at, capacity, in_part, out_part}
 
 -- an amount where a part is in a set, and 0 elsewhere
 abbrev pub amount_if : Bool → ℕ → ℕ
@@ -54,3 +54,25 @@ pub record HasRooms (n : Network) (links : ℕ) (rooms : List ℕ) : Type 0 wher
   pub places : length rooms ≡ links + links
   pub all : (k : ℕ) → k < links → slice_index rooms k ≡ capacity n k
   pub none : (k : ℕ) → k < links → slice_index rooms (k + links) ≡ 0
+
+-- an amount more flows along a way back
+pub record IsPushed (old new : List ℕ) (way : List ℕ) (amount : ℕ) : Type 0 where
+  pub places : length new ≡ length old
+  pub sums : (half k : ℕ) → half + half ≡ length old → k < half →
+      slice_index new k + slice_index new (k + half) ≡ slice_index old k + slice_index old (k + half)
+  pub adds : (links : List Link) (from to : ℕ) → length links + length links ≡ length old → LeadsBack (both_ways links) way from to →
+      Adds links (length links) (λ k. slice_index old (k + length links)) (λ k. slice_index new (k + length links)) from to amount
+
+-- an amount less is carried by each link of a way back
+pub record IsTaken (old new : List ℕ) (way : List ℕ) (amount : ℕ) : Type 0 where
+  pub places : length new ≡ length old
+  pub less : (k : ℕ) → slice_index new k + amount * count_by (λ j. nat_eq j k) way ≡ slice_index old k
+  pub adds : (links : List Link) (from to : ℕ) →
+      ((place : ℕ) → place < length way → slice_index way place < length links) → LeadsBack (both_ways links) way from to →
+      Adds links (length links) (λ k. slice_index new k) (λ k. slice_index old k) from to amount
+
+-- the amounts carried, without rooms the other way, are a flow of so much
+pub record IsCarried (n : Network) (carries : List ℕ) (amount : ℕ) : Type 0 where
+  pub places : length carries ≡ link_count n + link_count n
+  pub turned : (k : ℕ) → k < link_count n → slice_index carries (k + link_count n) ≡ 0
+  pub flow : Carries (links_of n) (link_count n) (λ k. slice_index carries k) (in_part (size n)) (out_part (size n)) amount

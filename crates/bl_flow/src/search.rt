@@ -1,5 +1,7 @@
 //! The search for the parts that a part reaches by links with room.
-ghost use Rattle.std.specs.Prelude.{◌≡◌};
+ghost use Rattle.std.specs.Prelude.{◌≡◌, ◌<◌, ◌+◌, ℕ, true, All, length, slice_index, OnOk, IfOk};
+ghost use Rattle.bl_flow.specs.Searches.{AreRows, rows_in, row_at, mark_at, is_marked, IsTree, IsSearch, Searching, IsWay, unmarked};
+ghost use Rattle.bl_flow.specs.Split.{link_at};
 
 use crate::split::Link;
 use bl_base::NoMemory;
@@ -8,10 +10,19 @@ use std::alloc::Global;
 /// How a part was found.
 #[derive(Clone, Copy, Debug, Drop)]
 pub struct Mark {
-    /// How many parts were found before.
+    /// Above that of the part that it was found from.
     pub rank: usize,
     /// The link by which it was found.
     pub link: usize,
+}
+
+/// A way from a part back to the root.
+#[derive(Debug, Drop)]
+pub struct Way {
+    /// The links, the last first.
+    pub links: Vec<usize>,
+    /// The least room of a link.
+    pub room: u64,
 }
 
 /// Marks each part that the root reaches by links with room, the nearest first.
@@ -21,7 +32,14 @@ pub fn search(
     rows: &[Vec<usize>],
     rooms: &[u64],
     root: usize,
-) -> Result<Vec<Option<Mark>>, NoMemory> {
+) -> Result<Vec<Option<Mark>>, NoMemory>
+    requires rows_hold { AreRows links.now (rows_in rows.now) }
+    requires parts { All (λ link. link.to < length rows.now) links.now }
+    requires rooms_hold { length rooms.now ≡ length links.now }
+    requires root_in { root < length rows.now }
+    ensures places { IfOk result (λ marks. length marks.items ≡ length rows.now) }
+    ensures found { IfOk result (λ marks. IsSearch links.now rooms.now root marks.items) }
+{
     let mut marks = vec![in alloc; None; rows.len()]?;
     let mut queue = Vec::new(alloc);
     marks[root] = Some(Mark { rank: 0, link: 0 });
@@ -42,7 +60,19 @@ fn visit(
     rooms: &[u64],
     marks: &mut [Option<Mark>],
     queue: &mut Vec<usize>,
-) -> Result<(), NoMemory> {
+) -> Result<(), NoMemory>
+    requires within { (place : ℕ) → place < length row.now → slice_index row.now place < length links.now }
+    requires parts { All (λ link. link.to < length marks.old) links.now }
+    requires rooms_hold { length rooms.now ≡ length links.now }
+    ensures state { OnOk result ((root next part : ℕ)
+        → ((place : ℕ) → place < length row.now → (link_at links.now (slice_index row.now place)).from ≡ part)
+        → is_marked marks.old part ≡ true
+        → Searching links.now rooms.now root marks.old queue.old.items next (λ v. v ≡ part)
+        → Searching links.now rooms.now root marks.new queue.new.items next (λ v. v ≡ part)) }
+    ensures done { OnOk result ((place : ℕ) → place < length row.now → 0 < slice_index rooms.now (slice_index row.now place)
+        → is_marked marks.new (link_at links.now (slice_index row.now place)).to ≡ true) }
+    ensures counts { OnOk result (unmarked marks.new + length queue.new.items ≡ unmarked marks.old + length queue.old.items) }
+{
     for link in row {
         let to = links[*link].to;
         if rooms[*link] > 0 && marks[to].is_none() {
@@ -54,31 +84,30 @@ fn visit(
     Ok(())
 }
 
-/// The links by which a part was found, the last first.
+/// The way by which a part was found.
 pub fn way_back(
     alloc: Global,
     links: &[Link],
+    rooms: &[u64],
     marks: &[Option<Mark>],
     root: usize,
     part: usize,
-) -> Result<Vec<usize>, NoMemory> {
+) -> Result<Way, NoMemory>
+    requires tree { IsTree links.now rooms.now root marks.now }
+    requires rooms_hold { length rooms.now ≡ length links.now }
+    requires found { is_marked marks.now part ≡ true }
+    ensures { IfOk result (λ way. IsWay links.now rooms.now root part way.links.items way.room) }
+{
     let mut way = Vec::new(alloc);
+    let mut room = u64::MAX;
     let mut at = part;
     while at != root {
         let Some(mark) = marks[at] else {
             unreachable!()
         };
         way.push(mark.link)?;
+        room = room.min(rooms[mark.link]);
         at = links[mark.link].from;
     }
-    Ok(way)
-}
-
-/// The least room on a way.
-pub fn least_room(rooms: &[u64], way: &[usize]) -> u64 {
-    let mut least = u64::MAX;
-    for link in way {
-        least = least.min(rooms[*link]);
-    }
-    least
+    Ok(Way { links: way, room })
 }
