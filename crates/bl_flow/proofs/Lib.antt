@@ -2,8 +2,10 @@ pub mod Amounts
 pub mod BothWays
 pub mod Duality
 pub mod Links
+pub mod Marking
 pub mod NearSides
 pub mod Optimal
+pub mod Pushing
 pub mod Reach
 pub mod Sums
 pub mod Ways

@@ -63,6 +63,7 @@ IsDone links rooms marks part =
 
 -- a search on its way: the parts queued from a place on wait, and perhaps some others
 pub record Searching (links : List Link) (rooms : List ℕ) (root : ℕ) (marks : List (Option Mark)) (queue : List ℕ) (next : ℕ) (pending : ℕ → Type 0) : Type 0 where
+  pub in_order : next ≤ length queue
   pub root_marked : is_marked marks root ≡ true
   pub tree : IsTree links rooms root marks
   pub ranks : (part : ℕ) → is_marked marks part ≡ true → rank_of (mark_at marks part) < length queue
