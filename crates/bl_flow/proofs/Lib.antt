@@ -7,5 +7,6 @@ pub mod NearSides
 pub mod Optimal
 pub mod Pushing
 pub mod Reach
+pub mod Rows
 pub mod Sums
 pub mod Ways
