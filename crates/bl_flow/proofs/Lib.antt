@@ -1,5 +1,6 @@
 pub mod Amounts
 pub mod BothWays
+pub mod Carrying
 pub mod Duality
 pub mod Links
 pub mod Marking

@@ -16,7 +16,7 @@ use Rattle.bl_flow.proofs.Links.{Outer, outer_arc, outer_start, outer_end, node_
 use Rattle.bl_flow.proofs.BothWays.{forward_at}
 use Rattle.bl_flow.proofs.NearSides.{walk_on}
 
-abbrev once : Bool → ℕ
+abbrev pub once : Bool → ℕ
 once b = cond b 1 0
 
 count_cons : (p : ℕ → Bool) (x : ℕ) (xs : List ℕ) → count_by p (x ∷ xs) ≡ once (p x) + count_by p xs
