@@ -1,0 +1,66 @@
+-- Amounts more flow, and no more than the weights allow.
+use Rattle.std.proofs.Common.{◌≡◌, ℕ, ◌+◌, ◌*◌, ◌^◌, ◌<◌, ◌≤◌, Bool, true, false, List, length, Option, Some, None, is_some, unwrap_or, refl, sym, ap, subst, ◌∙◌, arith, ◌⊎◌, inl, inr, slice_index}
+use Rattle.std.specs.Prelude.{IsSome, IsTrue}
+use Rattle.bl_flow.specs.declared.network.Network.{Network}
+use Rattle.bl_flow.specs.declared.split.Link.{Link}
+use Rattle.bl_flow.specs.Networks.{size, weight_at, InRange, total_weight, sum_below}
+use Rattle.bl_flow.specs.Cuts.{IsCut, Meets, cut_weight}
+use Rattle.bl_flow.specs.Split.{in_part, out_part, links_of, both_ways, link_at, capacity}
+use Rattle.bl_flow.specs.Flows.{link_count, carried_by, IsFlow, IsPushed, HasRooms, Carries, amount_if, leaves, enters}
+use Rattle.bl_flow.specs.Searches.{IsWay}
+use Rattle.bl_flow.proofs.Sums.{sum_same, sum_none}
+use Rattle.bl_flow.proofs.Amounts.{carries_more}
+use Rattle.bl_flow.proofs.Duality.{worth_at_most, share}
+use Rattle.bl_flow.proofs.Links.{count_of}
+
+-- nothing flows at first
+nothing_if : (b : Bool) → amount_if b 0 ≡ 0
+nothing_if true = refl
+nothing_if false = refl
+
+pub flow_begins : (n : Network) (rooms : List ℕ) (links : ℕ) → links ≡ link_count n → HasRooms n links rooms → IsFlow n rooms 0
+flow_begins n rooms links e has = record {
+  places = has.places ∙ ap (λ m. m + m) e;
+  fits = λ k lt.
+      let all = has.all k (omega arith) in
+      let none : carried_by n rooms k ≡ 0 = nothing k lt in
+      omega arith;
+  carries = λ set.
+      let out_ = sum_none (link_count n) (λ k. amount_if (set (link_at (links_of n) k).from) (carried_by n rooms k)) (λ k lt. ap (amount_if (set (link_at (links_of n) k).from)) (nothing k lt) ∙ nothing_if (set (link_at (links_of n) k).from)) in
+      let in_ = sum_none (link_count n) (λ k. amount_if (set (link_at (links_of n) k).to) (carried_by n rooms k)) (λ k lt. ap (amount_if (set (link_at (links_of n) k).to)) (nothing k lt) ∙ nothing_if (set (link_at (links_of n) k).to)) in
+      let a = nothing_if (set (in_part (size n))) in
+      let b = nothing_if (set (out_part (size n))) in
+      omega arith;
+}
+  where
+    nothing : (k : ℕ) → k < link_count n → carried_by n rooms k ≡ 0
+    nothing k lt = ap (λ m. slice_index rooms (k + m)) (sym e) ∙ has.none k (omega arith)
+
+-- an amount more
+pub flow_more : (n : Network) (rooms after : List ℕ) (a d : ℕ) (way : List ℕ) → IsFlow n rooms a → IsPushed rooms after way d
+    → (room : ℕ) → IsWay (both_ways (links_of n)) rooms (in_part (size n)) (out_part (size n)) way room → IsFlow n after (a + d)
+flow_more n rooms after a d way flow pushed room on = record {
+  places = pushed.places ∙ flow.places;
+  fits = λ k lt. pushed.sums (link_count n) k (sym flow.places) lt ∙ flow.fits k lt;
+  carries = carries_more (links_of n) (link_count n) (carried_by n rooms) (carried_by n after) (in_part (size n)) (out_part (size n)) a d flow.carries
+      (pushed.adds (links_of n) (in_part (size n)) (out_part (size n)) (sym flow.places) on.back);
+}
+
+-- the nodes with weights are a cut
+abbrev has_weight : Network → ℕ → Bool
+has_weight n v = is_some (weight_at n v)
+
+weight_if : (o : Option ℕ) → amount_if (is_some o) (unwrap_or o 0) ≡ unwrap_or o 0
+weight_if None = refl
+weight_if (Some w) = refl
+
+pub at_most_total : (n : Network) (rooms : List ℕ) (a : ℕ) → IsFlow n rooms a → InRange n → Meets n (λ v. IsSome (weight_at n v)) → a ≤ total_weight n
+at_most_total n rooms a flow range bounded =
+    let is : IsCut n (has_weight n) = record { weighted = λ v h. h; meets = bounded } in
+    let bound = worth_at_most n rooms a flow range (has_weight n) is in
+    let same : cut_weight n (has_weight n) ≡ total_weight n = sum_same (size n) (share n (has_weight n)) (λ v. unwrap_or (weight_at n v) 0) (λ v lt. weight_if (weight_at n v)) in
+    omega arith
+
+weight_fits : (o : Option ℕ) → unwrap_or o 0 < 2 ^ 63 → unwrap_or o (2 ^ 63) ≤ 2 ^ 63
+weight_fits None lt = omega arith
+weight_fits (Some w) lt = omega arith
