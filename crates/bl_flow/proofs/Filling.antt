@@ -8,10 +8,12 @@ use Rattle.bl_flow.specs.Cuts.{IsCut, Meets, cut_weight}
 use Rattle.bl_flow.specs.Split.{in_part, out_part, links_of, both_ways, link_at, capacity}
 use Rattle.bl_flow.specs.Flows.{link_count, carried_by, IsFlow, IsPushed, HasRooms, Carries, amount_if, leaves, enters}
 use Rattle.bl_flow.specs.Searches.{IsWay}
-use Rattle.bl_flow.proofs.Sums.{sum_same, sum_none}
+use Rattle.bl_flow.proofs.Sums.{sum_same, sum_none, sum_term}
 use Rattle.bl_flow.proofs.Amounts.{carries_more}
 use Rattle.bl_flow.proofs.Duality.{worth_at_most, share}
-use Rattle.bl_flow.proofs.Links.{count_of}
+use Rattle.bl_flow.proofs.Links.{count_of, unbounded_behind}
+use Rattle.bl_flow.proofs.BothWays.{both_count}
+use Rattle.std.proofs.lemmas.Bool.{cases_lt}
 
 -- nothing flows at first
 nothing_if : (b : Bool) → amount_if b 0 ≡ 0
@@ -64,3 +66,23 @@ at_most_total n rooms a flow range bounded =
 weight_fits : (o : Option ℕ) → unwrap_or o 0 < 2 ^ 63 → unwrap_or o (2 ^ 63) ≤ 2 ^ 63
 weight_fits None lt = omega arith
 weight_fits (Some w) lt = omega arith
+
+-- no link takes more than a machine number
+pub capacity_fits : (n : Network) (k : ℕ) → total_weight n < 2 ^ 63 → capacity n k < 2 ^ 64
+capacity_fits n k total =
+    elim (cases_lt k (size n)) as (λ _. capacity n k < 2 ^ 64) [
+      inl inside ↦
+        let term = sum_term (size n) (λ v. unwrap_or (weight_at n v) 0) k inside in
+        let fits = weight_fits (weight_at n k) (omega arith) in
+        omega arith
+    | inr behind ↦ let e = unbounded_behind n k behind in omega arith ]
+
+-- what a push along a way needs
+pub halves_fit : (n : Network) (rooms : List ℕ) (a : ℕ) → IsFlow n rooms a → total_weight n < 2 ^ 63
+    → (half : ℕ) × (half + half ≡ length rooms) × ((k : ℕ) → k < half → slice_index rooms k + slice_index rooms (k + half) < 2 ^ 64)
+halves_fit n rooms a flow total =
+    (link_count n, sym flow.places, λ k lt. let e = flow.fits k lt in let fits = capacity_fits n k total in omega arith)
+
+-- the rooms of a flow are as many as the links both ways
+pub rooms_of : (n : Network) (rooms : List ℕ) (a : ℕ) → IsFlow n rooms a → length rooms ≡ length (both_ways (links_of n))
+rooms_of n rooms a flow = flow.places ∙ sym (both_count (links_of n))

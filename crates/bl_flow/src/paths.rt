@@ -19,26 +19,26 @@ pub fn paths_of(
     links: &[Link],
     rows: &[Vec<usize>],
     rooms: &[u64],
-    amount: u64,
+    total: u64,
 ) -> Result<List<NodePath>, NoMemory>
     requires in_range { InRange n.now }
     requires links_hold { links.now ≡ both_ways (links_of n.now) }
     requires rows_hold { AreRows links.now (rows_in rows.now) }
     requires parts { length rows.now ≡ 2 * size n.now + 2 }
-    requires flow { IsFlow n.now rooms.now amount }
+    requires flow { IsFlow n.now rooms.now total }
     ensures paths { IfOk result (λ paths. All (IsPath n.now) paths) }
-    ensures all { IfOk result (λ paths. carried paths ≡ amount) }
+    ensures all { IfOk result (λ paths. carried paths ≡ total) }
     ensures loads { IfOk result (λ paths. (v : ℕ) → v < size n.now → load paths v ≤ carried_by n.now rooms.now v) }
 {
     let source = 2 * n.weights.len();
-    let mut left = amount;
-    let mut carried = carried(alloc, rooms)?;
+    let mut left = total;
+    let mut carries = carried(alloc, rooms)?;
     let mut paths = List::new(alloc);
     while left > 0 {
-        let marks = search(alloc, links, rows, &carried, source)?;
-        let way = way_back(alloc, links, &carried, &marks, source, source + 1)?;
+        let marks = search(alloc, links, rows, &carries, source)?;
+        let way = way_back(alloc, links, &carries, &marks, source, source + 1)?;
         let amount = way.room.min(left);
-        take(&mut carried, &way.links, amount);
+        take(&mut carries, &way.links, amount);
         left -= amount;
         paths.push(NodePath {
             nodes: nodes_on(alloc, links, &way.links)?,
