@@ -11,6 +11,7 @@ use Rattle.bl_flow.specs.declared.search.Mark.{Mark}
 use Rattle.bl_flow.specs.Networks.{size, InRange, IsPath, load, carried, sum_below}
 use Rattle.bl_flow.specs.Split.{in_part, out_part, links_of, both_ways, link_at, entered}
 use Rattle.bl_flow.specs.Flows.{amount_if, Carries, link_count, carried_by, IsFlow, IsCarried, IsTaken, LeadsBack}
+use Rattle.bl_flow.specs.Full.{IsPathTaken}
 use Rattle.bl_flow.specs.Searches.{IsSearch, IsWay, is_marked}
 use Rattle.bl_flow.proofs.Sums.{sum_same, sum_none}
 use Rattle.bl_flow.proofs.Amounts.{at_most, carries_less, amount_in, amount_out}
@@ -108,22 +109,21 @@ module _ (n : Network) (range : InRange n) (carries : List ℕ) (left : ℕ) (is
             amount = omega arith;
           }
 
-      load_more : (paths : List NodePath) (path : NodePath) (v : ℕ) → load (paths ++ path ∷ []) v ≡ load paths v + path.amount * count_by (λ u. nat_eq u v) path.nodes
-      load_more paths path v =
-          let whole = sum_by-append (λ p. p.amount * count_by (λ u. nat_eq u v) p.nodes) paths (path ∷ []) in
-          let one = sum_by-cons (λ p. p.amount * count_by (λ u. nat_eq u v) p.nodes) path [] in
-          omega arith
-
-      pub loads_more : (paths : List NodePath) (path : NodePath) (v bound : ℕ) → v < size n → path.nodes ≡ reverse (filter_map (entered links) way) → path.amount ≡ amount
-          → load paths v + slice_index carries v ≡ bound → load (paths ++ path ∷ []) v + slice_index after v ≡ bound
-      loads_more paths path v bound lt nodes is_amount before =
+      pub path_loads : (path : NodePath) → path.nodes ≡ reverse (filter_map (entered links) way) → path.amount ≡ amount
+          → (v : ℕ) → v < size n → path.amount * count_by (λ u. nat_eq u v) path.nodes + slice_index after v ≡ slice_index carries v
+      path_loads path nodes is_amount v lt =
           let walk = the_walk in
-          let more = load_more paths path v in
           let less = taken.less v in
           let counts = ap (count_by (λ u. nat_eq u v)) (nodes ∙ walk.nodes) ∙ walk.counts v lt in
           let same : path.amount * count_by (λ u. nat_eq u v) path.nodes ≡ amount * count_by (λ k. nat_eq k v) way =
               ap (λ a. a * count_by (λ u. nat_eq u v) path.nodes) is_amount ∙ ap (λ c. amount * c) counts in
           omega arith
+
+load_more : (paths : List NodePath) (path : NodePath) (v : ℕ) → load (paths ++ path ∷ []) v ≡ load paths v + path.amount * count_by (λ u. nat_eq u v) path.nodes
+load_more paths path v =
+    let whole = sum_by-append (λ p. p.amount * count_by (λ u. nat_eq u v) p.nodes) paths (path ∷ []) in
+    let one = sum_by-cons (λ p. p.amount * count_by (λ u. nat_eq u v) p.nodes) path [] in
+    omega arith
 
 pub carried_more : (paths : List NodePath) (path : NodePath) → carried (paths ++ path ∷ []) ≡ carried paths + path.amount
 carried_more paths path =
@@ -138,15 +138,30 @@ pub record Splitting (n : Network) (rooms : List ℕ) (amount : ℕ) (paths : Li
   pub sum : carried paths + left ≡ amount
   pub loads : (v : ℕ) → v < size n → load paths v + slice_index carries v ≡ carried_by n rooms v
 
-pub splitting_more : (n : Network) (range : InRange n) (rooms : List ℕ) (total : ℕ) (paths : List NodePath) (carries : List ℕ) (left : ℕ) → Splitting n rooms total paths carries left
+-- a path more
+pub splitting_more : (n : Network) (rooms : List ℕ) (total : ℕ) (paths : List NodePath) (carries : List ℕ) (left : ℕ) → Splitting n rooms total paths carries left
+    → (path : NodePath) (after : List ℕ) → IsPathTaken n carries after left path → Splitting n rooms total (paths ++ path ∷ []) after (left - path.amount)
+splitting_more n rooms total paths carries left so_far path after taken = record {
+  rest = taken.rest;
+  walks = All-push (IsPath n) paths path so_far.walks taken.walk;
+  sum = let more = carried_more paths path in let before = so_far.sum in let most = taken.most in omega arith;
+  loads = λ v lt.
+      let more = load_more paths path v in
+      let before = so_far.loads v lt in
+      let less = taken.loads v lt in
+      omega arith;
+}
+
+-- a walk of the way is a path taken
+pub path_taken : (n : Network) (range : InRange n) (carries : List ℕ) (left : ℕ) → IsCarried n carries left
     → (way : List ℕ) (room : ℕ) → IsWay (both_ways (links_of n)) carries (in_part (size n)) (out_part (size n)) way room
-    → (path : NodePath) (after : List ℕ) (less : ℕ) → less + path.amount ≡ left → 0 < path.amount → IsTaken carries after way path.amount
-    → path.nodes ≡ reverse (filter_map (entered (both_ways (links_of n))) way) → Splitting n rooms total (paths ++ path ∷ []) after less
-splitting_more n range rooms total paths carries left so_far way room on path after less e some taken nodes = record {
-  rest = carried_rest n range carries left so_far.rest way room on path.amount less after e taken;
-  walks = All-push (IsPath n) paths path so_far.walks (path_of n range carries left so_far.rest way room on path.amount less after e taken path nodes refl some);
-  sum = let more = carried_more paths path in let before = so_far.sum in omega arith;
-  loads = λ v lt. loads_more n range carries left so_far.rest way room on path.amount less after e taken paths path v (carried_by n rooms v) lt nodes refl (so_far.loads v lt);
+    → (path : NodePath) (after : List ℕ) → path.amount ≤ left → 0 < path.amount → IsTaken carries after way path.amount
+    → path.nodes ≡ reverse (filter_map (entered (both_ways (links_of n))) way) → IsPathTaken n carries after left path
+path_taken n range carries left is way room on path after most some taken nodes = record {
+  walk = path_of n range carries left is way room on path.amount (left - path.amount) after (omega arith) taken path nodes refl some;
+  most = most;
+  rest = carried_rest n range carries left is way room on path.amount (left - path.amount) after (omega arith) taken;
+  loads = path_loads n range carries left is way room on path.amount (left - path.amount) after (omega arith) taken path nodes refl;
 }
 
 pub splitting_begins : (n : Network) (rooms : List ℕ) (amount : ℕ) (carries : List ℕ) → IsCarried n carries amount → ((k : ℕ) → k < size n → slice_index carries k ≡ carried_by n rooms k) → Splitting n rooms amount [] carries amount

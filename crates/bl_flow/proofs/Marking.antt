@@ -428,5 +428,5 @@ next_done links rooms rows root marks queue next now queue_now row part hold sta
     is_done links rooms root now queue_now (next + 1) part (row_done links rooms rows now part hold whole) (on root (next + 1) part from marked taken)
 
 -- a list of marks that was lent comes back
-pub given_back : (new rest : List (Option Mark)) (n : ℕ) → n ≡ length new → take n (new ++ rest) ≡ new
+pub given_back : {X : Type 0} (new rest : List X) (n : ℕ) → n ≡ length new → take n (new ++ rest) ≡ new
 given_back new rest n e = ap (λ k. take k (new ++ rest)) e ∙ take-append_seam new rest
