@@ -86,3 +86,14 @@ halves_fit n rooms a flow total =
 -- the rooms of a flow are as many as the links both ways
 pub rooms_of : (n : Network) (rooms : List ℕ) (a : ℕ) → IsFlow n rooms a → length rooms ≡ length (both_ways (links_of n))
 rooms_of n rooms a flow = flow.places ∙ sym (both_count (links_of n))
+
+-- the same, where the links and parts are named by their values
+pub flow_after : (n : Network) (links : List Link) (rooms after : List ℕ) (a nodes : ℕ) (way walked : List ℕ) (room : ℕ) → links ≡ both_ways (links_of n) → nodes ≡ size n → walked ≡ way
+    → IsFlow n rooms a → IsWay links rooms (2 * nodes) (2 * nodes + 1) way room → IsPushed rooms after walked room → IsFlow n after (a + room)
+flow_after n links rooms after a nodes way walked room same len e flow on pushed =
+    let root : 2 * nodes ≡ in_part (size n) = omega arith in
+    let sink : 2 * nodes + 1 ≡ out_part (size n) = omega arith in
+    let whole : IsWay (both_ways (links_of n)) rooms (in_part (size n)) (out_part (size n)) way room =
+        subst (λ p. IsWay (both_ways (links_of n)) rooms (in_part (size n)) p way room) sink
+          (subst (λ r. IsWay (both_ways (links_of n)) rooms r (2 * nodes + 1) way room) root (subst (λ l. IsWay l rooms (2 * nodes) (2 * nodes + 1) way room) same on)) in
+    flow_more n rooms after a room way flow (subst (λ w. IsPushed rooms after w room) e pushed) room whole
