@@ -11,7 +11,8 @@ use Rattle.bl_flow.specs.Searches.{IsWay}
 use Rattle.bl_flow.proofs.Sums.{sum_same, sum_none, sum_term}
 use Rattle.bl_flow.proofs.Amounts.{carries_more}
 use Rattle.bl_flow.proofs.Duality.{worth_at_most, share}
-use Rattle.bl_flow.proofs.Links.{count_of, unbounded_behind}
+use Rattle.bl_flow.proofs.Links.{count_of, unbounded_behind, capacity_of}
+use Rattle.std.proofs.lemmas.Option.{slice_get_past}
 use Rattle.bl_flow.proofs.BothWays.{both_count}
 use Rattle.std.proofs.lemmas.Bool.{cases_lt}
 
@@ -97,3 +98,20 @@ flow_after n links rooms after a nodes way walked room same len e flow on pushed
         subst (λ p. IsWay (both_ways (links_of n)) rooms (in_part (size n)) p way room) sink
           (subst (λ r. IsWay (both_ways (links_of n)) rooms r (2 * nodes + 1) way room) root (subst (λ l. IsWay l rooms (2 * nodes) (2 * nodes + 1) way room) same on)) in
     flow_more n rooms after a room way flow (subst (λ w. IsPushed rooms after w room) e pushed) room whole
+
+-- what a node with a weight carries is at most its weight
+pub load_fits : (n : Network) (rooms : List ℕ) (a v w load : ℕ) → IsFlow n rooms a → weight_at n v ≡ Some w → (v < size n → load ≤ carried_by n rooms v) → load ≤ w
+load_fits n rooms a v w load flow e le =
+    elim (cases_lt v (size n)) as (λ _. load ≤ w) [
+      inl inside ↦
+        let count = count_of n in
+        let fits = flow.fits v (omega arith) in
+        let same = capacity_of n v w e in
+        let less = le inside in
+        omega arith
+    | inr past ↦
+        let none : weight_at n v ≡ None = ap (λ o. unwrap_or o None) (slice_get_past n.weights v past) in
+        absurd (none_some w (sym none ∙ e)) ]
+  where
+    none_some : (x : ℕ) → None ≡ Some x → ⊥
+    none_some x h = cc

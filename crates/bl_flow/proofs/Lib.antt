@@ -6,6 +6,7 @@ pub mod Filling
 pub mod Links
 pub mod Marking
 pub mod NearSides
+pub mod Nearest
 pub mod Optimal
 pub mod Parts
 pub mod Pushing

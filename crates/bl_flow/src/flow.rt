@@ -28,7 +28,7 @@ pub fn max_flow(alloc: Global, n: &Network) -> Result<FlowResult, NoMemory>
     ensures nearest { IfOk result (λ r. (cut : ℕ → Bool) → IsCut n.now cut
         → cut_weight n.now cut ≡ carried r.paths → LiesNear n.now cut r.near_in r.near_out) }
 {
-    let nodes = n.weights.len();
+    let nodes = n.weights.as_slice().len();
     let links = links_both_ways(alloc, n)?;
     let rows = rows_of(alloc, &links, 2 * nodes + 2)?;
     let mut rooms = empty_rooms(alloc, n, links.len() / 2)?;
