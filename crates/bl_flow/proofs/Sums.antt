@@ -1,6 +1,7 @@
 -- Sums over the numbers below one.
-use Rattle.std.proofs.Common.{◌≡◌, ℕ, zero, suc, ◌+◌, ◌<◌, ◌≤◌, refl, ap, arith, ◌⊎◌, inl, inr}
+use Rattle.std.proofs.Common.{◌≡◌, ℕ, zero, suc, ◌+◌, ◌*◌, ◌<◌, ◌≤◌, refl, ap, arith, ◌⊎◌, inl, inr}
 use Rattle.std.proofs.lemmas.Bool.{cases_lt, cases_eq}
+use Rattle.std.proofs.Math.Nat.{suc-mul}
 use Rattle.bl_flow.specs.Networks.{sum_below}
 
 pub sum_same : (m : ℕ) (g h : ℕ → ℕ) → ((k : ℕ) → k < m → g k ≡ h k) → sum_below m g ≡ sum_below m h
@@ -72,3 +73,12 @@ sum_change (suc m) g h i d lt here others =
     | inr less ↦
         let rest = sum_change m g h i d less here (λ k before differs. others k (omega arith) differs) in
         let last = others m (omega arith) (λ q. omega arith) in omega arith ]
+
+-- so many terms, none above a bound
+pub sum_bound : (m : ℕ) (g : ℕ → ℕ) (b : ℕ) → ((k : ℕ) → k < m → g k ≤ b) → sum_below m g ≤ m * b
+sum_bound zero g b le = omega arith
+sum_bound (suc m) g b le =
+    let rest = sum_bound m g b (λ k lt. le k (omega arith)) in
+    let last = le m (omega arith) in
+    let step = suc-mul m b in
+    omega arith
