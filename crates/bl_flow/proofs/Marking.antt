@@ -1,7 +1,7 @@
 -- One step of the search, and of the way back.
-use Rattle.std.proofs.Common.{◌≡◌, ℕ, zero, suc, ◌+◌, ◌*◌, ◌<◌, ◌≤◌, Bool, true, false, List, [], ◌∷◌, ◌++◌, length, get_or, set, Option, Some, None, is_some, is_none, refl, sym, ap, subst, ◌∙◌, arith, ◌⊎◌, inl, inr, slice_index, slice_index_or, cond, replicate, take, length-append, length-set}
-use Rattle.std.specs.List.{All, Contains, count_by, sum_by}
-use Rattle.std.proofs.lemmas.Bool.{cases_Bool, cases_lt, cases_eq, false≢true}
+use Rattle.std.proofs.Common.{◌≡◌, ℕ, ◌+◌, ◌<◌, ◌≤◌, true, false, List, [], ◌∷◌, ◌++◌, length, set, Option, Some, None, is_some, is_none, refl, sym, ap, subst, ◌∙◌, arith, ◌⊎◌, inl, inr, slice_index, cond, replicate, take, length-append, length-set}
+use Rattle.std.specs.List.{Contains}
+use Rattle.std.proofs.lemmas.Bool.{cases_lt, cases_eq, false≢true}
 use Rattle.std.proofs.lemmas.List.{get_or-set_same, get_or-set_other, get_or_append_left, get_or_push, get_or_past, get_or_default, get_or-replicate, length-replicate}
 use Rattle.std.proofs.lemmas.List.Sums.{sum_by-set}
 use Rattle.std.proofs.Math.Seq.{take-append_seam}
@@ -9,7 +9,7 @@ use Rattle.bl_flow.specs.declared.split.Link.{Link}
 use Rattle.bl_flow.specs.declared.search.Mark.{Mark}
 use Rattle.bl_flow.specs.Split.{link_at}
 use Rattle.bl_flow.specs.Flows.{LeadsBack}
-use Rattle.bl_flow.specs.Searches.{AreRows, row_at, IsClosed, mark_at, is_marked, rank_of, IsFound, IsTree, IsSearch, IsDone, Searching, unmarked, IsWay}
+use Rattle.bl_flow.specs.Searches.{AreRows, row_at, mark_at, is_marked, rank_of, IsFound, IsTree, IsSearch, IsDone, Searching, unmarked, IsWay}
 
 -- what was marked, stays so
 kept : (marks : List (Option Mark)) (to part : ℕ) (mark : Mark) → is_marked marks to ≡ false → is_marked marks part ≡ true → mark_at (set marks to (Some mark)) part ≡ mark_at marks part
@@ -68,10 +68,11 @@ module _ (links : List Link) (rooms : List ℕ) (root : ℕ) (marks : List (Opti
   tree_more : IsTree links rooms root more
   tree_more part old is other =
       elim (cases_eq part to) as (λ _. IsFound links rooms more part old) [
-        inl e ↦
-          let same : mark ≡ old = some_same mark old (sym here_now ∙ ap (mark_at more) (sym e) ∙ is) in
-          subst (λ p. IsFound links rooms more p old) (sym e) (subst (IsFound links rooms more to) same found_here)
-      | inr apart ↦ found_still part old (state.tree part old (sym (not_here part apart) ∙ is) other) ]
+        | inl e ↦
+            let same : mark ≡ old = some_same mark old (sym here_now ∙ ap (mark_at more) (sym e) ∙ is) in
+            subst (λ p. IsFound links rooms more p old) (sym e) (subst (IsFound links rooms more to) same found_here)
+        | inr apart ↦ found_still part old (state.tree part old (sym (not_here part apart) ∙ is) other)
+      ]
 
   was_marked : (part : ℕ) → (part ≡ to → ⊥) → is_marked more part ≡ true → is_marked marks part ≡ true
   was_marked part apart h = ap is_some (sym (not_here part apart)) ∙ h
@@ -89,22 +90,24 @@ module _ (links : List Link) (rooms : List ℕ) (root : ℕ) (marks : List (Opti
   ranks_more part h =
       let longer = queue_length in
       elim (cases_eq part to) as (λ _. rank_of (mark_at more part) < length (queue ++ to ∷ [])) [
-        inl e ↦
-          let same : rank_of (mark_at more part) ≡ length queue = ap (λ p. rank_of (mark_at more p)) e ∙ ap rank_of here_now in
-          omega arith
-      | inr apart ↦
-          let same = ap rank_of (not_here part apart) in
-          let lt = state.ranks part (was_marked part apart h) in
-          omega arith ]
+        | inl e ↦
+            let same : rank_of (mark_at more part) ≡ length queue = ap (λ p. rank_of (mark_at more p)) e ∙ ap rank_of here_now in
+            omega arith
+        | inr apart ↦
+            let same = ap rank_of (not_here part apart) in
+            let lt = state.ranks part (was_marked part apart h) in
+            omega arith
+      ]
 
   queued_more : (place : ℕ) → place < length (queue ++ to ∷ []) → is_marked more (slice_index (queue ++ to ∷ []) place) ≡ true
   queued_more place lt =
       let longer = queue_length in
       elim (cases_lt place (length queue)) as (λ _. is_marked more (slice_index (queue ++ to ∷ []) place) ≡ true) [
-        inl less ↦ subst (λ p. is_marked more p ≡ true) (sym (in_front place less)) (still_marked (slice_index queue place) (state.queued place less))
-      | inr last ↦
-          let e : place ≡ length queue = omega arith in
-          subst (λ p. is_marked more p ≡ true) (sym (ap (slice_index (queue ++ to ∷ [])) e ∙ at_end)) marked_now ]
+        | inl less ↦ subst (λ p. is_marked more p ≡ true) (sym (in_front place less)) (still_marked (slice_index queue place) (state.queued place less))
+        | inr last ↦
+            let e : place ≡ length queue = omega arith in
+            subst (λ p. is_marked more p ≡ true) (sym (ap (slice_index (queue ++ to ∷ [])) e ∙ at_end)) marked_now
+      ]
 
   abbrev Waits : ℕ → Type 0
   Waits part = IsDone links rooms more part ⊎ (((place : ℕ) × (next ≤ place) × (place < length (queue ++ to ∷ [])) × (slice_index (queue ++ to ∷ []) place ≡ part)) ⊎ pending part)
@@ -120,8 +123,9 @@ module _ (links : List Link) (rooms : List ℕ) (root : ℕ) (marks : List (Opti
   waiting_more : (part : ℕ) → is_marked more part ≡ true → Waits part
   waiting_more part h =
       elim (cases_eq part to) as (λ _. Waits part) [
-        inl e ↦ let longer = queue_length in inr (inl (length queue, state.in_order, omega arith, at_end ∙ sym e))
-      | inr apart ↦ waits_still part (state.waiting part (was_marked part apart h)) ]
+        | inl e ↦ let longer = queue_length in inr (inl (length queue, state.in_order, omega arith, at_end ∙ sym e))
+        | inr apart ↦ waits_still part (state.waiting part (was_marked part apart h))
+      ]
 
   -- a part more is marked and queued
   pub marks_one : Searching links rooms root more (queue ++ to ∷ []) next pending
@@ -133,7 +137,6 @@ module _ (links : List Link) (rooms : List ℕ) (root : ℕ) (marks : List (Opti
     queued = queued_more;
     waiting = waiting_more;
   }
-
 
 abbrev missing : Option Mark → ℕ
 missing o = cond (is_none o) 1 0
@@ -173,8 +176,9 @@ module _ (links : List Link) (rooms : List ℕ) (root : ℕ) (marks : List (Opti
       later part (inr (inl queued)) =
           let above = queued.1 in
           elim (cases_eq queued.0 next) as (λ _. WaitsFrom (next + 1) (part ≡ slice_index queue next) part) [
-            inl e ↦ inr (inr (sym queued.3 ∙ ap (slice_index queue) e))
-          | inr apart ↦ inr (inl (queued.0, at_least queued.0 above apart, queued.2, queued.3)) ]
+            | inl e ↦ inr (inr (sym queued.3 ∙ ap (slice_index queue) e))
+            | inr apart ↦ inr (inl (queued.0, at_least queued.0 above apart, queued.2, queued.3))
+          ]
         where
           at_least : (place : ℕ) → next ≤ place → (place ≡ next → ⊥) → next + 1 ≤ place
           at_least place above apart = elim (cases_lt next place) as (λ _. next + 1 ≤ place) [ inl less ↦ omega arith | inr more ↦ absurd (apart (omega arith)) ]
@@ -242,14 +246,16 @@ first links rooms root count mark lt rank = record {
     nothing : (part : ℕ) → mark_at (replicate count None) part ≡ None
     nothing part =
         elim (cases_lt part count) as (λ _. mark_at (replicate count None) part ≡ None) [
-          inl less ↦ get_or-replicate count part None None less
-        | inr more ↦ get_or_past (replicate count None) part None (let e = length-replicate {A = Option Mark} count None in omega arith) ]
+          | inl less ↦ get_or-replicate count part None None less
+          | inr more ↦ get_or_past (replicate count None) part None (let e = length-replicate {A = Option Mark} count None in omega arith)
+        ]
 
     only : (part : ℕ) → is_marked marks part ≡ true → part ≡ root
     only part h =
         elim (cases_eq part root) as (λ _. part ≡ root) [
-          inl e ↦ e
-        | inr apart ↦ absurd (false≢true (sym (ap is_some (get_or-set_other (replicate count None) root part (Some mark) None apart ∙ nothing part)) ∙ h)) ]
+          | inl e ↦ e
+          | inr apart ↦ absurd (false≢true (sym (ap is_some (get_or-set_other (replicate count None) root part (Some mark) None apart ∙ nothing part)) ∙ h))
+        ]
 
 -- one link more on a way back
 leads_more : (links : List Link) (way : List ℕ) (at part k : ℕ) → LeadsBack links way at part → (link_at links k).to ≡ at → LeadsBack links (way ++ k ∷ []) (link_at links k).from part
@@ -298,26 +304,28 @@ module _ (links : List Link) (rooms : List ℕ) (marks : List (Option Mark)) (pa
     each P old new place lt =
         let count = longer_length in
         elim (cases_lt place (length way)) as (λ _. P (slice_index longer place)) [
-          inl before ↦ subst P (sym (in_way place before)) (old place before)
-        | inr behind ↦
-            let e : place ≡ length way = omega arith in
-            subst P (sym (ap (slice_index longer) e ∙ last_on)) new ]
+          | inl before ↦ subst P (sym (in_way place before)) (old place before)
+          | inr behind ↦
+              let e : place ≡ length way = omega arith in
+              subst P (sym (ap (slice_index longer) e ∙ last_on)) new
+        ]
 
     differ : (p : ℕ) → p < length way → slice_index way p ≡ mark.link → ⊥
     differ p lt e =
         let higher = on.above p lt in
         let same : rank_of (mark_at marks (link_at links (slice_index way p)).to) ≡ rank_of (mark_at marks at) =
-            ap (λ j. rank_of (mark_at marks (link_at links j).to)) e ∙ ap (λ v. rank_of (mark_at marks v)) found.to in
+        ap (λ j. rank_of (mark_at marks (link_at links j).to)) e ∙ ap (λ v. rank_of (mark_at marks v)) found.to in
         omega arith
 
     all_apart : (p q : ℕ) → p < q → q < length longer → slice_index longer p ≡ slice_index longer q → ⊥
     all_apart p q before lt e =
         let count = longer_length in
         elim (cases_lt q (length way)) as (λ _. ⊥) [
-          inl inside ↦ on.so_far.apart p q before inside (sym (in_way p (omega arith)) ∙ e ∙ in_way q inside)
-        | inr behind ↦
-            let last_ : q ≡ length way = omega arith in
-            differ p (omega arith) (sym (in_way p (omega arith)) ∙ e ∙ ap (slice_index longer) last_ ∙ last_on) ]
+          | inl inside ↦ on.so_far.apart p q before inside (sym (in_way p (omega arith)) ∙ e ∙ in_way q inside)
+          | inr behind ↦
+              let last_ : q ≡ length way = omega arith in
+              differ p (omega arith) (sym (in_way p (omega arith)) ∙ e ∙ ap (slice_index longer) last_ ∙ last_on)
+        ]
 
     pub way_more : OnWay links rooms marks part longer less (link_at links mark.link).from
     way_more = record {
@@ -331,8 +339,8 @@ module _ (links : List Link) (rooms : List ℕ) (marks : List (Option Mark)) (pa
       };
       above =
           each (λ j. rank_of (mark_at marks (link_at links mark.link).from) < rank_of (mark_at marks (link_at links j).to))
-            (λ place lt. let old = on.above place lt in let down = found.before in let here_ = rank_here in omega arith)
-            (let down = found.before in let same = ap (λ v. rank_of (mark_at marks v)) found.to in let here_ = rank_here in omega arith);
+          (λ place lt. let old = on.above place lt in let down = found.before in let here_ = rank_here in omega arith)
+          (let down = found.before in let same = ap (λ v. rank_of (mark_at marks v)) found.to in let here_ = rank_here in omega arith);
     }
 
     pub rank_falls : rank_of (mark_at marks (link_at links mark.link).from) < rank_of (mark_at marks at)
@@ -408,22 +416,23 @@ module _ (links : List Link) (row rooms : List ℕ) (marks : List (Option Mark))
 pub marked_in : (marks : List (Option Mark)) (part : ℕ) → is_marked marks part ≡ true → part < length marks
 marked_in marks part h =
     elim (cases_lt part (length marks)) as (λ _. part < length marks) [
-      inl lt ↦ lt
-    | inr past ↦ absurd (false≢true (sym (ap is_some (get_or_past marks part None past)) ∙ h)) ]
+      | inl lt ↦ lt
+      | inr past ↦ absurd (false≢true (sym (ap is_some (get_or_past marks part None past)) ∙ h))
+    ]
 
 -- the visit of the next part of the queue
 pub next_done : (links : List Link) (rooms : List ℕ) (rows : List (List ℕ)) (root : ℕ) (marks : List (Option Mark)) (queue : List ℕ) (next : ℕ) (now : List (Option Mark)) (queue_now row : List ℕ) (part : ℕ)
     → AreRows links rows → Searching links rooms root marks queue next (λ v. ⊥) → next < length queue → part ≡ slice_index queue next → row ≡ row_at rows part
     → ((r m p : ℕ) → ((place : ℕ) → place < length row → (link_at links (slice_index row place)).from ≡ p) → is_marked marks p ≡ true
-        → Searching links rooms r marks queue m (λ v. v ≡ p) → Searching links rooms r now queue_now m (λ v. v ≡ p))
+    → Searching links rooms r marks queue m (λ v. v ≡ p) → Searching links rooms r now queue_now m (λ v. v ≡ p))
     → ((place : ℕ) → place < length row → 0 < slice_index rooms (slice_index row place) → is_marked now (link_at links (slice_index row place)).to ≡ true)
     → Searching links rooms root now queue_now (next + 1) (λ v. ⊥)
 next_done links rooms rows root marks queue next now queue_now row part hold state lt is row_is on shown =
     let marked : is_marked marks part ≡ true = subst (λ p. is_marked marks p ≡ true) (sym is) (state.queued next lt) in
     let taken : Searching links rooms root marks queue (next + 1) (λ v. v ≡ part) =
-        subst (λ p. Searching links rooms root marks queue (next + 1) (λ v. v ≡ p)) (sym is) (takes_next links rooms root marks queue next lt state) in
+    subst (λ p. Searching links rooms root marks queue (next + 1) (λ v. v ≡ p)) (sym is) (takes_next links rooms root marks queue next lt state) in
     let from : (place : ℕ) → place < length row → (link_at links (slice_index row place)).from ≡ part =
-        subst (λ r. (place : ℕ) → place < length r → (link_at links (slice_index r place)).from ≡ part) (sym row_is) (λ place below. (hold.sound part place below).1) in
+    subst (λ r. (place : ℕ) → place < length r → (link_at links (slice_index r place)).from ≡ part) (sym row_is) (λ place below. (hold.sound part place below).1) in
     let whole = subst (λ r. (place : ℕ) → place < length r → 0 < slice_index rooms (slice_index r place) → is_marked now (link_at links (slice_index r place)).to ≡ true) row_is shown in
     is_done links rooms root now queue_now (next + 1) part (row_done links rooms rows now part hold whole) (on root (next + 1) part from marked taken)
 

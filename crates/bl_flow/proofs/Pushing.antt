@@ -1,14 +1,14 @@
 -- An amount more or less along a way, link by link.
-use Rattle.std.proofs.Common.{◌≡◌, ℕ, zero, suc, ◌+◌, ◌*◌, ◌<◌, ◌≤◌, Bool, true, false, List, [], ◌∷◌, length, drop, refl, sym, ap, subst, ◌∙◌, arith, ◌⊎◌, inl, inr, slice_index, add-one, drop-cons, cond, nat_eq, take, ◌-◌, ◌++◌, set, length-set}
+use Rattle.std.proofs.Common.{◌≡◌, ℕ, ◌+◌, ◌*◌, ◌<◌, ◌≤◌, List, [], ◌∷◌, length, drop, refl, sym, ap, subst, ◌∙◌, arith, ◌⊎◌, inl, inr, slice_index, add-one, drop-cons, nat_eq, take, ◌-◌, ◌++◌, set, length-set}
 use Rattle.std.specs.List.{count_by}
-use Rattle.std.proofs.lemmas.Bool.{cases_lt, cases_eq, eqb-true, eq-eqb, ne_eqb}
+use Rattle.std.proofs.lemmas.Bool.{cases_eq, eq-eqb, ne_eqb}
 use Rattle.std.proofs.Math.ListN.{drop_of_length-le}
 use Rattle.std.proofs.Math.Nat.{mul-suc}
 use Rattle.std.proofs.lemmas.List.{append-nil, take-append-drop, get_or-set_same, get_or-set_other}
 use Rattle.std.proofs.lemmas.List.Sums.{count_by_more_yes, count_by_more_no}
 use Rattle.bl_flow.specs.declared.split.Link.{Link}
 use Rattle.bl_flow.specs.Split.{link_at, both_ways, turned}
-use Rattle.bl_flow.specs.Flows.{amount_if, leaves, enters, Adds, LeadsBack, IsPushed, IsTaken}
+use Rattle.bl_flow.specs.Flows.{amount_if, Adds, LeadsBack, IsPushed, IsTaken}
 use Rattle.bl_flow.proofs.Sums.{sum_change}
 use Rattle.bl_flow.proofs.Amounts.{adds_then, adds_nothing, amount_plus}
 use Rattle.bl_flow.proofs.BothWays.{forward_at, turned_at}
@@ -22,9 +22,9 @@ adds_one links m old new k d lt here_ others = λ set.
     let from_here = ap (amount_if (set (link_at links k).from)) here_ in
     let to_here = ap (amount_if (set (link_at links k).to)) here_ in
     let out_ = sum_change m (λ j. amount_if (set (link_at links j).from) (old j)) (λ j. amount_if (set (link_at links j).from) (new j)) k (amount_if (set (link_at links k).from) d) lt (from_here ∙ from_plus)
-        (λ j below apart. ap (amount_if (set (link_at links j).from)) (others j below apart)) in
+    (λ j below apart. ap (amount_if (set (link_at links j).from)) (others j below apart)) in
     let in_ = sum_change m (λ j. amount_if (set (link_at links j).to) (old j)) (λ j. amount_if (set (link_at links j).to) (new j)) k (amount_if (set (link_at links k).to) d) lt (to_here ∙ to_plus)
-        (λ j below apart. ap (amount_if (set (link_at links j).to)) (others j below apart)) in
+    (λ j below apart. ap (amount_if (set (link_at links j).to)) (others j below apart)) in
     omega arith
 
 -- the other way
@@ -55,7 +55,7 @@ pub record Pushing (old now : List ℕ) (way : List ℕ) (amount index : ℕ) : 
   pub left : (place : ℕ) → index ≤ place → place < length way → amount ≤ slice_index now (slice_index way place)
   pub adds : (links : List Link) (from to : ℕ) → length links + length links ≡ length old → LeadsBack (both_ways links) way from to
       → (at : ℕ) × LeadsBack (both_ways links) (drop index way) from at
-        × Adds links (length links) (λ k. slice_index old (k + length links)) (λ k. slice_index now (k + length links)) at to amount
+      × Adds links (length links) (λ k. slice_index old (k + length links)) (λ k. slice_index now (k + length links)) at to amount
 
 pub pushing_begins : (old way : List ℕ) (amount : ℕ) → ((place : ℕ) → place < length way → amount ≤ slice_index old (slice_index way place)) → Pushing old old way amount 0
 pushing_begins old way amount enough = record {
@@ -75,32 +75,36 @@ module _ (old now after way : List ℕ) (amount index half t : ℕ) (so_far : Pu
   left_more place above below =
       let differs : slice_index way place ≡ j → ⊥ = λ e. apart index place (omega arith) below (sym e) in
       elim (cases_eq (slice_index way place) t) as (λ _. amount ≤ slice_index after (slice_index way place)) [
-        inl e ↦ let there = moved.there in let same = ap (slice_index after) e in omega arith
-      | inr other ↦ let same = moved.others (slice_index way place) differs other in let old_left = so_far.left place (omega arith) below in omega arith ]
+        | inl e ↦ let there = moved.there in let same = ap (slice_index after) e in omega arith
+        | inr other ↦ let same = moved.others (slice_index way place) differs other in let old_left = so_far.left place (omega arith) below in omega arith
+      ]
 
   sum_here : (k : ℕ) → k < half → slice_index after k + slice_index after (k + half) ≡ slice_index now k + slice_index now (k + half)
   sum_here k below =
       elim pair as (λ _. slice_index after k + slice_index after (k + half) ≡ slice_index now k + slice_index now (k + half)) [
-        inl forward ↦
-          let jt = forward.1 in let jlt = forward.0 in
-          elim (cases_eq k j) as (λ _. slice_index after k + slice_index after (k + half) ≡ slice_index now k + slice_index now (k + half)) [
-            inl e ↦
-              let kt : k + half ≡ t = omega arith in
-              let a = ap (slice_index after) e in let b = ap (slice_index now) e in let c = ap (slice_index after) kt in let d = ap (slice_index now) kt in
-              let here_ = moved.here_ in let there = moved.there in omega arith
-          | inr differs ↦
-              let a = moved.others k differs (λ q. omega arith) in
-              let b = moved.others (k + half) (λ q. omega arith) (λ q. differs (omega arith)) in omega arith ]
-      | inr back ↦
-          let jt = back.1 in let tlt = back.0 in
-          elim (cases_eq k t) as (λ _. slice_index after k + slice_index after (k + half) ≡ slice_index now k + slice_index now (k + half)) [
-            inl e ↦
-              let kj : k + half ≡ j = omega arith in
-              let a = ap (slice_index after) e in let b = ap (slice_index now) e in let c = ap (slice_index after) kj in let d = ap (slice_index now) kj in
-              let here_ = moved.here_ in let there = moved.there in omega arith
-          | inr differs ↦
-              let a = moved.others k (λ q. omega arith) differs in
-              let b = moved.others (k + half) (λ q. differs (omega arith)) (λ q. omega arith) in omega arith ] ]
+        | inl forward ↦
+            let jt = forward.1 in let jlt = forward.0 in
+            elim (cases_eq k j) as (λ _. slice_index after k + slice_index after (k + half) ≡ slice_index now k + slice_index now (k + half)) [
+              | inl e ↦
+                  let kt : k + half ≡ t = omega arith in
+                  let a = ap (slice_index after) e in let b = ap (slice_index now) e in let c = ap (slice_index after) kt in let d = ap (slice_index now) kt in
+                  let here_ = moved.here_ in let there = moved.there in omega arith
+              | inr differs ↦
+                  let a = moved.others k differs (λ q. omega arith) in
+                  let b = moved.others (k + half) (λ q. omega arith) (λ q. differs (omega arith)) in omega arith
+            ]
+        | inr back ↦
+            let jt = back.1 in let tlt = back.0 in
+            elim (cases_eq k t) as (λ _. slice_index after k + slice_index after (k + half) ≡ slice_index now k + slice_index now (k + half)) [
+              | inl e ↦
+                  let kj : k + half ≡ j = omega arith in
+                  let a = ap (slice_index after) e in let b = ap (slice_index now) e in let c = ap (slice_index after) kj in let d = ap (slice_index now) kj in
+                  let here_ = moved.here_ in let there = moved.there in omega arith
+              | inr differs ↦
+                  let a = moved.others k (λ q. omega arith) differs in
+                  let b = moved.others (k + half) (λ q. differs (omega arith)) (λ q. omega arith) in omega arith
+            ]
+      ]
 
   sums_more : (h k : ℕ) → h + h ≡ length old → k < h → slice_index after k + slice_index after (k + h) ≡ slice_index old k + slice_index old (k + h)
   sums_more h k e below =
@@ -111,21 +115,22 @@ module _ (old now after way : List ℕ) (amount index half t : ℕ) (so_far : Pu
   adds_here : (links : List Link) → half ≡ length links → Adds links (length links) (λ k. slice_index now (k + length links)) (λ k. slice_index after (k + length links)) (link_at (both_ways links) j).from (link_at (both_ways links) j).to amount
   adds_here links e =
       elim pair as (λ _. Adds links (length links) (λ k. slice_index now (k + length links)) (λ k. slice_index after (k + length links)) (link_at (both_ways links) j).from (link_at (both_ways links) j).to amount) [
-        inl forward ↦
-          let jt = forward.1 in let jlt = forward.0 in
-          let link = forward_at links j (omega arith) in
-          let here_ : slice_index after (j + length links) ≡ slice_index now (j + length links) + amount = subst (λ p. slice_index after p ≡ slice_index now p + amount) (omega arith) moved.there in
-          subst (λ l. Adds links (length links) (λ k. slice_index now (k + length links)) (λ k. slice_index after (k + length links)) l.from l.to amount) (sym link)
+        | inl forward ↦
+            let jt = forward.1 in let jlt = forward.0 in
+            let link = forward_at links j (omega arith) in
+            let here_ : slice_index after (j + length links) ≡ slice_index now (j + length links) + amount = subst (λ p. slice_index after p ≡ slice_index now p + amount) (omega arith) moved.there in
+            subst (λ l. Adds links (length links) (λ k. slice_index now (k + length links)) (λ k. slice_index after (k + length links)) l.from l.to amount) (sym link)
             (adds_one links (length links) (λ k. slice_index now (k + length links)) (λ k. slice_index after (k + length links)) j amount (omega arith) here_
-              (λ k below differs. moved.others (k + length links) (λ q. omega arith) (λ q. differs (omega arith))))
-      | inr back ↦
-          let jt = back.1 in let tlt = back.0 in
-          let link : link_at (both_ways links) j ≡ turned (link_at links t) = ap (link_at (both_ways links)) (omega arith) ∙ turned_at links t (omega arith) in
-          let here_ : slice_index now (t + length links) ≡ slice_index after (t + length links) + amount = subst (λ p. slice_index now p ≡ slice_index after p + amount) (omega arith) (sym moved.here_) in
-          subst (λ l. Adds links (length links) (λ k. slice_index now (k + length links)) (λ k. slice_index after (k + length links)) l.from l.to amount) (sym link)
+            (λ k below differs. moved.others (k + length links) (λ q. omega arith) (λ q. differs (omega arith))))
+        | inr back ↦
+            let jt = back.1 in let tlt = back.0 in
+            let link : link_at (both_ways links) j ≡ turned (link_at links t) = ap (link_at (both_ways links)) (omega arith) ∙ turned_at links t (omega arith) in
+            let here_ : slice_index now (t + length links) ≡ slice_index after (t + length links) + amount = subst (λ p. slice_index now p ≡ slice_index after p + amount) (omega arith) (sym moved.here_) in
+            subst (λ l. Adds links (length links) (λ k. slice_index now (k + length links)) (λ k. slice_index after (k + length links)) l.from l.to amount) (sym link)
             (adds_swap links (length links) (λ k. slice_index now (k + length links)) (λ k. slice_index after (k + length links)) (link_at links t).from (link_at links t).to amount
-              (adds_one links (length links) (λ k. slice_index after (k + length links)) (λ k. slice_index now (k + length links)) t amount (omega arith) here_
-                (λ k below differs. sym (moved.others (k + length links) (λ q. differs (omega arith)) (λ q. omega arith))))) ]
+            (adds_one links (length links) (λ k. slice_index after (k + length links)) (λ k. slice_index now (k + length links)) t amount (omega arith) here_
+            (λ k below differs. sym (moved.others (k + length links) (λ q. differs (omega arith)) (λ q. omega arith)))))
+      ]
 
   pub pushing_more : Pushing old after way amount (index + 1)
   pushing_more = record {
@@ -137,9 +142,11 @@ module _ (old now after way : List ℕ) (amount index half t : ℕ) (so_far : Pu
         let next = next_link (both_ways links) way index from before.0 lt before.1 in
         let step = adds_here links (omega arith) in
         let one : Adds links (length links) (λ k. slice_index now (k + length links)) (λ k. slice_index after (k + length links)) (link_at (both_ways links) j).from before.0 amount =
-            subst (λ p. Adds links (length links) (λ k. slice_index now (k + length links)) (λ k. slice_index after (k + length links)) (link_at (both_ways links) j).from p amount) next.0 step in
-        ((link_at (both_ways links) j).from, next.1,
-          adds_then links (length links) (λ k. slice_index old (k + length links)) (λ k. slice_index now (k + length links)) (λ k. slice_index after (k + length links)) (link_at (both_ways links) j).from before.0 to amount before.2 one);
+        subst (λ p. Adds links (length links) (λ k. slice_index now (k + length links)) (λ k. slice_index after (k + length links)) (link_at (both_ways links) j).from p amount) next.0 step in (
+          (link_at (both_ways links) j).from,
+          next.1,
+          adds_then links (length links) (λ k. slice_index old (k + length links)) (λ k. slice_index now (k + length links)) (λ k. slice_index after (k + length links)) (link_at (both_ways links) j).from before.0 to amount before.2 one,
+        );
   }
 
 pub pushed : (old now way : List ℕ) (amount index : ℕ) → length way ≤ index → Pushing old now way amount index → IsPushed old now way amount
@@ -208,13 +215,14 @@ module _ (old now after way : List ℕ) (amount index : ℕ) (so_far : Taking ol
   less_more k =
       let before = so_far.less k in
       elim (cases_eq taken k) as (λ _. slice_index after k + amount * count_by (λ j. nat_eq j k) (take (index + 1) way) ≡ slice_index old k) [
-        inl e ↦
-          let more = count_by_more_yes (λ j. nat_eq j k) way index 0 lt (eq-eqb taken k e) in
-          let a = ap (slice_index after) e in let b = ap (slice_index now) e in
-          rw more (once_more (count_by (λ j. nat_eq j k) (take index way)) (slice_index after k) (slice_index now k) (omega arith) ∙ before)
-      | inr differs ↦
-          let same = count_by_more_no (λ j. nat_eq j k) way index 0 lt (ne_eqb taken k differs) in
-          rw (same, others k (λ q. differs (sym q))) before ]
+        | inl e ↦
+            let more = count_by_more_yes (λ j. nat_eq j k) way index 0 lt (eq-eqb taken k e) in
+            let a = ap (slice_index after) e in let b = ap (slice_index now) e in
+            rw more (once_more (count_by (λ j. nat_eq j k) (take index way)) (slice_index after k) (slice_index now k) (omega arith) ∙ before)
+        | inr differs ↦
+            let same = count_by_more_no (λ j. nat_eq j k) way index 0 lt (ne_eqb taken k differs) in
+            rw (same, others k (λ q. differs (sym q))) before
+      ]
     where
       once_more : (count x y : ℕ) → x + amount ≡ y → x + amount * (count + 1) ≡ y + amount * count
       once_more count x y e = let step : amount * (count + 1) ≡ amount * count + amount = rw add-one (mul-suc amount count) in omega arith
@@ -232,12 +240,14 @@ module _ (old now after way : List ℕ) (amount index : ℕ) (so_far : Taking ol
         let next = next_link (both_ways links) way index from before.0 lt before.1 in
         let link = forward_at links taken (within index lt) in
         let step : Adds links (length links) (λ k. slice_index after k) (λ k. slice_index now k) (link_at (both_ways links) taken).from (link_at (both_ways links) taken).to amount =
-            subst (λ l. Adds links (length links) (λ k. slice_index after k) (λ k. slice_index now k) l.from l.to amount) (sym link)
-              (adds_one links (length links) (λ k. slice_index after k) (λ k. slice_index now k) taken amount (within index lt) (sym here_) (λ k below differs. sym (others k differs))) in
+        subst (λ l. Adds links (length links) (λ k. slice_index after k) (λ k. slice_index now k) l.from l.to amount) (sym link)
+        (adds_one links (length links) (λ k. slice_index after k) (λ k. slice_index now k) taken amount (within index lt) (sym here_) (λ k below differs. sym (others k differs))) in
         let one : Adds links (length links) (λ k. slice_index after k) (λ k. slice_index now k) (link_at (both_ways links) taken).from before.0 amount =
-            subst (λ p. Adds links (length links) (λ k. slice_index after k) (λ k. slice_index now k) (link_at (both_ways links) taken).from p amount) next.0 step in
-        ((link_at (both_ways links) taken).from, next.1,
-          adds_on links (length links) (λ k. slice_index after k) (λ k. slice_index now k) (λ k. slice_index old k) (link_at (both_ways links) taken).from before.0 to amount one before.2);
+        subst (λ p. Adds links (length links) (λ k. slice_index after k) (λ k. slice_index now k) (link_at (both_ways links) taken).from p amount) next.0 step in (
+          (link_at (both_ways links) taken).from,
+          next.1,
+          adds_on links (length links) (λ k. slice_index after k) (λ k. slice_index now k) (λ k. slice_index old k) (link_at (both_ways links) taken).from before.0 to amount one before.2,
+        );
   }
 
 pub all_taken : (old now way : List ℕ) (amount index : ℕ) → length way ≤ index → Taking old now way amount index → IsTaken old now way amount

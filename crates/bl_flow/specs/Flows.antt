@@ -1,5 +1,5 @@
 -- Flows in the split network, as what each link can still take, each way.
-use Rattle.std.specs.Prelude.{◌≡◌, ℕ, ◌+◌, ◌*◌, ◌<◌, ◌≤◌, Bool, List, [], ◌∷◌, length, slice_index, if◌then◌else◌, count_by, nat_eq}
+use Rattle.std.specs.Prelude.{◌≡◌, ℕ, ◌+◌, ◌*◌, ◌<◌, Bool, List, [], ◌∷◌, length, slice_index, if◌then◌else◌, count_by, nat_eq}
 use Rattle.bl_flow.specs.declared.network.Network.{Network}
 use Rattle.bl_flow.specs.declared.split.Link.{Link}
 use Rattle.bl_flow.specs.Networks.{size, sum_below}

@@ -86,7 +86,11 @@ fn push(rooms: &mut [u64], way: &[usize], amount: u64)
 {
     let half = rooms.len() / 2;
     for link in way {
-        let turned = if *link < half { *link + half } else { *link - half };
+        let turned = if *link < half {
+            *link + half
+        } else {
+            *link - half
+        };
         rooms[*link] -= amount;
         rooms[turned] += amount;
     }

@@ -35,10 +35,7 @@ fn is_in_range(n: &Network) -> bool
     ensures { IsTrue result → InRange n.now }
 {
     let size = n.weights.len();
-    n.arcs
-        .as_slice()
-        .iter()
-        .all(|arc| (arc.from as usize) < size && (arc.to as usize) < size)
+    n.arcs.as_slice().iter().all(|arc| (arc.from as usize) < size && (arc.to as usize) < size)
         && n.starts.as_slice().iter().all(|v| (*v as usize) < size)
         && n.ends.as_slice().iter().all(|v| (*v as usize) < size)
 }
@@ -124,7 +121,10 @@ fn a_chain_of_equal_weights_is_cut_nearest_the_start(rt: HostRuntime) -> Result<
     )?;
     let r = flow_of(rt.alloc(), &n)?.expect(&rt, "a lawful network");
     assert_eq!(rt; r.paths.len(), 1);
-    assert_eq!(rt; r.paths.as_slice()[0].nodes.as_slice(), [0, 1, 2].as_slice());
+    assert_eq!(rt;
+        r.paths.as_slice()[0].nodes.as_slice(),
+        [0, 1, 2].as_slice()
+    );
     assert_eq!(rt; r.paths.as_slice()[0].amount, 5);
     assert_eq!(rt; r.near_in.as_slice(), [true, false, false].as_slice());
     assert_eq!(rt; r.near_out.as_slice(), [false, false, false].as_slice());
@@ -142,8 +142,14 @@ fn parallel_paths_through_nodes_without_bound(rt: HostRuntime) -> Result<(), Fai
     )?;
     let r = flow_of(rt.alloc(), &n)?.expect(&rt, "a lawful network");
     assert_eq!(rt; total(&r), 5);
-    assert_eq!(rt; r.near_in.as_slice(), [true, true, false, true, false, false].as_slice());
-    assert_eq!(rt; r.near_out.as_slice(), [true, false, false, false, false, false].as_slice());
+    assert_eq!(rt;
+        r.near_in.as_slice(),
+        [true, true, false, true, false, false].as_slice()
+    );
+    assert_eq!(rt;
+        r.near_out.as_slice(),
+        [true, false, false, false, false, false].as_slice()
+    );
     Ok(())
 }
 
@@ -151,13 +157,33 @@ fn parallel_paths_through_nodes_without_bound(rt: HostRuntime) -> Result<(), Fai
 fn flow_is_pushed_back(rt: HostRuntime) -> Result<(), Fail> {
     let n = network(
         rt.alloc(),
-        &[Some(1), Some(1), Some(1), Some(1), Some(1), Some(1), Some(2)],
-        &[(0, 2), (0, 3), (1, 2), (2, 4), (2, 5), (3, 5), (4, 6), (5, 6)],
+        &[
+            Some(1),
+            Some(1),
+            Some(1),
+            Some(1),
+            Some(1),
+            Some(1),
+            Some(2),
+        ],
+        &[
+            (0, 2),
+            (0, 3),
+            (1, 2),
+            (2, 4),
+            (2, 5),
+            (3, 5),
+            (4, 6),
+            (5, 6),
+        ],
         &[0, 1],
         &[6],
     )?;
     let r = flow_of(rt.alloc(), &n)?.expect(&rt, "a lawful network");
-    assert_eq!(rt; (total(&r), count(&r.near_in), count(&r.near_out)), (2, 2, 0));
+    assert_eq!(rt;
+        (total(&r), count(&r.near_in), count(&r.near_out)),
+        (2, 2, 0)
+    );
     Ok(())
 }
 
@@ -165,14 +191,23 @@ fn flow_is_pushed_back(rt: HostRuntime) -> Result<(), Fail> {
 fn no_starts_no_ends_and_a_start_that_is_an_end(rt: HostRuntime) -> Result<(), Fail> {
     let none = network(rt.alloc(), &[Some(3), None], &[(1, 0)], &[], &[0])?;
     let r = flow_of(rt.alloc(), &none)?.expect(&rt, "a lawful network");
-    assert_eq!(rt; (total(&r), count(&r.near_in), count(&r.near_out)), (0, 0, 0));
+    assert_eq!(rt;
+        (total(&r), count(&r.near_in), count(&r.near_out)),
+        (0, 0, 0)
+    );
     let endless = network(rt.alloc(), &[Some(3), None], &[(0, 1)], &[0], &[])?;
     let r = flow_of(rt.alloc(), &endless)?.expect(&rt, "a lawful network");
-    assert_eq!(rt; (total(&r), count(&r.near_in), count(&r.near_out)), (0, 2, 2));
+    assert_eq!(rt;
+        (total(&r), count(&r.near_in), count(&r.near_out)),
+        (0, 2, 2)
+    );
     let both = network(rt.alloc(), &[Some(3)], &[(0, 0)], &[0, 0], &[0])?;
     let r = flow_of(rt.alloc(), &both)?.expect(&rt, "a lawful network");
     assert_eq!(rt; r.paths.as_slice()[0].nodes.as_slice(), [0].as_slice());
-    assert_eq!(rt; (total(&r), count(&r.near_in), count(&r.near_out)), (3, 1, 0));
+    assert_eq!(rt;
+        (total(&r), count(&r.near_in), count(&r.near_out)),
+        (3, 1, 0)
+    );
     Ok(())
 }
 
@@ -196,6 +231,9 @@ fn two_thousand_nodes_at_random(rt: HostRuntime) -> Result<(), Fail> {
         }
     }
     let r = flow_of(rt.alloc(), &n)?.expect(&rt, "a lawful network");
-    assert_eq!(rt; (total(&r), count(&r.near_in), count(&r.near_out)), (878, 1237, 993));
+    assert_eq!(rt;
+        (total(&r), count(&r.near_in), count(&r.near_out)),
+        (878, 1237, 993)
+    );
     Ok(())
 }

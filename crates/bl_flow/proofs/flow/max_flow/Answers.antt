@@ -1,15 +1,14 @@
-use Rattle.std.proofs.Common.{arith, ◌≡◌, ◌<◌, ◌≤◌, ◌+◌, ◌*◌, ◌/◌, ◌++◌, ℕ, List, length, slice_index, take, drop, sym, ap, subst, ◌∙◌}
+use Rattle.std.proofs.Common.{arith, ◌≡◌, ◌+◌, ◌*◌, ◌/◌, ◌++◌, ℕ, List, length, take, drop, sym, ap, subst, ◌∙◌}
 use Rattle.bl_flow.specs.declared.network.Network.{Network}
 use Rattle.bl_flow.specs.declared.network.FlowResult.{FlowResult}
-use Rattle.bl_flow.specs.Networks.{size, carried}
-use Rattle.bl_flow.specs.Cuts.{cut_of, cut_weight}
-use Rattle.bl_flow.specs.Split.{links_of, both_ways, link_at}
+use Rattle.bl_flow.specs.Networks.{size}
+use Rattle.bl_flow.specs.Split.{links_of, both_ways}
 use Rattle.bl_flow.specs.Flows.{IsFlow, link_count}
 use Rattle.bl_flow.proofs.Parts.{from_within}
 use Rattle.bl_flow.proofs.BothWays.{both_count}
 use Rattle.bl_flow.proofs.Filling.{flow_begins, load_fits}
 use Rattle.bl_flow.proofs.Marking.{given_back}
-use Rattle.bl_flow.proofs.Nearest.{IsNearest, is_nearest}
+use Rattle.bl_flow.proofs.Nearest.{is_nearest}
 use Rattle.bl_flow.proofs.flow.max_flow.Goals as goal
 
 pub rows_of-requires : goal.rows_of-requires
@@ -42,30 +41,30 @@ pub returns-clause-cut : goal.returns-clause-cut
 returns-clause-cut c =
     let r : FlowResult = record { paths = c.in_ok-paths.paths; near_in = c.in_ok-near_parts.field-0; near_out = c.in_ok-near_parts-2.field-0 } in
     let answer = is_nearest c.args.n.now c.fill.new.rooms c.in_ok-marks.marks.items c.deref-7.result.now c.deref-8.result.now c.in_ok-marks.amount (length c.as_slice-nodes.result.now) r
-        c.requires.in_range c.in_ok-marks.ensures.small c.in_ok-marks.ensures.full (ap length c.as_slice-nodes.ensures) c.deref-7.ensures.value c.deref-8.ensures.value
-        c.in_ok-near_parts.ensures.places c.in_ok-near_parts-2.ensures.places c.in_ok-near_parts.ensures.marks c.in_ok-near_parts-2.ensures.marks in
+    c.requires.in_range c.in_ok-marks.ensures.small c.in_ok-marks.ensures.full (ap length c.as_slice-nodes.ensures) c.deref-7.ensures.value c.deref-8.ensures.value
+    c.in_ok-near_parts.ensures.places c.in_ok-near_parts-2.ensures.places c.in_ok-near_parts.ensures.marks c.in_ok-near_parts-2.ensures.marks in
     answer.cut
 
 pub returns-clause-weight : goal.returns-clause-weight
 returns-clause-weight c =
     let r : FlowResult = record { paths = c.in_ok-paths.paths; near_in = c.in_ok-near_parts.field-0; near_out = c.in_ok-near_parts-2.field-0 } in
     let answer = is_nearest c.args.n.now c.fill.new.rooms c.in_ok-marks.marks.items c.deref-7.result.now c.deref-8.result.now c.in_ok-marks.amount (length c.as_slice-nodes.result.now) r
-        c.requires.in_range c.in_ok-marks.ensures.small c.in_ok-marks.ensures.full (ap length c.as_slice-nodes.ensures) c.deref-7.ensures.value c.deref-8.ensures.value
-        c.in_ok-near_parts.ensures.places c.in_ok-near_parts-2.ensures.places c.in_ok-near_parts.ensures.marks c.in_ok-near_parts-2.ensures.marks in
+    c.requires.in_range c.in_ok-marks.ensures.small c.in_ok-marks.ensures.full (ap length c.as_slice-nodes.ensures) c.deref-7.ensures.value c.deref-8.ensures.value
+    c.in_ok-near_parts.ensures.places c.in_ok-near_parts-2.ensures.places c.in_ok-near_parts.ensures.marks c.in_ok-near_parts-2.ensures.marks in
     answer.weight ∙ sym c.in_ok-paths.ensures.all
 
 pub returns-clause-near : goal.returns-clause-near
 returns-clause-near c =
     let r : FlowResult = record { paths = c.in_ok-paths.paths; near_in = c.in_ok-near_parts.field-0; near_out = c.in_ok-near_parts-2.field-0 } in
     let answer = is_nearest c.args.n.now c.fill.new.rooms c.in_ok-marks.marks.items c.deref-7.result.now c.deref-8.result.now c.in_ok-marks.amount (length c.as_slice-nodes.result.now) r
-        c.requires.in_range c.in_ok-marks.ensures.small c.in_ok-marks.ensures.full (ap length c.as_slice-nodes.ensures) c.deref-7.ensures.value c.deref-8.ensures.value
-        c.in_ok-near_parts.ensures.places c.in_ok-near_parts-2.ensures.places c.in_ok-near_parts.ensures.marks c.in_ok-near_parts-2.ensures.marks in
+    c.requires.in_range c.in_ok-marks.ensures.small c.in_ok-marks.ensures.full (ap length c.as_slice-nodes.ensures) c.deref-7.ensures.value c.deref-8.ensures.value
+    c.in_ok-near_parts.ensures.places c.in_ok-near_parts-2.ensures.places c.in_ok-near_parts.ensures.marks c.in_ok-near_parts-2.ensures.marks in
     answer.near
 
 pub returns-clause-nearest : goal.returns-clause-nearest
 returns-clause-nearest c = λ cut is weight.
     let r : FlowResult = record { paths = c.in_ok-paths.paths; near_in = c.in_ok-near_parts.field-0; near_out = c.in_ok-near_parts-2.field-0 } in
     let answer = is_nearest c.args.n.now c.fill.new.rooms c.in_ok-marks.marks.items c.deref-7.result.now c.deref-8.result.now c.in_ok-marks.amount (length c.as_slice-nodes.result.now) r
-        c.requires.in_range c.in_ok-marks.ensures.small c.in_ok-marks.ensures.full (ap length c.as_slice-nodes.ensures) c.deref-7.ensures.value c.deref-8.ensures.value
-        c.in_ok-near_parts.ensures.places c.in_ok-near_parts-2.ensures.places c.in_ok-near_parts.ensures.marks c.in_ok-near_parts-2.ensures.marks in
+    c.requires.in_range c.in_ok-marks.ensures.small c.in_ok-marks.ensures.full (ap length c.as_slice-nodes.ensures) c.deref-7.ensures.value c.deref-8.ensures.value
+    c.in_ok-near_parts.ensures.places c.in_ok-near_parts-2.ensures.places c.in_ok-near_parts.ensures.marks c.in_ok-near_parts-2.ensures.marks in
     answer.nearest cut is (weight ∙ c.in_ok-paths.ensures.all)

@@ -17,18 +17,19 @@ loop-link-preserved c =
     let places = loop.invariant.places in
     let j_in = c.requires.within loop.link-index lt in
     let pair : AreTurned half j t =
-        elim c.if-link-half.branch [
-          then-link-half w ↦ let below = w.if-link-half.true in let is = w.turned-is in inl (omega arith, omega arith)
-        | else-link-half w ↦ let above = w.if-link-half.false in let is = w.turned-is in inr (omega arith, omega arith) ] in
+    elim c.if-link-half.branch [
+      | then-link-half w ↦ let below = w.if-link-half.true in let is = w.turned-is in inl (omega arith, omega arith)
+      | else-link-half w ↦ let above = w.if-link-half.false in let is = w.turned-is in inr (omega arith, omega arith)
+    ] in
     let apart : t ≡ j → ⊥ =
-        elim pair as (λ _. t ≡ j → ⊥) [ inl forward ↦ let a = forward.0 in let b = forward.1 in λ e. omega arith | inr back ↦ let a = back.0 in let b = back.1 in λ e. omega arith ] in
+    elim pair as (λ _. t ≡ j → ⊥) [ inl forward ↦ let a = forward.0 in let b = forward.1 in λ e. omega arith | inr back ↦ let a = back.0 in let b = back.1 in λ e. omega arith ] in
     let t_in : t < length loop.rooms =
-        elim pair as (λ _. t < length loop.rooms) [ inl forward ↦ let a = forward.0 in let b = forward.1 in omega arith | inr back ↦ let a = back.0 in let b = back.1 in omega arith ] in
+    elim pair as (λ _. t < length loop.rooms) [ inl forward ↦ let a = forward.0 in let b = forward.1 in omega arith | inr back ↦ let a = back.0 in let b = back.1 in omega arith ] in
     let enough = loop.invariant.left loop.link-index (omega arith) lt in
     let first : List ℕ = set loop.rooms j (slice_index loop.rooms j - c.args.amount) in
     pushing_more c.args.rooms.now loop.rooms (set first t (slice_index first t + c.args.amount)) c.args.way.now c.args.amount loop.link-index half t loop.invariant lt halves c.requires.apart
-      (length-set first t (slice_index first t + c.args.amount) ∙ length-set loop.rooms j (slice_index loop.rooms j - c.args.amount)) pair
-      (moved_by loop.rooms j t c.args.amount (omega arith) t_in apart enough)
+    (length-set first t (slice_index first t + c.args.amount) ∙ length-set loop.rooms j (slice_index loop.rooms j - c.args.amount)) pair
+    (moved_by loop.rooms j t c.args.amount (omega arith) t_in apart enough)
 
 pub returns : goal.returns
 returns c =
