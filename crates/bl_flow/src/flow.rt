@@ -24,6 +24,8 @@ pub fn max_flow(alloc: Global, n: &Network) -> Result<FlowResult, NoMemory>
     ensures loads { IfOk result (λ r. (v w : ℕ) → weight_at n.now v ≡ Some w → load r.paths v ≤ w) }
     ensures cut { IfOk result (λ r. IsCut n.now (cut_of r)) }
     ensures weight { IfOk result (λ r. cut_weight n.now (cut_of r) ≡ carried r.paths) }
+    ensures least { IfOk result (λ r. (cut : ℕ → Bool) → IsCut n.now cut
+        → carried r.paths ≤ cut_weight n.now cut) }
     ensures near { IfOk result (λ r. IsNearSide n.now (cut_of r) r.near_in r.near_out) }
     ensures nearest { IfOk result (λ r. (cut : ℕ → Bool) → IsCut n.now cut
         → cut_weight n.now cut ≡ carried r.paths → LiesNear n.now cut r.near_in r.near_out) }
