@@ -1,0 +1,16 @@
+pub mod Amounts
+pub mod BothWays
+pub mod Carrying
+pub mod Duality
+pub mod Filling
+pub mod Links
+pub mod Marking
+pub mod NearSides
+pub mod Nearest
+pub mod Optimal
+pub mod Parts
+pub mod Pushing
+pub mod Reach
+pub mod Rows
+pub mod Sums
+pub mod Ways
