@@ -4,4 +4,6 @@ pub mod Modules
 pub mod Nesting
 pub mod Sections
 pub mod Types
+pub mod Typing
+pub mod Validity
 pub mod Values

@@ -1,0 +1,7 @@
+pub mod Constructs
+pub mod Labels
+pub mod Moves
+pub mod NestedLemmas
+pub mod Rows
+pub mod StandsLemmas
+pub mod Whole

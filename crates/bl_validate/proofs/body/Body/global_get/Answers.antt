@@ -1,0 +1,25 @@
+use Rattle.std.proofs.Common.{rules, ◌≡◌, ◌↔◌, ◌++◌, ◌-◌, ◌≤◌, List, [], ◌∷◌, Option, Some, None, Bool, true, false, IsTrue, Ok, arith, subst, sym, refl, ap, ◌∙◌, length, reverse, vec_len, slice_get}
+use Rattle.bl_wasm.specs.Typing.{Open, Context, Arrow, Leaves, HasType, labels, IsAligned, integer}
+use Rattle.bl_wasm.specs.declared.types.WasmType.{WasmType}
+use Rattle.bl_wasm.specs.declared.types.WasmType.TheVariants.{I32, I64}
+use Rattle.bl_wasm.specs.declared.types.GlobalType.{GlobalType}
+use Rattle.bl_wasm.specs.declared.types.FuncType.{FuncType}
+use Rattle.bl_validate.specs.Stands.{Stands, Steps, Segment, Below}
+use Rattle.bl_validate.specs.Scopes.{seen, takes}
+use Rattle.bl_validate.proofs.Moves.{if_ok, plainly, given_some, given_none}
+use Rattle.bl_validate.proofs.body.Body.global_get.Goals as goal
+
+abbrev Shape : GlobalType → List WasmType → List WasmType → Type 0
+Shape global from to = Arrow [] (global.kind ∷ []) from to
+
+pub returns-in-Some : goal.returns-in-Some
+returns-in-Some c = if_ok c.apply.result _ (λ ok e.
+    plainly (Stands c.args.stacks.now) (Stands c.apply.new.self) ok (λ open_ones from to. (global : GlobalType) × (slice_get c.args.self.now.scope.now.globals.items c.args.x ≡ Some global) × Shape global from to)
+    (λ open_ones. given_some (slice_get c.args.self.now.scope.now.globals.items c.args.x) c.in-Some.global.now Shape (Stands c.args.stacks.now open_ones) (Stands c.apply.new.self open_ones) ok
+    (λ s g. sym (cc (c.in-Some.ensures, c.deref.ensures.value))) (λ to. rw c.one.ensures at (c.apply.ensures ok e open_ones to))))
+
+pub returns-in-None : goal.returns-in-None
+returns-in-None c =
+    plainly (Stands c.args.stacks.now) (Stands c.args.stacks.now) false (λ open_ones from to. (global : GlobalType) × (slice_get c.args.self.now.scope.now.globals.items c.args.x ≡ Some global) × Shape global from to)
+    (λ open_ones. given_none (slice_get c.args.self.now.scope.now.globals.items c.args.x) Shape (Stands c.args.stacks.now open_ones) (Stands c.args.stacks.now open_ones)
+    (λ s g. sym (cc (c.in-None.ensures, c.deref.ensures.value))))

@@ -1,0 +1,14 @@
+use Rattle.std.proofs.Common.{rules, ◌≡◌, ◌↔◌, ◌++◌, ◌-◌, ◌≤◌, List, [], ◌∷◌, Option, Some, None, Bool, true, false, IsTrue, Ok, arith, subst, sym, refl, ap, ◌∙◌, length, reverse, vec_len, slice_get}
+use Rattle.bl_wasm.specs.Typing.{Open, Context, Arrow, Leaves}
+use Rattle.bl_wasm.specs.declared.types.WasmType.{WasmType}
+use Rattle.bl_wasm.specs.declared.types.WasmType.TheVariants.{I32, I64}
+use Rattle.bl_validate.specs.Stands.{Stands, Steps, Segment, Below}
+use Rattle.bl_validate.proofs.Moves.{if_ok, plainly, whereas}
+use Rattle.bl_validate.proofs.body.Body.memory_grow.Goals as goal
+
+pub returns : goal.returns
+returns c =
+    let some : 1 ≤ length c.args.self.now.scope.now.memories.items = grind (arith, c.args.self.now.scope.now.memories.ok.0, c.is_empty.ensures, c.if-is_empty.false) in
+    if_ok c.apply.result _ (λ ok e.
+    plainly (Stands c.args.stacks.now) (Stands c.apply.new.self) ok (λ open_ones from to. (1 ≤ length c.args.self.now.scope.now.memories.items) × Arrow (I32 ∷ []) (I32 ∷ []) from to)
+    (λ open_ones. whereas (1 ≤ length c.args.self.now.scope.now.memories.items) (Arrow (I32 ∷ []) (I32 ∷ [])) (Stands c.args.stacks.now open_ones) (Stands c.apply.new.self open_ones) ok some (c.apply.ensures ok e open_ones)))

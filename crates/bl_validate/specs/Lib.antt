@@ -1,0 +1,5 @@
+pub mod Few
+pub mod Nested
+pub mod Scopes
+pub mod Stands
+pub mod Verdicts

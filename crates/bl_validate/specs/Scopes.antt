@@ -1,0 +1,50 @@
+-- What a body stands in, and what a branch in it takes.
+use Rattle.std.specs.Prelude.{◌≡◌, ◌++◌, List, length}
+use Rattle.bl_wasm.specs.Typing.{Context, of_result}
+use Rattle.bl_wasm.specs.declared.types.WasmType.{WasmType}
+use Rattle.bl_wasm.specs.Validity.{functions_of, tables_of, memories_of, globals_of, imported, global_of, locals_of}
+use Rattle.bl_wasm.specs.declared.types.FuncType.{FuncType}
+use Rattle.bl_wasm.specs.declared.module.Code.{Code}
+use Rattle.bl_wasm.specs.declared.module.Module.{Module}
+use Rattle.bl_validate.specs.declared.body.Body.{Body}
+use Rattle.bl_validate.specs.declared.scope.Scope.{Scope}
+use Rattle.bl_validate.specs.declared.stacks.Target.{Target}
+use Rattle.bl_validate.specs.declared.stacks.Target.TheVariants.{Construct, Function}
+
+-- the context that a body stands in
+abbrev pub seen : Body → Context
+seen body = record {
+  types = body.scope.now.types.now;
+  functions = body.scope.now.functions.items;
+  globals = body.scope.now.globals.items;
+  tables = length body.scope.now.tables.items;
+  memories = length body.scope.now.memories.items;
+  locals = body.locals.items;
+  results = body.results.now;
+}
+
+-- the types that a branch takes
+abbrev pub takes : Context → Target → List WasmType
+takes c (Construct result) = of_result result
+takes c Function = c.results
+
+-- the context of a body of that type and code
+abbrev pub context_in : Scope → FuncType → Code → Context
+context_in scope type code = record {
+  types = scope.types.now;
+  functions = scope.functions.items;
+  globals = scope.globals.items;
+  tables = length scope.tables.items;
+  memories = length scope.memories.items;
+  locals = type.params ++ locals_of code;
+  results = type.results;
+}
+
+-- the scope is that of the module
+pub record IsScope (tree : Module) (scope : Scope) : Type 0 where
+  pub types : scope.types.now ≡ tree.types
+  pub functions : scope.functions.items ≡ functions_of tree
+  pub tables : scope.tables.items ≡ tables_of tree
+  pub memories : scope.memories.items ≡ memories_of tree
+  pub globals : scope.globals.items ≡ globals_of tree
+  pub imports : scope.imported ≡ length (imported global_of tree)

@@ -1,0 +1,213 @@
+//! The rules on the parts of a module other than its bodies' typing (WebAssembly 1.0, section 3.4).
+ghost use Rattle.std.specs.Prelude.{◌≡◌, ◌↔◌, IsTrue, IfOk, slice_get, Some, false};
+ghost use Rattle.bl_wasm.specs.Validity.{AreDistinct, HasIntegers, IsCode, IsFirst, IsFunctionType, IsInteger, IsLimits, IsMemory, IsOffset, IsValid};
+ghost use Rattle.bl_validate.specs.Scopes.{IsScope};
+
+use crate::scope::Scope;
+use bl_base::NoMemory;
+use bl_wasm::{
+    Code, DataSegment, ElementSegment, Export, ExportKind, FuncType, GlobalType, Instr, Limits,
+    Module, WasmType,
+};
+use std::alloc::Global;
+use std::collections::BTreeSet;
+
+/// The most pages of a memory.
+const MOST_PAGES: u32 = 65_536;
+
+/// Whether the module keeps every rule but the typing of its bodies.
+pub(crate) fn is_valid(alloc: Global, tree: &Module, scope: &Scope) -> Result<bool, NoMemory>
+    requires { IsScope tree.now scope.now }
+    ensures { IfOk result (λ ok. IsTrue ok ↔ IsValid tree.now) }
+{
+    Ok(
+        has_valid_functions(tree, scope)
+            && has_valid_stores(scope)
+            && has_valid_globals(tree, scope)
+            && has_valid_segments(tree, scope)
+            && tree.start.is_none()
+            && has_valid_exports(alloc, tree.exports.as_slice(), scope)?,
+    )
+}
+
+/// The types, the functions' type indices, and the types in the functions' code.
+fn has_valid_functions(tree: &Module, scope: &Scope) -> bool {
+    scope.types.iter().all(|kind| is_function_type(kind))
+        && scope
+            .functions
+            .iter()
+            .all(|index| (*index as usize) < scope.types.len())
+        && tree.functions.len() == tree.bodies.len()
+        && tree.bodies.as_slice().iter().all(|code| is_code(code))
+}
+
+/// The tables and memories, imports included.
+fn has_valid_stores(scope: &Scope) -> bool {
+    scope.tables.len() <= 1
+        && scope.memories.len() <= 1
+        && scope.tables.iter().all(|limits| is_limits(*limits))
+        && scope.memories.iter().all(|limits| is_memory(*limits))
+}
+
+/// The globals' types, and the first values of those that are defined.
+fn has_valid_globals(tree: &Module, scope: &Scope) -> bool {
+    let imports = &scope.globals[..scope.imported];
+    scope.globals.iter().all(|global| is_integer(global.kind))
+        && tree.globals.as_slice().iter().all(|global| {
+            is_first(imports, global.kind.kind, global.first.as_slice())
+        })
+}
+
+/// The element and data segments.
+fn has_valid_segments(tree: &Module, scope: &Scope) -> bool {
+    tree.elements
+        .as_slice()
+        .iter()
+        .all(|segment| is_element(scope, segment))
+        && tree
+            .segments
+            .as_slice()
+            .iter()
+            .all(|segment| is_data(scope, segment))
+}
+
+/// The exports: what they name exists, and no two have one name.
+fn has_valid_exports(alloc: Global, exports: &[Export], scope: &Scope) -> Result<bool, NoMemory> {
+    Ok(
+        exports.iter().all(|export| (export.index as usize) < space(scope, export.kind))
+            && are_distinct(alloc, exports)?,
+    )
+}
+
+/// Whether no two exports have one name.
+fn are_distinct(alloc: Global, exports: &[Export]) -> Result<bool, NoMemory>
+    ensures { IfOk result (λ ok. IsTrue ok ↔ AreDistinct exports.now) }
+{
+    let mut names = BTreeSet::new(alloc);
+    for export in exports {
+        if !names.insert(export.name.as_slice())? {
+            return Ok(false);
+        }
+    }
+    Ok(true)
+}
+
+/// The size of the space that an export names.
+fn space(scope: &Scope, kind: ExportKind) -> usize {
+    match kind {
+        ExportKind::Function => scope.functions.len(),
+        ExportKind::Table => scope.tables.len(),
+        ExportKind::Memory => scope.memories.len(),
+        ExportKind::Global => scope.globals.len(),
+    }
+}
+
+/// Whether the type is one of integers.
+fn is_integer(kind: WasmType) -> bool
+    ensures { IsTrue result ↔ IsInteger kind }
+{
+    matches!(kind, WasmType::I32 | WasmType::I64)
+}
+
+/// Whether the types are integers, and the results at most one.
+fn is_function_type(kind: &FuncType) -> bool
+    ensures { IsTrue result ↔ IsFunctionType kind.now }
+{
+    kind.params
+        .as_slice()
+        .iter()
+        .all(|param| is_integer(*param))
+        && kind.results.as_slice().iter().all(|kind| is_integer(*kind))
+        && kind.results.len() <= 1
+}
+
+/// Whether the locals and the types of blocks are integers.
+fn is_code(code: &Code) -> bool
+    ensures { IsTrue result ↔ IsCode code.now }
+{
+    code.locals
+        .as_slice()
+        .iter()
+        .all(|run| is_integer(run.kind))
+        && code.items.as_slice().iter().all(|item| has_integers(item))
+}
+
+/// Whether a block's type is none or one of integers.
+fn has_integers(item: &Instr) -> bool
+    ensures { IsTrue result ↔ HasIntegers item.now }
+{
+    match item {
+        Instr::Block(Some(kind)) | Instr::Loop(Some(kind)) | Instr::If(Some(kind)) => {
+            is_integer(*kind)
+        }
+        _ => true,
+    }
+}
+
+/// Whether the minimum is at most the maximum.
+fn is_limits(limits: Limits) -> bool
+    ensures { IsTrue result ↔ IsLimits limits }
+{
+    match limits.max {
+        Some(max) => limits.min <= max,
+        None => true,
+    }
+}
+
+/// Whether the limits are those of a memory.
+fn is_memory(limits: Limits) -> bool
+    ensures { IsTrue result ↔ IsMemory limits }
+{
+    match limits.max {
+        Some(max) => limits.min <= max && max <= MOST_PAGES,
+        None => limits.min <= MOST_PAGES,
+    }
+}
+
+/// Whether the items are one constant of the type, or one imported immutable global of it.
+fn is_first(imports: &[GlobalType], kind: WasmType, items: &[Instr]) -> bool
+    ensures { IsTrue result ↔ IsFirst imports.now kind items.now }
+{
+    match items {
+        [Instr::I32Const(_)] => kind == WasmType::I32,
+        [Instr::I64Const(_)] => kind == WasmType::I64,
+        [Instr::GlobalGet(x)] => is_constant(imports, *x, kind),
+        _ => false,
+    }
+}
+
+/// Whether the items are one constant i32, or one immutable i32 global.
+fn is_offset(globals: &[GlobalType], items: &[Instr]) -> bool
+    ensures { IsTrue result ↔ IsOffset globals.now items.now }
+{
+    match items {
+        [Instr::I32Const(_)] => true,
+        [Instr::GlobalGet(x)] => is_constant(globals, *x, WasmType::I32),
+        _ => false,
+    }
+}
+
+/// Whether the global exists, is of the type and can't be set.
+fn is_constant(globals: &[GlobalType], x: u32, kind: WasmType) -> bool
+    ensures { IsTrue result ↔ (slice_get globals.now x ≡ Some (record { kind = kind; mutable = false })) }
+{
+    match globals.get(x as usize) {
+        Some(global) => !global.mutable && global.kind == kind,
+        None => false,
+    }
+}
+
+/// Whether the segment's table and functions exist, and its offset is one.
+fn is_element(scope: &Scope, segment: &ElementSegment) -> bool {
+    (segment.table as usize) < scope.tables.len()
+        && is_offset(&scope.globals, segment.offset.as_slice())
+        && segment.functions.as_slice().iter().all(|function| {
+            (*function as usize) < scope.functions.len()
+        })
+}
+
+/// Whether the segment's memory exists, and its offset is one.
+fn is_data(scope: &Scope, segment: &DataSegment) -> bool {
+    (segment.memory as usize) < scope.memories.len()
+        && is_offset(&scope.globals, segment.offset.as_slice())
+}
