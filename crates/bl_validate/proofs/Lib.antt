@@ -3,5 +3,6 @@ pub mod Labels
 pub mod Moves
 pub mod NestedLemmas
 pub mod Rows
+pub mod Spaces
 pub mod StandsLemmas
 pub mod Whole

@@ -1,10 +1,11 @@
 -- What a body stands in, and what a branch in it takes.
-use Rattle.std.specs.Prelude.{◌≡◌, ◌++◌, List, length}
+use Rattle.std.specs.Prelude.{◌≡◌, ◌++◌, List, length, filter_map}
 use Rattle.bl_wasm.specs.Typing.{Context, of_result}
 use Rattle.bl_wasm.specs.declared.types.WasmType.{WasmType}
-use Rattle.bl_wasm.specs.Validity.{functions_of, tables_of, memories_of, globals_of, imported, global_of, locals_of}
+use Rattle.bl_wasm.specs.Validity.{functions_of, tables_of, memories_of, globals_of, imported, function_of, table_of, memory_of, global_of, locals_of}
 use Rattle.bl_wasm.specs.declared.types.FuncType.{FuncType}
 use Rattle.bl_wasm.specs.declared.module.Code.{Code}
+use Rattle.bl_wasm.specs.declared.module.Import.{Import}
 use Rattle.bl_wasm.specs.declared.module.Module.{Module}
 use Rattle.bl_validate.specs.declared.body.Body.{Body}
 use Rattle.bl_validate.specs.declared.scope.Scope.{Scope}
@@ -48,3 +49,11 @@ pub record IsScope (tree : Module) (scope : Scope) : Type 0 where
   pub memories : scope.memories.items ≡ memories_of tree
   pub globals : scope.globals.items ≡ globals_of tree
   pub imports : scope.imported ≡ length (imported global_of tree)
+
+-- the scope with those imports behind its own
+pub record Imports (old : Scope) (entries : List Import) (new : Scope) : Type 0 where
+  pub types : new.types.now ≡ old.types.now
+  pub functions : new.functions.items ≡ old.functions.items ++ filter_map (λ entry. function_of entry.kind) entries
+  pub tables : new.tables.items ≡ old.tables.items ++ filter_map (λ entry. table_of entry.kind) entries
+  pub memories : new.memories.items ≡ old.memories.items ++ filter_map (λ entry. memory_of entry.kind) entries
+  pub globals : new.globals.items ≡ old.globals.items ++ filter_map (λ entry. global_of entry.kind) entries

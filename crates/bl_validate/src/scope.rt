@@ -1,11 +1,13 @@
 //! What the bodies of a module can name: each space has what is imported first, and then what is defined (WebAssembly
 //! 1.0, section 2.5.1).
-ghost use Rattle.std.specs.Prelude.{◌≡◌, ◌++◌, slice_get, option_and_then, option_copied, replicate, IfOk, OnOk};
+ghost use Rattle.std.specs.Prelude.{◌≡◌, ◌++◌, [], ◌∷◌, map, slice_get, option_and_then, option_copied, replicate, IfOk, OnOk};
 ghost use Rattle.bl_wasm.specs.Validity.{locals_of as run_types};
-ghost use Rattle.bl_validate.specs.Scopes.{IsScope};
+ghost use Rattle.bl_validate.specs.Scopes.{IsScope, Imports};
 
 use bl_base::NoMemory;
-use bl_wasm::{Code, FuncType, GlobalType, ImportKind, Limits, Module, WasmType};
+use bl_wasm::{
+    Code, DefinedGlobal, FuncType, GlobalType, Import, ImportKind, Limits, Module, WasmType,
+};
 use std::alloc::Global;
 
 /// The spaces of a module.
@@ -38,24 +40,32 @@ impl<'m> Scope<'m> {
             globals: Vec::new(alloc),
             imported: 0,
         };
-        for entry in tree.imports.as_slice() {
-            scope.import(entry.kind)?;
-        }
+        scope.import_all(tree.imports.as_slice())?;
         scope.imported = scope.globals.len();
         scope
             .functions
             .extend_from_slice(tree.functions.as_slice())?;
         scope.tables.extend_from_slice(tree.tables.as_slice())?;
         scope.memories.extend_from_slice(tree.memories.as_slice())?;
-        for global in tree.globals.as_slice() {
-            scope.globals.push(global.kind)?;
-        }
+        push_kinds(&mut scope.globals, tree.globals.as_slice())?;
         Ok(scope)
     }
 
+    /// Imports more, in order.
+    fn import_all(&mut self, entries: &[Import]) -> Result<(), NoMemory>
+        ensures { OnOk result (Imports self.old entries.now self.new) }
+    {
+        for entry in entries {
+            self.import(entry)?;
+        }
+        Ok(())
+    }
+
     /// One import more.
-    fn import(&mut self, kind: ImportKind) -> Result<(), NoMemory> {
-        match kind {
+    fn import(&mut self, entry: &Import) -> Result<(), NoMemory>
+        ensures { OnOk result (Imports self.old (entry.now ∷ []) self.new) }
+    {
+        match entry.kind {
             ImportKind::Function(index) => self.functions.push(index)?,
             ImportKind::Table(limits) => self.tables.push(limits)?,
             ImportKind::Memory(limits) => self.memories.push(limits)?,
@@ -103,6 +113,16 @@ fn push_run(locals: &mut Vec<WasmType>, count: u32, kind: WasmType) -> Result<()
 {
     for _done in 0..count {
         locals.push(kind)?;
+    }
+    Ok(())
+}
+
+/// Appends the globals' types.
+fn push_kinds(to: &mut Vec<GlobalType>, globals: &[DefinedGlobal]) -> Result<(), NoMemory>
+    ensures { OnOk result (to.new.items ≡ to.old.items ++ map (λ global. global.kind) globals.now) }
+{
+    for global in globals {
+        to.push(global.kind)?;
     }
     Ok(())
 }
