@@ -1,6 +1,7 @@
 pub mod Constructs
 pub mod Labels
 pub mod Moves
+pub mod Names
 pub mod NestedLemmas
 pub mod Rows
 pub mod Spaces
