@@ -57,12 +57,12 @@ unnamed xs name none i a found same =
 distinct_push : (xs : List Export) (entry : Export) → AreDistinct xs → list_any (is_named entry.name) xs ≡ false → AreDistinct (xs ++ entry ∷ [])
 distinct_push xs entry distinct none i j a b first second same =
     elim (get_push xs entry i a first) as (λ _. i ≡ j) [
-      inl before ↦ elim (get_push xs entry j b second) as (λ _. i ≡ j) [
-        inl also ↦ distinct i j a b before also same
+      | inl before ↦ elim (get_push xs entry j b second) as (λ _. i ≡ j) [
+        | inl also ↦ distinct i j a b before also same
         | inr last ↦ absurd (unnamed xs entry.name none i a before (same ∙ ap (λ (x : Export). x.name) (sym last.1)))
       ]
       | inr last ↦ elim (get_push xs entry j b second) as (λ _. i ≡ j) [
-        inl also ↦ absurd (unnamed xs entry.name none j b also (sym same ∙ ap (λ (x : Export). x.name) (sym last.1)))
+        | inl also ↦ absurd (unnamed xs entry.name none j b also (sym same ∙ ap (λ (x : Export). x.name) (sym last.1)))
         | inr both ↦ last.0 ∙ sym both.0
       ]
     ]

@@ -1,4 +1,5 @@
 pub mod Few
+pub mod Groups
 pub mod Nested
 pub mod Scopes
 pub mod Stands

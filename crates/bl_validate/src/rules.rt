@@ -1,13 +1,15 @@
 //! The rules on the parts of a module other than its bodies' typing (WebAssembly 1.0, section 3.4).
-ghost use Rattle.std.specs.Prelude.{◌≡◌, ◌↔◌, IsTrue, IfOk, slice_get, Some, false};
+ghost use Rattle.std.specs.Prelude.{◌≡◌, ◌<◌, ◌↔◌, length, IsTrue, IfOk, slice_get, Some, false};
+ghost use Rattle.std.specs.List.{All};
 ghost use Rattle.bl_wasm.specs.Validity.{AreDistinct, HasIntegers, IsCode, IsFirst, IsFunctionType, IsInteger, IsLimits, IsMemory, IsOffset, IsValid};
+ghost use Rattle.bl_validate.specs.Groups.{AreExports, AreFunctions, AreGlobals, AreStores, IsDataAt, IsElementAt, space_in};
 ghost use Rattle.bl_validate.specs.Scopes.{IsScope};
 
 use crate::scope::Scope;
 use bl_base::NoMemory;
 use bl_wasm::{
-    Code, DataSegment, ElementSegment, Export, ExportKind, FuncType, GlobalType, Instr, Limits,
-    Module, WasmType,
+    Code, DataSegment, DefinedGlobal, ElementSegment, Export, ExportKind, FuncType, GlobalType,
+    Instr, Limits, Module, WasmType,
 };
 use std::alloc::Global;
 use std::collections::BTreeSet;
@@ -20,59 +22,61 @@ pub(crate) fn is_valid(alloc: Global, tree: &Module, scope: &Scope) -> Result<bo
     requires { IsScope tree.now scope.now }
     ensures { IfOk result (λ ok. IsTrue ok ↔ IsValid tree.now) }
 {
+    let globals = scope.globals.as_slice();
     Ok(
         has_valid_functions(tree, scope)
-            && has_valid_stores(scope)
-            && has_valid_globals(tree, scope)
-            && has_valid_segments(tree, scope)
+            && has_valid_stores(&scope.tables, &scope.memories)
+            && has_valid_globals(globals, &globals[..scope.imported], tree.globals.as_slice())
+            && are_elements(scope, tree.elements.as_slice())
+            && are_data(scope, tree.segments.as_slice())
             && tree.start.is_none()
             && has_valid_exports(alloc, tree.exports.as_slice(), scope)?,
     )
 }
 
 /// The types, the functions' type indices, and the types in the functions' code.
-fn has_valid_functions(tree: &Module, scope: &Scope) -> bool {
+fn has_valid_functions(tree: &Module, scope: &Scope) -> bool
+    ensures { IsTrue result ↔ AreFunctions scope.now.types.now scope.now.functions.items tree.now.functions tree.now.bodies }
+{
     scope.types.iter().all(|kind| is_function_type(kind))
-        && scope
-            .functions
-            .iter()
-            .all(|index| (*index as usize) < scope.types.len())
+        && are_below(&scope.functions, scope.types.len())
         && tree.functions.len() == tree.bodies.len()
         && tree.bodies.as_slice().iter().all(|code| is_code(code))
 }
 
+/// Whether each index is below the size of a space.
+fn are_below(indices: &[u32], size: usize) -> bool
+    ensures { IsTrue result ↔ All (λ index. index < size) indices.now }
+{
+    indices.iter().all(|index| (*index as usize) < size)
+}
+
 /// The tables and memories, imports included.
-fn has_valid_stores(scope: &Scope) -> bool {
-    scope.tables.len() <= 1
-        && scope.memories.len() <= 1
-        && scope.tables.iter().all(|limits| is_limits(*limits))
-        && scope.memories.iter().all(|limits| is_memory(*limits))
+fn has_valid_stores(tables: &[Limits], memories: &[Limits]) -> bool
+    ensures { IsTrue result ↔ AreStores tables.now memories.now }
+{
+    tables.len() <= 1
+        && memories.len() <= 1
+        && tables.iter().all(|limits| is_limits(*limits))
+        && memories.iter().all(|limits| is_memory(*limits))
 }
 
 /// The globals' types, and the first values of those that are defined.
-fn has_valid_globals(tree: &Module, scope: &Scope) -> bool {
-    let imports = &scope.globals[..scope.imported];
-    scope.globals.iter().all(|global| is_integer(global.kind))
-        && tree.globals.as_slice().iter().all(|global| {
-            is_first(imports, global.kind.kind, global.first.as_slice())
-        })
-}
-
-/// The element and data segments.
-fn has_valid_segments(tree: &Module, scope: &Scope) -> bool {
-    tree.elements
-        .as_slice()
-        .iter()
-        .all(|segment| is_element(scope, segment))
-        && tree
-            .segments
-            .as_slice()
-            .iter()
-            .all(|segment| is_data(scope, segment))
+fn has_valid_globals(
+    globals: &[GlobalType],
+    imports: &[GlobalType],
+    defined: &[DefinedGlobal],
+) -> bool
+    ensures { IsTrue result ↔ AreGlobals globals.now imports.now defined.now }
+{
+    globals.iter().all(|global| is_integer(global.kind))
+        && defined.iter().all(|global| is_first(imports, global.kind.kind, global.first.as_slice()))
 }
 
 /// The exports: what they name exists, and no two have one name.
-fn has_valid_exports(alloc: Global, exports: &[Export], scope: &Scope) -> Result<bool, NoMemory> {
+fn has_valid_exports(alloc: Global, exports: &[Export], scope: &Scope) -> Result<bool, NoMemory>
+    ensures { IfOk result (λ ok. IsTrue ok ↔ AreExports scope.now exports.now) }
+{
     Ok(
         exports.iter().all(|export| (export.index as usize) < space(scope, export.kind))
             && are_distinct(alloc, exports)?,
@@ -93,7 +97,9 @@ fn are_distinct(alloc: Global, exports: &[Export]) -> Result<bool, NoMemory>
 }
 
 /// The size of the space that an export names.
-fn space(scope: &Scope, kind: ExportKind) -> usize {
+fn space(scope: &Scope, kind: ExportKind) -> usize
+    ensures { result ≡ space_in scope.now kind }
+{
     match kind {
         ExportKind::Function => scope.functions.len(),
         ExportKind::Table => scope.tables.len(),
@@ -198,16 +204,45 @@ fn is_constant(globals: &[GlobalType], x: u32, kind: WasmType) -> bool
 }
 
 /// Whether the segment's table and functions exist, and its offset is one.
-fn is_element(scope: &Scope, segment: &ElementSegment) -> bool {
-    (segment.table as usize) < scope.tables.len()
-        && is_offset(&scope.globals, segment.offset.as_slice())
-        && segment.functions.as_slice().iter().all(|function| {
-            (*function as usize) < scope.functions.len()
-        })
+fn is_element(
+    tables: usize,
+    functions: usize,
+    globals: &[GlobalType],
+    segment: &ElementSegment,
+) -> bool
+    ensures { IsTrue result ↔ IsElementAt tables functions globals.now segment.now }
+{
+    (segment.table as usize) < tables
+        && is_offset(globals, segment.offset.as_slice())
+        && are_below(segment.functions.as_slice(), functions)
 }
 
 /// Whether the segment's memory exists, and its offset is one.
-fn is_data(scope: &Scope, segment: &DataSegment) -> bool {
-    (segment.memory as usize) < scope.memories.len()
-        && is_offset(&scope.globals, segment.offset.as_slice())
+fn is_data(memories: usize, globals: &[GlobalType], segment: &DataSegment) -> bool
+    ensures { IsTrue result ↔ IsDataAt memories globals.now segment.now }
+{
+    (segment.memory as usize) < memories && is_offset(globals, segment.offset.as_slice())
+}
+
+/// Whether all are element segments.
+fn are_elements(scope: &Scope, segments: &[ElementSegment]) -> bool
+    ensures { IsTrue result ↔ All (IsElementAt (length scope.now.tables.items) (length scope.now.functions.items) scope.now.globals.items) segments.now }
+{
+    let tables = scope.tables.len();
+    let functions = scope.functions.len();
+    let globals = scope.globals.as_slice();
+    segments
+        .iter()
+        .all(|segment| is_element(tables, functions, globals, segment))
+}
+
+/// Whether all are data segments.
+fn are_data(scope: &Scope, segments: &[DataSegment]) -> bool
+    ensures { IsTrue result ↔ All (IsDataAt (length scope.now.memories.items) scope.now.globals.items) segments.now }
+{
+    let memories = scope.memories.len();
+    let globals = scope.globals.as_slice();
+    segments
+        .iter()
+        .all(|segment| is_data(memories, globals, segment))
 }

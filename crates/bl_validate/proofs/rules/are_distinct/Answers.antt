@@ -13,8 +13,8 @@ loop-export-preserved c = collects_more _ _ _ _ _ c.as_slice.result c.loop-expor
 
 pub returns-then-not-branch : goal.returns-then-not-branch
 returns-then-not-branch c = (
-    λ e. absurd (false≢true e),
-    λ distinct. absurd (collects_twice _ _ _ _ c.as_slice.result c.loop-export-test.true c.export-item.is c.as_slice.ensures c.loop-export.invariant (sym c.if-not-branch.true ∙ c.in_ok-insert.ensures.added) distinct),
+  λ e. absurd (false≢true e),
+  λ distinct. absurd (collects_twice _ _ _ _ c.as_slice.result c.loop-export-test.true c.export-item.is c.as_slice.ensures c.loop-export.invariant (sym c.if-not-branch.true ∙ c.in_ok-insert.ensures.added) distinct),
 )
 
 pub returns : goal.returns
