@@ -1,4 +1,5 @@
 pub mod Constructs
+pub mod Groups
 pub mod Labels
 pub mod Moves
 pub mod Names

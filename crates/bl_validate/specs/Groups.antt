@@ -1,5 +1,5 @@
 -- The rules on the parts of a module other than its bodies' typing, group by group, over the spaces of its scope.
-use Rattle.std.specs.Prelude.{◌≡◌, ℕ, ◌<◌, ◌≤◌, List, length}
+use Rattle.std.specs.Prelude.{◌≡◌, ℕ, ◌<◌, ◌≤◌, List, length, take, None}
 use Rattle.std.specs.List.{All}
 use Rattle.bl_wasm.specs.Validity.{AreDistinct, IsCode, IsFirst, IsFunctionType, IsInteger, IsLimits, IsMemory, IsOffset}
 use Rattle.bl_wasm.specs.declared.types.FuncType.{FuncType}
@@ -12,6 +12,7 @@ use Rattle.bl_wasm.specs.declared.module.ElementSegment.{ElementSegment}
 use Rattle.bl_wasm.specs.declared.module.Export.{Export}
 use Rattle.bl_wasm.specs.declared.module.ExportKind.{ExportKind}
 use Rattle.bl_wasm.specs.declared.module.ExportKind.TheVariants as export
+use Rattle.bl_wasm.specs.declared.module.Module.{Module}
 use Rattle.bl_validate.specs.declared.scope.Scope.{Scope}
 
 -- the types, the functions' type indices, and the code of those that are defined
@@ -50,6 +51,15 @@ space_in scope export.Function = length scope.functions.items
 space_in scope export.Table = length scope.tables.items
 space_in scope export.Memory = length scope.memories.items
 space_in scope export.Global = length scope.globals.items
+
+-- all but the exports
+pub record AreParts (tree : Module) (scope : Scope) : Type 0 where
+  pub functions : AreFunctions scope.types.now scope.functions.items tree.functions tree.bodies
+  pub stores : AreStores scope.tables.items scope.memories.items
+  pub globals : AreGlobals scope.globals.items (take scope.imported scope.globals.items) tree.globals
+  pub elements : All (IsElementAt (length scope.tables.items) (length scope.functions.items) scope.globals.items) tree.elements
+  pub segments : All (IsDataAt (length scope.memories.items) scope.globals.items) tree.segments
+  pub start : tree.start ≡ None
 
 -- exports exist, by names of their own
 pub record AreExports (scope : Scope) (exports : List Export) : Type 0 where

@@ -1,8 +1,8 @@
 //! The rules on the parts of a module other than its bodies' typing (WebAssembly 1.0, section 3.4).
-ghost use Rattle.std.specs.Prelude.{◌≡◌, ◌<◌, ◌↔◌, length, IsTrue, IfOk, slice_get, Some, false};
+ghost use Rattle.std.specs.Prelude.{◌≡◌, ◌<◌, ◌≤◌, ◌↔◌, length, vec_len, IsTrue, IfOk, slice_get, Some, false};
 ghost use Rattle.std.specs.List.{All};
 ghost use Rattle.bl_wasm.specs.Validity.{AreDistinct, HasIntegers, IsCode, IsFirst, IsFunctionType, IsInteger, IsLimits, IsMemory, IsOffset, IsValid};
-ghost use Rattle.bl_validate.specs.Groups.{AreExports, AreFunctions, AreGlobals, AreStores, IsDataAt, IsElementAt, space_in};
+ghost use Rattle.bl_validate.specs.Groups.{AreExports, AreFunctions, AreGlobals, AreParts, AreStores, IsDataAt, IsElementAt, space_in};
 ghost use Rattle.bl_validate.specs.Scopes.{IsScope};
 
 use crate::scope::Scope;
@@ -22,26 +22,38 @@ pub(crate) fn is_valid(alloc: Global, tree: &Module, scope: &Scope) -> Result<bo
     requires { IsScope tree.now scope.now }
     ensures { IfOk result (λ ok. IsTrue ok ↔ IsValid tree.now) }
 {
+    Ok(has_valid_parts(tree, scope) && has_valid_exports(alloc, tree.exports.as_slice(), scope)?)
+}
+
+/// Whether the module keeps every rule but the typing of its bodies and those on its exports.
+fn has_valid_parts(tree: &Module, scope: &Scope) -> bool
+    requires { scope.now.imported ≤ vec_len scope.now.globals }
+    ensures { IsTrue result ↔ AreParts tree.now scope.now }
+{
     let globals = scope.globals.as_slice();
-    Ok(
-        has_valid_functions(tree, scope)
-            && has_valid_stores(&scope.tables, &scope.memories)
-            && has_valid_globals(globals, &globals[..scope.imported], tree.globals.as_slice())
-            && are_elements(scope, tree.elements.as_slice())
-            && are_data(scope, tree.segments.as_slice())
-            && tree.start.is_none()
-            && has_valid_exports(alloc, tree.exports.as_slice(), scope)?,
-    )
+    has_valid_functions(tree, scope)
+        && has_valid_stores(&scope.tables, &scope.memories)
+        && has_valid_globals(globals, &globals[..scope.imported], tree.globals.as_slice())
+        && are_elements(scope, tree.elements.as_slice())
+        && are_data(scope, tree.segments.as_slice())
+        && tree.start.is_none()
 }
 
 /// The types, the functions' type indices, and the types in the functions' code.
 fn has_valid_functions(tree: &Module, scope: &Scope) -> bool
     ensures { IsTrue result ↔ AreFunctions scope.now.types.now scope.now.functions.items tree.now.functions tree.now.bodies }
 {
-    scope.types.iter().all(|kind| is_function_type(kind))
-        && are_below(&scope.functions, scope.types.len())
+    are_types(scope.types)
+        && have_types(scope)
         && tree.functions.len() == tree.bodies.len()
-        && tree.bodies.as_slice().iter().all(|code| is_code(code))
+        && are_codes(tree.bodies.as_slice())
+}
+
+/// Whether the functions' types exist.
+fn have_types(scope: &Scope) -> bool
+    ensures { IsTrue result ↔ All (λ index. index < length scope.now.types.now) scope.now.functions.items }
+{
+    are_below(&scope.functions, scope.types.len())
 }
 
 /// Whether each index is below the size of a space.
@@ -115,6 +127,13 @@ fn is_integer(kind: WasmType) -> bool
     matches!(kind, WasmType::I32 | WasmType::I64)
 }
 
+/// Whether all are types of functions.
+fn are_types(types: &[FuncType]) -> bool
+    ensures { IsTrue result ↔ All IsFunctionType types.now }
+{
+    types.iter().all(|kind| is_function_type(kind))
+}
+
 /// Whether the types are integers, and the results at most one.
 fn is_function_type(kind: &FuncType) -> bool
     ensures { IsTrue result ↔ IsFunctionType kind.now }
@@ -136,6 +155,13 @@ fn is_code(code: &Code) -> bool
         .iter()
         .all(|run| is_integer(run.kind))
         && code.items.as_slice().iter().all(|item| has_integers(item))
+}
+
+/// Whether all are codes of this profile.
+fn are_codes(bodies: &[Code]) -> bool
+    ensures { IsTrue result ↔ All IsCode bodies.now }
+{
+    bodies.iter().all(|code| is_code(code))
 }
 
 /// Whether a block's type is none or one of integers.
