@@ -1,12 +1,9 @@
 -- The rules over the spaces of a scope, and the rules over the module.
-use Rattle.std.proofs.Common.{◌≡◌, ◌↔◌, ◌<◌, ◌∙◌, arith, Bool, true, false, IsTrue, MatchBool, [], ◌∷◌, zero, sym, ap, refl, subst, ℕ, ◌++◌, List, length, take, get_or}
+use Rattle.std.proofs.Common.{◌≡◌, ◌↔◌, ◌<◌, arith, Bool, true, false, IsTrue, MatchBool, [], ◌∷◌, sym, ap, refl, ℕ, List, length, take, get_or}
 use Rattle.std.specs.List.{All, AllWithin, HoldsAt}
 use Rattle.std.proofs.lemmas.Bool.{false≢true}
 use Rattle.std.proofs.Math.Seq.{take-append_seam}
-use Rattle.std.proofs.lemmas.List.{take-append-le, take_all}
 use Rattle.bl_wasm.specs.Validity.{IsValid, IsElement, IsData, functions_of, tables_of, memories_of, globals_of, imported, global_of, space_of}
-use Rattle.bl_wasm.specs.declared.types.GlobalType.{GlobalType}
-use Rattle.bl_wasm.specs.declared.types.Limits.{Limits}
 use Rattle.bl_wasm.specs.declared.module.DataSegment.{DataSegment}
 use Rattle.bl_wasm.specs.declared.module.ElementSegment.{ElementSegment}
 use Rattle.bl_wasm.specs.declared.module.Export.{Export}
@@ -56,8 +53,7 @@ to_data tree h = record { memory = h.memory; offset = h.offset }
 elements_over : {tree : Module} {scope : Scope} → IsScope tree scope → (segments : List ElementSegment) → All (IsElementAt (length scope.tables.items) (length scope.functions.items) scope.globals.items) segments ↔ All (IsElement tree) segments
 elements_over {tree = tree} {scope = scope} is segments =
     let tables : length (tables_of tree) ≡ length scope.tables.items = ap length (sym is.tables) in
-    let functions : length (functions_of tree) ≡ length scope.functions.items = ap length (sym is.functions) in
-    (
+    let functions : length (functions_of tree) ≡ length scope.functions.items = ap length (sym is.functions) in (
       λ all k d below. of_element tree (rw (tables, functions, ← is.globals) (all k d below)),
       λ all k d below. rw (← tables, ← functions, is.globals) (to_element tree (all k d below)),
     )
@@ -65,8 +61,7 @@ elements_over {tree = tree} {scope = scope} is segments =
 -- the data segments over the spaces, and over the module
 data_over : {tree : Module} {scope : Scope} → IsScope tree scope → (segments : List DataSegment) → All (IsDataAt (length scope.memories.items) scope.globals.items) segments ↔ All (IsData tree) segments
 data_over {tree = tree} {scope = scope} is segments =
-    let memories : length (memories_of tree) ≡ length scope.memories.items = ap length (sym is.memories) in
-    (
+    let memories : length (memories_of tree) ≡ length scope.memories.items = ap length (sym is.memories) in (
       λ all k d below. of_data tree (rw (memories, ← is.globals) (all k d below)),
       λ all k d below. rw (← memories, is.globals) (to_data tree (all k d below)),
     )
@@ -74,8 +69,8 @@ data_over {tree = tree} {scope = scope} is segments =
 -- exports over the spaces, and over the module
 exports_over : {tree : Module} {scope : Scope} → IsScope tree scope → (exports : List Export) → All (λ entry. entry.index < space_in scope entry.kind) exports ↔ All (λ entry. entry.index < space_of tree entry.kind) exports
 exports_over is exports = (
-    λ all k d below. rw (← space_same is (get_or exports k d).kind) (all k d below),
-    λ all k d below. rw (space_same is (get_or exports k d).kind) (all k d below),
+  λ all k d below. rw (← space_same is (get_or exports k d).kind) (all k d below),
+  λ all k d below. rw (space_same is (get_or exports k d).kind) (all k d below),
 )
 
 -- the rules over the spaces of a scope are those over the module

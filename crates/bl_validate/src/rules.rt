@@ -49,7 +49,7 @@ fn has_valid_functions(tree: &Module, scope: &Scope) -> bool
         && are_codes(tree.bodies.as_slice())
 }
 
-/// Whether the functions' types exist.
+/// Whether the type of each function exists.
 fn have_types(scope: &Scope) -> bool
     ensures { IsTrue result ↔ All (λ index. index < length scope.now.types.now) scope.now.functions.items }
 {
@@ -127,7 +127,7 @@ fn is_integer(kind: WasmType) -> bool
     matches!(kind, WasmType::I32 | WasmType::I64)
 }
 
-/// Whether all are types of functions.
+/// Whether each is a function's type of this profile.
 fn are_types(types: &[FuncType]) -> bool
     ensures { IsTrue result ↔ All IsFunctionType types.now }
 {
@@ -157,7 +157,7 @@ fn is_code(code: &Code) -> bool
         && code.items.as_slice().iter().all(|item| has_integers(item))
 }
 
-/// Whether all are codes of this profile.
+/// Whether each has locals and types of blocks of this profile.
 fn are_codes(bodies: &[Code]) -> bool
     ensures { IsTrue result ↔ All IsCode bodies.now }
 {
@@ -250,7 +250,7 @@ fn is_data(memories: usize, globals: &[GlobalType], segment: &DataSegment) -> bo
     (segment.memory as usize) < memories && is_offset(globals, segment.offset.as_slice())
 }
 
-/// Whether all are element segments.
+/// Whether each segment's table and functions exist, and its offset is one.
 fn are_elements(scope: &Scope, segments: &[ElementSegment]) -> bool
     ensures { IsTrue result ↔ All (IsElementAt (length scope.now.tables.items) (length scope.now.functions.items) scope.now.globals.items) segments.now }
 {
@@ -262,7 +262,7 @@ fn are_elements(scope: &Scope, segments: &[ElementSegment]) -> bool
         .all(|segment| is_element(tables, functions, globals, segment))
 }
 
-/// Whether all are data segments.
+/// Whether each segment's memory exists, and its offset is one.
 fn are_data(scope: &Scope, segments: &[DataSegment]) -> bool
     ensures { IsTrue result ↔ All (IsDataAt (length scope.now.memories.items) scope.now.globals.items) segments.now }
 {
