@@ -6,4 +6,5 @@ pub mod Numeric
 pub mod Outcomes
 pub mod Returns
 pub mod Steps
+pub mod TypedConfigurations
 pub mod Variables
