@@ -1,2 +1,5 @@
 pub mod Places
+pub mod Ready
+pub mod VariableItems
 mod WorkedRows
+pub mod Zips

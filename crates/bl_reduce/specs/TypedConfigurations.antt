@@ -3,7 +3,7 @@
 use Rattle.std.specs.Prelude.{◌≡◌, ℕ, ◌*◌, ◌^◌, ◌<◌, ◌≤◌, ◌++◌, List, [], ◌∷◌, length, map, drop, reverse, slice_get, Option, Some}
 use Rattle.std.specs.List.{All, AllZip}
 use Rattle.bl_base.specs.Fits.{ArgumentFits}
-use Rattle.bl_base.specs.Runs.{MemoryState}
+use Rattle.bl_base.specs.Runs.{MemoryState, Outcome, returned, trapped, Next, goes, ends, stuck}
 use Rattle.bl_base.specs.declared.names.ValueType.{ValueType}
 use Rattle.bl_wasm.specs.Linked.{all_locals, context}
 use Rattle.bl_wasm.specs.Typing.{Context, Open, Types, integer, labels_at, taken_by}
@@ -123,3 +123,14 @@ pub record IsRunning (tree : Tree) (results : List ValueType) (state : State) : 
 abbrev pub IsTyped : Tree → List ValueType → Config → Type 0
 IsTyped tree results (entering store number arguments callers) = IsEntering tree results store number arguments callers
 IsTyped tree results (running state) = IsRunning tree results state
+
+-- how such a run ends: with values of these types, and with memories of the tree
+abbrev pub IsTypedEnd : Tree → List ValueType → Outcome → Type 0
+IsTypedEnd tree results (returned values memories) = AllZip ArgumentFits results values × AllZip IsMemoryState tree.memories memories
+IsTypedEnd tree results (trapped kind memories) = AllZip IsMemoryState tree.memories memories
+
+-- a step of such a run: there is one, to a configuration of it or to its end
+abbrev pub IsTypedStep : Tree → List ValueType → Next Config → Type 0
+IsTypedStep tree results (goes config) = IsTyped tree results config
+IsTypedStep tree results (ends outcome) = IsTypedEnd tree results outcome
+IsTypedStep tree results stuck = ⊥
