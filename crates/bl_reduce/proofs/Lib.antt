@@ -1,3 +1,5 @@
+pub mod MemoryItems
+pub mod NumericItems
 pub mod Places
 pub mod Ready
 pub mod VariableItems

@@ -1,8 +1,9 @@
 -- Lists whose items stand in a relation, place by place.
 use Rattle.std.proofs.Common.{◌≡◌, ℕ, zero, suc, ◌+◌, ◌<◌, List, [], ◌∷◌, ◌++◌, length, map, take, drop, set, reverse, replicate, Option, Some, None, slice_get, refl, sym, ap, ◌∙◌, subst, arith}
 use Rattle.std.proofs.lemmas.List.{reverse-reverse}
-use Rattle.std.proofs.lemmas.Option.{none-some}
-use Rattle.std.specs.List.{AllZip}
+use Rattle.std.proofs.lemmas.List.Elements.{All-get_or}
+use Rattle.std.proofs.lemmas.Option.{none-some, get_or_from_slice_get, slice_get_within}
+use Rattle.std.specs.List.{All, AllZip}
 use mathlib.Core.List.{reverse_aux}
 
 -- a Some is that value
@@ -87,3 +88,13 @@ pub mapped_get : {A B : Type 0} (f : A → B) (xs : List A) (i : ℕ) (y : B) �
 mapped_get f [] i y e = absurd (none-some y e)
 mapped_get f (x ∷ xs) zero y e = (x, refl, some_same (f x) y e)
 mapped_get f (x ∷ xs) (suc i) y e = mapped_get f xs i y e
+
+-- what holds of each item holds of the one at a place
+pub all_get : {A : Type 0} (P : A → Type 0) (xs : List A) (i : ℕ) (x : A) → All P xs → slice_get xs i ≡ Some x → P x
+all_get P xs i x h e = subst P (get_or_from_slice_get xs i x x e) (All-get_or P xs i x (slice_get_within xs i x e) h)
+
+-- there is an item within
+pub within_get : {A : Type 0} (xs : List A) (i : ℕ) → i < length xs → (x : A) × (slice_get xs i ≡ Some x)
+within_get [] i lt = absurd (omega (arith, lt))
+within_get (x ∷ xs) zero lt = (x, refl)
+within_get (x ∷ xs) (suc i) lt = within_get xs i (omega (arith, lt))
