@@ -1,3 +1,5 @@
+pub mod CallItems
+pub mod ControlItems
 pub mod MemoryItems
 pub mod NumericItems
 pub mod Places
