@@ -3,24 +3,24 @@ use Rattle.std.proofs.Common.{◌≡◌, ℕ, zero, suc, ◌+◌, ◌*◌, ◌�
 use Rattle.bl_base.specs.Runs.{Outcome, Next, goes, ends, stuck, Comes, EndsAfter, last, more}
 
 -- what a step that isn't stuck gives: one outcome, or one configuration
-abbrev IsEnd : {C : Type 0} → Next C → Outcome → Type 0
+abbrev pub IsEnd : {C : Type 0} → Next C → Outcome → Type 0
 IsEnd (goes d) o = ⊥
 IsEnd (ends p) o = p ≡ o
 IsEnd stuck o = ⊥
 
-abbrev IsNext : {C : Type 0} → Next C → C → Type 0
+abbrev pub IsNext : {C : Type 0} → Next C → C → Type 0
 IsNext (goes e) d = e ≡ d
 IsNext (ends p) d = ⊥
 IsNext stuck d = ⊥
 
 module _ {C : Type 0} (step : C → Next C) where
-  one_end : (c : C) (o p : Outcome) → step c ≡ ends o → step c ≡ ends p → o ≡ p
+  pub one_end : (c : C) (o p : Outcome) → step c ≡ ends o → step c ≡ ends p → o ≡ p
   one_end c o p e f = subst (λ x. IsEnd x p) (sym f ∙ e) refl
 
-  one_next : (c d e : C) → step c ≡ goes d → step c ≡ goes e → d ≡ e
+  pub one_next : (c d e : C) → step c ≡ goes d → step c ≡ goes e → d ≡ e
   one_next c d e f g = subst (λ x. IsNext x e) (sym g ∙ f) refl
 
-  not_both : (c d : C) (o : Outcome) → step c ≡ goes d → step c ≡ ends o → ⊥
+  pub not_both : (c d : C) (o : Outcome) → step c ≡ goes d → step c ≡ ends o → ⊥
   not_both c d o f g = subst (λ x. IsNext x d) (sym f ∙ g) refl
 
   -- a run is one of the configurations that it starts from

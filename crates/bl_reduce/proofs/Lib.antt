@@ -4,6 +4,7 @@ pub mod MemoryItems
 pub mod NumericItems
 pub mod Places
 pub mod Ready
+pub mod Soundness
 pub mod VariableItems
 mod WorkedRows
 pub mod Zips

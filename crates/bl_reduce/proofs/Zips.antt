@@ -1,7 +1,7 @@
 -- Lists whose items stand in a relation, place by place.
 use Rattle.std.proofs.Common.{◌≡◌, ℕ, zero, suc, ◌+◌, ◌<◌, List, [], ◌∷◌, ◌++◌, length, map, take, drop, set, reverse, replicate, Option, Some, None, slice_get, refl, sym, ap, ◌∙◌, subst, arith}
 use Rattle.std.proofs.lemmas.List.{reverse-reverse}
-use Rattle.std.proofs.lemmas.List.Elements.{All-get_or}
+use Rattle.std.proofs.lemmas.List.Elements.{All-drop, All-get_or}
 use Rattle.std.proofs.lemmas.Option.{none-some, get_or_from_slice_get, slice_get_within}
 use Rattle.std.specs.List.{All, AllZip}
 use mathlib.Core.List.{reverse_aux}
@@ -98,3 +98,23 @@ pub within_get : {A : Type 0} (xs : List A) (i : ℕ) → i < length xs → (x :
 within_get [] i lt = absurd (omega (arith, lt))
 within_get (x ∷ xs) zero lt = (x, refl)
 within_get (x ∷ xs) (suc i) lt = within_get xs i (omega (arith, lt))
+
+module _ {A B : Type 0} (R S : A → B → Type 0) where
+  pub zip_each : ((x : A) (y : B) → R x y → S x y) → (xs : List A) (ys : List B) → AllZip R xs ys → AllZip S xs ys
+  zip_each g [] [] h = tt
+  zip_each g [] (y ∷ ys) h = absurd h
+  zip_each g (x ∷ xs) [] h = absurd h
+  zip_each g (x ∷ xs) (y ∷ ys) h = (g x y h.0, zip_each g xs ys h.1)
+
+-- the item with which one stands
+pub zip_got : {A B : Type 0} (R : A → B → Type 0) (xs : List A) (ys : List B) (i : ℕ) (y : B) → AllZip R xs ys → slice_get ys i ≡ Some y → (x : A) × (slice_get xs i ≡ Some x) × R x y
+zip_got R [] [] i y h e = absurd (none-some y e)
+zip_got R [] (b ∷ ys) i y h e = absurd h
+zip_got R (x ∷ xs) [] i y h e = absurd h
+zip_got R (x ∷ xs) (b ∷ ys) zero y h e = (x, refl, subst (λ b. R x b) (some_same b y e) h.0)
+zip_got R (x ∷ xs) (b ∷ ys) (suc i) y h e = zip_got R xs ys i y h.1 e
+
+-- items with their images
+pub zip_images : {A B : Type 0} (P : A → Type 0) (R : A → B → Type 0) (f : A → B) → ((x : A) → P x → R x (f x)) → (xs : List A) → All P xs → AllZip R xs (map f xs)
+zip_images P R f g [] h = tt
+zip_images P R f g (x ∷ xs) h = (g x (All-get_or P (x ∷ xs) 0 x (omega arith) h), zip_images P R f g xs (All-drop P 1 (x ∷ xs) h))
