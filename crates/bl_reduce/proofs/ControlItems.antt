@@ -1,5 +1,5 @@
 -- Steps of control instructions but for calls keep types.
-use Rattle.std.proofs.Common.{◌≡◌, ℕ, zero, suc, ◌+◌, ◌<◌, Bool, true, false, cond, eqb, List, [], ◌∷◌, ◌++◌, length, map, reverse, take, drop, Option, Some, None, slice_get, ◌⊎◌, inl, inr, refl, sym, ap, ◌∙◌, subst, arith, append-nil, length-append}
+use Rattle.std.proofs.Common.{◌≡◌, ℕ, zero, suc, ◌+◌, ◌<◌, Bool, true, false, cond, eqb, List, [], ◌∷◌, ◌++◌, length, map, reverse, take, drop, Option, Some, None, slice_get, ◌⊎◌, inl, inr, refl, sym, ap, ◌∙◌, subst, arith, append-nil}
 use Rattle.std.specs.Prelude.{unwrap_or}
 use Rattle.std.specs.List.{All, AllZip}
 use Rattle.std.proofs.lemmas.Bool.{eq-eqb}
@@ -10,7 +10,7 @@ use Rattle.bl_base.specs.Fits.{ArgumentFits}
 use Rattle.bl_base.specs.Runs.{Next, stuck}
 use Rattle.bl_base.specs.declared.names.ValueType.{ValueType}
 use Rattle.bl_wasm.specs.Linked.{context}
-use Rattle.bl_wasm.specs.Typing.{block, loop, first_part, Context, Open, opened, Arrow, Leaves, integer, labels, of_result, results_of, taken_by}
+use Rattle.bl_wasm.specs.Typing.{block, loop, first_part, Context, Open, opened, Arrow, Leaves, integer, labels, of_result, taken_by}
 use Rattle.bl_wasm.specs.declared.instruction.Instr.{Instr}
 use Rattle.bl_wasm.specs.declared.instruction.Instr.TheVariants.{Loop}
 use Rattle.bl_wasm.specs.declared.types.WasmType.{WasmType}
@@ -18,12 +18,12 @@ use Rattle.bl_wasm.specs.declared.types.WasmType.TheVariants.{I32}
 use Rattle.bl_wasm.specs.declared.linked.Signature.{Signature}
 use Rattle.bl_wasm.specs.declared.linked.Tree.{Tree}
 use Rattle.bl_reduce.specs.Calls.{most_depth}
-use Rattle.bl_reduce.specs.Configurations.{Store, Label, Frame, State, Config, go, pop, with_values}
+use Rattle.bl_reduce.specs.Configurations.{Store, Label, Frame, State, Config, go, with_values}
 use Rattle.bl_reduce.specs.Control.{behind_end, second_part, enter_with, enter_block, enter_loop, enter_if, leave_label, branch_to, branch, branch_if, branch_by}
 use Rattle.bl_reduce.specs.Returns.{return_to, return}
-use Rattle.bl_reduce.specs.TypedConfigurations.{IsValue, AreValues, IsStore, IsRest, IsLabel, AreLabels, BeginsWith, AreCallers, IsTypedStep}
-use Rattle.bl_reduce.proofs.Places.{Second, parted, place_onward, place_behind_end}
-use Rattle.bl_reduce.proofs.Ready.{Ready, Onto, onto, taken, going, popping, integer_argument}
+use Rattle.bl_reduce.specs.TypedConfigurations.{IsValue, IsStore, IsRest, IsLabel, AreLabels, BeginsWith, AreCallers, IsTypedStep}
+use Rattle.bl_reduce.proofs.Places.{parted, place_onward, place_behind_end}
+use Rattle.bl_reduce.proofs.Ready.{Ready, onto, taken, going, popping, integer_argument}
 use Rattle.bl_reduce.proofs.Zips.{some_same, zip_append, zip_front, zip_unmap, zip_unreverse}
 
 -- ---- labels
@@ -83,7 +83,7 @@ module _ (tree : Tree) (results : List ValueType) where
       → length callers < most_depth → AllZip IsValue (reverse (map integer awaited)) values → IsTypedStep tree results (return_to callers values store)
   return_to_steps [] awaited values store store_is callers_are depth h =
       let in_order : AllZip ArgumentFits awaited (reverse values) =
-          zip_unmap integer IsValue ArgumentFits integer_argument awaited (reverse values) (zip_unreverse IsValue (map integer awaited) values h) in
+      zip_unmap integer IsValue ArgumentFits integer_argument awaited (reverse values) (zip_unreverse IsValue (map integer awaited) values h) in
       (subst (λ types. AllZip ArgumentFits types (reverse values)) callers_are in_order, store_is.memories)
   return_to_steps (caller ∷ callers) awaited values store store_is callers_are depth h =
       let is = callers_are.1 in
@@ -130,7 +130,7 @@ module _ (tree : Tree) (results : List ValueType) (type : Signature) (open_ones 
   pub return_steps : (low : List WasmType) (state : State) → ReadyAt (reverse (map integer type.results) ++ low) state → Steps (return state)
   return_steps low state ready =
       return_to_steps tree results state.callers type.results (take state.frame.arity state.frame.values) state.store ready.store_is ready.callers_are ready.depth
-          (topmost (map integer type.results) low state.frame.arity state (ready.arity ∙ sym (length-map type.results integer)) ready)
+      (topmost (map integer type.results) low state.frame.arity state (ready.arity ∙ sym (length-map type.results integer)) ready)
 
   -- ---- branches
 
@@ -140,7 +140,7 @@ module _ (tree : Tree) (results : List ValueType) (type : Signature) (open_ones 
       let arity : t.label.arity ≡ length types = t.is.arity ∙ ap length t.takes in
       let takes = topmost types low t.label.arity state arity ready in
       let takes_too : AllZip IsValue (reverse (taken_by t.one.label)) (take t.label.arity state.frame.values) =
-          subst (λ types. AllZip IsValue (reverse types) (take t.label.arity state.frame.values)) (sym t.takes) takes in
+      subst (λ types. AllZip IsValue (reverse types) (take t.label.arity state.frame.values)) (sym t.takes) takes in
       subst (λ o. Steps (branch_to o l state)) (sym t.got) (record {
         store_is = ready.store_is;
         type = type;
@@ -164,8 +164,8 @@ module _ (tree : Tree) (results : List ValueType) (type : Signature) (open_ones 
       → OutOfAll (of_state state) (body_of state) state.frame.labels l types → Steps (branch_to (slice_get state.frame.labels l) l state)
   branch_out l types low state ready o =
       subst (λ found. Steps (branch_to found l state)) (sym o.got)
-          (subst (λ test. Steps (cond test (return state) stuck)) (sym (eq-eqb l (length state.frame.labels) o.last))
-              (return_steps low state (subst (λ types. ReadyAt (reverse types ++ low) state) (sym o.takes) ready)))
+      (subst (λ test. Steps (cond test (return state) stuck)) (sym (eq-eqb l (length state.frame.labels) o.last))
+      (return_steps low state (subst (λ types. ReadyAt (reverse types ++ low) state) (sym o.takes) ready)))
 
   pub branch_steps : (l : ℕ) (types low : List WasmType) (state : State) → ReadyAt (reverse types ++ low) state
       → slice_get (labels (of_state state) open_ones) l ≡ Some types → Steps (branch l state)
@@ -188,11 +188,11 @@ module _ (tree : Tree) (results : List ValueType) (type : Signature) (open_ones 
       → ReadyAt (reverse from) state → BeginsWith tree type open_ones to state.frame → Steps (branch_if l state)
   br_if_steps l types from to state e a ready begins =
       popping tree results type open_ones (reverse types ++ reverse a.lower) I32 state (λ condition state. cond (eqb condition 0) (go state) (branch l state))
-          (above from a.lower types state a.before ready)
-          (λ condition below h r. at_test (eqb condition 0) (go (with_values below state)) (branch l (with_values below state))
-              (going tree results type open_ones (reverse types ++ reverse a.lower) (with_values below state) r
-                  (onto tree results type open_ones to a.lower types (with_values below state) a.behind begins))
-              (branch_steps l types (reverse a.lower) (with_values below state) r e))
+      (above from a.lower types state a.before ready)
+      (λ condition below h r. at_test (eqb condition 0) (go (with_values below state)) (branch l (with_values below state))
+      (going tree results type open_ones (reverse types ++ reverse a.lower) (with_values below state) r
+      (onto tree results type open_ones to a.lower types (with_values below state) a.behind begins))
+      (branch_steps l types (reverse a.lower) (with_values below state) r e))
     where
       at_test : (test : Bool) (step other : Next Config) → Steps step → Steps other → Steps (cond test step other)
       at_test true step other h i = h
@@ -202,9 +202,9 @@ module _ (tree : Tree) (results : List ValueType) (type : Signature) (open_ones 
       → Leaves (types ++ I32 ∷ []) from → ReadyAt (reverse from) state → Steps (branch_by ls default state)
   br_table_steps ls default types from state e a ready =
       popping tree results type open_ones (reverse types ++ reverse a.lower) I32 state (λ index state. branch (unwrap_or (slice_get ls index) default) state)
-          (above from a.lower types state a.before ready)
-          (λ index below h r. branch_steps (unwrap_or (slice_get ls index) default) types (reverse a.lower) (with_values below state) r
-              (chosen (λ l. slice_get (labels (of_state state) open_ones) l ≡ Some types) ls default index e))
+      (above from a.lower types state a.before ready)
+      (λ index below h r. branch_steps (unwrap_or (slice_get ls index) default) types (reverse a.lower) (with_values below state) r
+      (chosen (λ l. slice_get (labels (of_state state) open_ones) l ≡ Some types) ls default index e))
 
   -- ---- blocks
 
@@ -233,14 +233,14 @@ module _ (tree : Tree) (results : List ValueType) (type : Signature) (open_ones 
       → IsRest (of_state state) (body_of state) (opened (block result) from ∷ open_ones) [] state.frame.rest → Steps (enter_block result state.frame.rest state)
   block_steps result from state ready begins =
       entering_steps (opened (block result) from) (length (of_result result)) (behind_end 0 state.frame.rest) state.frame.rest state ready refl
-          (place_behind_end (of_state state) (body_of state) (opened (block result) from) open_ones [] state.frame.rest begins) begins
+      (place_behind_end (of_state state) (body_of state) (opened (block result) from) open_ones [] state.frame.rest begins) begins
 
   pub loop_steps : (result : Option WasmType) (from : List WasmType) (state : State) → ReadyAt (reverse from) state
       → IsRest (of_state state) (body_of state) open_ones from (Loop result ∷ state.frame.rest)
       → IsRest (of_state state) (body_of state) (opened (loop result) from ∷ open_ones) [] state.frame.rest → Steps (enter_loop result state)
   loop_steps result from state ready again begins =
       entering_steps (opened (loop result) from) 0 (Loop result ∷ state.frame.rest) state.frame.rest state ready refl
-          (subst (λ stack. IsRest (of_state state) (body_of state) open_ones stack (Loop result ∷ state.frame.rest)) (sym (append-nil from)) again) begins
+      (subst (λ stack. IsRest (of_state state) (body_of state) open_ones stack (Loop result ∷ state.frame.rest)) (sym (append-nil from)) again) begins
 
   -- an if whose condition was taken off
   part_steps : (test : Bool) (result : Option WasmType) (lower : List WasmType) (state : State) → ReadyAt (reverse lower) state
@@ -248,23 +248,23 @@ module _ (tree : Tree) (results : List ValueType) (type : Signature) (open_ones 
       → Steps (cond test (enter_block result (second_part 0 state.frame.rest) state) (enter_block result state.frame.rest state))
   part_steps false result lower state ready begins =
       entering_steps (opened (first_part result) lower) (length (of_result result)) (behind_end 0 state.frame.rest) state.frame.rest state ready refl
-          (place_behind_end (of_state state) (body_of state) (opened (first_part result) lower) open_ones [] state.frame.rest begins) begins
+      (place_behind_end (of_state state) (body_of state) (opened (first_part result) lower) open_ones [] state.frame.rest begins) begins
   part_steps true result lower state ready begins =
       let s = parted (of_state state) result lower state.frame.rest open_ones [] [] begins.later begins.typing in
       let same : s.one.lower ++ taken_by s.one.label ≡ lower ++ of_result result = ap (λ l. l ++ taken_by s.one.label) s.lower_is ∙ ap (λ t. lower ++ t) s.taken in
       entering_steps s.one (length (of_result result)) (behind_end 0 state.frame.rest) (second_part 0 state.frame.rest) state
-          (subst (λ l. ReadyAt (reverse l) state) (sym s.lower_is) ready) (ap length (sym s.taken))
-          (subst (λ stack. IsRest (of_state state) (body_of state) open_ones stack (behind_end 0 state.frame.rest)) (sym same)
-              (place_behind_end (of_state state) (body_of state) (opened (first_part result) lower) open_ones [] state.frame.rest begins))
-          (place_onward (of_state state) (body_of state) (opened (first_part result) lower ∷ open_ones) (s.one ∷ open_ones) [] [] state.frame.rest (second_part 0 state.frame.rest) begins s.onward)
+      (subst (λ l. ReadyAt (reverse l) state) (sym s.lower_is) ready) (ap length (sym s.taken))
+      (subst (λ stack. IsRest (of_state state) (body_of state) open_ones stack (behind_end 0 state.frame.rest)) (sym same)
+      (place_behind_end (of_state state) (body_of state) (opened (first_part result) lower) open_ones [] state.frame.rest begins))
+      (place_onward (of_state state) (body_of state) (opened (first_part result) lower ∷ open_ones) (s.one ∷ open_ones) [] [] state.frame.rest (second_part 0 state.frame.rest) begins s.onward)
 
   pub if_steps : (result : Option WasmType) (from lower : List WasmType) (state : State) → from ≡ lower ++ I32 ∷ [] → ReadyAt (reverse from) state
       → IsRest (of_state state) (body_of state) (opened (first_part result) lower ∷ open_ones) [] state.frame.rest → Steps (enter_if result state)
   if_steps result from lower state e ready begins =
       popping tree results type open_ones (reverse lower) I32 state
-          (λ condition state. cond (eqb condition 0) (enter_block result (second_part 0 state.frame.rest) state) (enter_block result state.frame.rest state))
-          (taken tree results type open_ones from lower (I32 ∷ []) state e ready)
-          (λ condition below h r. part_steps (eqb condition 0) result lower (with_values below state) r begins)
+      (λ condition state. cond (eqb condition 0) (enter_block result (second_part 0 state.frame.rest) state) (enter_block result state.frame.rest state))
+      (taken tree results type open_ones from lower (I32 ∷ []) state e ready)
+      (λ condition below h r. part_steps (eqb condition 0) result lower (with_values below state) r begins)
 
 module _ (tree : Tree) (results : List ValueType) (type : Signature) (one : Open) (outer : List Open) where
   -- the end of a construct, at its results

@@ -1,12 +1,11 @@
 -- Steps of memory instructions keep types.
-use Rattle.std.proofs.Common.{◌≡◌, ℕ, zero, suc, ◌+◌, ◌*◌, ◌/◌, ◌%◌, ◌<◌, ◌≤◌, ◌^◌, Bool, true, false, cond, leb, List, [], ◌∷◌, ◌++◌, length, replicate, reverse, take, drop, set, Option, Some, None, slice_get, refl, sym, ap, ◌∙◌, subst, arith, mod-lt, pow_pos, length-append, length-take, length-drop}
+use Rattle.std.proofs.Common.{◌≡◌, ℕ, zero, suc, ◌+◌, ◌*◌, ◌/◌, ◌%◌, ◌<◌, ◌≤◌, ◌^◌, Bool, true, false, cond, leb, List, [], ◌∷◌, ◌++◌, length, replicate, reverse, take, drop, Option, Some, None, slice_get, refl, ap, ◌∙◌, arith, mod-lt, pow_pos, length-append, length-take, length-drop}
 use Rattle.std.specs.Prelude.{IfSome}
-use Rattle.std.specs.List.{All, AllZip}
+use Rattle.std.specs.List.{All}
 use Rattle.std.proofs.lemmas.Bool.{leb-true}
 use Rattle.std.proofs.lemmas.List.{length-replicate}
 use Rattle.std.proofs.lemmas.List.Elements.{All-nil, All-cons, All-append, All-take, All-drop, All-get_or, All-replicate}
 use Rattle.std.proofs.lemmas.Nat.{pow-add}
-use Rattle.bl_base.specs.Fits.{ArgumentFits}
 use Rattle.bl_base.specs.Runs.{MemoryState, Next}
 use Rattle.bl_base.specs.declared.names.ValueType.{ValueType}
 use Rattle.bl_base.specs.declared.trap.Trap.TheVariants.{OutOfBounds}
@@ -24,7 +23,7 @@ use Rattle.bl_wasm.specs.declared.linked.Tree.{Tree}
 use Rattle.bl_reduce.specs.Configurations.{State, Config, go, trap, known, pop, push, with_values}
 use Rattle.bl_reduce.specs.Memory.{number_of, bytes_of, read, write, grow, with_memory, set_memory, within, load, store, memory_size, memory_grow, grow_within}
 use Rattle.bl_reduce.specs.TypedConfigurations.{IsValue, IsMemoryState, BeginsWith, IsTypedStep}
-use Rattle.bl_reduce.proofs.Ready.{Ready, Onto, onto, taken, going, pushing, popping, trapping, knowing, integer_value, integer_argument}
+use Rattle.bl_reduce.proofs.Ready.{Ready, Onto, onto, taken, going, pushing, popping, trapping, knowing, integer_value}
 use Rattle.bl_reduce.proofs.Zips.{zip_get, zip_set, all_get, within_get}
 
 -- ---- bytes
@@ -132,60 +131,60 @@ module _ (tree : Tree) (linked : IsLinked tree) (results : List ValueType) (type
       → (address + width ≤ length memory.bytes → Steps step) → Steps (within memory address width state step)
   keeping_within memory address width top state step ready next =
       at_test (leb (address + width) (length memory.bytes)) step (trap OutOfBounds state) (λ e. next (leb-true (address + width) (length memory.bytes) e))
-          (trapping tree results type open_ones top OutOfBounds state ready)
+      (trapping tree results type open_ones top OutOfBounds state ready)
 
   pub load_steps : (kind : AccessKind) (argument : MemoryArgument) (from to : List WasmType) (state : State) → 1 ≤ seen state.frame.function.memory
       → Arrow (I32 ∷ []) (integer (type_of kind) ∷ []) from to → ReadyAt (reverse from) state → BeginsWith tree type open_ones to state.frame → Steps (load kind argument state)
   load_steps kind argument from to state some a ready begins =
       popping tree results type open_ones (reverse a.lower) I32 state
-          (λ address state. with_memory state (λ number memory. within memory (address + argument.offset) (width_of kind) state
-              (push (extended kind (number_of (read memory (address + argument.offset) (width_of kind)))) state)))
-          (taken tree results type open_ones from a.lower (I32 ∷ []) state a.before ready)
-          (λ address below h r. using_memory (with_values below state) (reverse a.lower)
-              (λ number memory. within memory (address + argument.offset) (width_of kind) (with_values below state)
-                  (push (extended kind (number_of (read memory (address + argument.offset) (width_of kind)))) (with_values below state)))
-              some r
-              (λ number defined memory e f is. keeping_within memory (address + argument.offset) (width_of kind) (reverse a.lower) (with_values below state)
-                  (push (extended kind (number_of (read memory (address + argument.offset) (width_of kind)))) (with_values below state)) r
-                  (λ le. pushing tree results type open_ones (reverse a.lower) (integer (type_of kind))
-                      (extended kind (number_of (read memory (address + argument.offset) (width_of kind)))) (with_values below state) r
-                      (read_value address memory is)
-                      (onto tree results type open_ones to a.lower (integer (type_of kind) ∷ []) (with_values below state) a.behind begins))))
+      (λ address state. with_memory state (λ number memory. within memory (address + argument.offset) (width_of kind) state
+      (push (extended kind (number_of (read memory (address + argument.offset) (width_of kind)))) state)))
+      (taken tree results type open_ones from a.lower (I32 ∷ []) state a.before ready)
+      (λ address below h r. using_memory (with_values below state) (reverse a.lower)
+      (λ number memory. within memory (address + argument.offset) (width_of kind) (with_values below state)
+      (push (extended kind (number_of (read memory (address + argument.offset) (width_of kind)))) (with_values below state)))
+      some r
+      (λ number defined memory e f is. keeping_within memory (address + argument.offset) (width_of kind) (reverse a.lower) (with_values below state)
+      (push (extended kind (number_of (read memory (address + argument.offset) (width_of kind)))) (with_values below state)) r
+      (λ le. pushing tree results type open_ones (reverse a.lower) (integer (type_of kind))
+      (extended kind (number_of (read memory (address + argument.offset) (width_of kind)))) (with_values below state) r
+      (read_value address memory is)
+      (onto tree results type open_ones to a.lower (integer (type_of kind) ∷ []) (with_values below state) a.behind begins))))
     where
       read_value : (address : ℕ) (memory : MemoryState) {defined : Memory} → IsMemoryState defined memory
           → IsValue (integer (type_of kind)) (extended kind (number_of (read memory (address + argument.offset) (width_of kind))))
       read_value address memory is =
           integer_value (type_of kind) (extended kind (number_of (read memory (address + argument.offset) (width_of kind))))
-              (load_fits kind (number_of (read memory (address + argument.offset) (width_of kind)))
-                  (number_below (read memory (address + argument.offset) (width_of kind)) (width_of kind)
-                      (All-take (λ byte. byte < 2 ^ 8) (width_of kind) (drop (address + argument.offset) memory.bytes)
-                          (All-drop (λ byte. byte < 2 ^ 8) (address + argument.offset) memory.bytes is.bytes))
-                      (omega (arith, length-take (width_of kind) (drop (address + argument.offset) memory.bytes)))))
+          (load_fits kind (number_of (read memory (address + argument.offset) (width_of kind)))
+          (number_below (read memory (address + argument.offset) (width_of kind)) (width_of kind)
+          (All-take (λ byte. byte < 2 ^ 8) (width_of kind) (drop (address + argument.offset) memory.bytes)
+          (All-drop (λ byte. byte < 2 ^ 8) (address + argument.offset) memory.bytes is.bytes))
+          (omega (arith, length-take (width_of kind) (drop (address + argument.offset) memory.bytes)))))
 
   pub store_steps : (kind : AccessKind) (argument : MemoryArgument) (from to : List WasmType) (state : State) → 1 ≤ seen state.frame.function.memory
       → Arrow (I32 ∷ integer (type_of kind) ∷ []) [] from to → ReadyAt (reverse from) state → BeginsWith tree type open_ones to state.frame → Steps (store kind argument state)
   store_steps kind argument from to state some a ready begins =
       popping tree results type open_ones (I32 ∷ reverse a.lower) (integer (type_of kind)) state
-          (λ value state. pop state (λ address state. with_memory state (λ number memory. within memory (address + argument.offset) (width_of kind) state
-              (go (set_memory number (write memory (address + argument.offset) (bytes_of (width_of kind) (narrowed kind value))) state)))))
-          (taken tree results type open_ones from a.lower (I32 ∷ integer (type_of kind) ∷ []) state a.before ready)
-          (λ value below h r. popping tree results type open_ones (reverse a.lower) I32 (with_values below state)
-              (λ address state. with_memory state (λ number memory. within memory (address + argument.offset) (width_of kind) state
-                  (go (set_memory number (write memory (address + argument.offset) (bytes_of (width_of kind) (narrowed kind value))) state))))
-              r
-              (λ address below h r. using_memory (with_values below state) (reverse a.lower)
-                  (λ number memory. within memory (address + argument.offset) (width_of kind) (with_values below state)
-                      (go (set_memory number (write memory (address + argument.offset) (bytes_of (width_of kind) (narrowed kind value))) (with_values below state))))
-                  some r
-                  (λ number defined memory e f is. keeping_within memory (address + argument.offset) (width_of kind) (reverse a.lower) (with_values below state)
-                      (go (set_memory number (write memory (address + argument.offset) (bytes_of (width_of kind) (narrowed kind value))) (with_values below state))) r
-                      (λ le. going tree results type open_ones (reverse a.lower)
-                          (set_memory number (write memory (address + argument.offset) (bytes_of (width_of kind) (narrowed kind value))) (with_values below state))
-                          (remembered number defined (write memory (address + argument.offset) (bytes_of (width_of kind) (narrowed kind value))) (reverse a.lower) (with_values below state) e
-                              (written_state defined memory (address + argument.offset) (bytes_of (width_of kind) (narrowed kind value))
-                                  (omega (arith, le, length-bytes_of (width_of kind) (narrowed kind value))) (bytes_all (width_of kind) (narrowed kind value)) is) r)
-                          (onto tree results type open_ones to a.lower []
-                              (set_memory number (write memory (address + argument.offset) (bytes_of (width_of kind) (narrowed kind value))) (with_values below state)) a.behind begins)))))
+      (λ value state. pop state (λ address state. with_memory state (λ number memory. within memory (address + argument.offset) (width_of kind) state
+      (go (set_memory number (write memory (address + argument.offset) (bytes_of (width_of kind) (narrowed kind value))) state)))))
+      (taken tree results type open_ones from a.lower (I32 ∷ integer (type_of kind) ∷ []) state a.before ready)
+      (λ value below h r. popping tree results type open_ones (reverse a.lower) I32 (with_values below state)
+      (λ address state. with_memory state (λ number memory. within memory (address + argument.offset) (width_of kind) state
+      (go (set_memory number (write memory (address + argument.offset) (bytes_of (width_of kind) (narrowed kind value))) state))))
+      r
+      (λ address below h r. using_memory (with_values below state) (reverse a.lower)
+      (λ number memory. within memory (address + argument.offset) (width_of kind) (with_values below state)
+      (go (set_memory number (write memory (address + argument.offset) (bytes_of (width_of kind) (narrowed kind value))) (with_values below state))))
+      some r
+      (λ number defined memory e f is. keeping_within memory (address + argument.offset) (width_of kind) (reverse a.lower) (with_values below state)
+      (go (set_memory number (write memory (address + argument.offset) (bytes_of (width_of kind) (narrowed kind value))) (with_values below state))) r
+      (λ le. going tree results type open_ones (reverse a.lower)
+      (set_memory number (write memory (address + argument.offset) (bytes_of (width_of kind) (narrowed kind value))) (with_values below state))
+      (remembered number defined (write memory (address + argument.offset) (bytes_of (width_of kind) (narrowed kind value))) (reverse a.lower) (with_values below state) e
+      (written_state defined memory (address + argument.offset) (bytes_of (width_of kind) (narrowed kind value))
+      (omega (arith, le, length-bytes_of (width_of kind) (narrowed kind value))) (bytes_all (width_of kind) (narrowed kind value)) is) r)
+      (onto tree results type open_ones to a.lower []
+      (set_memory number (write memory (address + argument.offset) (bytes_of (width_of kind) (narrowed kind value))) (with_values below state)) a.behind begins)))))
 
   -- sizes are values
   pages_value : (number : ℕ) (defined : Memory) (memory : MemoryState) → slice_get tree.memories number ≡ Some defined → IsMemoryState defined memory → IsValue I32 memory.pages
@@ -198,27 +197,27 @@ module _ (tree : Tree) (linked : IsLinked tree) (results : List ValueType) (type
   memory_size_steps from to state some a ready begins =
       let r = taken tree results type open_ones from a.lower [] state a.before ready in
       using_memory state (reverse a.lower) (λ number memory. push memory.pages state) some r
-          (λ number defined memory e f is. pushing tree results type open_ones (reverse a.lower) I32 memory.pages state r (pages_value number defined memory e is)
-              (onto tree results type open_ones to a.lower (I32 ∷ []) state a.behind begins))
+      (λ number defined memory e f is. pushing tree results type open_ones (reverse a.lower) I32 memory.pages state r (pages_value number defined memory e is)
+      (onto tree results type open_ones to a.lower (I32 ∷ []) state a.behind begins))
 
   growing : (number : ℕ) (defined : Memory) (memory : MemoryState) (delta : ℕ) (low : List WasmType) (state : State) → slice_get tree.memories number ≡ Some defined → IsMemoryState defined memory
       → ReadyAt low state → OntoAt (I32 ∷ low) state → Steps (grow_within defined.reserve delta number memory state)
   growing number defined memory delta low state e is ready on =
       at_test (leb (memory.pages + delta) defined.reserve) (push memory.pages (set_memory number (grow memory delta) state)) (push 4294967295 state)
-          (λ le. pushing tree results type open_ones low I32 memory.pages (set_memory number (grow memory delta) state)
-              (remembered number defined (grow memory delta) low state e (grown_state defined memory delta (leb-true (memory.pages + delta) defined.reserve le) is) ready)
-              (pages_value number defined memory e is) (record { stack = on.stack; turned = on.turned; begins = on.begins }))
-          (pushing tree results type open_ones low I32 4294967295 state ready (omega arith) on)
+      (λ le. pushing tree results type open_ones low I32 memory.pages (set_memory number (grow memory delta) state)
+      (remembered number defined (grow memory delta) low state e (grown_state defined memory delta (leb-true (memory.pages + delta) defined.reserve le) is) ready)
+      (pages_value number defined memory e is) (record { stack = on.stack; turned = on.turned; begins = on.begins }))
+      (pushing tree results type open_ones low I32 4294967295 state ready (omega arith) on)
 
   pub memory_grow_steps : (from to : List WasmType) (state : State) → 1 ≤ seen state.frame.function.memory
       → Arrow (I32 ∷ []) (I32 ∷ []) from to → ReadyAt (reverse from) state → BeginsWith tree type open_ones to state.frame → Steps (memory_grow tree state)
   memory_grow_steps from to state some a ready begins =
       popping tree results type open_ones (reverse a.lower) I32 state
-          (λ delta state. with_memory state (λ number memory. known (slice_get tree.memories number) (λ defined. grow_within defined.reserve delta number memory state)))
-          (taken tree results type open_ones from a.lower (I32 ∷ []) state a.before ready)
-          (λ delta below h r. using_memory (with_values below state) (reverse a.lower)
-              (λ number memory. known (slice_get tree.memories number) (λ defined. grow_within defined.reserve delta number memory (with_values below state))) some r
-              (λ number defined memory e f is. knowing tree results (slice_get tree.memories number) defined
-                  (λ defined. grow_within defined.reserve delta number memory (with_values below state)) e
-                  (growing number defined memory delta (reverse a.lower) (with_values below state) e is r
-                      (onto tree results type open_ones to a.lower (I32 ∷ []) (with_values below state) a.behind begins))))
+      (λ delta state. with_memory state (λ number memory. known (slice_get tree.memories number) (λ defined. grow_within defined.reserve delta number memory state)))
+      (taken tree results type open_ones from a.lower (I32 ∷ []) state a.before ready)
+      (λ delta below h r. using_memory (with_values below state) (reverse a.lower)
+      (λ number memory. known (slice_get tree.memories number) (λ defined. grow_within defined.reserve delta number memory (with_values below state))) some r
+      (λ number defined memory e f is. knowing tree results (slice_get tree.memories number) defined
+      (λ defined. grow_within defined.reserve delta number memory (with_values below state)) e
+      (growing number defined memory delta (reverse a.lower) (with_values below state) e is r
+      (onto tree results type open_ones to a.lower (I32 ∷ []) (with_values below state) a.behind begins))))

@@ -1,5 +1,5 @@
 -- Steps of numeric instructions keep types.
-use Rattle.std.proofs.Common.{◌≡◌, ℕ, zero, suc, ◌<◌, ◌^◌, List, [], ◌∷◌, ◌++◌, replicate, reverse, take, drop, Option, Some, None, refl, sym, subst, arith}
+use Rattle.std.proofs.Common.{◌≡◌, ℕ, zero, suc, ◌<◌, ◌^◌, List, [], ◌∷◌, ◌++◌, replicate, reverse, take, drop, Option, Some, None, subst, arith}
 use Rattle.std.specs.Prelude.{IfSome}
 use Rattle.std.specs.List.{AllZip}
 use Rattle.bl_base.specs.Fits.{ArgumentFits}
@@ -52,14 +52,14 @@ module _ (tree : Tree) (results : List ValueType) (type : Signature) (open_ones 
     applying (suc zero) [] kind low state few h ready on = absurd h
     applying (suc zero) (a ∷ values) kind low state few h ready on =
         giving (traps op a 0) (integer row.to) (meaning op a 0 0) low (with_values values state)
-            (revalued tree results type open_ones (kind ∷ low) low values state ready h.1) (given a 0 (value_below kind a h.0) (omega arith))
-            (record { stack = on.stack; turned = on.turned; begins = on.begins })
+        (revalued tree results type open_ones (kind ∷ low) low values state ready h.1) (given a 0 (value_below kind a h.0) (omega arith))
+        (record { stack = on.stack; turned = on.turned; begins = on.begins })
     applying (suc (suc zero)) [] kind low state few h ready on = absurd h
     applying (suc (suc zero)) (b ∷ []) kind low state few h ready on = absurd h.1
     applying (suc (suc zero)) (b ∷ a ∷ values) kind low state few h ready on =
         giving (traps op a b) (integer row.to) (meaning op a b 0) low (with_values values state)
-            (revalued tree results type open_ones (kind ∷ kind ∷ low) low values state ready h.1.1) (given a b (value_below kind a h.1.0) (value_below kind b h.0))
-            (record { stack = on.stack; turned = on.turned; begins = on.begins })
+        (revalued tree results type open_ones (kind ∷ kind ∷ low) low values state ready h.1.1) (given a b (value_below kind a h.1.0) (value_below kind b h.0))
+        (record { stack = on.stack; turned = on.turned; begins = on.begins })
     applying (suc (suc (suc n))) values kind low state few h ready on = absurd few
 
     pub operate_steps : (from to : List WasmType) (state : State) → Arrow (replicate row.operands (integer row.from)) (integer row.to ∷ []) from to
@@ -67,6 +67,6 @@ module _ (tree : Tree) (results : List ValueType) (type : Signature) (open_ones 
     operate_steps from to state a ready begins =
         let r = taken tree results type open_ones from a.lower (replicate row.operands (integer row.from)) state a.before ready in
         knowing tree results (row_of op) row (λ row. apply op (take row.operands state.frame.values) (with_values (drop row.operands state.frame.values) state)) is_row
-            (applying row.operands state.frame.values (integer row.from) (reverse a.lower) state
-                (row_fact (λ row. IsOneOrTwo row.operands) (row_of op) row is_row (operands_few op)) r.values r
-                (onto tree results type open_ones to a.lower (integer row.to ∷ []) state a.behind begins))
+        (applying row.operands state.frame.values (integer row.from) (reverse a.lower) state
+        (row_fact (λ row. IsOneOrTwo row.operands) (row_of op) row is_row (operands_few op)) r.values r
+        (onto tree results type open_ones to a.lower (integer row.to ∷ []) state a.behind begins))

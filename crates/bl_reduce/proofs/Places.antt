@@ -1,10 +1,10 @@
 -- Places of a typed body: the next one, the one behind the end of a construct, the second part of an if.
-use Rattle.std.proofs.Common.{◌≡◌, ℕ, zero, suc, ◌+◌, List, [], ◌∷◌, ◌++◌, length, map, take, drop, Option, Some, None, refl, sym, ap, ◌∙◌, subst, arith}
+use Rattle.std.proofs.Common.{◌≡◌, ℕ, suc, ◌+◌, List, [], ◌∷◌, ◌++◌, length, map, take, drop, Option, Some, None, refl, sym, ap, ◌∙◌, subst}
 use Rattle.std.specs.Prelude.{option_and_then}
 use Rattle.std.proofs.lemmas.List.{drop-drop}
 use Rattle.std.proofs.lemmas.Option.{none-some}
 use Rattle.std.proofs.Math.Seq.{take-add}
-use Rattle.bl_wasm.specs.Typing.{Label, first_part, second_part as second_label, block, loop, Context, Open, opened, Rule, Types, labels_after, labels_through, labels_at, of_result, results_of, taken_by}
+use Rattle.bl_wasm.specs.Typing.{Label, first_part, second_part as second_label, block, loop, Context, Open, opened, Rule, Types, labels_after, labels_through, of_result, results_of, taken_by}
 use Rattle.bl_wasm.specs.declared.instruction.Instr.{Instr}
 use Rattle.bl_wasm.specs.declared.instruction.Instr.TheVariants.{Block, Loop, If, Else, End}
 use Rattle.bl_wasm.specs.declared.types.WasmType.{WasmType}
@@ -97,9 +97,9 @@ module _ (c : Context) where
       → Onward c (inner ++ one ∷ outer) (item ∷ items) outer (one.lower ++ results_of one.label) (behind_end (length within) items)
   onto item items outer inner within one other from again b e same =
       past item items (inner ++ one ∷ outer) from b.behind b.to outer (one.lower ++ results_of one.label) (behind_end (length within) items) b.rule
-          (subst (λ o. Onward c o items outer (one.lower ++ results_of one.label) (behind_end (length within) items)) (sym e)
-              (subst (λ stack. Onward c (within ++ other ∷ outer) items outer stack (behind_end (length within) items)) same
-                  (again within other b.to b.later (subst (λ o. Types c o items (b.to ∷ b.later)) e b.typing))))
+      (subst (λ o. Onward c o items outer (one.lower ++ results_of one.label) (behind_end (length within) items)) (sym e)
+      (subst (λ stack. Onward c (within ++ other ∷ outer) items outer stack (behind_end (length within) items)) same
+      (again within other b.to b.later (subst (λ o. Types c o items (b.to ∷ b.later)) e b.typing))))
 
   ended_at : (item : Instr) (items : List Instr) (outer inner : List Open) (one : Open) (from : List WasmType) → EndedAfter items outer
       → Behind item items (inner ++ one ∷ outer) from → Ended inner one outer (length inner) (item ∷ items)
@@ -112,9 +112,9 @@ module _ (c : Context) where
       onto Else items outer (o ∷ inner) (opened (second_label b.rule.0) o.lower ∷ inner) one one from again b b.rule.3 refl
   ended_at End items outer [] one from again b =
       past End items (one ∷ outer) from b.behind b.to outer (one.lower ++ results_of one.label) items b.rule
-          (subst (λ o. Onward c o items outer (one.lower ++ results_of one.label) items) (sym b.rule.2)
-              (here outer items (one.lower ++ results_of one.label) b.later
-                  (subst (λ o. Types c o items ((one.lower ++ results_of one.label) ∷ b.later)) b.rule.2 (subst (λ to. Types c b.behind items (to ∷ b.later)) b.rule.3 b.typing))))
+      (subst (λ o. Onward c o items outer (one.lower ++ results_of one.label) items) (sym b.rule.2)
+      (here outer items (one.lower ++ results_of one.label) b.later
+      (subst (λ o. Types c o items ((one.lower ++ results_of one.label) ∷ b.later)) b.rule.2 (subst (λ to. Types c b.behind items (to ∷ b.later)) b.rule.3 b.typing))))
   ended_at End items outer (o ∷ inner) one from again b = onto End items outer (o ∷ inner) inner one one from again b b.rule.2 refl
   ended_at item items outer inner one from again b = onto item items outer inner inner one one from again b b.rule.0 refl
 
@@ -146,11 +146,16 @@ module _ (c : Context) where
     further : (item : Instr) (items : List Instr) (inner within : List Open) (from : List WasmType) → PartedAfter result lower items outer
         → (b : Behind item items (Within inner) from) → b.behind ≡ Within within
         → (one : Open) × (one.lower ≡ lower) × (results_of one.label ≡ of_result result) × (taken_by one.label ≡ of_result result)
-            × Onward c (Within inner) (item ∷ items) (one ∷ outer) [] (second_part (length within) items)
+        × Onward c (Within inner) (item ∷ items) (one ∷ outer) [] (second_part (length within) items)
     further item items inner within from again b e =
-        let s = again within b.to b.later (subst (λ o. Types c o items (b.to ∷ b.later)) e b.typing) in
-        (s.one, s.lower_is, s.results, s.taken, past item items (Within inner) from b.behind b.to (s.one ∷ outer) [] (second_part (length within) items) b.rule
-            (subst (λ o. Onward c o items (s.one ∷ outer) [] (second_part (length within) items)) (sym e) s.onward))
+        let s = again within b.to b.later (subst (λ o. Types c o items (b.to ∷ b.later)) e b.typing) in (
+          s.one,
+          s.lower_is,
+          s.results,
+          s.taken,
+          past item items (Within inner) from b.behind b.to (s.one ∷ outer) [] (second_part (length within) items) b.rule
+              (subst (λ o. Onward c o items (s.one ∷ outer) [] (second_part (length within) items)) (sym e) s.onward),
+        )
 
     parted_at : (item : Instr) (items : List Instr) (inner : List Open) (from : List WasmType) → PartedAfter result lower items outer
         → Behind item items (Within inner) from → (later : List (List WasmType)) → Types c (Within inner) (item ∷ items) (from ∷ later) → Second result lower outer inner (item ∷ items)
@@ -170,8 +175,8 @@ module _ (c : Context) where
       taken = ap results_of (sym b.rule.1);
       onward = past Else items (Within []) from b.behind b.to (opened (second_label b.rule.0) lower ∷ outer) [] items b.rule
           (subst (λ o. Onward c o items (opened (second_label b.rule.0) lower ∷ outer) [] items) (sym b.rule.3)
-              (here (opened (second_label b.rule.0) lower ∷ outer) items [] b.later
-                  (subst (λ o. Types c o items ([] ∷ b.later)) b.rule.3 (subst (λ to. Types c b.behind items (to ∷ b.later)) b.rule.4 b.typing))));
+          (here (opened (second_label b.rule.0) lower ∷ outer) items [] b.later
+          (subst (λ o. Types c o items ([] ∷ b.later)) b.rule.3 (subst (λ to. Types c b.behind items (to ∷ b.later)) b.rule.4 b.typing))));
     }
     parted_at Else items (o ∷ inner) from again b later h =
         let f = further Else items (o ∷ inner) (opened (second_label b.rule.0) o.lower ∷ inner) from again b b.rule.3 in
@@ -198,7 +203,7 @@ module _ (c : Context) where
   parted result lower [] outer inner from later h = absurd (unended inner (opened (first_part result) lower) outer from later h)
   parted result lower (item ∷ items) outer inner from later h =
       parted_at result lower outer item items inner from (λ inner from later t. parted result lower items outer inner from later t)
-          (behind_item item items (inner ++ opened (first_part result) lower ∷ outer) from later h) later h
+      (behind_item item items (inner ++ opened (first_part result) lower ∷ outer) from later h) later h
 
   -- ---- places of a body
 
@@ -219,7 +224,7 @@ module _ (c : Context) where
     place_onward open_ones inner from stack items rest r o =
         let left : rest ≡ drop (r.place + o.steps) body = o.left ∙ ap (drop o.steps) r.left ∙ drop-drop o.steps r.place body in
         let steps : labels_through (take o.steps (drop r.place body)) (kinds open_ones) ≡ Some (kinds inner) =
-            subst (λ items. labels_through (take o.steps items) (kinds open_ones) ≡ Some (kinds inner)) r.left o.through in
+        subst (λ items. labels_through (take o.steps items) (kinds open_ones) ≡ Some (kinds inner)) r.left o.through in
         record {
           place = r.place + o.steps;
           left = left;
@@ -233,10 +238,13 @@ module _ (c : Context) where
     pub next_place : (item : Instr) (items : List Instr) (outer : List Open) (from : List WasmType) → IsRest c body outer from (item ∷ items)
         → (behind : List Open) × (to : List WasmType) × Rule c item outer from behind to × IsRest c body behind to items
     next_place item items outer from r =
-        let b = behind_item item items outer from r.later r.typing in
-        (b.behind, b.to, b.rule,
+        let b = behind_item item items outer from r.later r.typing in (
+          b.behind,
+          b.to,
+          b.rule,
           place_onward outer b.behind from b.to (item ∷ items) items r
-              (past item items outer from b.behind b.to b.behind b.to items b.rule (here b.behind items b.to b.later b.typing)))
+              (past item items outer from b.behind b.to b.behind b.to items b.rule (here b.behind items b.to b.later b.typing)),
+        )
 
     -- behind the end of the innermost construct
     pub place_behind_end : (one : Open) (outer : List Open) (from : List WasmType) (items : List Instr)

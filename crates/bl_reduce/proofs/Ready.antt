@@ -1,5 +1,5 @@
 -- A running configuration between the taking of its next item and the end of that item's step.
-use Rattle.std.proofs.Common.{◌≡◌, ℕ, zero, suc, ◌+◌, ◌<◌, ◌^◌, List, [], ◌∷◌, ◌++◌, length, map, take, drop, set, reverse, Option, Some, None, slice_get, refl, sym, ap, ◌∙◌, subst, arith}
+use Rattle.std.proofs.Common.{◌≡◌, ℕ, ◌<◌, ◌^◌, List, [], ◌∷◌, ◌++◌, length, reverse, Option, Some, slice_get, sym, ap, ◌∙◌, subst, arith}
 use Rattle.std.proofs.lemmas.List.{reverse-append}
 use Rattle.std.specs.List.{AllZip}
 use Rattle.bl_base.specs.Fits.{ArgumentFits}
@@ -14,9 +14,8 @@ use Rattle.bl_wasm.specs.declared.types.WasmType.TheVariants.{I32, I64, F32, F64
 use Rattle.bl_wasm.specs.declared.linked.Signature.{Signature}
 use Rattle.bl_wasm.specs.declared.linked.Tree.{Tree}
 use Rattle.bl_reduce.specs.Calls.{most_depth}
-use Rattle.bl_reduce.specs.Configurations.{State, Config, go, trap, known, pop_from, pop, push, with_values, with_rest}
-use Rattle.bl_reduce.specs.TypedConfigurations.{IsValue, AreValues, IsStore, AreLabels, IsFrame, BeginsWith, AreCallers, IsRunning, IsTypedStep}
-use Rattle.bl_reduce.proofs.Zips.{zip_append, zip_front, zip_back}
+use Rattle.bl_reduce.specs.Configurations.{State, Config, go, trap, known, pop_from, pop, push, with_values}
+use Rattle.bl_reduce.specs.TypedConfigurations.{IsValue, IsStore, AreLabels, BeginsWith, AreCallers, IsTypedStep}
 
 -- ---- values
 
@@ -113,8 +112,8 @@ module _ (tree : Tree) (results : List ValueType) where
       → Ready type open_ones top state → IsValue kind value → Onto type open_ones (kind ∷ top) state → IsTypedStep tree results (push value state)
   pushing type open_ones top kind value state ready h on =
       going type open_ones (kind ∷ top) (with_values (value ∷ state.frame.values) state)
-          (revalued type open_ones top (kind ∷ top) (value ∷ state.frame.values) state ready (h, ready.values))
-          (record { stack = on.stack; turned = on.turned; begins = on.begins })
+      (revalued type open_ones top (kind ∷ top) (value ∷ state.frame.values) state ready (h, ready.values))
+      (record { stack = on.stack; turned = on.turned; begins = on.begins })
 
   popping_from : (type : Signature) (open_ones : List Open) (top : List WasmType) (kind : WasmType) (values : List ℕ) (state : State) (step : ℕ → State → Next Config)
       → Ready type open_ones (kind ∷ top) state → AllZip IsValue (kind ∷ top) values

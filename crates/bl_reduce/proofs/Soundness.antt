@@ -1,21 +1,19 @@
 -- What is typed has a step, which keeps it typed; a start that fits is typed.
-use Rattle.std.proofs.Common.{◌≡◌, ℕ, zero, suc, ◌+◌, ◌*◌, ◌<◌, ◌≤◌, ◌^◌, List, [], ◌∷◌, ◌++◌, length, map, reverse, drop, set, Option, Some, None, slice_get, refl, sym, ap, ◌∙◌, subst, arith, append-nil, append_assoc}
+use Rattle.std.proofs.Common.{◌≡◌, ℕ, zero, suc, ◌+◌, ◌*◌, ◌<◌, ◌≤◌, ◌^◌, List, [], ◌∷◌, ◌++◌, length, map, reverse, drop, Option, Some, None, slice_get, refl, sym, ap, ◌∙◌, subst, arith, append-nil}
 use Rattle.std.specs.List.{All, AllZip, fold}
 use Rattle.std.proofs.lemmas.List.Elements.{All-drop, All-get_or}
 use Rattle.std.proofs.lemmas.Option.{slice_get-map}
 use Rattle.std.specs.Prelude.{option_map}
-use Rattle.bl_base.specs.Fits.{ArgumentFits, LiesIn, PatchFits, Fits}
+use Rattle.bl_base.specs.Fits.{ArgumentFits, LiesIn, PatchFits}
 use Rattle.bl_base.specs.Runs.{MemoryState, Next, goes, ends, stuck, HasStep, Comes}
 use Rattle.bl_base.specs.declared.names.ValueType.{ValueType}
 use Rattle.bl_base.specs.declared.start.Patch.{Patch}
 use Rattle.bl_base.specs.declared.start.Start.{Start}
 use Rattle.bl_base.specs.declared.trap.Trap.TheVariants as kind
-use Rattle.bl_ops.specs.Access.{type_of as access_type}
-use Rattle.bl_ops.specs.declared.op.Op.TheVariants as op
 use Rattle.bl_wasm.specs.Linked.{IsLinked, IsFunction, IsMemory, HasImmediates, context}
 use Rattle.bl_wasm.specs.Typing.{second_part as second_label, Open, opened, Rule, Plain, integer, of_result, results_of}
 use Rattle.bl_wasm.specs.declared.instruction.Instr.{Instr}
-use Rattle.bl_wasm.specs.declared.instruction.Instr.TheVariants.{Unreachable, Nop, Block, Loop, If, Else, End, Br, BrIf, BrTable, Return, Call, CallIndirect, Drop, Select, LocalGet, LocalSet, LocalTee, GlobalGet, GlobalSet, Load, Store, FloatAccess, MemorySize, MemoryGrow, I32Const, I64Const, F32Const, F64Const, Integer, Float, Extend}
+use Rattle.bl_wasm.specs.declared.instruction.Instr.TheVariants.{Unreachable, Nop, Block, Loop, If, Else, End, Br, BrIf, BrTable, Return, Call, CallIndirect, Drop, Select, LocalGet, LocalSet, LocalTee, GlobalGet, GlobalSet, Load, Store, MemorySize, MemoryGrow, I32Const, I64Const, Integer}
 use Rattle.bl_wasm.specs.declared.types.WasmType.{WasmType}
 use Rattle.bl_wasm.specs.declared.types.WasmType.TheVariants.{I32, I64}
 use Rattle.bl_wasm.specs.declared.linked.Memory.{Memory}
@@ -24,9 +22,9 @@ use Rattle.bl_wasm.specs.declared.linked.Tree.{Tree}
 use Rattle.bl_reduce.specs.Configurations.{State, Config, entering, running, with_rest}
 use Rattle.bl_reduce.specs.Control.{behind_end}
 use Rattle.bl_reduce.specs.Memory.{write}
-use Rattle.bl_reduce.specs.Outcomes.{first_memory, first_store, patched, patch_over, opening, IsStart, HasBytes}
+use Rattle.bl_reduce.specs.Outcomes.{first_memory, patched, patch_over, opening, IsStart, HasBytes}
 use Rattle.bl_reduce.specs.Steps.{execute, frame_step, source_step}
-use Rattle.bl_reduce.specs.TypedConfigurations.{IsValue, IsMemoryState, IsGlobalValue, IsRest, IsRunning, IsTyped, IsTypedStep}
+use Rattle.bl_reduce.specs.TypedConfigurations.{IsMemoryState, IsGlobalValue, IsRest, IsRunning, IsTyped, IsTypedStep}
 use Rattle.bl_reduce.proofs.CallItems.{enter_steps, call_steps, call_indirect_steps}
 use Rattle.bl_reduce.proofs.ControlItems.{return_steps, br_steps, br_if_steps, br_table_steps, block_steps, loop_steps, if_steps, leave_steps}
 use Rattle.bl_reduce.proofs.MemoryItems.{load_steps, store_steps, memory_size_steps, memory_grow_steps, written_state}
@@ -97,25 +95,25 @@ module _ (tree : Tree) (linked : IsLinked tree) (results : List ValueType) where
         → RestOf state open_ones from (item ∷ state.frame.rest) → RestOf state behind to state.frame.rest → Steps (execute tree item state)
     execute_steps (Block result) open_ones from behind to state rule fits ready now begins =
         block_steps tree results type open_ones result from state ready
-            (subst (λ o. RestOf state o [] state.frame.rest) rule.0 (subst (λ stack. RestOf state behind stack state.frame.rest) rule.1 begins))
+        (subst (λ o. RestOf state o [] state.frame.rest) rule.0 (subst (λ stack. RestOf state behind stack state.frame.rest) rule.1 begins))
     execute_steps (Loop result) open_ones from behind to state rule fits ready now begins =
         loop_steps tree results type open_ones result from state ready now
-            (subst (λ o. RestOf state o [] state.frame.rest) rule.0 (subst (λ stack. RestOf state behind stack state.frame.rest) rule.1 begins))
+        (subst (λ o. RestOf state o [] state.frame.rest) rule.0 (subst (λ stack. RestOf state behind stack state.frame.rest) rule.1 begins))
     execute_steps (If result) open_ones from behind to state rule fits ready now begins =
         if_steps tree results type open_ones result from rule.0 state rule.1 ready
-            (subst (λ o. RestOf state o [] state.frame.rest) rule.2 (subst (λ stack. RestOf state behind stack state.frame.rest) rule.3 begins))
+        (subst (λ o. RestOf state o [] state.frame.rest) rule.2 (subst (λ stack. RestOf state behind stack state.frame.rest) rule.3 begins))
     execute_steps Else [] from behind to state rule fits ready now begins = absurd rule
     execute_steps Else (innermost ∷ outer) from behind to state rule fits ready now begins =
         let inside = subst (λ o. RestOf state o [] state.frame.rest) rule.3 (subst (λ stack. RestOf state behind stack state.frame.rest) rule.4 begins) in
         leave_steps tree results type innermost outer state.frame.labels (behind_end 0 state.frame.rest) (of_result rule.0) state ready.labels
-            (subst (λ stack. Ready tree results type (innermost ∷ outer) (reverse stack) state) rule.2 ready)
-            (place_behind_end (context tree type state.frame.function) state.frame.function.code.items (opened (second_label rule.0) innermost.lower) outer [] state.frame.rest inside)
+        (subst (λ stack. Ready tree results type (innermost ∷ outer) (reverse stack) state) rule.2 ready)
+        (place_behind_end (context tree type state.frame.function) state.frame.function.code.items (opened (second_label rule.0) innermost.lower) outer [] state.frame.rest inside)
     execute_steps End [] from behind to state rule fits ready now begins = absurd rule
     execute_steps End (innermost ∷ outer) from behind to state rule fits ready now begins =
         leave_steps tree results type innermost outer state.frame.labels state.frame.rest (results_of innermost.label) state ready.labels
-            (subst (λ stack. Ready tree results type (innermost ∷ outer) (reverse stack) state) rule.1 ready)
-            (subst (λ o. RestOf state o (innermost.lower ++ results_of innermost.label) state.frame.rest) rule.2
-                (subst (λ stack. RestOf state behind stack state.frame.rest) rule.3 begins))
+        (subst (λ stack. Ready tree results type (innermost ∷ outer) (reverse stack) state) rule.1 ready)
+        (subst (λ o. RestOf state o (innermost.lower ++ results_of innermost.label) state.frame.rest) rule.2
+        (subst (λ stack. RestOf state behind stack state.frame.rest) rule.3 begins))
     execute_steps item open_ones from behind to state rule fits ready now begins =
         plain_steps item open_ones from to state rule.1 fits ready (subst (λ o. RestOf state o to state.frame.rest) rule.0 begins)
 
@@ -139,14 +137,14 @@ module _ (tree : Tree) (linked : IsLinked tree) (results : List ValueType) where
       let last = at_last (context tree is.type state.frame.function) state.frame.function.code.items is.open_ones is.stack begins in
       let whole : reverse is.stack ≡ reverse (map integer is.type.results) ++ [] = ap reverse last.1 ∙ sym (append-nil (reverse (map integer is.type.results))) in
       return_steps tree results is.type is.open_ones [] (with_rest state.frame.rest state)
-          (subst (λ top. Ready tree results is.type is.open_ones top (with_rest state.frame.rest state)) whole (ready_of is.type state is state.frame.rest refl))
+      (subst (λ top. Ready tree results is.type is.open_ones top (with_rest state.frame.rest state)) whole (ready_of is.type state is state.frame.rest refl))
   frame_steps (item ∷ rest) state is begins =
       let next = next_place (context tree is.type state.frame.function) state.frame.function.code.items item rest is.open_ones is.stack begins in
       let function : IsFunction tree state.frame.function = all_get (IsFunction tree) tree.functions state.frame.number state.frame.function linked.functions is.frame_is.exists in
       let there = drop_head state.frame.function.code.items begins.place item rest begins.left in
       execute_steps is.type item is.open_ones is.stack next.0 next.1 (with_rest rest state) next.2
-          (all_get HasImmediates state.frame.function.code.items begins.place item function.immediates there)
-          (ready_of is.type state is rest refl) begins next.3
+      (all_get HasImmediates state.frame.function.code.items begins.place item function.immediates there)
+      (ready_of is.type state is rest refl) begins next.3
 
   -- what is typed has a step, to what is typed again or to an end
   pub typed_step : (config : Config) → IsTyped tree results config → Steps (source_step tree config)
@@ -183,23 +181,23 @@ module _ (tree : Tree) (linked : IsLinked tree) where
   patch_one (Some state) states patch e fits bytes h =
       let found = zip_got IsOpening tree.memories states patch.memory state h e in
       let size : slice_get (map (λ memory. memory.pages) tree.memories) patch.memory ≡ Some found.0.pages =
-          slice_get-map (λ memory. memory.pages) tree.memories patch.memory ∙ ap (option_map (λ memory. memory.pages)) found.1 in
+      slice_get-map (λ memory. memory.pages) tree.memories patch.memory ∙ ap (option_map (λ memory. memory.pages)) found.1 in
       let lies : LiesIn patch.offset (length patch.bytes) (Some found.0.pages) = subst (LiesIn patch.offset (length patch.bytes)) size fits in
       let times : state.pages * 65536 ≡ found.0.pages * 65536 = ap (λ n. n * 65536) found.2.pages in
       let le : patch.offset + length patch.bytes ≤ length state.bytes = omega (arith, lies, found.2.is.size, times) in
       zip_set IsOpening tree.memories states patch.memory found.0 (write state patch.offset patch.bytes) h found.1
-          (record { is = written_state found.0 state patch.offset patch.bytes le bytes found.2.is; pages = found.2.pages })
+      (record { is = written_state found.0 state patch.offset patch.bytes le bytes found.2.is; pages = found.2.pages })
 
   openings : (patches : List Patch) (states : List MemoryState) → All (PatchFits (map (λ memory. memory.pages) tree.memories)) patches
       → All (λ patch. All (λ byte. byte < 2 ^ 8) patch.bytes) patches → AllZip IsOpening tree.memories states → AllZip IsOpening tree.memories (fold patched states patches)
   openings [] states fits bytes h = h
   openings (patch ∷ patches) states fits bytes h =
       openings patches (patched states patch)
-          (All-drop (PatchFits (map (λ memory. memory.pages) tree.memories)) 1 (patch ∷ patches) fits)
-          (All-drop (λ patch. All (λ byte. byte < 2 ^ 8) patch.bytes) 1 (patch ∷ patches) bytes)
-          (patch_one (slice_get states patch.memory) states patch refl
-              (All-get_or (PatchFits (map (λ memory. memory.pages) tree.memories)) (patch ∷ patches) 0 patch (omega arith) fits)
-              (All-get_or (λ patch. All (λ byte. byte < 2 ^ 8) patch.bytes) (patch ∷ patches) 0 patch (omega arith) bytes) h)
+      (All-drop (PatchFits (map (λ memory. memory.pages) tree.memories)) 1 (patch ∷ patches) fits)
+      (All-drop (λ patch. All (λ byte. byte < 2 ^ 8) patch.bytes) 1 (patch ∷ patches) bytes)
+      (patch_one (slice_get states patch.memory) states patch refl
+      (All-get_or (PatchFits (map (λ memory. memory.pages) tree.memories)) (patch ∷ patches) 0 patch (omega arith) fits)
+      (All-get_or (λ patch. All (λ byte. byte < 2 ^ 8) patch.bytes) (patch ∷ patches) 0 patch (omega arith) bytes) h)
 
   first_opening : (memory : Memory) → IsMemory memory → IsOpening memory (first_memory memory)
   first_opening memory is = record { is = record { most = is.first; size = is.size; bytes = is.bytes }; pages = refl }
@@ -210,7 +208,7 @@ module _ (tree : Tree) (linked : IsLinked tree) where
     store_is = record {
       memories = zip_each IsOpening IsMemoryState (λ memory state h. h.is) tree.memories (fold patched (map first_memory tree.memories) start.patches)
           (openings start.patches (map first_memory tree.memories) is.fits.patches bytes
-              (zip_images IsMemory IsOpening first_memory first_opening tree.memories linked.memories));
+          (zip_images IsMemory IsOpening first_memory first_opening tree.memories linked.memories));
       globals = zip_images (λ global. ArgumentFits global.kind global.first) IsGlobalValue (λ global. global.first) (λ global h. h) tree.globals linked.globals;
     };
     function = is.function;

@@ -1,17 +1,13 @@
 -- Runs of small trees, by computation.
-use Rattle.std.proofs.Common.{◌≡◌, ℕ, zero, suc, List, [], ◌∷◌, Option, Some, None, refl, true, false}
-use Rattle.bl_base.specs.Runs.{Next, goes, ends, stuck, Outcome, returned, trapped}
+use Rattle.std.proofs.Common.{◌≡◌, ℕ, zero, suc, List, [], ◌∷◌, Option, Some, None, refl}
+use Rattle.bl_base.specs.Runs.{Next, goes, ends, stuck, returned, trapped}
 use Rattle.bl_base.specs.declared.names.ValueType.{ValueType}
 use Rattle.bl_base.specs.declared.names.ValueType.TheVariants as value
-use Rattle.bl_base.specs.declared.names.Label.TheVariants.{Public}
-use Rattle.bl_base.specs.declared.start.Start.{Start}
 use Rattle.bl_base.specs.declared.trap.Trap.TheVariants as kind
 use Rattle.bl_ops.specs.Numerics.{meaning, traps}
-use Rattle.bl_ops.specs.declared.access.AccessKind.TheVariants as access
 use Rattle.bl_ops.specs.declared.op.Op.TheVariants.{I32Add, I32DivS, I32RemS, I32Sub}
 use Rattle.bl_wasm.specs.declared.instruction.Instr.{Instr}
-use Rattle.bl_wasm.specs.declared.instruction.Instr.TheVariants.{Unreachable, Nop, Block, Loop, If, Else, End, Br, BrIf, BrTable, Return, Call, CallIndirect, Drop, Select, LocalGet, LocalSet, LocalTee, GlobalGet, GlobalSet, Load, Store, MemorySize, MemoryGrow, I32Const, Integer}
-use Rattle.bl_wasm.specs.declared.module.LocalRun.{LocalRun}
+use Rattle.bl_wasm.specs.declared.instruction.Instr.TheVariants.{Block, Loop, If, End, Br, BrIf, BrTable, Return, Call, CallIndirect, Drop, LocalGet, LocalTee, I32Const, Integer}
 use Rattle.bl_wasm.specs.declared.types.WasmType.TheVariants as type
 use Rattle.bl_wasm.specs.declared.linked.Signature.{Signature}
 use Rattle.bl_wasm.specs.declared.linked.Function.{Function}
@@ -57,7 +53,12 @@ signature params results = record { params = i32s params; results = i32s results
 
 abbrev tree_of : List Signature → List Function → List (Option ℕ) → Tree
 tree_of types functions table = record {
-  types = types; functions = functions; globals = []; memories = []; tables = table ∷ []; exports = [];
+  types = types;
+  functions = functions;
+  globals = [];
+  memories = [];
+  tables = table ∷ [];
+  exports = [];
 }
 
 abbrev one : ℕ → ℕ → ℕ → List Instr → Tree

@@ -40,7 +40,7 @@ entered number function type arguments = record {
 abbrev pub enter : Tree → Store → ℕ → List ℕ → List Frame → Next Config
 enter tree store number arguments callers =
     known (slice_get tree.functions number) (λ function. known (slice_get tree.types function.type_index) (λ type.
-        go (record { store = store; frame = entered number function type arguments; callers = callers })))
+    go (record { store = store; frame = entered number function type arguments; callers = callers })))
 
 -- ---- calls (section 4.4.5)
 
@@ -49,7 +49,7 @@ abbrev pub call_at : Signature → ℕ → State → Next Config
 call_at type number state =
     if nat_lt (depth state) most_depth
     then goes (entering state.store number (reverse (take (length type.params) state.frame.values))
-        ((with_values (drop (length type.params) state.frame.values) state).frame ∷ state.callers))
+    ((with_values (drop (length type.params) state.frame.values) state).frame ∷ state.callers))
     else trap StackExhausted state
 
 -- call
@@ -76,4 +76,4 @@ call_through tree wanted (Some (Some number)) state =
 abbrev pub call_indirect : Tree → ℕ → State → Next Config
 call_indirect tree type_index state = pop state (λ index state.
     known (option_and_then (slice_get tree.tables) state.frame.function.table) (λ table.
-        known (slice_get tree.types type_index) (λ wanted. call_through tree wanted (slice_get table index) state)))
+    known (slice_get tree.types type_index) (λ wanted. call_through tree wanted (slice_get table index) state)))

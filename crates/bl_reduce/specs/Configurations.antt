@@ -1,6 +1,6 @@
 -- Configurations of a run (WebAssembly 1.0, sections 4.2.3, 4.2.12 and 4.2.13): a store, the frames of the calls that have
 -- begun, and what is left to execute. The standard's one stack is cut at its labels and frames.
-use Rattle.std.specs.Prelude.{ℕ, List, [], ◌∷◌, length, ◌+◌, Option, Some, None}
+use Rattle.std.specs.Prelude.{ℕ, List, [], ◌∷◌, Option, Some, None}
 use Rattle.bl_base.specs.Runs.{MemoryState, Next, goes, ends, stuck, trapped}
 use Rattle.bl_base.specs.declared.trap.Trap.{Trap}
 use Rattle.bl_wasm.specs.declared.instruction.Instr.{Instr}

@@ -36,11 +36,13 @@ second_part depth (item ∷ items) = second_part depth items
 
 -- entering items with a label: how many values a branch to it takes, and what is executed after one
 abbrev pub enter_with : ℕ → List Instr → List Instr → State → Next Config
-enter_with arity continuation inside state = go (record state { frame = record state.frame {
-  labels = record { arity = arity; continuation = continuation; below = state.frame.values } ∷ state.frame.labels;
-  values = [];
-  rest = inside;
-} })
+enter_with arity continuation inside state = go (record state {
+  frame = record state.frame {
+    labels = record { arity = arity; continuation = continuation; below = state.frame.values } ∷ state.frame.labels;
+    values = [];
+    rest = inside;
+  };
+})
 
 -- block: after a branch to it, what stands behind its end
 abbrev pub enter_block : Option WasmType → List Instr → State → Next Config
@@ -58,11 +60,13 @@ enter_if result state = pop state (λ condition state.
 -- the end of a block, loop or part of an if is reached: its label is taken off, and its values are left
 abbrev pub leave_label : List Label → List Instr → State → Next Config
 leave_label [] rest state = stuck
-leave_label (label ∷ labels) rest state = go (record state { frame = record state.frame {
-  labels = labels;
-  values = state.frame.values ++ label.below;
-  rest = rest;
-} })
+leave_label (label ∷ labels) rest state = go (record state {
+  frame = record state.frame {
+    labels = labels;
+    values = state.frame.values ++ label.below;
+    rest = rest;
+  };
+})
 
 -- `end`
 abbrev pub reach_end : State → Next Config
@@ -77,11 +81,13 @@ reach_else state = leave_label state.frame.labels (behind_end 0 state.frame.rest
 -- to a label of the frame: the labels within go with it, and with their values; or to the outermost one, which is the
 -- function's
 abbrev pub branch_to : Option Label → ℕ → State → Next Config
-branch_to (Some label) l state = go (record state { frame = record state.frame {
-  labels = drop (l + 1) state.frame.labels;
-  values = take label.arity state.frame.values ++ label.below;
-  rest = label.continuation;
-} })
+branch_to (Some label) l state = go (record state {
+  frame = record state.frame {
+    labels = drop (l + 1) state.frame.labels;
+    values = take label.arity state.frame.values ++ label.below;
+    rest = label.continuation;
+  };
+})
 branch_to None l state = if l == length state.frame.labels then return state else stuck
 
 -- br

@@ -5,7 +5,6 @@ use Rattle.bl_base.specs.declared.trap.Trap.TheVariants.{OutOfBounds}
 use Rattle.bl_ops.specs.Access.{extended, narrowed, width_of}
 use Rattle.bl_ops.specs.declared.access.AccessKind.{AccessKind}
 use Rattle.bl_wasm.specs.declared.instruction.MemoryArgument.{MemoryArgument}
-use Rattle.bl_wasm.specs.declared.linked.Memory.{Memory}
 use Rattle.bl_wasm.specs.declared.linked.Tree.{Tree}
 use Rattle.bl_reduce.specs.Configurations.{State, Config, go, trap, known, pop, push}
 
@@ -52,13 +51,13 @@ within memory address width state step = if nat_le (address + width) (length mem
 abbrev pub load : AccessKind → MemoryArgument → State → Next Config
 load kind argument state = pop state (λ address state. with_memory state (λ number memory.
     within memory (address + argument.offset) (width_of kind) state
-        (push (extended kind (number_of (read memory (address + argument.offset) (width_of kind)))) state)))
+    (push (extended kind (number_of (read memory (address + argument.offset) (width_of kind)))) state)))
 
 -- t.store
 abbrev pub store : AccessKind → MemoryArgument → State → Next Config
 store kind argument state = pop state (λ value state. pop state (λ address state. with_memory state (λ number memory.
     within memory (address + argument.offset) (width_of kind) state
-        (go (set_memory number (write memory (address + argument.offset) (bytes_of (width_of kind) (narrowed kind value))) state)))))
+    (go (set_memory number (write memory (address + argument.offset) (bytes_of (width_of kind) (narrowed kind value))) state)))))
 
 -- memory.size
 abbrev pub memory_size : State → Next Config

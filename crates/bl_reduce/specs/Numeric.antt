@@ -5,7 +5,6 @@ use Rattle.bl_base.specs.declared.trap.Trap.{Trap}
 use Rattle.bl_ops.specs.Numerics.{meaning, traps}
 use Rattle.bl_ops.specs.Table.{row_of}
 use Rattle.bl_ops.specs.declared.op.Op.{Op}
-use Rattle.bl_ops.specs.declared.op.OpRow.{OpRow}
 use Rattle.bl_reduce.specs.Configurations.{State, Config, trap, known, push, with_values}
 
 -- the trap where the operator has one, else the number that it gives is put on the stack

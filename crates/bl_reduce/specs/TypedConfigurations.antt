@@ -1,6 +1,6 @@
 -- When a configuration is typed (WebAssembly 1.0, appendix A.5, "Soundness"): its values have the types of a typing of their
 -- function's body. The entering of a function with arguments that fit is typed, a step keeps it, and what is typed has a step.
-use Rattle.std.specs.Prelude.{◌≡◌, ℕ, ◌*◌, ◌^◌, ◌<◌, ◌≤◌, ◌++◌, List, [], ◌∷◌, length, map, drop, reverse, slice_get, Option, Some}
+use Rattle.std.specs.Prelude.{◌≡◌, ℕ, ◌*◌, ◌^◌, ◌<◌, ◌≤◌, ◌++◌, List, [], ◌∷◌, length, map, drop, reverse, slice_get, Some}
 use Rattle.std.specs.List.{All, AllZip}
 use Rattle.bl_base.specs.Fits.{ArgumentFits}
 use Rattle.bl_base.specs.Runs.{MemoryState, Outcome, returned, trapped, Next, goes, ends, stuck}

@@ -1,5 +1,5 @@
 -- Variable instructions (WebAssembly 1.0, section 4.4.3).
-use Rattle.std.specs.Prelude.{ℕ, List, ◌∷◌, set, slice_get}
+use Rattle.std.specs.Prelude.{ℕ, set, slice_get}
 use Rattle.bl_base.specs.Runs.{Next}
 use Rattle.bl_reduce.specs.Configurations.{State, Config, go, known, pop, push}
 

@@ -1,5 +1,5 @@
 -- What a linked tree keeps (WebAssembly 1.0, sections 3.4 and 4.5.4).
-use Rattle.std.specs.Prelude.{◌≡◌, ℕ, ◌+◌, ◌*◌, ◌^◌, ◌<◌, ◌≤◌, ◌++◌, List, length, map, slice_get, sum_by, Option, Some, None, IfSome}
+use Rattle.std.specs.Prelude.{◌≡◌, ℕ, ◌*◌, ◌^◌, ◌<◌, ◌≤◌, ◌++◌, List, length, map, slice_get, sum_by, Option, Some, None, IfSome}
 use Rattle.std.specs.List.{All}
 use Rattle.bl_base.specs.Fits.{ArgumentFits}
 use Rattle.bl_wasm.specs.Exports.{AreDistinct}
