@@ -21,7 +21,7 @@ use Rattle.bl_wasm.specs.declared.linked.Memory.{Memory}
 use Rattle.bl_wasm.specs.declared.linked.Signature.{Signature}
 use Rattle.bl_wasm.specs.declared.linked.Tree.{Tree}
 use Rattle.bl_reduce.specs.Configurations.{State, Config, go, trap, known, pop, push, with_values}
-use Rattle.bl_reduce.specs.Memory.{number_of, bytes_of, read, write, grow, with_memory, set_memory, within, load, store, memory_size, memory_grow, grow_within}
+use Rattle.bl_reduce.specs.Memory.{number_of, bytes_of, read, write, grow, with_memory, set_memory, within, load_at, load, store_at, store, memory_size, memory_grow, grow_within}
 use Rattle.bl_reduce.specs.TypedConfigurations.{IsValue, IsMemoryState, BeginsWith, IsTypedStep}
 use Rattle.bl_reduce.proofs.Ready.{Ready, Onto, onto, taken, going, pushing, popping, trapping, knowing, integer_value}
 use Rattle.bl_reduce.proofs.Zips.{zip_get, zip_set, all_get, within_get}
@@ -133,58 +133,50 @@ module _ (tree : Tree) (linked : IsLinked tree) (results : List ValueType) (type
       at_test (leb (address + width) (length memory.bytes)) step (trap OutOfBounds state) (λ e. next (leb-true (address + width) (length memory.bytes) e))
       (trapping tree results type open_ones top OutOfBounds state ready)
 
+  -- what a load makes of the bytes of a memory
+  read_value : (kind : AccessKind) (address : ℕ) (defined : Memory) (memory : MemoryState) → IsMemoryState defined memory
+      → IsValue (integer (type_of kind)) (extended kind (number_of (read memory address (width_of kind))))
+  read_value kind address defined memory is =
+      let bytes = All-take (λ byte. byte < 2 ^ 8) (width_of kind) (drop address memory.bytes) (All-drop (λ byte. byte < 2 ^ 8) address memory.bytes is.bytes) in
+      let long : length (read memory address (width_of kind)) ≤ width_of kind = omega (arith, length-take (width_of kind) (drop address memory.bytes)) in
+      integer_value (type_of kind) (extended kind (number_of (read memory address (width_of kind))))
+      (load_fits kind (number_of (read memory address (width_of kind))) (number_below (read memory address (width_of kind)) (width_of kind) bytes long))
+
+  loading : (kind : AccessKind) (address : ℕ) (low : List WasmType) (state : State) → ReadyAt low state → OntoAt (integer (type_of kind) ∷ low) state → Uses state (load_at kind address state)
+  loading kind address low state ready on number defined memory e f is =
+      keeping_within memory address (width_of kind) low state (push (extended kind (number_of (read memory address (width_of kind)))) state) ready
+      (λ le. pushing tree results type open_ones low (integer (type_of kind)) (extended kind (number_of (read memory address (width_of kind)))) state ready
+      (read_value kind address defined memory is) on)
+
   pub load_steps : (kind : AccessKind) (argument : MemoryArgument) (from to : List WasmType) (state : State) → 1 ≤ seen state.frame.function.memory
       → Arrow (I32 ∷ []) (integer (type_of kind) ∷ []) from to → ReadyAt (reverse from) state → BeginsWith tree type open_ones to state.frame → Steps (load kind argument state)
   load_steps kind argument from to state some a ready begins =
-      popping tree results type open_ones (reverse a.lower) I32 state
-      (λ address state. with_memory state (λ number memory. within memory (address + argument.offset) (width_of kind) state
-      (push (extended kind (number_of (read memory (address + argument.offset) (width_of kind)))) state)))
+      popping tree results type open_ones (reverse a.lower) I32 state (λ address state. with_memory state (load_at kind (address + argument.offset) state))
       (taken tree results type open_ones from a.lower (I32 ∷ []) state a.before ready)
-      (λ address below h r. using_memory (with_values below state) (reverse a.lower)
-      (λ number memory. within memory (address + argument.offset) (width_of kind) (with_values below state)
-      (push (extended kind (number_of (read memory (address + argument.offset) (width_of kind)))) (with_values below state)))
-      some r
-      (λ number defined memory e f is. keeping_within memory (address + argument.offset) (width_of kind) (reverse a.lower) (with_values below state)
-      (push (extended kind (number_of (read memory (address + argument.offset) (width_of kind)))) (with_values below state)) r
-      (λ le. pushing tree results type open_ones (reverse a.lower) (integer (type_of kind))
-      (extended kind (number_of (read memory (address + argument.offset) (width_of kind)))) (with_values below state) r
-      (read_value address memory is)
-      (onto tree results type open_ones to a.lower (integer (type_of kind) ∷ []) (with_values below state) a.behind begins))))
-    where
-      read_value : (address : ℕ) (memory : MemoryState) {defined : Memory} → IsMemoryState defined memory
-          → IsValue (integer (type_of kind)) (extended kind (number_of (read memory (address + argument.offset) (width_of kind))))
-      read_value address memory is =
-          integer_value (type_of kind) (extended kind (number_of (read memory (address + argument.offset) (width_of kind))))
-          (load_fits kind (number_of (read memory (address + argument.offset) (width_of kind)))
-          (number_below (read memory (address + argument.offset) (width_of kind)) (width_of kind)
-          (All-take (λ byte. byte < 2 ^ 8) (width_of kind) (drop (address + argument.offset) memory.bytes)
-          (All-drop (λ byte. byte < 2 ^ 8) (address + argument.offset) memory.bytes is.bytes))
-          (omega (arith, length-take (width_of kind) (drop (address + argument.offset) memory.bytes)))))
+      (λ address below h r. using_memory (with_values below state) (reverse a.lower) (load_at kind (address + argument.offset) (with_values below state)) some r
+      (loading kind (address + argument.offset) (reverse a.lower) (with_values below state) r
+      (onto tree results type open_ones to a.lower (integer (type_of kind) ∷ []) (with_values below state) a.behind begins)))
+
+  storing : (kind : AccessKind) (value address : ℕ) (low : List WasmType) (state : State) → ReadyAt low state → OntoAt low state → Uses state (store_at kind value address state)
+  storing kind value address low state ready on number defined memory e f is =
+      let new : List ℕ = bytes_of (width_of kind) (narrowed kind value) in
+      keeping_within memory address (width_of kind) low state (go (set_memory number (write memory address new) state)) ready
+      (λ le. going tree results type open_ones low (set_memory number (write memory address new) state)
+      (remembered number defined (write memory address new) low state e
+      (written_state defined memory address new (omega (arith, le, length-bytes_of (width_of kind) (narrowed kind value))) (bytes_all (width_of kind) (narrowed kind value)) is) ready)
+      (record { stack = on.stack; turned = on.turned; begins = on.begins }))
 
   pub store_steps : (kind : AccessKind) (argument : MemoryArgument) (from to : List WasmType) (state : State) → 1 ≤ seen state.frame.function.memory
       → Arrow (I32 ∷ integer (type_of kind) ∷ []) [] from to → ReadyAt (reverse from) state → BeginsWith tree type open_ones to state.frame → Steps (store kind argument state)
   store_steps kind argument from to state some a ready begins =
       popping tree results type open_ones (I32 ∷ reverse a.lower) (integer (type_of kind)) state
-      (λ value state. pop state (λ address state. with_memory state (λ number memory. within memory (address + argument.offset) (width_of kind) state
-      (go (set_memory number (write memory (address + argument.offset) (bytes_of (width_of kind) (narrowed kind value))) state)))))
+      (λ value state. pop state (λ address state. with_memory state (store_at kind value (address + argument.offset) state)))
       (taken tree results type open_ones from a.lower (I32 ∷ integer (type_of kind) ∷ []) state a.before ready)
       (λ value below h r. popping tree results type open_ones (reverse a.lower) I32 (with_values below state)
-      (λ address state. with_memory state (λ number memory. within memory (address + argument.offset) (width_of kind) state
-      (go (set_memory number (write memory (address + argument.offset) (bytes_of (width_of kind) (narrowed kind value))) state))))
-      r
-      (λ address below h r. using_memory (with_values below state) (reverse a.lower)
-      (λ number memory. within memory (address + argument.offset) (width_of kind) (with_values below state)
-      (go (set_memory number (write memory (address + argument.offset) (bytes_of (width_of kind) (narrowed kind value))) (with_values below state))))
-      some r
-      (λ number defined memory e f is. keeping_within memory (address + argument.offset) (width_of kind) (reverse a.lower) (with_values below state)
-      (go (set_memory number (write memory (address + argument.offset) (bytes_of (width_of kind) (narrowed kind value))) (with_values below state))) r
-      (λ le. going tree results type open_ones (reverse a.lower)
-      (set_memory number (write memory (address + argument.offset) (bytes_of (width_of kind) (narrowed kind value))) (with_values below state))
-      (remembered number defined (write memory (address + argument.offset) (bytes_of (width_of kind) (narrowed kind value))) (reverse a.lower) (with_values below state) e
-      (written_state defined memory (address + argument.offset) (bytes_of (width_of kind) (narrowed kind value))
-      (omega (arith, le, length-bytes_of (width_of kind) (narrowed kind value))) (bytes_all (width_of kind) (narrowed kind value)) is) r)
-      (onto tree results type open_ones to a.lower []
-      (set_memory number (write memory (address + argument.offset) (bytes_of (width_of kind) (narrowed kind value))) (with_values below state)) a.behind begins)))))
+      (λ address state. with_memory state (store_at kind value (address + argument.offset) state)) r
+      (λ address below h r. using_memory (with_values below state) (reverse a.lower) (store_at kind value (address + argument.offset) (with_values below state)) some r
+      (storing kind value (address + argument.offset) (reverse a.lower) (with_values below state) r
+      (onto tree results type open_ones to a.lower [] (with_values below state) a.behind begins))))
 
   -- sizes are values
   pages_value : (number : ℕ) (defined : Memory) (memory : MemoryState) → slice_get tree.memories number ≡ Some defined → IsMemoryState defined memory → IsValue I32 memory.pages

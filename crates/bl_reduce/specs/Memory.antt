@@ -47,17 +47,24 @@ set_memory number memory state = record state { store = record state.store { mem
 abbrev pub within : MemoryState → ℕ → ℕ → State → Next Config → Next Config
 within memory address width state step = if nat_le (address + width) (length memory.bytes) then step else trap OutOfBounds state
 
+-- a load at an effective address
+abbrev pub load_at : AccessKind → ℕ → State → ℕ → MemoryState → Next Config
+load_at kind address state number memory =
+    within memory address (width_of kind) state (push (extended kind (number_of (read memory address (width_of kind)))) state)
+
 -- t.load: the effective address is the operand plus the offset, without wrapping
 abbrev pub load : AccessKind → MemoryArgument → State → Next Config
-load kind argument state = pop state (λ address state. with_memory state (λ number memory.
-    within memory (address + argument.offset) (width_of kind) state
-    (push (extended kind (number_of (read memory (address + argument.offset) (width_of kind)))) state)))
+load kind argument state = pop state (λ address state. with_memory state (load_at kind (address + argument.offset) state))
+
+-- a store of a value at an effective address
+abbrev pub store_at : AccessKind → ℕ → ℕ → State → ℕ → MemoryState → Next Config
+store_at kind value address state number memory =
+    within memory address (width_of kind) state (go (set_memory number (write memory address (bytes_of (width_of kind) (narrowed kind value))) state))
 
 -- t.store
 abbrev pub store : AccessKind → MemoryArgument → State → Next Config
-store kind argument state = pop state (λ value state. pop state (λ address state. with_memory state (λ number memory.
-    within memory (address + argument.offset) (width_of kind) state
-    (go (set_memory number (write memory (address + argument.offset) (bytes_of (width_of kind) (narrowed kind value))) state)))))
+store kind argument state = pop state (λ value state. pop state (λ address state.
+    with_memory state (store_at kind value (address + argument.offset) state)))
 
 -- memory.size
 abbrev pub memory_size : State → Next Config
