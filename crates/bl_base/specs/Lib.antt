@@ -1,3 +1,4 @@
 pub mod Fits
 pub mod Quantity
+pub mod Runs
 pub mod Trap

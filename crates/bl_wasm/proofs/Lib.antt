@@ -1,2 +1,3 @@
-pub mod NestingLemmas
 mod Rows
+pub mod ExportLemmas
+pub mod NestingLemmas

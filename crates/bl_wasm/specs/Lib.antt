@@ -1,5 +1,7 @@
 pub mod Codes
+pub mod Exports
 pub mod Instructions
+pub mod Linked
 pub mod Modules
 pub mod Nesting
 pub mod Sections

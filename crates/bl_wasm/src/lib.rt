@@ -1,15 +1,19 @@
 //! The module tree (WebAssembly 1.0, section 2) and its binary grammar (section 5).
 #![tactic(auto)]
 
+mod exports;
 mod float;
 pub mod form;
 mod instruction;
 pub mod laws;
+mod linked;
 mod module;
 mod types;
 
+pub use exports::Exports;
 pub use float::{FloatAccess, FloatOp};
 pub use instruction::{Instr, MemoryArgument, SignExtension};
+pub use linked::{Function, Global, Linked, Memory, Signature, Tree};
 pub use module::{
     Code, CustomSection, DataSegment, DefinedGlobal, ElementSegment, Export, ExportKind, Import,
     ImportKind, LocalRun, Module,

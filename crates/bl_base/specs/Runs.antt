@@ -1,0 +1,36 @@
+-- Runs of a machine that steps from one configuration to the next, until it ends.
+use Rattle.std.specs.Prelude.{◌≡◌, ℕ, zero, suc, List}
+use Rattle.bl_base.specs.declared.trap.Trap.{Trap}
+
+-- a memory: its pages of 65,536 bytes, and its bytes
+pub record MemoryState : Type 0 where
+  pub pages : ℕ
+  pub bytes : List ℕ
+
+-- how a run ends: with values or by a trap, and with each memory
+pub data Outcome : Type 0 where
+  returned : (values : List ℕ) → (memories : List MemoryState) → Outcome
+  trapped : (kind : Trap) → (memories : List MemoryState) → Outcome
+
+-- one step: to a configuration, or to the run's end; or there is none
+pub data Next (C : Type 0) : Type 0 where
+  goes : C → Next C
+  ends : Outcome → Next C
+  stuck : Next C
+
+-- there is a step
+abbrev pub HasStep : {C : Type 0} → Next C → Type 0
+HasStep (goes c) = Unit {0}
+HasStep (ends outcome) = Unit {0}
+HasStep stuck = ⊥
+
+module _ {C : Type 0} (step : C → Next C) where
+  -- the run from a configuration comes to another one in exactly so many steps
+  abbrev pub Comes : ℕ → C → C → Type 0
+  Comes zero c d = c ≡ d
+  Comes (suc n) c d = (next : C) × (step c ≡ goes next) × Comes n next d
+
+  -- the run from a configuration ends with that outcome after exactly so many steps, the last included
+  pub data EndsAfter : ℕ → C → Outcome → Type 0 where
+    last : (c : C) (o : Outcome) → step c ≡ ends o → EndsAfter 1 c o
+    more : (n : ℕ) (c d : C) (o : Outcome) → step c ≡ goes d → EndsAfter n d o → EndsAfter (suc n) c o

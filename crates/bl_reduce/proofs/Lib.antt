@@ -1,0 +1,10 @@
+pub mod CallItems
+pub mod ControlItems
+pub mod MemoryItems
+pub mod NumericItems
+pub mod Places
+pub mod Ready
+pub mod Soundness
+pub mod VariableItems
+mod WorkedRows
+pub mod Zips

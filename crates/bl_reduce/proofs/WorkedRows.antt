@@ -1,0 +1,156 @@
+-- Runs of small trees, by computation.
+use Rattle.std.proofs.Common.{◌≡◌, ℕ, zero, suc, List, [], ◌∷◌, Option, Some, None, refl}
+use Rattle.bl_base.specs.Runs.{Next, goes, ends, stuck, returned, trapped}
+use Rattle.bl_base.specs.declared.names.ValueType.{ValueType}
+use Rattle.bl_base.specs.declared.names.ValueType.TheVariants as value
+use Rattle.bl_base.specs.declared.trap.Trap.TheVariants as kind
+use Rattle.bl_ops.specs.Numerics.{meaning, traps}
+use Rattle.bl_ops.specs.declared.op.Op.TheVariants.{I32Add, I32DivS, I32RemS, I32Sub}
+use Rattle.bl_wasm.specs.declared.instruction.Instr.{Instr}
+use Rattle.bl_wasm.specs.declared.instruction.Instr.TheVariants.{Block, Loop, If, End, Br, BrIf, BrTable, Return, Call, CallIndirect, Drop, LocalGet, LocalTee, I32Const, Integer}
+use Rattle.bl_wasm.specs.declared.types.WasmType.TheVariants as type
+use Rattle.bl_wasm.specs.declared.linked.Signature.{Signature}
+use Rattle.bl_wasm.specs.declared.linked.Function.{Function}
+use Rattle.bl_wasm.specs.declared.linked.Tree.{Tree}
+use Rattle.bl_reduce.specs.Configurations.{Config}
+use Rattle.bl_reduce.specs.Steps.{source_step}
+use Rattle.bl_reduce.specs.Outcomes.{opening}
+
+-- what stands after so many further steps
+abbrev further : Tree → ℕ → Next Config → Next Config
+further tree zero next = next
+further tree (suc n) (goes c) = further tree n (source_step tree c)
+further tree (suc n) (ends o) = stuck
+further tree (suc n) stuck = stuck
+
+-- what stands after so many steps of the entering of function 0 with those arguments
+abbrev run : Tree → ℕ → List ℕ → Next Config
+run tree n arguments = further tree n (goes (opening tree 0 (record { args = arguments; patches = [] })))
+
+-- whether a run has not ended after so many steps
+abbrev Goes : Next Config → Type 0
+Goes (goes c) = Unit {0}
+Goes (ends o) = ⊥
+Goes stuck = ⊥
+
+-- a function of that type with so many i32 locals and that body
+abbrev function : ℕ → ℕ → List Instr → Function
+function index locals items = record {
+  type_index = index;
+  labels = [];
+  code = record { locals = record { count = locals; kind = type.I32 } ∷ []; items = items };
+  memory = None;
+  table = Some 0;
+}
+
+-- i32 values
+abbrev i32s : ℕ → List ValueType
+i32s zero = []
+i32s (suc n) = value.I32 ∷ i32s n
+
+abbrev signature : ℕ → ℕ → Signature
+signature params results = record { params = i32s params; results = i32s results }
+
+abbrev tree_of : List Signature → List Function → List (Option ℕ) → Tree
+tree_of types functions table = record {
+  types = types;
+  functions = functions;
+  globals = [];
+  memories = [];
+  tables = table ∷ [];
+  exports = [];
+}
+
+abbrev one : ℕ → ℕ → ℕ → List Instr → Tree
+one params results locals items = tree_of (signature params results ∷ []) (function 0 locals items ∷ []) []
+
+-- local.get 0, i32.const 1, i32.add
+abbrev inc : Tree
+inc = one 1 1 0 (LocalGet 0 ∷ I32Const 1 ∷ Integer I32Add ∷ [])
+
+inc_in_five : run inc 5 (4294967295 ∷ []) ≡ ends (returned (0 ∷ []) [])
+unfolding meaning traps
+inc_in_five = refl
+
+inc_not_in_four : Goes (run inc 4 (4294967295 ∷ []))
+unfolding meaning traps
+inc_not_in_four = tt
+
+abbrev div : Tree
+div = one 2 1 0 (LocalGet 0 ∷ LocalGet 1 ∷ Integer I32DivS ∷ [])
+
+div_overflows : run div 4 (2147483648 ∷ 4294967295 ∷ []) ≡ ends (trapped kind.Overflow [])
+unfolding meaning traps
+div_overflows = refl
+
+div_by_zero : run div 4 (1 ∷ 0 ∷ []) ≡ ends (trapped kind.DivideByZero [])
+unfolding meaning traps
+div_by_zero = refl
+
+rem_of_least : run (one 2 1 0 (LocalGet 0 ∷ LocalGet 1 ∷ Integer I32RemS ∷ [])) 5 (2147483648 ∷ 4294967295 ∷ []) ≡ ends (returned (0 ∷ []) [])
+unfolding meaning traps
+rem_of_least = refl
+
+-- a function that calls itself, one deeper for each of its argument
+abbrev deep : Tree
+deep = one 1 1 0 (LocalGet 0 ∷ If None ∷ LocalGet 0 ∷ I32Const 1 ∷ Integer I32Sub ∷ Call 0 ∷ Drop ∷ End ∷ I32Const 7 ∷ [])
+
+-- of argument 0: entering, local.get, if, the end of the empty part, i32.const, the return
+deep_at_none : run deep 6 (0 ∷ []) ≡ ends (returned (7 ∷ []) [])
+unfolding meaning traps
+deep_at_none = refl
+
+-- of argument n: 11 * n steps more, of which 7 before each call and 4 behind it are the caller's
+deep_at_two : run deep 28 (2 ∷ []) ≡ ends (returned (7 ∷ []) [])
+unfolding meaning traps
+deep_at_two = refl
+
+-- 1,024 frames
+deep_enough : run deep 11259 (1023 ∷ []) ≡ ends (returned (7 ∷ []) [])
+unfolding meaning traps
+deep_enough = refl
+
+-- the call at depth 1,024 traps in its step
+too_deep : run deep 7168 (1024 ∷ []) ≡ ends (trapped kind.StackExhausted [])
+unfolding meaning traps
+too_deep = refl
+
+-- a loop that counts down: loop, local.get 0, i32.const 1, i32.sub, local.tee 0, br_if 0, end, local.get 0
+abbrev count : Tree
+count = one 1 1 0 (Loop None ∷ LocalGet 0 ∷ I32Const 1 ∷ Integer I32Sub ∷ LocalTee 0 ∷ BrIf 0 ∷ End ∷ LocalGet 0 ∷ [])
+
+-- entering, 6 steps a round (the loop is executed again), the end, local.get, the return
+count_down : run count 22 (3 ∷ []) ≡ ends (returned (0 ∷ []) [])
+unfolding meaning traps
+count_down = refl
+
+-- block, block, local.get 0, br_table 0 1 2, end, i32.const 10, return, end, i32.const 20
+abbrev choose : Tree
+choose = one 1 1 0 (Block None ∷ Block None ∷ LocalGet 0 ∷ BrTable (0 ∷ 1 ∷ []) 1 ∷ End ∷ I32Const 10 ∷ Return ∷ End ∷ I32Const 20 ∷ [])
+
+choose_first : run choose 7 (0 ∷ []) ≡ ends (returned (10 ∷ []) [])
+choose_first = refl
+
+choose_default : run choose 7 (9 ∷ []) ≡ ends (returned (20 ∷ []) [])
+choose_default = refl
+
+-- through a table: slot 0 a function of another type, slot 1 empty, slot 2 a function that returns 9
+abbrev through : Tree
+through = tree_of (signature 1 1 ∷ signature 0 0 ∷ signature 0 1 ∷ [])
+    (function 0 0 (LocalGet 0 ∷ CallIndirect 2 ∷ []) ∷ function 1 0 [] ∷ function 2 0 (I32Const 9 ∷ []) ∷ []) (Some 1 ∷ None ∷ Some 2 ∷ [])
+
+through_two : run through 7 (2 ∷ []) ≡ ends (returned (9 ∷ []) [])
+through_two = refl
+
+through_one : run through 3 (1 ∷ []) ≡ ends (trapped kind.UninitializedElement [])
+through_one = refl
+
+through_none : run through 3 (0 ∷ []) ≡ ends (trapped kind.TypeMismatch [])
+through_none = refl
+
+through_three : run through 3 (3 ∷ []) ≡ ends (trapped kind.UndefinedElement [])
+through_three = refl
+
+-- br to the outermost label is a return, with the topmost value
+out_of_all : run (one 1 1 0 (Block None ∷ I32Const 5 ∷ I32Const 6 ∷ Br 1 ∷ End ∷ I32Const 7 ∷ [])) 5 (0 ∷ []) ≡ ends (returned (6 ∷ []) [])
+out_of_all = refl

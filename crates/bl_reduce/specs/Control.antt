@@ -1,0 +1,103 @@
+-- Control instructions but for calls (WebAssembly 1.0, sections 4.4.5 and 4.4.6).
+use Rattle.std.specs.Prelude.{ℕ, zero, suc, ◌+◌, ◌==◌, if◌then◌else◌, List, [], ◌∷◌, ◌++◌, length, take, drop, slice_get, Option, Some, None, unwrap_or}
+use Rattle.bl_base.specs.Runs.{Next, stuck}
+use Rattle.bl_wasm.specs.Typing.{of_result}
+use Rattle.bl_wasm.specs.declared.instruction.Instr.{Instr}
+use Rattle.bl_wasm.specs.declared.instruction.Instr.TheVariants.{Block, Loop, If, Else, End}
+use Rattle.bl_wasm.specs.declared.types.WasmType.{WasmType}
+use Rattle.bl_reduce.specs.Configurations.{Label, State, Config, go, pop}
+use Rattle.bl_reduce.specs.Returns.{return}
+
+-- ---- the parts of a construct in a flat list of items
+
+-- what stands behind the `end` of the construct that is the innermost but so many
+abbrev pub behind_end : ℕ → List Instr → List Instr
+behind_end depth [] = []
+behind_end depth (Block result ∷ items) = behind_end (suc depth) items
+behind_end depth (Loop result ∷ items) = behind_end (suc depth) items
+behind_end depth (If result ∷ items) = behind_end (suc depth) items
+behind_end zero (End ∷ items) = items
+behind_end (suc depth) (End ∷ items) = behind_end depth items
+behind_end depth (item ∷ items) = behind_end depth items
+
+-- the second part of an if with its `end`, from inside its first part: what stands behind `else`; where there is no `else`,
+-- an empty part
+abbrev pub second_part : ℕ → List Instr → List Instr
+second_part depth [] = []
+second_part depth (Block result ∷ items) = second_part (suc depth) items
+second_part depth (Loop result ∷ items) = second_part (suc depth) items
+second_part depth (If result ∷ items) = second_part (suc depth) items
+second_part zero (Else ∷ items) = items
+second_part zero (End ∷ items) = End ∷ items
+second_part (suc depth) (End ∷ items) = second_part depth items
+second_part depth (item ∷ items) = second_part depth items
+
+-- ---- blocks (section 4.4.6)
+
+-- entering items with a label: how many values a branch to it takes, and what is executed after one
+abbrev pub enter_with : ℕ → List Instr → List Instr → State → Next Config
+enter_with arity continuation inside state = go (record state {
+  frame = record state.frame {
+    labels = record { arity = arity; continuation = continuation; below = state.frame.values } ∷ state.frame.labels;
+    values = [];
+    rest = inside;
+  };
+})
+
+-- block: after a branch to it, what stands behind its end
+abbrev pub enter_block : Option WasmType → List Instr → State → Next Config
+enter_block result inside state = enter_with (length (of_result result)) (behind_end 0 state.frame.rest) inside state
+
+-- loop: after a branch to it, the loop again
+abbrev pub enter_loop : Option WasmType → State → Next Config
+enter_loop result state = enter_with 0 (Loop result ∷ state.frame.rest) state.frame.rest state
+
+-- if: a block of its first part where the condition isn't 0, else of its second part
+abbrev pub enter_if : Option WasmType → State → Next Config
+enter_if result state = pop state (λ condition state.
+    if condition == 0 then enter_block result (second_part 0 state.frame.rest) state else enter_block result state.frame.rest state)
+
+-- the end of a block, loop or part of an if is reached: its label is taken off, and its values are left
+abbrev pub leave_label : List Label → List Instr → State → Next Config
+leave_label [] rest state = stuck
+leave_label (label ∷ labels) rest state = go (record state {
+  frame = record state.frame {
+    labels = labels;
+    values = state.frame.values ++ label.below;
+    rest = rest;
+  };
+})
+
+-- `end`
+abbrev pub reach_end : State → Next Config
+reach_end state = leave_label state.frame.labels state.frame.rest state
+
+-- `else`: the end of the first part
+abbrev pub reach_else : State → Next Config
+reach_else state = leave_label state.frame.labels (behind_end 0 state.frame.rest) state
+
+-- ---- branches (section 4.4.5)
+
+-- to a label of the frame: the labels within go with it, and with their values; or to the outermost one, which is the
+-- function's
+abbrev pub branch_to : Option Label → ℕ → State → Next Config
+branch_to (Some label) l state = go (record state {
+  frame = record state.frame {
+    labels = drop (l + 1) state.frame.labels;
+    values = take label.arity state.frame.values ++ label.below;
+    rest = label.continuation;
+  };
+})
+branch_to None l state = if l == length state.frame.labels then return state else stuck
+
+-- br
+abbrev pub branch : ℕ → State → Next Config
+branch l state = branch_to (slice_get state.frame.labels l) l state
+
+-- br_if
+abbrev pub branch_if : ℕ → State → Next Config
+branch_if l state = pop state (λ condition state. if condition == 0 then go state else branch l state)
+
+-- br_table
+abbrev pub branch_by : List ℕ → ℕ → State → Next Config
+branch_by labels default state = pop state (λ index state. branch (unwrap_or (slice_get labels index) default) state)

@@ -1,0 +1,10 @@
+pub mod Calls
+pub mod Configurations
+pub mod Control
+pub mod Memory
+pub mod Numeric
+pub mod Outcomes
+pub mod Returns
+pub mod Steps
+pub mod TypedConfigurations
+pub mod Variables

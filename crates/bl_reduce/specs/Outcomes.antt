@@ -1,0 +1,55 @@
+-- What a run of a function from a start ends with (WebAssembly 1.0, section 4.5.5).
+use Rattle.std.specs.Prelude.{◌≡◌, ℕ, ◌<◌, ◌^◌, List, [], map, set, slice_get, Option, Some, None}
+use Rattle.std.specs.List.{All, fold}
+use Rattle.bl_base.specs.Fits.{Fits}
+use Rattle.bl_base.specs.Runs.{MemoryState, Outcome, EndsAfter}
+use Rattle.bl_base.specs.declared.start.Patch.{Patch}
+use Rattle.bl_base.specs.declared.start.Start.{Start}
+use Rattle.bl_wasm.specs.declared.linked.Signature.{Signature}
+use Rattle.bl_wasm.specs.declared.linked.Function.{Function}
+use Rattle.bl_wasm.specs.declared.linked.Memory.{Memory}
+use Rattle.bl_wasm.specs.declared.linked.Tree.{Tree}
+use Rattle.bl_reduce.specs.Configurations.{Store, Config, entering}
+use Rattle.bl_reduce.specs.Memory.{write}
+use Rattle.bl_reduce.specs.Steps.{source_step}
+
+-- a memory before the patches
+abbrev pub first_memory : Memory → MemoryState
+first_memory memory = record { pages = memory.pages; bytes = memory.bytes }
+
+-- the memories with a patch written over the one that it names
+abbrev pub patch_over : Option MemoryState → List MemoryState → Patch → List MemoryState
+patch_over None memories patch = memories
+patch_over (Some memory) memories patch = set memories patch.memory (write memory patch.offset patch.bytes)
+
+abbrev pub patched : List MemoryState → Patch → List MemoryState
+patched memories patch = patch_over (slice_get memories patch.memory) memories patch
+
+-- the store at the start: the globals have their first values, and the memories their first contents with the patches written
+-- over them in order
+abbrev pub first_store : Tree → Start → Store
+first_store tree start = record {
+  memories = fold patched (map first_memory tree.memories) start.patches;
+  globals = map (λ global. global.first) tree.globals;
+}
+
+-- the entering of a function with the arguments of the start
+abbrev pub opening : Tree → ℕ → Start → Config
+opening tree number start = entering (first_store tree start) number start.args []
+
+-- the start fits the function of that number: its type has these arguments, and the patches lie in the first pages
+pub record IsStart (tree : Tree) (number : ℕ) (start : Start) : Type 0 where
+  pub function : Function
+  pub exists : slice_get tree.functions number ≡ Some function
+  pub type : Signature
+  pub typed : slice_get tree.types function.type_index ≡ Some type
+  pub fits : Fits type.params (map (λ memory. memory.pages) tree.memories) start
+
+-- the bytes of the patches are bytes, since a number of a definition has no bound of its own
+abbrev pub HasBytes : Start → Type 0
+HasBytes start = All (λ patch. All (λ byte. byte < 2 ^ 8) patch.bytes) start.patches
+
+-- the start fits, and the run from the entering of the function ends with that outcome after exactly so many steps
+pub record source (tree : Tree) (number : ℕ) (start : Start) (steps : ℕ) (outcome : Outcome) : Type 0 where
+  pub start_fits : IsStart tree number start
+  pub run : EndsAfter (source_step tree) steps (opening tree number start) outcome

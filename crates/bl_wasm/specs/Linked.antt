@@ -1,0 +1,103 @@
+-- What a linked tree keeps (WebAssembly 1.0, sections 3.4 and 4.5.4).
+use Rattle.std.specs.Prelude.{◌≡◌, ℕ, ◌*◌, ◌^◌, ◌<◌, ◌≤◌, ◌++◌, List, length, map, slice_get, sum_by, Option, Some, None, IfSome}
+use Rattle.std.specs.List.{All}
+use Rattle.bl_base.specs.Fits.{ArgumentFits}
+use Rattle.bl_wasm.specs.Exports.{AreDistinct}
+use Rattle.bl_wasm.specs.Typing.{Context, IsTyping, integer}
+use Rattle.bl_wasm.specs.Validity.{locals_of}
+use Rattle.bl_wasm.specs.declared.instruction.Instr.{Instr}
+use Rattle.bl_wasm.specs.declared.instruction.Instr.TheVariants.{Load, Store, I32Const, I64Const}
+use Rattle.bl_wasm.specs.declared.types.WasmType.{WasmType}
+use Rattle.bl_wasm.specs.declared.types.FuncType.{FuncType}
+use Rattle.bl_wasm.specs.declared.types.GlobalType.{GlobalType}
+use Rattle.bl_wasm.specs.declared.linked.Signature.{Signature}
+use Rattle.bl_wasm.specs.declared.linked.Function.{Function}
+use Rattle.bl_wasm.specs.declared.linked.Global.{Global}
+use Rattle.bl_wasm.specs.declared.linked.Memory.{Memory}
+use Rattle.bl_wasm.specs.declared.linked.Tree.{Tree}
+
+-- ---- the context of a body
+
+-- a type of the tree, as bodies see it
+abbrev pub function_type : Signature → FuncType
+function_type type = record { params = map integer type.params; results = map integer type.results }
+
+-- the type of a global, as bodies see it
+abbrev pub global_type : Global → GlobalType
+global_type global = record { kind = integer global.kind; mutable = global.mutable }
+
+-- how many memories or tables a body sees
+abbrev pub seen : Option ℕ → ℕ
+seen None = 0
+seen (Some number) = 1
+
+-- the types of the locals of a function of that type, parameters first
+abbrev pub all_locals : Signature → Function → List WasmType
+all_locals type function = map integer type.params ++ locals_of function.code
+
+-- the context of the body of a function of that type (section 3.1.1)
+abbrev pub context : Tree → Signature → Function → Context
+context tree type function = record {
+  types = map function_type tree.types;
+  functions = map (λ function. function.type_index) tree.functions;
+  globals = map global_type tree.globals;
+  tables = seen function.table;
+  memories = seen function.memory;
+  locals = all_locals type function;
+  results = map integer type.results;
+}
+
+-- ---- the parts
+
+-- immediates are numbers of their widths, since a number of a definition has no bound of its own
+abbrev pub HasImmediates : Instr → Type 0
+HasImmediates (I32Const n) = n < 2 ^ 32
+HasImmediates (I64Const n) = n < 2 ^ 64
+HasImmediates (Load kind argument) = argument.offset < 2 ^ 32
+HasImmediates (Store kind argument) = argument.offset < 2 ^ 32
+HasImmediates item = Unit {0}
+
+-- a function of the tree
+pub record IsFunction (tree : Tree) (function : Function) : Type 0 where
+  -- its type exists
+  pub type : Signature
+  pub exists : slice_get tree.types function.type_index ≡ Some type
+  -- its body has a typing
+  pub places : List (List WasmType)
+  pub typing : IsTyping (context tree type function) function.code.items places
+  pub immediates : All HasImmediates function.code.items
+  -- each parameter has one label
+  pub labels : length function.labels ≡ length type.params
+  -- parameters and locals together
+  pub room : length (all_locals type function) ≤ 4096
+  pub memory : IfSome function.memory (λ number. number < length tree.memories)
+  pub table : IfSome function.table (λ number. number < length tree.tables)
+
+-- a memory of the tree: its first pages with their bytes, and its reserve
+pub record IsMemory (memory : Memory) : Type 0 where
+  pub first : memory.pages ≤ memory.reserve
+  pub most : memory.reserve ≤ 256
+  pub size : length memory.bytes ≡ memory.pages * 65536
+  pub bytes : All (λ byte. byte < 2 ^ 8) memory.bytes
+
+-- a slot is empty, or its function exists
+abbrev pub IsSlot : Tree → Option ℕ → Type 0
+IsSlot tree slot = IfSome slot (λ function. function < length tree.functions)
+
+-- ---- the whole
+
+pub record IsLinked (tree : Tree) : Type 0 where
+  -- no type has more than one result
+  pub types : All (λ type. length type.results ≤ 1) tree.types
+  pub functions : All (IsFunction tree) tree.functions
+  pub globals : All (λ global. ArgumentFits global.kind global.first) tree.globals
+  pub memories : All IsMemory tree.memories
+  pub tables : All (All (IsSlot tree)) tree.tables
+  -- exported functions exist, by names of their own
+  pub exports : All (λ pair. pair.1 < length tree.functions) tree.exports
+  pub distinct : AreDistinct tree.exports
+  pub function_count : length tree.functions ≤ 80000
+  pub memory_count : length tree.memories ≤ 8
+  pub global_count : length tree.globals < 2 ^ 29
+  -- all reserves together
+  pub reserves : sum_by (λ memory. memory.reserve) tree.memories ≤ 1024

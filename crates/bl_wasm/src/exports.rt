@@ -1,0 +1,59 @@
+//! The names of exported functions.
+ghost use Rattle.std.specs.Prelude.{◌≡◌, [], ◌∷◌, ◌++◌, None, OnOk, OnErr, length, string_bytes};
+ghost use Rattle.bl_wasm.specs.Exports.{number_of};
+
+use bl_base::NoMemory;
+use indexmap::IndexMap;
+use std::alloc::Global;
+use std::marker::Model;
+
+/// The exported functions by their names, in order. Contracts see the list of the pairs of a name and the function's
+/// number.
+#[derive(Drop)]
+pub struct Exports {
+    map: IndexMap<String, u32>,
+}
+
+impl Model for Exports {
+    ghost use Rattle.bl_wasm.specs.Exports.{Pairs, pairs_of};
+
+    ghost Value = { Pairs };
+
+    ghost view = { λ e. pairs_of e.map.entries };
+}
+
+#[tactic(auto, using(crate::proofs::ExportLemmas::export_rules))]
+impl Exports {
+    /// No names; takes no memory.
+    pub fn new(alloc: Global) -> Exports
+        ensures { result ≡ [] }
+    {
+        Exports {
+            map: IndexMap::new(alloc),
+        }
+    }
+
+    /// The number of names.
+    pub fn len(&self) -> usize
+        ensures { result ≡ length self.now }
+    {
+        self.map.len()
+    }
+
+    /// The number of the function of that name; None exactly where no pair has the name. Takes no memory.
+    pub fn find(&self, name: &str) -> Option<u32>
+        ensures { result ≡ number_of name.now self.now }
+    {
+        self.map.get(name).copied()
+    }
+
+    /// Adds a name that isn't there. A refusal leaves the names as they were.
+    pub fn add(&mut self, name: String, function: u32) -> Result<(), NoMemory>
+        requires { number_of (string_bytes name) self.old ≡ None }
+        ensures ok { OnOk result (self.new ≡ self.old ++ (string_bytes name, function) ∷ []) }
+        ensures err { OnErr result (self.new ≡ self.old) }
+    {
+        self.map.insert(name, function)?;
+        Ok(())
+    }
+}
