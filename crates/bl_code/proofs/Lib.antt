@@ -2,6 +2,7 @@ pub mod Immediates
 pub mod Instructions
 pub mod Limits
 pub mod Nesting
+pub mod Numbers
 pub mod Places
 pub mod Shapes
 pub mod Sizes

@@ -1,11 +1,12 @@
 //! Instructions (WebAssembly 1.0, section 5.4).
 ghost use Rattle.std.specs.Prelude.{◌≡◌, ◌≤◌, ℕ, List as Listed, [], ◌∷◌, Option, length, IfSome, IfNone};
+ghost use Rattle.bl_ops.specs.Access.{code_of as access_code};
 ghost use Rattle.bl_wasm.specs.Codes.{float_access_code, sign_extension_code};
 ghost use Rattle.bl_wasm.specs.Types.{block_type};
 ghost use Rattle.bl_wasm.specs.Values.{u32};
 ghost use Rattle.bl_wasm.specs.Instructions.{instruction, memory_argument};
 ghost use Rattle.bl_code.specs.Reading.{Reads, behind};
-ghost use Rattle.bl_code.specs.Shapes.{shape_of, Bare, IsNumeric, IsTypedCode, IsIndexedCode, IsAccessCode, IsZeroCode, IsOtherCode};
+ghost use Rattle.bl_code.specs.Shapes.{IsTypedCode, IsIndexedCode, IsAccessCode, IsZeroCode, IsOtherCode, IsNumericCode};
 ghost use Rattle.bl_wasm.specs.declared.instruction.Instr.{Instr};
 ghost use Rattle.bl_wasm.specs.declared.types.WasmType.{WasmType};
 
@@ -161,27 +162,31 @@ fn read_access(code: u8, bytes: &[u8], at: usize) -> Result<(Instr, usize), Code
     ensures { Reads (behind instruction code) bytes.now at result }
 {
     let (argument, place) = read_memory_argument(bytes, at)?;
-    match access(code, argument) {
-        Some(instruction) => Ok((instruction, place)),
+    if let Some(kind) = AccessKind::by_code(code) {
+        return Ok((access(kind, argument), place));
+    }
+    match float_access(code) {
+        Some(kind) => Ok((access_float(kind, argument), place)),
         None => Err(CodeError::Malformed),
     }
 }
 
-/// The load or store of that code; None where the byte is the code of none.
-fn access(code: u8, argument: MemoryArgument) -> Option<Instr>
-    requires { IsAccessCode code }
-    ensures found { IfSome result (λ x. (rest : Listed ℕ) → memory_argument argument rest → instruction x (code ∷ rest)) }
-    ensures none { IfNone result ((x : Instr) (rest : Listed ℕ) → instruction x (code ∷ rest) → ⊥) }
+/// The load or store of that kind.
+fn access(kind: AccessKind, argument: MemoryArgument) -> Instr
+    ensures { (rest : Listed ℕ) → memory_argument argument rest → instruction result (access_code kind ∷ rest) }
 {
-    if let Some(kind) = float_access(code) {
-        return Some(Instr::FloatAccess { kind, argument });
-    }
-    let kind = AccessKind::by_code(code)?;
     if kind.is_load() {
-        Some(Instr::Load { kind, argument })
+        Instr::Load { kind, argument }
     } else {
-        Some(Instr::Store { kind, argument })
+        Instr::Store { kind, argument }
     }
+}
+
+/// The load or store of a float of that kind.
+fn access_float(kind: FloatAccess, argument: MemoryArgument) -> Instr
+    ensures { (rest : Listed ℕ) → memory_argument argument rest → instruction result (float_access_code kind ∷ rest) }
+{
+    Instr::FloatAccess { kind, argument }
 }
 
 /// The load or store of a float of that code; None where the byte is the code of none.
@@ -257,42 +262,34 @@ fn read_bare(code: u8, bytes: &[u8], at: usize) -> Result<(Instr, usize), CodeEr
     requires code { IsOtherCode code }
     ensures { Reads (behind instruction code) bytes.now at result }
 {
-    match bare(code) {
-        Some(instruction) => Ok((instruction, at)),
+    match code {
+        0x00 => Ok((Instr::Unreachable, at)),
+        0x01 => Ok((Instr::Nop, at)),
+        0x05 => Ok((Instr::Else, at)),
+        0x0B => Ok((Instr::End, at)),
+        0x0F => Ok((Instr::Return, at)),
+        0x1A => Ok((Instr::Drop, at)),
+        0x1B => Ok((Instr::Select, at)),
+        _ => read_numeric(code, bytes, at),
+    }
+}
+
+/// Gives the numeric instruction of a code without immediates (section 5.4.5).
+fn read_numeric(code: u8, bytes: &[u8], at: usize) -> Result<(Instr, usize), CodeError>
+    requires within { at ≤ length bytes.now }
+    requires code { IsNumericCode code }
+    ensures { Reads (behind instruction code) bytes.now at result }
+{
+    if let Some(op) = bl_ops::by_code(code) {
+        return Ok((Instr::Integer(op), at));
+    }
+    if let Some(op) = FloatOp::by_code(code) {
+        return Ok((Instr::Float(op), at));
+    }
+    match extension(code) {
+        Some(op) => Ok((Instr::Extend(op), at)),
         None => Err(CodeError::Malformed),
     }
-}
-
-/// The instruction of that code that has nothing behind it; None where there is none.
-fn bare(code: u8) -> Option<Instr>
-    ensures found { IfSome result (λ x. instruction x (code ∷ [])) }
-    ensures none { IfNone result ((x : Instr) → shape_of x ≡ Bare → instruction x (code ∷ []) → ⊥) }
-{
-    match code {
-        0x00 => Some(Instr::Unreachable),
-        0x01 => Some(Instr::Nop),
-        0x05 => Some(Instr::Else),
-        0x0B => Some(Instr::End),
-        0x0F => Some(Instr::Return),
-        0x1A => Some(Instr::Drop),
-        0x1B => Some(Instr::Select),
-        _ => numeric(code),
-    }
-}
-
-/// The numeric instruction of that code without immediates (section 5.4.5); None where there is none.
-fn numeric(code: u8) -> Option<Instr>
-    ensures found { IfSome result (λ x. instruction x (code ∷ [])) }
-    ensures none { IfNone result ((x : Instr) → IsNumeric x → instruction x (code ∷ []) → ⊥) }
-{
-    if let Some(op) = extension(code) {
-        return Some(Instr::Extend(op));
-    }
-    if let Some(op) = bl_ops::by_code(code) {
-        return Some(Instr::Integer(op));
-    }
-    let op = FloatOp::by_code(code)?;
-    Some(Instr::Float(op))
 }
 
 /// The extension by sign of that code (version 2.0, section 5.4.7); None where the byte is the code of none.

@@ -23,6 +23,17 @@ pub fn read_u32(bytes: &[u8], at: usize) -> Result<(u32, usize), CodeError>
     requires { at ≤ length bytes.now }
     ensures { Reads u32 bytes.now at result }
 {
+    match bytes.get(at) {
+        Some(byte) if *byte < 0x80 => Ok((u32::from(*byte), at + 1)),
+        _ => read_any_u32(bytes, at),
+    }
+}
+
+/// Reads an unsigned number of 32 bits of any spelling.
+fn read_any_u32(bytes: &[u8], at: usize) -> Result<(u32, usize), CodeError>
+    requires { at ≤ length bytes.now }
+    ensures { Reads u32 bytes.now at result }
+{
     match bl_leb::read_u32(bytes, at) {
         Some(found) => Ok(found),
         None => Err(CodeError::Malformed),
@@ -34,6 +45,17 @@ pub fn read_i32(bytes: &[u8], at: usize) -> Result<(u32, usize), CodeError>
     requires { at ≤ length bytes.now }
     ensures { Reads (int 32) bytes.now at result }
 {
+    match bytes.get(at) {
+        Some(byte) if *byte < 0x40 => Ok((u32::from(*byte), at + 1)),
+        _ => read_any_i32(bytes, at),
+    }
+}
+
+/// Reads a number of 32 bits of any spelling as a signed one.
+fn read_any_i32(bytes: &[u8], at: usize) -> Result<(u32, usize), CodeError>
+    requires { at ≤ length bytes.now }
+    ensures { Reads (int 32) bytes.now at result }
+{
     match bl_leb::read_i32(bytes, at) {
         Some((number, place)) => Ok((number.cast_unsigned(), place)),
         None => Err(CodeError::Malformed),
@@ -42,6 +64,17 @@ pub fn read_i32(bytes: &[u8], at: usize) -> Result<(u32, usize), CodeError>
 
 /// Reads a number of 64 bits that is spelled as a signed one (section 5.2.2); gives the unsigned one with its bits.
 pub fn read_i64(bytes: &[u8], at: usize) -> Result<(u64, usize), CodeError>
+    requires { at ≤ length bytes.now }
+    ensures { Reads (int 64) bytes.now at result }
+{
+    match bytes.get(at) {
+        Some(byte) if *byte < 0x40 => Ok((u64::from(*byte), at + 1)),
+        _ => read_any_i64(bytes, at),
+    }
+}
+
+/// Reads a number of 64 bits of any spelling as a signed one.
+fn read_any_i64(bytes: &[u8], at: usize) -> Result<(u64, usize), CodeError>
     requires { at ≤ length bytes.now }
     ensures { Reads (int 64) bytes.now at result }
 {

@@ -1,5 +1,5 @@
 -- Laws of the limits.
-use Rattle.std.proofs.Common.{◌≡◌, ◌⊎◌, inl, inr, ℕ, ◌+◌, ◌<◌, List, [], ◌∷◌, length, drop, get_or, max, Option, Some, None, IsSome, refl, add-one, ap, sym, ◌∙◌, drop-cons, zero-add, arith}
+use Rattle.std.proofs.Common.{◌≡◌, ◌⊎◌, inl, inr, ℕ, suc, All, subst, ◌+◌, ◌<◌, List, [], ◌∷◌, length, drop, get_or, max, Option, Some, None, IsSome, refl, add-one, ap, sym, ◌∙◌, drop-cons, zero-add, arith}
 use Rattle.std.specs.List.{zip}
 use Rattle.std.specs.Option.{option_or}
 use Rattle.bl_wasm.specs.declared.instruction.Instr.{Instr}
@@ -20,3 +20,10 @@ none_in_zip found [] ys empty = refl
 none_in_zip found (x ∷ xs) [] empty = refl
 none_in_zip found (x ∷ xs) (y ∷ ys) (inl e) = cc
 none_in_zip found (x ∷ xs) (y ∷ ys) (inr e) = cc
+
+pub option_or_assoc : {A : Type 0} (a b c : Option A) → option_or (option_or a b) c ≡ option_or a (option_or b c)
+option_or_assoc (Some x) b c = refl
+option_or_assoc None b c = refl
+
+pub all_behind : {A : Type 0} (P : A → Type 0) (x : A) (xs ys : List A) → ys ≡ x ∷ xs → All P ys → All P xs
+all_behind P x xs ys e h k d less = let whole : All P (x ∷ xs) = subst (λ zs. All P zs) e h in whole (suc k) d (omega arith)

@@ -43,18 +43,6 @@ at_size bytes i j size first fits =
 pub whole_at : {A : Type 0} (B : A → Spellings) (bytes : List ℕ) (x : A) → B x bytes → IsAt B bytes 0 (length bytes) x
 whole_at B bytes x h = is_at B bytes 0 (length bytes) x (record { forward = omega arith; inside = omega arith; front = bytes; whole = sym (ap (λ t. bytes ++ t) (drop_all (length bytes) bytes (omega arith)) ∙ append-nil bytes); spelled = h })
 
-pub at_whole : {A : Type 0} (B : A → Spellings) (bytes : List ℕ) (end : ℕ) (x : A) → end ≡ length bytes → IsAt B bytes 0 end x → B x bytes
-at_whole B bytes end x all h =
-    let p = stands B bytes 0 end x h in
-    let whole : bytes ≡ p.front = p.whole ∙ ap (λ t. p.front ++ t) (drop_all end bytes (omega arith)) ∙ append-nil p.front in
-    subst (B x) (sym whole) p.spelled
-
--- nothing is all of the bytes where a spelling ends before
-pub none_whole : {A : Type 0} (B : A → Spellings) (bytes : List ℕ) (end : ℕ) (x : A) → IsOne B → IsAt B bytes 0 end x → end < length bytes → (y : A) → B y bytes → ⊥
-none_whole B bytes end x one h short y whole =
-    let same = (one_at bytes 0 end (length bytes) x y one h (whole_at B bytes y whole)).0 in
-    omega arith
-
 pub err_whole : {A : Type 0} (B : A → Spellings) (bytes : List ℕ) (e : CodeError) (r : Result A CodeError) → IsErrAnd r (λ y. y ≡ e) → Refuses B bytes 0 e → ReadsAll B bytes r
 err_whole B bytes e r gives h = let p = err_from_is_err_and r gives in rw (p.1, p.2) (refused e h)
   where

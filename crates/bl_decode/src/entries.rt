@@ -7,8 +7,7 @@ ghost use Rattle.bl_decode.specs.Laws.{function_type_one, table_type_one, global
 use crate::formats::{
     Byte, Bytes, Expressions, Memories, Mutabilities, Names, Then, ValueTypes, Vector,
 };
-use crate::sized::read_sized;
-use bl_code::{CodeError, Format, Index, read_byte};
+use bl_code::{CodeError, Format, Index, read_byte, read_sized};
 use bl_wasm::{
     Code, DataSegment, DefinedGlobal, ElementSegment, Export, ExportKind, FuncType, GlobalType,
     Import, ImportKind, Limits, LocalRun,

@@ -1,16 +1,18 @@
 //! Modules (WebAssembly 1.0, section 5.5.15).
-ghost use Rattle.std.specs.Prelude.{◌≡◌, ◌≤◌, ℕ, drop, length, List as Listed};
+ghost use Rattle.std.specs.Prelude.{◌≡◌, ◌≤◌, ◌<◌, ◌^◌, ℕ, All, IfNone, IfSome, drop, length, sum_by, List as Listed};
 ghost use Rattle.bl_wasm.specs.Modules.{Spells, sections};
 ghost use Rattle.bl_wasm.specs.declared.module.Module.{Module};
 ghost use Rattle.bl_decode.specs.Decoding.{Answers, AnswersOf};
+ghost use Rattle.bl_decode.specs.Limits.{first_excess};
+ghost use Rattle.bl_decode.specs.Supported.{IsSupported};
 ghost use Rattle.bl_decode.specs.Whole.{ReadsAll};
 
 use crate::chain::Tail;
 use crate::error::DecodeError;
-use crate::limits::first_excess;
+use crate::limits::{check_functions, first_excess};
 use crate::sections::Sections;
-use crate::supported::is_supported;
-use bl_base::List;
+use crate::supported::is_supported_outside;
+use bl_base::{List, Quantity};
 use bl_code::CodeError;
 use bl_wasm::Module;
 use std::alloc::Global;
@@ -59,6 +61,24 @@ fn read_module(alloc: Global, bytes: &[u8]) -> Result<Module, CodeError>
     Ok(tree)
 }
 
+/// The first quantity that the module exceeds, and its value, where it is supported; None where it isn't.
+fn check(tree: &Module) -> Option<Option<(Quantity, u64)>>
+    requires few { All (λ code. sum_by (λ run. run.count) code.locals < 2 ^ 32) tree.now.bodies }
+    requires even { length tree.now.functions ≡ length tree.now.bodies }
+    ensures found { IfSome result (λ excess. IsSupported tree.now × (excess ≡ first_excess tree.now)) }
+    ensures none { IfNone result (¬ IsSupported tree.now) }
+{
+    if !is_supported_outside(tree) {
+        return None;
+    }
+    let of_functions = check_functions(
+        tree.types.as_slice(),
+        tree.functions.as_slice(),
+        tree.bodies.as_slice(),
+    )?;
+    Some(first_excess(tree, of_functions))
+}
+
 /// Decodes the module that the bytes spell (WebAssembly 1.0, section 5), by every spelling of it.
 ///
 /// Malformed comes exactly where the bytes spell no module. Unsupported comes exactly where they spell one that has a
@@ -78,10 +98,10 @@ pub fn decode(alloc: Global, bytes: &[u8]) -> Result<Module, DecodeError>
         Err(CodeError::Malformed) => return Err(DecodeError::Malformed),
         Err(CodeError::Memory) => return Err(DecodeError::Memory),
     };
-    if !is_supported(&tree) {
+    let Some(excess) = check(&tree) else {
         return Err(DecodeError::Unsupported);
-    }
-    match first_excess(&tree) {
+    };
+    match excess {
         Some((which, value)) => Err(DecodeError::Limit { which, value }),
         None => Ok(tree),
     }

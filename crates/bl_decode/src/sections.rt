@@ -5,9 +5,9 @@ ghost use Rattle.bl_wasm.specs.Sections.{start_section, vec_section};
 use crate::chain::{Chain, End, Section};
 use crate::entries::{Codes, Elements, Exports, FunctionTypes, Globals, Imports, Segments, Tables};
 use crate::formats::{Memories, Vector};
-use crate::sized::{read_sized, stands_at};
+use crate::sized::stands_at;
 use bl_base::List;
-use bl_code::{CodeError, Format, Index};
+use bl_code::{CodeError, Format, Index, read_sized};
 use std::alloc::Global;
 use std::marker::PhantomData;
 

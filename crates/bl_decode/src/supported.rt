@@ -1,5 +1,5 @@
 //! Whether a tree is supported: no floats, no start function, no extension by sign.
-ghost use Rattle.std.specs.Prelude.{◌↔◌, All, IfSome, IsTrue};
+ghost use Rattle.std.specs.Prelude.{◌↔◌, All, IfSome, IsFalse, IsTrue};
 ghost use Rattle.bl_decode.specs.Supported.{IsInteger, IsIntegerCode, IsIntegerFunction, IsIntegerImport, IsIntegerInstr, IsSupported};
 
 use bl_wasm::{
@@ -94,17 +94,10 @@ fn are_integer_locals(runs: &[LocalRun]) -> bool
 
 /// Whether the code of a function is without floats.
 #[tactic(auto, unfolding(crate::specs::Supported::IsIntegerCode))]
-fn is_integer_code(code: &Code) -> bool
+pub(crate) fn is_integer_code(code: &Code) -> bool
     ensures { IsTrue result ↔ IsIntegerCode code.now }
 {
     are_integer_locals(code.locals.as_slice()) && are_integer_instrs(code.items.as_slice())
-}
-
-/// Whether the code of each function is without floats.
-fn are_integer_codes(bodies: &[Code]) -> bool
-    ensures { IsTrue result ↔ All IsIntegerCode bodies.now }
-{
-    bodies.iter().all(|code| is_integer_code(code))
 }
 
 /// Whether the globals are integers, with first values of integers.
@@ -134,9 +127,10 @@ fn are_integer_segments(segments: &[DataSegment]) -> bool
         .all(|segment| are_integer_instrs(segment.offset.as_slice()))
 }
 
-/// Whether the module is supported.
-pub(crate) fn is_supported(tree: &Module) -> bool
-    ensures { IsTrue result ↔ IsSupported tree.now }
+/// Whether the module is supported but for the code of its functions.
+pub(crate) fn is_supported_outside(tree: &Module) -> bool
+    ensures yes { IsTrue result → All IsIntegerCode tree.now.bodies → IsSupported tree.now }
+    ensures no { IsFalse result → ¬ IsSupported tree.now }
 {
     if tree.start.is_some() {
         return false;
@@ -151,9 +145,6 @@ pub(crate) fn is_supported(tree: &Module) -> bool
         return false;
     }
     if !are_integer_elements(tree.elements.as_slice()) {
-        return false;
-    }
-    if !are_integer_codes(tree.bodies.as_slice()) {
         return false;
     }
     are_integer_segments(tree.segments.as_slice())

@@ -5,26 +5,27 @@ use Rattle.bl_decode.specs.Limits.{first_excess}
 use Rattle.bl_decode.proofs.Trees.{one_spelled, few_locals}
 use Rattle.bl_decode.proofs.module.decode.Goals as goal
 
-pub returns-then-not-is_supported-clause-only : goal.returns-then-not-is_supported-clause-only
-returns-then-not-is_supported-clause-only c = λ tree h s.
+pub check-requires-clause-few : goal.check-requires-clause-few
+check-requires-clause-few c = few_locals c.args.bytes.now c.in-Ok.tree c.in-Ok.ensures
+
+pub returns-in_default-clause-only : goal.returns-in_default-clause-only
+returns-in_default-clause-only c = λ tree h s.
     let same = one_spelled c.args.bytes.now c.in-Ok.tree tree c.in-Ok.ensures h in
-    let yes = c.is_supported.ensures.1 (subst IsSupported (sym same) s) in
-    cc
+    c.in_default.ensures.none (subst IsSupported (sym same) s)
 
-pub first_excess-requires : goal.first_excess-requires
-first_excess-requires c = few_locals c.args.bytes.now c.in-Ok.tree c.in-Ok.ensures
-
-pub returns-in-Some-clause-only : goal.returns-in-Some-clause-only
-returns-in-Some-clause-only c = λ tree h.
-    let same = one_spelled c.args.bytes.now c.in-Ok.tree tree c.in-Ok.ensures h in (
-      subst IsSupported same (c.is_supported.ensures.0 c.if-not-is_supported.false),
-      subst (λ (t : Module). first_excess t ≡ Some (c.in-Some.which, c.in-Some.value)) same (sym c.first_excess.ensures ∙ c.in-Some.is),
+pub returns-in-Some-excess-clause-only : goal.returns-in-Some-excess-clause-only
+returns-in-Some-excess-clause-only c = λ tree h.
+    let same = one_spelled c.args.bytes.now c.in-Ok.tree tree c.in-Ok.ensures h in
+    let found = c.in-Some.ensures.found in (
+      subst IsSupported same found.0,
+      subst (λ (t : Module). first_excess t ≡ Some (c.in-Some-excess.which, c.in-Some-excess.value)) same (sym found.1 ∙ c.in-Some-excess.is),
     )
 
 pub returns-in-None-clause-only : goal.returns-in-None-clause-only
 returns-in-None-clause-only c = λ tree h.
-    let same = one_spelled c.args.bytes.now c.in-Ok.tree tree c.in-Ok.ensures h in (
+    let same = one_spelled c.args.bytes.now c.in-Ok.tree tree c.in-Ok.ensures h in
+    let found = c.in-Some.ensures.found in (
       same,
-      subst IsSupported same (c.is_supported.ensures.0 c.if-not-is_supported.false),
-      subst (λ (t : Module). first_excess t ≡ None) same (sym c.first_excess.ensures ∙ c.in-None.is),
+      subst IsSupported same found.0,
+      subst (λ (t : Module). first_excess t ≡ None) same (sym found.1 ∙ c.in-None.is),
     )
