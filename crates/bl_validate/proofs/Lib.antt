@@ -1,4 +1,5 @@
 pub mod Constructs
+pub mod Counts
 pub mod Labels
 pub mod Moves
 pub mod NestedLemmas

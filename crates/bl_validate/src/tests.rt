@@ -792,6 +792,7 @@ fn module_of(alloc: Global, parts: &Parts, bodies: &[&[u8]]) -> Result<Module, F
 }
 
 /// Whether the module has few functions.
+#[tactic(auto, using(crate::proofs::Counts::functions_at_most))]
 fn is_small(tree: &Module) -> bool
     ensures { IsTrue result → length (functions_of tree.now) < 2 ^ 32 }
 {
