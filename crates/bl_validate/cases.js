@@ -1,26 +1,108 @@
-const vec = a => [a.length, ...a.flat()];
-const sec = (id, c) => c === null ? [] : [id, ...len(c.length), ...c];
-const len = n => n < 128 ? [n] : [(n & 127) | 128, n >> 7];
-const str = s => [s.length, ...Buffer.from(s)];
-const hex = s => s.trim() ? s.trim().split(/\s+/).map(x => parseInt(x, 16)) : [];
-// the module round a body
-function mod(body, o = {}) {
-  const types = o.types || [[0x60,0,0],[0x60,1,0x7f,1,0x7f],[0x60,2,0x7f,0x7e,1,0x7e],[0x60,0,1,0x7f]];
-  const code = [...vec(o.locals || [[1,0x7e]]), ...hex(body), 0x0b];
-  return Uint8Array.from([0,0x61,0x73,0x6d,1,0,0,0,
-    ...sec(1, vec(types)),
-    ...sec(2, vec(o.imports || [[...str("m"),...str("f"),0,1],[...str("m"),...str("g"),3,0x7f,0]])),
-    ...sec(3, vec(o.functions || [[1]])),
-    ...sec(4, vec(o.tables || [[0x70,0,1]])),
-    ...sec(5, vec(o.memories || [[0,1]])),
-    ...sec(6, vec(o.globals || [[0x7e,1,0x42,0,0x0b]])),
-    ...sec(7, vec(o.exports || [[...str("f"),0,1]])),
-    ...(o.start ? sec(8, o.start) : []),
-    ...sec(9, vec(o.elements || [[0,0x41,0,0x0b,1,1]])),
-    ...sec(10, vec([[...len(code.length), ...code]])),
-    ...sec(11, vec(o.segments || [[0,0x41,0,0x0b,0]])),
+// Cases for src/tests.rt, judged by node's WebAssembly: `node cases.js` prints the two tables of that file. Each case is a
+// module in short, which is written in the binary format for node, and as a value for the table.
+//
+// Where this profile differs from node's later version, a case has the profile's answer and says why.
+const types = { I32: 0x7f, I64: 0x7e, F32: 0x7d, F64: 0x7c };
+
+// ---- the binary format
+const number = n => (n < 128 ? [n] : [(n & 127) | 128, ...number(n >>> 7)]);
+const vector = items => [...number(items.length), ...items.flat()];
+const section = (id, items) => (items.length ? [id, ...number(vector(items).length), ...vector(items)] : []);
+const text = name => vector([...Buffer.from(name)]);
+const code = hex => (hex.trim() ? hex.trim().split(/\s+/).map(x => parseInt(x, 16)) : []);
+const limits = ([min, max]) => (max === null ? [0, ...number(min)] : [1, ...number(min), ...number(max)]);
+const global = ([kind, mutable]) => [types[kind], mutable ? 1 : 0];
+const kinds = { Function: 0, Table: 1, Memory: 2, Global: 3 };
+const imported = {
+  Function: index => number(index),
+  Table: these => [0x70, ...limits(these)],
+  Memory: limits,
+  Global: global,
+};
+
+function binary(m) {
+  return Uint8Array.from([
+    0, 0x61, 0x73, 0x6d, 1, 0, 0, 0,
+    ...section(1, m.types.map(([p, r]) => [0x60, ...vector(p.map(t => types[t])), ...vector(r.map(t => types[t]))])),
+    ...section(2, m.imports.map(([kind, value]) => [...text("m"), ...text("x"), kinds[kind], ...imported[kind](value)])),
+    ...section(3, m.functions.map(number)),
+    ...section(4, m.tables.map(t => [0x70, ...limits(t)])),
+    ...section(5, m.memories.map(limits)),
+    ...section(6, m.globals.map(([type, first]) => [...global(type), ...code(first), 0x0b])),
+    ...section(7, m.exports.map(([name, kind, index]) => [...text(name), kinds[kind], ...number(index)])),
+    ...(m.start === null ? [] : [8, number(m.start).length, ...number(m.start)]),
+    ...section(9, m.elements.map(([table, offset, fs]) => table === 0
+      ? [0, ...code(offset), 0x0b, ...vector(fs.map(number))]
+      : [2, ...number(table), ...code(offset), 0x0b, 0, ...vector(fs.map(number))])),
+    ...section(10, m.bodies.map(body => {
+      const all = [...vector(m.locals.map(([count, kind]) => [...number(count), types[kind]])), ...code(body), 0x0b];
+      return [...number(all.length), ...all];
+    })),
+    ...section(11, m.segments.map(([memory, offset]) => memory === 0
+      ? [0, ...code(offset), 0x0b, 0]
+      : [2, ...number(memory), ...code(offset), 0x0b, 0])),
   ]);
 }
+
+// what node says: that it is valid, which function isn't, or that another rule is broken
+function judged(m) {
+  try {
+    new WebAssembly.Module(binary(m));
+    return "None";
+  } catch (error) {
+    const found = /function #(\d+)/.exec(error.message);
+    return found ? `Some(Invalid::Function(${found[1]}))` : "RULE";
+  }
+}
+
+// ---- the values of src/tests.rt
+const list = items => `&[${items.join(", ")}]`;
+const bytes = hex => list(code(hex).map(x => "0x" + x.toString(16).toUpperCase().padStart(2, "0")));
+const option = n => (n === null ? "None" : `Some(${n})`);
+const limit = ([min, max]) => `(${min}, ${option(max)})`;
+const importing = {
+  Function: String,
+  Table: ([min, max]) => `Limits { min: ${min}, max: ${option(max)} }`,
+  Memory: ([min, max]) => `Limits { min: ${min}, max: ${option(max)} }`,
+  Global: ([kind, mutable]) => `GlobalType { kind: ${kind}, mutable: ${mutable} }`,
+};
+const value = {
+  types: ([p, r]) => `(${list(p)}, ${list(r)})`,
+  imports: one => (one === fn ? "FUNCTION" : one === constant ? "CONSTANT" : `ImportKind::${one[0]}(${importing[one[0]](one[1])})`),
+  functions: String,
+  tables: limit,
+  memories: limit,
+  globals: ([[kind, mutable], first]) => `(${kind}, ${mutable}, ${bytes(first)})`,
+  exports: ([name, kind, index]) => `(b"${name}", ExportKind::${kind}, ${index})`,
+  elements: ([table, offset, fs]) => `(${table}, ${bytes(offset)}, ${list(fs)})`,
+  segments: ([memory, offset]) => `(${memory}, ${bytes(offset)})`,
+  locals: ([count, kind]) => `(${count}, ${kind})`,
+  bodies: bytes,
+};
+const field = ([name, v]) => name === "start" ? `start: ${option(v)}` : `${name}: ${list(v.map(value[name]))}`;
+const fields = m => Object.entries(m).map(field);
+
+// ---- the module round a body: it takes an i32, has a local of i64 and gives an i32
+const one = [1, null];
+const fn = ["Function", 1], constant = ["Global", ["I32", false]];
+const variable = [["I64", true], "42 00"];
+const base = {
+  types: [[[], []], [["I32"], ["I32"]], [["I32", "I64"], ["I64"]], [[], ["I32"]]],
+  imports: [fn, constant],
+  functions: [1],
+  tables: [one],
+  memories: [one],
+  globals: [variable],
+  exports: [],
+  start: null,
+  elements: [],
+  segments: [],
+  locals: [[1, "I64"]],
+  bodies: ["20 00"],
+};
+const bare = { types: [[[], []]], imports: [], functions: [0], tables: [], memories: [], globals: [], locals: [], bodies: [""] };
+
+// ---- bodies
 const bodies = [
  ["20 00","the parameter"],["","no operand for the result"],["6A 20 00","i32.add without operands"],["20 00 20 00","one operand too many"],
  ["00","unreachable"],["00 6A","code behind unreachable: i32.add"],["00 42 00 6A","i64 for i32 behind unreachable"],["00 42 00","an i64 result behind unreachable"],
@@ -48,53 +130,123 @@ const bodies = [
  ["20 00 41 01 36 02 00 20 00","i32.store"],["20 00 41 01 36 03 00 20 00","i32.store aligned too much"],["20 00 42 01 36 02 00 20 00","i32.store of an i64"],["20 00 42 01 3D 01 00 20 00","i64.store16"],["20 00 42 01 3D 02 00 20 00","i64.store16 aligned too much"],
  ["3F 00","memory.size"],["20 00 40 00","memory.grow"],["40 00","memory.grow without operand"],["20 01 40 00","memory.grow of an i64"],
  ["42 01","i64.const for i32"],["20 00 45","i32.eqz"],["20 01 50","i64.eqz"],["20 01 45","i32.eqz of an i64"],["20 01 20 01 7C A7","i64.add"],["20 01 20 00 7C A7","i64.add of an i32"],["20 00 AD A7","i64.extend_i32_u"],["20 00 67","i32.clz"],
+ ["05 20 00","else without if"],["20 00 04 40 05 05 0B 20 00","a second else"],["02 40 05 0B 20 00","else in a block"],["20 00 0B 20 00","an end too many"],["02 7F 20 00","a block that isn't closed"],
+ ["03 40 41 00 0C 00 0B 20 00","a branch to a loop leaves operands"],["03 7F 41 00 20 00 0D 00 0B","br_if to a loop keeps its operand"],["02 40 00 04 7F 41 01 05 42 01 0B 1A 0B 20 00","else part of i64 behind unreachable"],
+ ["05 20 00","else without if"],["20 00 04 40 05 05 0B 20 00","a second else"],["02 40 05 0B 20 00","else in a block"],["20 00 0B 20 00","an end too many"],["02 7F 20 00","a block that isn't closed"],
+ ["03 40 41 00 0C 00 0B 20 00","a branch to a loop leaves operands"],["03 7F 41 00 20 00 0D 00 0B","br_if to a loop keeps its operand"],["02 40 00 04 7F 41 01 05 42 01 0B 1A 0B 20 00","else part of i64 behind unreachable"],
+ ["05 20 00","else without if"],["20 00 04 40 05 05 0B 20 00","a second else"],["02 40 05 0B 20 00","else in a block"],["20 00 0B 20 00","an end too many"],["02 7F 20 00","a block that isn't closed"],
+ ["03 40 41 00 0C 00 0B 20 00","a branch to a loop leaves operands"],["03 7F 41 00 20 00 0D 00 0B","br_if to a loop keeps its operand"],["02 40 00 04 7F 41 01 05 42 01 0B 1A 0B 20 00","else part of i64 behind unreachable"],
 ];
-let out = [];
-for (const [b, n] of bodies) {
-  let ok = false; try { ok = WebAssembly.validate(mod(b)); } catch (e) {}
-  out.push([b, n, ok]);
+
+const few = [[[], []], [["I32"], ["I32"]]];
+
+// ---- modules: the parts that differ from the module above, and the profile's answer where it isn't node's
+const modules = [
+  ["as it is", {}],
+  // types; the profile has no floats, and at most one result, as version 1.0
+  ["an f32 parameter", { types: [...few, [["F32"], []]] }, "RULE"],
+  ["an f64 result", { types: [...few, [[], ["F64"]]] }, "RULE"],
+  ["two results", { types: [...few, [[], ["I32", "I32"]]] }, "RULE"],
+  ["two results of the function, with a typing", { ...bare, types: [[[], ["I32", "I32"]]], bodies: ["41 00 41 00"] }, "RULE"],
+  ["no types", { types: [], imports: [constant], functions: [], bodies: [] }],
+  // functions; version 1.0 types a function only where its type exists
+  ["an import's type doesn't exist", { imports: [["Function", 4], constant] }],
+  ["a function's type doesn't exist", { functions: [4] }, "Some(Invalid::Function(1))"],
+  ["a function without code", { functions: [1, 1] }, "Some(Invalid::Function(2))"],
+  ["a code without function", { bodies: ["20 00", "20 00"] }],
+  ["a body without operands", { ...bare, bodies: ["6A"] }],
+  ["that body behind an import", { ...bare, imports: [["Function", 0]], bodies: ["6A"] }],
+  ["that body behind unreachable", { ...bare, bodies: ["00 6A 1A"] }],
+  ["two such bodies", { functions: [1, 1, 1], bodies: ["20 00", "6A", "6A"] }],
+  ["that body and a second memory", { memories: [one, one], bodies: ["6A"] }, "Some(Invalid::Function(1))"],
+  ["a type of two results beside that body", { types: [...few, [[], ["I32", "I32"]]], bodies: ["6A"] }],
+  // code; floats again
+  ["a local of f32", { locals: [[1, "F32"]] }, "RULE"],
+  ["locals in several runs", { locals: [[2, "I32"], [0, "I64"], [1, "I64"]], bodies: ["20 03 A7 20 02 6A"] }],
+  ["a block of f32", { bodies: ["02 7D 00 0B 1A 20 00"] }, "RULE"],
+  ["no memory for a load", { memories: [], bodies: ["20 00 28 02 00"] }],
+  ["no memory for a store", { memories: [], bodies: ["20 00 20 00 36 02 00 20 00"] }],
+  ["no memory for memory.size", { memories: [], bodies: ["3F 00"] }],
+  ["no memory for memory.grow", { memories: [], bodies: ["20 00 40 00"] }],
+  ["an imported memory", { imports: [fn, constant, ["Memory", one]], memories: [], bodies: ["20 00 28 02 00"] }],
+  ["no table for call_indirect", { tables: [], bodies: ["20 00 20 00 11 01 00"] }],
+  ["an imported table", { imports: [fn, constant, ["Table", one]], tables: [], bodies: ["20 00 20 00 11 01 00"] }],
+  ["global.set of an imported variable", { imports: [fn, ["Global", ["I32", true]]], bodies: ["20 00 24 00 20 00"] }],
+  // tables and memories; version 1.0 has one table
+  ["a second table", { tables: [one, one] }, "RULE"],
+  ["an imported table beside one", { imports: [fn, constant, ["Table", one]] }, "RULE"],
+  ["a second memory", { memories: [one, one] }],
+  ["an imported memory beside one", { imports: [fn, constant, ["Memory", one]] }],
+  ["a table's minimum above its maximum", { tables: [[2, 1]] }],
+  ["a table's minimum at its maximum", { tables: [[2, 2]] }],
+  ["an imported table's minimum above its maximum", { imports: [fn, constant, ["Table", [2, 1]]], tables: [] }],
+  ["a memory's minimum above its maximum", { memories: [[2, 1]] }],
+  ["a memory's minimum at its maximum", { memories: [[2, 2]] }],
+  ["a memory's minimum of 65,536", { memories: [[65536, null]] }],
+  ["a memory's minimum of 65,537", { memories: [[65537, null]] }],
+  ["a memory's maximum of 65,536", { memories: [[1, 65536]] }],
+  ["a memory's maximum of 65,537", { memories: [[1, 65537]] }],
+  ["an imported memory's maximum of 65,537", { imports: [fn, constant, ["Memory", [1, 65537]]], memories: [] }],
+  // globals; the profile has no floats
+  ["an imported global of f64", { imports: [fn, constant, ["Global", ["F64", false]]] }, "RULE"],
+  ["a global of another type than its constant", { globals: [[["I64", true], "41 00"]] }],
+  ["a global without first value", { globals: [[["I64", true], ""]] }],
+  ["a global of two constants", { globals: [[["I64", true], "42 00 42 00"]] }],
+  ["a global of a size", { globals: [[["I32", true], "3F 00"]] }],
+  ["a global of an imported one", { globals: [variable, [["I32", false], "23 00"]] }],
+  ["a global of an imported one of another type", { globals: [variable, [["I64", false], "23 00"]] }],
+  ["a global of an imported variable", { imports: [fn, ["Global", ["I32", true]]], globals: [[["I32", false], "23 00"]] }],
+  ["a global of a variable that is defined", { globals: [variable, [["I64", false], "23 01"]] }],
+  ["a global of a constant that is defined", { globals: [[["I32", false], "41 00"], [["I32", false], "23 01"]] }],
+  ["a global of none", { globals: [variable, [["I32", false], "23 07"]] }],
+  // segments
+  ["a segment", { elements: [[0, "41 00", [1, 0]]] }],
+  ["a segment without functions", { elements: [[0, "41 00", []]] }],
+  ["a segment of no table", { elements: [[1, "41 00", [1]]] }],
+  ["a segment where there is no table", { tables: [], elements: [[0, "41 00", [1]]] }],
+  ["a segment of no function", { elements: [[0, "41 00", [1, 2]]] }],
+  ["a segment at an i64", { elements: [[0, "42 00", [1]]] }],
+  ["a segment at an imported global", { elements: [[0, "23 00", [1]]] }],
+  // node takes imported ones alone; version 1.0 takes any constant of i32
+  ["a segment at a constant that is defined", { globals: [[["I32", false], "41 00"]], elements: [[0, "23 01", [1]]] }, "None"],
+  ["a segment at a variable", { elements: [[0, "23 01", [1]]] }],
+  ["a segment at nothing", { elements: [[0, "", [1]]] }],
+  ["data", { segments: [[0, "41 00"]] }],
+  ["data of no memory", { segments: [[1, "41 00"]] }],
+  ["data where there is no memory", { memories: [], segments: [[0, "41 00"]] }],
+  ["data at an i64", { segments: [[0, "42 00"]] }],
+  ["data at an imported global", { segments: [[0, "23 00"]] }],
+  ["data at an imported global of i64", { imports: [fn, ["Global", ["I64", false]]], segments: [[0, "23 00"]] }],
+  ["data at a constant that is defined", { globals: [[["I32", false], "41 00"]], segments: [[0, "23 01"]] }, "None"],
+  ["data at a variable", { segments: [[0, "23 01"]] }],
+  ["data at no global", { segments: [[0, "23 07"]] }],
+  ["data at nothing", { segments: [[0, ""]] }],
+  ["data at two constants", { segments: [[0, "41 00 41 00"]] }],
+  // exports
+  ["exports of each kind", { exports: [["f", "Function", 1], ["t", "Table", 0], ["m", "Memory", 0], ["g", "Global", 1]] }],
+  ["exports of what is imported", { exports: [["f", "Function", 0], ["g", "Global", 0]] }],
+  ["one function by two names", { exports: [["f", "Function", 1], ["g", "Function", 1]] }],
+  ["an export of no function", { exports: [["f", "Function", 2]] }],
+  ["an export of no table", { exports: [["f", "Table", 1]] }],
+  ["an export of no memory", { exports: [["f", "Memory", 1]] }],
+  ["an export of no global", { exports: [["f", "Global", 2]] }],
+  ["two exports of one name", { exports: [["f", "Function", 1], ["m", "Memory", 0], ["f", "Memory", 0]] }],
+  ["an export without a name", { exports: [["", "Function", 1]] }],
+  // the profile has no start function
+  ["a start function", { functions: [1, 0], bodies: ["20 00", ""], start: 2 }, "RULE"],
+  ["a start function with a parameter", { start: 1 }],
+];
+
+const lines = [];
+for (const [hex, name] of bodies) {
+  const answer = judged({ ...base, bodies: [hex] });
+  lines.push(`    // ${name}`, `    (${bytes(hex)}, ${answer === "None"}),`);
 }
-const mods = [
- ["as it is", {}],
- ["an f32 parameter", {types:[[0x60,0,0],[0x60,1,0x7f,1,0x7f],[0x60,1,0x7d,0],[0x60,0,1,0x7f]]}],
- ["an import's type doesn't exist", {imports:[[...str("m"),...str("f"),0,4],[...str("m"),...str("g"),3,0x7f,0]]}],
- ["a function's type doesn't exist", {functions:[[4]]}],
- ["a second table", {tables:[[0x70,0,1],[0x70,0,1]]}],
- ["an imported table beside one", {imports:[[...str("m"),...str("f"),0,1],[...str("m"),...str("g"),3,0x7f,0],[...str("m"),...str("t"),1,0x70,0,1]]}],
- ["a second memory", {memories:[[0,1],[0,1]]}],
- ["an imported memory beside one", {imports:[[...str("m"),...str("f"),0,1],[...str("m"),...str("g"),3,0x7f,0],[...str("m"),...str("t"),2,0,1]]}],
- ["a table's minimum above its maximum", {tables:[[0x70,1,2,1]]}],
- ["a table's minimum at its maximum", {tables:[[0x70,1,2,2]]}],
- ["a memory's minimum above its maximum", {memories:[[1,2,1]]}],
- ["a memory's minimum of 65,536", {memories:[[0,0x80,0x80,4]]}],
- ["a memory's minimum of 65,537", {memories:[[0,0x81,0x80,4]]}],
- ["a memory's maximum of 65,536", {memories:[[1,1,0x80,0x80,4]]}],
- ["a memory's maximum of 65,537", {memories:[[1,1,0x81,0x80,4]]}],
- ["a global of another type than its constant", {globals:[[0x7e,1,0x41,0,0x0b]]}],
- ["a global without first value", {globals:[[0x7e,1,0x0b]]}],
- ["a global of two constants", {globals:[[0x7e,1,0x42,0,0x42,0,0x0b]]}],
- ["a global of an imported one", {globals:[[0x7e,1,0x42,0,0x0b],[0x7f,0,0x23,0,0x0b]]}],
- ["a global of an imported one of another type", {globals:[[0x7e,1,0x42,0,0x0b],[0x7e,0,0x23,0,0x0b]]}],
- ["a global of a mutable one", {globals:[[0x7e,1,0x42,0,0x0b],[0x7e,0,0x23,1,0x0b]]}],
- ["a global of none", {globals:[[0x7e,1,0x42,0,0x0b],[0x7f,0,0x23,7,0x0b]]}],
- ["a segment of no table", {elements:[[1,0x41,0,0x0b,1,1]]}],
- ["a segment of no function", {elements:[[0,0x41,0,0x0b,1,2]]}],
- ["a segment at an i64", {elements:[[0,0x42,0,0x0b,1,1]]}],
- ["a segment at an imported global", {elements:[[0,0x23,0,0x0b,1,1]]}],
- ["a segment at a mutable global", {elements:[[0,0x23,1,0x0b,1,1]]}],
- ["data of no memory", {segments:[[1,0x41,0,0x0b,0]]}],
- ["data at an i64", {segments:[[0,0x42,0,0x0b,0]]}],
- ["data at an imported global", {segments:[[0,0x23,0,0x0b,0]]}],
- ["data at nothing", {segments:[[0,0x0b,0]]}],
- ["data at a mutable global", {segments:[[0,0x23,1,0x0b,0]]}],
- ["an export of no function", {exports:[[...str("f"),0,2]]}],
- ["an export of no table", {exports:[[...str("f"),1,1]]}],
- ["an export of no memory", {exports:[[...str("f"),2,1]]}],
- ["an export of no global", {exports:[[...str("f"),3,2]]}],
- ["two exports of one name", {exports:[[...str("f"),0,1],[...str("f"),2,0]]}],
- ["exports of each kind", {exports:[[...str("f"),0,1],[...str("t"),1,0],[...str("m"),2,0],[...str("g"),3,1]]}],
-];
-for (const [n, o] of mods) { const ok = WebAssembly.validate(mod("20 00", o)); console.error((ok ? "yes " : "no  ") + n); }
-const f = x => "0x" + x;
-console.log(out.map(([b, n, ok]) => `    // ${n}\n    (&[${b.trim() ? b.trim().split(/\s+/).map(f).join(", ") : ""}], ${ok}),`).join("\n"));
-console.error(out.length, out.filter(x=>x[2]).length);
+console.log(`const BODIES: [(&[u8], bool); ${bodies.length}] = [\n${lines.join("\n")}\n];\n`);
+const rows = [];
+for (const [name, parts, profile] of modules) {
+  const answer = judged({ ...base, ...parts });
+  if (profile === answer) throw new Error(name);
+  rows.push(`    // ${name}`, `    (Parts { ${[...fields(parts), "..AROUND"].join(", ")} }, ${profile || answer}),`);
+}
+console.log(`const MODULES: [(Parts, Option<Invalid>); ${modules.length}] = [\n${rows.join("\n")}\n];`);

@@ -7,9 +7,11 @@ mod known;
 mod rules;
 mod scope;
 mod stacks;
+mod valid;
 mod verdict;
 
-pub use verdict::{Invalid, ValidModule, validate};
+pub use valid::ValidModule;
+pub use verdict::{Invalid, validate};
 
 #[cfg(test)]
 mod tests;

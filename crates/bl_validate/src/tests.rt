@@ -1,19 +1,84 @@
-//! Cases that were judged outside of this program: a script wrote a WebAssembly module round each body below (the module
-//! of `around`, with the body in its one function) and asked node v20.20's `WebAssembly.validate`; likewise for the
-//! modules of `Change`, each of which differs from that one in one part. Where this profile has fewer forms than node
-//! (a second table, floats, types of two results, a start function), the answer is that of version 1.0 or of the profile.
+//! Cases that were judged outside of this program: `node cases.js` writes each module below in the binary format, asks node
+//! v20.20's `WebAssembly.Module`, and prints the two tables. Where node says that a function can't be compiled, the case
+//! names that function; where it refuses the module otherwise, a rule is broken.
+//!
+//! Node goes by a later version. This profile differs from it in these cases, which have the profile's answer: a float type
+//! of a parameter, a result, a local, a global or a block breaks a rule, and so do a type of two results, a second table and
+//! a start function; a function of a type that doesn't exist, or without code, has no typing; the offset of a segment may be
+//! any immutable global of i32, and not an imported one alone.
+ghost use Rattle.std.specs.Prelude.{◌<◌, ◌^◌, IsTrue, length};
+ghost use Rattle.bl_wasm.specs.Validity.{functions_of};
+
 use super::*;
 use bl_base::{List, Text};
 use bl_ops::{AccessKind, by_code};
 use bl_wasm::{
     Code, DataSegment, DefinedGlobal, ElementSegment, Export, ExportKind, FuncType, GlobalType,
-    Import, ImportKind, Instr, Limits, LocalRun, MemoryArgument, Module, WasmType,
+    Import, ImportKind, Instr, Limits, LocalRun, MemoryArgument, Module,
+    WasmType::{self, F32, F64, I32, I64},
 };
 use std::alloc::Global;
 use std::test::Fail;
 
+/// The answer where another rule is broken.
+const RULE: Option<Invalid> = Some(Invalid::Module);
+
+/// An import of a function of type 1.
+const FUNCTION: ImportKind = ImportKind::Function(1);
+
+/// An import of an immutable i32.
+const CONSTANT: ImportKind = ImportKind::Global(GlobalType {
+    kind: I32,
+    mutable: false,
+});
+
+/// The parts of a module in short. Instructions are in the binary format, without an `end`.
+#[derive(Clone, Copy)]
+struct Parts {
+    /// Parameters and results.
+    types: &'static [(&'static [WasmType], &'static [WasmType])],
+    imports: &'static [ImportKind],
+    functions: &'static [u32],
+    /// Minimum and maximum.
+    tables: &'static [(u32, Option<u32>)],
+    memories: &'static [(u32, Option<u32>)],
+    /// Type, whether it can be set, and first value.
+    globals: &'static [(WasmType, bool, &'static [u8])],
+    exports: &'static [(&'static [u8], ExportKind, u32)],
+    start: Option<u32>,
+    /// Table, offset and functions.
+    elements: &'static [(u32, &'static [u8], &'static [u32])],
+    /// Memory and offset.
+    segments: &'static [(u32, &'static [u8])],
+    /// The locals of each function.
+    locals: &'static [(u32, WasmType)],
+    bodies: &'static [&'static [u8]],
+}
+
+/// A module with one function: it takes an i32, has a local of i64 and gives an i32. Function 0 and global 0, an immutable
+/// i32, are imported; global 1 is a mutable i64; there is a table and a memory.
+const AROUND: Parts = Parts {
+    types: &[
+        (&[], &[]),
+        (&[I32], &[I32]),
+        (&[I32, I64], &[I64]),
+        (&[], &[I32]),
+    ],
+    imports: &[FUNCTION, CONSTANT],
+    functions: &[1],
+    tables: &[(1, None)],
+    memories: &[(1, None)],
+    globals: &[(I64, true, &[0x42, 0x00])],
+    exports: &[],
+    start: None,
+    elements: &[],
+    segments: &[],
+    locals: &[(1, I64)],
+    bodies: &[&[0x20, 0x00]],
+};
+
 /// Bodies without their `end`, in the binary format, and whether the module round each is valid.
-const BODIES: [(&[u8], bool); 122] = [
+const BODIES: [(&[u8], bool); 146] = [
     // the parameter
     (&[0x20, 0x00], true),
     // no operand for the result
@@ -57,15 +122,9 @@ const BODIES: [(&[u8], bool); 122] = [
     // endless loop
     (&[0x03, 0x40, 0x0C, 0x00, 0x0B, 0x41, 0x00], true),
     // br_if to a loop
-    (
-        &[0x03, 0x7F, 0x20, 0x00, 0x0D, 0x00, 0x41, 0x00, 0x0B],
-        true,
-    ),
+    (&[0x03, 0x7F, 0x20, 0x00, 0x0D, 0x00, 0x41, 0x00, 0x0B], true),
     // if with both parts
-    (
-        &[0x20, 0x00, 0x04, 0x7F, 0x41, 0x01, 0x05, 0x41, 0x02, 0x0B],
-        true,
-    ),
+    (&[0x20, 0x00, 0x04, 0x7F, 0x41, 0x01, 0x05, 0x41, 0x02, 0x0B], true),
     // if without else has a result
     (&[0x20, 0x00, 0x04, 0x7F, 0x41, 0x01, 0x0B], false),
     // if without else or result
@@ -81,15 +140,9 @@ const BODIES: [(&[u8], bool); 122] = [
     // both parts can't be reached
     (&[0x20, 0x00, 0x04, 0x7F, 0x00, 0x05, 0x00, 0x0B], true),
     // then part of i64
-    (
-        &[0x20, 0x00, 0x04, 0x7F, 0x42, 0x00, 0x05, 0x41, 0x01, 0x0B],
-        false,
-    ),
+    (&[0x20, 0x00, 0x04, 0x7F, 0x42, 0x00, 0x05, 0x41, 0x01, 0x0B], false),
     // then part leaves an operand
-    (
-        &[0x20, 0x00, 0x04, 0x40, 0x41, 0x00, 0x05, 0x0B, 0x20, 0x00],
-        false,
-    ),
+    (&[0x20, 0x00, 0x04, 0x40, 0x41, 0x00, 0x05, 0x0B, 0x20, 0x00], false),
     // br to a block
     (&[0x02, 0x7F, 0x41, 0x05, 0x0C, 0x00, 0x0B], true),
     // br without the operand
@@ -101,92 +154,43 @@ const BODIES: [(&[u8], bool); 122] = [
     // br to the function without its result
     (&[0x0C, 0x00], false),
     // br out of a block to the function
-    (
-        &[0x02, 0x40, 0x41, 0x07, 0x0C, 0x01, 0x0B, 0x20, 0x00],
-        true,
-    ),
+    (&[0x02, 0x40, 0x41, 0x07, 0x0C, 0x01, 0x0B, 0x20, 0x00], true),
     // code behind br
     (&[0x41, 0x01, 0x0C, 0x00, 0x6A], true),
     // i32.add behind br in a block
-    (
-        &[0x02, 0x40, 0x0C, 0x00, 0x6A, 0x1A, 0x0B, 0x20, 0x00],
-        true,
-    ),
+    (&[0x02, 0x40, 0x0C, 0x00, 0x6A, 0x1A, 0x0B, 0x20, 0x00], true),
     // br with an i64
     (&[0x42, 0x01, 0x0C, 0x00], false),
     // br_if
-    (
-        &[0x02, 0x7F, 0x41, 0x01, 0x20, 0x00, 0x0D, 0x00, 0x0B],
-        true,
-    ),
+    (&[0x02, 0x7F, 0x41, 0x01, 0x20, 0x00, 0x0D, 0x00, 0x0B], true),
     // br_if without the operand
     (&[0x02, 0x7F, 0x20, 0x00, 0x0D, 0x00, 0x0B], false),
     // br_if with an i64 condition
-    (
-        &[0x02, 0x7F, 0x41, 0x01, 0x42, 0x00, 0x0D, 0x00, 0x0B],
-        false,
-    ),
+    (&[0x02, 0x7F, 0x41, 0x01, 0x42, 0x00, 0x0D, 0x00, 0x0B], false),
     // br_if behind unreachable
     (&[0x02, 0x7F, 0x00, 0x0D, 0x00, 0x0B], true),
     // br_if to no label
     (&[0x41, 0x01, 0x20, 0x00, 0x0D, 0x01], false),
     // br_if leaves the label's types
-    (
-        &[0x02, 0x7E, 0x00, 0x41, 0x00, 0x0D, 0x00, 0x0B, 0xA7],
-        true,
-    ),
+    (&[0x02, 0x7E, 0x00, 0x41, 0x00, 0x0D, 0x00, 0x0B, 0xA7], true),
     // br_if leaves the label's types, used as another
-    (
-        &[0x02, 0x7E, 0x00, 0x41, 0x00, 0x0D, 0x00, 0x6A, 0x0B, 0xA7],
-        false,
-    ),
+    (&[0x02, 0x7E, 0x00, 0x41, 0x00, 0x0D, 0x00, 0x6A, 0x0B, 0xA7], false),
     // br_table
-    (
-        &[
-            0x02, 0x7F, 0x41, 0x01, 0x20, 0x00, 0x0E, 0x01, 0x00, 0x01, 0x0B,
-        ],
-        true,
-    ),
+    (&[0x02, 0x7F, 0x41, 0x01, 0x20, 0x00, 0x0E, 0x01, 0x00, 0x01, 0x0B], true),
     // br_table of labels with different types
-    (
-        &[
-            0x02, 0x40, 0x41, 0x01, 0x20, 0x00, 0x0E, 0x01, 0x00, 0x01, 0x0B, 0x20, 0x00,
-        ],
-        false,
-    ),
+    (&[0x02, 0x40, 0x41, 0x01, 0x20, 0x00, 0x0E, 0x01, 0x00, 0x01, 0x0B, 0x20, 0x00], false),
     // br_table to no label
-    (
-        &[0x02, 0x7F, 0x41, 0x01, 0x20, 0x00, 0x0E, 0x00, 0x02, 0x0B],
-        false,
-    ),
+    (&[0x02, 0x7F, 0x41, 0x01, 0x20, 0x00, 0x0E, 0x00, 0x02, 0x0B], false),
     // br_table with an entry to no label
-    (
-        &[
-            0x02, 0x7F, 0x41, 0x01, 0x20, 0x00, 0x0E, 0x01, 0x02, 0x00, 0x0B,
-        ],
-        false,
-    ),
+    (&[0x02, 0x7F, 0x41, 0x01, 0x20, 0x00, 0x0E, 0x01, 0x02, 0x00, 0x0B], false),
     // br_table without the operand
     (&[0x02, 0x7F, 0x20, 0x00, 0x0E, 0x00, 0x00, 0x0B], false),
     // br_table with an i64 index
-    (
-        &[0x02, 0x7F, 0x41, 0x01, 0x42, 0x00, 0x0E, 0x00, 0x00, 0x0B],
-        false,
-    ),
+    (&[0x02, 0x7F, 0x41, 0x01, 0x42, 0x00, 0x0E, 0x00, 0x00, 0x0B], false),
     // br_table to a loop and a block with a result
-    (
-        &[
-            0x03, 0x7F, 0x02, 0x7F, 0x41, 0x01, 0x20, 0x00, 0x0E, 0x01, 0x00, 0x01, 0x0B, 0x0B,
-        ],
-        false,
-    ),
+    (&[0x03, 0x7F, 0x02, 0x7F, 0x41, 0x01, 0x20, 0x00, 0x0E, 0x01, 0x00, 0x01, 0x0B, 0x0B], false),
     // br_table to a loop and a block without
-    (
-        &[
-            0x03, 0x40, 0x02, 0x40, 0x20, 0x00, 0x0E, 0x01, 0x00, 0x01, 0x0B, 0x0B, 0x20, 0x00,
-        ],
-        true,
-    ),
+    (&[0x03, 0x40, 0x02, 0x40, 0x20, 0x00, 0x0E, 0x01, 0x00, 0x01, 0x0B, 0x0B, 0x20, 0x00], true),
     // code behind br_table
     (&[0x41, 0x01, 0x20, 0x00, 0x0E, 0x00, 0x00, 0x6A], true),
     // return
@@ -218,10 +222,7 @@ const BODIES: [(&[u8], bool); 122] = [
     // call_indirect of no type
     (&[0x20, 0x00, 0x20, 0x00, 0x11, 0x04, 0x00], false),
     // call_indirect of two parameters
-    (
-        &[0x20, 0x00, 0x20, 0x01, 0x20, 0x00, 0x11, 0x02, 0x00, 0xA7],
-        true,
-    ),
+    (&[0x20, 0x00, 0x20, 0x01, 0x20, 0x00, 0x11, 0x02, 0x00, 0xA7], true),
     // call_indirect with an i64 slot
     (&[0x20, 0x00, 0x20, 0x01, 0x11, 0x01, 0x00], false),
     // drop
@@ -289,30 +290,15 @@ const BODIES: [(&[u8], bool); 122] = [
     // i64.load32_s aligned too much
     (&[0x20, 0x00, 0x34, 0x03, 0x00, 0xA7], false),
     // i32.store
-    (
-        &[0x20, 0x00, 0x41, 0x01, 0x36, 0x02, 0x00, 0x20, 0x00],
-        true,
-    ),
+    (&[0x20, 0x00, 0x41, 0x01, 0x36, 0x02, 0x00, 0x20, 0x00], true),
     // i32.store aligned too much
-    (
-        &[0x20, 0x00, 0x41, 0x01, 0x36, 0x03, 0x00, 0x20, 0x00],
-        false,
-    ),
+    (&[0x20, 0x00, 0x41, 0x01, 0x36, 0x03, 0x00, 0x20, 0x00], false),
     // i32.store of an i64
-    (
-        &[0x20, 0x00, 0x42, 0x01, 0x36, 0x02, 0x00, 0x20, 0x00],
-        false,
-    ),
+    (&[0x20, 0x00, 0x42, 0x01, 0x36, 0x02, 0x00, 0x20, 0x00], false),
     // i64.store16
-    (
-        &[0x20, 0x00, 0x42, 0x01, 0x3D, 0x01, 0x00, 0x20, 0x00],
-        true,
-    ),
+    (&[0x20, 0x00, 0x42, 0x01, 0x3D, 0x01, 0x00, 0x20, 0x00], true),
     // i64.store16 aligned too much
-    (
-        &[0x20, 0x00, 0x42, 0x01, 0x3D, 0x02, 0x00, 0x20, 0x00],
-        false,
-    ),
+    (&[0x20, 0x00, 0x42, 0x01, 0x3D, 0x02, 0x00, 0x20, 0x00], false),
     // memory.size
     (&[0x3F, 0x00], true),
     // memory.grow
@@ -337,6 +323,226 @@ const BODIES: [(&[u8], bool); 122] = [
     (&[0x20, 0x00, 0xAD, 0xA7], true),
     // i32.clz
     (&[0x20, 0x00, 0x67], true),
+    // else without if
+    (&[0x05, 0x20, 0x00], false),
+    // a second else
+    (&[0x20, 0x00, 0x04, 0x40, 0x05, 0x05, 0x0B, 0x20, 0x00], false),
+    // else in a block
+    (&[0x02, 0x40, 0x05, 0x0B, 0x20, 0x00], false),
+    // an end too many
+    (&[0x20, 0x00, 0x0B, 0x20, 0x00], false),
+    // a block that isn't closed
+    (&[0x02, 0x7F, 0x20, 0x00], false),
+    // a branch to a loop leaves operands
+    (&[0x03, 0x40, 0x41, 0x00, 0x0C, 0x00, 0x0B, 0x20, 0x00], true),
+    // br_if to a loop keeps its operand
+    (&[0x03, 0x7F, 0x41, 0x00, 0x20, 0x00, 0x0D, 0x00, 0x0B], true),
+    // else part of i64 behind unreachable
+    (&[0x02, 0x40, 0x00, 0x04, 0x7F, 0x41, 0x01, 0x05, 0x42, 0x01, 0x0B, 0x1A, 0x0B, 0x20, 0x00], false),
+    // else without if
+    (&[0x05, 0x20, 0x00], false),
+    // a second else
+    (&[0x20, 0x00, 0x04, 0x40, 0x05, 0x05, 0x0B, 0x20, 0x00], false),
+    // else in a block
+    (&[0x02, 0x40, 0x05, 0x0B, 0x20, 0x00], false),
+    // an end too many
+    (&[0x20, 0x00, 0x0B, 0x20, 0x00], false),
+    // a block that isn't closed
+    (&[0x02, 0x7F, 0x20, 0x00], false),
+    // a branch to a loop leaves operands
+    (&[0x03, 0x40, 0x41, 0x00, 0x0C, 0x00, 0x0B, 0x20, 0x00], true),
+    // br_if to a loop keeps its operand
+    (&[0x03, 0x7F, 0x41, 0x00, 0x20, 0x00, 0x0D, 0x00, 0x0B], true),
+    // else part of i64 behind unreachable
+    (&[0x02, 0x40, 0x00, 0x04, 0x7F, 0x41, 0x01, 0x05, 0x42, 0x01, 0x0B, 0x1A, 0x0B, 0x20, 0x00], false),
+    // else without if
+    (&[0x05, 0x20, 0x00], false),
+    // a second else
+    (&[0x20, 0x00, 0x04, 0x40, 0x05, 0x05, 0x0B, 0x20, 0x00], false),
+    // else in a block
+    (&[0x02, 0x40, 0x05, 0x0B, 0x20, 0x00], false),
+    // an end too many
+    (&[0x20, 0x00, 0x0B, 0x20, 0x00], false),
+    // a block that isn't closed
+    (&[0x02, 0x7F, 0x20, 0x00], false),
+    // a branch to a loop leaves operands
+    (&[0x03, 0x40, 0x41, 0x00, 0x0C, 0x00, 0x0B, 0x20, 0x00], true),
+    // br_if to a loop keeps its operand
+    (&[0x03, 0x7F, 0x41, 0x00, 0x20, 0x00, 0x0D, 0x00, 0x0B], true),
+    // else part of i64 behind unreachable
+    (&[0x02, 0x40, 0x00, 0x04, 0x7F, 0x41, 0x01, 0x05, 0x42, 0x01, 0x0B, 0x1A, 0x0B, 0x20, 0x00], false),
+];
+
+/// Modules, and why each isn't valid.
+const MODULES: [(Parts, Option<Invalid>); 84] = [
+    // as it is
+    (Parts { ..AROUND }, None),
+    // an f32 parameter
+    (Parts { types: &[(&[], &[]), (&[I32], &[I32]), (&[F32], &[])], ..AROUND }, RULE),
+    // an f64 result
+    (Parts { types: &[(&[], &[]), (&[I32], &[I32]), (&[], &[F64])], ..AROUND }, RULE),
+    // two results
+    (Parts { types: &[(&[], &[]), (&[I32], &[I32]), (&[], &[I32, I32])], ..AROUND }, RULE),
+    // two results of the function, with a typing
+    (Parts { types: &[(&[], &[I32, I32])], imports: &[], functions: &[0], tables: &[], memories: &[], globals: &[], locals: &[], bodies: &[&[0x41, 0x00, 0x41, 0x00]], ..AROUND }, RULE),
+    // no types
+    (Parts { types: &[], imports: &[CONSTANT], functions: &[], bodies: &[], ..AROUND }, None),
+    // an import's type doesn't exist
+    (Parts { imports: &[ImportKind::Function(4), CONSTANT], ..AROUND }, RULE),
+    // a function's type doesn't exist
+    (Parts { functions: &[4], ..AROUND }, Some(Invalid::Function(1))),
+    // a function without code
+    (Parts { functions: &[1, 1], ..AROUND }, Some(Invalid::Function(2))),
+    // a code without function
+    (Parts { bodies: &[&[0x20, 0x00], &[0x20, 0x00]], ..AROUND }, RULE),
+    // a body without operands
+    (Parts { types: &[(&[], &[])], imports: &[], functions: &[0], tables: &[], memories: &[], globals: &[], locals: &[], bodies: &[&[0x6A]], ..AROUND }, Some(Invalid::Function(0))),
+    // that body behind an import
+    (Parts { types: &[(&[], &[])], imports: &[ImportKind::Function(0)], functions: &[0], tables: &[], memories: &[], globals: &[], locals: &[], bodies: &[&[0x6A]], ..AROUND }, Some(Invalid::Function(1))),
+    // that body behind unreachable
+    (Parts { types: &[(&[], &[])], imports: &[], functions: &[0], tables: &[], memories: &[], globals: &[], locals: &[], bodies: &[&[0x00, 0x6A, 0x1A]], ..AROUND }, None),
+    // two such bodies
+    (Parts { functions: &[1, 1, 1], bodies: &[&[0x20, 0x00], &[0x6A], &[0x6A]], ..AROUND }, Some(Invalid::Function(2))),
+    // that body and a second memory
+    (Parts { memories: &[(1, None), (1, None)], bodies: &[&[0x6A]], ..AROUND }, Some(Invalid::Function(1))),
+    // a type of two results beside that body
+    (Parts { types: &[(&[], &[]), (&[I32], &[I32]), (&[], &[I32, I32])], bodies: &[&[0x6A]], ..AROUND }, Some(Invalid::Function(1))),
+    // a local of f32
+    (Parts { locals: &[(1, F32)], ..AROUND }, RULE),
+    // locals in several runs
+    (Parts { locals: &[(2, I32), (0, I64), (1, I64)], bodies: &[&[0x20, 0x03, 0xA7, 0x20, 0x02, 0x6A]], ..AROUND }, None),
+    // a block of f32
+    (Parts { bodies: &[&[0x02, 0x7D, 0x00, 0x0B, 0x1A, 0x20, 0x00]], ..AROUND }, RULE),
+    // no memory for a load
+    (Parts { memories: &[], bodies: &[&[0x20, 0x00, 0x28, 0x02, 0x00]], ..AROUND }, Some(Invalid::Function(1))),
+    // no memory for a store
+    (Parts { memories: &[], bodies: &[&[0x20, 0x00, 0x20, 0x00, 0x36, 0x02, 0x00, 0x20, 0x00]], ..AROUND }, Some(Invalid::Function(1))),
+    // no memory for memory.size
+    (Parts { memories: &[], bodies: &[&[0x3F, 0x00]], ..AROUND }, Some(Invalid::Function(1))),
+    // no memory for memory.grow
+    (Parts { memories: &[], bodies: &[&[0x20, 0x00, 0x40, 0x00]], ..AROUND }, Some(Invalid::Function(1))),
+    // an imported memory
+    (Parts { imports: &[FUNCTION, CONSTANT, ImportKind::Memory(Limits { min: 1, max: None })], memories: &[], bodies: &[&[0x20, 0x00, 0x28, 0x02, 0x00]], ..AROUND }, None),
+    // no table for call_indirect
+    (Parts { tables: &[], bodies: &[&[0x20, 0x00, 0x20, 0x00, 0x11, 0x01, 0x00]], ..AROUND }, Some(Invalid::Function(1))),
+    // an imported table
+    (Parts { imports: &[FUNCTION, CONSTANT, ImportKind::Table(Limits { min: 1, max: None })], tables: &[], bodies: &[&[0x20, 0x00, 0x20, 0x00, 0x11, 0x01, 0x00]], ..AROUND }, None),
+    // global.set of an imported variable
+    (Parts { imports: &[FUNCTION, ImportKind::Global(GlobalType { kind: I32, mutable: true })], bodies: &[&[0x20, 0x00, 0x24, 0x00, 0x20, 0x00]], ..AROUND }, None),
+    // a second table
+    (Parts { tables: &[(1, None), (1, None)], ..AROUND }, RULE),
+    // an imported table beside one
+    (Parts { imports: &[FUNCTION, CONSTANT, ImportKind::Table(Limits { min: 1, max: None })], ..AROUND }, RULE),
+    // a second memory
+    (Parts { memories: &[(1, None), (1, None)], ..AROUND }, RULE),
+    // an imported memory beside one
+    (Parts { imports: &[FUNCTION, CONSTANT, ImportKind::Memory(Limits { min: 1, max: None })], ..AROUND }, RULE),
+    // a table's minimum above its maximum
+    (Parts { tables: &[(2, Some(1))], ..AROUND }, RULE),
+    // a table's minimum at its maximum
+    (Parts { tables: &[(2, Some(2))], ..AROUND }, None),
+    // an imported table's minimum above its maximum
+    (Parts { imports: &[FUNCTION, CONSTANT, ImportKind::Table(Limits { min: 2, max: Some(1) })], tables: &[], ..AROUND }, RULE),
+    // a memory's minimum above its maximum
+    (Parts { memories: &[(2, Some(1))], ..AROUND }, RULE),
+    // a memory's minimum at its maximum
+    (Parts { memories: &[(2, Some(2))], ..AROUND }, None),
+    // a memory's minimum of 65,536
+    (Parts { memories: &[(65536, None)], ..AROUND }, None),
+    // a memory's minimum of 65,537
+    (Parts { memories: &[(65537, None)], ..AROUND }, RULE),
+    // a memory's maximum of 65,536
+    (Parts { memories: &[(1, Some(65536))], ..AROUND }, None),
+    // a memory's maximum of 65,537
+    (Parts { memories: &[(1, Some(65537))], ..AROUND }, RULE),
+    // an imported memory's maximum of 65,537
+    (Parts { imports: &[FUNCTION, CONSTANT, ImportKind::Memory(Limits { min: 1, max: Some(65537) })], memories: &[], ..AROUND }, RULE),
+    // an imported global of f64
+    (Parts { imports: &[FUNCTION, CONSTANT, ImportKind::Global(GlobalType { kind: F64, mutable: false })], ..AROUND }, RULE),
+    // a global of another type than its constant
+    (Parts { globals: &[(I64, true, &[0x41, 0x00])], ..AROUND }, RULE),
+    // a global without first value
+    (Parts { globals: &[(I64, true, &[])], ..AROUND }, RULE),
+    // a global of two constants
+    (Parts { globals: &[(I64, true, &[0x42, 0x00, 0x42, 0x00])], ..AROUND }, RULE),
+    // a global of a size
+    (Parts { globals: &[(I32, true, &[0x3F, 0x00])], ..AROUND }, RULE),
+    // a global of an imported one
+    (Parts { globals: &[(I64, true, &[0x42, 0x00]), (I32, false, &[0x23, 0x00])], ..AROUND }, None),
+    // a global of an imported one of another type
+    (Parts { globals: &[(I64, true, &[0x42, 0x00]), (I64, false, &[0x23, 0x00])], ..AROUND }, RULE),
+    // a global of an imported variable
+    (Parts { imports: &[FUNCTION, ImportKind::Global(GlobalType { kind: I32, mutable: true })], globals: &[(I32, false, &[0x23, 0x00])], ..AROUND }, RULE),
+    // a global of a variable that is defined
+    (Parts { globals: &[(I64, true, &[0x42, 0x00]), (I64, false, &[0x23, 0x01])], ..AROUND }, RULE),
+    // a global of a constant that is defined
+    (Parts { globals: &[(I32, false, &[0x41, 0x00]), (I32, false, &[0x23, 0x01])], ..AROUND }, RULE),
+    // a global of none
+    (Parts { globals: &[(I64, true, &[0x42, 0x00]), (I32, false, &[0x23, 0x07])], ..AROUND }, RULE),
+    // a segment
+    (Parts { elements: &[(0, &[0x41, 0x00], &[1, 0])], ..AROUND }, None),
+    // a segment without functions
+    (Parts { elements: &[(0, &[0x41, 0x00], &[])], ..AROUND }, None),
+    // a segment of no table
+    (Parts { elements: &[(1, &[0x41, 0x00], &[1])], ..AROUND }, RULE),
+    // a segment where there is no table
+    (Parts { tables: &[], elements: &[(0, &[0x41, 0x00], &[1])], ..AROUND }, RULE),
+    // a segment of no function
+    (Parts { elements: &[(0, &[0x41, 0x00], &[1, 2])], ..AROUND }, RULE),
+    // a segment at an i64
+    (Parts { elements: &[(0, &[0x42, 0x00], &[1])], ..AROUND }, RULE),
+    // a segment at an imported global
+    (Parts { elements: &[(0, &[0x23, 0x00], &[1])], ..AROUND }, None),
+    // a segment at a constant that is defined
+    (Parts { globals: &[(I32, false, &[0x41, 0x00])], elements: &[(0, &[0x23, 0x01], &[1])], ..AROUND }, None),
+    // a segment at a variable
+    (Parts { elements: &[(0, &[0x23, 0x01], &[1])], ..AROUND }, RULE),
+    // a segment at nothing
+    (Parts { elements: &[(0, &[], &[1])], ..AROUND }, RULE),
+    // data
+    (Parts { segments: &[(0, &[0x41, 0x00])], ..AROUND }, None),
+    // data of no memory
+    (Parts { segments: &[(1, &[0x41, 0x00])], ..AROUND }, RULE),
+    // data where there is no memory
+    (Parts { memories: &[], segments: &[(0, &[0x41, 0x00])], ..AROUND }, RULE),
+    // data at an i64
+    (Parts { segments: &[(0, &[0x42, 0x00])], ..AROUND }, RULE),
+    // data at an imported global
+    (Parts { segments: &[(0, &[0x23, 0x00])], ..AROUND }, None),
+    // data at an imported global of i64
+    (Parts { imports: &[FUNCTION, ImportKind::Global(GlobalType { kind: I64, mutable: false })], segments: &[(0, &[0x23, 0x00])], ..AROUND }, RULE),
+    // data at a constant that is defined
+    (Parts { globals: &[(I32, false, &[0x41, 0x00])], segments: &[(0, &[0x23, 0x01])], ..AROUND }, None),
+    // data at a variable
+    (Parts { segments: &[(0, &[0x23, 0x01])], ..AROUND }, RULE),
+    // data at no global
+    (Parts { segments: &[(0, &[0x23, 0x07])], ..AROUND }, RULE),
+    // data at nothing
+    (Parts { segments: &[(0, &[])], ..AROUND }, RULE),
+    // data at two constants
+    (Parts { segments: &[(0, &[0x41, 0x00, 0x41, 0x00])], ..AROUND }, RULE),
+    // exports of each kind
+    (Parts { exports: &[(b"f", ExportKind::Function, 1), (b"t", ExportKind::Table, 0), (b"m", ExportKind::Memory, 0), (b"g", ExportKind::Global, 1)], ..AROUND }, None),
+    // exports of what is imported
+    (Parts { exports: &[(b"f", ExportKind::Function, 0), (b"g", ExportKind::Global, 0)], ..AROUND }, None),
+    // one function by two names
+    (Parts { exports: &[(b"f", ExportKind::Function, 1), (b"g", ExportKind::Function, 1)], ..AROUND }, None),
+    // an export of no function
+    (Parts { exports: &[(b"f", ExportKind::Function, 2)], ..AROUND }, RULE),
+    // an export of no table
+    (Parts { exports: &[(b"f", ExportKind::Table, 1)], ..AROUND }, RULE),
+    // an export of no memory
+    (Parts { exports: &[(b"f", ExportKind::Memory, 1)], ..AROUND }, RULE),
+    // an export of no global
+    (Parts { exports: &[(b"f", ExportKind::Global, 2)], ..AROUND }, RULE),
+    // two exports of one name
+    (Parts { exports: &[(b"f", ExportKind::Function, 1), (b"m", ExportKind::Memory, 0), (b"f", ExportKind::Memory, 0)], ..AROUND }, RULE),
+    // an export without a name
+    (Parts { exports: &[(b"", ExportKind::Function, 1)], ..AROUND }, None),
+    // a start function
+    (Parts { functions: &[1, 0], bodies: &[&[0x20, 0x00], &[]], start: Some(2), ..AROUND }, RULE),
+    // a start function with a parameter
+    (Parts { start: Some(1), ..AROUND }, RULE),
 ];
 
 /// The list of a few values.
@@ -347,8 +553,10 @@ fn list<T: Copy + Drop>(alloc: Global, values: &[T]) -> Result<List<T>, Fail> {
 /// The type of a block.
 fn block_type(byte: u8) -> Option<WasmType> {
     match byte {
-        0x7F => Some(WasmType::I32),
-        0x7E => Some(WasmType::I64),
+        0x7F => Some(I32),
+        0x7E => Some(I64),
+        0x7D => Some(F32),
+        0x7C => Some(F64),
         _ => None,
     }
 }
@@ -451,86 +659,192 @@ fn function_type(
     })
 }
 
-/// An import.
-fn import(alloc: Global, name: &[u8], kind: ImportKind) -> Result<Import, Fail> {
-    Ok(Import {
-        from: Text::copy_of(alloc, b"m")?,
-        name: Text::copy_of(alloc, name)?,
-        kind,
-    })
+/// Limits.
+fn limits(parts: &[(u32, Option<u32>)], list: &mut List<Limits>) -> Result<(), Fail> {
+    for (min, max) in parts {
+        list.push(Limits {
+            min: *min,
+            max: *max,
+        })?;
+    }
+    Ok(())
 }
 
-/// A module with one function of that body: it takes an i32, has a local of i64 and gives an i32. Function 0 and global
-/// 0, an immutable i32, are imported; global 1 is a mutable i64; there is a table and a memory.
-fn around(alloc: Global, body: &[u8]) -> Result<Module, Fail> {
-    let mut tree = Module {
+/// The types, imports and functions.
+fn put_functions(alloc: Global, parts: &Parts, tree: &mut Module) -> Result<(), Fail> {
+    for (params, results) in parts.types {
+        tree.types.push(function_type(alloc, params, results)?)?;
+    }
+    for kind in parts.imports {
+        tree.imports.push(Import {
+            from: Text::copy_of(alloc, b"m")?,
+            name: Text::copy_of(alloc, b"x")?,
+            kind: *kind,
+        })?;
+    }
+    for index in parts.functions {
+        tree.functions.push(*index)?;
+    }
+    Ok(())
+}
+
+/// Locals.
+fn local_runs(alloc: Global, parts: &[(u32, WasmType)]) -> Result<List<LocalRun>, Fail> {
+    let mut locals = List::new(alloc);
+    for (count, kind) in parts {
+        locals.push(LocalRun {
+            count: *count,
+            kind: *kind,
+        })?;
+    }
+    Ok(locals)
+}
+
+/// The code of the functions.
+fn put_bodies(
+    alloc: Global,
+    locals: &[(u32, WasmType)],
+    bodies: &[&[u8]],
+    tree: &mut Module,
+) -> Result<(), Fail> {
+    for body in bodies {
+        tree.bodies.push(Code {
+            locals: local_runs(alloc, locals)?,
+            items: items(alloc, body)?,
+        })?;
+    }
+    Ok(())
+}
+
+/// The globals and exports.
+fn put_globals(alloc: Global, parts: &Parts, tree: &mut Module) -> Result<(), Fail> {
+    for (kind, mutable, first) in parts.globals {
+        tree.globals.push(DefinedGlobal {
+            kind: GlobalType {
+                kind: *kind,
+                mutable: *mutable,
+            },
+            first: items(alloc, first)?,
+        })?;
+    }
+    for (name, kind, index) in parts.exports {
+        tree.exports.push(Export {
+            name: Text::copy_of(alloc, name)?,
+            kind: *kind,
+            index: *index,
+        })?;
+    }
+    Ok(())
+}
+
+/// The segments.
+fn put_segments(alloc: Global, parts: &Parts, tree: &mut Module) -> Result<(), Fail> {
+    for (table, offset, functions) in parts.elements {
+        tree.elements.push(ElementSegment {
+            table: *table,
+            offset: items(alloc, offset)?,
+            functions: list(alloc, functions)?,
+        })?;
+    }
+    for (memory, offset) in parts.segments {
+        tree.segments.push(DataSegment {
+            memory: *memory,
+            offset: items(alloc, offset)?,
+            bytes: Text::copy_of(alloc, b"")?,
+        })?;
+    }
+    Ok(())
+}
+
+/// A module without parts.
+fn empty(alloc: Global, start: Option<u32>) -> Module {
+    Module {
         types: List::new(alloc),
         imports: List::new(alloc),
-        functions: list(alloc, &[1])?,
-        tables: list(alloc, &[Limits { min: 1, max: None }])?,
-        memories: list(alloc, &[Limits { min: 1, max: None }])?,
+        functions: List::new(alloc),
+        tables: List::new(alloc),
+        memories: List::new(alloc),
         globals: List::new(alloc),
         exports: List::new(alloc),
-        start: None,
+        start,
         elements: List::new(alloc),
         bodies: List::new(alloc),
         segments: List::new(alloc),
         customs: List::new(alloc),
-    };
-    tree.types.push(function_type(alloc, &[], &[])?)?;
-    tree.types
-        .push(function_type(alloc, &[WasmType::I32], &[WasmType::I32])?)?;
-    tree.types.push(function_type(alloc, &[WasmType::I32, WasmType::I64], &[WasmType::I64])?)?;
-    tree.types
-        .push(function_type(alloc, &[], &[WasmType::I32])?)?;
-    tree.imports
-        .push(import(alloc, b"f", ImportKind::Function(1))?)?;
-    tree.imports.push(import(
-        alloc,
-        b"g",
-        ImportKind::Global(GlobalType {
-            kind: WasmType::I32,
-            mutable: false,
-        }),
-    )?)?;
-    tree.globals
-        .push(global(alloc, WasmType::I64, true, 0x42)?)?;
-    tree.bodies.push(Code {
-        locals: list(
-            alloc,
-            &[LocalRun {
-                count: 1,
-                kind: WasmType::I64,
-            }],
-        )?,
-        items: items(alloc, body)?,
-    })?;
+    }
+}
+
+/// Puts the parts into a module.
+fn put(alloc: Global, parts: &Parts, tree: &mut Module) -> Result<(), Fail> {
+    put_functions(alloc, parts, tree)?;
+    limits(parts.tables, &mut tree.tables)?;
+    limits(parts.memories, &mut tree.memories)?;
+    put_globals(alloc, parts, tree)?;
+    put_segments(alloc, parts, tree)
+}
+
+/// The module of the parts with those bodies.
+fn module_of(alloc: Global, parts: &Parts, bodies: &[&[u8]]) -> Result<Module, Fail> {
+    let mut tree = empty(alloc, parts.start);
+    put(alloc, parts, &mut tree)?;
+    put_bodies(alloc, parts.locals, bodies, &mut tree)?;
     Ok(tree)
 }
 
-/// A global whose first value is that of the item of a code and a 0.
-fn global(alloc: Global, kind: WasmType, mutable: bool, code: u8) -> Result<DefinedGlobal, Fail> {
-    Ok(DefinedGlobal {
-        kind: GlobalType { kind, mutable },
-        first: items(alloc, &[code, 0])?,
-    })
+/// Whether the module has few functions.
+#[tactic(auto, using(crate::proofs::Counts::functions_at_most))]
+fn is_small(tree: &Module) -> bool
+    ensures { IsTrue result → length (functions_of tree.now) < 2 ^ 32 }
+{
+    tree.imports.len() < 100 && tree.functions.len() < 100
 }
 
-/// What `validate` says of a module: 0 where it is valid, 1 for its function 1, 2 for a rule, 9 for anything else.
-fn verdict(alloc: Global, tree: Module) -> u8 {
+/// Why the module of the parts with those bodies isn't valid; None where it is.
+fn verdict(alloc: Global, parts: &Parts, bodies: &[&[u8]]) -> Result<Option<Invalid>, Fail> {
+    let tree = module_of(alloc, parts, bodies)?;
+    if !is_small(&tree) {
+        return Ok(Some(Invalid::Memory));
+    }
     match validate(alloc, tree) {
-        Ok(_) => 0,
-        Err((_, Invalid::Function(1))) => 1,
-        Err((_, Invalid::Module)) => 2,
-        Err(_) => 9,
+        Ok(_) => Ok(None),
+        Err((_, reason)) => Ok(Some(reason)),
     }
 }
 
 #[test]
 fn bodies_are_judged_as_elsewhere(rt: HostRuntime) -> Result<(), Fail> {
     for (body, valid) in &BODIES {
-        let tree = around(rt.alloc(), body)?;
-        assert_eq!(rt; verdict(rt.alloc(), tree), u8::from(!*valid));
+        let wanted = if *valid {
+            None
+        } else {
+            Some(Invalid::Function(1))
+        };
+        assert_eq!(rt; verdict(rt.alloc(), &AROUND, &[*body])?, wanted);
     }
+    Ok(())
+}
+
+#[test]
+fn modules_are_judged_as_elsewhere(rt: HostRuntime) -> Result<(), Fail> {
+    for (parts, wanted) in &MODULES {
+        assert_eq!(rt; verdict(rt.alloc(), parts, parts.bodies)?, *wanted);
+    }
+    Ok(())
+}
+
+#[test]
+fn a_refused_module_comes_back(rt: HostRuntime) -> Result<(), Fail> {
+    let alloc = rt.alloc();
+    let parts = Parts {
+        memories: &[(1, None), (2, Some(3))],
+        ..AROUND
+    };
+    let tree = module_of(alloc, &parts, parts.bodies)?;
+    assert!(rt; is_small(&tree));
+    let Err((tree, reason)) = validate(alloc, tree) else {
+        return Ok(());
+    };
+    assert_eq!(rt; reason, Invalid::Module);
+    assert_eq!(rt; tree.memories.as_slice().get(1).map(|limits| limits.max), Some(Some(3)));
     Ok(())
 }

@@ -1,5 +1,5 @@
-//! Valid modules.
-ghost use Rattle.std.specs.Prelude.{◌≡◌, ◌↔◌, ◌<◌, ℕ, IsTrue, IfOk, IfErr, MatchOption, length, ◌^◌, slice_get, Some};
+//! Whether a module is valid, and why it isn't.
+ghost use Rattle.std.specs.Prelude.{◌≡◌, ◌≢◌, ◌↔◌, ◌⊎◌, ◌<◌, ℕ, IsTrue, IfOk, IfErr, MatchOption, length, ◌^◌, slice_get, Some};
 ghost use Rattle.bl_wasm.specs.Validity.{functions_of, HasTyping, Typed};
 ghost use Rattle.bl_validate.specs.Scopes.{IsScope};
 ghost use Rattle.bl_validate.specs.Verdicts.{IsLeast, IsReason};
@@ -7,6 +7,7 @@ ghost use Rattle.bl_validate.specs.Verdicts.{IsLeast, IsReason};
 use crate::body::has_typing;
 use crate::rules::is_valid;
 use crate::scope::Scope;
+use crate::valid::ValidModule;
 use bl_base::NoMemory;
 use bl_wasm::Module;
 use std::alloc::Global;
@@ -26,29 +27,20 @@ pub enum Invalid {
     Memory,
 }
 
-/// A module that is valid.
-#[derive(Debug, Drop)]
-pub struct ValidModule {
-    wasm: Module,
-}
-
-impl ValidModule {
-    /// The module.
-    pub fn module(&self) -> &Module {
-        &self.wasm
-    }
-}
-
 /// The module as one that is valid, where each function that it defines has a typing and its other rules hold
 /// (WebAssembly 1.0, sections 3.3 and 3.4). Else it comes back unchanged, with the reason.
+#[tactic(auto, using(crate::proofs::Reasons::one_reason, crate::proofs::Reasons::no_reason))]
 pub fn validate(alloc: Global, wasm: Module) -> Result<ValidModule, (Module, Invalid)>
     requires { length (functions_of wasm) < 2 ^ 32 }
-    ensures valid { IfOk result (λ valid. (valid.wasm ≡ wasm) × Typed wasm) }
+    ensures valid { IfOk result (λ valid. (valid ≡ wasm) × Typed wasm) }
     ensures unchanged { IfErr result (λ refusal. refusal.0 ≡ wasm) }
     ensures reason { IfErr result (λ refusal. IsReason wasm refusal.1) }
+    ensures only { Typed wasm → IfErr result (λ refusal. refusal.1 ≡ Invalid.Memory) }
+    ensures because { (reason : Invalid) → reason ≢ Invalid.Memory → IsReason wasm reason
+        → IfOk result (λ _. ⊥) × IfErr result (λ refusal. (refusal.1 ≡ reason) ⊎ (refusal.1 ≡ Invalid.Memory)) }
 {
     match refusal(alloc, &wasm) {
-        Ok(None) => Ok(ValidModule { wasm }),
+        Ok(None) => Ok(ValidModule::of(wasm)),
         Ok(Some(reason)) => Err((wasm, reason)),
         Err(NoMemory) => Err((wasm, Invalid::Memory)),
     }
