@@ -10,7 +10,7 @@ use Rattle.std.proofs.lemmas.Map.Text.{is_eq-slice_cmp}
 use Rattle.std.proofs.lemmas.Slice.Eq.{bytes_eq-Decides}
 use Rattle.bl_outside.specs.Faults.{Rose}
 use Rattle.bl_outside.specs.Shelf.{Files, ReadFails, WriteFails, with_file}
-use Rattle.bl_wasm.specs.declared.form.Module.{Module}
+use Rattle.bl_wasm.specs.declared.module.Module.{Module}
 use Rattle.bl_app.specs.Grammar.{Spells}
 use Rattle.bl_app.specs.Typing.{Typed}
 use Rattle.bl_app.specs.Linking.{linked_of}

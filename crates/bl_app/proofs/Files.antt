@@ -3,7 +3,7 @@ use Rattle.std.proofs.Common.{◌≡◌, ℕ, ◌≤◌, List, ◌++◌, length,
 use Rattle.std.specs.Option.{option_map}
 use Rattle.std.specs.FinMap as fin
 use Rattle.std.proofs.lemmas.List.{take_all, length-take}
-use Rattle.bl_wasm.specs.declared.form.Module.{Module}
+use Rattle.bl_wasm.specs.declared.module.Module.{Module}
 use Rattle.bl_outside.specs.Shelf.{Files, Gives}
 use Rattle.bl_app.specs.Grammar.{Spells, header, type_section, function_section, section_of, exports_of, codes_of}
 use Rattle.bl_app.specs.Answers.{IsForm, FileIs}

@@ -76,7 +76,7 @@ fn the_image_the_certificate_and_the_report_of_the_add_one_module(
 }
 
 #[test]
-fn words_that_are_no_request_and_a_module_outside_the_form_keep_nothing(
+fn words_that_are_no_request_and_a_module_cut_off_keep_nothing(
     rt: HostRuntime,
 ) -> Result<(), Fail> {
     let usage = call(rt.alloc(), &["blade", "harden", "a"], &ADD_ONE, None, None)?;
@@ -86,8 +86,8 @@ fn words_that_are_no_request_and_a_module_outside_the_form_keep_nothing(
         b"usage: blade COMMAND ARGUMENTS\n".as_slice()
     );
     let cut = call(rt.alloc(), &HARDEN, &ADD_ONE[..39], None, None)?;
-    assert_eq!(rt; cut.status, 7);
-    assert_eq!(rt; cut.out.bytes(), b"unsupported: inc\n".as_slice());
+    assert_eq!(rt; cut.status, 5);
+    assert_eq!(rt; cut.out.bytes(), b"malformed: inc\n".as_slice());
     assert!(rt; cut.files.entry("inc.img").is_none() && cut.files.entry("inc.json").is_none());
     Ok(())
 }

@@ -1,9 +1,9 @@
 //! The words of a call.
-ghost use Rattle.std.specs.Prelude.{◌≡◌, map, nat_eq, string_bytes};
+ghost use Rattle.std.specs.Prelude.{◌≡◌, map, nat_eq, option_and_then, string_bytes};
 ghost use Rattle.std.specs.Option.{option_map};
 ghost use Rattle.std.specs.List.{after_last};
-ghost use Rattle.bl_app.specs.Requests.{request_of, is_option, module_name as module_name_of};
-ghost use Rattle.bl_app.specs.Words.{request_in};
+ghost use Rattle.bl_app.specs.Requests.{arguments_of, harden_request, request_of, is_option, module_name as module_name_of};
+ghost use Rattle.bl_app.specs.Words.{AreSplit, request_in};
 
 /// The words of a `harden`.
 #[derive(Clone, Copy)]
@@ -20,12 +20,31 @@ pub struct HardenWords<'a> {
 pub fn read_words(words: &[String]) -> Option<HardenWords<'_>>
     ensures { option_map request_in result ≡ request_of (map string_bytes words.now) }
 {
-    let [_, command, image, certificate, wasm] = words else {
+    let [_, command, words @ ..] = words else {
         return None;
     };
-    let (image, certificate, wasm) = (image.as_str(), certificate.as_str(), wasm.as_str());
-    let options = is_option_word(image) || is_option_word(certificate) || is_option_word(wasm);
-    if command.as_str() != "harden" || options || image == certificate {
+    if command.as_str() != "harden" {
+        return None;
+    }
+    harden_words(words)
+}
+
+/// The words of a `harden`, behind the command.
+fn harden_words(words: &[String]) -> Option<HardenWords<'_>>
+    ensures { option_map request_in result ≡ option_and_then harden_request (arguments_of (map string_bytes words.now)) }
+{
+    let (before, behind) = split_options(words);
+    if before.iter().any(|word| is_option_word(word)) {
+        return None;
+    }
+    let (image, certificate, wasm) = match (before, behind) {
+        ([image, certificate, wasm], [])
+        | ([image, certificate], [wasm])
+        | ([image], [certificate, wasm])
+        | ([], [image, certificate, wasm]) => (image.as_str(), certificate.as_str(), wasm.as_str()),
+        _ => return None,
+    };
+    if image == certificate {
         return None;
     }
     Some(HardenWords {
@@ -33,6 +52,16 @@ pub fn read_words(words: &[String]) -> Option<HardenWords<'_>>
         certificate,
         wasm,
     })
+}
+
+/// The words before the first `--`, and those behind it.
+fn split_options(words: &[String]) -> (&[String], &[String])
+    ensures { AreSplit (map string_bytes words.now) (map string_bytes result.0.now) (map string_bytes result.1.now) }
+{
+    match words.iter().position(|word| word.as_str() == "--") {
+        Some(place) => (&words[..place], &words[place + 1..]),
+        None => (words, &[]),
+    }
 }
 
 /// Whether a word begins with `-` and isn't `-` alone.

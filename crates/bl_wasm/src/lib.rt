@@ -2,7 +2,6 @@
 #![tactic(auto)]
 
 mod float;
-pub mod form;
 mod instruction;
 pub mod laws;
 mod module;
