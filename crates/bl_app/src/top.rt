@@ -12,6 +12,7 @@ use crate::output::push_all;
 use crate::refusal::Refusal;
 use crate::status::Status;
 use crate::words::{HardenWords, module_name, read_words};
+use bl_base::NoMemory;
 use bl_outside::{Shelf, ShelfError, Sink, SinkFault};
 use std::alloc::Global;
 
@@ -50,9 +51,10 @@ fn run<F: Shelf, O: Sink>(alloc: Global, words: &[String], files: &mut F, out: &
         (record { files = F.files files.new; faults = F.faults files.new; sink = record { taken = O.taken out.new; faults = O.faults out.new } })
         (code_of result) }
 {
-    match read_words(words) {
-        Some(words) => run_harden(alloc, &words, files, out),
-        None => say(out, "usage: blade COMMAND ARGUMENTS", b"", Status::Usage),
+    match read_words(alloc, words) {
+        Ok(Some(words)) => run_harden(alloc, &words, files, out),
+        Ok(None) => say(out, "usage: blade COMMAND ARGUMENTS", b"", Status::Usage),
+        Err(NoMemory) => Status::Memory,
     }
 }
 

@@ -1,9 +1,12 @@
 //! The words of a call.
-ghost use Rattle.std.specs.Prelude.{◌≡◌, map, nat_eq, option_and_then, string_bytes};
+ghost use Rattle.std.specs.Prelude.{◌≡◌, IfOk, map, nat_eq, string_bytes};
 ghost use Rattle.std.specs.Option.{option_map};
 ghost use Rattle.std.specs.List.{after_last};
 ghost use Rattle.bl_app.specs.Requests.{arguments_of, harden_request, request_of, is_option, module_name as module_name_of};
-ghost use Rattle.bl_app.specs.Words.{AreSplit, request_in};
+ghost use Rattle.bl_app.specs.Words.{request_in};
+
+use bl_base::NoMemory;
+use std::alloc::Global;
 
 /// The words of a `harden`.
 #[derive(Clone, Copy)]
@@ -17,50 +20,52 @@ pub struct HardenWords<'a> {
 }
 
 /// The request that the words ask for, the program's own name first; None where they are no request.
-pub fn read_words(words: &[String]) -> Option<HardenWords<'_>>
-    ensures { option_map request_in result ≡ request_of (map string_bytes words.now) }
+pub fn read_words(alloc: Global, words: &[String]) -> Result<Option<HardenWords<'_>>, NoMemory>
+    ensures { IfOk result (λ request. option_map request_in request ≡ request_of (map string_bytes words.now)) }
 {
     let [_, command, words @ ..] = words else {
-        return None;
+        return Ok(None);
     };
     if command.as_str() != "harden" {
-        return None;
+        return Ok(None);
     }
-    harden_words(words)
-}
-
-/// The words of a `harden`, behind the command.
-fn harden_words(words: &[String]) -> Option<HardenWords<'_>>
-    ensures { option_map request_in result ≡ option_and_then harden_request (arguments_of (map string_bytes words.now)) }
-{
-    let (before, behind) = split_options(words);
-    if before.iter().any(|word| is_option_word(word)) {
-        return None;
-    }
-    let (image, certificate, wasm) = match (before, behind) {
-        ([image, certificate, wasm], [])
-        | ([image, certificate], [wasm])
-        | ([image], [certificate, wasm])
-        | ([], [image, certificate, wasm]) => (image.as_str(), certificate.as_str(), wasm.as_str()),
-        _ => return None,
+    let Some(arguments) = read_arguments(alloc, words)? else {
+        return Ok(None);
     };
-    if image == certificate {
-        return None;
-    }
-    Some(HardenWords {
-        image,
-        certificate,
-        wasm,
-    })
+    Ok(harden_words(arguments.as_slice()))
 }
 
-/// The words before the first `--`, and those behind it.
-fn split_options(words: &[String]) -> (&[String], &[String])
-    ensures { AreSplit (map string_bytes words.now) (map string_bytes result.0.now) (map string_bytes result.1.now) }
+/// The arguments among a command's words: the first `--` ends the options and is none; None where an option stands before
+/// it. Linear in the words.
+fn read_arguments(alloc: Global, words: &[String]) -> Result<Option<Vec<&str>>, NoMemory>
+    ensures { IfOk result (λ arguments. option_map (λ found. map (λ word. word.now) found.items) arguments ≡ arguments_of (map string_bytes words.now)) }
 {
-    match words.iter().position(|word| word.as_str() == "--") {
-        Some(place) => (&words[..place], &words[place + 1..]),
-        None => (words, &[]),
+    let mut arguments = Vec::new(alloc);
+    let mut has_options = true;
+    for word in words {
+        let word = word.as_str();
+        if has_options && word == "--" {
+            has_options = false;
+        } else if has_options && is_option_word(word) {
+            return Ok(None);
+        } else {
+            arguments.push(word)?;
+        }
+    }
+    Ok(Some(arguments))
+}
+
+/// What `harden` asks for with these arguments.
+fn harden_words<'a>(arguments: &[&'a str]) -> Option<HardenWords<'a>>
+    ensures { option_map request_in result ≡ harden_request (map (λ word. word.now) arguments.now) }
+{
+    match arguments {
+        [image, certificate, wasm] if image != certificate => Some(HardenWords {
+            image: *image,
+            certificate: *certificate,
+            wasm: *wasm,
+        }),
+        _ => None,
     }
 }
 
