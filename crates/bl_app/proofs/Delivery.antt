@@ -4,7 +4,7 @@ use Rattle.std.specs.Prelude.{Err, slice_get}
 use Rattle.bl_outside.specs.Shelf.{Faults, KeepFaults, Gives}
 use Rattle.bl_outside.specs.declared.shelf.ShelfError.{ShelfError}
 use Rattle.bl_outside.specs.declared.shelf.ShelfError.TheVariants.{Failed, Memory}
-use Rattle.bl_app.specs.Answers.{Plan, World, Delivers, all_kept, not_kept, no_memory_to_keep, NotKept, Said, with_files, Refuses, said, no_memory_to_say, Ends, as_planned, no_memory, harden, refused, harden_plan, refusal_plan, plan_of, IsHardened}
+use Rattle.bl_app.specs.Answers.{Plan, World, Delivers, all_kept, not_kept, no_memory_to_keep, NotKept, Said, with_files, Refuses, is_said, no_memory_to_say, Ends, as_planned, no_memory, harden, refused, harden_plan, refusal_plan, plan_of, IsHardened}
 use Rattle.bl_app.specs.Refusals.{Refused}
 use Rattle.bl_app.specs.Status.{status_of}
 use Rattle.bl_app.specs.declared.refusal.Refusal.{Refusal}
@@ -42,7 +42,7 @@ pub refused_ends : (words : List (List ℕ)) (request : Request) (fetched : List
     → request_of words ≡ Some request → Gives old.files request.wasm 4194304 fetched → Refused fetched refusal
     → new.files ≡ old.files → new.faults ≡ old.faults
     → Refuses (refusal_text (module_name request.wasm) refusal) (status_of refusal) old.sink new.sink status → Ends words old new status
-refused_ends words request fetched refusal old new status is gives r files faults (said s) =
+refused_ends words request fetched refusal old new status is gives r files faults (is_said s) =
     let file = fetched_refused old.files request.wasm fetched refusal gives r in
     as_planned (refusal_plan request refusal) (refused request file.bytes refusal is file.is_file file.refused) (all_kept files faults s)
 refused_ends words request fetched refusal old new status is gives r files faults (no_memory_to_say sink e) =

@@ -1,11 +1,11 @@
 -- A module's file, of which the first bytes were fetched.
-use Rattle.std.proofs.Common.{◌≡◌, ℕ, ◌≤◌, List, length, take, Option, Some, None, refl, sym, ap, ◌∙◌, arith}
+use Rattle.std.proofs.Common.{◌≡◌, ℕ, ◌+◌, ◌<◌, ◌≤◌, List, length, take, Option, Some, None, refl, sym, ap, ◌∙◌, arith}
 use Rattle.std.specs.Option.{option_map}
 use Rattle.std.specs.FinMap as fin
 use Rattle.std.proofs.lemmas.List.{take_all, length-take}
 use Rattle.bl_outside.specs.Shelf.{Files, Gives}
 use Rattle.bl_app.specs.Answers.{FileIs}
-use Rattle.bl_app.specs.Refusals.{Refused, too_long, malformed, against}
+use Rattle.bl_app.specs.Refusals.{most_bytes, Refused, too_long, malformed, against}
 use Rattle.bl_app.specs.declared.refusal.Refusal.{Refusal}
 
 -- a short front is the whole
@@ -15,6 +15,12 @@ short_whole whole fetched e h =
     let m = length-take 4194305 whole in
     let n : length whole ≤ 4194305 = omega (arith, l, m, h) in
     sym (take_all 4194305 whole n) ∙ e
+
+-- where a front is long the whole is
+longer : (most : ℕ) (whole fetched : List ℕ) → take (most + 1) whole ≡ fetched → most < length fetched → most < length whole
+longer most whole fetched e long =
+    let l : length fetched ≡ length (take (most + 1) whole) = ap length (sym e) in
+    omega (arith, l, length-take (most + 1) whole, long)
 
 found : (o : Option (List ℕ)) (fetched : List ℕ) → option_map (take 4194305) o ≡ Some fetched → (whole : List ℕ) × (o ≡ Some whole) × (take 4194305 whole ≡ fetched)
 found None fetched e = cc
@@ -38,9 +44,7 @@ pub fetched_refused : (files : Option Files) (word fetched : List ℕ) (refusal 
 fetched_refused None word fetched refusal g r = record { bytes = fetched; is_file = tt; refused = r }
 fetched_refused (Some files) word fetched refusal g (too_long long e) =
     let f = found (fin.get files word) fetched g in
-    let l : length fetched ≡ length (take 4194305 f.0) = ap length (sym f.2) in
-    let m = length-take 4194305 f.0 in
-    record { bytes = f.0; is_file = f.1; refused = too_long (omega (arith, l, m, long)) e }
+    record { bytes = f.0; is_file = f.1; refused = too_long (longer most_bytes f.0 fetched f.2 long) e }
 fetched_refused (Some files) word fetched refusal g (malformed short none e) =
     record { bytes = fetched; is_file = fetched_whole (Some files) word fetched g short; refused = malformed short none e }
 fetched_refused (Some files) word fetched refusal g (against tree short spelled is) =

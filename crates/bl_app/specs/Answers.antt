@@ -120,7 +120,7 @@ NotKept Memory text old new status = (new ≡ old) × (status ≡ 11)
 
 -- what follows where a module is refused: the text, or nothing where there was no memory
 pub data Refuses (text : List ℕ) (meant : ℕ) (old new : Stream) (status : ℕ) : Type 0 where
-  said : Said text meant old new status → Refuses text meant old new status
+  is_said : Said text meant old new status → Refuses text meant old new status
   no_memory_to_say : new ≡ old → status ≡ 11 → Refuses text meant old new status
 
 -- how a plan is carried out

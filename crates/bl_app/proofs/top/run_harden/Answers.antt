@@ -17,4 +17,7 @@ returns-in-Ok-harden g c =
     λ all is. hardened_ends all (request_in c.args.words.now) c.in-Ok.bytes.items _ _ _ _ _ _ is c.in-Ok.ensures.found hardened c.in-Ok.ensures.files c.in-Ok.ensures.faults refl c.deliver.ensures
 
 pub returns-in-Err-Refused : goal.returns-in-Err-Refused
-returns-in-Err-Refused g c = ?
+returns-in-Err-Refused g c =
+    let found = rw c.deref.ensures.value at c.in-Err-Refused.ensures.refused _ (ap Err c.in-Err-Refused.field-0-is) in
+    let says = rw c.module_name-name.ensures at c.refuse.ensures in
+    λ all is. refused_ends all (request_in c.args.words.now) c.in-Ok.bytes.items _ _ _ _ is c.in-Ok.ensures.found found c.in-Ok.ensures.files c.in-Ok.ensures.faults says
