@@ -1,6 +1,6 @@
 -- Why each status comes.
 use Rattle.std.proofs.Common.{◌≡◌, ℕ, zero, suc, Bool, true, false, cond, List, [], ◌∷◌, Option, Some, None, refl, ap, sym, ◌∙◌, subst, arith, inl, inr}
-use Rattle.std.specs.Prelude.{slice_get, ◌&&◌, not, ◌⊎◌, codes}
+use Rattle.std.specs.Prelude.{slice_get, ◌⊎◌, codes, option_and_then}
 use Rattle.std.specs.Cmp.{eq_by_cmp_equiv}
 use Rattle.std.specs.Cmp.Lexicographic.{nat_list_cmp_total}
 use Rattle.std.specs.FinMap as fin
@@ -10,17 +10,20 @@ use Rattle.std.proofs.lemmas.Map.Text.{is_eq-slice_cmp}
 use Rattle.std.proofs.lemmas.Slice.Eq.{bytes_eq-Decides}
 use Rattle.bl_outside.specs.Faults.{Rose}
 use Rattle.bl_outside.specs.Shelf.{Files, ReadFails, WriteFails, with_file}
-use Rattle.bl_wasm.specs.declared.form.Module.{Module}
-use Rattle.bl_app.specs.Grammar.{Spells}
-use Rattle.bl_app.specs.Typing.{Typed}
+use Rattle.bl_wasm.specs.declared.module.Module.{Module}
+use Rattle.bl_app.specs.declared.refusal.Refusal.{Refusal}
+use Rattle.bl_app.specs.declared.refusal.Refusal.TheVariants.{Malformed, Unsupported, Limit}
 use Rattle.bl_app.specs.Linking.{linked_of}
+use Rattle.bl_app.specs.Refusals.{Accepted, Refused}
+use Rattle.bl_app.specs.Status.{status_of}
 use Rattle.bl_app.specs.Image.{image_of}
-use Rattle.bl_app.specs.Requests.{Request, request_of, harden_request, is_option, module_name}
-use Rattle.bl_app.specs.Texts.{report_text, read_fault_text, write_fault_text, empty_certificate}
-use Rattle.bl_app.specs.Answers.{IsForm, FileIs, Plan, PlanFor, usage, unsupported, harden, plan_of, harden_plan, World, with_files, took, Whole, Said, whole, cut, Delivers, all_kept, not_kept, no_memory_to_keep, Ends, as_planned, not_read, no_memory, program_of}
-use Rattle.bl_app.specs.Causes.{Causes, Hardens, UnlessFault, NoneRose, Asks, IsUnsupported, IsReadFault, IsKeepFault, IsUnprotected}
+use Rattle.bl_app.specs.Requests.{Request, request_of, arguments_of, harden_request, module_name}
+use Rattle.bl_app.specs.Texts.{report_text, refusal_text, read_fault_text, write_fault_text, empty_certificate}
+use Rattle.bl_app.specs.Answers.{FileIs, Plan, PlanFor, usage, refused, harden, plan_of, harden_plan, World, with_files, took, Whole, Said, whole, cut, Delivers, all_kept, not_kept, no_memory_to_keep, Ends, as_planned, not_read, no_memory, program_of}
+use Rattle.bl_app.specs.Causes.{Causes, Hardens, UnlessFault, NoneRose, Asks, IsRefused, IsReadFault, IsKeepFault, IsUnprotected}
 use Rattle.bl_app.proofs.EncodableLemmas.{HoldsOfMade, in_low}
 use Rattle.bl_app.proofs.KeepsMeaning.{keeps_meaning}
+use Rattle.bl_app.proofs.RefusalLemmas.{refused_one, accepted_refused}
 
 -- a plan was carried out with no fault
 record Done (plan : Plan) (old new : World) (status : ℕ) : Type 0 where
@@ -37,6 +40,16 @@ data Way (words : List (List ℕ)) (old new : World) (status : ℕ) : Type 0 whe
   faulty_sink : Rose old.sink.faults new.sink.faults → status ≡ 4 → Way words old new status
   full : status ≡ 11 → Way words old new status
 
+-- a status of a refusal
+IsRefusal : ℕ → Type 0
+IsRefusal status = (status ≡ 5) ⊎ ((status ≡ 7) ⊎ (status ≡ 8))
+
+status_big : (refusal : Refusal) → IsRefusal (status_of refusal)
+unfolding IsRefusal
+status_big Malformed = inl refl
+status_big Unsupported = inr (inl refl)
+status_big (Limit which value) = inr (inr refl)
+
 -- a file that a plan keeps is one that the words name
 KeepOf : List (List ℕ) → List ℕ → Type 0
 KeepOf words name = (request : Request) × (request_of words ≡ Some request) × ((name ≡ request.certificate) ⊎ (name ≡ request.image))
@@ -49,8 +62,8 @@ keep_named request image report (suc (suc before)) keep e = cc
 keep_of : (words : List (List ℕ)) (files : Option Files) (plan : Plan) (before : ℕ) (keep : List ℕ × List ℕ) → PlanFor words files plan → slice_get plan.keeps before ≡ Some keep → KeepOf words keep.0
 unfolding KeepOf
 keep_of words files plan before keep (usage none) e = cc
-keep_of words files plan before keep (unsupported request bytes is file not_form) e = cc
-keep_of words files plan before keep (harden request bytes tree is file spelled typed) e =
+keep_of words files plan before keep (refused request bytes refusal is file against) e = cc
+keep_of words files plan before keep (harden request bytes tree is file accepted) e =
     (request, is, keep_named request (image_of (program_of (module_name request.wasm) tree)) (report_text (program_of (module_name request.wasm) tree)) before keep e)
 
 keep_fault : (words : List (List ℕ)) (old new : World) (name : List ℕ) → KeepOf words name → WriteFails old.faults new.faults name → Whole (write_fault_text name) old.sink new.sink → IsKeepFault words old new
@@ -103,8 +116,8 @@ same_bytes files (Some told) request other bytes those e same f g = cc
 module _ (words : List (List ℕ)) (old new : World) (status : ℕ) where
   usage_only : Way words old new status → status ≡ 2 → request_of words ≡ None
   usage_only (settled plan (usage none) d) e = none
-  usage_only (settled plan (unsupported request bytes is file not_form) d) e = absurd (omega (arith, e, d.meant))
-  usage_only (settled plan (harden request bytes tree is file spelled typed) d) e = absurd (omega (arith, e, d.meant))
+  usage_only (settled plan (refused request bytes refusal is file against) d) e = absurd (omega (arith, e, d.meant, status_big refusal))
+  usage_only (settled plan (harden request bytes tree is file accepted) d) e = absurd (omega (arith, e, d.meant))
   usage_only (faulty_read f e') e = absurd (omega arith)
   usage_only (faulty_keep f e') e = absurd (omega arith)
   usage_only (faulty_sink f e') e = absurd (omega arith)
@@ -112,43 +125,47 @@ module _ (words : List (List ℕ)) (old new : World) (status : ℕ) where
 
   no_request : Way words old new status → request_of words ≡ None → UnlessFault 2 status
   no_request (settled plan (usage none) d) e = inl d.meant
-  no_request (settled plan (unsupported request bytes is file not_form) d) e = cc
-  no_request (settled plan (harden request bytes tree is file spelled typed) d) e = cc
+  no_request (settled plan (refused request bytes refusal is file against) d) e = cc
+  no_request (settled plan (harden request bytes tree is file accepted) d) e = cc
   no_request (faulty_read f e') e = inr (inl e')
   no_request (faulty_keep f e') e = inr (inr (inl e'))
   no_request (faulty_sink f e') e = inr (inr (inl e'))
   no_request (full e') e = inr (inr (inr e'))
 
-  unsupported_only : Way words old new status → status ≡ 7 → IsUnsupported words old
-  unsupported_only (settled plan (usage none) d) e = absurd (omega (arith, e, d.meant))
-  unsupported_only (settled plan (unsupported request bytes is file not_form) d) e =
-      record { request = request; bytes = bytes; asks = record { is_request = is; is_file = file }; not_the_form = not_form }
-  unsupported_only (settled plan (harden request bytes tree is file spelled typed) d) e = absurd (omega (arith, e, d.meant))
-  unsupported_only (faulty_read f e') e = absurd (omega arith)
-  unsupported_only (faulty_keep f e') e = absurd (omega arith)
-  unsupported_only (faulty_sink f e') e = absurd (omega arith)
-  unsupported_only (full e') e = absurd (omega arith)
+  -- the status of a refusal comes of a refusal
+  refused_only : Way words old new status → IsRefusal status → IsRefused words old new status
+  refused_only (settled plan (usage none) d) e = absurd (omega (arith, e, d.meant))
+  refused_only (settled plan (refused request bytes refusal is file against) d) e =
+      record { request = request; bytes = bytes; refusal = refusal; asks = record { is_request = is; is_file = file }; refused = against; meant = d.meant; printed = d.said.taken }
+  refused_only (settled plan (harden request bytes tree is file accepted) d) e = absurd (omega (arith, e, d.meant))
+  refused_only (faulty_read f e') e = absurd (omega arith)
+  refused_only (faulty_keep f e') e = absurd (omega arith)
+  refused_only (faulty_sink f e') e = absurd (omega arith)
+  refused_only (full e') e = absurd (omega arith)
 
   asked_bytes : (files : Files) (request other : Request) (bytes those : List ℕ) → old.files ≡ Some files → Asks words old.files request bytes → request_of words ≡ Some other → FileIs old.files other.wasm those → bytes ≡ those
   asked_bytes files request other bytes those told asks is file =
       same_bytes files old.files request other bytes those told (same_request request other asks.is_request is) asks.is_file file
 
-  other_form : Way words old new status → (files : Files) (request : Request) (bytes : List ℕ) → old.files ≡ Some files → Asks words old.files request bytes → (IsForm bytes → ⊥) → UnlessFault 7 status
-  other_form (settled plan (usage none) d) files request bytes told asks not_form = let is = asks.is_request in cc
-  other_form (settled plan (unsupported other those is file not) d) files request bytes told asks not_form = inl d.meant
-  other_form (settled plan (harden other those tree is file spelled typed) d) files request bytes told asks not_form =
+  is_refused : Way words old new status → (files : Files) (request : Request) (bytes : List ℕ) (refusal : Refusal) → old.files ≡ Some files → Asks words old.files request bytes → Refused bytes refusal → UnlessFault (status_of refusal) status
+  is_refused (settled plan (usage none) d) files request bytes refusal told asks r = let is = asks.is_request in cc
+  is_refused (settled plan (refused other those found is file against) d) files request bytes refusal told asks r =
       let same = asked_bytes files request other bytes those told asks is file in
-      absurd (not_form (subst IsForm (sym same) (tree, spelled, typed)))
-  other_form (faulty_read f e') files request bytes told asks not_form = inr (inl e')
-  other_form (faulty_keep f e') files request bytes told asks not_form = inr (inr (inl e'))
-  other_form (faulty_sink f e') files request bytes told asks not_form = inr (inr (inl e'))
-  other_form (full e') files request bytes told asks not_form = inr (inr (inr e'))
+      let one : found ≡ refusal = refused_one those found refusal against (subst (λ b. Refused b refusal) same r) in
+      inl (d.meant ∙ ap status_of one)
+  is_refused (settled plan (harden other those tree is file accepted) d) files request bytes refusal told asks r =
+      let same = asked_bytes files request other bytes those told asks is file in
+      absurd (accepted_refused those tree refusal accepted (subst (λ b. Refused b refusal) same r))
+  is_refused (faulty_read f e') files request bytes refusal told asks r = inr (inl e')
+  is_refused (faulty_keep f e') files request bytes refusal told asks r = inr (inr (inl e'))
+  is_refused (faulty_sink f e') files request bytes refusal told asks r = inr (inr (inl e'))
+  is_refused (full e') files request bytes refusal told asks r = inr (inr (inr e'))
 
   -- what is meant where nothing fails
-  meant_status : (plan : Plan) → PlanFor words old.files plan → (plan.status ≡ 0) ⊎ ((plan.status ≡ 2) ⊎ (plan.status ≡ 7))
+  meant_status : (plan : Plan) → PlanFor words old.files plan → (plan.status ≡ 0) ⊎ ((plan.status ≡ 2) ⊎ IsRefusal plan.status)
   meant_status plan (usage none) = inr (inl refl)
-  meant_status plan (unsupported request bytes is file not_form) = inr (inr refl)
-  meant_status plan (harden request bytes tree is file spelled typed) = inl refl
+  meant_status plan (refused request bytes refusal is file against) = inr (inr (status_big refusal))
+  meant_status plan (harden request bytes tree is file accepted) = inl refl
 
   read_fault : Way words old new status → status ≡ 3 → IsReadFault words old new
   read_fault (settled plan p d) e = absurd (omega (arith, e, d.meant, meant_status plan p))
@@ -171,16 +188,16 @@ module _ (words : List (List ℕ)) (old new : World) (status : ℕ) where
   quiet (faulty_sink f e) three four eleven = absurd (four e)
   quiet (full e) three four eleven = absurd (eleven e)
 
-  complete : Way words old new status → (files : Files) (request : Request) (bytes : List ℕ) → old.files ≡ Some files → Asks words old.files request bytes → IsForm bytes → NoneRose old new → (status ≡ 0) ⊎ (status ≡ 11)
-  complete (settled plan (usage none) d) files request bytes told asks form none_rose = let is = asks.is_request in cc
-  complete (settled plan (unsupported other those is file not) d) files request bytes told asks form none_rose =
+  complete : Way words old new status → (files : Files) (request : Request) (bytes : List ℕ) (tree : Module) → old.files ≡ Some files → Asks words old.files request bytes → Accepted bytes tree → NoneRose old new → (status ≡ 0) ⊎ (status ≡ 11)
+  complete (settled plan (usage none) d) files request bytes tree told asks accepts none_rose = let is = asks.is_request in cc
+  complete (settled plan (refused other those refusal is file against) d) files request bytes tree told asks accepts none_rose =
       let same = asked_bytes files request other bytes those told asks is file in
-      absurd (not (subst IsForm same form))
-  complete (settled plan (harden other those tree is file spelled typed) d) files request bytes told asks form none_rose = inl d.meant
-  complete (faulty_read f e) files request bytes told asks form none_rose = absurd (none_rose.reads f.fails.rose)
-  complete (faulty_keep f e) files request bytes told asks form none_rose = absurd (none_rose.writes f.fails.rose)
-  complete (faulty_sink f e) files request bytes told asks form none_rose = absurd (none_rose.sink f)
-  complete (full e) files request bytes told asks form none_rose = inr e
+      absurd (accepted_refused those tree refusal (subst (λ b. Accepted b tree) same accepts) against)
+  complete (settled plan (harden other those made is file accepted) d) files request bytes tree told asks accepts none_rose = inl d.meant
+  complete (faulty_read f e) files request bytes tree told asks accepts none_rose = absurd (none_rose.reads f.fails.rose)
+  complete (faulty_keep f e) files request bytes tree told asks accepts none_rose = absurd (none_rose.writes f.fails.rose)
+  complete (faulty_sink f e) files request bytes tree told asks accepts none_rose = absurd (none_rose.sink f)
+  complete (full e) files request bytes tree told asks accepts none_rose = inr e
 
 -- what each status says, and when it comes
 pub causes : (words : List (List ℕ)) (old new : World) (status : ℕ) → Ends words old new status → Causes words old new status
@@ -189,8 +206,10 @@ causes words old new status ends =
     record {
       usage_only = usage_only words old new status w;
       usage = no_request words old new status w;
-      unsupported_only = unsupported_only words old new status w;
-      unsupported = other_form words old new status w;
+      malformed_only = λ e. refused_only words old new status w (inl e);
+      unsupported_only = λ e. refused_only words old new status w (inr (inl e));
+      limit_only = λ e. refused_only words old new status w (inr (inr e));
+      refused = is_refused words old new status w;
       read_fault = read_fault words old new status w;
       write_fault = write_fault words old new status w;
       quiet = quiet words old new status w;
@@ -198,36 +217,32 @@ causes words old new status ends =
     }
 
 -- a request keeps two files
-and_second : (a b : Bool) → (a && b) ≡ true → b ≡ true
-and_second true b e = e
-and_second false b e = cc
+some_request : (b : Bool) (r s : Request) → cond b None (Some r) ≡ Some s → (b ≡ false) × (r ≡ s)
+some_request true r s e = cc
+some_request false r s e = (refl, cc)
 
-not_true : (a : Bool) → not a ≡ true → a ≡ false
-not_true true e = cc
-not_true false e = refl
-
-cond_some : (b : Bool) (r s : Request) → cond b (Some r) None ≡ Some s → (b ≡ true) × (r ≡ s)
-cond_some true r s e = (refl, cc)
-cond_some false r s e = cc
-
-two_files : (command image certificate wasm : List ℕ) (request : Request) → harden_request command image certificate wasm ≡ Some request → bytes_eq request.image request.certificate ≡ false
-two_files command image certificate wasm request e =
+two_files : (arguments : List (List ℕ)) (request : Request) → harden_request arguments ≡ Some request → bytes_eq request.image request.certificate ≡ false
+two_files [] request e = cc
+two_files (image ∷ []) request e = cc
+two_files (image ∷ certificate ∷ []) request e = cc
+two_files (image ∷ certificate ∷ wasm ∷ []) request e =
     let made : Request = record { image = image; certificate = certificate; wasm = wasm } in
-    let is_harden = bytes_eq command (codes "harden") in
-    let are_same = bytes_eq image certificate in
-    let is_fit = is_harden && not (is_option image) && not (is_option certificate) && not (is_option wasm) in
-    let passed = cond_some (is_fit && not are_same) made request e in
-    let differ = not_true are_same (and_second is_fit (not are_same) passed.0) in
-    subst (λ r. bytes_eq r.image r.certificate ≡ false) passed.1 differ
+    let passed = some_request (bytes_eq image certificate) made request e in
+    subst (λ r. bytes_eq r.image r.certificate ≡ false) passed.1 passed.0
+two_files (image ∷ certificate ∷ wasm ∷ more ∷ rest) request e = cc
+
+of_arguments : (found : Option (List (List ℕ))) (request : Request) → option_and_then harden_request found ≡ Some request → bytes_eq request.image request.certificate ≡ false
+of_arguments None request e = cc
+of_arguments (Some arguments) request e = two_files arguments request e
+
+of_command : (b : Bool) (found : Option (List (List ℕ))) (request : Request) → cond b (option_and_then harden_request found) None ≡ Some request → bytes_eq request.image request.certificate ≡ false
+of_command true found request e = of_arguments found request e
+of_command false found request e = cc
 
 pub request_differs : (words : List (List ℕ)) (request : Request) → request_of words ≡ Some request → bytes_eq request.image request.certificate ≡ false
 request_differs [] request e = cc
 request_differs (program ∷ []) request e = cc
-request_differs (program ∷ command ∷ []) request e = cc
-request_differs (program ∷ command ∷ image ∷ []) request e = cc
-request_differs (program ∷ command ∷ image ∷ certificate ∷ []) request e = cc
-request_differs (program ∷ command ∷ image ∷ certificate ∷ wasm ∷ []) request e = two_files command image certificate wasm request e
-request_differs (program ∷ command ∷ image ∷ certificate ∷ wasm ∷ more ∷ rest) request e = cc
+request_differs (program ∷ command ∷ words) request e = of_command (bytes_eq command (codes "harden")) (arguments_of words) request e
 
 -- what an entry made new leaves at each name
 get_inserted : (files : Files) (name bytes other : List ℕ) → fin.get (fin.insert files name bytes) other ≡ cond (bytes_eq name other) (Some bytes) (fin.get files other)
@@ -251,21 +266,20 @@ unprotected_made : HoldsOfMade IsUnprotected
 unprotected_made = record { sets = λ to operator a b. refl; out = λ index value. refl; jump = λ to. tt; ret = tt; trap = λ kind. tt }
 
 module _ (words : List (List ℕ)) (old new : World) where
-  hardened : (request : Request) (bytes : List ℕ) (tree : Module) → request_of words ≡ Some request → FileIs old.files request.wasm bytes → Spells bytes tree → Typed tree → (status : ℕ) → Done (harden_plan request tree) old new status → Hardens words old new
-  hardened request bytes tree is file spelled typed status d = record {
+  hardened : (request : Request) (bytes : List ℕ) (tree : Module) → request_of words ≡ Some request → FileIs old.files request.wasm bytes → Accepted bytes tree → (status : ℕ) → Done (harden_plan request tree) old new status → Hardens words old new
+  hardened request bytes tree is file accepted status d = record {
     request = request;
     bytes = bytes;
     tree = tree;
     asks = record { is_request = is; is_file = file };
-    spelled = spelled;
-    typed = typed;
+    accepted = accepted;
     kept = d.files;
     image = subst (λ f. FileIs f request.image image) (sym d.files) (kept_last certified request.image image);
     certificate = subst (λ f. FileIs f request.certificate empty_certificate) (sym d.files)
         (kept_still certified request.image image request.certificate empty_certificate (request_differs words request is) (kept_last old.files request.certificate empty_certificate));
     printed = d.said.taken;
     unprotected = in_low IsUnprotected unprotected_made (linked_of (module_name request.wasm) tree);
-    same_outcomes = keeps_meaning (module_name request.wasm) tree bytes spelled typed;
+    same_outcomes = keeps_meaning (module_name request.wasm) tree accepted.form;
   }
     where
       image : List ℕ
@@ -276,8 +290,8 @@ module _ (words : List (List ℕ)) (old new : World) where
 
   done : (status : ℕ) → Way words old new status → status ≡ 0 → Hardens words old new
   done status (settled plan (usage none) d) e = absurd (omega (arith, e, d.meant))
-  done status (settled plan (unsupported request bytes is file not_form) d) e = absurd (omega (arith, e, d.meant))
-  done status (settled plan (harden request bytes tree is file spelled typed) d) e = hardened request bytes tree is file spelled typed status d
+  done status (settled plan (refused request bytes refusal is file against) d) e = absurd (omega (arith, e, d.meant, status_big refusal))
+  done status (settled plan (harden request bytes tree is file accepted) d) e = hardened request bytes tree is file accepted status d
   done status (faulty_read f e') e = absurd (omega arith)
   done status (faulty_keep f e') e = absurd (omega arith)
   done status (faulty_sink f e') e = absurd (omega arith)

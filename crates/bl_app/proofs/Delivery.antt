@@ -4,10 +4,13 @@ use Rattle.std.specs.Prelude.{Err, slice_get}
 use Rattle.bl_outside.specs.Shelf.{Faults, KeepFaults, Gives}
 use Rattle.bl_outside.specs.declared.shelf.ShelfError.{ShelfError}
 use Rattle.bl_outside.specs.declared.shelf.ShelfError.TheVariants.{Failed, Memory}
-use Rattle.bl_app.specs.Answers.{Plan, World, Delivers, all_kept, not_kept, no_memory_to_keep, NotKept, Said, with_files, Ends, as_planned, harden, unsupported, harden_plan, unsupported_plan, plan_of, IsHardened, IsForm}
+use Rattle.bl_app.specs.Answers.{Plan, World, Delivers, all_kept, not_kept, no_memory_to_keep, NotKept, Said, with_files, Refuses, is_said, no_memory_to_say, Ends, as_planned, no_memory, harden, refused, harden_plan, refusal_plan, plan_of, IsHardened}
+use Rattle.bl_app.specs.Refusals.{Refused}
+use Rattle.bl_app.specs.Status.{status_of}
+use Rattle.bl_app.specs.declared.refusal.Refusal.{Refusal}
 use Rattle.bl_app.specs.Requests.{Request, request_of, module_name}
-use Rattle.bl_app.specs.Texts.{write_fault_text, unsupported_text}
-use Rattle.bl_app.proofs.Files.{fetched_whole, fetched_other}
+use Rattle.bl_app.specs.Texts.{write_fault_text, refusal_text}
+use Rattle.bl_app.proofs.Files.{fetched_whole, fetched_refused}
 
 -- a file could not be kept, after so many were
 pub keep_refused : (plan : Plan) (before : ℕ) (keep : List ℕ × List ℕ) (e : ShelfError) (old new : World) (faults : Faults) (status : ℕ)
@@ -22,23 +25,25 @@ delivers_from plan old mid new status files faults sink d =
     let same : mid ≡ old = λ i. record { files = files i; faults = faults i; sink = sink i } in
     subst (λ w. Delivers plan w new status) same d
 
--- a module of the form that was fetched and hardened ends as the words ask for
+-- a module that was fetched and hardened ends as the words ask for
 pub hardened_ends : (words : List (List ℕ)) (request : Request) (fetched image report : List ℕ) (old mid new : World) (status : ℕ)
     → request_of words ≡ Some request → Gives old.files request.wasm 4194304 fetched
     → IsHardened (module_name request.wasm) fetched image report
     → mid.files ≡ old.files → mid.faults ≡ old.faults → mid.sink ≡ old.sink
     → Delivers (plan_of request image report) mid new status → Ends words old new status
 hardened_ends words request fetched image report old mid new status is gives h files faults sink d =
-    let file = fetched_whole old.files request.wasm fetched h.tree gives h.spelled in
+    let file = fetched_whole old.files request.wasm fetched gives h.accepted.short in
     let same : plan_of request image report ≡ harden_plan request h.tree = λ i. plan_of request (h.is_image i) (h.is_report i) in
-    as_planned (harden_plan request h.tree) (harden request fetched h.tree is file h.spelled h.typed)
+    as_planned (harden_plan request h.tree) (harden request fetched h.tree is file h.accepted)
     (subst (λ plan. Delivers plan old new status) same (delivers_from (plan_of request image report) old mid new status files faults sink d))
 
--- a module outside the form that was fetched ends as the words ask for
-pub unsupported_ends : (words : List (List ℕ)) (request : Request) (fetched : List ℕ) (old new : World) (status : ℕ)
-    → request_of words ≡ Some request → Gives old.files request.wasm 4194304 fetched → (IsForm fetched → ⊥)
+-- a module that was fetched and refused ends as the words ask for
+pub refused_ends : (words : List (List ℕ)) (request : Request) (fetched : List ℕ) (refusal : Refusal) (old new : World) (status : ℕ)
+    → request_of words ≡ Some request → Gives old.files request.wasm 4194304 fetched → Refused fetched refusal
     → new.files ≡ old.files → new.faults ≡ old.faults
-    → Said (unsupported_text (module_name request.wasm)) 7 old.sink new.sink status → Ends words old new status
-unsupported_ends words request fetched old new status is gives not files faults said =
-    let other = fetched_other old.files request.wasm fetched gives not in
-    as_planned (unsupported_plan request) (unsupported request other.0 is other.1 other.2) (all_kept files faults said)
+    → Refuses (refusal_text (module_name request.wasm) refusal) (status_of refusal) old.sink new.sink status → Ends words old new status
+refused_ends words request fetched refusal old new status is gives r files faults (is_said s) =
+    let file = fetched_refused old.files request.wasm fetched refusal gives r in
+    as_planned (refusal_plan request refusal) (refused request file.bytes refusal is file.is_file file.refused) (all_kept files faults s)
+refused_ends words request fetched refusal old new status is gives r files faults (no_memory_to_say sink e) =
+    no_memory (record { files = files; faults = faults; sink = sink }) e

@@ -5,11 +5,11 @@ use Rattle.std.proofs.lemmas.List.Elements.{All-nil, All-cons, All-append}
 use Rattle.bl_base.specs.Trap.{kinds}
 use Rattle.bl_base.specs.declared.trap.Trap.{Trap as Kind}
 use Rattle.bl_base.specs.declared.number.Pos.{Pos}
-use Rattle.bl_wasm.specs.declared.form.Instr.{Instr}
-use Rattle.bl_wasm.specs.declared.form.Instr.TheVariants.{LocalGet, I32Const, I32Add}
-use Rattle.bl_wasm.specs.declared.form.Linked.{Linked}
-use Rattle.bl_wasm.specs.declared.form.Function.{Function}
-use Rattle.bl_wasm.specs.declared.form.Module.{Module}
+use Rattle.bl_app.specs.declared.linked.Item.{Item}
+use Rattle.bl_app.specs.declared.linked.Item.TheVariants.{LocalGet, I32Const, I32Add}
+use Rattle.bl_app.specs.declared.linked.Linked.{Linked}
+use Rattle.bl_app.specs.declared.linked.Function.{Function}
+use Rattle.bl_wasm.specs.declared.module.Module.{Module}
 use Rattle.bl_app.specs.declared.program.Operand.{Operand}
 use Rattle.bl_app.specs.declared.program.Operand.TheVariants.{Constant}
 use Rattle.bl_app.specs.declared.program.Operator.{Operator}
@@ -21,7 +21,7 @@ use Rattle.bl_app.specs.Grammar.{Spells, ItemsSpell, no_item, one_more_item, Ite
 use Rattle.bl_app.specs.Typing.{Typed}
 use Rattle.bl_app.specs.Linking.{linked_of}
 use Rattle.bl_app.specs.Image.{IsEncodable, MarkFits}
-use Rattle.bl_app.specs.Form.{IsLinkedForm, ReadsParameter}
+use Rattle.bl_app.specs.Bodies.{IsLinkedForm, ReadsParameter}
 
 -- it holds of each command that lowering makes
 pub record HoldsOfMade (P : Command → Type 0) : Type 0 where
@@ -41,7 +41,7 @@ module _ (P : Command → Type 0) (made : HoldsOfMade P) where
   in_entry variable (suc count) position =
       All-cons P _ (entry (variable + 1) count (position + 1)) (made.sets variable op.Move (Constant 0) (Constant 0)) (in_entry (variable + 1) count (position + 1))
 
-  in_items : (frame : Frame) (items : List Instr) (stack : List Operand) (next : ℕ) → All P (low_items frame items stack next)
+  in_items : (frame : Frame) (items : List Item) (stack : List Operand) (next : ℕ) → All P (low_items frame items stack next)
   in_items frame [] stack next = in_outs 0 (reverse (take frame.results stack))
   in_items frame (LocalGet x ∷ items) stack next =
       All-cons P _ (low_items frame items (reads next ∷ stack) (next + 1)) (made.sets next op.Move (reads (local_variable frame x)) (Constant 0)) (in_items frame items (reads next ∷ stack) (next + 1))
@@ -91,23 +91,23 @@ encodable tree = record {
   marks = in_low MarkFits marks_fit tree;
 }
 
-item_reads : (bytes : List ℕ) (item : Instr) → ItemSpells bytes item → ReadsParameter item
+item_reads : (bytes : List ℕ) (item : Item) → ItemSpells bytes item → ReadsParameter item
 item_reads bytes item local_get = refl
 item_reads bytes item (i32_const byte lt) = tt
 item_reads bytes item i32_add = tt
 
-items_read : (bytes : List ℕ) (items : List Instr) → ItemsSpell bytes items → All ReadsParameter items
+items_read : (bytes : List ℕ) (items : List Item) → ItemsSpell bytes items → All ReadsParameter items
 items_read bytes items no_item = All-nil ReadsParameter
 items_read bytes items (one_more_item front rest item others s h) =
     All-cons ReadsParameter item others (item_reads front item s) (items_read rest others h)
 
-item_size : (bytes : List ℕ) (item : Instr) → ItemSpells bytes item → 1 ≤ length bytes
+item_size : (bytes : List ℕ) (item : Item) → ItemSpells bytes item → 1 ≤ length bytes
 item_size bytes item local_get = omega arith
 item_size bytes item (i32_const byte lt) = omega arith
 item_size bytes item i32_add = omega arith
 
 -- each item has a byte
-pub items_size : (bytes : List ℕ) (items : List Instr) → ItemsSpell bytes items → length items ≤ length bytes
+pub items_size : (bytes : List ℕ) (items : List Item) → ItemsSpell bytes items → length items ≤ length bytes
 items_size bytes items no_item = omega arith
 items_size bytes items (one_more_item front rest item others s h) =
     omega (arith, length-append front rest, item_size front item s, items_size rest others h)

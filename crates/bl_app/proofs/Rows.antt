@@ -2,9 +2,9 @@
 use Rattle.std.proofs.Common.{◌≡◌, ℕ, List, [], ◌∷◌, ◌++◌, refl}
 use Rattle.std.specs.Prelude.{codes, zero, suc}
 use Rattle.bl_base.specs.declared.trap.Trap.TheVariants as kind
-use Rattle.bl_wasm.specs.declared.form.Instr.{Instr}
-use Rattle.bl_wasm.specs.declared.form.Instr.TheVariants.{LocalGet, I32Const, I32Add}
-use Rattle.bl_wasm.specs.declared.form.Linked.{Linked}
+use Rattle.bl_app.specs.declared.linked.Item.{Item}
+use Rattle.bl_app.specs.declared.linked.Item.TheVariants.{LocalGet, I32Const, I32Add}
+use Rattle.bl_app.specs.declared.linked.Linked.{Linked}
 use Rattle.bl_app.specs.declared.program.Operator.TheVariants as op
 use Rattle.bl_app.specs.declared.program.Operand.TheVariants.{Constant}
 use Rattle.bl_app.specs.declared.program.Command.TheVariants.{Jump, Out, Ret, Trap}
@@ -23,7 +23,7 @@ use Rattle.bl_app.specs.Plain.{plain_step, opening, State, placed, Placed}
 name : List ℕ
 name = codes "inc"
 
-abbrev items : List Instr
+abbrev items : List Item
 items = LocalGet 0 ∷ I32Const 1 ∷ I32Add ∷ []
 
 abbrev tree : Linked

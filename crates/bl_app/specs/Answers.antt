@@ -6,19 +6,16 @@ use Rattle.bl_outside.specs.Shelf.{Files, Faults, ReadFails, WriteFails, with_fi
 use Rattle.bl_outside.specs.declared.sink.SinkFault.{SinkFault}
 use Rattle.bl_outside.specs.declared.shelf.ShelfError.{ShelfError}
 use Rattle.bl_outside.specs.declared.shelf.ShelfError.TheVariants.{Failed, Memory}
-use Rattle.bl_wasm.specs.declared.form.Module.{Module}
+use Rattle.bl_wasm.specs.declared.module.Module.{Module}
 use Rattle.bl_app.specs.declared.program.Program.{Program}
-use Rattle.bl_app.specs.Grammar.{Spells}
-use Rattle.bl_app.specs.Typing.{Typed}
+use Rattle.bl_app.specs.declared.refusal.Refusal.{Refusal}
+use Rattle.bl_app.specs.Refusals.{Accepted, Refused}
+use Rattle.bl_app.specs.Status.{status_of}
 use Rattle.bl_app.specs.Linking.{linked_of}
 use Rattle.bl_app.specs.Lowering.{low}
 use Rattle.bl_app.specs.Image.{image_of}
 use Rattle.bl_app.specs.Requests.{Request, request_of, module_name}
-use Rattle.bl_app.specs.Texts.{usage_text, unsupported_text, read_fault_text, write_fault_text, report_text, empty_certificate}
-
--- the bytes are a module of the form
-abbrev pub IsForm : List ℕ → Type 0
-IsForm bytes = (tree : Module) × Spells bytes tree × Typed tree
+use Rattle.bl_app.specs.Texts.{usage_text, refusal_text, read_fault_text, write_fault_text, report_text, empty_certificate}
 
 -- the program of a module under that name
 abbrev pub program_of : List ℕ → Module → Program
@@ -49,9 +46,9 @@ harden_plan request tree =
     let program = program_of (module_name request.wasm) tree in
     plan_of request (image_of program) (report_text program)
 
--- what is done where the module's bytes aren't the form
-abbrev pub unsupported_plan : Request → Plan
-unsupported_plan request = record { status = 7; keeps = []; text = unsupported_text (module_name request.wasm) }
+-- what is done where the module is refused
+abbrev pub refusal_plan : Request → Refusal → Plan
+refusal_plan request refusal = record { status = status_of refusal; keeps = []; text = refusal_text (module_name request.wasm) refusal }
 
 -- what is done where the words are no request
 abbrev pub usage_plan : Plan
@@ -60,9 +57,9 @@ usage_plan = record { status = 2; keeps = []; text = usage_text }
 -- what the words ask for where nothing fails
 pub data PlanFor (words : List (List ℕ)) (files : Option Files) : Plan → Type 0 where
   usage : request_of words ≡ None → PlanFor words files usage_plan
-  unsupported : (request : Request) (bytes : List ℕ) → request_of words ≡ Some request → FileIs files request.wasm bytes → (IsForm bytes → ⊥)
-      → PlanFor words files (unsupported_plan request)
-  harden : (request : Request) (bytes : List ℕ) (tree : Module) → request_of words ≡ Some request → FileIs files request.wasm bytes → Spells bytes tree → Typed tree
+  refused : (request : Request) (bytes : List ℕ) (refusal : Refusal) → request_of words ≡ Some request → FileIs files request.wasm bytes → Refused bytes refusal
+      → PlanFor words files (refusal_plan request refusal)
+  harden : (request : Request) (bytes : List ℕ) (tree : Module) → request_of words ≡ Some request → FileIs files request.wasm bytes → Accepted bytes tree
       → PlanFor words files (harden_plan request tree)
 
 -- what a sink took, where that is told, and the count of its faults
@@ -121,6 +118,11 @@ abbrev pub NotKept : ShelfError → List ℕ → Stream → Stream → ℕ → T
 NotKept Failed text old new status = Said text 4 old new status
 NotKept Memory text old new status = (new ≡ old) × (status ≡ 11)
 
+-- what follows where a module is refused: the text, or nothing where there was no memory
+pub data Refuses (text : List ℕ) (meant : ℕ) (old new : Stream) (status : ℕ) : Type 0 where
+  is_said : Said text meant old new status → Refuses text meant old new status
+  no_memory_to_say : new ≡ old → status ≡ 11 → Refuses text meant old new status
+
 -- how a plan is carried out
 pub data Delivers (plan : Plan) (old new : World) (status : ℕ) : Type 0 where
   -- all files are kept, and the text is printed
@@ -141,10 +143,9 @@ pub data Ends (words : List (List ℕ)) (old new : World) (status : ℕ) : Type 
   -- there was no memory before any file was to be kept or any text to be printed
   no_memory : Unchanged old new → status ≡ 11 → Ends words old new status
 
--- the bytes are a module of the form, and these are the image and the report of its program
+-- the bytes are accepted, and these are the image and the report of their module's program
 pub record IsHardened (part bytes image report : List ℕ) : Type 0 where
   pub tree : Module
-  pub spelled : Spells bytes tree
-  pub typed : Typed tree
+  pub accepted : Accepted bytes tree
   pub is_image : image ≡ image_of (program_of part tree)
   pub is_report : report ≡ report_text (program_of part tree)

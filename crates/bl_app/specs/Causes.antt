@@ -2,17 +2,18 @@
 use Rattle.std.specs.Prelude.{◌≡◌, ℕ, List, Option, Some, None, All, false, ◌⊎◌}
 use Rattle.bl_outside.specs.Faults.{Rose}
 use Rattle.bl_outside.specs.Shelf.{Files, ReadFails, WriteFails, with_file}
-use Rattle.bl_wasm.specs.declared.form.Module.{Module}
+use Rattle.bl_wasm.specs.declared.module.Module.{Module}
 use Rattle.bl_app.specs.declared.program.Command.{Command}
 use Rattle.bl_app.specs.declared.program.Command.TheVariants.{Set, Jump, Out, Ret, Trap}
-use Rattle.bl_app.specs.Grammar.{Spells}
-use Rattle.bl_app.specs.Typing.{Typed}
+use Rattle.bl_app.specs.declared.refusal.Refusal.{Refusal}
+use Rattle.bl_app.specs.Refusals.{Accepted, Refused}
+use Rattle.bl_app.specs.Status.{status_of}
 use Rattle.bl_app.specs.Linking.{linked_of}
 use Rattle.bl_app.specs.Image.{image_of}
 use Rattle.bl_app.specs.Meaning.{SameOutcomes}
 use Rattle.bl_app.specs.Requests.{Request, request_of, module_name}
-use Rattle.bl_app.specs.Texts.{report_text, read_fault_text, write_fault_text, empty_certificate}
-use Rattle.bl_app.specs.Answers.{IsForm, FileIs, World, program_of, took}
+use Rattle.bl_app.specs.Texts.{report_text, refusal_text, read_fault_text, write_fault_text, empty_certificate}
+use Rattle.bl_app.specs.Answers.{FileIs, World, program_of, took}
 
 -- the command's value isn't protected, where it has one
 abbrev pub IsUnprotected : Command → Type 0
@@ -38,12 +39,15 @@ pub record Asks (words : List (List ℕ)) (files : Option Files) (request : Requ
   pub is_request : request_of words ≡ Some request
   pub is_file : FileIs files request.wasm bytes
 
--- status 7: the module's bytes aren't the form
-pub record IsUnsupported (words : List (List ℕ)) (old : World) : Type 0 where
+-- something stands against the module's bytes; the status is that of the refusal, and its line was printed
+pub record IsRefused (words : List (List ℕ)) (old new : World) (status : ℕ) : Type 0 where
   pub request : Request
   pub bytes : List ℕ
+  pub refusal : Refusal
   pub asks : Asks words old.files request bytes
-  pub not_the_form : IsForm bytes → ⊥
+  pub refused : Refused bytes refusal
+  pub meant : status ≡ status_of refusal
+  pub printed : new.sink.taken ≡ took old.sink.taken (refusal_text (module_name request.wasm) refusal)
 
 -- status 3: the module's file could not be read, and a line with its name was printed
 pub record IsReadFault (words : List (List ℕ)) (old new : World) : Type 0 where
@@ -66,27 +70,29 @@ pub record Causes (words : List (List ℕ)) (old new : World) (status : ℕ) : T
   -- 2 exactly where the words are no request
   pub usage_only : status ≡ 2 → request_of words ≡ None
   pub usage : request_of words ≡ None → UnlessFault 2 status
-  -- 7 exactly where the module's bytes aren't the form
-  pub unsupported_only : status ≡ 7 → IsUnsupported words old
-  pub unsupported : (files : Files) (request : Request) (bytes : List ℕ) → old.files ≡ Some files → Asks words old.files request bytes → (IsForm bytes → ⊥) → UnlessFault 7 status
+  -- 5, 7 and 8 exactly where something stands against the module's bytes: 5 where they spell no module, 7 where the module
+  -- has something that isn't supported or is outside the form, and 8 where a quantity exceeds its number
+  pub malformed_only : status ≡ 5 → IsRefused words old new status
+  pub unsupported_only : status ≡ 7 → IsRefused words old new status
+  pub limit_only : status ≡ 8 → IsRefused words old new status
+  pub refused : (files : Files) (request : Request) (bytes : List ℕ) (refusal : Refusal) → old.files ≡ Some files → Asks words old.files request bytes → Refused bytes refusal → UnlessFault (status_of refusal) status
   -- 3 and 4 only with a fault of the shelf or of the sink
   pub read_fault : status ≡ 3 → IsReadFault words old new
   pub write_fault : status ≡ 4 → Rose old.sink.faults new.sink.faults ⊎ IsKeepFault words old new
   -- with any status but 3, 4 and 11 no count of faults is changed
   pub quiet : (status ≡ 3 → ⊥) → (status ≡ 4 → ⊥) → (status ≡ 11 → ⊥) → (new.faults ≡ old.faults) × (new.sink.faults ≡ old.sink.faults)
-  -- where no count rises, a module of the form is answered by 0 or 11
-  pub complete : (files : Files) (request : Request) (bytes : List ℕ) → old.files ≡ Some files → Asks words old.files request bytes → IsForm bytes → NoneRose old new → (status ≡ 0) ⊎ (status ≡ 11)
+  -- where no count rises, bytes that are accepted are answered by 0 or 11
+  pub complete : (files : Files) (request : Request) (bytes : List ℕ) (tree : Module) → old.files ≡ Some files → Asks words old.files request bytes → Accepted bytes tree → NoneRose old new → (status ≡ 0) ⊎ (status ≡ 11)
 
--- status 0: the module's bytes spell a tree of the form; the certificate without paths and the image of
--- the tree's program are kept, and nothing else is changed; the report is printed; the program has no
--- protects, and it ends exactly as the linked tree does
+-- status 0: the module's bytes spell a module of the form; the certificate without paths and the image of its program are
+-- kept, and nothing else is changed; the report is printed; the program has no protects, and it ends exactly as the linked
+-- tree does
 pub record Hardens (words : List (List ℕ)) (old new : World) : Type 0 where
   pub request : Request
   pub bytes : List ℕ
   pub tree : Module
   pub asks : Asks words old.files request bytes
-  pub spelled : Spells bytes tree
-  pub typed : Typed tree
+  pub accepted : Accepted bytes tree
   pub kept : new.files ≡ with_file (with_file old.files request.certificate empty_certificate) request.image (image_of (program_of (module_name request.wasm) tree))
   pub image : FileIs new.files request.image (image_of (program_of (module_name request.wasm) tree))
   pub certificate : FileIs new.files request.certificate empty_certificate

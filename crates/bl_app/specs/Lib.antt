@@ -1,13 +1,13 @@
 pub mod Answers
+pub mod Bodies
 pub mod Causes
 pub mod Form
-pub mod Grammar
 pub mod Image
 pub mod Linking
 pub mod Lowering
 pub mod Meaning
 pub mod Plain
-pub mod Reading
+pub mod Refusals
 pub mod Requests
 pub mod Runs
 pub mod Source

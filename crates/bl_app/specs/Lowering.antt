@@ -4,11 +4,11 @@
 use Rattle.std.specs.Prelude.{ℕ, ◌+◌, ◌*◌, List, [], ◌∷◌, ◌++◌, length, map, nat_lt, if◌then◌else◌, max, false, zero, suc, take, reverse}
 use Rattle.bl_base.specs.Trap.{kinds}
 use Rattle.bl_base.specs.declared.names.Label.TheVariants.{Public}
-use Rattle.bl_wasm.specs.declared.form.Instr.{Instr}
-use Rattle.bl_wasm.specs.declared.form.Instr.TheVariants.{LocalGet, I32Const, I32Add}
-use Rattle.bl_wasm.specs.declared.form.Linked.{Linked}
-use Rattle.bl_wasm.specs.declared.form.Function.{Function}
-use Rattle.bl_wasm.specs.declared.form.Exported.{Exported}
+use Rattle.bl_app.specs.declared.linked.Item.{Item}
+use Rattle.bl_app.specs.declared.linked.Item.TheVariants.{LocalGet, I32Const, I32Add}
+use Rattle.bl_app.specs.declared.linked.Linked.{Linked}
+use Rattle.bl_app.specs.declared.linked.Function.{Function}
+use Rattle.bl_app.specs.declared.linked.Exported.{Exported}
 use Rattle.bl_app.specs.declared.program.Operand.{Operand}
 use Rattle.bl_app.specs.declared.program.Operand.TheVariants.{Variable, Constant}
 use Rattle.bl_app.specs.declared.program.Operator.{Operator}
@@ -49,7 +49,7 @@ outs index [] = Ret ∷ []
 outs index (value ∷ values) = Out plain_mark index value ∷ outs (index + 1) values
 
 -- a body, from the operands on the abstract stack, topmost first, and the next new variable
-abbrev pub low_items : Frame → List Instr → List Operand → ℕ → List Command
+abbrev pub low_items : Frame → List Item → List Operand → ℕ → List Command
 low_items frame [] stack next = outs 0 (reverse (take frame.results stack))
 low_items frame (LocalGet x ∷ items) stack next = set next op.Move (reads (local_variable frame x)) (Constant 0) ∷ low_items frame items (reads next ∷ stack) (next + 1)
 low_items frame (I32Const c ∷ items) stack next = set next op.Move (Constant c) (Constant 0) ∷ low_items frame items (reads next ∷ stack) (next + 1)

@@ -1,6 +1,7 @@
 -- What the words of a call ask for.
-use Rattle.std.specs.Prelude.{ℕ, ◌-◌, Bool, false, not, ◌&&◌, List, [], ◌∷◌, length, take, drop, Option, Some, None, nat_eq, codes, if◌then◌else◌}
+use Rattle.std.specs.Prelude.{ℕ, ◌-◌, Bool, false, List, [], ◌∷◌, length, take, drop, Option, Some, None, option_and_then, nat_eq, codes, if◌then◌else◌}
 use Rattle.std.specs.List.{after_last}
+use Rattle.std.specs.Option.{option_map}
 use Rattle.std.specs.Str.{bytes_eq}
 
 -- `harden`: the files that are written, and the module that is read
@@ -15,22 +16,25 @@ is_option [] = false
 is_option (first ∷ []) = false
 is_option (first ∷ second ∷ rest) = nat_eq first 45
 
--- the request of a command's words, where there is one
-abbrev pub harden_request : List ℕ → List ℕ → List ℕ → List ℕ → Option Request
-harden_request command image certificate wasm =
-    (if bytes_eq command (codes "harden") && not (is_option image) && not (is_option certificate) && not (is_option wasm) && not (bytes_eq image certificate)
-    then Some (record { image = image; certificate = certificate; wasm = wasm })
-    else None)
+-- the arguments among a command's words: no option stands before the first `--`, which ends the options and is no argument
+abbrev pub arguments_of : List (List ℕ) → Option (List (List ℕ))
+arguments_of [] = Some []
+arguments_of (word ∷ words) =
+    (if bytes_eq word (codes "--") then Some words
+    else if is_option word then None
+    else option_map (λ arguments. word ∷ arguments) (arguments_of words))
 
--- the request of all words, the program's own name first
+-- what `harden` asks for with these arguments: an image, a certificate that is another file, and a module
+abbrev pub harden_request : List (List ℕ) → Option Request
+harden_request (image ∷ certificate ∷ wasm ∷ []) =
+    (if bytes_eq image certificate then None else Some (record { image = image; certificate = certificate; wasm = wasm }))
+harden_request arguments = None
+
+-- the request of all words, the program's own name first, and then the command
 abbrev pub request_of : List (List ℕ) → Option Request
-request_of (program ∷ command ∷ image ∷ certificate ∷ wasm ∷ []) = harden_request command image certificate wasm
-request_of [] = None
-request_of (program ∷ []) = None
-request_of (program ∷ command ∷ []) = None
-request_of (program ∷ command ∷ image ∷ []) = None
-request_of (program ∷ command ∷ image ∷ certificate ∷ []) = None
-request_of (program ∷ command ∷ image ∷ certificate ∷ wasm ∷ more ∷ rest) = None
+request_of (program ∷ command ∷ words) =
+    (if bytes_eq command (codes "harden") then option_and_then harden_request (arguments_of words) else None)
+request_of words = None
 
 -- a name without one final `.wasm`
 abbrev pub without_ending : List ℕ → List ℕ

@@ -1,12 +1,22 @@
 -- The numbers of the exit statuses.
 use Rattle.std.specs.Prelude.{ℕ}
+use Rattle.bl_app.specs.declared.refusal.Refusal.{Refusal}
+use Rattle.bl_app.specs.declared.refusal.Refusal.TheVariants as refusal
 use Rattle.bl_app.specs.declared.status.Status.{Status}
-use Rattle.bl_app.specs.declared.status.Status.TheVariants.{Done, Usage, ReadFault, WriteFault, Unsupported, Memory}
+use Rattle.bl_app.specs.declared.status.Status.TheVariants.{Done, Usage, ReadFault, WriteFault, Malformed, Unsupported, Limit, Memory}
 
 abbrev pub code_of : Status → ℕ
 code_of Done = 0
 code_of Usage = 2
 code_of ReadFault = 3
 code_of WriteFault = 4
+code_of Malformed = 5
 code_of Unsupported = 7
+code_of Limit = 8
 code_of Memory = 11
+
+-- the status of a refusal
+abbrev pub status_of : Refusal → ℕ
+status_of refusal.Malformed = 5
+status_of refusal.Unsupported = 7
+status_of (refusal.Limit which value) = 8

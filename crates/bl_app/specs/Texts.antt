@@ -1,6 +1,9 @@
 -- The texts that are printed and written. Every line ends with a line feed.
 use Rattle.std.specs.Prelude.{ℕ, Bool, true, false, List, [], ◌∷◌, ◌++◌, length, codes, count_by}
 use Rattle.std.specs.Fmt.{decimal}
+use Rattle.bl_base.specs.Quantity.{word_of}
+use Rattle.bl_app.specs.declared.refusal.Refusal.{Refusal}
+use Rattle.bl_app.specs.declared.refusal.Refusal.TheVariants.{Malformed, Unsupported, Limit}
 use Rattle.bl_app.specs.declared.program.Command.{Command}
 use Rattle.bl_app.specs.declared.program.Command.TheVariants.{Set, Jump, Out, Ret, Trap}
 use Rattle.bl_app.specs.declared.program.Program.{Program}
@@ -36,8 +39,11 @@ empty_certificate = codes "{\"paths\":[],\"weight\":0}"
 abbrev pub usage_text : List ℕ
 usage_text = line (codes "usage: blade COMMAND ARGUMENTS")
 
-abbrev pub unsupported_text : List ℕ → List ℕ
-unsupported_text name = line (codes "unsupported: " ++ name)
+-- why a module under that name isn't hardened
+abbrev pub refusal_text : List ℕ → Refusal → List ℕ
+refusal_text name Malformed = line (codes "malformed: " ++ name)
+refusal_text name Unsupported = line (codes "unsupported: " ++ name)
+refusal_text name (Limit which value) = line (codes "limit: " ++ word_of which ++ codes " " ++ decimal value)
 
 abbrev pub read_fault_text : List ℕ → List ℕ
 read_fault_text word = line (codes "read fault: " ++ word)

@@ -1,14 +1,42 @@
 //! `harden`: from a module's bytes to its image and report.
 ghost use Rattle.std.specs.Prelude.{◌≡◌, ℕ, IfOk, Err, string_bytes};
-ghost use Rattle.bl_wasm.specs.declared.form.Module.{Module};
-ghost use Rattle.bl_app.specs.Answers.{IsForm, IsHardened};
+ghost use Rattle.bl_app.specs.Answers.{IsHardened};
+ghost use Rattle.bl_app.specs.Refusals.{Accepted, Refused};
+ghost use Rattle.bl_app.specs.declared.harden.HardenError.TheVariants as error;
 
+use crate::form::is_form;
 use crate::image::encode;
 use crate::link::link;
 use crate::lower::lower;
-use crate::reader::{ReadError, read_module};
+use crate::refusal::Refusal;
 use crate::report::report;
+use bl_base::{NoMemory, Quantity};
+use bl_decode::{DecodeError, decode};
+use bl_wasm::Module;
 use std::alloc::Global;
+use thiserror::Error;
+
+/// The most bytes of a module's file.
+pub const MODULE_LIMIT: u64 = 4_194_304;
+
+/// Why a module isn't hardened, or that memory ran out.
+#[derive(Clone, Copy, Debug, PartialEq, Eq, Error)]
+pub enum HardenError {
+    /// Something stands against the module.
+    #[error("the module is refused")]
+    Refused(Refusal),
+    /// Memory ran out.
+    #[error("out of memory")]
+    Memory,
+}
+
+impl From<NoMemory> for HardenError {
+    ghost from_gives = { λ _ e. e ≡ error.Memory };
+
+    fn from(_e: NoMemory) -> HardenError {
+        HardenError::Memory
+    }
+}
 
 /// What is written of a module.
 #[derive(Drop)]
@@ -19,16 +47,42 @@ pub struct Hardened {
     pub report: String,
 }
 
-/// The image and the report of a module's bytes, under the module's name; NotTheForm exactly where the
-/// bytes aren't a module of the form. Linear in the bytes.
-pub fn harden(alloc: Global, part: &[u8], bytes: &[u8]) -> Result<Hardened, ReadError>
+/// The image and the report of a module's bytes, under the module's name; Refused exactly where something stands against
+/// the bytes. Linear in the bytes.
+pub fn harden(alloc: Global, part: &[u8], bytes: &[u8]) -> Result<Hardened, HardenError>
     ensures ok { IfOk result (λ hardened. IsHardened part.now bytes.now hardened.image.items (string_bytes hardened.report)) }
-    ensures not_the_form { result ≡ Err ReadError.NotTheForm → IsForm bytes.now → ⊥ }
+    ensures refused { (refusal : Refusal) → result ≡ Err (error.Refused refusal) → Refused bytes.now refusal }
 {
     let tree = read_module(alloc, bytes)?;
-    let linked = link(alloc, part, tree)?;
+    let linked = link(alloc, part, &tree)?;
     let program = lower(alloc, linked)?;
     let image = encode(alloc, &program)?;
     let report = report(alloc, &program)?;
     Ok(Hardened { image, report })
+}
+
+/// The module of the form that the bytes spell.
+fn read_module(alloc: Global, bytes: &[u8]) -> Result<Module, HardenError>
+    ensures ok { IfOk result (λ tree. Accepted bytes.now tree) }
+    ensures refused { (refusal : Refusal) → result ≡ Err (error.Refused refusal) → Refused bytes.now refusal }
+{
+    if bytes.len() as u64 > MODULE_LIMIT {
+        return Err(HardenError::Refused(Refusal::Limit {
+            which: Quantity::Module,
+            value: MODULE_LIMIT + 1,
+        }));
+    }
+    let tree = match decode(alloc, bytes) {
+        Ok(tree) => tree,
+        Err(DecodeError::Malformed) => return Err(HardenError::Refused(Refusal::Malformed)),
+        Err(DecodeError::Unsupported) => return Err(HardenError::Refused(Refusal::Unsupported)),
+        Err(DecodeError::Limit { which, value }) => {
+            return Err(HardenError::Refused(Refusal::Limit { which, value }));
+        }
+        Err(DecodeError::Memory) => return Err(HardenError::Memory),
+    };
+    if !is_form(&tree) {
+        return Err(HardenError::Refused(Refusal::Unsupported));
+    }
+    Ok(tree)
 }

@@ -2,13 +2,13 @@
 ghost use Rattle.std.specs.Prelude.{◌≡◌, ℕ, ◌^◌, ◌<◌, List as Listed};
 ghost use Rattle.bl_leb.specs.Numbers.{IsUnsigned};
 ghost use Rattle.bl_leb.specs.Spellings.{IsShortest};
-ghost use Rattle.bl_wasm.specs.declared.form.Module.{Module};
-ghost use Rattle.bl_app.specs.Grammar.{Spells};
 ghost use Rattle.bl_app.specs.Image.{leb};
+ghost use Rattle.bl_app.specs.Refusals.{Refused};
+ghost use Rattle.bl_app.specs.declared.refusal.Refusal.{Refusal};
 
-/// Bytes spell at most one tree of the form.
-pub fn one_tree()
-    ensures { (bytes : Listed ℕ) (a b : Module) → Spells bytes a → Spells bytes b → a ≡ b }
+/// At most one refusal stands against a module's bytes.
+pub fn one_refusal()
+    ensures { (bytes : Listed ℕ) (a b : Refusal) → Refused bytes a → Refused bytes b → a ≡ b }
 {}
 
 /// An image spells each number by its shortest spelling in LEB128.

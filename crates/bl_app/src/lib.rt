@@ -1,15 +1,17 @@
 //! The program behind `blade`: from words, files and a stream to an exit status.
 #![tactic(auto)]
 
+mod form;
 mod harden;
 mod image;
 pub mod laws;
 mod link;
+mod linked;
 mod lists;
 mod lower;
 mod output;
 mod program;
-mod reader;
+mod refusal;
 mod report;
 mod status;
 mod top;

@@ -1,40 +1,54 @@
 //! The linked tree of one module.
 ghost use Rattle.std.specs.Prelude.{◌≡◌, ◌∷◌, ◌++◌, IfOk};
-ghost use Rattle.bl_app.specs.Grammar.{HasForm};
+ghost use Rattle.bl_app.specs.Bodies.{function_with};
+ghost use Rattle.bl_app.specs.Form.{IsForm, items_of};
 ghost use Rattle.bl_app.specs.Linking.{linked_of};
 
+use crate::form::item_of;
+use crate::linked::{Exported, Function, Item, Linked};
 use crate::lists::one;
 use bl_base::{List, NoMemory, Text, ValueType};
-use bl_wasm::form::{Exported, Function, Linked, Module};
+use bl_wasm::{Instr, Module};
 use std::alloc::Global;
 
-/// The linked tree of a module of the form under that name. The body is moved, not copied.
-pub fn link(alloc: Global, part: &[u8], wasm: Module) -> Result<Linked, NoMemory>
-    requires { HasForm wasm }
-    ensures { IfOk result (λ tree. tree ≡ linked_of part.now wasm) }
+/// The linked tree of a module of the form under that name. Linear in the body.
+pub fn link(alloc: Global, part: &[u8], tree: &Module) -> Result<Linked, NoMemory>
+    requires { IsForm tree.now }
+    ensures { IfOk result (λ linked. linked ≡ linked_of part.now tree.now) }
 {
-    let Module {
-        types: _,
-        functions: _,
-        exports,
-        bodies,
-    } = wasm;
-    let (Some(export), Some(code)) = (exports.into_vec().pop(), bodies.into_vec().pop()) else {
-        unreachable!()
-    };
     let mut functions = List::new(alloc);
-    functions.push(Function {
+    let mut exports = List::new(alloc);
+    if let ([export], [code]) = (tree.exports.as_slice(), tree.bodies.as_slice()) {
+        functions.push(function_of(alloc, code.items.as_slice())?)?;
+        exports.push(Exported {
+            name: exported_name(alloc, part, export.name.as_slice())?,
+            function: export.index,
+        })?;
+    }
+    Ok(Linked { functions, exports })
+}
+
+/// The function of the form with the items of a body.
+fn function_of(alloc: Global, instructions: &[Instr]) -> Result<Function, NoMemory>
+    ensures { IfOk result (λ function. function ≡ function_with (items_of instructions.now)) }
+{
+    Ok(Function {
         params: one(alloc, ValueType::I32)?,
         results: one(alloc, ValueType::I32)?,
         locals: List::new(alloc),
-        items: code.items,
-    })?;
-    let mut exports = List::new(alloc);
-    exports.push(Exported {
-        name: exported_name(alloc, part, export.name.as_slice())?,
-        function: export.function,
-    })?;
-    Ok(Linked { functions, exports })
+        items: List::of(items_in(alloc, instructions)?),
+    })
+}
+
+/// The items of a body, in order.
+fn items_in(alloc: Global, instructions: &[Instr]) -> Result<Vec<Item>, NoMemory>
+    ensures { IfOk result (λ items. items.items ≡ items_of instructions.now) }
+{
+    let items = instructions
+        .iter()
+        .filter_map(|instruction| item_of(instruction))
+        .collect(alloc)?;
+    Ok(items)
 }
 
 /// The part's name, `/`, and the name of the export.

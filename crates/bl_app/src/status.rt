@@ -13,8 +13,12 @@ pub enum Status {
     ReadFault,
     /// A file or the stream could not be written.
     WriteFault,
-    /// The module is outside the form.
+    /// A module's bytes aren't in the grammar.
+    Malformed,
+    /// A module has something that isn't supported, or is outside the form.
     Unsupported,
+    /// A quantity exceeds its number.
+    Limit,
     /// Memory ran out.
     Memory,
 }
@@ -29,7 +33,9 @@ impl Status {
             Status::Usage => 2,
             Status::ReadFault => 3,
             Status::WriteFault => 4,
+            Status::Malformed => 5,
             Status::Unsupported => 7,
+            Status::Limit => 8,
             Status::Memory => 11,
         }
     }

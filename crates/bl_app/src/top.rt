@@ -1,29 +1,28 @@
 //! The top call.
 ghost use Rattle.std.specs.Prelude.{◌≡◌, ◌++◌, ℕ, List as Listed, [], ◌∷◌, Some, map, string_bytes};
-ghost use Rattle.bl_app.specs.Answers.{Ends, Delivers, Said, NotKept, Pushes, plan_of};
+ghost use Rattle.bl_app.specs.Answers.{Ends, Delivers, Said, NotKept, Pushes, Refuses, plan_of};
 ghost use Rattle.bl_app.specs.Causes.{Causes, Hardens};
 ghost use Rattle.bl_app.specs.Requests.{request_of};
-ghost use Rattle.bl_app.specs.Status.{code_of};
-ghost use Rattle.bl_app.specs.Texts.{write_fault_text};
+ghost use Rattle.bl_app.specs.Status.{code_of, status_of};
+ghost use Rattle.bl_app.specs.Texts.{refusal_text, write_fault_text};
 ghost use Rattle.bl_app.specs.Words.{request_in};
 
-use crate::harden::{Hardened, harden};
+use crate::harden::{HardenError, Hardened, MODULE_LIMIT, harden};
 use crate::output::push_all;
-use crate::reader::ReadError;
+use crate::refusal::Refusal;
 use crate::status::Status;
 use crate::words::{HardenWords, module_name, read_words};
+use bl_base::NoMemory;
 use bl_outside::{Shelf, ShelfError, Sink, SinkFault};
 use std::alloc::Global;
-
-/// The most bytes of a module's file; a longer one isn't a module of the form.
-const MODULE_LIMIT: u64 = 4_194_304;
 
 /// The text of the certificate without paths.
 const EMPTY_CERTIFICATE: &[u8] = b"{\"paths\":[],\"weight\":0}";
 
 /// Runs the program on its words, the program's own name first, and answers its exit status: 0 done,
-/// 2 no request, 3 a file could not be read, 4 a file or the sink could not be written, 7 the module is
-/// outside the form, 11 memory ran out. All text goes to the sink.
+/// 2 no request, 3 a file could not be read, 4 a file or the sink could not be written, 5 the module's bytes spell none, 7 it
+/// has something that isn't supported or is outside the form, 8 a quantity exceeds its number, 11 memory ran out. All text
+/// goes to the sink.
 pub fn blade<F: Shelf, O: Sink>(alloc: Global, words: &[String], files: &mut F, out: &mut O) -> u8
     // How the call ends, whatever fails.
     ensures ends { Ends (map string_bytes words.now)
@@ -52,9 +51,10 @@ fn run<F: Shelf, O: Sink>(alloc: Global, words: &[String], files: &mut F, out: &
         (record { files = F.files files.new; faults = F.faults files.new; sink = record { taken = O.taken out.new; faults = O.faults out.new } })
         (code_of result) }
 {
-    match read_words(words) {
-        Some(words) => run_harden(alloc, &words, files, out),
-        None => say(out, "usage: blade COMMAND ARGUMENTS", b"", Status::Usage),
+    match read_words(alloc, words) {
+        Ok(Some(words)) => run_harden(alloc, &words, files, out),
+        Ok(None) => say(out, "usage: blade COMMAND ARGUMENTS", b"", Status::Usage),
+        Err(NoMemory) => Status::Memory,
     }
 }
 
@@ -85,8 +85,24 @@ fn run_harden<F: Shelf, O: Sink>(
     let name = module_name(words.wasm);
     match harden(alloc, name, &bytes) {
         Ok(hardened) => deliver(words, &hardened, files, out),
-        Err(ReadError::NotTheForm) => say(out, "unsupported: ", name, Status::Unsupported),
-        Err(ReadError::Memory) => Status::Memory,
+        Err(HardenError::Refused(refusal)) => refuse(alloc, name, refusal, out),
+        Err(HardenError::Memory) => Status::Memory,
+    }
+}
+
+/// Prints why the module under that name isn't hardened.
+fn refuse<O: Sink>(alloc: Global, name: &[u8], refusal: Refusal, out: &mut O) -> Status
+    ensures { Refuses (refusal_text name.now refusal) (status_of refusal)
+        (record { taken = O.taken out.old; faults = O.faults out.old })
+        (record { taken = O.taken out.new; faults = O.faults out.new })
+        (code_of result) }
+{
+    let Ok(text) = refusal.text(alloc, name) else {
+        return Status::Memory;
+    };
+    match push_all(out, &text) {
+        Ok(()) => refusal.status(),
+        Err(SinkFault) => Status::WriteFault,
     }
 }
 

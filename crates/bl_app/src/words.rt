@@ -1,9 +1,12 @@
 //! The words of a call.
-ghost use Rattle.std.specs.Prelude.{◌≡◌, map, nat_eq, string_bytes};
+ghost use Rattle.std.specs.Prelude.{◌≡◌, IfOk, map, nat_eq, string_bytes};
 ghost use Rattle.std.specs.Option.{option_map};
 ghost use Rattle.std.specs.List.{after_last};
-ghost use Rattle.bl_app.specs.Requests.{request_of, is_option, module_name as module_name_of};
+ghost use Rattle.bl_app.specs.Requests.{arguments_of, harden_request, request_of, is_option, module_name as module_name_of};
 ghost use Rattle.bl_app.specs.Words.{request_in};
+
+use bl_base::NoMemory;
+use std::alloc::Global;
 
 /// The words of a `harden`.
 #[derive(Clone, Copy)]
@@ -17,22 +20,53 @@ pub struct HardenWords<'a> {
 }
 
 /// The request that the words ask for, the program's own name first; None where they are no request.
-pub fn read_words(words: &[String]) -> Option<HardenWords<'_>>
-    ensures { option_map request_in result ≡ request_of (map string_bytes words.now) }
+pub fn read_words(alloc: Global, words: &[String]) -> Result<Option<HardenWords<'_>>, NoMemory>
+    ensures { IfOk result (λ request. option_map request_in request ≡ request_of (map string_bytes words.now)) }
 {
-    let [_, command, image, certificate, wasm] = words else {
-        return None;
+    let [_, command, words @ ..] = words else {
+        return Ok(None);
     };
-    let (image, certificate, wasm) = (image.as_str(), certificate.as_str(), wasm.as_str());
-    let options = is_option_word(image) || is_option_word(certificate) || is_option_word(wasm);
-    if command.as_str() != "harden" || options || image == certificate {
-        return None;
+    if command.as_str() != "harden" {
+        return Ok(None);
     }
-    Some(HardenWords {
-        image,
-        certificate,
-        wasm,
-    })
+    let Some(arguments) = read_arguments(alloc, words)? else {
+        return Ok(None);
+    };
+    Ok(harden_words(arguments.as_slice()))
+}
+
+/// The arguments among a command's words: the first `--` ends the options and is none; None where an option stands before
+/// it. Linear in the words.
+fn read_arguments(alloc: Global, words: &[String]) -> Result<Option<Vec<&str>>, NoMemory>
+    ensures { IfOk result (λ arguments. option_map (λ found. map (λ word. word.now) found.items) arguments ≡ arguments_of (map string_bytes words.now)) }
+{
+    let mut arguments = Vec::new(alloc);
+    let mut has_options = true;
+    for word in words {
+        let word = word.as_str();
+        if has_options && word == "--" {
+            has_options = false;
+        } else if has_options && is_option_word(word) {
+            return Ok(None);
+        } else {
+            arguments.push(word)?;
+        }
+    }
+    Ok(Some(arguments))
+}
+
+/// What `harden` asks for with these arguments.
+fn harden_words<'a>(arguments: &[&'a str]) -> Option<HardenWords<'a>>
+    ensures { option_map request_in result ≡ harden_request (map (λ word. word.now) arguments.now) }
+{
+    match arguments {
+        [image, certificate, wasm] if image != certificate => Some(HardenWords {
+            image: *image,
+            certificate: *certificate,
+            wasm: *wasm,
+        }),
+        _ => None,
+    }
 }
 
 /// Whether a word begins with `-` and isn't `-` alone.

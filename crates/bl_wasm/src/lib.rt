@@ -3,7 +3,6 @@
 
 mod exports;
 mod float;
-pub mod form;
 mod instruction;
 pub mod laws;
 mod linked;

@@ -1,5 +1,5 @@
 use Rattle.std.proofs.Common.{subst, sym}
-use Rattle.bl_app.specs.Form.{IsLinkedForm}
+use Rattle.bl_app.specs.Bodies.{IsLinkedForm}
 use Rattle.bl_app.specs.Image.{IsEncodable}
 use Rattle.bl_app.proofs.EncodableLemmas.{encodable, linked_form}
 use Rattle.bl_app.proofs.harden.harden.Goals as goal

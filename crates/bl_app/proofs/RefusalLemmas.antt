@@ -1,0 +1,55 @@
+-- At most one refusal stands against a module's bytes, and none where they are accepted.
+use Rattle.std.proofs.Common.{◌≡◌, ℕ, ◌<◌, ◌≤◌, List, length, Option, Some, None, refl, ap, sym, ◌∙◌, subst, arith}
+use Rattle.bl_base.specs.declared.quantity.Quantity.{Quantity}
+use Rattle.bl_wasm.specs.Modules.{Spells}
+use Rattle.bl_wasm.specs.declared.module.Module.{Module}
+use Rattle.bl_decode.specs.Limits.{Excess, first_excess}
+use Rattle.bl_decode.proofs.Trees.{one_spelled}
+use Rattle.bl_app.specs.Form.{IsForm}
+use Rattle.bl_app.specs.Refusals.{most_bytes, Against, unsupported, excess, other_form, Refused, too_long, malformed, against, Accepted}
+use Rattle.bl_app.specs.declared.refusal.Refusal.{Refusal}
+use Rattle.bl_app.specs.declared.refusal.Refusal.TheVariants.{Malformed, Unsupported, Limit}
+
+some_same : (x y : Excess) → Some x ≡ Some y → x ≡ y
+some_same x y e = cc
+
+-- one excess is one limit
+one_limit : (found : Option Excess) (which other : Quantity) (value count : ℕ) → found ≡ Some (which, value) → found ≡ Some (other, count) → Limit which value ≡ Limit other count
+one_limit found which other value count e f =
+    ap (λ excess. Limit (excess.0) (excess.1)) (some_same (which, value) (other, count) (sym e ∙ f))
+
+against_one : (tree : Module) (a b : Refusal) → Against tree a → Against tree b → a ≡ b
+against_one tree a b (unsupported not e) (unsupported other f) = e ∙ sym f
+against_one tree a b (unsupported not e) (excess which value is found f) = absurd (not is)
+against_one tree a b (unsupported not e) (other_form is within other f) = absurd (not is)
+against_one tree a b (excess which value is found e) (unsupported not f) = absurd (not is)
+against_one tree a b (excess which value is found e) (excess other count is' found' f) = e ∙ (one_limit (first_excess tree) which other value count found found' ∙ sym f)
+against_one tree a b (excess which value is found e) (other_form is' within other f) = absurd cc
+against_one tree a b (other_form is within not e) (unsupported other f) = absurd (other is)
+against_one tree a b (other_form is within not e) (excess which value is' found f) = absurd cc
+against_one tree a b (other_form is within not e) (other_form is' within' other f) = e ∙ sym f
+
+-- at most one refusal stands against the bytes
+pub refused_one : (bytes : List ℕ) (a b : Refusal) → Refused bytes a → Refused bytes b → a ≡ b
+refused_one bytes a b (too_long long e) (too_long long' f) = e ∙ sym f
+refused_one bytes a b (too_long long e) (malformed short none f) = absurd (omega arith)
+refused_one bytes a b (too_long long e) (against tree short spelled is) = absurd (omega arith)
+refused_one bytes a b (malformed short none e) (too_long long f) = absurd (omega arith)
+refused_one bytes a b (malformed short none e) (malformed short' none' f) = e ∙ sym f
+refused_one bytes a b (malformed short none e) (against tree short' spelled is) = absurd (none tree spelled)
+refused_one bytes a b (against tree short spelled is) (too_long long f) = absurd (omega arith)
+refused_one bytes a b (against tree short spelled is) (malformed short' none f) = absurd (none tree spelled)
+refused_one bytes a b (against tree short spelled is) (against other short' spelled' is') =
+    against_one tree a b is (subst (λ t. Against t b) (sym (one_spelled bytes tree other spelled spelled')) is')
+
+against_none : (tree : Module) (refusal : Refusal) (bytes : List ℕ) → Accepted bytes tree → Against tree refusal → ⊥
+against_none tree refusal bytes a (unsupported not e) = not a.supported
+against_none tree refusal bytes a (excess which value is found e) = let within = a.within in cc
+against_none tree refusal bytes a (other_form is within not e) = not a.form
+
+-- no refusal stands against bytes that are accepted
+pub accepted_refused : (bytes : List ℕ) (tree : Module) (refusal : Refusal) → Accepted bytes tree → Refused bytes refusal → ⊥
+accepted_refused bytes tree refusal a (too_long long e) = let short = a.short in omega arith
+accepted_refused bytes tree refusal a (malformed short none e) = none tree a.spelled
+accepted_refused bytes tree refusal a (against other short spelled is) =
+    against_none tree refusal bytes a (subst (λ t. Against t refusal) (sym (one_spelled bytes tree other a.spelled spelled)) is)

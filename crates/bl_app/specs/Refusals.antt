@@ -1,0 +1,41 @@
+-- Why a module's bytes aren't hardened, in the order in which this is tested.
+use Rattle.std.specs.Prelude.{◌≡◌, ℕ, ◌+◌, ◌<◌, ◌≤◌, List, length, Some, None}
+use Rattle.bl_base.specs.declared.quantity.Quantity.{Quantity}
+use Rattle.bl_base.specs.declared.quantity.Quantity.TheVariants as quantity
+use Rattle.bl_wasm.specs.Modules.{Spells}
+use Rattle.bl_wasm.specs.declared.module.Module.{Module}
+use Rattle.bl_decode.specs.Supported.{IsSupported}
+use Rattle.bl_decode.specs.Limits.{first_excess}
+use Rattle.bl_app.specs.Form.{IsForm}
+use Rattle.bl_app.specs.declared.refusal.Refusal.{Refusal}
+use Rattle.bl_app.specs.declared.refusal.Refusal.TheVariants.{Malformed, Unsupported, Limit}
+
+-- the most bytes of a module's file
+abbrev pub most_bytes : ℕ
+most_bytes = 4194304
+
+-- what stands against a module
+pub data Against (tree : Module) (refusal : Refusal) : Type 0 where
+  -- it has floats, a start function or an extension by sign
+  unsupported : (IsSupported tree → ⊥) → refusal ≡ Unsupported → Against tree refusal
+  -- it exceeds a quantity; the first one and its value
+  excess : (which : Quantity) (value : ℕ) → IsSupported tree → first_excess tree ≡ Some (which, value) → refusal ≡ Limit which value → Against tree refusal
+  -- it isn't one of the form
+  other_form : IsSupported tree → first_excess tree ≡ None → (IsForm tree → ⊥) → refusal ≡ Unsupported → Against tree refusal
+
+-- what stands against a module's bytes
+pub data Refused (bytes : List ℕ) (refusal : Refusal) : Type 0 where
+  -- they are too many
+  too_long : most_bytes < length bytes → refusal ≡ Limit quantity.Module (most_bytes + 1) → Refused bytes refusal
+  -- they spell no module
+  malformed : length bytes ≤ most_bytes → ((tree : Module) → Spells bytes tree → ⊥) → refusal ≡ Malformed → Refused bytes refusal
+  -- something stands against the module that they spell
+  against : (tree : Module) → length bytes ≤ most_bytes → Spells bytes tree → Against tree refusal → Refused bytes refusal
+
+-- nothing stands against the bytes, which spell that module of the form
+pub record Accepted (bytes : List ℕ) (tree : Module) : Type 0 where
+  pub short : length bytes ≤ most_bytes
+  pub spelled : Spells bytes tree
+  pub supported : IsSupported tree
+  pub within : first_excess tree ≡ None
+  pub form : IsForm tree
