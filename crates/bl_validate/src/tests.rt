@@ -4,8 +4,8 @@
 //!
 //! Node goes by a later version. This profile differs from it in these cases, which have the profile's answer: a float type
 //! of a parameter, a result, a local, a global or a block breaks a rule, and so do a type of two results, a second table and
-//! a start function; a function of a type that doesn't exist, or without code, has no typing; the offset of a segment may be
-//! any immutable global of i32, and not an imported one alone.
+//! a start function; an item with floats, an extension by sign, a function of a type that doesn't exist and one without code
+//! have no typing; the offset of a segment may be any immutable global of i32, and not an imported one alone.
 ghost use Rattle.std.specs.Prelude.{◌<◌, ◌^◌, IsTrue, length};
 ghost use Rattle.bl_wasm.specs.Validity.{functions_of};
 
@@ -14,8 +14,8 @@ use bl_base::{List, Text};
 use bl_ops::{AccessKind, by_code};
 use bl_wasm::WasmType::{self, F32, F64, I32, I64};
 use bl_wasm::{
-    Code, DataSegment, DefinedGlobal, ElementSegment, Export, ExportKind, FuncType, GlobalType,
-    Import, ImportKind, Instr, Limits, LocalRun, MemoryArgument, Module,
+    Code, DataSegment, DefinedGlobal, ElementSegment, Export, ExportKind, FloatOp, FuncType,
+    GlobalType, Import, ImportKind, Instr, Limits, LocalRun, MemoryArgument, Module, SignExtension,
 };
 use std::alloc::Global;
 use std::test::Fail;
@@ -78,7 +78,7 @@ const AROUND: Parts = Parts {
 };
 
 /// Bodies without their `end`, in the binary format, and whether the module round each is valid.
-static BODIES: [(&[u8], bool); 146] = [
+static BODIES: [(&[u8], bool); 154] = [
     // the parameter
     (&[0x20, 0x00], true),
     // no operand for the result
@@ -495,10 +495,41 @@ static BODIES: [(&[u8], bool); 146] = [
         ],
         false,
     ),
+    // else without if
+    (&[0x05, 0x20, 0x00], false),
+    // a second else
+    (
+        &[0x20, 0x00, 0x04, 0x40, 0x05, 0x05, 0x0B, 0x20, 0x00],
+        false,
+    ),
+    // else in a block
+    (&[0x02, 0x40, 0x05, 0x0B, 0x20, 0x00], false),
+    // an end too many
+    (&[0x20, 0x00, 0x0B, 0x20, 0x00], false),
+    // a block that isn't closed
+    (&[0x02, 0x7F, 0x20, 0x00], false),
+    // a branch to a loop leaves operands
+    (
+        &[0x03, 0x40, 0x41, 0x00, 0x0C, 0x00, 0x0B, 0x20, 0x00],
+        true,
+    ),
+    // br_if to a loop keeps its operand
+    (
+        &[0x03, 0x7F, 0x41, 0x00, 0x20, 0x00, 0x0D, 0x00, 0x0B],
+        true,
+    ),
+    // else part of i64 behind unreachable
+    (
+        &[
+            0x02, 0x40, 0x00, 0x04, 0x7F, 0x41, 0x01, 0x05, 0x42, 0x01, 0x0B, 0x1A, 0x0B, 0x20,
+            0x00,
+        ],
+        false,
+    ),
 ];
 
 /// Modules, and why each isn't valid.
-static MODULES: [(Parts, Option<Invalid>); 84] = [
+static MODULES: [(Parts, Option<Invalid>); 87] = [
     // as it is
     (Parts { ..AROUND }, None),
     // an f32 parameter
@@ -679,6 +710,30 @@ static MODULES: [(Parts, Option<Invalid>); 84] = [
             ..AROUND
         },
         RULE,
+    ),
+    // f32.const
+    (
+        Parts {
+            bodies: &[&[0x43, 0x00, 0x00, 0x00, 0x00, 0x1A, 0x20, 0x00]],
+            ..AROUND
+        },
+        Some(Invalid::Function(1)),
+    ),
+    // f32.add behind unreachable
+    (
+        Parts {
+            bodies: &[&[0x00, 0x92, 0x1A, 0x20, 0x00]],
+            ..AROUND
+        },
+        Some(Invalid::Function(1)),
+    ),
+    // i32.extend8_s
+    (
+        Parts {
+            bodies: &[&[0x20, 0x00, 0xC0]],
+            ..AROUND
+        },
+        Some(Invalid::Function(1)),
     ),
     // no memory for a load
     (
@@ -1337,6 +1392,8 @@ fn item(alloc: Global, code: u8, rest: &[u8]) -> Result<Instr, Fail> {
         0x40 => Instr::MemoryGrow,
         0x41 => Instr::I32Const(x),
         0x42 => Instr::I64Const(u64::from(x)),
+        0x43 => Instr::F32Const(x),
+        0xC0 => Instr::Extend(SignExtension::I32Extend8S),
         _ => numeric(code, x),
     })
 }
@@ -1354,6 +1411,14 @@ fn table(alloc: Global, rest: &[u8]) -> Result<Instr, Fail> {
     })
 }
 
+/// An operator with floats.
+fn float(code: u8) -> Instr {
+    match FloatOp::by_code(code) {
+        Some(op) => Instr::Float(op),
+        None => Instr::Nop,
+    }
+}
+
 /// An access or an operator.
 fn numeric(code: u8, alignment: u32) -> Instr {
     let argument = MemoryArgument {
@@ -1364,7 +1429,7 @@ fn numeric(code: u8, alignment: u32) -> Instr {
         (Some(kind), _) if kind.is_load() => Instr::Load { kind, argument },
         (Some(kind), _) => Instr::Store { kind, argument },
         (None, Some(op)) => Instr::Integer(op),
-        (None, None) => Instr::Nop,
+        (None, None) => float(code),
     }
 }
 
@@ -1373,6 +1438,7 @@ fn immediates(code: u8, rest: &[u8]) -> usize {
     match code {
         0x02..=0x04 | 0x0C | 0x0D | 0x10 | 0x20..=0x24 | 0x3F..=0x42 => 1,
         0x11 | 0x28..=0x3E => 2,
+        0x43 => 4,
         0x0E => 2 + rest.first().map_or(0, |count| usize::from(*count)),
         _ => 0,
     }
