@@ -136,6 +136,8 @@ const bodies = [
  ["03 40 41 00 0C 00 0B 20 00","a branch to a loop leaves operands"],["03 7F 41 00 20 00 0D 00 0B","br_if to a loop keeps its operand"],["02 40 00 04 7F 41 01 05 42 01 0B 1A 0B 20 00","else part of i64 behind unreachable"],
  ["05 20 00","else without if"],["20 00 04 40 05 05 0B 20 00","a second else"],["02 40 05 0B 20 00","else in a block"],["20 00 0B 20 00","an end too many"],["02 7F 20 00","a block that isn't closed"],
  ["03 40 41 00 0C 00 0B 20 00","a branch to a loop leaves operands"],["03 7F 41 00 20 00 0D 00 0B","br_if to a loop keeps its operand"],["02 40 00 04 7F 41 01 05 42 01 0B 1A 0B 20 00","else part of i64 behind unreachable"],
+ ["05 20 00","else without if"],["20 00 04 40 05 05 0B 20 00","a second else"],["02 40 05 0B 20 00","else in a block"],["20 00 0B 20 00","an end too many"],["02 7F 20 00","a block that isn't closed"],
+ ["03 40 41 00 0C 00 0B 20 00","a branch to a loop leaves operands"],["03 7F 41 00 20 00 0D 00 0B","br_if to a loop keeps its operand"],["02 40 00 04 7F 41 01 05 42 01 0B 1A 0B 20 00","else part of i64 behind unreachable"],
 ];
 
 const few = [[[], []], [["I32"], ["I32"]]];
@@ -164,6 +166,10 @@ const modules = [
   ["a local of f32", { locals: [[1, "F32"]] }, "RULE"],
   ["locals in several runs", { locals: [[2, "I32"], [0, "I64"], [1, "I64"]], bodies: ["20 03 A7 20 02 6A"] }],
   ["a block of f32", { bodies: ["02 7D 00 0B 1A 20 00"] }, "RULE"],
+  // no item with floats has a typing in the profile, and no extension by sign, which came after version 1.0
+  ["f32.const", { bodies: ["43 00 00 00 00 1A 20 00"] }, "Some(Invalid::Function(1))"],
+  ["f32.add behind unreachable", { bodies: ["00 92 1A 20 00"] }, "Some(Invalid::Function(1))"],
+  ["i32.extend8_s", { bodies: ["20 00 C0"] }, "Some(Invalid::Function(1))"],
   ["no memory for a load", { memories: [], bodies: ["20 00 28 02 00"] }],
   ["no memory for a store", { memories: [], bodies: ["20 00 20 00 36 02 00 20 00"] }],
   ["no memory for memory.size", { memories: [], bodies: ["3F 00"] }],

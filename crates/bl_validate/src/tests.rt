@@ -4,18 +4,18 @@
 //!
 //! Node goes by a later version. This profile differs from it in these cases, which have the profile's answer: a float type
 //! of a parameter, a result, a local, a global or a block breaks a rule, and so do a type of two results, a second table and
-//! a start function; a function of a type that doesn't exist, or without code, has no typing; the offset of a segment may be
-//! any immutable global of i32, and not an imported one alone.
+//! a start function; an item with floats, an extension by sign, a function of a type that doesn't exist and one without code
+//! have no typing; the offset of a segment may be any immutable global of i32, and not an imported one alone.
 ghost use Rattle.std.specs.Prelude.{◌<◌, ◌^◌, IsTrue, length};
 ghost use Rattle.bl_wasm.specs.Validity.{functions_of};
 
 use super::*;
 use bl_base::{List, Text};
 use bl_ops::{AccessKind, by_code};
+use bl_wasm::WasmType::{self, F32, F64, I32, I64};
 use bl_wasm::{
-    Code, DataSegment, DefinedGlobal, ElementSegment, Export, ExportKind, FuncType, GlobalType,
-    Import, ImportKind, Instr, Limits, LocalRun, MemoryArgument, Module,
-    WasmType::{self, F32, F64, I32, I64},
+    Code, DataSegment, DefinedGlobal, ElementSegment, Export, ExportKind, FloatOp, FuncType,
+    GlobalType, Import, ImportKind, Instr, Limits, LocalRun, MemoryArgument, Module, SignExtension,
 };
 use std::alloc::Global;
 use std::test::Fail;
@@ -78,7 +78,7 @@ const AROUND: Parts = Parts {
 };
 
 /// Bodies without their `end`, in the binary format, and whether the module round each is valid.
-const BODIES: [(&[u8], bool); 146] = [
+static BODIES: [(&[u8], bool); 154] = [
     // the parameter
     (&[0x20, 0x00], true),
     // no operand for the result
@@ -122,9 +122,15 @@ const BODIES: [(&[u8], bool); 146] = [
     // endless loop
     (&[0x03, 0x40, 0x0C, 0x00, 0x0B, 0x41, 0x00], true),
     // br_if to a loop
-    (&[0x03, 0x7F, 0x20, 0x00, 0x0D, 0x00, 0x41, 0x00, 0x0B], true),
+    (
+        &[0x03, 0x7F, 0x20, 0x00, 0x0D, 0x00, 0x41, 0x00, 0x0B],
+        true,
+    ),
     // if with both parts
-    (&[0x20, 0x00, 0x04, 0x7F, 0x41, 0x01, 0x05, 0x41, 0x02, 0x0B], true),
+    (
+        &[0x20, 0x00, 0x04, 0x7F, 0x41, 0x01, 0x05, 0x41, 0x02, 0x0B],
+        true,
+    ),
     // if without else has a result
     (&[0x20, 0x00, 0x04, 0x7F, 0x41, 0x01, 0x0B], false),
     // if without else or result
@@ -140,9 +146,15 @@ const BODIES: [(&[u8], bool); 146] = [
     // both parts can't be reached
     (&[0x20, 0x00, 0x04, 0x7F, 0x00, 0x05, 0x00, 0x0B], true),
     // then part of i64
-    (&[0x20, 0x00, 0x04, 0x7F, 0x42, 0x00, 0x05, 0x41, 0x01, 0x0B], false),
+    (
+        &[0x20, 0x00, 0x04, 0x7F, 0x42, 0x00, 0x05, 0x41, 0x01, 0x0B],
+        false,
+    ),
     // then part leaves an operand
-    (&[0x20, 0x00, 0x04, 0x40, 0x41, 0x00, 0x05, 0x0B, 0x20, 0x00], false),
+    (
+        &[0x20, 0x00, 0x04, 0x40, 0x41, 0x00, 0x05, 0x0B, 0x20, 0x00],
+        false,
+    ),
     // br to a block
     (&[0x02, 0x7F, 0x41, 0x05, 0x0C, 0x00, 0x0B], true),
     // br without the operand
@@ -154,43 +166,92 @@ const BODIES: [(&[u8], bool); 146] = [
     // br to the function without its result
     (&[0x0C, 0x00], false),
     // br out of a block to the function
-    (&[0x02, 0x40, 0x41, 0x07, 0x0C, 0x01, 0x0B, 0x20, 0x00], true),
+    (
+        &[0x02, 0x40, 0x41, 0x07, 0x0C, 0x01, 0x0B, 0x20, 0x00],
+        true,
+    ),
     // code behind br
     (&[0x41, 0x01, 0x0C, 0x00, 0x6A], true),
     // i32.add behind br in a block
-    (&[0x02, 0x40, 0x0C, 0x00, 0x6A, 0x1A, 0x0B, 0x20, 0x00], true),
+    (
+        &[0x02, 0x40, 0x0C, 0x00, 0x6A, 0x1A, 0x0B, 0x20, 0x00],
+        true,
+    ),
     // br with an i64
     (&[0x42, 0x01, 0x0C, 0x00], false),
     // br_if
-    (&[0x02, 0x7F, 0x41, 0x01, 0x20, 0x00, 0x0D, 0x00, 0x0B], true),
+    (
+        &[0x02, 0x7F, 0x41, 0x01, 0x20, 0x00, 0x0D, 0x00, 0x0B],
+        true,
+    ),
     // br_if without the operand
     (&[0x02, 0x7F, 0x20, 0x00, 0x0D, 0x00, 0x0B], false),
     // br_if with an i64 condition
-    (&[0x02, 0x7F, 0x41, 0x01, 0x42, 0x00, 0x0D, 0x00, 0x0B], false),
+    (
+        &[0x02, 0x7F, 0x41, 0x01, 0x42, 0x00, 0x0D, 0x00, 0x0B],
+        false,
+    ),
     // br_if behind unreachable
     (&[0x02, 0x7F, 0x00, 0x0D, 0x00, 0x0B], true),
     // br_if to no label
     (&[0x41, 0x01, 0x20, 0x00, 0x0D, 0x01], false),
     // br_if leaves the label's types
-    (&[0x02, 0x7E, 0x00, 0x41, 0x00, 0x0D, 0x00, 0x0B, 0xA7], true),
+    (
+        &[0x02, 0x7E, 0x00, 0x41, 0x00, 0x0D, 0x00, 0x0B, 0xA7],
+        true,
+    ),
     // br_if leaves the label's types, used as another
-    (&[0x02, 0x7E, 0x00, 0x41, 0x00, 0x0D, 0x00, 0x6A, 0x0B, 0xA7], false),
+    (
+        &[0x02, 0x7E, 0x00, 0x41, 0x00, 0x0D, 0x00, 0x6A, 0x0B, 0xA7],
+        false,
+    ),
     // br_table
-    (&[0x02, 0x7F, 0x41, 0x01, 0x20, 0x00, 0x0E, 0x01, 0x00, 0x01, 0x0B], true),
+    (
+        &[
+            0x02, 0x7F, 0x41, 0x01, 0x20, 0x00, 0x0E, 0x01, 0x00, 0x01, 0x0B,
+        ],
+        true,
+    ),
     // br_table of labels with different types
-    (&[0x02, 0x40, 0x41, 0x01, 0x20, 0x00, 0x0E, 0x01, 0x00, 0x01, 0x0B, 0x20, 0x00], false),
+    (
+        &[
+            0x02, 0x40, 0x41, 0x01, 0x20, 0x00, 0x0E, 0x01, 0x00, 0x01, 0x0B, 0x20, 0x00,
+        ],
+        false,
+    ),
     // br_table to no label
-    (&[0x02, 0x7F, 0x41, 0x01, 0x20, 0x00, 0x0E, 0x00, 0x02, 0x0B], false),
+    (
+        &[0x02, 0x7F, 0x41, 0x01, 0x20, 0x00, 0x0E, 0x00, 0x02, 0x0B],
+        false,
+    ),
     // br_table with an entry to no label
-    (&[0x02, 0x7F, 0x41, 0x01, 0x20, 0x00, 0x0E, 0x01, 0x02, 0x00, 0x0B], false),
+    (
+        &[
+            0x02, 0x7F, 0x41, 0x01, 0x20, 0x00, 0x0E, 0x01, 0x02, 0x00, 0x0B,
+        ],
+        false,
+    ),
     // br_table without the operand
     (&[0x02, 0x7F, 0x20, 0x00, 0x0E, 0x00, 0x00, 0x0B], false),
     // br_table with an i64 index
-    (&[0x02, 0x7F, 0x41, 0x01, 0x42, 0x00, 0x0E, 0x00, 0x00, 0x0B], false),
+    (
+        &[0x02, 0x7F, 0x41, 0x01, 0x42, 0x00, 0x0E, 0x00, 0x00, 0x0B],
+        false,
+    ),
     // br_table to a loop and a block with a result
-    (&[0x03, 0x7F, 0x02, 0x7F, 0x41, 0x01, 0x20, 0x00, 0x0E, 0x01, 0x00, 0x01, 0x0B, 0x0B], false),
+    (
+        &[
+            0x03, 0x7F, 0x02, 0x7F, 0x41, 0x01, 0x20, 0x00, 0x0E, 0x01, 0x00, 0x01, 0x0B, 0x0B,
+        ],
+        false,
+    ),
     // br_table to a loop and a block without
-    (&[0x03, 0x40, 0x02, 0x40, 0x20, 0x00, 0x0E, 0x01, 0x00, 0x01, 0x0B, 0x0B, 0x20, 0x00], true),
+    (
+        &[
+            0x03, 0x40, 0x02, 0x40, 0x20, 0x00, 0x0E, 0x01, 0x00, 0x01, 0x0B, 0x0B, 0x20, 0x00,
+        ],
+        true,
+    ),
     // code behind br_table
     (&[0x41, 0x01, 0x20, 0x00, 0x0E, 0x00, 0x00, 0x6A], true),
     // return
@@ -222,7 +283,10 @@ const BODIES: [(&[u8], bool); 146] = [
     // call_indirect of no type
     (&[0x20, 0x00, 0x20, 0x00, 0x11, 0x04, 0x00], false),
     // call_indirect of two parameters
-    (&[0x20, 0x00, 0x20, 0x01, 0x20, 0x00, 0x11, 0x02, 0x00, 0xA7], true),
+    (
+        &[0x20, 0x00, 0x20, 0x01, 0x20, 0x00, 0x11, 0x02, 0x00, 0xA7],
+        true,
+    ),
     // call_indirect with an i64 slot
     (&[0x20, 0x00, 0x20, 0x01, 0x11, 0x01, 0x00], false),
     // drop
@@ -290,15 +354,30 @@ const BODIES: [(&[u8], bool); 146] = [
     // i64.load32_s aligned too much
     (&[0x20, 0x00, 0x34, 0x03, 0x00, 0xA7], false),
     // i32.store
-    (&[0x20, 0x00, 0x41, 0x01, 0x36, 0x02, 0x00, 0x20, 0x00], true),
+    (
+        &[0x20, 0x00, 0x41, 0x01, 0x36, 0x02, 0x00, 0x20, 0x00],
+        true,
+    ),
     // i32.store aligned too much
-    (&[0x20, 0x00, 0x41, 0x01, 0x36, 0x03, 0x00, 0x20, 0x00], false),
+    (
+        &[0x20, 0x00, 0x41, 0x01, 0x36, 0x03, 0x00, 0x20, 0x00],
+        false,
+    ),
     // i32.store of an i64
-    (&[0x20, 0x00, 0x42, 0x01, 0x36, 0x02, 0x00, 0x20, 0x00], false),
+    (
+        &[0x20, 0x00, 0x42, 0x01, 0x36, 0x02, 0x00, 0x20, 0x00],
+        false,
+    ),
     // i64.store16
-    (&[0x20, 0x00, 0x42, 0x01, 0x3D, 0x01, 0x00, 0x20, 0x00], true),
+    (
+        &[0x20, 0x00, 0x42, 0x01, 0x3D, 0x01, 0x00, 0x20, 0x00],
+        true,
+    ),
     // i64.store16 aligned too much
-    (&[0x20, 0x00, 0x42, 0x01, 0x3D, 0x02, 0x00, 0x20, 0x00], false),
+    (
+        &[0x20, 0x00, 0x42, 0x01, 0x3D, 0x02, 0x00, 0x20, 0x00],
+        false,
+    ),
     // memory.size
     (&[0x3F, 0x00], true),
     // memory.grow
@@ -326,7 +405,10 @@ const BODIES: [(&[u8], bool); 146] = [
     // else without if
     (&[0x05, 0x20, 0x00], false),
     // a second else
-    (&[0x20, 0x00, 0x04, 0x40, 0x05, 0x05, 0x0B, 0x20, 0x00], false),
+    (
+        &[0x20, 0x00, 0x04, 0x40, 0x05, 0x05, 0x0B, 0x20, 0x00],
+        false,
+    ),
     // else in a block
     (&[0x02, 0x40, 0x05, 0x0B, 0x20, 0x00], false),
     // an end too many
@@ -334,15 +416,30 @@ const BODIES: [(&[u8], bool); 146] = [
     // a block that isn't closed
     (&[0x02, 0x7F, 0x20, 0x00], false),
     // a branch to a loop leaves operands
-    (&[0x03, 0x40, 0x41, 0x00, 0x0C, 0x00, 0x0B, 0x20, 0x00], true),
+    (
+        &[0x03, 0x40, 0x41, 0x00, 0x0C, 0x00, 0x0B, 0x20, 0x00],
+        true,
+    ),
     // br_if to a loop keeps its operand
-    (&[0x03, 0x7F, 0x41, 0x00, 0x20, 0x00, 0x0D, 0x00, 0x0B], true),
+    (
+        &[0x03, 0x7F, 0x41, 0x00, 0x20, 0x00, 0x0D, 0x00, 0x0B],
+        true,
+    ),
     // else part of i64 behind unreachable
-    (&[0x02, 0x40, 0x00, 0x04, 0x7F, 0x41, 0x01, 0x05, 0x42, 0x01, 0x0B, 0x1A, 0x0B, 0x20, 0x00], false),
+    (
+        &[
+            0x02, 0x40, 0x00, 0x04, 0x7F, 0x41, 0x01, 0x05, 0x42, 0x01, 0x0B, 0x1A, 0x0B, 0x20,
+            0x00,
+        ],
+        false,
+    ),
     // else without if
     (&[0x05, 0x20, 0x00], false),
     // a second else
-    (&[0x20, 0x00, 0x04, 0x40, 0x05, 0x05, 0x0B, 0x20, 0x00], false),
+    (
+        &[0x20, 0x00, 0x04, 0x40, 0x05, 0x05, 0x0B, 0x20, 0x00],
+        false,
+    ),
     // else in a block
     (&[0x02, 0x40, 0x05, 0x0B, 0x20, 0x00], false),
     // an end too many
@@ -350,15 +447,30 @@ const BODIES: [(&[u8], bool); 146] = [
     // a block that isn't closed
     (&[0x02, 0x7F, 0x20, 0x00], false),
     // a branch to a loop leaves operands
-    (&[0x03, 0x40, 0x41, 0x00, 0x0C, 0x00, 0x0B, 0x20, 0x00], true),
+    (
+        &[0x03, 0x40, 0x41, 0x00, 0x0C, 0x00, 0x0B, 0x20, 0x00],
+        true,
+    ),
     // br_if to a loop keeps its operand
-    (&[0x03, 0x7F, 0x41, 0x00, 0x20, 0x00, 0x0D, 0x00, 0x0B], true),
+    (
+        &[0x03, 0x7F, 0x41, 0x00, 0x20, 0x00, 0x0D, 0x00, 0x0B],
+        true,
+    ),
     // else part of i64 behind unreachable
-    (&[0x02, 0x40, 0x00, 0x04, 0x7F, 0x41, 0x01, 0x05, 0x42, 0x01, 0x0B, 0x1A, 0x0B, 0x20, 0x00], false),
+    (
+        &[
+            0x02, 0x40, 0x00, 0x04, 0x7F, 0x41, 0x01, 0x05, 0x42, 0x01, 0x0B, 0x1A, 0x0B, 0x20,
+            0x00,
+        ],
+        false,
+    ),
     // else without if
     (&[0x05, 0x20, 0x00], false),
     // a second else
-    (&[0x20, 0x00, 0x04, 0x40, 0x05, 0x05, 0x0B, 0x20, 0x00], false),
+    (
+        &[0x20, 0x00, 0x04, 0x40, 0x05, 0x05, 0x0B, 0x20, 0x00],
+        false,
+    ),
     // else in a block
     (&[0x02, 0x40, 0x05, 0x0B, 0x20, 0x00], false),
     // an end too many
@@ -366,183 +478,873 @@ const BODIES: [(&[u8], bool); 146] = [
     // a block that isn't closed
     (&[0x02, 0x7F, 0x20, 0x00], false),
     // a branch to a loop leaves operands
-    (&[0x03, 0x40, 0x41, 0x00, 0x0C, 0x00, 0x0B, 0x20, 0x00], true),
+    (
+        &[0x03, 0x40, 0x41, 0x00, 0x0C, 0x00, 0x0B, 0x20, 0x00],
+        true,
+    ),
     // br_if to a loop keeps its operand
-    (&[0x03, 0x7F, 0x41, 0x00, 0x20, 0x00, 0x0D, 0x00, 0x0B], true),
+    (
+        &[0x03, 0x7F, 0x41, 0x00, 0x20, 0x00, 0x0D, 0x00, 0x0B],
+        true,
+    ),
     // else part of i64 behind unreachable
-    (&[0x02, 0x40, 0x00, 0x04, 0x7F, 0x41, 0x01, 0x05, 0x42, 0x01, 0x0B, 0x1A, 0x0B, 0x20, 0x00], false),
+    (
+        &[
+            0x02, 0x40, 0x00, 0x04, 0x7F, 0x41, 0x01, 0x05, 0x42, 0x01, 0x0B, 0x1A, 0x0B, 0x20,
+            0x00,
+        ],
+        false,
+    ),
+    // else without if
+    (&[0x05, 0x20, 0x00], false),
+    // a second else
+    (
+        &[0x20, 0x00, 0x04, 0x40, 0x05, 0x05, 0x0B, 0x20, 0x00],
+        false,
+    ),
+    // else in a block
+    (&[0x02, 0x40, 0x05, 0x0B, 0x20, 0x00], false),
+    // an end too many
+    (&[0x20, 0x00, 0x0B, 0x20, 0x00], false),
+    // a block that isn't closed
+    (&[0x02, 0x7F, 0x20, 0x00], false),
+    // a branch to a loop leaves operands
+    (
+        &[0x03, 0x40, 0x41, 0x00, 0x0C, 0x00, 0x0B, 0x20, 0x00],
+        true,
+    ),
+    // br_if to a loop keeps its operand
+    (
+        &[0x03, 0x7F, 0x41, 0x00, 0x20, 0x00, 0x0D, 0x00, 0x0B],
+        true,
+    ),
+    // else part of i64 behind unreachable
+    (
+        &[
+            0x02, 0x40, 0x00, 0x04, 0x7F, 0x41, 0x01, 0x05, 0x42, 0x01, 0x0B, 0x1A, 0x0B, 0x20,
+            0x00,
+        ],
+        false,
+    ),
 ];
 
 /// Modules, and why each isn't valid.
-const MODULES: [(Parts, Option<Invalid>); 84] = [
+static MODULES: [(Parts, Option<Invalid>); 87] = [
     // as it is
     (Parts { ..AROUND }, None),
     // an f32 parameter
-    (Parts { types: &[(&[], &[]), (&[I32], &[I32]), (&[F32], &[])], ..AROUND }, RULE),
+    (
+        Parts {
+            types: &[(&[], &[]), (&[I32], &[I32]), (&[F32], &[])],
+            ..AROUND
+        },
+        RULE,
+    ),
     // an f64 result
-    (Parts { types: &[(&[], &[]), (&[I32], &[I32]), (&[], &[F64])], ..AROUND }, RULE),
+    (
+        Parts {
+            types: &[(&[], &[]), (&[I32], &[I32]), (&[], &[F64])],
+            ..AROUND
+        },
+        RULE,
+    ),
     // two results
-    (Parts { types: &[(&[], &[]), (&[I32], &[I32]), (&[], &[I32, I32])], ..AROUND }, RULE),
+    (
+        Parts {
+            types: &[(&[], &[]), (&[I32], &[I32]), (&[], &[I32, I32])],
+            ..AROUND
+        },
+        RULE,
+    ),
     // two results of the function, with a typing
-    (Parts { types: &[(&[], &[I32, I32])], imports: &[], functions: &[0], tables: &[], memories: &[], globals: &[], locals: &[], bodies: &[&[0x41, 0x00, 0x41, 0x00]], ..AROUND }, RULE),
+    (
+        Parts {
+            types: &[(&[], &[I32, I32])],
+            imports: &[],
+            functions: &[0],
+            tables: &[],
+            memories: &[],
+            globals: &[],
+            locals: &[],
+            bodies: &[&[0x41, 0x00, 0x41, 0x00]],
+            ..AROUND
+        },
+        RULE,
+    ),
     // no types
-    (Parts { types: &[], imports: &[CONSTANT], functions: &[], bodies: &[], ..AROUND }, None),
+    (
+        Parts {
+            types: &[],
+            imports: &[CONSTANT],
+            functions: &[],
+            bodies: &[],
+            ..AROUND
+        },
+        None,
+    ),
     // an import's type doesn't exist
-    (Parts { imports: &[ImportKind::Function(4), CONSTANT], ..AROUND }, RULE),
+    (
+        Parts {
+            imports: &[ImportKind::Function(4), CONSTANT],
+            ..AROUND
+        },
+        RULE,
+    ),
     // a function's type doesn't exist
-    (Parts { functions: &[4], ..AROUND }, Some(Invalid::Function(1))),
+    (
+        Parts {
+            functions: &[4],
+            ..AROUND
+        },
+        Some(Invalid::Function(1)),
+    ),
     // a function without code
-    (Parts { functions: &[1, 1], ..AROUND }, Some(Invalid::Function(2))),
+    (
+        Parts {
+            functions: &[1, 1],
+            ..AROUND
+        },
+        Some(Invalid::Function(2)),
+    ),
     // a code without function
-    (Parts { bodies: &[&[0x20, 0x00], &[0x20, 0x00]], ..AROUND }, RULE),
+    (
+        Parts {
+            bodies: &[&[0x20, 0x00], &[0x20, 0x00]],
+            ..AROUND
+        },
+        RULE,
+    ),
     // a body without operands
-    (Parts { types: &[(&[], &[])], imports: &[], functions: &[0], tables: &[], memories: &[], globals: &[], locals: &[], bodies: &[&[0x6A]], ..AROUND }, Some(Invalid::Function(0))),
+    (
+        Parts {
+            types: &[(&[], &[])],
+            imports: &[],
+            functions: &[0],
+            tables: &[],
+            memories: &[],
+            globals: &[],
+            locals: &[],
+            bodies: &[&[0x6A]],
+            ..AROUND
+        },
+        Some(Invalid::Function(0)),
+    ),
     // that body behind an import
-    (Parts { types: &[(&[], &[])], imports: &[ImportKind::Function(0)], functions: &[0], tables: &[], memories: &[], globals: &[], locals: &[], bodies: &[&[0x6A]], ..AROUND }, Some(Invalid::Function(1))),
+    (
+        Parts {
+            types: &[(&[], &[])],
+            imports: &[ImportKind::Function(0)],
+            functions: &[0],
+            tables: &[],
+            memories: &[],
+            globals: &[],
+            locals: &[],
+            bodies: &[&[0x6A]],
+            ..AROUND
+        },
+        Some(Invalid::Function(1)),
+    ),
     // that body behind unreachable
-    (Parts { types: &[(&[], &[])], imports: &[], functions: &[0], tables: &[], memories: &[], globals: &[], locals: &[], bodies: &[&[0x00, 0x6A, 0x1A]], ..AROUND }, None),
+    (
+        Parts {
+            types: &[(&[], &[])],
+            imports: &[],
+            functions: &[0],
+            tables: &[],
+            memories: &[],
+            globals: &[],
+            locals: &[],
+            bodies: &[&[0x00, 0x6A, 0x1A]],
+            ..AROUND
+        },
+        None,
+    ),
     // two such bodies
-    (Parts { functions: &[1, 1, 1], bodies: &[&[0x20, 0x00], &[0x6A], &[0x6A]], ..AROUND }, Some(Invalid::Function(2))),
+    (
+        Parts {
+            functions: &[1, 1, 1],
+            bodies: &[&[0x20, 0x00], &[0x6A], &[0x6A]],
+            ..AROUND
+        },
+        Some(Invalid::Function(2)),
+    ),
     // that body and a second memory
-    (Parts { memories: &[(1, None), (1, None)], bodies: &[&[0x6A]], ..AROUND }, Some(Invalid::Function(1))),
+    (
+        Parts {
+            memories: &[(1, None), (1, None)],
+            bodies: &[&[0x6A]],
+            ..AROUND
+        },
+        Some(Invalid::Function(1)),
+    ),
     // a type of two results beside that body
-    (Parts { types: &[(&[], &[]), (&[I32], &[I32]), (&[], &[I32, I32])], bodies: &[&[0x6A]], ..AROUND }, Some(Invalid::Function(1))),
+    (
+        Parts {
+            types: &[(&[], &[]), (&[I32], &[I32]), (&[], &[I32, I32])],
+            bodies: &[&[0x6A]],
+            ..AROUND
+        },
+        Some(Invalid::Function(1)),
+    ),
     // a local of f32
-    (Parts { locals: &[(1, F32)], ..AROUND }, RULE),
+    (
+        Parts {
+            locals: &[(1, F32)],
+            ..AROUND
+        },
+        RULE,
+    ),
     // locals in several runs
-    (Parts { locals: &[(2, I32), (0, I64), (1, I64)], bodies: &[&[0x20, 0x03, 0xA7, 0x20, 0x02, 0x6A]], ..AROUND }, None),
+    (
+        Parts {
+            locals: &[(2, I32), (0, I64), (1, I64)],
+            bodies: &[&[0x20, 0x03, 0xA7, 0x20, 0x02, 0x6A]],
+            ..AROUND
+        },
+        None,
+    ),
     // a block of f32
-    (Parts { bodies: &[&[0x02, 0x7D, 0x00, 0x0B, 0x1A, 0x20, 0x00]], ..AROUND }, RULE),
+    (
+        Parts {
+            bodies: &[&[0x02, 0x7D, 0x00, 0x0B, 0x1A, 0x20, 0x00]],
+            ..AROUND
+        },
+        RULE,
+    ),
+    // f32.const
+    (
+        Parts {
+            bodies: &[&[0x43, 0x00, 0x00, 0x00, 0x00, 0x1A, 0x20, 0x00]],
+            ..AROUND
+        },
+        Some(Invalid::Function(1)),
+    ),
+    // f32.add behind unreachable
+    (
+        Parts {
+            bodies: &[&[0x00, 0x92, 0x1A, 0x20, 0x00]],
+            ..AROUND
+        },
+        Some(Invalid::Function(1)),
+    ),
+    // i32.extend8_s
+    (
+        Parts {
+            bodies: &[&[0x20, 0x00, 0xC0]],
+            ..AROUND
+        },
+        Some(Invalid::Function(1)),
+    ),
     // no memory for a load
-    (Parts { memories: &[], bodies: &[&[0x20, 0x00, 0x28, 0x02, 0x00]], ..AROUND }, Some(Invalid::Function(1))),
+    (
+        Parts {
+            memories: &[],
+            bodies: &[&[0x20, 0x00, 0x28, 0x02, 0x00]],
+            ..AROUND
+        },
+        Some(Invalid::Function(1)),
+    ),
     // no memory for a store
-    (Parts { memories: &[], bodies: &[&[0x20, 0x00, 0x20, 0x00, 0x36, 0x02, 0x00, 0x20, 0x00]], ..AROUND }, Some(Invalid::Function(1))),
+    (
+        Parts {
+            memories: &[],
+            bodies: &[&[0x20, 0x00, 0x20, 0x00, 0x36, 0x02, 0x00, 0x20, 0x00]],
+            ..AROUND
+        },
+        Some(Invalid::Function(1)),
+    ),
     // no memory for memory.size
-    (Parts { memories: &[], bodies: &[&[0x3F, 0x00]], ..AROUND }, Some(Invalid::Function(1))),
+    (
+        Parts {
+            memories: &[],
+            bodies: &[&[0x3F, 0x00]],
+            ..AROUND
+        },
+        Some(Invalid::Function(1)),
+    ),
     // no memory for memory.grow
-    (Parts { memories: &[], bodies: &[&[0x20, 0x00, 0x40, 0x00]], ..AROUND }, Some(Invalid::Function(1))),
+    (
+        Parts {
+            memories: &[],
+            bodies: &[&[0x20, 0x00, 0x40, 0x00]],
+            ..AROUND
+        },
+        Some(Invalid::Function(1)),
+    ),
     // an imported memory
-    (Parts { imports: &[FUNCTION, CONSTANT, ImportKind::Memory(Limits { min: 1, max: None })], memories: &[], bodies: &[&[0x20, 0x00, 0x28, 0x02, 0x00]], ..AROUND }, None),
+    (
+        Parts {
+            imports: &[
+                FUNCTION,
+                CONSTANT,
+                ImportKind::Memory(Limits { min: 1, max: None }),
+            ],
+            memories: &[],
+            bodies: &[&[0x20, 0x00, 0x28, 0x02, 0x00]],
+            ..AROUND
+        },
+        None,
+    ),
     // no table for call_indirect
-    (Parts { tables: &[], bodies: &[&[0x20, 0x00, 0x20, 0x00, 0x11, 0x01, 0x00]], ..AROUND }, Some(Invalid::Function(1))),
+    (
+        Parts {
+            tables: &[],
+            bodies: &[&[0x20, 0x00, 0x20, 0x00, 0x11, 0x01, 0x00]],
+            ..AROUND
+        },
+        Some(Invalid::Function(1)),
+    ),
     // an imported table
-    (Parts { imports: &[FUNCTION, CONSTANT, ImportKind::Table(Limits { min: 1, max: None })], tables: &[], bodies: &[&[0x20, 0x00, 0x20, 0x00, 0x11, 0x01, 0x00]], ..AROUND }, None),
+    (
+        Parts {
+            imports: &[
+                FUNCTION,
+                CONSTANT,
+                ImportKind::Table(Limits { min: 1, max: None }),
+            ],
+            tables: &[],
+            bodies: &[&[0x20, 0x00, 0x20, 0x00, 0x11, 0x01, 0x00]],
+            ..AROUND
+        },
+        None,
+    ),
     // global.set of an imported variable
-    (Parts { imports: &[FUNCTION, ImportKind::Global(GlobalType { kind: I32, mutable: true })], bodies: &[&[0x20, 0x00, 0x24, 0x00, 0x20, 0x00]], ..AROUND }, None),
+    (
+        Parts {
+            imports: &[
+                FUNCTION,
+                ImportKind::Global(GlobalType {
+                    kind: I32,
+                    mutable: true,
+                }),
+            ],
+            bodies: &[&[0x20, 0x00, 0x24, 0x00, 0x20, 0x00]],
+            ..AROUND
+        },
+        None,
+    ),
     // a second table
-    (Parts { tables: &[(1, None), (1, None)], ..AROUND }, RULE),
+    (
+        Parts {
+            tables: &[(1, None), (1, None)],
+            ..AROUND
+        },
+        RULE,
+    ),
     // an imported table beside one
-    (Parts { imports: &[FUNCTION, CONSTANT, ImportKind::Table(Limits { min: 1, max: None })], ..AROUND }, RULE),
+    (
+        Parts {
+            imports: &[
+                FUNCTION,
+                CONSTANT,
+                ImportKind::Table(Limits { min: 1, max: None }),
+            ],
+            ..AROUND
+        },
+        RULE,
+    ),
     // a second memory
-    (Parts { memories: &[(1, None), (1, None)], ..AROUND }, RULE),
+    (
+        Parts {
+            memories: &[(1, None), (1, None)],
+            ..AROUND
+        },
+        RULE,
+    ),
     // an imported memory beside one
-    (Parts { imports: &[FUNCTION, CONSTANT, ImportKind::Memory(Limits { min: 1, max: None })], ..AROUND }, RULE),
+    (
+        Parts {
+            imports: &[
+                FUNCTION,
+                CONSTANT,
+                ImportKind::Memory(Limits { min: 1, max: None }),
+            ],
+            ..AROUND
+        },
+        RULE,
+    ),
     // a table's minimum above its maximum
-    (Parts { tables: &[(2, Some(1))], ..AROUND }, RULE),
+    (
+        Parts {
+            tables: &[(2, Some(1))],
+            ..AROUND
+        },
+        RULE,
+    ),
     // a table's minimum at its maximum
-    (Parts { tables: &[(2, Some(2))], ..AROUND }, None),
+    (
+        Parts {
+            tables: &[(2, Some(2))],
+            ..AROUND
+        },
+        None,
+    ),
     // an imported table's minimum above its maximum
-    (Parts { imports: &[FUNCTION, CONSTANT, ImportKind::Table(Limits { min: 2, max: Some(1) })], tables: &[], ..AROUND }, RULE),
+    (
+        Parts {
+            imports: &[
+                FUNCTION,
+                CONSTANT,
+                ImportKind::Table(Limits {
+                    min: 2,
+                    max: Some(1),
+                }),
+            ],
+            tables: &[],
+            ..AROUND
+        },
+        RULE,
+    ),
     // a memory's minimum above its maximum
-    (Parts { memories: &[(2, Some(1))], ..AROUND }, RULE),
+    (
+        Parts {
+            memories: &[(2, Some(1))],
+            ..AROUND
+        },
+        RULE,
+    ),
     // a memory's minimum at its maximum
-    (Parts { memories: &[(2, Some(2))], ..AROUND }, None),
+    (
+        Parts {
+            memories: &[(2, Some(2))],
+            ..AROUND
+        },
+        None,
+    ),
     // a memory's minimum of 65,536
-    (Parts { memories: &[(65536, None)], ..AROUND }, None),
+    (
+        Parts {
+            memories: &[(65536, None)],
+            ..AROUND
+        },
+        None,
+    ),
     // a memory's minimum of 65,537
-    (Parts { memories: &[(65537, None)], ..AROUND }, RULE),
+    (
+        Parts {
+            memories: &[(65537, None)],
+            ..AROUND
+        },
+        RULE,
+    ),
     // a memory's maximum of 65,536
-    (Parts { memories: &[(1, Some(65536))], ..AROUND }, None),
+    (
+        Parts {
+            memories: &[(1, Some(65536))],
+            ..AROUND
+        },
+        None,
+    ),
     // a memory's maximum of 65,537
-    (Parts { memories: &[(1, Some(65537))], ..AROUND }, RULE),
+    (
+        Parts {
+            memories: &[(1, Some(65537))],
+            ..AROUND
+        },
+        RULE,
+    ),
     // an imported memory's maximum of 65,537
-    (Parts { imports: &[FUNCTION, CONSTANT, ImportKind::Memory(Limits { min: 1, max: Some(65537) })], memories: &[], ..AROUND }, RULE),
+    (
+        Parts {
+            imports: &[
+                FUNCTION,
+                CONSTANT,
+                ImportKind::Memory(Limits {
+                    min: 1,
+                    max: Some(65537),
+                }),
+            ],
+            memories: &[],
+            ..AROUND
+        },
+        RULE,
+    ),
     // an imported global of f64
-    (Parts { imports: &[FUNCTION, CONSTANT, ImportKind::Global(GlobalType { kind: F64, mutable: false })], ..AROUND }, RULE),
+    (
+        Parts {
+            imports: &[
+                FUNCTION,
+                CONSTANT,
+                ImportKind::Global(GlobalType {
+                    kind: F64,
+                    mutable: false,
+                }),
+            ],
+            ..AROUND
+        },
+        RULE,
+    ),
     // a global of another type than its constant
-    (Parts { globals: &[(I64, true, &[0x41, 0x00])], ..AROUND }, RULE),
+    (
+        Parts {
+            globals: &[(I64, true, &[0x41, 0x00])],
+            ..AROUND
+        },
+        RULE,
+    ),
     // a global without first value
-    (Parts { globals: &[(I64, true, &[])], ..AROUND }, RULE),
+    (
+        Parts {
+            globals: &[(I64, true, &[])],
+            ..AROUND
+        },
+        RULE,
+    ),
     // a global of two constants
-    (Parts { globals: &[(I64, true, &[0x42, 0x00, 0x42, 0x00])], ..AROUND }, RULE),
+    (
+        Parts {
+            globals: &[(I64, true, &[0x42, 0x00, 0x42, 0x00])],
+            ..AROUND
+        },
+        RULE,
+    ),
     // a global of a size
-    (Parts { globals: &[(I32, true, &[0x3F, 0x00])], ..AROUND }, RULE),
+    (
+        Parts {
+            globals: &[(I32, true, &[0x3F, 0x00])],
+            ..AROUND
+        },
+        RULE,
+    ),
     // a global of an imported one
-    (Parts { globals: &[(I64, true, &[0x42, 0x00]), (I32, false, &[0x23, 0x00])], ..AROUND }, None),
+    (
+        Parts {
+            globals: &[(I64, true, &[0x42, 0x00]), (I32, false, &[0x23, 0x00])],
+            ..AROUND
+        },
+        None,
+    ),
     // a global of an imported one of another type
-    (Parts { globals: &[(I64, true, &[0x42, 0x00]), (I64, false, &[0x23, 0x00])], ..AROUND }, RULE),
+    (
+        Parts {
+            globals: &[(I64, true, &[0x42, 0x00]), (I64, false, &[0x23, 0x00])],
+            ..AROUND
+        },
+        RULE,
+    ),
     // a global of an imported variable
-    (Parts { imports: &[FUNCTION, ImportKind::Global(GlobalType { kind: I32, mutable: true })], globals: &[(I32, false, &[0x23, 0x00])], ..AROUND }, RULE),
+    (
+        Parts {
+            imports: &[
+                FUNCTION,
+                ImportKind::Global(GlobalType {
+                    kind: I32,
+                    mutable: true,
+                }),
+            ],
+            globals: &[(I32, false, &[0x23, 0x00])],
+            ..AROUND
+        },
+        RULE,
+    ),
     // a global of a variable that is defined
-    (Parts { globals: &[(I64, true, &[0x42, 0x00]), (I64, false, &[0x23, 0x01])], ..AROUND }, RULE),
+    (
+        Parts {
+            globals: &[(I64, true, &[0x42, 0x00]), (I64, false, &[0x23, 0x01])],
+            ..AROUND
+        },
+        RULE,
+    ),
     // a global of a constant that is defined
-    (Parts { globals: &[(I32, false, &[0x41, 0x00]), (I32, false, &[0x23, 0x01])], ..AROUND }, RULE),
+    (
+        Parts {
+            globals: &[(I32, false, &[0x41, 0x00]), (I32, false, &[0x23, 0x01])],
+            ..AROUND
+        },
+        RULE,
+    ),
     // a global of none
-    (Parts { globals: &[(I64, true, &[0x42, 0x00]), (I32, false, &[0x23, 0x07])], ..AROUND }, RULE),
+    (
+        Parts {
+            globals: &[(I64, true, &[0x42, 0x00]), (I32, false, &[0x23, 0x07])],
+            ..AROUND
+        },
+        RULE,
+    ),
     // a segment
-    (Parts { elements: &[(0, &[0x41, 0x00], &[1, 0])], ..AROUND }, None),
+    (
+        Parts {
+            elements: &[(0, &[0x41, 0x00], &[1, 0])],
+            ..AROUND
+        },
+        None,
+    ),
     // a segment without functions
-    (Parts { elements: &[(0, &[0x41, 0x00], &[])], ..AROUND }, None),
+    (
+        Parts {
+            elements: &[(0, &[0x41, 0x00], &[])],
+            ..AROUND
+        },
+        None,
+    ),
     // a segment of no table
-    (Parts { elements: &[(1, &[0x41, 0x00], &[1])], ..AROUND }, RULE),
+    (
+        Parts {
+            elements: &[(1, &[0x41, 0x00], &[1])],
+            ..AROUND
+        },
+        RULE,
+    ),
     // a segment where there is no table
-    (Parts { tables: &[], elements: &[(0, &[0x41, 0x00], &[1])], ..AROUND }, RULE),
+    (
+        Parts {
+            tables: &[],
+            elements: &[(0, &[0x41, 0x00], &[1])],
+            ..AROUND
+        },
+        RULE,
+    ),
     // a segment of no function
-    (Parts { elements: &[(0, &[0x41, 0x00], &[1, 2])], ..AROUND }, RULE),
+    (
+        Parts {
+            elements: &[(0, &[0x41, 0x00], &[1, 2])],
+            ..AROUND
+        },
+        RULE,
+    ),
     // a segment at an i64
-    (Parts { elements: &[(0, &[0x42, 0x00], &[1])], ..AROUND }, RULE),
+    (
+        Parts {
+            elements: &[(0, &[0x42, 0x00], &[1])],
+            ..AROUND
+        },
+        RULE,
+    ),
     // a segment at an imported global
-    (Parts { elements: &[(0, &[0x23, 0x00], &[1])], ..AROUND }, None),
+    (
+        Parts {
+            elements: &[(0, &[0x23, 0x00], &[1])],
+            ..AROUND
+        },
+        None,
+    ),
     // a segment at a constant that is defined
-    (Parts { globals: &[(I32, false, &[0x41, 0x00])], elements: &[(0, &[0x23, 0x01], &[1])], ..AROUND }, None),
+    (
+        Parts {
+            globals: &[(I32, false, &[0x41, 0x00])],
+            elements: &[(0, &[0x23, 0x01], &[1])],
+            ..AROUND
+        },
+        None,
+    ),
     // a segment at a variable
-    (Parts { elements: &[(0, &[0x23, 0x01], &[1])], ..AROUND }, RULE),
+    (
+        Parts {
+            elements: &[(0, &[0x23, 0x01], &[1])],
+            ..AROUND
+        },
+        RULE,
+    ),
     // a segment at nothing
-    (Parts { elements: &[(0, &[], &[1])], ..AROUND }, RULE),
+    (
+        Parts {
+            elements: &[(0, &[], &[1])],
+            ..AROUND
+        },
+        RULE,
+    ),
     // data
-    (Parts { segments: &[(0, &[0x41, 0x00])], ..AROUND }, None),
+    (
+        Parts {
+            segments: &[(0, &[0x41, 0x00])],
+            ..AROUND
+        },
+        None,
+    ),
     // data of no memory
-    (Parts { segments: &[(1, &[0x41, 0x00])], ..AROUND }, RULE),
+    (
+        Parts {
+            segments: &[(1, &[0x41, 0x00])],
+            ..AROUND
+        },
+        RULE,
+    ),
     // data where there is no memory
-    (Parts { memories: &[], segments: &[(0, &[0x41, 0x00])], ..AROUND }, RULE),
+    (
+        Parts {
+            memories: &[],
+            segments: &[(0, &[0x41, 0x00])],
+            ..AROUND
+        },
+        RULE,
+    ),
     // data at an i64
-    (Parts { segments: &[(0, &[0x42, 0x00])], ..AROUND }, RULE),
+    (
+        Parts {
+            segments: &[(0, &[0x42, 0x00])],
+            ..AROUND
+        },
+        RULE,
+    ),
     // data at an imported global
-    (Parts { segments: &[(0, &[0x23, 0x00])], ..AROUND }, None),
+    (
+        Parts {
+            segments: &[(0, &[0x23, 0x00])],
+            ..AROUND
+        },
+        None,
+    ),
     // data at an imported global of i64
-    (Parts { imports: &[FUNCTION, ImportKind::Global(GlobalType { kind: I64, mutable: false })], segments: &[(0, &[0x23, 0x00])], ..AROUND }, RULE),
+    (
+        Parts {
+            imports: &[
+                FUNCTION,
+                ImportKind::Global(GlobalType {
+                    kind: I64,
+                    mutable: false,
+                }),
+            ],
+            segments: &[(0, &[0x23, 0x00])],
+            ..AROUND
+        },
+        RULE,
+    ),
     // data at a constant that is defined
-    (Parts { globals: &[(I32, false, &[0x41, 0x00])], segments: &[(0, &[0x23, 0x01])], ..AROUND }, None),
+    (
+        Parts {
+            globals: &[(I32, false, &[0x41, 0x00])],
+            segments: &[(0, &[0x23, 0x01])],
+            ..AROUND
+        },
+        None,
+    ),
     // data at a variable
-    (Parts { segments: &[(0, &[0x23, 0x01])], ..AROUND }, RULE),
+    (
+        Parts {
+            segments: &[(0, &[0x23, 0x01])],
+            ..AROUND
+        },
+        RULE,
+    ),
     // data at no global
-    (Parts { segments: &[(0, &[0x23, 0x07])], ..AROUND }, RULE),
+    (
+        Parts {
+            segments: &[(0, &[0x23, 0x07])],
+            ..AROUND
+        },
+        RULE,
+    ),
     // data at nothing
-    (Parts { segments: &[(0, &[])], ..AROUND }, RULE),
+    (
+        Parts {
+            segments: &[(0, &[])],
+            ..AROUND
+        },
+        RULE,
+    ),
     // data at two constants
-    (Parts { segments: &[(0, &[0x41, 0x00, 0x41, 0x00])], ..AROUND }, RULE),
+    (
+        Parts {
+            segments: &[(0, &[0x41, 0x00, 0x41, 0x00])],
+            ..AROUND
+        },
+        RULE,
+    ),
     // exports of each kind
-    (Parts { exports: &[(b"f", ExportKind::Function, 1), (b"t", ExportKind::Table, 0), (b"m", ExportKind::Memory, 0), (b"g", ExportKind::Global, 1)], ..AROUND }, None),
+    (
+        Parts {
+            exports: &[
+                (b"f", ExportKind::Function, 1),
+                (b"t", ExportKind::Table, 0),
+                (b"m", ExportKind::Memory, 0),
+                (b"g", ExportKind::Global, 1),
+            ],
+            ..AROUND
+        },
+        None,
+    ),
     // exports of what is imported
-    (Parts { exports: &[(b"f", ExportKind::Function, 0), (b"g", ExportKind::Global, 0)], ..AROUND }, None),
+    (
+        Parts {
+            exports: &[
+                (b"f", ExportKind::Function, 0),
+                (b"g", ExportKind::Global, 0),
+            ],
+            ..AROUND
+        },
+        None,
+    ),
     // one function by two names
-    (Parts { exports: &[(b"f", ExportKind::Function, 1), (b"g", ExportKind::Function, 1)], ..AROUND }, None),
+    (
+        Parts {
+            exports: &[
+                (b"f", ExportKind::Function, 1),
+                (b"g", ExportKind::Function, 1),
+            ],
+            ..AROUND
+        },
+        None,
+    ),
     // an export of no function
-    (Parts { exports: &[(b"f", ExportKind::Function, 2)], ..AROUND }, RULE),
+    (
+        Parts {
+            exports: &[(b"f", ExportKind::Function, 2)],
+            ..AROUND
+        },
+        RULE,
+    ),
     // an export of no table
-    (Parts { exports: &[(b"f", ExportKind::Table, 1)], ..AROUND }, RULE),
+    (
+        Parts {
+            exports: &[(b"f", ExportKind::Table, 1)],
+            ..AROUND
+        },
+        RULE,
+    ),
     // an export of no memory
-    (Parts { exports: &[(b"f", ExportKind::Memory, 1)], ..AROUND }, RULE),
+    (
+        Parts {
+            exports: &[(b"f", ExportKind::Memory, 1)],
+            ..AROUND
+        },
+        RULE,
+    ),
     // an export of no global
-    (Parts { exports: &[(b"f", ExportKind::Global, 2)], ..AROUND }, RULE),
+    (
+        Parts {
+            exports: &[(b"f", ExportKind::Global, 2)],
+            ..AROUND
+        },
+        RULE,
+    ),
     // two exports of one name
-    (Parts { exports: &[(b"f", ExportKind::Function, 1), (b"m", ExportKind::Memory, 0), (b"f", ExportKind::Memory, 0)], ..AROUND }, RULE),
+    (
+        Parts {
+            exports: &[
+                (b"f", ExportKind::Function, 1),
+                (b"m", ExportKind::Memory, 0),
+                (b"f", ExportKind::Memory, 0),
+            ],
+            ..AROUND
+        },
+        RULE,
+    ),
     // an export without a name
-    (Parts { exports: &[(b"", ExportKind::Function, 1)], ..AROUND }, None),
+    (
+        Parts {
+            exports: &[(b"", ExportKind::Function, 1)],
+            ..AROUND
+        },
+        None,
+    ),
     // a start function
-    (Parts { functions: &[1, 0], bodies: &[&[0x20, 0x00], &[]], start: Some(2), ..AROUND }, RULE),
+    (
+        Parts {
+            functions: &[1, 0],
+            bodies: &[&[0x20, 0x00], &[]],
+            start: Some(2),
+            ..AROUND
+        },
+        RULE,
+    ),
     // a start function with a parameter
-    (Parts { start: Some(1), ..AROUND }, RULE),
+    (
+        Parts {
+            start: Some(1),
+            ..AROUND
+        },
+        RULE,
+    ),
 ];
 
 /// The list of a few values.
@@ -590,6 +1392,8 @@ fn item(alloc: Global, code: u8, rest: &[u8]) -> Result<Instr, Fail> {
         0x40 => Instr::MemoryGrow,
         0x41 => Instr::I32Const(x),
         0x42 => Instr::I64Const(u64::from(x)),
+        0x43 => Instr::F32Const(x),
+        0xC0 => Instr::Extend(SignExtension::I32Extend8S),
         _ => numeric(code, x),
     })
 }
@@ -607,6 +1411,14 @@ fn table(alloc: Global, rest: &[u8]) -> Result<Instr, Fail> {
     })
 }
 
+/// An operator with floats.
+fn float(code: u8) -> Instr {
+    match FloatOp::by_code(code) {
+        Some(op) => Instr::Float(op),
+        None => Instr::Nop,
+    }
+}
+
 /// An access or an operator.
 fn numeric(code: u8, alignment: u32) -> Instr {
     let argument = MemoryArgument {
@@ -617,7 +1429,7 @@ fn numeric(code: u8, alignment: u32) -> Instr {
         (Some(kind), _) if kind.is_load() => Instr::Load { kind, argument },
         (Some(kind), _) => Instr::Store { kind, argument },
         (None, Some(op)) => Instr::Integer(op),
-        (None, None) => Instr::Nop,
+        (None, None) => float(code),
     }
 }
 
@@ -626,6 +1438,7 @@ fn immediates(code: u8, rest: &[u8]) -> usize {
     match code {
         0x02..=0x04 | 0x0C | 0x0D | 0x10 | 0x20..=0x24 | 0x3F..=0x42 => 1,
         0x11 | 0x28..=0x3E => 2,
+        0x43 => 4,
         0x0E => 2 + rest.first().map_or(0, |count| usize::from(*count)),
         _ => 0,
     }
@@ -845,6 +1658,9 @@ fn a_refused_module_comes_back(rt: HostRuntime) -> Result<(), Fail> {
         return Ok(());
     };
     assert_eq!(rt; reason, Invalid::Module);
-    assert_eq!(rt; tree.memories.as_slice().get(1).map(|limits| limits.max), Some(Some(3)));
+    assert_eq!(rt;
+        tree.memories.as_slice().get(1).map(|limits| limits.max),
+        Some(Some(3))
+    );
     Ok(())
 }
