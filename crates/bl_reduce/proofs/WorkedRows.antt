@@ -1,13 +1,15 @@
 -- Runs of small trees, by computation.
-use Rattle.std.proofs.Common.{◌≡◌, ℕ, zero, suc, List, [], ◌∷◌, Option, Some, None, refl}
+use Rattle.std.proofs.Common.{◌≡◌, ℕ, zero, suc, length, List, [], ◌∷◌, Option, Some, None, refl}
 use Rattle.bl_base.specs.Runs.{Next, goes, ends, stuck, returned, trapped}
 use Rattle.bl_base.specs.declared.names.ValueType.{ValueType}
 use Rattle.bl_base.specs.declared.names.ValueType.TheVariants as value
+use Rattle.bl_base.specs.declared.names.Label.TheVariants.{Public}
 use Rattle.bl_base.specs.declared.trap.Trap.TheVariants as kind
+use Rattle.bl_ops.specs.declared.access.AccessKind.TheVariants as access
 use Rattle.bl_ops.specs.Numerics.{meaning, traps}
 use Rattle.bl_ops.specs.declared.op.Op.TheVariants.{I32Add, I32DivS, I32RemS, I32Sub}
 use Rattle.bl_wasm.specs.declared.instruction.Instr.{Instr}
-use Rattle.bl_wasm.specs.declared.instruction.Instr.TheVariants.{Block, Loop, If, End, Br, BrIf, BrTable, Return, Call, CallIndirect, Drop, LocalGet, LocalTee, I32Const, Integer}
+use Rattle.bl_wasm.specs.declared.instruction.Instr.TheVariants.{Block, Loop, If, End, Br, BrIf, BrTable, Return, Call, CallIndirect, Drop, LocalGet, LocalTee, Load, Store, MemoryGrow, I32Const, Integer}
 use Rattle.bl_wasm.specs.declared.types.WasmType.TheVariants as type
 use Rattle.bl_wasm.specs.declared.linked.Signature.{Signature}
 use Rattle.bl_wasm.specs.declared.linked.Function.{Function}
@@ -154,3 +156,64 @@ through_three = refl
 -- br to the outermost label is a return, with the topmost value
 out_of_all : run (one 1 1 0 (Block None ∷ I32Const 5 ∷ I32Const 6 ∷ Br 1 ∷ End ∷ I32Const 7 ∷ [])) 5 (0 ∷ []) ≡ ends (returned (6 ∷ []) [])
 out_of_all = refl
+
+-- ---- a memory
+
+-- a function with memory 0
+abbrev with_memory : List Instr → Function
+with_memory items = record (function 0 0 items) { memory = Some 0 }
+
+abbrev over : ℕ → ℕ → ℕ → List ℕ → List Instr → Tree
+over params pages reserve bytes items = record {
+  types = signature params 1 ∷ [];
+  functions = with_memory items ∷ [];
+  globals = [];
+  memories = record { pages = pages; reserve = reserve; label = Public; bytes = bytes } ∷ [];
+  tables = [];
+  exports = [];
+}
+
+-- an offset past the memory
+far_load : run (over 1 1 1 (1 ∷ 2 ∷ []) (LocalGet 0 ∷ Load access.I32Load (record { alignment = 2; offset = 4294967295 }) ∷ [])) 3 (1 ∷ [])
+    ≡ ends (trapped kind.OutOfBounds (record { pages = 1; bytes = 1 ∷ 2 ∷ [] } ∷ []))
+far_load = refl
+
+-- the lowest byte first; the last bytes of the memory, and one past them
+abbrev loads : Tree
+loads = over 1 1 1 (1 ∷ 2 ∷ 3 ∷ 4 ∷ 255 ∷ []) (LocalGet 0 ∷ Load access.I32Load (record { alignment = 2; offset = 0 }) ∷ [])
+
+load_first : run loads 4 (0 ∷ []) ≡ ends (returned (67305985 ∷ []) (record { pages = 1; bytes = 1 ∷ 2 ∷ 3 ∷ 4 ∷ 255 ∷ [] } ∷ []))
+load_first = refl
+
+load_last : run loads 4 (1 ∷ []) ≡ ends (returned (4278452994 ∷ []) (record { pages = 1; bytes = 1 ∷ 2 ∷ 3 ∷ 4 ∷ 255 ∷ [] } ∷ []))
+load_last = refl
+
+load_past : run loads 3 (2 ∷ []) ≡ ends (trapped kind.OutOfBounds (record { pages = 1; bytes = 1 ∷ 2 ∷ 3 ∷ 4 ∷ 255 ∷ [] } ∷ []))
+load_past = refl
+
+load_signed : run (over 1 1 1 (1 ∷ 255 ∷ []) (LocalGet 0 ∷ Load access.I32Load8S (record { alignment = 0; offset = 1 }) ∷ [])) 4 (0 ∷ [])
+    ≡ ends (returned (4294967295 ∷ []) (record { pages = 1; bytes = 1 ∷ 255 ∷ [] } ∷ []))
+load_signed = refl
+
+-- 2 bytes of the argument at place 1
+store_low : run (over 1 1 1 (9 ∷ 9 ∷ 9 ∷ 9 ∷ []) (I32Const 1 ∷ LocalGet 0 ∷ Store access.I32Store16 (record { alignment = 0; offset = 0 }) ∷ LocalGet 0 ∷ [])) 6 (66051 ∷ [])
+    ≡ ends (returned (66051 ∷ []) (record { pages = 1; bytes = 9 ∷ 3 ∷ 2 ∷ 9 ∷ [] } ∷ []))
+store_low = refl
+
+-- memory.grow up to a reserve of 2 pages
+abbrev grows : Tree
+grows = over 1 1 2 [] (LocalGet 0 ∷ MemoryGrow ∷ [])
+
+grow_none : run grows 4 (0 ∷ []) ≡ ends (returned (1 ∷ []) (record { pages = 1; bytes = [] } ∷ []))
+grow_none = refl
+
+-- what a run returns and the pages of its memory
+abbrev ends_with : Next Config → List ℕ
+ends_with (ends (returned values (memory ∷ []))) = memory.pages ∷ length memory.bytes ∷ values
+ends_with other = []
+
+grow_one : ends_with (run grows 4 (1 ∷ [])) ≡ 2 ∷ 65536 ∷ 1 ∷ []
+grow_one = refl
+
+grow_two : run grows 4 (2 ∷ []) ≡ ends (returned (4294967295 ∷ []) (record { pages = 1; bytes = [] } ∷ []))
+grow_two = refl
