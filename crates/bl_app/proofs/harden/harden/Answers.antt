@@ -5,9 +5,7 @@ use Rattle.bl_app.proofs.EncodableLemmas.{encodable, linked_form}
 use Rattle.bl_app.proofs.harden.harden.Goals as goal
 
 pub lower-requires : goal.lower-requires
-lower-requires c =
-    let read = c.in_ok-tree.ensures.ok in
-    subst IsLinkedForm (sym c.in_ok-linked.ensures) (linked_form c.args.part.now c.args.bytes.now c.in_ok-tree.tree read.0 read.1)
+lower-requires c = subst IsLinkedForm (sym c.in_ok-linked.ensures) (linked_form c.args.part.now c.in_ok-tree.tree c.in_ok-tree.ensures.ok.form)
 
 pub encode-requires : goal.encode-requires
 encode-requires c = subst IsEncodable (sym c.in_ok-program.ensures) (encodable c.in_ok-linked.linked)
