@@ -1,5 +1,5 @@
 -- What holds of each command of a linked tree's program; the linked tree of a module of the form.
-use Rattle.std.proofs.Common.{◌≡◌, ℕ, zero, suc, ◌+◌, ◌<◌, ◌≤◌, List, [], ◌∷◌, ◌++◌, ◌^◌, length, map, take, refl, ap, sym, subst, arith, length-append}
+use Rattle.std.proofs.Common.{◌≡◌, ℕ, zero, suc, ◌+◌, ◌<◌, ◌≤◌, List, [], ◌∷◌, ◌++◌, ◌^◌, length, map, take, inl, inr, ⊎_elim, ap, arith, length-append}
 use Rattle.std.specs.Prelude.{All, reverse}
 use Rattle.std.proofs.lemmas.List.Elements.{All-nil, All-cons, All-append}
 use Rattle.bl_base.specs.Trap.{kinds}
@@ -17,11 +17,11 @@ use Rattle.bl_app.specs.declared.program.Operator.TheVariants as op
 use Rattle.bl_app.specs.declared.program.Command.{Command}
 use Rattle.bl_app.specs.declared.program.Command.TheVariants.{Jump, Out, Ret, Trap}
 use Rattle.bl_app.specs.Lowering.{Frame, low, low_function, low_commands, low_items, variables_of, frame_of, first_rest, set, reads, local_variable, plain_mark, outs, entry, traps, first_position}
-use Rattle.bl_app.specs.Grammar.{Spells, ItemsSpell, no_item, one_more_item, ItemSpells, local_get, i32_const, i32_add, module_of}
-use Rattle.bl_app.specs.Typing.{Typed}
-use Rattle.bl_app.specs.Linking.{linked_of}
+use Rattle.bl_app.specs.Form.{IsForm, HasNoFunction, HasOneFunction, items_of}
+use Rattle.bl_app.specs.Linking.{linked_of, functions_of}
 use Rattle.bl_app.specs.Image.{IsEncodable, MarkFits}
-use Rattle.bl_app.specs.Bodies.{IsLinkedForm, ReadsParameter}
+use Rattle.bl_app.specs.Bodies.{IsLinkedForm}
+use Rattle.bl_app.proofs.FormLemmas.{items_read, no_longer}
 
 -- it holds of each command that lowering makes
 pub record HoldsOfMade (P : Command → Type 0) : Type 0 where
@@ -91,42 +91,23 @@ encodable tree = record {
   marks = in_low MarkFits marks_fit tree;
 }
 
-item_reads : (bytes : List ℕ) (item : Item) → ItemSpells bytes item → ReadsParameter item
-item_reads bytes item local_get = refl
-item_reads bytes item (i32_const byte lt) = tt
-item_reads bytes item i32_add = tt
+-- a tree of no function, and one of one
+no_function : (part : List ℕ) (tree : Module) → HasNoFunction tree → IsLinkedForm (linked_of part tree)
+no_function part tree none = inl (ap (λ functions. functions_of tree.types functions tree.bodies) none.functions)
 
-items_read : (bytes : List ℕ) (items : List Item) → ItemsSpell bytes items → All ReadsParameter items
-items_read bytes items no_item = All-nil ReadsParameter
-items_read bytes items (one_more_item front rest item others s h) =
-    All-cons ReadsParameter item others (item_reads front item s) (items_read rest others h)
-
-item_size : (bytes : List ℕ) (item : Item) → ItemSpells bytes item → 1 ≤ length bytes
-item_size bytes item local_get = omega arith
-item_size bytes item (i32_const byte lt) = omega arith
-item_size bytes item i32_add = omega arith
-
--- each item has a byte
-pub items_size : (bytes : List ℕ) (items : List Item) → ItemsSpell bytes items → length items ≤ length bytes
-items_size bytes items no_item = omega arith
-items_size bytes items (one_more_item front rest item others s h) =
-    omega (arith, length-append front rest, item_size front item s, items_size rest others h)
+one_function : (part : List ℕ) (tree : Module) → HasOneFunction tree → IsLinkedForm (linked_of part tree)
+one_function part tree one =
+    let items = items_of one.instructions in
+    inr (record {
+      items = items;
+      body = record {
+        typed = one.is_body.typed;
+        locals = items_read one.instructions;
+        small = omega (arith, no_longer items, one.is_body.short);
+      };
+      functions = λ i. functions_of (one.types i) (one.functions i) (one.bodies i);
+    })
 
 -- the linked tree of a module of the form has the form
-pub linked_form : (part bytes : List ℕ) (tree : Module) → Spells bytes tree → Typed tree → IsLinkedForm (linked_of part tree)
-linked_form part bytes tree s typed =
-    let is = s.is_tree in
-    let made = module_of s.name s.items in
-    let typed' : Typed made = subst Typed is typed in
-    let size : length s.body ≡ length (s.spelled.front ++ 0x0B ∷ []) = ap length s.spelled.ended in
-    let small : length s.items < 2 ^ 16 = omega (arith, size, s.codes_fit, length-append s.spelled.front (0x0B ∷ []), items_size s.spelled.front s.items s.spelled.spelled) in
-    let form : IsLinkedForm (linked_of part made) = record {
-      items = s.items;
-      body = record {
-        typed = typed' 0 (record { locals = []; items = [] }) (omega arith);
-        locals = items_read s.spelled.front s.items s.spelled.spelled;
-        small = small;
-      };
-      functions = refl;
-    } in
-    subst (λ t. IsLinkedForm (linked_of part t)) (sym is) form
+pub linked_form : (part : List ℕ) (tree : Module) → IsForm tree → IsLinkedForm (linked_of part tree)
+linked_form part tree form = ⊎_elim (no_function part tree) (one_function part tree) form.functions

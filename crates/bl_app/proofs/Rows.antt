@@ -1,37 +1,91 @@
 -- The definitions on one worked module: a function that adds 1 to its parameter.
-use Rattle.std.proofs.Common.{◌≡◌, ℕ, List, [], ◌∷◌, ◌++◌, refl}
+use Rattle.std.proofs.Common.{◌≡◌, ℕ, List, [], ◌∷◌, ◌++◌, inr, refl, arith}
+use Rattle.std.proofs.lemmas.List.Elements.{All-nil, All-cons}
 use Rattle.std.specs.Prelude.{codes, zero, suc}
 use Rattle.bl_base.specs.declared.trap.Trap.TheVariants as kind
-use Rattle.bl_app.specs.declared.linked.Item.{Item}
-use Rattle.bl_app.specs.declared.linked.Item.TheVariants.{LocalGet, I32Const, I32Add}
 use Rattle.bl_app.specs.declared.linked.Linked.{Linked}
 use Rattle.bl_app.specs.declared.program.Operator.TheVariants as op
 use Rattle.bl_app.specs.declared.program.Operand.TheVariants.{Constant}
 use Rattle.bl_app.specs.declared.program.Command.TheVariants.{Jump, Out, Ret, Trap}
-use Rattle.bl_app.specs.Grammar.{module_of, exports_of, codes_of, header, type_section, function_section, section_of}
+use Rattle.bl_ops.specs.declared.op.Op.TheVariants as operator
+use Rattle.bl_wasm.specs.declared.instruction.Instr.{Instr}
+use Rattle.bl_wasm.specs.declared.instruction.Instr.TheVariants as wasm
+use Rattle.bl_wasm.specs.declared.module.Module.{Module}
+use Rattle.bl_app.specs.Form.{IsForm, IsPrintable, code_of, export_of, item_of, one_type}
 use Rattle.bl_app.specs.Linking.{linked_of}
 use Rattle.bl_app.specs.Lowering.{low, set, reads, plain_mark, steps_bound}
 use Rattle.bl_app.specs.Runs.{Next, goes, ends, stuck, returned}
 use Rattle.bl_app.specs.Source.{source_step, entering}
 use Rattle.std.specs.Fmt.{digits}
-use Rattle.std.specs.Prelude.{Some, None}
+use Rattle.std.specs.Prelude.{All, Some, None, IsSome}
 use Rattle.bl_app.specs.Image.{image_of, leb}
 use Rattle.bl_app.specs.Texts.{report_text}
 use Rattle.bl_app.specs.Requests.{module_name, request_of}
 use Rattle.bl_app.specs.Plain.{plain_step, opening, State, placed, Placed}
 
-name : List ℕ
+abbrev name : List ℕ
 name = codes "inc"
 
-abbrev items : List Item
-items = LocalGet 0 ∷ I32Const 1 ∷ I32Add ∷ []
+abbrev instructions : List Instr
+instructions = wasm.LocalGet 0 ∷ wasm.I32Const 1 ∷ wasm.Integer operator.I32Add ∷ []
+
+abbrev add_one : Module
+add_one = record {
+  types = one_type ∷ [];
+  imports = [];
+  functions = 0 ∷ [];
+  tables = [];
+  memories = [];
+  globals = [];
+  exports = export_of name ∷ [];
+  start = None;
+  elements = [];
+  bodies = code_of instructions ∷ [];
+  segments = [];
+  customs = [];
+}
 
 abbrev tree : Linked
-tree = linked_of (codes "inc") (module_of (codes "inc") items)
+tree = linked_of (codes "inc") add_one
 
-bytes : header ++ type_section ++ function_section ++ section_of 7 (exports_of (codes "inc")) ++ section_of 10 (codes_of (0x20 ∷ 0 ∷ 0x41 ∷ 1 ∷ 0x6A ∷ 0x0B ∷ []))
-    ≡ 0x00 ∷ 0x61 ∷ 0x73 ∷ 0x6D ∷ 0x01 ∷ 0x00 ∷ 0x00 ∷ 0x00 ∷ 0x01 ∷ 0x06 ∷ 0x01 ∷ 0x60 ∷ 0x01 ∷ 0x7F ∷ 0x01 ∷ 0x7F ∷ 0x03 ∷ 0x02 ∷ 0x01 ∷ 0x00 ∷ 0x07 ∷ 0x07 ∷ 0x01 ∷ 0x03 ∷ 0x69 ∷ 0x6E ∷ 0x63 ∷ 0x00 ∷ 0x00 ∷ 0x0A ∷ 0x09 ∷ 0x01 ∷ 0x07 ∷ 0x00 ∷ 0x20 ∷ 0x00 ∷ 0x41 ∷ 0x01 ∷ 0x6A ∷ 0x0B ∷ []
-bytes = refl
+printable : All IsPrintable name
+printable =
+    All-cons IsPrintable 105 (110 ∷ 99 ∷ []) (omega arith, omega arith)
+    (All-cons IsPrintable 110 (99 ∷ []) (omega arith, omega arith)
+    (All-cons IsPrintable 99 [] (omega arith, omega arith) (All-nil IsPrintable)))
+
+abbrev IsItem : Instr → Type 0
+IsItem instruction = IsSome (item_of instruction)
+
+are_items : All IsItem instructions
+are_items =
+    All-cons IsItem (wasm.LocalGet 0) (wasm.I32Const 1 ∷ wasm.Integer operator.I32Add ∷ []) refl
+    (All-cons IsItem (wasm.I32Const 1) (wasm.Integer operator.I32Add ∷ []) refl
+    (All-cons IsItem (wasm.Integer operator.I32Add) [] refl (All-nil IsItem)))
+
+-- the module is of the form
+form : IsForm add_one
+form = record {
+  bare = record {
+    imports = refl;
+    tables = refl;
+    memories = refl;
+    globals = refl;
+    elements = refl;
+    segments = refl;
+    labels = All-nil _;
+  };
+  functions = inr (record {
+    name = name;
+    instructions = instructions;
+    types = refl;
+    functions = refl;
+    exports = refl;
+    bodies = refl;
+    is_name = record { printable = printable; short = omega arith };
+    is_body = record { items = are_items; short = omega arith; typed = refl };
+  });
+}
 
 commands : (low tree).commands
     ≡ Trap kind.Unreachable ∷ Trap kind.DivideByZero ∷ Trap kind.Overflow ∷ Trap kind.OutOfBounds ∷ Trap kind.UndefinedElement ∷ Trap kind.UninitializedElement ∷ Trap kind.TypeMismatch

@@ -1,5 +1,5 @@
 //! Whether a module is one of the form that is hardened today.
-ghost use Rattle.std.specs.Prelude.{◌≡◌, ◌↔◌, ℕ, List as Listed, ◌∷◌, [], ◌≤◌, codes, length, IsTrue, sum_by};
+ghost use Rattle.std.specs.Prelude.{◌≡◌, ◌↔◌, ℕ, List as Listed, ◌∷◌, [], ◌≤◌, codes, length, All, IsSome, IsTrue, sum_by};
 ghost use Rattle.bl_wasm.specs.declared.instruction.Instr.{Instr as Instruction};
 ghost use Rattle.bl_app.specs.Form.{HasNoFunction, HasOneFunction, IsBare, IsForm, IsFormBody, IsFormName, code_of, export_of, item_of as item_in, items_of, one_type, size_of};
 ghost use Rattle.bl_app.specs.Typing.{BodyTyped};
@@ -109,12 +109,19 @@ fn is_one_body(bodies: &[Code]) -> bool
 fn is_form_body(instructions: &[Instr]) -> bool
     ensures { IsTrue result ↔ IsFormBody instructions.now }
 {
-    instructions.len() <= MOST
-        && instructions
-            .iter()
-            .all(|instruction| item_of(instruction).is_some())
-        && size_of_body(instructions) <= MOST
-        && is_typed(instructions)
+    if instructions.len() > MOST {
+        return false;
+    }
+    are_items(instructions) && size_of_body(instructions) <= MOST && is_typed(instructions)
+}
+
+/// Whether each instruction is an item.
+fn are_items(instructions: &[Instr]) -> bool
+    ensures { IsTrue result ↔ All (λ instruction. IsSome (item_in instruction)) instructions.now }
+{
+    instructions
+        .iter()
+        .all(|instruction| item_of(instruction).is_some())
 }
 
 /// The bytes of the items of at most 123 instructions.
@@ -122,11 +129,13 @@ fn size_of_body(instructions: &[Instr]) -> usize
     requires { length instructions.now ≤ 123 }
     ensures { result ≡ sum_by size_of (items_of instructions.now) }
 {
-    instructions
-        .iter()
-        .filter_map(|instruction| item_of(instruction))
-        .map(|item| size_of_item(item))
-        .sum()
+    let mut size = 0;
+    for instruction in instructions {
+        if let Some(item) = item_of(instruction) {
+            size += size_of_item(item);
+        }
+    }
+    size
 }
 
 /// The bytes of an item's shortest spelling.

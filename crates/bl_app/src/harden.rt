@@ -53,7 +53,10 @@ pub fn harden(alloc: Global, part: &[u8], bytes: &[u8]) -> Result<Hardened, Hard
     ensures ok { IfOk result (λ hardened. IsHardened part.now bytes.now hardened.image.items (string_bytes hardened.report)) }
     ensures refused { (refusal : Refusal) → result ≡ Err (error.Refused refusal) → Refused bytes.now refusal }
 {
-    let tree = read_module(alloc, bytes)?;
+    let tree = match read_module(alloc, bytes) {
+        Ok(tree) => tree,
+        Err(error) => return Err(error),
+    };
     let linked = link(alloc, part, &tree)?;
     let program = lower(alloc, linked)?;
     let image = encode(alloc, &program)?;

@@ -44,10 +44,12 @@ fn function_of(alloc: Global, instructions: &[Instr]) -> Result<Function, NoMemo
 fn items_in(alloc: Global, instructions: &[Instr]) -> Result<Vec<Item>, NoMemory>
     ensures { IfOk result (λ items. items.items ≡ items_of instructions.now) }
 {
-    let items = instructions
-        .iter()
-        .filter_map(|instruction| item_of(instruction))
-        .collect(alloc)?;
+    let mut items = Vec::new(alloc);
+    for instruction in instructions {
+        if let Some(item) = item_of(instruction) {
+            items.push(item)?;
+        }
+    }
     Ok(items)
 }
 
