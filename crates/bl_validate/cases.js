@@ -1,4 +1,4 @@
-// Cases for src/tests.rt, judged by node's WebAssembly: `node cases.js` prints the two tables of that file. Each case is a
+// Cases for src/tests.rt, judged by node's WebAssembly: `node cases.js` prints the tables of that file. Each case is a
 // module in short, which is written in the binary format for node, and as a value for the table.
 //
 // Where this profile differs from node's later version, a case has the profile's answer and says why.
@@ -79,8 +79,7 @@ const value = {
   locals: ([count, kind]) => `(${count}, ${kind})`,
   bodies: bytes,
 };
-const field = ([name, v]) => name === "start" ? `start: ${option(v)}` : `${name}: ${list(v.map(value[name]))}`;
-const fields = m => Object.entries(m).map(field);
+const change = ([name, v]) => `Change::${name[0].toUpperCase()}${name.slice(1)}(${name === "start" ? v : list(v.map(value[name]))})`;
 
 // ---- the module round a body: it takes an i32, has a local of i64 and gives an i32
 const one = [1, null];
@@ -138,12 +137,15 @@ const bodies = [
  ["03 40 41 00 0C 00 0B 20 00","a branch to a loop leaves operands"],["03 7F 41 00 20 00 0D 00 0B","br_if to a loop keeps its operand"],["02 40 00 04 7F 41 01 05 42 01 0B 1A 0B 20 00","else part of i64 behind unreachable"],
  ["05 20 00","else without if"],["20 00 04 40 05 05 0B 20 00","a second else"],["02 40 05 0B 20 00","else in a block"],["20 00 0B 20 00","an end too many"],["02 7F 20 00","a block that isn't closed"],
  ["03 40 41 00 0C 00 0B 20 00","a branch to a loop leaves operands"],["03 7F 41 00 20 00 0D 00 0B","br_if to a loop keeps its operand"],["02 40 00 04 7F 41 01 05 42 01 0B 1A 0B 20 00","else part of i64 behind unreachable"],
+ ["05 20 00","else without if"],["20 00 04 40 05 05 0B 20 00","a second else"],["02 40 05 0B 20 00","else in a block"],["20 00 0B 20 00","an end too many"],["02 7F 20 00","a block that isn't closed"],
+ ["03 40 41 00 0C 00 0B 20 00","a branch to a loop leaves operands"],["03 7F 41 00 20 00 0D 00 0B","br_if to a loop keeps its operand"],["02 40 00 04 7F 41 01 05 42 01 0B 1A 0B 20 00","else part of i64 behind unreachable"],
 ];
 
 const few = [[[], []], [["I32"], ["I32"]]];
 
 // ---- modules: the parts that differ from the module above, and the profile's answer where it isn't node's
-const modules = [
+// ---- types, functions and code
+const code_cases = [
   ["as it is", {}],
   // types; the profile has no floats, and at most one result, as version 1.0
   ["an f32 parameter", { types: [...few, [["F32"], []]] }, "RULE"],
@@ -178,7 +180,10 @@ const modules = [
   ["no table for call_indirect", { tables: [], bodies: ["20 00 20 00 11 01 00"] }],
   ["an imported table", { imports: [fn, constant, ["Table", one]], tables: [], bodies: ["20 00 20 00 11 01 00"] }],
   ["global.set of an imported variable", { imports: [fn, ["Global", ["I32", true]]], bodies: ["20 00 24 00 20 00"] }],
-  // tables and memories; version 1.0 has one table
+];
+
+// ---- tables, memories and globals; version 1.0 has one table
+const store_cases = [
   ["a second table", { tables: [one, one] }, "RULE"],
   ["an imported table beside one", { imports: [fn, constant, ["Table", one]] }, "RULE"],
   ["a second memory", { memories: [one, one] }],
@@ -205,7 +210,10 @@ const modules = [
   ["a global of a variable that is defined", { globals: [variable, [["I64", false], "23 01"]] }],
   ["a global of a constant that is defined", { globals: [[["I32", false], "41 00"], [["I32", false], "23 01"]] }],
   ["a global of none", { globals: [variable, [["I32", false], "23 07"]] }],
-  // segments
+];
+
+// ---- segments, exports and the start function
+const segment_cases = [
   ["a segment", { elements: [[0, "41 00", [1, 0]]] }],
   ["a segment without functions", { elements: [[0, "41 00", []]] }],
   ["a segment of no table", { elements: [[1, "41 00", [1]]] }],
@@ -248,11 +256,13 @@ for (const [hex, name] of bodies) {
   const answer = judged({ ...base, bodies: [hex] });
   lines.push(`    // ${name}`, `    (${bytes(hex)}, ${answer === "None"}),`);
 }
-console.log(`const BODIES: [(&[u8], bool); ${bodies.length}] = [\n${lines.join("\n")}\n];\n`);
-const rows = [];
-for (const [name, parts, profile] of modules) {
-  const answer = judged({ ...base, ...parts });
-  if (profile === answer) throw new Error(name);
-  rows.push(`    // ${name}`, `    (Parts { ${[...fields(parts), "..AROUND"].join(", ")} }, ${profile || answer}),`);
+console.log(`static BODIES: [(&[u8], bool); ${bodies.length}] = [\n${lines.join("\n")}\n];\n`);
+for (const [title, modules] of Object.entries({ CODE: code_cases, STORES: store_cases, SEGMENTS: segment_cases })) {
+  const rows = [];
+  for (const [name, parts, profile] of modules) {
+    const answer = judged({ ...base, ...parts });
+    if (profile === answer) throw new Error(name);
+    rows.push(`    // ${name}`, `    (${list(Object.entries(parts).map(change))}, ${profile || answer}),`);
+  }
+  console.log(`static ${title}: [Case; ${modules.length}] = [\n${rows.join("\n")}\n];\n`);
 }
-console.log(`const MODULES: [(Parts, Option<Invalid>); ${modules.length}] = [\n${rows.join("\n")}\n];`);
