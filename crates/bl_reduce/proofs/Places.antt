@@ -1,5 +1,5 @@
 -- Places of a typed body: the next one, the one behind the end of a construct, the second part of an if.
-use Rattle.std.proofs.Common.{◌≡◌, ℕ, suc, ◌+◌, List, [], ◌∷◌, ◌++◌, length, map, take, drop, Option, Some, None, refl, sym, ap, ◌∙◌, subst}
+use Rattle.std.proofs.Common.{◌≡◌, ℕ, suc, ◌+◌, ◌≤◌, List, [], ◌∷◌, ◌++◌, length, map, take, drop, Option, Some, None, refl, sym, ap, ◌∙◌, subst, arith, length-drop}
 use Rattle.std.specs.Prelude.{option_and_then}
 use Rattle.std.proofs.lemmas.List.{drop-drop}
 use Rattle.std.proofs.lemmas.Option.{none-some}
@@ -18,6 +18,7 @@ kinds open_ones = map (λ one. one.label) open_ones
 -- a later place, where other constructs are open
 pub record Onward (c : Context) (open_ones : List Open) (items : List Instr) (inner : List Open) (stack : List WasmType) (rest : List Instr) : Type 0 where
   pub steps : ℕ
+  pub inside : steps ≤ length items
   pub left : rest ≡ drop steps items
   pub through : labels_through (take steps items) (kinds open_ones) ≡ Some (kinds inner)
   pub later : List (List WasmType)
@@ -39,7 +40,7 @@ module _ (c : Context) where
 
   pub here : (open_ones : List Open) (items : List Instr) (stack : List WasmType) (later : List (List WasmType)) → Types c open_ones items (stack ∷ later)
       → Onward c open_ones items open_ones stack items
-  here open_ones items stack later typing = record { steps = 0; left = refl; through = refl; later = later; typing = typing }
+  here open_ones items stack later typing = record { steps = 0; inside = omega arith; left = refl; through = refl; later = later; typing = typing }
 
   -- past an item
   pub past : (item : Instr) (items : List Instr) (outer : List Open) (from : List WasmType) (behind : List Open) (to : List WasmType)
@@ -47,6 +48,7 @@ module _ (c : Context) where
       → Rule c item outer from behind to → Onward c behind items inner stack rest → Onward c outer (item ∷ items) inner stack rest
   past item items outer from behind to inner stack rest rule h = record {
     steps = suc h.steps;
+    inside = omega (arith, h.inside);
     left = h.left;
     through = ap (option_and_then (labels_through (take h.steps items))) (rule_labels item outer from behind to rule) ∙ h.through;
     later = h.later;
@@ -227,6 +229,7 @@ module _ (c : Context) where
         subst (λ items. labels_through (take o.steps items) (kinds open_ones) ≡ Some (kinds inner)) r.left o.through in
         record {
           place = r.place + o.steps;
+          inside = omega (arith, r.inside, o.inside, ap length r.left, length-drop r.place body);
           left = left;
           at_place = ap (λ items. labels_through items []) (take-add r.place o.steps body)
               ∙ through_append (take r.place body) (take o.steps (drop r.place body)) [] (kinds open_ones) r.at_place ∙ steps;

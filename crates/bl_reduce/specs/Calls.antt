@@ -9,7 +9,7 @@ use Rattle.bl_wasm.specs.Validity.{locals_of}
 use Rattle.bl_wasm.specs.declared.linked.Signature.{Signature}
 use Rattle.bl_wasm.specs.declared.linked.Function.{Function}
 use Rattle.bl_wasm.specs.declared.linked.Tree.{Tree}
-use Rattle.bl_reduce.specs.Configurations.{Store, Frame, State, Config, entering, go, trap, known, pop, with_values}
+use Rattle.bl_reduce.specs.Configurations.{Store, Frame, State, Config, entering, go, trap, known, pop}
 
 -- the greatest depth of calls
 abbrev pub most_depth : ℕ
@@ -37,6 +37,7 @@ entered number function type arguments = record {
   rest = function.code.items;
 }
 
+-- a function is entered where it and its type exist
 abbrev pub enter : Tree → Store → ℕ → List ℕ → List Frame → Next Config
 enter tree store number arguments callers =
     known (slice_get tree.functions number) (λ function. known (slice_get tree.types function.type_index) (λ type.
@@ -44,12 +45,19 @@ enter tree store number arguments callers =
 
 -- ---- calls (section 4.4.5)
 
--- a function of that type is called: its operands are taken off, the first of them lowest, and it is entered next
+-- so many operands, the first of them lowest on the stack
+abbrev pub operands : ℕ → State → List ℕ
+operands count state = reverse (take count state.frame.values)
+
+-- the frame without them, which goes on behind its call
+abbrev pub caller : ℕ → State → Frame
+caller count state = record state.frame { values = drop count state.frame.values }
+
+-- a function of that type is called: its operands are taken off, and it is entered next
 abbrev pub call_at : Signature → ℕ → State → Next Config
 call_at type number state =
     if nat_lt (depth state) most_depth
-    then goes (entering state.store number (reverse (take (length type.params) state.frame.values))
-    ((with_values (drop (length type.params) state.frame.values) state).frame ∷ state.callers))
+    then goes (entering state.store number (operands (length type.params) state) (caller (length type.params) state ∷ state.callers))
     else trap StackExhausted state
 
 -- call

@@ -47,9 +47,11 @@ pub record IsStore (tree : Tree) (store : Store) : Type 0 where
 
 -- ---- places of a body
 
--- items are what is left of a body at a place where these constructs are open; the body's typing has these operands there
+-- items are what is left of a body at a place where these constructs are open, and have a typing that begins with these
+-- operands
 pub record IsRest (c : Context) (body : List Instr) (open_ones : List Open) (stack : List WasmType) (rest : List Instr) : Type 0 where
   pub place : ℕ
+  pub inside : place ≤ length body
   pub left : rest ≡ drop place body
   pub at_place : labels_at body place ≡ Some (map (λ one. one.label) open_ones)
   pub later : List (List WasmType)

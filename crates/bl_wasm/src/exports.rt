@@ -1,5 +1,5 @@
 //! The names of exported functions.
-ghost use Rattle.std.specs.Prelude.{◌≡◌, [], ◌∷◌, ◌++◌, None, OnOk, OnErr, length, string_bytes};
+ghost use Rattle.std.specs.Prelude.{◌≡◌, [], ◌∷◌, ◌++◌, None, OnOk, OnErr, length, option_map, slice_get, string_bytes};
 ghost use Rattle.bl_wasm.specs.Exports.{number_of};
 
 use bl_base::NoMemory;
@@ -45,6 +45,22 @@ impl Exports {
         ensures { result ≡ number_of name.now self.now }
     {
         self.map.get(name).copied()
+    }
+
+    /// The name of the pair of that number, from 0; None exactly where there is no such pair. Takes no memory.
+    pub fn name(&self, index: usize) -> Option<&str>
+        ensures { option_map (λ name. name.now) result ≡ option_map (λ pair. pair.0) (slice_get self.now index) }
+    {
+        self.map
+            .get_index(index)
+            .map(|(name, _function)| name.as_str())
+    }
+
+    /// The function of the pair of that number, from 0; None exactly where there is no such pair. Takes no memory.
+    pub fn function(&self, index: usize) -> Option<u32>
+        ensures { result ≡ option_map (λ pair. pair.1) (slice_get self.now index) }
+    {
+        self.map.get_index(index).map(|(_name, function)| *function)
     }
 
     /// Adds a name that isn't there. A refusal leaves the names as they were.

@@ -18,3 +18,6 @@ pub use module::{
     ImportKind, LocalRun, Module,
 };
 pub use types::{FuncType, GlobalType, Limits, WasmType};
+
+#[cfg(test)]
+mod tests;
