@@ -1,5 +1,5 @@
 -- Bodies of the form: what is left of one behind an instruction, and how long one is.
-use Rattle.std.proofs.Common.{◌≡◌, ℕ, zero, suc, ◌+◌, ◌<◌, ◌≤◌, List, [], ◌∷◌, ◌↔◌, Option, Some, None, Bool, true, false, length, drop, get_or, refl, ap, sym, ◌∙◌, subst, arith}
+use Rattle.std.proofs.Common.{◌≡◌, ℕ, zero, suc, ◌+◌, ◌<◌, ◌≤◌, List, [], ◌∷◌, Option, Some, None, Bool, true, false, length, drop, get_or, refl, ap, sym, ◌∙◌, subst, arith}
 use Rattle.std.specs.Prelude.{All, IsSome, sum_by, if◌then◌else◌}
 use Rattle.std.proofs.lemmas.List.{drop_more}
 use Rattle.std.proofs.lemmas.List.Elements.{All-nil, All-cons, All-head, All-tail}
@@ -77,7 +77,7 @@ constant_reads false n = tt
 
 item_reads : (instruction : Instr) → Reads (item_of instruction)
 item_reads instruction = elim instruction as (λ k. Reads (item_of k)) [
-  wasm.LocalGet x ↦ local_reads x
+  | wasm.LocalGet x ↦ local_reads x
   | wasm.I32Const n ↦ constant_reads _ n
   | wasm.Integer operator ↦ elim operator as (λ k. Reads (add_of k)) [ op.I32Add ↦ tt | _ ↦ tt ]
   | _ ↦ tt

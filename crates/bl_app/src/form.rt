@@ -28,7 +28,11 @@ fn is_bare(tree: &Module) -> bool
         && tree.globals.is_empty()
         && tree.elements.is_empty()
         && tree.segments.is_empty()
-        && tree.customs.as_slice().iter().all(|custom| is_no_label_section(custom))
+        && tree
+            .customs
+            .as_slice()
+            .iter()
+            .all(|custom| is_no_label_section(custom))
 }
 
 /// Whether a custom section isn't that of labels.
@@ -115,7 +119,9 @@ fn is_form_body(instructions: &[Instr]) -> bool
 fn are_items(instructions: &[Instr]) -> bool
     ensures { IsTrue result ↔ All (λ instruction. IsSome (item_in instruction)) instructions.now }
 {
-    instructions.iter().all(|instruction| item_of(instruction).is_some())
+    instructions
+        .iter()
+        .all(|instruction| item_of(instruction).is_some())
 }
 
 /// The bytes of the items of at most 123 instructions.
