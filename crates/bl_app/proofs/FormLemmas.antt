@@ -25,7 +25,7 @@ too_few items (suc (suc count)) few goes = omega arith
 item_in_front : (instruction : Instr) (item : Item) (rest : List Instr) → item_of instruction ≡ Some item → items_of (instruction ∷ rest) ≡ item ∷ items_of rest
 item_in_front instruction item rest is = rw is refl
 
--- nor has a body whose next instruction is that addition
+-- a body whose next instruction is an addition that finds too few operands has no typing
 pub not_typed : (instructions : List Instr) (i count : ℕ) (default instruction : Instr) → i < length instructions → instruction ≡ get_or instructions i default → item_of instruction ≡ Some I32Add → count < 2
     → GoesTo (items_of (drop i instructions)) (Some count) 1 → ⊥
 not_typed instructions i count default instruction within is item few goes =
