@@ -12,7 +12,7 @@ use Rattle.bl_outside.specs.Faults.{Rose}
 use Rattle.bl_outside.specs.Shelf.{Files, ReadFails, WriteFails, with_file}
 use Rattle.bl_wasm.specs.declared.module.Module.{Module}
 use Rattle.bl_app.specs.declared.refusal.Refusal.{Refusal}
-use Rattle.bl_app.specs.declared.refusal.Refusal.TheVariants.{Malformed, Unsupported, Limit}
+use Rattle.bl_app.specs.declared.refusal.Refusal.TheVariants.{Malformed, InvalidFunction, InvalidModule, Unsupported, Limit}
 use Rattle.bl_app.specs.Linking.{linked_of}
 use Rattle.bl_app.specs.Refusals.{Accepted, Refused}
 use Rattle.bl_app.specs.Status.{status_of}
@@ -42,13 +42,15 @@ data Way (words : List (List ℕ)) (old new : World) (status : ℕ) : Type 0 whe
 
 -- a status of a refusal
 IsRefusal : ℕ → Type 0
-IsRefusal status = (status ≡ 5) ⊎ ((status ≡ 7) ⊎ (status ≡ 8))
+IsRefusal status = (status ≡ 5) ⊎ ((status ≡ 6) ⊎ ((status ≡ 7) ⊎ (status ≡ 8)))
 
 status_big : (refusal : Refusal) → IsRefusal (status_of refusal)
 unfolding IsRefusal
 status_big Malformed = inl refl
-status_big Unsupported = inr (inl refl)
-status_big (Limit which value) = inr (inr refl)
+status_big (InvalidFunction index) = inr (inl refl)
+status_big InvalidModule = inr (inl refl)
+status_big Unsupported = inr (inr (inl refl))
+status_big (Limit which value) = inr (inr (inr refl))
 
 -- a file that a plan keeps is one that the words name
 KeepOf : List (List ℕ) → List ℕ → Type 0
@@ -207,8 +209,9 @@ causes words old new status ends =
       usage_only = usage_only words old new status w;
       usage = no_request words old new status w;
       malformed_only = λ e. refused_only words old new status w (inl e);
-      unsupported_only = λ e. refused_only words old new status w (inr (inl e));
-      limit_only = λ e. refused_only words old new status w (inr (inr e));
+      invalid_only = λ e. refused_only words old new status w (inr (inl e));
+      unsupported_only = λ e. refused_only words old new status w (inr (inr (inl e)));
+      limit_only = λ e. refused_only words old new status w (inr (inr (inr e)));
       refused = is_refused words old new status w;
       read_fault = read_fault words old new status w;
       write_fault = write_fault words old new status w;

@@ -1,5 +1,5 @@
 -- Bodies of the form: what is left of one behind an instruction, and how long one is.
-use Rattle.std.proofs.Common.{◌≡◌, ℕ, zero, suc, ◌+◌, ◌<◌, ◌≤◌, List, [], ◌∷◌, ◌↔◌, Option, Some, None, Bool, true, false, length, drop, get_or, refl, ap, sym, ◌∙◌, subst, arith}
+use Rattle.std.proofs.Common.{◌≡◌, ℕ, zero, suc, ◌+◌, ◌<◌, ◌≤◌, List, [], ◌∷◌, Option, Some, None, Bool, true, false, length, drop, get_or, refl, ap, sym, ◌∙◌, subst, arith}
 use Rattle.std.specs.Prelude.{All, IsSome, sum_by, if◌then◌else◌}
 use Rattle.std.proofs.lemmas.List.{drop_more}
 use Rattle.std.proofs.lemmas.List.Elements.{All-nil, All-cons, All-head, All-tail}
@@ -25,7 +25,7 @@ too_few items (suc (suc count)) few goes = omega arith
 item_in_front : (instruction : Instr) (item : Item) (rest : List Instr) → item_of instruction ≡ Some item → items_of (instruction ∷ rest) ≡ item ∷ items_of rest
 item_in_front instruction item rest is = rw is refl
 
--- nor has a body whose next instruction is that addition
+-- a body whose next instruction is an addition that finds too few operands has no typing
 pub not_typed : (instructions : List Instr) (i count : ℕ) (default instruction : Instr) → i < length instructions → instruction ≡ get_or instructions i default → item_of instruction ≡ Some I32Add → count < 2
     → GoesTo (items_of (drop i instructions)) (Some count) 1 → ⊥
 not_typed instructions i count default instruction within is item few goes =

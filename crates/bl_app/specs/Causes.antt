@@ -70,9 +70,10 @@ pub record Causes (words : List (List ℕ)) (old new : World) (status : ℕ) : T
   -- 2 exactly where the words are no request
   pub usage_only : status ≡ 2 → request_of words ≡ None
   pub usage : request_of words ≡ None → UnlessFault 2 status
-  -- 5, 7 and 8 exactly where something stands against the module's bytes: 5 where they spell no module, 7 where the module
-  -- has something that isn't supported or is outside the form, and 8 where a quantity exceeds its number
+  -- 5 to 8 exactly where something stands against the module's bytes: 5 where they spell no module, 6 where the module has no
+  -- typing, 7 where it has something that isn't supported or is outside the form, and 8 where a quantity exceeds its number
   pub malformed_only : status ≡ 5 → IsRefused words old new status
+  pub invalid_only : status ≡ 6 → IsRefused words old new status
   pub unsupported_only : status ≡ 7 → IsRefused words old new status
   pub limit_only : status ≡ 8 → IsRefused words old new status
   pub refused : (files : Files) (request : Request) (bytes : List ℕ) (refusal : Refusal) → old.files ≡ Some files → Asks words old.files request bytes → Refused bytes refusal → UnlessFault (status_of refusal) status

@@ -7,6 +7,7 @@ pub mod Linking
 pub mod Lowering
 pub mod Meaning
 pub mod Plain
+pub mod Reading
 pub mod Refusals
 pub mod Requests
 pub mod Runs

@@ -8,7 +8,6 @@ use Rattle.bl_wasm.specs.declared.types.WasmType.{WasmType}
 use Rattle.bl_wasm.specs.declared.types.WasmType.TheVariants as wasm
 use Rattle.bl_wasm.specs.declared.types.FuncType.{FuncType}
 use Rattle.bl_wasm.specs.declared.module.Module.{Module}
-use Rattle.bl_wasm.specs.declared.module.Export.{Export}
 use Rattle.bl_wasm.specs.declared.module.ExportKind.{ExportKind}
 use Rattle.bl_wasm.specs.declared.module.ExportKind.TheVariants as export
 use Rattle.bl_wasm.specs.declared.module.Code.{Code}

@@ -6,13 +6,23 @@ use Rattle.bl_wasm.specs.Modules.{Spells}
 use Rattle.bl_wasm.specs.declared.module.Module.{Module}
 use Rattle.bl_decode.specs.Supported.{IsSupported}
 use Rattle.bl_decode.specs.Limits.{first_excess}
+use Rattle.bl_wasm.specs.Validity.{Typed}
+use Rattle.bl_validate.specs.Verdicts.{IsReason}
+use Rattle.bl_validate.specs.declared.verdict.Invalid.{Invalid}
+use Rattle.bl_validate.specs.declared.verdict.Invalid.TheVariants as reason
 use Rattle.bl_app.specs.Form.{IsForm}
 use Rattle.bl_app.specs.declared.refusal.Refusal.{Refusal}
-use Rattle.bl_app.specs.declared.refusal.Refusal.TheVariants.{Malformed, Unsupported, Limit}
+use Rattle.bl_app.specs.declared.refusal.Refusal.TheVariants.{Malformed, InvalidFunction, InvalidModule, Unsupported, Limit}
 
 -- the most bytes of a module's file
 abbrev pub most_bytes : ℕ
 most_bytes = 4194304
+
+-- a reason for not being valid as a refusal; want of memory is none
+abbrev pub IsRefusalOf : Invalid → Refusal → Type 0
+IsRefusalOf (reason.Function index) refusal = refusal ≡ InvalidFunction index
+IsRefusalOf reason.Module refusal = refusal ≡ InvalidModule
+IsRefusalOf reason.Memory refusal = ⊥
 
 -- what stands against a module
 pub data Against (tree : Module) (refusal : Refusal) : Type 0 where
@@ -20,8 +30,10 @@ pub data Against (tree : Module) (refusal : Refusal) : Type 0 where
   unsupported : (IsSupported tree → ⊥) → refusal ≡ Unsupported → Against tree refusal
   -- it exceeds a quantity; the first one and its value
   excess : (which : Quantity) (value : ℕ) → IsSupported tree → first_excess tree ≡ Some (which, value) → refusal ≡ Limit which value → Against tree refusal
+  -- a function of it has no typing, or it breaks another rule
+  invalid : (reason : Invalid) → IsSupported tree → first_excess tree ≡ None → IsReason tree reason → IsRefusalOf reason refusal → Against tree refusal
   -- it isn't one of the form
-  other_form : IsSupported tree → first_excess tree ≡ None → (IsForm tree → ⊥) → refusal ≡ Unsupported → Against tree refusal
+  other_form : IsSupported tree → first_excess tree ≡ None → Typed tree → (IsForm tree → ⊥) → refusal ≡ Unsupported → Against tree refusal
 
 -- what stands against a module's bytes
 pub data Refused (bytes : List ℕ) (refusal : Refusal) : Type 0 where
@@ -38,4 +50,5 @@ pub record Accepted (bytes : List ℕ) (tree : Module) : Type 0 where
   pub spelled : Spells bytes tree
   pub supported : IsSupported tree
   pub within : first_excess tree ≡ None
+  pub valid : Typed tree
   pub form : IsForm tree

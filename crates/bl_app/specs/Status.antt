@@ -3,7 +3,7 @@ use Rattle.std.specs.Prelude.{ℕ}
 use Rattle.bl_app.specs.declared.refusal.Refusal.{Refusal}
 use Rattle.bl_app.specs.declared.refusal.Refusal.TheVariants as refusal
 use Rattle.bl_app.specs.declared.status.Status.{Status}
-use Rattle.bl_app.specs.declared.status.Status.TheVariants.{Done, Usage, ReadFault, WriteFault, Malformed, Unsupported, Limit, Memory}
+use Rattle.bl_app.specs.declared.status.Status.TheVariants.{Done, Usage, ReadFault, WriteFault, Malformed, Invalid, Unsupported, Limit, Memory}
 
 abbrev pub code_of : Status → ℕ
 code_of Done = 0
@@ -11,6 +11,7 @@ code_of Usage = 2
 code_of ReadFault = 3
 code_of WriteFault = 4
 code_of Malformed = 5
+code_of Invalid = 6
 code_of Unsupported = 7
 code_of Limit = 8
 code_of Memory = 11
@@ -18,5 +19,7 @@ code_of Memory = 11
 -- the status of a refusal
 abbrev pub status_of : Refusal → ℕ
 status_of refusal.Malformed = 5
+status_of (refusal.InvalidFunction index) = 6
+status_of refusal.InvalidModule = 6
 status_of refusal.Unsupported = 7
 status_of (refusal.Limit which value) = 8

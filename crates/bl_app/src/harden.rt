@@ -1,7 +1,8 @@
 //! `harden`: from a module's bytes to its image and report.
 ghost use Rattle.std.specs.Prelude.{◌≡◌, ℕ, IfOk, Err, string_bytes};
 ghost use Rattle.bl_app.specs.Answers.{IsHardened};
-ghost use Rattle.bl_app.specs.Refusals.{Accepted, Refused};
+ghost use Rattle.bl_app.specs.Reading.{Reads, decoding_error, validation_error};
+ghost use Rattle.bl_app.specs.Refusals.{Refused};
 ghost use Rattle.bl_app.specs.declared.harden.HardenError.TheVariants as error;
 
 use crate::form::is_form;
@@ -12,7 +13,7 @@ use crate::refusal::Refusal;
 use crate::report::report;
 use bl_base::{NoMemory, Quantity};
 use bl_decode::{DecodeError, decode};
-use bl_wasm::Module;
+use bl_validate::{Invalid, ValidModule, validate};
 use std::alloc::Global;
 use thiserror::Error;
 
@@ -53,11 +54,11 @@ pub fn harden(alloc: Global, part: &[u8], bytes: &[u8]) -> Result<Hardened, Hard
     ensures ok { IfOk result (λ hardened. IsHardened part.now bytes.now hardened.image.items (string_bytes hardened.report)) }
     ensures refused { (refusal : Refusal) → result ≡ Err (error.Refused refusal) → Refused bytes.now refusal }
 {
-    let tree = match read_module(alloc, bytes) {
-        Ok(tree) => tree,
+    let wasm = match read_module(alloc, bytes) {
+        Ok(wasm) => wasm,
         Err(error) => return Err(error),
     };
-    let linked = link(alloc, part, &tree)?;
+    let linked = link(alloc, part, wasm.module())?;
     let program = lower(alloc, linked)?;
     let image = encode(alloc, &program)?;
     let report = report(alloc, &program)?;
@@ -65,9 +66,8 @@ pub fn harden(alloc: Global, part: &[u8], bytes: &[u8]) -> Result<Hardened, Hard
 }
 
 /// The module of the form that the bytes spell.
-fn read_module(alloc: Global, bytes: &[u8]) -> Result<Module, HardenError>
-    ensures ok { IfOk result (λ tree. Accepted bytes.now tree) }
-    ensures refused { (refusal : Refusal) → result ≡ Err (error.Refused refusal) → Refused bytes.now refusal }
+fn read_module(alloc: Global, bytes: &[u8]) -> Result<ValidModule, HardenError>
+    ensures { Reads bytes.now result }
 {
     if bytes.len() as u64 > MODULE_LIMIT {
         return Err(HardenError::Refused(Refusal::Limit {
@@ -77,15 +77,40 @@ fn read_module(alloc: Global, bytes: &[u8]) -> Result<Module, HardenError>
     }
     let tree = match decode(alloc, bytes) {
         Ok(tree) => tree,
-        Err(DecodeError::Malformed) => return Err(HardenError::Refused(Refusal::Malformed)),
-        Err(DecodeError::Unsupported) => return Err(HardenError::Refused(Refusal::Unsupported)),
-        Err(DecodeError::Limit { which, value }) => {
-            return Err(HardenError::Refused(Refusal::Limit { which, value }));
-        }
-        Err(DecodeError::Memory) => return Err(HardenError::Memory),
+        Err(error) => return Err(of_decoding(error)),
     };
-    if !is_form(&tree) {
-        return Err(HardenError::Refused(Refusal::Unsupported));
+    let wasm = match validate(alloc, tree) {
+        Ok(wasm) => wasm,
+        Err((_, reason)) => return Err(of_validation(reason)),
+    };
+    if is_form(wasm.module()) {
+        Ok(wasm)
+    } else {
+        Err(HardenError::Refused(Refusal::Unsupported))
     }
-    Ok(tree)
+}
+
+/// Why a module isn't hardened whose bytes aren't decoded.
+fn of_decoding(error: DecodeError) -> HardenError
+    ensures { result ≡ decoding_error error }
+{
+    match error {
+        DecodeError::Malformed => HardenError::Refused(Refusal::Malformed),
+        DecodeError::Unsupported => HardenError::Refused(Refusal::Unsupported),
+        DecodeError::Limit { which, value } => {
+            HardenError::Refused(Refusal::Limit { which, value })
+        }
+        DecodeError::Memory => HardenError::Memory,
+    }
+}
+
+/// Why a module isn't hardened that isn't valid.
+fn of_validation(reason: Invalid) -> HardenError
+    ensures { result ≡ validation_error reason }
+{
+    match reason {
+        Invalid::Function(index) => HardenError::Refused(Refusal::InvalidFunction(index)),
+        Invalid::Module => HardenError::Refused(Refusal::InvalidModule),
+        Invalid::Memory => HardenError::Memory,
+    }
 }

@@ -14,6 +14,10 @@ use std::alloc::Global;
 pub enum Refusal {
     /// They spell no module.
     Malformed,
+    /// A function has no typing: the least one's index, imports first.
+    InvalidFunction(u32),
+    /// Each function has a typing, and the module breaks another rule.
+    InvalidModule,
     /// The module has something that isn't supported, or it is outside the form.
     Unsupported,
     /// The file or the module is too large.
@@ -32,6 +36,7 @@ impl Refusal {
     {
         match self {
             Refusal::Malformed => Status::Malformed,
+            Refusal::InvalidFunction(_) | Refusal::InvalidModule => Status::Invalid,
             Refusal::Unsupported => Status::Unsupported,
             Refusal::Limit { .. } => Status::Limit,
         }
@@ -42,21 +47,32 @@ impl Refusal {
         ensures { IfOk result (λ text. text.items ≡ refusal_text name.now self) }
     {
         match self {
-            Refusal::Malformed => named_line(alloc, "malformed: ", name),
-            Refusal::Unsupported => named_line(alloc, "unsupported: ", name),
+            Refusal::Malformed => named_line(alloc, "malformed: ", name, ""),
+            Refusal::InvalidFunction(index) => function_line(alloc, name, index),
+            Refusal::InvalidModule => named_line(alloc, "invalid: ", name, " module"),
+            Refusal::Unsupported => named_line(alloc, "unsupported: ", name, ""),
             Refusal::Limit { which, value } => limit_line(alloc, which, value),
         }
     }
 }
 
-/// A line of a head and a name.
-fn named_line(alloc: Global, head: &str, name: &[u8]) -> Result<Vec<u8>, NoMemory>
-    ensures { IfOk result (λ text. text.items ≡ line (head.now ++ name.now)) }
+/// A line of a head, a name and a tail.
+fn named_line(alloc: Global, head: &str, name: &[u8], tail: &str) -> Result<Vec<u8>, NoMemory>
+    ensures { IfOk result (λ text. text.items ≡ line (head.now ++ name.now ++ tail.now)) }
 {
     let mut text = head.as_bytes().to_vec(alloc)?;
     text.extend_from_slice(name)?;
+    text.extend_from_slice(tail.as_bytes())?;
     text.push(b'\n')?;
     Ok(text)
+}
+
+/// The line of a function without a typing.
+fn function_line(alloc: Global, name: &[u8], index: u32) -> Result<Vec<u8>, NoMemory>
+    ensures { IfOk result (λ text. text.items ≡ line (codes "invalid: " ++ name.now ++ (codes " function " ++ decimal index))) }
+{
+    let tail = format!(in alloc; " function {index}")?;
+    named_line(alloc, "invalid: ", name, tail.as_str())
 }
 
 /// The line of a quantity and its value.

@@ -15,6 +15,8 @@ pub enum Status {
     WriteFault,
     /// A module's bytes aren't in the grammar.
     Malformed,
+    /// A module has no typing.
+    Invalid,
     /// A module has something that isn't supported, or is outside the form.
     Unsupported,
     /// A quantity exceeds its number.
@@ -34,6 +36,7 @@ impl Status {
             Status::ReadFault => 3,
             Status::WriteFault => 4,
             Status::Malformed => 5,
+            Status::Invalid => 6,
             Status::Unsupported => 7,
             Status::Limit => 8,
             Status::Memory => 11,

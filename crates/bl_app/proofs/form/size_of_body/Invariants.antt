@@ -1,4 +1,4 @@
-use Rattle.std.proofs.Common.{◌≡◌, ◌+◌, ◌*◌, ◌≤◌, take, drop}
+use Rattle.std.proofs.Common.{◌≡◌, ◌+◌, ◌*◌, ◌≤◌, drop}
 use Rattle.std.specs.Prelude.{sum_by}
 use Rattle.bl_app.specs.Form.{items_of, size_of}
 use Rattle.bl_app.proofs.form.size_of_body.Given as goal

@@ -1,12 +1,14 @@
-use Rattle.std.proofs.Common.{◌≡◌, Err, subst, sym, ap}
+use Rattle.std.proofs.Common.{◌≡◌, subst, sym}
+use Rattle.std.specs.Prelude.{Err}
 use Rattle.bl_app.specs.declared.harden.HardenError.TheVariants as error
 use Rattle.bl_app.specs.Bodies.{IsLinkedForm}
 use Rattle.bl_app.specs.Image.{IsEncodable}
+use Rattle.bl_app.specs.Reading.{Reads}
 use Rattle.bl_app.proofs.EncodableLemmas.{encodable, linked_form}
 use Rattle.bl_app.proofs.harden.harden.Goals as goal
 
 pub lower-requires : goal.lower-requires
-lower-requires c = subst IsLinkedForm (sym c.in_ok-linked.ensures) (linked_form c.args.part.now c.in-Ok.tree c.in-Ok.ensures.ok.form)
+lower-requires c = subst IsLinkedForm (sym c.in_ok-linked.ensures) (linked_form c.args.part.now c.in-Ok.wasm c.in-Ok.ensures.form)
 
 pub encode-requires : goal.encode-requires
 encode-requires c = subst IsEncodable (sym c.in_ok-program.ensures) (encodable c.in_ok-linked.linked)
@@ -15,4 +17,4 @@ encode-requires c = subst IsEncodable (sym c.in_ok-program.ensures) (encodable c
 pub returns-in-Err-clause-refused : goal.returns-in-Err-clause-refused
 returns-in-Err-clause-refused c refusal e =
     let same : c.in-Err.error ≡ error.Refused refusal = cc in
-    c.in-Err.ensures.refused refusal (ap Err same)
+    subst (λ error. Reads c.args.bytes.now (Err error)) same c.in-Err.ensures
