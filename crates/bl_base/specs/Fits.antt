@@ -16,9 +16,13 @@ abbrev pub LiesIn : ℕ → ℕ → Option ℕ → Type 0
 LiesIn offset count None = ⊥
 LiesIn offset count (Some pages) = offset + count ≤ pages * 65536
 
+-- bytes, since a number of a definition has no bound of its own
+abbrev pub AreBytes : List ℕ → Type 0
+AreBytes bytes = All (λ byte. byte < 2 ^ 8) bytes
+
 -- a patch names a memory and lies in its first pages
 abbrev pub PatchFits : List ℕ → Patch → Type 0
-PatchFits sizes patch = LiesIn patch.offset (length patch.bytes) (slice_get sizes patch.memory)
+PatchFits sizes patch = LiesIn patch.offset (length patch.bytes) (slice_get sizes patch.memory) × AreBytes patch.bytes
 
 -- the start fits a function of these parameters where the memories have these first pages
 pub record Fits (params : List ValueType) (sizes : List ℕ) (start : Start) : Type 0 where

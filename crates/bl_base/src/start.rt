@@ -1,7 +1,7 @@
 //! What a run starts from.
-ghost use Rattle.std.specs.Prelude.{◌↔◌, All, IsTrue};
+ghost use Rattle.std.specs.Prelude.{◌↔◌, All, IsTrue, length, slice_get};
 ghost use Rattle.std.specs.List.{AllZip};
-ghost use Rattle.bl_base.specs.Fits.{ArgumentFits, PatchFits, Fits};
+ghost use Rattle.bl_base.specs.Fits.{AreBytes, ArgumentFits, LiesIn, PatchFits, Fits};
 
 use crate::list::List;
 use crate::names::ValueType;
@@ -68,8 +68,16 @@ fn patches_fit(sizes: &[u32], patches: &[Patch]) -> bool
 fn patch_fits(sizes: &[u32], patch: &Patch) -> bool
     ensures { IsTrue result ↔ PatchFits sizes.now patch.now }
 {
-    match sizes.get(patch.memory as usize) {
-        Some(pages) => patch.offset as u128 + patch.bytes.len() as u128 <= *pages as u128 * 65_536,
+    lies_in(sizes, patch.memory, patch.offset, patch.bytes.as_slice())
+}
+
+/// Whether the bytes from that place lie in the memory's pages.
+fn lies_in(sizes: &[u32], memory: u32, offset: u32, bytes: &[u8]) -> bool
+    ensures { IsTrue result
+        ↔ LiesIn offset (length bytes.now) (slice_get sizes.now memory) × AreBytes bytes.now }
+{
+    match sizes.get(memory as usize) {
+        Some(pages) => offset as u128 + bytes.len() as u128 <= *pages as u128 * 65_536,
         None => false,
     }
 }

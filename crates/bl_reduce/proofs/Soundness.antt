@@ -22,7 +22,7 @@ use Rattle.bl_wasm.specs.declared.linked.Tree.{Tree}
 use Rattle.bl_reduce.specs.Configurations.{State, Config, entering, running, with_rest}
 use Rattle.bl_reduce.specs.Control.{behind_end}
 use Rattle.bl_reduce.specs.Memory.{write}
-use Rattle.bl_reduce.specs.Outcomes.{first_memory, patched, patch_over, opening, IsStart, HasBytes}
+use Rattle.bl_reduce.specs.Outcomes.{first_memory, patched, patch_over, opening, IsStart}
 use Rattle.bl_reduce.specs.Steps.{execute, frame_step, source_step}
 use Rattle.bl_reduce.specs.TypedConfigurations.{IsMemoryState, IsGlobalValue, IsRest, IsRunning, IsTyped, IsTypedStep}
 use Rattle.bl_reduce.proofs.CallItems.{enter_steps, call_steps, call_indirect_steps}
@@ -176,38 +176,35 @@ module _ (tree : Tree) (linked : IsLinked tree) where
     pages : state.pages ≡ memory.pages
 
   patch_one : (o : Option MemoryState) (states : List MemoryState) (patch : Patch) → slice_get states patch.memory ≡ o → PatchFits (map (λ memory. memory.pages) tree.memories) patch
-      → All (λ byte. byte < 2 ^ 8) patch.bytes → AllZip IsOpening tree.memories states → AllZip IsOpening tree.memories (patch_over o states patch)
-  patch_one None states patch e fits bytes h = h
-  patch_one (Some state) states patch e fits bytes h =
+      → AllZip IsOpening tree.memories states → AllZip IsOpening tree.memories (patch_over o states patch)
+  patch_one None states patch e fits h = h
+  patch_one (Some state) states patch e fits h =
       let found = zip_got IsOpening tree.memories states patch.memory state h e in
       let size : slice_get (map (λ memory. memory.pages) tree.memories) patch.memory ≡ Some found.0.pages =
       slice_get-map (λ memory. memory.pages) tree.memories patch.memory ∙ ap (option_map (λ memory. memory.pages)) found.1 in
-      let lies : LiesIn patch.offset (length patch.bytes) (Some found.0.pages) = subst (LiesIn patch.offset (length patch.bytes)) size fits in
+      let lies : LiesIn patch.offset (length patch.bytes) (Some found.0.pages) = subst (LiesIn patch.offset (length patch.bytes)) size fits.0 in
       let times : state.pages * 65536 ≡ found.0.pages * 65536 = ap (λ n. n * 65536) found.2.pages in
       let le : patch.offset + length patch.bytes ≤ length state.bytes = omega (arith, lies, found.2.is.size, times) in
       zip_set IsOpening tree.memories states patch.memory found.0 (write state patch.offset patch.bytes) h found.1
-      (record { is = written_state found.0 state patch.offset patch.bytes le bytes found.2.is; pages = found.2.pages })
+      (record { is = written_state found.0 state patch.offset patch.bytes le fits.1 found.2.is; pages = found.2.pages })
 
   openings : (patches : List Patch) (states : List MemoryState) → All (PatchFits (map (λ memory. memory.pages) tree.memories)) patches
-      → All (λ patch. All (λ byte. byte < 2 ^ 8) patch.bytes) patches → AllZip IsOpening tree.memories states → AllZip IsOpening tree.memories (fold patched states patches)
-  openings [] states fits bytes h = h
-  openings (patch ∷ patches) states fits bytes h =
-      openings patches (patched states patch)
-      (All-drop (PatchFits (map (λ memory. memory.pages) tree.memories)) 1 (patch ∷ patches) fits)
-      (All-drop (λ patch. All (λ byte. byte < 2 ^ 8) patch.bytes) 1 (patch ∷ patches) bytes)
+      → AllZip IsOpening tree.memories states → AllZip IsOpening tree.memories (fold patched states patches)
+  openings [] states fits h = h
+  openings (patch ∷ patches) states fits h =
+      openings patches (patched states patch) (All-drop (PatchFits (map (λ memory. memory.pages) tree.memories)) 1 (patch ∷ patches) fits)
       (patch_one (slice_get states patch.memory) states patch refl
-      (All-get_or (PatchFits (map (λ memory. memory.pages) tree.memories)) (patch ∷ patches) 0 patch (omega arith) fits)
-      (All-get_or (λ patch. All (λ byte. byte < 2 ^ 8) patch.bytes) (patch ∷ patches) 0 patch (omega arith) bytes) h)
+      (All-get_or (PatchFits (map (λ memory. memory.pages) tree.memories)) (patch ∷ patches) 0 patch (omega arith) fits) h)
 
   first_opening : (memory : Memory) → IsMemory memory → IsOpening memory (first_memory memory)
   first_opening memory is = record { is = record { most = is.first; size = is.size; bytes = is.bytes }; pages = refl }
 
   -- the entering of a function with a start that fits is typed
-  pub typed_opening : (number : ℕ) (start : Start) (is : IsStart tree number start) → HasBytes start → IsTyped tree is.type.results (opening tree number start)
-  typed_opening number start is bytes = record {
+  pub typed_opening : (number : ℕ) (start : Start) (is : IsStart tree number start) → IsTyped tree is.type.results (opening tree number start)
+  typed_opening number start is = record {
     store_is = record {
       memories = zip_each IsOpening IsMemoryState (λ memory state h. h.is) tree.memories (fold patched (map first_memory tree.memories) start.patches)
-          (openings start.patches (map first_memory tree.memories) is.fits.patches bytes
+          (openings start.patches (map first_memory tree.memories) is.fits.patches
           (zip_images IsMemory IsOpening first_memory first_opening tree.memories linked.memories));
       globals = zip_images (λ global. ArgumentFits global.kind global.first) IsGlobalValue (λ global. global.first) (λ global h. h) tree.globals linked.globals;
     };
@@ -221,7 +218,7 @@ module _ (tree : Tree) (linked : IsLinked tree) where
   }
 
   -- no run from such a start gets stuck
-  pub never_stuck : (number : ℕ) (start : Start) → IsStart tree number start → HasBytes start → (n : ℕ) (config : Config) → Comes (source_step tree) n (opening tree number start) config
+  pub never_stuck : (number : ℕ) (start : Start) → IsStart tree number start → (n : ℕ) (config : Config) → Comes (source_step tree) n (opening tree number start) config
       → HasStep (source_step tree config)
-  never_stuck number start is bytes n config comes =
-      step_of_typed tree linked is.type.results config (typed_run tree linked is.type.results n (opening tree number start) config (typed_opening number start is bytes) comes)
+  never_stuck number start is n config comes =
+      step_of_typed tree linked is.type.results config (typed_run tree linked is.type.results n (opening tree number start) config (typed_opening number start is) comes)

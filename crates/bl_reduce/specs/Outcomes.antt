@@ -1,6 +1,6 @@
 -- What a run of a function from a start ends with (WebAssembly 1.0, section 4.5.5).
-use Rattle.std.specs.Prelude.{◌≡◌, ℕ, ◌<◌, ◌^◌, List, [], map, set, slice_get, Option, Some, None}
-use Rattle.std.specs.List.{All, fold}
+use Rattle.std.specs.Prelude.{◌≡◌, ℕ, List, [], map, set, slice_get, Option, Some, None}
+use Rattle.std.specs.List.{fold}
 use Rattle.bl_base.specs.Fits.{Fits}
 use Rattle.bl_base.specs.Runs.{MemoryState, Outcome, EndsAfter}
 use Rattle.bl_base.specs.declared.start.Patch.{Patch}
@@ -44,10 +44,6 @@ pub record IsStart (tree : Tree) (number : ℕ) (start : Start) : Type 0 where
   pub type : Signature
   pub typed : slice_get tree.types function.type_index ≡ Some type
   pub fits : Fits type.params (map (λ memory. memory.pages) tree.memories) start
-
--- the bytes of the patches are bytes, since a number of a definition has no bound of its own
-abbrev pub HasBytes : Start → Type 0
-HasBytes start = All (λ patch. All (λ byte. byte < 2 ^ 8) patch.bytes) start.patches
 
 -- the start fits, and the run from the entering of the function ends with that outcome after exactly so many steps
 pub record source (tree : Tree) (number : ℕ) (start : Start) (steps : ℕ) (outcome : Outcome) : Type 0 where

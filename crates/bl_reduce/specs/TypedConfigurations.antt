@@ -1,8 +1,8 @@
 -- When a configuration is typed (WebAssembly 1.0, appendix A.5, "Soundness"): its values have the types of a typing of their
 -- function's body. The entering of a function with arguments that fit is typed, a step keeps it, and what is typed has a step.
 use Rattle.std.specs.Prelude.{◌≡◌, ℕ, ◌*◌, ◌^◌, ◌<◌, ◌≤◌, ◌++◌, List, [], ◌∷◌, length, map, drop, reverse, slice_get, Some}
-use Rattle.std.specs.List.{All, AllZip}
-use Rattle.bl_base.specs.Fits.{ArgumentFits}
+use Rattle.std.specs.List.{AllZip}
+use Rattle.bl_base.specs.Fits.{AreBytes, ArgumentFits}
 use Rattle.bl_base.specs.Runs.{MemoryState, Outcome, returned, trapped, Next, goes, ends, stuck}
 use Rattle.bl_base.specs.declared.names.ValueType.{ValueType}
 use Rattle.bl_wasm.specs.Linked.{all_locals, context}
@@ -35,7 +35,7 @@ AreValues types values = AllZip IsValue (reverse types) values
 pub record IsMemoryState (memory : Memory) (state : MemoryState) : Type 0 where
   pub most : state.pages ≤ memory.reserve
   pub size : length state.bytes ≡ state.pages * 65536
-  pub bytes : All (λ byte. byte < 2 ^ 8) state.bytes
+  pub bytes : AreBytes state.bytes
 
 -- a value of a global
 abbrev pub IsGlobalValue : Global → ℕ → Type 0

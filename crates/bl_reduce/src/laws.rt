@@ -6,7 +6,7 @@ ghost use Rattle.bl_base.specs.declared.start.Start.{Start};
 ghost use Rattle.bl_wasm.specs.Linked.{IsLinked};
 ghost use Rattle.bl_wasm.specs.declared.linked.Tree.{Tree};
 ghost use Rattle.bl_reduce.specs.Configurations.{Config};
-ghost use Rattle.bl_reduce.specs.Outcomes.{HasBytes, IsStart, opening, source};
+ghost use Rattle.bl_reduce.specs.Outcomes.{IsStart, opening, source};
 ghost use Rattle.bl_reduce.specs.Steps.{source_step};
 ghost use Rattle.bl_reduce.specs.TypedConfigurations.{IsTyped, IsTypedStep};
 
@@ -27,14 +27,14 @@ pub fn one_outcome()
 /// the run's end.
 pub fn no_run_is_stuck()
     ensures { (tree : Tree) (function : ℕ) (start : Start) (n : ℕ) (c : Config)
-        → IsLinked tree → IsStart tree function start → HasBytes start
+        → IsLinked tree → IsStart tree function start
         → Comes (source_step tree) n (opening tree function start) c → HasStep (source_step tree c) }
 {}
 
 /// The entering of a function with a start that fits is typed.
 pub fn a_start_is_typed()
     ensures { (tree : Tree) (function : ℕ) (start : Start)
-        → IsLinked tree → (is : IsStart tree function start) → HasBytes start → IsTyped tree is.type.results (opening tree function start) }
+        → IsLinked tree → (is : IsStart tree function start) → IsTyped tree is.type.results (opening tree function start) }
 {}
 
 /// What is typed has a step, to what is typed again or to an end with values of the results' types.

@@ -1,7 +1,7 @@
 -- What a linked tree keeps (WebAssembly 1.0, sections 3.4 and 4.5.4).
 use Rattle.std.specs.Prelude.{◌≡◌, ℕ, ◌*◌, ◌^◌, ◌<◌, ◌≤◌, ◌++◌, List, length, map, slice_get, sum_by, Option, Some, None, IfSome}
 use Rattle.std.specs.List.{All}
-use Rattle.bl_base.specs.Fits.{ArgumentFits}
+use Rattle.bl_base.specs.Fits.{AreBytes, ArgumentFits}
 use Rattle.bl_wasm.specs.Exports.{AreDistinct}
 use Rattle.bl_wasm.specs.Typing.{Context, IsTyping, integer}
 use Rattle.bl_wasm.specs.Validity.{locals_of}
@@ -78,7 +78,7 @@ pub record IsMemory (memory : Memory) : Type 0 where
   pub first : memory.pages ≤ memory.reserve
   pub most : memory.reserve ≤ 256
   pub size : length memory.bytes ≡ memory.pages * 65536
-  pub bytes : All (λ byte. byte < 2 ^ 8) memory.bytes
+  pub bytes : AreBytes memory.bytes
 
 -- a slot is empty, or its function exists
 abbrev pub IsSlot : Tree → Option ℕ → Type 0

@@ -2,4 +2,4 @@ use Rattle.bl_reduce.proofs.Soundness.{never_stuck}
 use Rattle.bl_reduce.proofs.laws.no_run_is_stuck.Goals as goal
 
 pub returns : goal.returns
-returns c = λ tree function start n config linked is bytes comes. never_stuck tree linked function start is bytes n config comes
+returns c = λ tree function start n config linked is comes. never_stuck tree linked function start is n config comes
