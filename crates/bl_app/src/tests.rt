@@ -239,7 +239,7 @@ fn function_of(alloc: Global, sections: &[u8], items: &[u8]) -> Result<Vec<u8>, 
     )?;
     bytes.extend_from_slice(sections)?;
     let size = items.len() as u8;
-    bytes.extend_from_slice(&[0x0A, size + 5, 0x01, size + 2, 0x00])?;
+    bytes.extend_from_slice(&[0x0A, size + 4, 0x01, size + 2, 0x00])?;
     bytes.extend_from_slice(items)?;
     bytes.push(0x0B)?;
     Ok(bytes)
