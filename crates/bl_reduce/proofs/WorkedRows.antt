@@ -7,9 +7,9 @@ use Rattle.bl_base.specs.declared.names.Label.TheVariants.{Public}
 use Rattle.bl_base.specs.declared.trap.Trap.TheVariants as kind
 use Rattle.bl_ops.specs.declared.access.AccessKind.TheVariants as access
 use Rattle.bl_ops.specs.Numerics.{meaning, traps}
-use Rattle.bl_ops.specs.declared.op.Op.TheVariants.{I32Add, I32DivS, I32RemS, I32Sub}
+use Rattle.bl_ops.specs.declared.op.Op.TheVariants.{I32Eqz, I32Add, I32DivS, I32RemS, I32Sub}
 use Rattle.bl_wasm.specs.declared.instruction.Instr.{Instr}
-use Rattle.bl_wasm.specs.declared.instruction.Instr.TheVariants.{Block, Loop, If, End, Br, BrIf, BrTable, Return, Call, CallIndirect, Drop, LocalGet, LocalTee, Load, Store, MemoryGrow, I32Const, Integer}
+use Rattle.bl_wasm.specs.declared.instruction.Instr.TheVariants.{Unreachable, Block, Loop, If, End, Br, BrIf, BrTable, Return, Call, CallIndirect, Drop, LocalGet, LocalSet, LocalTee, Load, Store, MemoryGrow, I32Const, Integer}
 use Rattle.bl_wasm.specs.declared.types.WasmType.TheVariants as type
 use Rattle.bl_wasm.specs.declared.linked.Signature.{Signature}
 use Rattle.bl_wasm.specs.declared.linked.Function.{Function}
@@ -217,3 +217,30 @@ grow_one = refl
 
 grow_two : run grows 4 (2 ∷ []) ≡ ends (returned (4294967295 ∷ []) (record { pages = 1; bytes = [] } ∷ []))
 grow_two = refl
+
+-- the sum of so many numbers from an address on: block, local.get 1, i32.eqz, br_if 0, loop, .., br_if 0, end, end, local.get 2
+abbrev sum : Tree
+sum = record {
+  types = signature 2 1 ∷ [];
+  functions = record (function 0 1 (Block None ∷ LocalGet 1 ∷ Integer I32Eqz ∷ BrIf 0 ∷ Loop None
+      ∷ LocalGet 0 ∷ Load access.I32Load (record { alignment = 2; offset = 0 }) ∷ LocalGet 2 ∷ Integer I32Add ∷ LocalSet 2
+      ∷ LocalGet 0 ∷ I32Const 4 ∷ Integer I32Add ∷ LocalSet 0 ∷ LocalGet 1 ∷ I32Const 4294967295 ∷ Integer I32Add ∷ LocalTee 1 ∷ BrIf 0
+      ∷ End ∷ End ∷ LocalGet 2 ∷ [])) { memory = Some 0 } ∷ [];
+  globals = [];
+  memories = record { pages = 1; reserve = 1; label = Public; bytes = 1 ∷ 0 ∷ 0 ∷ 0 ∷ 2 ∷ 0 ∷ 0 ∷ 0 ∷ 3 ∷ 0 ∷ 0 ∷ 0 ∷ [] } ∷ [];
+  tables = [];
+  exports = [];
+}
+
+-- entering, block, 3 items, 3 rounds of loop and 14 items, both ends, local.get, the return
+sum_of_three : ends_with (run sum 54 (0 ∷ 3 ∷ [])) ≡ 1 ∷ 12 ∷ 6 ∷ []
+unfolding meaning traps
+sum_of_three = refl
+
+-- the br_if leaves the block
+sum_of_none : ends_with (run sum 7 (0 ∷ 0 ∷ [])) ≡ 1 ∷ 12 ∷ 0 ∷ []
+unfolding meaning traps
+sum_of_none = refl
+
+unreachable : run (one 0 1 0 (Unreachable ∷ Integer I32Add ∷ [])) 2 [] ≡ ends (trapped kind.Unreachable [])
+unreachable = refl
