@@ -41,11 +41,10 @@ data Way (words : List (List ℕ)) (old new : World) (status : ℕ) : Type 0 whe
   full : status ≡ 11 → Way words old new status
 
 -- a status of a refusal
-IsRefusal : ℕ → Type 0
+abbrev IsRefusal : ℕ → Type 0
 IsRefusal status = (status ≡ 5) ⊎ ((status ≡ 6) ⊎ ((status ≡ 7) ⊎ (status ≡ 8)))
 
 status_big : (refusal : Refusal) → IsRefusal (status_of refusal)
-unfolding IsRefusal
 status_big Malformed = inl refl
 status_big (InvalidFunction index) = inr (inl refl)
 status_big InvalidModule = inr (inl refl)
@@ -64,7 +63,7 @@ keep_named request image report (suc (suc before)) keep e = cc
 keep_of : (words : List (List ℕ)) (files : Option Files) (plan : Plan) (before : ℕ) (keep : List ℕ × List ℕ) → PlanFor words files plan → slice_get plan.keeps before ≡ Some keep → KeepOf words keep.0
 unfolding KeepOf
 keep_of words files plan before keep (usage none) e = cc
-keep_of words files plan before keep (refused request bytes refusal is file against) e = cc
+keep_of words files plan before keep (refused request bytes refusal is file stands) e = cc
 keep_of words files plan before keep (harden request bytes tree is file accepted) e =
     (request, is, keep_named request (image_of (program_of (module_name request.wasm) tree)) (report_text (program_of (module_name request.wasm) tree)) before keep e)
 
@@ -118,7 +117,7 @@ same_bytes files (Some told) request other bytes those e same f g = cc
 module _ (words : List (List ℕ)) (old new : World) (status : ℕ) where
   usage_only : Way words old new status → status ≡ 2 → request_of words ≡ None
   usage_only (settled plan (usage none) d) e = none
-  usage_only (settled plan (refused request bytes refusal is file against) d) e = absurd (omega (arith, e, d.meant, status_big refusal))
+  usage_only (settled plan (refused request bytes refusal is file stands) d) e = absurd (omega (arith, e, d.meant, status_big refusal))
   usage_only (settled plan (harden request bytes tree is file accepted) d) e = absurd (omega (arith, e, d.meant))
   usage_only (faulty_read f e') e = absurd (omega arith)
   usage_only (faulty_keep f e') e = absurd (omega arith)
@@ -127,7 +126,7 @@ module _ (words : List (List ℕ)) (old new : World) (status : ℕ) where
 
   no_request : Way words old new status → request_of words ≡ None → UnlessFault 2 status
   no_request (settled plan (usage none) d) e = inl d.meant
-  no_request (settled plan (refused request bytes refusal is file against) d) e = cc
+  no_request (settled plan (refused request bytes refusal is file stands) d) e = cc
   no_request (settled plan (harden request bytes tree is file accepted) d) e = cc
   no_request (faulty_read f e') e = inr (inl e')
   no_request (faulty_keep f e') e = inr (inr (inl e'))
@@ -137,8 +136,8 @@ module _ (words : List (List ℕ)) (old new : World) (status : ℕ) where
   -- the status of a refusal comes of a refusal
   refused_only : Way words old new status → IsRefusal status → IsRefused words old new status
   refused_only (settled plan (usage none) d) e = absurd (omega (arith, e, d.meant))
-  refused_only (settled plan (refused request bytes refusal is file against) d) e =
-      record { request = request; bytes = bytes; refusal = refusal; asks = record { is_request = is; is_file = file }; refused = against; meant = d.meant; printed = d.said.taken }
+  refused_only (settled plan (refused request bytes refusal is file stands) d) e =
+      record { request = request; bytes = bytes; refusal = refusal; asks = record { is_request = is; is_file = file }; refused = stands; meant = d.meant; printed = d.said.taken }
   refused_only (settled plan (harden request bytes tree is file accepted) d) e = absurd (omega (arith, e, d.meant))
   refused_only (faulty_read f e') e = absurd (omega arith)
   refused_only (faulty_keep f e') e = absurd (omega arith)
@@ -151,9 +150,9 @@ module _ (words : List (List ℕ)) (old new : World) (status : ℕ) where
 
   is_refused : Way words old new status → (files : Files) (request : Request) (bytes : List ℕ) (refusal : Refusal) → old.files ≡ Some files → Asks words old.files request bytes → Refused bytes refusal → UnlessFault (status_of refusal) status
   is_refused (settled plan (usage none) d) files request bytes refusal told asks r = let is = asks.is_request in cc
-  is_refused (settled plan (refused other those found is file against) d) files request bytes refusal told asks r =
+  is_refused (settled plan (refused other those found is file stands) d) files request bytes refusal told asks r =
       let same = asked_bytes files request other bytes those told asks is file in
-      let one : found ≡ refusal = refused_one those found refusal against (subst (λ b. Refused b refusal) same r) in
+      let one : found ≡ refusal = refused_one those found refusal stands (subst (λ b. Refused b refusal) same r) in
       inl (d.meant ∙ ap status_of one)
   is_refused (settled plan (harden other those tree is file accepted) d) files request bytes refusal told asks r =
       let same = asked_bytes files request other bytes those told asks is file in
@@ -166,7 +165,7 @@ module _ (words : List (List ℕ)) (old new : World) (status : ℕ) where
   -- what is meant where nothing fails
   meant_status : (plan : Plan) → PlanFor words old.files plan → (plan.status ≡ 0) ⊎ ((plan.status ≡ 2) ⊎ IsRefusal plan.status)
   meant_status plan (usage none) = inr (inl refl)
-  meant_status plan (refused request bytes refusal is file against) = inr (inr (status_big refusal))
+  meant_status plan (refused request bytes refusal is file stands) = inr (inr (status_big refusal))
   meant_status plan (harden request bytes tree is file accepted) = inl refl
 
   read_fault : Way words old new status → status ≡ 3 → IsReadFault words old new
@@ -192,9 +191,9 @@ module _ (words : List (List ℕ)) (old new : World) (status : ℕ) where
 
   complete : Way words old new status → (files : Files) (request : Request) (bytes : List ℕ) (tree : Module) → old.files ≡ Some files → Asks words old.files request bytes → Accepted bytes tree → NoneRose old new → (status ≡ 0) ⊎ (status ≡ 11)
   complete (settled plan (usage none) d) files request bytes tree told asks accepts none_rose = let is = asks.is_request in cc
-  complete (settled plan (refused other those refusal is file against) d) files request bytes tree told asks accepts none_rose =
+  complete (settled plan (refused other those refusal is file stands) d) files request bytes tree told asks accepts none_rose =
       let same = asked_bytes files request other bytes those told asks is file in
-      absurd (accepted_refused those tree refusal (subst (λ b. Accepted b tree) same accepts) against)
+      absurd (accepted_refused those tree refusal (subst (λ b. Accepted b tree) same accepts) stands)
   complete (settled plan (harden other those made is file accepted) d) files request bytes tree told asks accepts none_rose = inl d.meant
   complete (faulty_read f e) files request bytes tree told asks accepts none_rose = absurd (none_rose.reads f.fails.rose)
   complete (faulty_keep f e) files request bytes tree told asks accepts none_rose = absurd (none_rose.writes f.fails.rose)
@@ -293,7 +292,7 @@ module _ (words : List (List ℕ)) (old new : World) where
 
   done : (status : ℕ) → Way words old new status → status ≡ 0 → Hardens words old new
   done status (settled plan (usage none) d) e = absurd (omega (arith, e, d.meant))
-  done status (settled plan (refused request bytes refusal is file against) d) e = absurd (omega (arith, e, d.meant, status_big refusal))
+  done status (settled plan (refused request bytes refusal is file stands) d) e = absurd (omega (arith, e, d.meant, status_big refusal))
   done status (settled plan (harden request bytes tree is file accepted) d) e = hardened request bytes tree is file accepted status d
   done status (faulty_read f e') e = absurd (omega arith)
   done status (faulty_keep f e') e = absurd (omega arith)
