@@ -1,0 +1,4 @@
+pub mod Decimals
+pub mod HexBytes
+pub mod Operands
+pub mod Parts

@@ -1,0 +1,53 @@
+//! A start file, read line by line.
+ghost use Rattle.std.specs.Prelude.{ℕ, ◌≡◌, ◌+◌, ◌≤◌, ◌<◌, ◌^◌, IfOk, IfErr};
+ghost use Rattle.bl_base.specs.Fits.{Fits};
+ghost use Rattle.bl_trace.specs.Answers.{said, answer_of, IsAnswer};
+ghost use Rattle.bl_trace.specs.Lines.{lines_of};
+
+use crate::entry::Entry;
+use crate::error::StartError;
+use crate::line::{place_of, read_line};
+use bl_base::{List, NoMemory, Start, ValueType};
+use std::alloc::Global;
+
+/// Adds what a line says.
+fn add(start: &mut Start, entry: Entry) -> Result<(), NoMemory> {
+    match entry {
+        Entry::Argument(value) => start.args.push(value),
+        Entry::Contents(patch) => start.patches.push(patch),
+    }
+}
+
+/// What all lines say; the number of the first bad one where there is one.
+fn read_lines(alloc: Global, bytes: &[u8], params: &[ValueType], sizes: &[u32]) -> Result<Start, StartError> {
+    let mut start = Start {
+        args: List::new(alloc),
+        patches: List::new(alloc),
+    };
+    let mut at = 0;
+    let mut number = 0u64;
+    while at < bytes.len() {
+        number += 1;
+        let end = at + place_of(&bytes[at..], b'\n');
+        let kind = params.get(start.args.len()).copied();
+        let Some(entry) = read_line(alloc, &bytes[at..end], kind, sizes)? else {
+            return Err(StartError::Line(number));
+        };
+        add(&mut start, entry)?;
+        at = end + 1;
+    }
+    Ok(start)
+}
+
+/// The start that a start file asks for.
+pub fn read_start(alloc: Global, bytes: &[u8], params: &[ValueType], sizes: &[u32]) -> Result<Start, StartError>
+    ensures answer { IsAnswer (answer_of params.now sizes.now bytes.now) result }
+    ensures fits { IfOk result (λ start. Fits params.now sizes.now start) }
+{
+    let start = read_lines(alloc, bytes, params, sizes)?;
+    let count = start.args.len();
+    if count < params.len() {
+        return Err(StartError::Count(count as u64));
+    }
+    Ok(start)
+}
