@@ -1,5 +1,5 @@
 -- The start that a start file asks for, or why it gives none.
-use Rattle.std.specs.Prelude.{◌≡◌, ℕ, ◌+◌, if◌then◌else◌, List, [], ◌∷◌, length, Option, Some, None, Result, Ok, Err, nat_lt}
+use Rattle.std.specs.Prelude.{◌≡◌, ℕ, ◌+◌, ◌++◌, if◌then◌else◌, List, [], ◌∷◌, length, Option, Some, None, Result, Ok, Err, nat_lt}
 use Rattle.bl_base.specs.declared.names.ValueType.{ValueType}
 use Rattle.bl_base.specs.declared.start.Start.{Start}
 use Rattle.bl_trace.specs.declared.entry.Entry.{Entry}
@@ -31,6 +31,18 @@ said params sizes arguments (line ∷ lines) =
       Some entry ↦ said_before entry (said params sizes (arguments + arguments_in entry) lines)
     | None ↦ Err 1
     ]
+
+-- an entry behind those of a start
+abbrev pub entry_behind : Start → Entry → Start
+entry_behind start (Argument value) = record start { args = start.args ++ value ∷ [] }
+entry_behind start (Contents patch) = record start { patches = start.patches ++ patch ∷ [] }
+
+-- what is read of lines that say that
+abbrev pub IsRead : Result Start ℕ → Result Start StartError → Type 0
+IsRead asked (Ok start) = asked ≡ Ok start
+IsRead asked (Err (Line number)) = asked ≡ Err number
+IsRead asked (Err (Count count)) = ⊥
+IsRead asked (Err Memory) = Unit {0}
 
 -- the answer of lines that say that: a bad line is told before a want of arguments
 abbrev pub answer_by : List ValueType → Result Start ℕ → Result Start StartError

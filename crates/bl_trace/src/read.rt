@@ -1,7 +1,7 @@
 //! A start file, read line by line.
-ghost use Rattle.std.specs.Prelude.{ℕ, ◌≡◌, ◌+◌, ◌≤◌, ◌<◌, ◌^◌, IfOk, IfErr};
+ghost use Rattle.std.specs.Prelude.{◌≡◌, IfOk, OnOk, slice_get};
 ghost use Rattle.bl_base.specs.Fits.{Fits};
-ghost use Rattle.bl_trace.specs.Answers.{said, answer_of, IsAnswer};
+ghost use Rattle.bl_trace.specs.Answers.{entry_behind, said, IsRead, answer_of, IsAnswer};
 ghost use Rattle.bl_trace.specs.Lines.{lines_of};
 
 use crate::entry::Entry;
@@ -10,8 +10,17 @@ use crate::line::{place_of, read_line};
 use bl_base::{List, NoMemory, Start, ValueType};
 use std::alloc::Global;
 
+/// The type of a parameter, counted from 0; None beyond the last.
+fn parameter(params: &[ValueType], place: usize) -> Option<ValueType>
+    ensures { result ≡ slice_get params.now place }
+{
+    params.get(place).copied()
+}
+
 /// Adds what a line says.
-fn add(start: &mut Start, entry: Entry) -> Result<(), NoMemory> {
+fn add(start: &mut Start, entry: Entry) -> Result<(), NoMemory>
+    ensures { OnOk result (start.new ≡ entry_behind start.old entry) }
+{
     match entry {
         Entry::Argument(value) => start.args.push(value),
         Entry::Contents(patch) => start.patches.push(patch),
@@ -19,7 +28,9 @@ fn add(start: &mut Start, entry: Entry) -> Result<(), NoMemory> {
 }
 
 /// What all lines say; the number of the first bad one where there is one.
-fn read_lines(alloc: Global, bytes: &[u8], params: &[ValueType], sizes: &[u32]) -> Result<Start, StartError> {
+fn read_lines(alloc: Global, bytes: &[u8], params: &[ValueType], sizes: &[u32]) -> Result<Start, StartError>
+    ensures { IsRead (said params.now sizes.now 0 (lines_of bytes.now)) result }
+{
     let mut start = Start {
         args: List::new(alloc),
         patches: List::new(alloc),
@@ -29,7 +40,7 @@ fn read_lines(alloc: Global, bytes: &[u8], params: &[ValueType], sizes: &[u32]) 
     while at < bytes.len() {
         number += 1;
         let end = at + place_of(&bytes[at..], b'\n');
-        let kind = params.get(start.args.len()).copied();
+        let kind = parameter(params, start.args.len());
         let Some(entry) = read_line(alloc, &bytes[at..end], kind, sizes)? else {
             return Err(StartError::Line(number));
         };
