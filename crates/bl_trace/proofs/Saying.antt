@@ -1,5 +1,5 @@
 -- What lines say, line by line.
-use Rattle.std.proofs.Common.{◌≡◌, ℕ, ◌+◌, ◌-◌, ◌<◌, ◌≤◌, ◌==◌, nat_eq, List, [], ◌∷◌, ◌++◌, length, take, drop, Option, Some, None, Result, Ok, Err, refl, sym, ap, subst, ◌∙◌, arith, append_assoc, length-drop}
+use Rattle.std.proofs.Common.{◌≡◌, ℕ, ◌+◌, ◌-◌, ◌<◌, ◌==◌, List, [], ◌∷◌, ◌++◌, length, take, drop, Option, Some, None, Result, Ok, Err, refl, sym, ap, ◌∙◌, arith, append_assoc, length-drop}
 use Rattle.std.proofs.lemmas.List.{length_push, append-nil, take_rest, drop-drop}
 use Rattle.std.specs.List.{position_or_len, before_first, after_first}
 use Rattle.bl_base.specs.declared.names.ValueType.{ValueType}
@@ -7,7 +7,8 @@ use Rattle.bl_base.specs.declared.start.Start.{Start}
 use Rattle.bl_trace.specs.declared.entry.Entry.{Entry}
 use Rattle.bl_trace.specs.declared.entry.Entry.TheVariants.{Argument, Contents}
 use Rattle.bl_trace.specs.Lines.{lines_of, entry_of}
-use Rattle.bl_trace.specs.Answers.{arguments_in, entry_before, entry_behind, said_before, said}
+use Rattle.bl_trace.specs.Answers.{arguments_in, said_before, said}
+use Rattle.bl_trace.specs.Reading.{entry_behind}
 use Rattle.bl_trace.proofs.Parts.{first_line}
 
 -- a start and what is said behind so many lines
@@ -73,7 +74,7 @@ pub line_at : (bytes : List ℕ) (at place : ℕ) → at < length bytes →
 line_at bytes at place inside is =
     let first = line_of_some (drop at bytes) (omega (arith, length-drop at bytes)) in
     let here : position_or_len (λ b. b == 10) (drop at bytes) ≡ place =
-      ap (position_or_len (λ b. b == 10)) (sym (take_rest bytes at)) ∙ sym is in
+    ap (position_or_len (λ b. b == 10)) (sym (take_rest bytes at)) ∙ sym is in
     let long : place ≡ at + place - at = omega arith in
     let further : at + (place + 1) ≡ at + place + 1 = omega arith in
     first

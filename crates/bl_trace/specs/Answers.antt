@@ -1,5 +1,5 @@
 -- The start that a start file asks for, or why it gives none.
-use Rattle.std.specs.Prelude.{◌≡◌, ℕ, ◌+◌, ◌++◌, if◌then◌else◌, List, [], ◌∷◌, length, Option, Some, None, Result, Ok, Err, nat_lt}
+use Rattle.std.specs.Prelude.{◌≡◌, ℕ, ◌+◌, if◌then◌else◌, List, [], ◌∷◌, length, Some, None, Result, Ok, Err, nat_lt}
 use Rattle.bl_base.specs.declared.names.ValueType.{ValueType}
 use Rattle.bl_base.specs.declared.start.Start.{Start}
 use Rattle.bl_trace.specs.declared.entry.Entry.{Entry}
@@ -28,21 +28,9 @@ abbrev pub said : List ValueType → List ℕ → ℕ → List (List ℕ) → Re
 said params sizes arguments [] = Ok (record { args = []; patches = [] })
 said params sizes arguments (line ∷ lines) =
     elim (entry_of params sizes arguments line) [
-      Some entry ↦ said_before entry (said params sizes (arguments + arguments_in entry) lines)
-    | None ↦ Err 1
+      | Some entry ↦ said_before entry (said params sizes (arguments + arguments_in entry) lines)
+      | None ↦ Err 1
     ]
-
--- an entry behind those of a start
-abbrev pub entry_behind : Start → Entry → Start
-entry_behind start (Argument value) = record start { args = start.args ++ value ∷ [] }
-entry_behind start (Contents patch) = record start { patches = start.patches ++ patch ∷ [] }
-
--- what is read of lines that say that
-abbrev pub IsRead : Result Start ℕ → Result Start StartError → Type 0
-IsRead asked (Ok start) = asked ≡ Ok start
-IsRead asked (Err (Line number)) = asked ≡ Err number
-IsRead asked (Err (Count count)) = ⊥
-IsRead asked (Err Memory) = Unit {0}
 
 -- the answer of lines that say that: a bad line is told before a want of arguments
 abbrev pub answer_by : List ValueType → Result Start ℕ → Result Start StartError
@@ -53,7 +41,7 @@ answer_by params (Err number) = Err (Line number)
 abbrev pub answer_of : List ValueType → List ℕ → List ℕ → Result Start StartError
 answer_of params sizes bytes = answer_by params (said params sizes 0 (lines_of bytes))
 
--- an answer is the one that is asked for, or memory ran out
+-- an answer is the one that is asked for, or memory ran out, which no clause rules out
 abbrev pub IsAnswer : Result Start StartError → Result Start StartError → Type 0
 IsAnswer asked (Err Memory) = Unit {0}
 IsAnswer asked answer = answer ≡ asked

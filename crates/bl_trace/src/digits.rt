@@ -26,6 +26,7 @@ pub fn read_decimal(word: &[u8], max: u64) -> Option<u64>
     Some(value)
 }
 
+/// The byte that two hexadecimal digits write, the high one first.
 fn read_byte(high: u8, low: u8) -> Option<u8>
     ensures { result ≡ byte_of high low }
 {

@@ -107,7 +107,12 @@ fn read_patch(alloc: Global, operands: &[u8], sizes: &[u32]) -> Result<Option<Pa
 
 /// What a line says where the next argument is for a parameter of a type, if any is left; None where the line
 /// is bad.
-pub fn read_line(alloc: Global, line: &[u8], kind: Option<ValueType>, sizes: &[u32]) -> Result<Option<Entry>, NoMemory>
+pub fn read_line(
+    alloc: Global,
+    line: &[u8],
+    kind: Option<ValueType>,
+    sizes: &[u32],
+) -> Result<Option<Entry>, NoMemory>
     ensures { IfOk result (λ found. found ≡ entry_by kind sizes.now (words_of line.now)) }
 {
     let Some((keyword, operands)) = cut(line) else {

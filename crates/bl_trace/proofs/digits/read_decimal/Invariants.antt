@@ -9,5 +9,5 @@ abbrev pub invariant-loop-byte : goal.invariant-loop-byte
 invariant-loop-byte l = record {
   within : l.value ≤ l.max;
   digits : list_all (λ byte. is_digit byte 10) l.word ≡ list_all (λ byte. is_digit byte 10) (drop l.byte-index l.word);
-  number : digits_value 10 l.word ≡ digits_value_after 10 l.value (drop l.byte-index l.word)
+  number : digits_value 10 l.word ≡ digits_value_after 10 l.value (drop l.byte-index l.word);
 }

@@ -12,7 +12,7 @@ returns-in_default-3 c =
     let offset : decimal_below (2 ^ 32) c.in-Some-cut.offset.now ≡ Some c.in-Some-Some.offset = search rules in
     let bytes : bytes_of_hex c.in-Some-cut.bytes.now ≡ None = search rules in
     sym (patch_of_rest c.args.sizes.now c.args.operands.now c.in-Some.memory.now c.in-Some.rest.now
-      c.in-Some-cut.offset.now c.in-Some-cut.bytes.now _ _ _ first second memory offset bytes)
+    c.in-Some-cut.offset.now c.in-Some-cut.bytes.now _ _ _ first second memory offset bytes)
 
 pub returns : goal.returns
 returns c =
@@ -23,4 +23,4 @@ returns c =
     let bytes : bytes_of_hex c.in-Some-cut.bytes.now ≡ Some c.in-Some-2.bytes = search rules in
     c.patch_inside.ensures
     ∙ sym (patch_of_rest c.args.sizes.now c.args.operands.now c.in-Some.memory.now c.in-Some.rest.now
-      c.in-Some-cut.offset.now c.in-Some-cut.bytes.now _ _ _ first second memory offset bytes)
+    c.in-Some-cut.offset.now c.in-Some-cut.bytes.now _ _ _ first second memory offset bytes)

@@ -10,7 +10,7 @@ invariant-loop-at l = record {
   within : l.at ≤ length l.bytes + 1;
   numbers : l.number ≤ l.at;
   rest : said l.params l.sizes 0 (lines_of l.bytes)
-    ≡ behind l.number l.start (said l.params l.sizes (length l.start.args) (lines_of (drop l.at l.bytes)))
+      ≡ behind l.number l.start (said l.params l.sizes (length l.start.args) (lines_of (drop l.at l.bytes)));
 }
 
 abbrev pub decreases-loop-at : goal.decreases-loop-at

@@ -1,4 +1,4 @@
-use Rattle.std.proofs.Common.{◌≤◌, length, arith, rules}
+use Rattle.std.proofs.Common.{arith, rules}
 use Rattle.bl_trace.specs.Lines.{lines_of}
 use Rattle.bl_trace.proofs.Fitting.{fits_whole}
 use Rattle.bl_trace.proofs.read.read_start.Goals as goal
