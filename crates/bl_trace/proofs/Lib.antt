@@ -1,0 +1,6 @@
+pub mod Decimals
+pub mod Fitting
+pub mod HexBytes
+pub mod Operands
+pub mod Parts
+pub mod Saying

@@ -1,0 +1,50 @@
+-- Lines and words by the places at which they end.
+use Rattle.std.proofs.Common.{◌≡◌, ℕ, ◌+◌, ◌<◌, ◌≤◌, Bool, true, false, cond, not, List, [], ◌∷◌, length, take, drop, ◌-◌, suc, refl, sym, ap, subst, ◌∙◌, arith, ◌==◌}
+use Rattle.std.proofs.lemmas.List.{take_rest}
+use Rattle.std.proofs.lemmas.List.Splits.{slice_split_first}
+use Rattle.std.specs.List.{slice_split, onto_first, position_or_len, before_first, after_first}
+use Rattle.bl_trace.specs.Lines.{lines_of}
+
+-- where no element passes there is one part
+pub one_part : {X : Type 0} (p : X → Bool) (xs : List X) → length xs ≤ position_or_len p xs → slice_split p xs ≡ xs ∷ []
+one_part p [] whole = refl
+one_part p (x ∷ xs) whole =
+    (elim (p x) as (λ b. suc (length xs) ≤ cond (not b) (1 + position_or_len p xs) 0 →
+    cond b ([] ∷ slice_split p xs) (onto_first x (slice_split p xs)) ≡ (x ∷ xs) ∷ []) [
+      | true ↦ λ e. absurd (omega (arith, e))
+      | false ↦ λ e. let rest : slice_split p xs ≡ xs ∷ [] = one_part p xs (omega (arith, e)) in rw rest refl
+    ]) whole
+
+-- the first part ends at the first element that passes
+pub first_part : {X : Type 0} (p : X → Bool) (xs : List X) (d : X) (n : ℕ) → n ≡ position_or_len p xs → n < length xs →
+    slice_split p xs ≡ take n xs ∷ slice_split p (take (length xs - (n + 1)) (drop (n + 1) xs))
+first_part p xs d n place within =
+    subst (λ (m : ℕ). m < length xs → slice_split p xs ≡ take m xs ∷ slice_split p (take (length xs - (m + 1)) (drop (m + 1) xs)))
+    (sym place)
+    (λ inside. slice_split_first p xs d inside ∙ ap (λ rest. before_first p xs ∷ slice_split p rest) (sym (take_rest xs (position_or_len p xs + 1))))
+    within
+
+-- a first line with one more byte, no LF, before it
+longer_line : (byte n : ℕ) (bytes : List ℕ) → lines_of bytes ≡ take n bytes ∷ lines_of (drop (n + 1) bytes) →
+    onto_first byte (lines_of bytes) ≡ take (1 + n) (byte ∷ bytes) ∷ lines_of (drop (1 + n + 1) (byte ∷ bytes))
+longer_line byte n bytes first =
+    let one : 1 + n ≡ suc n = omega arith in
+    let two : suc n + 1 ≡ suc (n + 1) = omega arith in
+    rw (first, one, two) refl
+
+-- the first line ends at the first LF, and the others begin behind it
+pub first_line : (byte : ℕ) (bytes : List ℕ) →
+    lines_of (byte ∷ bytes) ≡ before_first (λ b. b == 10) (byte ∷ bytes) ∷ lines_of (after_first (λ b. b == 10) (byte ∷ bytes))
+first_line byte [] =
+    elim (byte == 10) as (λ b. cond b ([] ∷ []) (onto_first byte []) ≡
+    take (cond (not b) 1 0) (byte ∷ []) ∷ lines_of (drop (cond (not b) 1 0 + 1) (byte ∷ []))) [
+      | true ↦ refl
+      | false ↦ refl
+    ]
+first_line byte (next ∷ bytes) =
+    elim (byte == 10) as (λ b. cond b ([] ∷ lines_of (next ∷ bytes)) (onto_first byte (lines_of (next ∷ bytes))) ≡
+    take (cond (not b) (1 + position_or_len (λ b. b == 10) (next ∷ bytes)) 0) (byte ∷ next ∷ bytes)
+    ∷ lines_of (drop (cond (not b) (1 + position_or_len (λ b. b == 10) (next ∷ bytes)) 0 + 1) (byte ∷ next ∷ bytes))) [
+      | true ↦ refl
+      | false ↦ longer_line byte _ (next ∷ bytes) (first_line next bytes)
+    ]
