@@ -1,20 +1,21 @@
 -- What lines say fits the parameters and the memories.
-use Rattle.std.proofs.Common.{◌≡◌, ℕ, ◌+◌, ◌^◌, ◌<◌, ◌≤◌, true, cond, nat_lt, ◌&&◌, List, [], ◌∷◌, length, take, drop, Option, Some, None, Result, Ok, Err, refl, sym, ap, subst, ◌∙◌, arith, suc, IfSome, IfOk, MatchOption, codes, option_map, slice_get, All}
+use Rattle.std.proofs.Common.{◌≡◌, ℕ, ◌+◌, ◌*◌, ◌^◌, ◌<◌, ◌≤◌, true, cond, nat_lt, ◌&&◌, List, [], ◌∷◌, length, take, drop, Option, Some, None, Result, Ok, Err, refl, sym, ap, subst, ◌∙◌, arith, suc, IfSome, IfOk, MatchOption, codes, option_map, slice_get, All}
 use Rattle.std.proofs.lemmas.Bool.{cond_both, and_parts, ltb-true, leb-true}
 use Rattle.std.proofs.lemmas.List.{at_drop_more, take_all}
 use Rattle.std.proofs.lemmas.List.Elements.{All-cons, All-nil}
 use Rattle.std.proofs.lemmas.Option.{slice_get_within, get_or_from_slice_get}
 use Rattle.std.specs.List.{AllZip}
+use Rattle.std.specs.Char.{digit_value, is_digit}
 use Rattle.std.specs.Str.{bytes_eq}
 use Rattle.std.specs.Str.Parse.{digits_value}
 use Rattle.bl_base.specs.declared.names.ValueType.{ValueType}
 use Rattle.bl_base.specs.declared.names.ValueType.TheVariants.{I32, I64}
 use Rattle.bl_base.specs.declared.start.Patch.{Patch}
 use Rattle.bl_base.specs.declared.start.Start.{Start}
-use Rattle.bl_base.specs.Fits.{ArgumentFits, LiesIn, PatchFits, Fits}
+use Rattle.bl_base.specs.Fits.{ArgumentFits, AreBytes, LiesIn, PatchFits, Fits}
 use Rattle.bl_trace.specs.declared.entry.Entry.{Entry}
 use Rattle.bl_trace.specs.declared.entry.Entry.TheVariants.{Argument, Contents}
-use Rattle.bl_trace.specs.Digits.{is_decimal, decimal_below, bytes_of_hex}
+use Rattle.bl_trace.specs.Digits.{is_decimal, decimal_below, byte_of, byte_and, bytes_of_hex}
 use Rattle.bl_trace.specs.Lines.{words_of, limit_of, argument_of, lies_in, patch_by, patch_of, entry_by, entry_of}
 use Rattle.bl_trace.specs.Answers.{arguments_in, said_before, said}
 
@@ -50,22 +51,42 @@ inside : (offset count : ℕ) (pages : Option ℕ) → lies_in offset count page
 inside offset count (Some pages) e = leb-true _ _ e
 inside offset count None e = cc
 
-patch_by_fits : (kind : Option ValueType) (sizes : List ℕ) (memory offset : Option ℕ) (bytes : Option (List ℕ)) →
+-- what hexadecimal digits write are bytes
+byte_small : (high low : ℕ) → IfSome (byte_of high low) (λ byte. byte < 2 ^ 8)
+byte_small high low =
+    cond_both (is_digit high 16 && is_digit low 16) (Some (16 * digit_value high + digit_value low)) None
+    (λ (o : Option ℕ). IfSome o (λ byte. byte < 2 ^ 8))
+    (λ e.
+        let both = and_parts (is_digit high 16) (is_digit low 16) e in
+        omega (arith, ltb-true _ _ both.0, ltb-true _ _ both.1))
+    (λ e. tt)
+
+and_bytes : (byte : Option ℕ) (bytes : Option (List ℕ)) → IfSome byte (λ b. b < 2 ^ 8) → IfSome bytes AreBytes → IfSome (byte_and byte bytes) AreBytes
+and_bytes (Some byte) (Some bytes) small are = All-cons (λ b. b < 2 ^ 8) byte bytes small are
+and_bytes (Some byte) None small are = tt
+and_bytes None bytes small are = tt
+
+hex_bytes : (word : List ℕ) → IfSome (bytes_of_hex word) AreBytes
+hex_bytes [] = All-nil (λ b. b < 2 ^ 8)
+hex_bytes (digit ∷ []) = tt
+hex_bytes (high ∷ low ∷ rest) = and_bytes (byte_of high low) (bytes_of_hex rest) (byte_small high low) (hex_bytes rest)
+
+patch_by_fits : (kind : Option ValueType) (sizes : List ℕ) (memory offset : Option ℕ) (bytes : Option (List ℕ)) → IfSome bytes AreBytes →
     IfSome (option_map Contents (patch_by sizes memory offset bytes)) (EntryFits kind sizes)
-patch_by_fits kind sizes (Some memory) (Some offset) (Some bytes) =
+patch_by_fits kind sizes (Some memory) (Some offset) (Some bytes) are =
     cond_both (nat_lt 0 (length bytes) && lies_in offset (length bytes) (slice_get sizes memory))
     (Some (record { memory = memory; offset = offset; bytes = bytes })) None
     (λ (o : Option Patch). IfSome (option_map Contents o) (EntryFits kind sizes))
-    (λ e. inside offset (length bytes) (slice_get sizes memory) (and_parts (nat_lt 0 (length bytes)) _ e).1)
+    (λ e. (inside offset (length bytes) (slice_get sizes memory) (and_parts (nat_lt 0 (length bytes)) _ e).1, are))
     (λ e. tt)
-patch_by_fits kind sizes (Some memory) (Some offset) None = tt
-patch_by_fits kind sizes (Some memory) None bytes = tt
-patch_by_fits kind sizes None offset bytes = tt
+patch_by_fits kind sizes (Some memory) (Some offset) None are = tt
+patch_by_fits kind sizes (Some memory) None bytes are = tt
+patch_by_fits kind sizes None offset bytes are = tt
 
 patch_fits : (kind : Option ValueType) (sizes : List ℕ) (operands : List (List ℕ)) →
     IfSome (option_map Contents (patch_of sizes operands)) (EntryFits kind sizes)
 patch_fits kind sizes (memory ∷ offset ∷ bytes ∷ []) =
-    patch_by_fits kind sizes (decimal_below (2 ^ 32) memory) (decimal_below (2 ^ 32) offset) (bytes_of_hex bytes)
+    patch_by_fits kind sizes (decimal_below (2 ^ 32) memory) (decimal_below (2 ^ 32) offset) (bytes_of_hex bytes) (hex_bytes bytes)
 patch_fits kind sizes [] = tt
 patch_fits kind sizes (memory ∷ []) = tt
 patch_fits kind sizes (memory ∷ offset ∷ []) = tt
