@@ -13,7 +13,7 @@ ghost use Rattle.bl_reduce.specs.TypedConfigurations.{IsTyped, IsTypedStep};
 /// A step is unique: from one configuration it leads to one, or the run ends with one outcome, and not both.
 pub fn one_step()
     ensures next { (tree : Tree) (c d e : Config) → source_step tree c ≡ goes d → source_step tree c ≡ goes e → d ≡ e }
-    ensures end { (tree : Tree) (c : Config) (o p : Outcome) → source_step tree c ≡ ends o → source_step tree c ≡ ends p → o ≡ p }
+    ensures ending { (tree : Tree) (c : Config) (o p : Outcome) → source_step tree c ≡ ends o → source_step tree c ≡ ends p → o ≡ p }
     ensures apart { (tree : Tree) (c d : Config) (o : Outcome) → source_step tree c ≡ goes d → source_step tree c ≡ ends o → ⊥ }
 {}
 
