@@ -1,4 +1,4 @@
-// Cases for src/tests.rt, judged by node's WebAssembly: `node cases.js` prints the tables of that file. Each case is a
+// Cases for src/tests, judged by node's WebAssembly: `node cases.js` prints the tables of that file. Each case is a
 // module in short, which is written in the binary format for node, and as a value for the table.
 //
 // Where this profile differs from node's later version, a case has the profile's answer and says why.
@@ -55,7 +55,7 @@ function judged(m) {
   }
 }
 
-// ---- the values of src/tests.rt
+// ---- the values of src/tests
 const list = items => `&[${items.join(", ")}]`;
 const bytes = hex => list(code(hex).map(x => "0x" + x.toString(16).toUpperCase().padStart(2, "0")));
 const option = n => (n === null ? "None" : `Some(${n})`);
