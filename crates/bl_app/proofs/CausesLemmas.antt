@@ -18,7 +18,7 @@ use Rattle.bl_app.specs.Refusals.{Accepted, Refused}
 use Rattle.bl_app.specs.Status.{status_of}
 use Rattle.bl_app.specs.Image.{image_of}
 use Rattle.bl_app.specs.Requests.{Request, request_of, arguments_of, harden_request, module_name}
-use Rattle.bl_app.specs.Texts.{report_text, refusal_text, read_fault_text, write_fault_text, empty_certificate}
+use Rattle.bl_app.specs.Texts.{report_text, read_fault_text, write_fault_text, empty_certificate}
 use Rattle.bl_app.specs.Answers.{FileIs, Plan, PlanFor, usage, refused, harden, plan_of, harden_plan, World, with_files, took, Whole, Said, whole, cut, Delivers, all_kept, not_kept, no_memory_to_keep, Ends, as_planned, not_read, no_memory, program_of}
 use Rattle.bl_app.specs.Causes.{Causes, Hardens, UnlessFault, NoneRose, Asks, IsRefused, IsReadFault, IsKeepFault, IsUnprotected}
 use Rattle.bl_app.proofs.EncodableLemmas.{HoldsOfMade, in_low}

@@ -4,7 +4,7 @@ use Rattle.std.specs.Prelude.{Err, slice_get}
 use Rattle.bl_outside.specs.Shelf.{Faults, KeepFaults, Gives}
 use Rattle.bl_outside.specs.declared.shelf.ShelfError.{ShelfError}
 use Rattle.bl_outside.specs.declared.shelf.ShelfError.TheVariants.{Failed, Memory}
-use Rattle.bl_app.specs.Answers.{Plan, World, Delivers, all_kept, not_kept, no_memory_to_keep, NotKept, Said, with_files, Refuses, is_said, no_memory_to_say, Ends, as_planned, no_memory, harden, refused, harden_plan, refusal_plan, plan_of, IsHardened}
+use Rattle.bl_app.specs.Answers.{Plan, World, Delivers, all_kept, not_kept, no_memory_to_keep, NotKept, with_files, Refuses, is_said, no_memory_to_say, Ends, as_planned, no_memory, harden, refused, harden_plan, refusal_plan, plan_of, IsHardened}
 use Rattle.bl_app.specs.Refusals.{Refused}
 use Rattle.bl_app.specs.Status.{status_of}
 use Rattle.bl_app.specs.declared.refusal.Refusal.{Refusal}

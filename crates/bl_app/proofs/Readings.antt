@@ -1,5 +1,5 @@
 -- What reading a module's bytes answers, step by step.
-use Rattle.std.proofs.Common.{◌≡◌, ℕ, Bool, true, false, cond, nat_lt, ◌+◌, ◌<◌, ◌≤◌, ◌^◌, List, [], ◌∷◌, length, Option, Some, None, refl, ap, sym, arith, length-append}
+use Rattle.std.proofs.Common.{◌≡◌, ℕ, Bool, true, false, cond, nat_lt, ◌+◌, ◌<◌, ◌≤◌, ◌^◌, List, ◌∷◌, length, Option, Some, None, refl, arith, length-append}
 use Rattle.std.proofs.lemmas.Bool.{ltb-false}
 use Rattle.std.proofs.lemmas.List.Recursion.{is_count_by}
 use Rattle.std.specs.Prelude.{Ok, Err, count_by}
@@ -7,7 +7,6 @@ use Rattle.std.specs.List.{filter_map}
 use Rattle.std.specs.Option.{option_or}
 use Rattle.bl_base.specs.declared.quantity.Quantity.{Quantity}
 use Rattle.bl_base.specs.declared.quantity.Quantity.TheVariants as quantity
-use Rattle.bl_wasm.specs.Modules.{Spells}
 use Rattle.bl_wasm.specs.Validity.{Typed, functions_of, function_of, imported}
 use Rattle.bl_wasm.specs.declared.module.Import.{Import}
 use Rattle.bl_wasm.specs.declared.module.ImportKind.{ImportKind}

@@ -1,7 +1,6 @@
 -- At most one refusal stands against a module's bytes, and none where they are accepted.
-use Rattle.std.proofs.Common.{◌≡◌, ℕ, ◌<◌, ◌≤◌, ◌⊎◌, inl, inr, List, length, Option, Some, None, refl, ap, sym, ◌∙◌, subst, arith}
+use Rattle.std.proofs.Common.{◌≡◌, ℕ, ◌⊎◌, inl, inr, List, Option, Some, ap, sym, ◌∙◌, subst, arith}
 use Rattle.bl_base.specs.declared.quantity.Quantity.{Quantity}
-use Rattle.bl_wasm.specs.Modules.{Spells}
 use Rattle.bl_wasm.specs.declared.module.Module.{Module}
 use Rattle.bl_decode.specs.Limits.{Excess, first_excess}
 use Rattle.bl_decode.proofs.Trees.{one_spelled}
@@ -10,10 +9,9 @@ use Rattle.bl_validate.specs.Verdicts.{IsReason}
 use Rattle.bl_validate.specs.declared.verdict.Invalid.{Invalid}
 use Rattle.bl_validate.specs.declared.verdict.Invalid.TheVariants as reason
 use Rattle.bl_validate.proofs.Reasons.{one_reason}
-use Rattle.bl_app.specs.Form.{IsForm}
-use Rattle.bl_app.specs.Refusals.{most_bytes, Against, unsupported, excess, invalid, other_form, IsRefusalOf, Refused, too_long, malformed, against, Accepted}
+use Rattle.bl_app.specs.Refusals.{Against, unsupported, excess, invalid, other_form, IsRefusalOf, Refused, too_long, malformed, against, Accepted}
 use Rattle.bl_app.specs.declared.refusal.Refusal.{Refusal}
-use Rattle.bl_app.specs.declared.refusal.Refusal.TheVariants.{Malformed, InvalidFunction, InvalidModule, Unsupported, Limit}
+use Rattle.bl_app.specs.declared.refusal.Refusal.TheVariants.{InvalidFunction, Limit}
 
 some_same : (x y : Excess) → Some x ≡ Some y → x ≡ y
 some_same x y e = cc

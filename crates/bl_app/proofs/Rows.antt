@@ -14,7 +14,7 @@ use Rattle.bl_wasm.specs.declared.module.Module.{Module}
 use Rattle.bl_app.specs.Form.{IsForm, IsPrintable, code_of, export_of, item_of, one_type}
 use Rattle.bl_app.specs.Linking.{linked_of}
 use Rattle.bl_app.specs.Lowering.{low, set, reads, plain_mark, steps_bound}
-use Rattle.bl_app.specs.Runs.{Next, goes, ends, stuck, returned}
+use Rattle.bl_base.specs.Runs.{Next, goes, ends, stuck, returned}
 use Rattle.bl_app.specs.Source.{source_step, entering}
 use Rattle.std.specs.Fmt.{digits}
 use Rattle.std.specs.Prelude.{All, Some, None, IsSome}

@@ -10,7 +10,6 @@ pub mod Plain
 pub mod Reading
 pub mod Refusals
 pub mod Requests
-pub mod Runs
 pub mod Source
 pub mod Status
 pub mod Texts

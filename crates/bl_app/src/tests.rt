@@ -229,8 +229,8 @@ fn modules_that_are_refused_and_one_by_a_long_spelling(rt: HostRuntime) -> Resul
     Ok(())
 }
 
-/// The module of one function of type [] -> [i32] with these items, and further sections before its code.
-fn function_of(alloc: Global, sections: &[u8], items: &[u8]) -> Result<Vec<u8>, Fail> {
+/// The module of one function of type [] -> [i32], with its sections from the exports on.
+fn function_of(alloc: Global, sections: &[u8]) -> Result<Vec<u8>, Fail> {
     let mut bytes = module_of(
         alloc,
         &[
@@ -238,34 +238,33 @@ fn function_of(alloc: Global, sections: &[u8], items: &[u8]) -> Result<Vec<u8>, 
         ],
     )?;
     bytes.extend_from_slice(sections)?;
-    let size = items.len() as u8;
-    bytes.extend_from_slice(&[0x0A, size + 4, 0x01, size + 2, 0x00])?;
-    bytes.extend_from_slice(items)?;
-    bytes.push(0x0B)?;
     Ok(bytes)
 }
 
 #[test]
 fn modules_without_a_typing_are_named_before_the_form(rt: HostRuntime) -> Result<(), Fail> {
     let alloc = rt.alloc();
-    let cases: [(Vec<u8>, u8, &str); 3] = [
+    let cases: [(&[u8], u8, &str); 3] = [
         (
-            function_of(alloc, b"", &[0x6A])?,
+            &[0x0A, 0x05, 0x01, 0x03, 0x00, 0x6A, 0x0B],
             6,
             "invalid: inc function 0\n",
         ),
         (
-            function_of(alloc, b"", &[0x00, 0x6A])?,
+            &[0x0A, 0x06, 0x01, 0x04, 0x00, 0x00, 0x6A, 0x0B],
             7,
             "unsupported: inc\n",
         ),
         (
-            function_of(alloc, &[0x07, 0x05, 0x01, 0x01, 0x66, 0x00, 0x01], &[0x00])?,
+            &[
+                0x07, 0x05, 0x01, 0x01, 0x66, 0x00, 0x01, 0x0A, 0x05, 0x01, 0x03, 0x00, 0x00, 0x0B,
+            ],
             6,
             "invalid: inc module\n",
         ),
     ];
-    for (bytes, status, text) in cases {
+    for (sections, status, text) in cases {
+        let bytes = function_of(alloc, sections)?;
         let left = call(alloc, &HARDEN, &bytes, None, None)?;
         assert_eq!(rt; left.status, status);
         assert_eq!(rt; left.out.bytes(), text.as_bytes());

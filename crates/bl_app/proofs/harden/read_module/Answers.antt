@@ -1,6 +1,5 @@
-use Rattle.std.proofs.Common.{◌≡◌, ◌∙◌, subst, sym, arith}
+use Rattle.std.proofs.Common.{◌∙◌, subst, sym, arith}
 use Rattle.std.specs.Prelude.{Err, length, IsTrue, ◌≤◌}
-use Rattle.bl_wasm.specs.Validity.{Typed}
 use Rattle.bl_app.specs.Form.{IsForm}
 use Rattle.bl_app.specs.Reading.{Reads}
 use Rattle.bl_app.specs.Refusals.{most_bytes}

@@ -1,4 +1,4 @@
-use Rattle.std.proofs.Common.{ap, subst, sym, refl}
+use Rattle.std.proofs.Common.{ap, refl}
 use Rattle.std.specs.Prelude.{Err}
 use Rattle.bl_app.specs.Answers.{not_read}
 use Rattle.bl_app.specs.Words.{request_in}
