@@ -1,5 +1,5 @@
 -- Laws of the limits.
-use Rattle.std.proofs.Common.{◌≡◌, ◌⊎◌, inl, inr, ℕ, suc, All, subst, ◌+◌, ◌<◌, List, [], ◌∷◌, length, drop, get_or, max, Option, Some, None, IsSome, refl, add-one, ap, sym, ◌∙◌, drop-cons, zero-add, arith}
+use Rattle.std.proofs.Common.{◌≡◌, ◌⊎◌, inl, inr, ℕ, suc, All, subst, ◌+◌, ◌<◌, List, [], ◌∷◌, length, drop, get_or, max, Option, Some, None, IsSome, refl, add-one, drop-cons, arith}
 use Rattle.std.specs.List.{zip}
 use Rattle.std.specs.Option.{option_or}
 use Rattle.bl_wasm.specs.declared.instruction.Instr.{Instr}

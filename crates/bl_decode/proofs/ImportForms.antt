@@ -1,16 +1,16 @@
 -- What stands behind the byte of a kind.
-use Rattle.std.proofs.Common.{◌≡◌, ℕ, List, [], ◌∷◌, ◌++◌, ap, sym, ◌∙◌, refl, subst, Ok, Err, length}
+use Rattle.std.proofs.Common.{◌≡◌, ℕ, List, [], ◌∷◌, ◌++◌, ap, sym, ◌∙◌, refl, subst, Ok}
 use Rattle.bl_wasm.specs.Values.{Spellings, ◌⨾◌, byte, u32}
 use Rattle.bl_wasm.specs.Types.{limits, table_type, global_type}
-use Rattle.bl_wasm.specs.Sections.{import_kind, export_kind}
+use Rattle.bl_wasm.specs.Sections.{import_kind}
 use Rattle.bl_wasm.specs.declared.types.Limits.{Limits}
 use Rattle.bl_wasm.specs.declared.types.GlobalType.{GlobalType}
 use Rattle.bl_wasm.specs.declared.module.ImportKind.{ImportKind}
 use Rattle.bl_wasm.specs.declared.module.ImportKind.TheVariants as import
-use Rattle.bl_code.specs.Reading.{IsAt, NoneAt, Refuses, Reads, behind}
+use Rattle.bl_code.specs.Reading.{IsAt, NoneAt, Refuses}
 use Rattle.bl_code.specs.declared.error.CodeError.{CodeError}
 use Rattle.bl_code.specs.declared.error.CodeError.TheVariants.{Malformed, Memory}
-use Rattle.bl_code.proofs.Places.{reads_behind, none_behind, none_along}
+use Rattle.bl_code.proofs.Places.{reads_behind, none_behind}
 
 -- behind a byte
 rest_of : (m n : ℕ) (S : Spellings) (t : List ℕ) → (byte m ⨾ S) (n ∷ t) → (m ≡ n) × S t

@@ -1,17 +1,17 @@
 -- Sections that may be missing.
-use Rattle.std.proofs.Common.{◌≡◌, ◌⊎◌, inl, inr, ℕ, ◌+◌, ◌-◌, ◌<◌, ◌≤◌, List, [], ◌∷◌, ◌++◌, length, ap, sym, ◌∙◌, refl, subst, arith, slice_get, slice_range, Option, Some, None, Result, Ok, Err}
+use Rattle.std.proofs.Common.{◌≡◌, ◌⊎◌, inl, inr, ℕ, ◌+◌, ◌≤◌, List, [], ◌∷◌, length, ap, sym, ◌∙◌, refl, arith, slice_get, Option, Some, None, Result, Ok, Err}
 use Rattle.bl_leb.proofs.Places.{length_range}
 use Rattle.std.specs.Result.{IsErrAnd}
 use Rattle.std.proofs.lemmas.Result.{err_from_is_err_and}
-use Rattle.bl_wasm.specs.Values.{Spellings, ◌⨾◌, u32, vec, sized}
+use Rattle.bl_wasm.specs.Values.{Spellings, u32, vec, sized}
 use Rattle.bl_wasm.specs.Sections.{section, vec_section, start_section}
-use Rattle.bl_code.specs.Reading.{IsAt, NoneAt, Refuses, Reads}
-use Rattle.bl_code.specs.Unique.{Same, IsOne}
+use Rattle.bl_code.specs.Reading.{IsAt, Refuses, Reads}
+use Rattle.bl_code.specs.Unique.{IsOne}
 use Rattle.bl_code.specs.Laws.{u32_one}
 use Rattle.bl_code.specs.declared.error.CodeError.{CodeError}
 use Rattle.bl_code.specs.declared.error.CodeError.TheVariants.{Malformed, Memory}
 use Rattle.bl_code.proofs.Unique.{vec_one, sized_one}
-use Rattle.bl_code.proofs.Places.{Stands, stands, is_at}
+use Rattle.bl_code.proofs.Places.{stands, is_at}
 use Rattle.bl_decode.specs.Chains.{Begins, IsSection, ReadsSection}
 use Rattle.bl_decode.specs.Laws.{marked_one}
 use Rattle.bl_decode.proofs.Firsts.{section_begins}

@@ -1,21 +1,19 @@
 -- What stands behind its size.
-use Rattle.std.proofs.Common.{◌≡◌, ℕ, ◌+◌, ◌-◌, ◌<◌, ◌≤◌, List, [], ◌∷◌, ◌++◌, length, take, drop, append-nil, ap, sym, ◌∙◌, refl, subst, arith, slice_range, slice_get, Option, Some, length-drop, Result, Ok, Err}
+use Rattle.std.proofs.Common.{◌≡◌, ℕ, ◌+◌, ◌-◌, ◌<◌, ◌≤◌, List, [], ◌∷◌, ◌++◌, length, drop, append-nil, ap, sym, ◌∙◌, refl, subst, arith, slice_range, slice_get, Some, Result, Err}
 use Rattle.std.specs.Result.{IsErrAnd}
 use Rattle.std.proofs.lemmas.List.{drop_all}
 use Rattle.std.proofs.lemmas.Option.{slice_get_within}
 use Rattle.std.proofs.lemmas.Result.{err_from_is_err_and}
 use Rattle.bl_leb.proofs.Places.{length_range}
-use Rattle.bl_wasm.specs.Values.{Spellings, ◌⨾◌, byte, exactly, given, u32, byte_vec, sized}
+use Rattle.bl_wasm.specs.Values.{Spellings, byte, exactly, u32, byte_vec, sized}
 use Rattle.bl_wasm.specs.Sections.{section}
-use Rattle.bl_code.specs.Reading.{IsAt, NoneAt, Refuses, Reads}
-use Rattle.bl_code.specs.Unique.{Same, IsOne}
+use Rattle.bl_code.specs.Reading.{IsAt, NoneAt, Refuses}
 use Rattle.bl_code.specs.declared.error.CodeError.{CodeError}
 use Rattle.bl_code.specs.declared.error.CodeError.TheVariants.{Malformed, Memory}
 use Rattle.bl_code.specs.Laws.{u32_one}
 use Rattle.bl_code.proofs.Unique.{byte_vec_one, byte_same}
-use Rattle.bl_code.proofs.Places.{Stands, stands, is_at, join, part, same_at, at_front, none_first, none_after, one_at, as_other}
+use Rattle.bl_code.proofs.Places.{Stands, stands, is_at, join, part, same_at, at_front, none_after, one_at}
 use Rattle.bl_decode.specs.Whole.{ReadsAll}
-use Rattle.bl_decode.specs.Chains.{Begins}
 use Rattle.bl_decode.proofs.Firsts.{begins_all, begins_at, at_begins, section_begins}
 
 -- fewer bytes than the size says

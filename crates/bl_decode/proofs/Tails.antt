@@ -1,5 +1,5 @@
 -- Sections with custom sections among them.
-use Rattle.std.proofs.Common.{◌≡◌, ◌⊎◌, inl, inr, ℕ, zero, suc, ◌+◌, ◌<◌, ◌≤◌, List, [], ◌∷◌, ◌++◌, length, append_assoc, append-nil, ap, ap₂, sym, ◌∙◌, refl, subst, arith, drop, drop-cons, get_or, add-zero, length-drop, length-append, slice_get, Option, Some, Result, Ok, Err, ◌-◌}
+use Rattle.std.proofs.Common.{◌≡◌, ◌⊎◌, inl, inr, ℕ, zero, suc, ◌+◌, ◌<◌, ◌≤◌, List, [], ◌∷◌, ◌++◌, length, append_assoc, append-nil, ap, ap₂, sym, ◌∙◌, refl, subst, arith, drop, length-drop, slice_get, Some, Result, Ok, Err}
 use Rattle.std.specs.Result.{IsErrAnd}
 use Rattle.std.proofs.lemmas.List.{drop_all}
 use Rattle.std.proofs.lemmas.Option.{slice_get_within}
@@ -12,9 +12,8 @@ use Rattle.bl_code.specs.Reading.{IsAt, Refuses}
 use Rattle.bl_code.specs.declared.error.CodeError.{CodeError}
 use Rattle.bl_code.specs.declared.error.CodeError.TheVariants.{Malformed, Memory}
 use Rattle.bl_code.proofs.Vectors.{each_more}
-use Rattle.bl_code.specs.Unique.{Same, IsOne}
 use Rattle.bl_code.proofs.Unique.{rest_same}
-use Rattle.bl_code.proofs.Places.{Stands, stands, is_at, at_front}
+use Rattle.bl_code.proofs.Places.{stands, is_at, at_front}
 use Rattle.bl_decode.specs.Chains.{Begins, IsSection, CustomFirst, IsTail, IsLink, CustomsRead, CustomsPassed, CustomMalformed, TailRead, ReadsCustoms, ReadsSection, ReadsTail}
 use Rattle.bl_decode.proofs.Firsts.{one_first, begins_all, begins_rest, begins_at, at_begins}
 use Rattle.bl_decode.proofs.Uniques.{custom_one, custom_begins}

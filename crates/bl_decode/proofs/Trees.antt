@@ -1,10 +1,10 @@
 -- The sections of a module as a chain.
-use Rattle.std.proofs.Common.{◌≡◌, inl, inr, ℕ, ◌<◌, ◌^◌, List, [], ◌∷◌, ◌++◌, length, All, ap, ap₂, sym, ◌∙◌, refl, subst, arith, drop, sum_by, Option, Result, Ok, Err}
+use Rattle.std.proofs.Common.{◌≡◌, inl, inr, ℕ, ◌<◌, ◌^◌, List, [], ◌∷◌, ◌++◌, All, ap, ap₂, sym, ◌∙◌, subst, arith, drop, sum_by, Option, Result, Err}
 use Rattle.std.specs.List.{AllByRecursion}
 use Rattle.std.specs.Result.{IsErrAnd}
 use Rattle.std.proofs.lemmas.Result.{err_from_is_err_and}
 use Rattle.std.proofs.lemmas.List.Elements.{All-from_recursion}
-use Rattle.bl_wasm.specs.Values.{Spellings, ◌⨾◌, each, u32, vec}
+use Rattle.bl_wasm.specs.Values.{Spellings, ◌⨾◌, each, u32}
 use Rattle.bl_wasm.specs.Types.{function_type, table_type, memory_type}
 use Rattle.bl_wasm.specs.Sections.{vec_section, custom_section, start_section, import_entry, global_entry, export_entry, element_entry, code_entry, code_section, data_entry}
 use Rattle.bl_wasm.specs.Modules.{◌▷◌, magic, version, sections, Spells}

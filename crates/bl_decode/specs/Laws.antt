@@ -1,8 +1,8 @@
 -- No spelling of an entry of a section begins another.
-use Rattle.std.specs.Prelude.{◌≡◌, ℕ, ◌<◌, ◌^◌, Bool, true, false, List, refl, sum_by}
+use Rattle.std.specs.Prelude.{◌≡◌, ℕ, Bool, true, false, List, refl}
 use Rattle.std.proofs.Common.{sym, ◌∙◌, ap, ap₂}
-use Rattle.bl_wasm.specs.Values.{Spellings, ◌⨾◌, byte, given, u32, vec, byte_vec, name, sized}
-use Rattle.bl_wasm.specs.Types.{value_type, function_type, limits, table_type, memory_type, mutability, global_type}
+use Rattle.bl_wasm.specs.Values.{Spellings, ◌⨾◌, byte, u32, vec, byte_vec, name}
+use Rattle.bl_wasm.specs.Types.{value_type, function_type, limits, table_type, mutability, global_type}
 use Rattle.bl_wasm.specs.Instructions.{expression}
 use Rattle.bl_wasm.specs.Sections.{import_kind, import_entry, global_entry, export_kind, export_entry, element_entry, local_run, function_code, code_entry, data_entry}
 use Rattle.bl_wasm.specs.declared.types.FuncType.{FuncType}

@@ -1,15 +1,14 @@
 -- The limits of a module, and the first one that it exceeds.
-use Rattle.std.specs.Prelude.{ℕ, zero, suc, ◌+◌, ◌-◌, ◌<◌, Bool, true, false, if◌then◌else◌, nat_lt, max, List, [], ◌∷◌, length, take, Option, Some, None, count_by, sum_by, slice_get}
+use Rattle.std.specs.Prelude.{ℕ, zero, suc, ◌+◌, ◌-◌, Bool, true, false, if◌then◌else◌, nat_lt, max, List, [], ◌∷◌, length, take, Option, Some, None, count_by, sum_by, slice_get}
 use Rattle.std.specs.List.{zip}
 use Rattle.std.specs.Option.{option_or}
 use Rattle.bl_base.specs.declared.quantity.Quantity.{Quantity}
 use Rattle.bl_base.specs.declared.quantity.Quantity.TheVariants as quantity
 use Rattle.bl_wasm.specs.declared.types.FuncType.{FuncType}
 use Rattle.bl_wasm.specs.declared.instruction.Instr.{Instr}
-use Rattle.bl_wasm.specs.declared.instruction.Instr.TheVariants.{Unreachable, Nop, Block, Loop, If, Else, End, Br, BrIf, BrTable, Return, Call, CallIndirect, Drop, Select, LocalGet, LocalSet, LocalTee, GlobalGet, GlobalSet, Load, Store, FloatAccess, MemorySize, MemoryGrow, I32Const, I64Const, F32Const, F64Const, Integer, Float, Extend}
+use Rattle.bl_wasm.specs.declared.instruction.Instr.TheVariants.{Block, Loop, If, End, BrTable}
 use Rattle.bl_wasm.specs.declared.module.Module.{Module}
 use Rattle.bl_wasm.specs.declared.module.Import.{Import}
-use Rattle.bl_wasm.specs.declared.module.ImportKind.{ImportKind}
 use Rattle.bl_wasm.specs.declared.module.ImportKind.TheVariants as import
 use Rattle.bl_wasm.specs.declared.module.Code.{Code}
 

@@ -1,10 +1,10 @@
 -- What is supported of version 1.0: integers alone, no start function, and no extension by sign of version 2.0.
-use Rattle.std.specs.Prelude.{◌≡◌, List, Option, None, All, IfSome}
+use Rattle.std.specs.Prelude.{◌≡◌, None, All, IfSome}
 use Rattle.bl_wasm.specs.declared.types.WasmType.{WasmType}
 use Rattle.bl_wasm.specs.declared.types.WasmType.TheVariants.{I32, I64, F32, F64}
 use Rattle.bl_wasm.specs.declared.types.FuncType.{FuncType}
 use Rattle.bl_wasm.specs.declared.instruction.Instr.{Instr}
-use Rattle.bl_wasm.specs.declared.instruction.Instr.TheVariants.{Unreachable, Nop, Block, Loop, If, Else, End, Br, BrIf, BrTable, Return, Call, CallIndirect, Drop, Select, LocalGet, LocalSet, LocalTee, GlobalGet, GlobalSet, Load, Store, FloatAccess, MemorySize, MemoryGrow, I32Const, I64Const, F32Const, F64Const, Integer, Float, Extend}
+use Rattle.bl_wasm.specs.declared.instruction.Instr.TheVariants.{Block, Loop, If, FloatAccess, F32Const, F64Const, Float, Extend}
 use Rattle.bl_wasm.specs.declared.module.Module.{Module}
 use Rattle.bl_wasm.specs.declared.module.ImportKind.{ImportKind}
 use Rattle.bl_wasm.specs.declared.module.ImportKind.TheVariants as import

@@ -1,4 +1,4 @@
-use Rattle.std.proofs.Common.{◌≡◌, ◌≤◌, ◌+◌, arith, slice_get, Some}
+use Rattle.std.proofs.Common.{◌+◌, arith}
 use Rattle.bl_wasm.specs.Values.{◌⨾◌, exactly, name}
 use Rattle.bl_wasm.specs.Sections.{custom_section}
 use Rattle.bl_wasm.specs.declared.module.CustomSection.{CustomSection}

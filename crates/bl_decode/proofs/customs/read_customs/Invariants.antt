@@ -1,4 +1,4 @@
-use Rattle.std.proofs.Common.{ℕ, ◌-◌, length}
+use Rattle.std.proofs.Common.{◌-◌, length}
 use Rattle.bl_decode.specs.Chains.{CustomsPassed}
 use Rattle.bl_decode.proofs.customs.read_customs.Given as goal
 

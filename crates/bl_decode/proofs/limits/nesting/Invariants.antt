@@ -1,4 +1,4 @@
-use Rattle.std.proofs.Common.{◌≡◌, ◌+◌, ◌≤◌, ℕ, count_by, length, take}
+use Rattle.std.proofs.Common.{◌≡◌, ◌+◌, count_by, take}
 use Rattle.bl_decode.specs.Limits.{begins, ends, greatest_open}
 use Rattle.bl_decode.proofs.limits.nesting.Given as goal
 

@@ -1,4 +1,3 @@
-use Rattle.std.proofs.Common.{Ok}
 use Rattle.bl_wasm.specs.Modules.{◌▷◌}
 use Rattle.bl_decode.proofs.Tails.{chain_tail, chain_read, tail_err_customs, tail_err_section, tail_err_rest}
 use Rattle.bl_decode.proofs.chain.ChainTail.read.Goals as goal

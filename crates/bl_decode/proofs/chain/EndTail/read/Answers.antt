@@ -1,7 +1,7 @@
 use Rattle.std.proofs.Common.{arith}
 use Rattle.bl_wasm.specs.Values.{each}
 use Rattle.bl_wasm.specs.Sections.{custom_section}
-use Rattle.bl_decode.proofs.Tails.{end_tail, tail_err_customs, none_end, end_read}
+use Rattle.bl_decode.proofs.Tails.{end_tail, tail_err_customs, none_end}
 use Rattle.bl_decode.proofs.chain.EndTail.read.Goals as goal
 
 pub returns-in_err-end : goal.returns-in_err-end

@@ -1,4 +1,4 @@
-use Rattle.std.proofs.Common.{ℕ, ◌<◌, ◌^◌, List, ap, sym, subst, sum_by}
+use Rattle.std.proofs.Common.{◌<◌, ◌^◌, List, ap, sym, subst, sum_by}
 use Rattle.bl_wasm.specs.Values.{◌⨾◌, vec}
 use Rattle.bl_wasm.specs.Instructions.{expression}
 use Rattle.bl_wasm.specs.Sections.{local_run, function_code}

@@ -1,4 +1,4 @@
-use Rattle.std.proofs.Common.{◌≡◌, ℕ, subst, rules}
+use Rattle.std.proofs.Common.{ℕ, subst, rules}
 use Rattle.bl_code.specs.Reading.{IsAt}
 use Rattle.bl_wasm.specs.Values.{byte, u32}
 use Rattle.bl_wasm.specs.Types.{limits, table_type, global_type}
