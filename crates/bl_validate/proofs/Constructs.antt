@@ -1,6 +1,6 @@
 -- An if is parted, and a construct is ended.
-use Rattle.std.proofs.Common.{◌≡◌, ◌↔◌, ◌++◌, List, [], ◌∷◌, Option, Some, None, Bool, true, false, IsTrue, refl, sym, ap, ◌∙◌, subst}
-use Rattle.bl_wasm.specs.Typing.{Label, block, loop, first_part, second_part, Open, opened, Context, results_of, of_result, Rule}
+use Rattle.std.proofs.Common.{◌≡◌, ◌↔◌, ◌++◌, List, [], ◌∷◌, Option, None, Bool, true, false, IsTrue, refl, sym, ap, ◌∙◌, subst}
+use Rattle.bl_wasm.specs.Typing.{first_part, second_part, Open, opened, Context, results_of, of_result, Rule}
 use Rattle.bl_wasm.specs.declared.types.WasmType.{WasmType}
 use Rattle.bl_wasm.specs.declared.instruction.Instr.{Instr}
 use Rattle.bl_wasm.specs.declared.instruction.Instr.TheVariants.{Else, End}

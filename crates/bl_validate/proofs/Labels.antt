@@ -1,5 +1,5 @@
 -- The labels of a place, by the frames of the constructs that are open.
-use Rattle.std.proofs.Common.{◌≡◌, ℕ, suc, zero, ◌+◌, ◌-◌, ◌<◌, ◌≤◌, ◌++◌, List, [], ◌∷◌, length, reverse, map, get_or, slice_get, Option, Some, None, refl, sym, ap, ◌∙◌, arith, length-append}
+use Rattle.std.proofs.Common.{◌≡◌, ℕ, suc, zero, ◌-◌, ◌<◌, ◌++◌, List, [], ◌∷◌, length, reverse, map, get_or, slice_get, Option, Some, None, refl, sym, ap, ◌∙◌, arith, length-append}
 use Rattle.std.proofs.lemmas.List.{length-reverse, length-map, get_or-reverse}
 use Rattle.std.proofs.lemmas.Option.{slice_get_past}
 use Rattle.bl_wasm.specs.Typing.{Open, Context, labels, taken_by, of_result}

@@ -1,5 +1,5 @@
 -- Floors that fall from the innermost construct outwards.
-use Rattle.std.proofs.Common.{◌≡◌, ◌↔◌, ℕ, ◌+◌, ◌≤◌, ◌<◌, nat_le, ◌&&◌, ◌++◌, Bool, true, false, IsTrue, List, [], ◌∷◌, reverse, refl, arith}
+use Rattle.std.proofs.Common.{◌≡◌, ℕ, ◌≤◌, nat_le, ◌&&◌, ◌++◌, Bool, true, false, IsTrue, List, [], ◌∷◌, reverse, refl, arith}
 use Rattle.std.proofs.lemmas.List.{reverse-append}
 use Rattle.bl_validate.specs.declared.known.Frame.{Frame}
 use Rattle.bl_validate.specs.Nested.{are_nested}

@@ -1,10 +1,10 @@
 -- What is left of the types that may stand at a place when operands are taken and put there.
-use Rattle.std.proofs.Common.{◌≡◌, ◌↔◌, ℕ, ◌+◌, ◌-◌, ◌<◌, ◌≤◌, ◌++◌, slice_get, List, [], ◌∷◌, length, reverse, take, Bool, true, false, IsTrue, IsFalse, Option, Some, None, MatchOption, IsSome, if◌then◌else◌, refl, sym, ap, ◌∙◌, drop, subst, arith, length-append, append_assoc, append-nil}
+use Rattle.std.proofs.Common.{◌≡◌, ◌↔◌, ℕ, ◌+◌, ◌-◌, ◌<◌, ◌≤◌, ◌++◌, slice_get, List, [], ◌∷◌, length, reverse, take, Bool, true, false, IsFalse, Option, Some, None, MatchOption, IsSome, if◌then◌else◌, refl, sym, ap, ◌∙◌, drop, subst, arith, length-append}
 use Rattle.std.proofs.lemmas.List.{reverse-append, reverse-reverse, length-reverse}
 use Rattle.std.proofs.lemmas.List.{take-append-drop, length-take}
 use Rattle.std.proofs.Math.Seq.{take-append_seam}
 use Rattle.std.specs.Option.{option_to_list}
-use Rattle.bl_wasm.specs.Typing.{Label, Open, opened}
+use Rattle.bl_wasm.specs.Typing.{Open}
 use Rattle.bl_wasm.specs.declared.types.WasmType.{WasmType}
 use Rattle.bl_wasm.specs.declared.types.WasmType.TheVariants.{I32}
 use Rattle.bl_validate.specs.declared.known.Frame.{Frame}

@@ -1,12 +1,4 @@
-use Rattle.std.proofs.Common.{rules, ◌≡◌, ◌↔◌, ◌++◌, ◌-◌, ◌≤◌, List, [], ◌∷◌, Option, Some, None, Bool, true, false, IsTrue, IsFalse, Ok, arith, subst, sym, refl, ap, ◌∙◌, length, reverse, vec_len, slice_get}
-use Rattle.bl_wasm.specs.Typing.{Open, Context, Arrow, Leaves, HasType, labels, IsAligned, integer}
-use Rattle.bl_wasm.specs.declared.types.WasmType.{WasmType}
-use Rattle.bl_wasm.specs.declared.types.WasmType.TheVariants.{I32, I64}
-use Rattle.bl_wasm.specs.declared.types.GlobalType.{GlobalType}
-use Rattle.bl_wasm.specs.declared.types.FuncType.{FuncType}
-use Rattle.bl_ops.specs.Access.{is_load, type_of}
-use Rattle.bl_validate.specs.Stands.{Stands, Steps, Segment, Below}
-use Rattle.bl_validate.specs.Scopes.{seen, takes}
+use Rattle.std.proofs.Common.{arith}
 use Rattle.std.proofs.Math.Nat.{pow-le-pow_right}
 use Rattle.bl_validate.proofs.body.is_aligned.Goals as goal
 

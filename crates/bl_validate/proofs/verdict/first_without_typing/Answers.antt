@@ -1,4 +1,4 @@
-use Rattle.std.proofs.Common.{rules, ◌≡◌, ◌<◌, length, Bool, true, false, IsTrue, arith}
+use Rattle.std.proofs.Common.{arith}
 use Rattle.bl_validate.proofs.verdict.first_without_typing.Goals as goal
 
 pub returns-then-not-branch : goal.returns-then-not-branch

@@ -1,15 +1,11 @@
-use Rattle.std.proofs.Common.{rules, ◌≡◌, ◌↔◌, ◌++◌, ◌-◌, ◌≤◌, List, [], ◌∷◌, Option, Some, None, Bool, true, false, IsTrue, IsFalse, Ok, arith, subst, sym, refl, ap, ◌∙◌, length, reverse, vec_len, slice_get}
-use Rattle.bl_wasm.specs.Typing.{Open, Context, Arrow, Leaves, HasType, labels, IsAligned, integer}
+use Rattle.std.proofs.Common.{◌≡◌, ◌++◌, List, [], ◌∷◌, Some, false, subst, sym, ap, ◌∙◌, slice_get}
+use Rattle.bl_wasm.specs.Typing.{Leaves, labels}
 use Rattle.bl_wasm.specs.declared.types.WasmType.{WasmType}
-use Rattle.bl_wasm.specs.declared.types.WasmType.TheVariants.{I32, I64}
-use Rattle.bl_wasm.specs.declared.types.GlobalType.{GlobalType}
-use Rattle.bl_wasm.specs.declared.types.FuncType.{FuncType}
-use Rattle.bl_ops.specs.Access.{is_load, type_of}
-use Rattle.bl_validate.specs.Stands.{Stands, Steps, Segment, Below}
-use Rattle.bl_validate.specs.Scopes.{seen, takes}
+use Rattle.bl_wasm.specs.declared.types.WasmType.TheVariants.{I32}
+use Rattle.bl_validate.specs.Stands.{Stands}
+use Rattle.bl_validate.specs.Scopes.{seen}
 use Rattle.bl_validate.proofs.Moves.{plainly, given_all, given_not_all, last_of}
 use Rattle.std.specs.List.{All}
-use Rattle.std.proofs.lemmas.List.Elements.{All-append}
 use Rattle.bl_validate.proofs.Moves.{all_snoc, all_front}
 use Rattle.bl_validate.proofs.body.Body.branch_by.Goals as goal
 

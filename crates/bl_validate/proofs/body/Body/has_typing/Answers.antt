@@ -1,10 +1,8 @@
-use Rattle.std.proofs.Common.{rules, ◌≡◌, ◌↔◌, ◌++◌, ◌+◌, List, [], ◌∷◌, Bool, true, false, IsTrue, drop, length, arith, sym}
+use Rattle.std.proofs.Common.{◌≡◌, ◌+◌, [], ◌∷◌, drop}
 use Rattle.std.proofs.lemmas.List.{drop_all}
-use Rattle.bl_wasm.specs.Typing.{IsTyping}
-use Rattle.bl_wasm.specs.declared.types.WasmType.{WasmType}
-use Rattle.bl_validate.specs.Stands.{Stands, Steps}
+use Rattle.bl_validate.specs.Stands.{Stands}
 use Rattle.bl_validate.specs.Scopes.{seen}
-use Rattle.bl_validate.proofs.Whole.{Goes, goes_on, goes_not, goes_done, goes_typing, goes_same, chained, turned, here}
+use Rattle.bl_validate.proofs.Whole.{goes_on, goes_not, goes_done, goes_typing, goes_same, chained, turned, here}
 use Rattle.bl_validate.proofs.body.Body.has_typing.Goals as goal
 
 pub loop-item-init : goal.loop-item-init

@@ -1,6 +1,4 @@
-use Rattle.std.proofs.Common.{◌≡◌, ◌↔◌, List, [], ◌∷◌, drop}
-use Rattle.bl_wasm.specs.Typing.{Open, Types}
-use Rattle.bl_wasm.specs.declared.types.WasmType.{WasmType}
+use Rattle.std.proofs.Common.{◌≡◌, ◌↔◌, [], drop}
 use Rattle.bl_validate.specs.Stands.{Stands}
 use Rattle.bl_validate.specs.Scopes.{seen}
 use Rattle.bl_validate.proofs.Whole.{Goes}

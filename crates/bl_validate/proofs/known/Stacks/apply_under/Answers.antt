@@ -1,8 +1,8 @@
-use Rattle.std.proofs.Common.{rules, ◌≡◌, ◌↔◌, ◌++◌, ◌-◌, List, [], ◌∷◌, Option, Some, None, Bool, true, false, IsTrue, Ok, arith, subst, sym, refl, ap, ◌∙◌, length, reverse, vec_len, slice_get}
-use Rattle.bl_wasm.specs.Typing.{Open, Context, Arrow, Leaves}
+use Rattle.std.proofs.Common.{◌≡◌, ◌↔◌, ◌++◌, List, [], ◌∷◌, false, IsTrue, subst}
+use Rattle.bl_wasm.specs.Typing.{Arrow}
 use Rattle.bl_wasm.specs.declared.types.WasmType.{WasmType}
-use Rattle.bl_wasm.specs.declared.types.WasmType.TheVariants.{I32, I64}
-use Rattle.bl_validate.specs.Stands.{Stands, Steps, Segment, Below}
+use Rattle.bl_wasm.specs.declared.types.WasmType.TheVariants.{I32}
+use Rattle.bl_validate.specs.Stands.{Stands}
 use Rattle.bl_validate.proofs.Moves.{under, not_under}
 use Rattle.bl_validate.proofs.known.Stacks.apply_under.Goals as goal
 

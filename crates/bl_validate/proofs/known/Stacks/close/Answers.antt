@@ -1,6 +1,5 @@
-use Rattle.std.proofs.Common.{rules, ◌≡◌, ◌↔◌, ◌++◌, ◌-◌, List, [], ◌∷◌, Bool, true, false, IsTrue, arith, take, sym, reverse, vec_len, subst, ap, ◌∙◌, append-nil, refl}
-use Rattle.bl_wasm.specs.Typing.{results_of, of_result}
-use Rattle.bl_validate.specs.Stands.{Stands, Below, Segment}
+use Rattle.std.proofs.Common.{◌∷◌}
+use Rattle.bl_validate.specs.Stands.{Stands}
 use Rattle.bl_validate.proofs.Moves.{closed, not_closed}
 use Rattle.bl_validate.proofs.known.Stacks.close.Goals as goal
 

@@ -1,7 +1,6 @@
-use Rattle.std.proofs.Common.{rules, ◌≡◌, ◌↔◌, ◌++◌, ◌-◌, List, [], ◌∷◌, Bool, true, false, IsTrue, arith, subst, sym, refl}
-use Rattle.bl_wasm.specs.Typing.{Open, Context, Arrow}
+use Rattle.std.proofs.Common.{[], ◌∷◌}
+use Rattle.bl_wasm.specs.Typing.{Arrow}
 use Rattle.bl_wasm.specs.declared.types.WasmType.{WasmType}
-use Rattle.bl_wasm.specs.declared.types.WasmType.TheVariants.{I32}
 use Rattle.bl_validate.specs.Stands.{Stands}
 use Rattle.bl_validate.proofs.Moves.{plainly, drops}
 use Rattle.bl_validate.proofs.known.Stacks.drop_one.Goals as goal

@@ -1,4 +1,4 @@
-use Rattle.std.proofs.Common.{rules, ◌≡◌, ◌↔◌, ◌++◌, ◌-◌, List, [], ◌∷◌, Bool, true, false, arith, take, sym, reverse, vec_len}
+use Rattle.std.proofs.Common.{true, arith, reverse, vec_len}
 use Rattle.bl_validate.specs.Stands.{Stands, Below, Segment}
 use Rattle.bl_validate.proofs.NestedLemmas.{nested_at, within}
 use Rattle.bl_validate.proofs.StandsLemmas.{dropped_here, undropped_here}

@@ -1,4 +1,4 @@
-use Rattle.std.proofs.Common.{rules, ◌≡◌, ◌↔◌, ◌++◌, List, [], ◌∷◌, reverse, arith, vec_len}
+use Rattle.std.proofs.Common.{reverse, arith, vec_len}
 use Rattle.bl_validate.specs.Stands.{Below, Stands}
 use Rattle.bl_validate.proofs.StandsLemmas.{popped, invented, lacking, one_at_most}
 use Rattle.bl_validate.proofs.NestedLemmas.{nested_at}

@@ -1,4 +1,4 @@
-use Rattle.std.proofs.Common.{rules, ◌≡◌, ◌↔◌, ◌++◌, ◌+◌, List, [], ◌∷◌, reverse, arith, vec_len, is_ok}
+use Rattle.std.proofs.Common.{reverse, arith, vec_len, is_ok}
 use Rattle.bl_validate.specs.Stands.{Below, Stands}
 use Rattle.bl_validate.proofs.StandsLemmas.{pushed, grown}
 use Rattle.bl_validate.proofs.NestedLemmas.{nested_at, within}

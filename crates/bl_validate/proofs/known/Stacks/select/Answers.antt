@@ -1,5 +1,5 @@
-use Rattle.std.proofs.Common.{rules, ◌≡◌, ◌↔◌, ◌++◌, ◌-◌, List, [], ◌∷◌, Bool, true, false, IsTrue, arith, subst, sym, refl}
-use Rattle.bl_wasm.specs.Typing.{Open, Context, Arrow}
+use Rattle.std.proofs.Common.{[], ◌∷◌, true, false}
+use Rattle.bl_wasm.specs.Typing.{Arrow}
 use Rattle.bl_wasm.specs.declared.types.WasmType.{WasmType}
 use Rattle.bl_wasm.specs.declared.types.WasmType.TheVariants.{I32}
 use Rattle.bl_validate.specs.Stands.{Stands}

@@ -1,7 +1,6 @@
-use Rattle.std.proofs.Common.{rules, ◌≡◌, ◌↔◌, ◌++◌, ◌-◌, List, [], ◌∷◌, Bool, true, false, IsTrue, arith, take, sym, reverse, vec_len, subst, ap, ◌∙◌, append-nil, refl}
-use Rattle.bl_wasm.specs.Typing.{results_of, of_result}
-use Rattle.bl_validate.specs.Stands.{Stands, Below, Segment}
-use Rattle.bl_validate.proofs.StandsLemmas.{peeked, shut_here, no_frames, not_empty}
+use Rattle.std.proofs.Common.{[], ◌∷◌, arith, reverse}
+use Rattle.bl_validate.specs.Stands.{Stands, Below}
+use Rattle.bl_validate.proofs.StandsLemmas.{shut_here, no_frames, not_empty}
 use Rattle.bl_validate.proofs.known.Stacks.shut.Goals as goal
 
 pub returns-then-len-self : goal.returns-then-len-self
