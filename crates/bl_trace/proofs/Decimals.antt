@@ -6,6 +6,7 @@ use Rattle.std.specs.Char.{digit_value}
 use Rattle.std.specs.Str.Parse.{digits_value, digits_value_after}
 use Rattle.bl_trace.specs.Digits.{is_decimal, decimal_below}
 
+-- digits behind a number write no less
 at_least : (n : ℕ) (digits : List ℕ) → n ≤ digits_value_after 10 n digits
 at_least n [] = omega arith
 at_least n (digit ∷ digits) = omega (arith, at_least (n * 10 + digit_value digit) digits)

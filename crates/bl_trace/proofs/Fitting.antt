@@ -24,6 +24,7 @@ abbrev EntryFits : Option ValueType → List ℕ → Entry → Type 0
 EntryFits kind sizes (Argument value) = MatchOption kind ⊥ (λ k. ArgumentFits k value)
 EntryFits kind sizes (Contents patch) = PatchFits sizes patch
 
+-- a number read is below its limit
 below_limit : (limit : ℕ) (word : List ℕ) → IfSome (decimal_below limit word) (λ value. value < limit)
 below_limit limit word =
     cond_both (is_decimal word && nat_lt (digits_value 10 word) limit) (Some (digits_value 10 word)) None
@@ -31,10 +32,12 @@ below_limit limit word =
     (λ e. ltb-true _ _ (and_parts (is_decimal word) (nat_lt (digits_value 10 word) limit) e).1)
     (λ e. tt)
 
+-- a number below a type's limit is one of the type
 of_kind : (kind : ValueType) (value : ℕ) → value < limit_of kind → ArgumentFits kind value
 of_kind I32 value below = below
 of_kind I64 value below = below
 
+-- an argument read is one of a parameter that is left
 argument_fits : (kind : Option ValueType) (sizes : List ℕ) (operands : List (List ℕ)) →
     IfSome (option_map Argument (argument_of kind operands)) (EntryFits kind sizes)
 argument_fits (Some kind) sizes (word ∷ []) =
@@ -47,6 +50,7 @@ argument_fits (Some kind) sizes [] = tt
 argument_fits (Some kind) sizes (word ∷ next ∷ more) = tt
 argument_fits None sizes operands = tt
 
+-- the test of a place says where it lies
 inside : (offset count : ℕ) (pages : Option ℕ) → lies_in offset count pages ≡ true → LiesIn offset count pages
 inside offset count (Some pages) e = leb-true _ _ e
 inside offset count None e = cc
@@ -71,6 +75,7 @@ hex_bytes [] = All-nil (λ b. b < 2 ^ 8)
 hex_bytes (digit ∷ []) = tt
 hex_bytes (high ∷ low ∷ rest) = and_bytes (byte_of high low) (bytes_of_hex rest) (byte_small high low) (hex_bytes rest)
 
+-- a patch read lies in its memory, and is of bytes
 patch_by_fits : (kind : Option ValueType) (sizes : List ℕ) (memory offset : Option ℕ) (bytes : Option (List ℕ)) → IfSome bytes AreBytes →
     IfSome (option_map Contents (patch_by sizes memory offset bytes)) (EntryFits kind sizes)
 patch_by_fits kind sizes (Some memory) (Some offset) (Some bytes) are =
@@ -83,6 +88,7 @@ patch_by_fits kind sizes (Some memory) (Some offset) None are = tt
 patch_by_fits kind sizes (Some memory) None bytes are = tt
 patch_by_fits kind sizes None offset bytes are = tt
 
+-- a patch of words lies in its memory
 patch_fits : (kind : Option ValueType) (sizes : List ℕ) (operands : List (List ℕ)) →
     IfSome (option_map Contents (patch_of sizes operands)) (EntryFits kind sizes)
 patch_fits kind sizes (memory ∷ offset ∷ bytes ∷ []) =
@@ -92,6 +98,7 @@ patch_fits kind sizes (memory ∷ []) = tt
 patch_fits kind sizes (memory ∷ offset ∷ []) = tt
 patch_fits kind sizes (memory ∷ offset ∷ bytes ∷ next ∷ more) = tt
 
+-- what words say fits
 entry_fits : (kind : Option ValueType) (sizes : List ℕ) (words : List (List ℕ)) → IfSome (entry_by kind sizes words) (EntryFits kind sizes)
 entry_fits kind sizes [] = tt
 entry_fits kind sizes (keyword ∷ operands) =
@@ -107,6 +114,7 @@ record Fitting (params : List ValueType) (sizes : List ℕ) (arguments : ℕ) (s
   arguments_fit : AllZip ArgumentFits (take (length start.args) (drop arguments params)) start.args
   patches_fit : All (PatchFits sizes) start.patches
 
+-- one argument more before those of a start
 first_fits : (params : List ValueType) (sizes : List ℕ) (arguments value : ℕ) (args : List ℕ) (kind : Option ValueType) →
     kind ≡ slice_get params arguments → EntryFits kind sizes (Argument value) →
     AllZip ArgumentFits (take (length args) (drop (arguments + 1) params)) args →
@@ -119,6 +127,7 @@ first_fits params sizes arguments value args (Some kind) is fits others =
     subst (λ (xs : List ValueType). AllZip ArgumentFits (take (suc (length args)) xs) (value ∷ args)) (sym rest) (fits, others)
 first_fits params sizes arguments value args None is fits others = absurd fits
 
+-- one entry more before those of a start
 before_fits : (params : List ValueType) (sizes : List ℕ) (arguments : ℕ) (entry : Entry) (more : Result Start ℕ) →
     EntryFits (slice_get params arguments) sizes entry →
     IfOk more (Fitting params sizes (arguments + arguments_in entry)) →
@@ -134,6 +143,7 @@ before_fits params sizes arguments (Contents patch) (Ok more) fits others = reco
 }
 before_fits params sizes arguments entry (Err number) fits others = tt
 
+-- what lines say fits, from a place of the parameters on
 said_fits : (params : List ValueType) (sizes : List ℕ) (arguments : ℕ) (lines : List (List ℕ)) →
     IfOk (said params sizes arguments lines) (Fitting params sizes arguments)
 said_fits params sizes arguments [] = record { arguments_fit = tt; patches_fit = All-nil (PatchFits sizes) }

@@ -17,6 +17,7 @@ two_more word i inside =
     let place : i + 1 + 1 ≡ i + 2 = omega arith in
     rw place at (one ∙ two)
 
+-- a byte moves from those of the rest to those before it
 regroup : (bytes : List ℕ) (byte : ℕ) (found : Option (List ℕ)) →
     option_map (λ more. bytes ++ more) (option_map (λ more. byte ∷ more) found) ≡ option_map (λ more. (bytes ++ byte ∷ []) ++ more) found
 regroup bytes byte (Some more) = ap Some (sym (append_assoc bytes (byte ∷ []) more))
@@ -30,13 +31,6 @@ one_byte bytes word i byte inside is =
     ap (behind bytes) (two_more word i inside)
     ∙ ap (λ b. option_map (λ more. bytes ++ more) (byte_and b (bytes_of_hex (drop (i + 2) word)))) (sym is)
     ∙ regroup bytes byte (bytes_of_hex (drop (i + 2) word))
-
--- where they write none
-pub no_byte : (bytes word : List ℕ) (i : ℕ) → i + 1 < length word →
-    None ≡ byte_of (get_or word i 0) (get_or word (i + 1) 0) → behind bytes (drop i word) ≡ None
-no_byte bytes word i inside is =
-    ap (behind bytes) (two_more word i inside)
-    ∙ ap (λ b. option_map (λ more. bytes ++ more) (byte_and b (bytes_of_hex (drop (i + 2) word)))) (sym is)
 
 -- where one digit is left
 pub odd : (bytes word : List ℕ) (i : ℕ) → i < length word → length word ≤ i + 1 → behind bytes (drop i word) ≡ None

@@ -26,6 +26,7 @@ with_space radix none (x ∷ xs) inside =
 no_byte : (high low : ℕ) → (is_digit high 16 && is_digit low 16) ≡ false → byte_of high low ≡ None
 no_byte high low e = cond-false (is_digit high 16 && is_digit low 16) (Some (16 * digit_value high + digit_value low)) None e
 
+-- without the bytes behind it there is none
 and_none : (byte : Option ℕ) → byte_and byte None ≡ None
 and_none (Some byte) = refl
 and_none None = refl
@@ -48,11 +49,12 @@ no_bytes (high ∷ low ∷ rest) some =
     (and_cases first (second && others) some)
 
 -- a function of the only word
-abbrev pub of_one : {A : Type 0} → (List ℕ → Option A) → List (List ℕ) → Option A
+abbrev of_one : {A : Type 0} → (List ℕ → Option A) → List (List ℕ) → Option A
 of_one f [] = None
 of_one f (word ∷ []) = f word
 of_one f (word ∷ next ∷ more) = None
 
+-- of two words and more there is none
 two_words : {A : Type 0} (f : List ℕ → Option A) (word : List ℕ) (more : List (List ℕ)) → 0 < length more → of_one f (word ∷ more) ≡ None
 two_words f word [] some = absurd (omega (arith, some))
 two_words f word (next ∷ more) some = refl
@@ -70,6 +72,7 @@ only_word f nothing xs =
     (λ past. ap (of_one f) (one_part (λ b. b == 32) xs past))
     (cases_lt (position_or_len (λ b. b == 32) xs) (length xs))
 
+-- a word with a space writes no number
 decimal_with_space : (limit : ℕ) (xs : List ℕ) → position_or_len (λ b. b == 32) xs < length xs → decimal_below limit xs ≡ None
 decimal_with_space limit xs inside =
     cond-false _ _ _ (and_left _ _ (and_right (nat_lt 0 (length xs)) _ (with_space 10 refl xs inside)))
@@ -92,7 +95,7 @@ patch_of_words sizes memory offset (bytes ∷ []) = refl
 patch_of_words sizes memory offset (bytes ∷ next ∷ more) = refl
 
 -- without bytes there is no patch
-pub no_patch : (sizes : List ℕ) (memory offset : Option ℕ) → patch_by sizes memory offset None ≡ None
+no_patch : (sizes : List ℕ) (memory offset : Option ℕ) → patch_by sizes memory offset None ≡ None
 no_patch sizes (Some memory) (Some offset) = refl
 no_patch sizes (Some memory) None = refl
 no_patch sizes None offset = refl

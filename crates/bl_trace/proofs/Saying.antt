@@ -1,6 +1,6 @@
 -- What lines say, line by line.
-use Rattle.std.proofs.Common.{◌≡◌, ℕ, ◌+◌, ◌-◌, ◌<◌, ◌==◌, List, [], ◌∷◌, ◌++◌, length, take, drop, Option, Some, None, Result, Ok, Err, refl, sym, ap, ◌∙◌, arith, append_assoc, length-drop}
-use Rattle.std.proofs.lemmas.List.{length_push, append-nil, take_rest, drop-drop}
+use Rattle.std.proofs.Common.{◌≡◌, ℕ, ◌+◌, ◌-◌, ◌<◌, ◌==◌, List, [], ◌∷◌, ◌++◌, length, take, drop, Option, Some, None, Result, Ok, Err, sym, ap, ◌∙◌, arith, append_assoc, length-drop}
+use Rattle.std.proofs.lemmas.List.{length_push, take_rest, drop-drop}
 use Rattle.std.specs.List.{position_or_len, before_first, after_first}
 use Rattle.bl_base.specs.declared.names.ValueType.{ValueType}
 use Rattle.bl_base.specs.declared.start.Start.{Start}
@@ -16,17 +16,7 @@ abbrev pub behind : ℕ → Start → Result Start ℕ → Result Start ℕ
 behind lines start (Ok more) = Ok (record { args = start.args ++ more.args; patches = start.patches ++ more.patches })
 behind lines start (Err number) = Err (lines + number)
 
--- what is said behind no line
-pub behind_none : (more : Result Start ℕ) → more ≡ behind 0 (record { args = []; patches = [] }) more
-behind_none (Ok more) = refl
-behind_none (Err number) = ap Err (omega arith)
-
--- nothing is said behind the last line
-pub behind_all : (lines : ℕ) (start : Start) → behind lines start (Ok (record { args = []; patches = [] })) ≡ Ok start
-behind_all lines start =
-    ap (λ (args : List ℕ). Ok (record { args = args; patches = start.patches ++ [] })) (append-nil start.args)
-    ∙ ap (λ (patches : List _). Ok (record { args = start.args; patches = patches })) (append-nil start.patches)
-
+-- an entry moves from what is said to the start
 moves : (lines : ℕ) (start : Start) (entry : Entry) (more : Result Start ℕ) →
     behind lines start (said_before entry more) ≡ behind (lines + 1) (entry_behind start entry) more
 moves lines start (Argument value) (Ok more) =
@@ -35,6 +25,7 @@ moves lines start (Contents patch) (Ok more) =
     ap (λ (patches : List _). Ok (record { args = start.args ++ more.args; patches = patches })) (sym (append_assoc start.patches (patch ∷ []) more.patches))
 moves lines start entry (Err number) = ap Err (omega arith)
 
+-- an entry's arguments are counted with the others
 arguments_more : (start : Start) (entry : Entry) → length start.args + arguments_in entry ≡ length (entry_behind start entry).args
 arguments_more start (Argument value) = sym (length_push start.args value)
 arguments_more start (Contents patch) = omega arith
@@ -45,7 +36,7 @@ by_entry params sizes arguments lines (Some entry) = said_before entry (said par
 by_entry params sizes arguments lines None = Err 1
 
 -- one line more is read
-pub one_more : (params : List ValueType) (sizes : List ℕ) (number : ℕ) (start : Start) (line : List ℕ) (lines : List (List ℕ)) (entry : Entry) →
+one_more : (params : List ValueType) (sizes : List ℕ) (number : ℕ) (start : Start) (line : List ℕ) (lines : List (List ℕ)) (entry : Entry) →
     Some entry ≡ entry_of params sizes (length start.args) line →
     behind number start (said params sizes (length start.args) (line ∷ lines)) ≡
     behind (number + 1) (entry_behind start entry) (said params sizes (length (entry_behind start entry).args) lines)
@@ -55,7 +46,7 @@ one_more params sizes number start line lines entry is =
     ∙ ap (λ n. behind (number + 1) (entry_behind start entry) (said params sizes n lines)) (arguments_more start entry)
 
 -- a line is bad
-pub bad : (params : List ValueType) (sizes : List ℕ) (number : ℕ) (start : Start) (line : List ℕ) (lines : List (List ℕ)) →
+bad : (params : List ValueType) (sizes : List ℕ) (number : ℕ) (start : Start) (line : List ℕ) (lines : List (List ℕ)) →
     None ≡ entry_of params sizes (length start.args) line →
     behind number start (said params sizes (length start.args) (line ∷ lines)) ≡ Err (number + 1)
 bad params sizes number start line lines is =
@@ -68,7 +59,7 @@ line_of_some [] some = absurd (omega (arith, some))
 line_of_some (byte ∷ bytes) some = first_line byte bytes
 
 -- the line from a place on, and the lines behind it
-pub line_at : (bytes : List ℕ) (at place : ℕ) → at < length bytes →
+line_at : (bytes : List ℕ) (at place : ℕ) → at < length bytes →
     place ≡ position_or_len (λ b. b == 10) (take (length bytes - at) (drop at bytes)) →
     lines_of (drop at bytes) ≡ take (at + place - at) (drop at bytes) ∷ lines_of (drop (at + place + 1) bytes)
 line_at bytes at place inside is =
