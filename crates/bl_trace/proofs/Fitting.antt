@@ -61,8 +61,8 @@ byte_small high low =
     cond_both (is_digit high 16 && is_digit low 16) (Some (16 * digit_value high + digit_value low)) None
     (λ (o : Option ℕ). IfSome o (λ byte. byte < 2 ^ 8))
     (λ e.
-        let both = and_parts (is_digit high 16) (is_digit low 16) e in
-        omega (arith, ltb-true _ _ both.0, ltb-true _ _ both.1))
+    let both = and_parts (is_digit high 16) (is_digit low 16) e in
+    omega (arith, ltb-true _ _ both.0, ltb-true _ _ both.1))
     (λ e. tt)
 
 and_bytes : (byte : Option ℕ) (bytes : Option (List ℕ)) → IfSome byte (λ b. b < 2 ^ 8) → IfSome bytes AreBytes → IfSome (byte_and byte bytes) AreBytes
