@@ -1,0 +1,5 @@
+//! The interpreter of linked trees.
+#![tactic(auto)]
+
+mod jumps;
+mod stack;
