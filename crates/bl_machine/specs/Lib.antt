@@ -1,1 +1,4 @@
+pub mod Bodies
 pub mod Jumps
+pub mod Machines
+pub mod Moves

@@ -1,5 +1,8 @@
 //! The interpreter of linked trees.
 #![tactic(auto)]
 
+mod body;
+mod items;
 mod jumps;
+mod machine;
 mod stack;
