@@ -1,10 +1,13 @@
 //! The machine: one stack for each kind of thing, whose parts belong to the functions that have been entered.
-ghost use Rattle.std.specs.Prelude.{◌≡◌, OnOk};
-ghost use Rattle.bl_machine.specs.Machines.{Gives, at_place, called, closed, entered, give, local_at, opened, popped, push, resumed, returned, running, slid, to_label, top, with_global, with_local};
+ghost use Rattle.std.specs.Prelude.{◌≡◌, OnOk, length, nat_lt};
+ghost use Rattle.bl_machine.specs.Machines.{Gives, at_place, called, closed, entered, give, global_at, label_at, local_at, most_callers, opened, popped, push, resumed, returned, running, slid, to_label, top, with_global, with_local};
 
 use crate::body::Body;
 use crate::stack::Stack;
 use bl_base::{NoMemory, Trap};
+
+/// The most functions that wait for one that they called.
+const MOST_CALLERS: usize = 1_023;
 
 /// A block, loop or if that was entered.
 #[derive(Clone, Copy, Debug)]
@@ -77,6 +80,13 @@ impl Machine {
         value
     }
 
+    /// The topmost value.
+    pub fn topmost(&self) -> u64
+        ensures { result ≡ top self.now }
+    {
+        self.stack.top(0)
+    }
+
     /// Puts a value on the stack.
     pub fn push(&mut self, value: u64) -> Result<Progress, NoMemory>
         ensures { Gives result self.new (push value self.old) }
@@ -101,16 +111,22 @@ impl Machine {
     pub fn local(&self, x: u32) -> u64
         ensures { result ≡ local_at x self.now }
     {
-        let slot = self.current.locals.saturating_add(x as usize);
-        self.locals.at(slot, 0)
+        self.locals.above(self.current.locals, x as usize, 0)
     }
 
     /// Changes a local of the function.
     pub fn set_local(&mut self, x: u32, value: u64)
         ensures { self.new ≡ with_local x value self.old }
     {
-        let slot = self.current.locals.saturating_add(x as usize);
-        self.locals.put(slot, value);
+        self.locals
+            .put_above(self.current.locals, x as usize, value);
+    }
+
+    /// The value of a global.
+    pub fn global(&self, x: u32) -> u64
+        ensures { result ≡ global_at x self.now }
+    {
+        self.globals.at(x as usize, 0)
     }
 
     /// Changes a global.
@@ -138,6 +154,24 @@ impl Machine {
             place,
             height: self.stack.len(),
         })
+    }
+
+    /// The label of that number, 0 for the innermost, with its height; None from the function's own on.
+    pub fn label(&self, l: u32) -> Option<(Exit, usize)>
+        ensures { result ≡ label_at l self.now }
+    {
+        let l = l as usize;
+        let count = self.labels.len();
+        if l >= count.saturating_sub(self.current.labels) {
+            return None;
+        }
+        let height = count - 1 - l;
+        let none = Exit {
+            arity: 0,
+            place: 0,
+            height: 0,
+        };
+        Some((self.labels.at(height, none), height))
     }
 
     /// Leaves the innermost block, loop or if.
@@ -192,6 +226,13 @@ impl Machine {
         self.current = self.callers.top(self.current);
         self.callers.drop_top();
         Progress::Running
+    }
+
+    /// Whether a function more may be entered.
+    pub fn may_call(&self) -> bool
+        ensures { result ≡ nat_lt (length self.now.callers) most_callers }
+    {
+        self.callers.len() < MOST_CALLERS
     }
 
     /// Begins a call of the function of that number, which takes so many arguments.

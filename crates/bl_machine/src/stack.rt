@@ -86,6 +86,25 @@ impl<T: Copy + Drop> Stack<T> {
         let _top = self.cells.pop();
     }
 
+    /// The element so far above a height, or the other value where there is none.
+    pub fn above(&self, base: usize, distance: usize, other: T) -> T
+        ensures { result ≡ slice_index_or self.now (base + distance) other }
+    {
+        if base <= self.cells.len() && distance < self.cells.len() - base {
+            return self.cells[base + distance];
+        }
+        other
+    }
+
+    /// Changes the element so far above a height, where there is one.
+    pub fn put_above(&mut self, base: usize, distance: usize, x: T)
+        ensures { self.new ≡ set self.old (base + distance) x }
+    {
+        if base <= self.cells.len() && distance < self.cells.len() - base {
+            self.cells[base + distance] = x;
+        }
+    }
+
     /// Changes the element at that height, where there is one.
     pub fn put(&mut self, height: usize, x: T)
         ensures { self.new ≡ set self.old height x }
