@@ -1,4 +1,5 @@
 pub mod Bodies
+pub mod Interpreting
 pub mod Jumps
 pub mod Machines
 pub mod Moves

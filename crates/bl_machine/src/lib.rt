@@ -2,7 +2,13 @@
 #![tactic(auto)]
 
 mod body;
+mod interpreter;
 mod items;
 mod jumps;
 mod machine;
 mod stack;
+
+pub use interpreter::interp;
+
+#[cfg(test)]
+mod tests;
