@@ -1,2 +1,5 @@
 pub mod Counting
+pub mod Driving
 pub mod Jumping
+pub mod Landing
+pub mod Simulation
