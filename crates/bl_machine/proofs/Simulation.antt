@@ -12,6 +12,7 @@ use Rattle.bl_machine.specs.Moves.{advanced}
 use Rattle.bl_machine.specs.declared.machine.Machine.{Machine}
 use Rattle.bl_machine.specs.declared.machine.Progress.{Progress}
 use Rattle.bl_machine.proofs.Landing.{jump_there}
+use Rattle.bl_machine.proofs.Values.{Then}
 
 pub step_follows : (tree : Tree) (results : List ValueType) → IsLinked tree → tree.memories ≡ [] → tree.tables ≡ [] → (progress : Progress) (m : Machine) (config : Config)
     → Matches tree progress m config → IsTyped tree results config → Follows tree (advanced tree.functions (map (body_of tree) tree.functions) progress m) (source_step tree config)
