@@ -1,7 +1,10 @@
+pub mod Blocks
+pub mod Calling
 pub mod Counting
 pub mod Driving
 pub mod Jumping
 pub mod Landing
+pub mod Leaving
 pub mod Piles
 pub mod Simulation
 pub mod Values

@@ -12,6 +12,9 @@ use Rattle.bl_machine.specs.Moves.{advanced}
 use Rattle.bl_machine.specs.declared.machine.Machine.{Machine}
 use Rattle.bl_machine.specs.declared.machine.Progress.{Progress}
 use Rattle.bl_machine.proofs.Landing.{jump_there}
+use Rattle.bl_machine.proofs.Blocks
+use Rattle.bl_machine.proofs.Calling
+use Rattle.bl_machine.proofs.Leaving
 use Rattle.bl_machine.proofs.Values.{Then}
 
 pub step_follows : (tree : Tree) (results : List ValueType) → IsLinked tree → tree.memories ≡ [] → tree.tables ≡ [] → (progress : Progress) (m : Machine) (config : Config)
