@@ -88,7 +88,7 @@ pub stepped : (tree : Tree) (function : ℕ) (start : Start) (steps : ℕ) (prog
     → advanced tree.functions (map (body_of tree) tree.functions) progress m ≡ record { progress = later; machine = n }
     → After tree function start (steps + 1) later n
 stepped tree function start steps progress m later n linked memories tables r e =
-    let follows = step_follows tree r.results linked memories tables progress m r.config r.matches r.typed in
+    let follows = step_follows tree linked memories tables r.results progress m r.config r.matches r.typed in
     let P : Stepped → Type 0 = λ s. After tree function start (steps + 1) s.progress s.machine in
     let s = advanced tree.functions (map (body_of tree) tree.functions) progress m in
     subst P e (led tree function start steps r.config r.comes r.results s.progress s.machine (source_step tree r.config) refl (typed_step tree linked r.results r.config r.typed) follows)

@@ -5,6 +5,8 @@ pub mod Driving
 pub mod Jumping
 pub mod Landing
 pub mod Leaving
+pub mod Operators
 pub mod Piles
 pub mod Simulation
+pub mod Typed
 pub mod Values

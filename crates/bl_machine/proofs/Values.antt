@@ -103,7 +103,7 @@ module _ (tree : Tree) where
   give_follows m state None value is = pushed m state value is
   give_follows m state (Some kind) value is = ap (trapped_with kind) is.memories
 
-  one_operand : (op : Op) (m : Machine) (state : State) → IsState tree m state → 1 ≤ length state.frame.values
+  pub one_operand : (op : Op) (m : Machine) (state : State) → IsState tree m state → 1 ≤ length state.frame.values
       → Follows tree (operated_on op 1 m) (apply op (take 1 state.frame.values) (with_values (drop 1 state.frame.values) state))
   one_operand op m state is enough = from state.frame.values refl enough
     where
@@ -113,7 +113,7 @@ module _ (tree : Tree) where
           subst (λ x. Follows tree (give (traps op x 0) (meaning op x 0 0) (popped m)) (give_value (traps op a 0) (meaning op a 0 0) (with_values vs state))) (sym (top_is m state is a vs e))
           (give_follows (popped m) (with_values vs state) (traps op a 0) (meaning op a 0 0) (popped_is m state is a vs e))
 
-  two_operands : (op : Op) (m : Machine) (state : State) → IsState tree m state → 2 ≤ length state.frame.values
+  pub two_operands : (op : Op) (m : Machine) (state : State) → IsState tree m state → 2 ≤ length state.frame.values
       → Follows tree (operated_on op 2 m) (apply op (take 2 state.frame.values) (with_values (drop 2 state.frame.values) state))
   two_operands op m state is enough = from state.frame.values refl enough
     where
