@@ -4,3 +4,4 @@ pub mod Jumps
 pub mod Machines
 pub mod Matching
 pub mod Moves
+pub mod Shortest

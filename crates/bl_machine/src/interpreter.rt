@@ -32,7 +32,7 @@ pub fn interp(alloc: Global, tree: &Linked, function: u32, start: &Start, steps:
 }
 
 /// The machine before the first step: the arguments are its locals.
-fn begin(alloc: Global, tree: &Tree, start: &Start) -> Result<Machine, NoMemory>
+pub fn begin(alloc: Global, tree: &Tree, start: &Start) -> Result<Machine, NoMemory>
     ensures { IfOk result (λ machine. machine ≡ starting tree.now start.now) }
 {
     let mut locals = Stack::new(alloc);
@@ -86,7 +86,7 @@ fn drive(
 }
 
 /// A step.
-fn advance(
+pub fn advance(
     machine: &mut Machine,
     functions: &[Function],
     bodies: &[Body],
@@ -102,7 +102,7 @@ fn advance(
 }
 
 /// Whether the run has ended.
-fn ended(progress: Progress) -> bool
+pub fn ended(progress: Progress) -> bool
     ensures { result ≡ has_ended progress }
 {
     matches!(progress, Progress::Returned | Progress::Trapped(_))
