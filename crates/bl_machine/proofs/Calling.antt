@@ -77,10 +77,10 @@ module _ (tree : Tree) where
     enter_follows =
         subst (λ o. Follows tree (entered_at o number m) (enter tree store number arguments callers)) (sym (body_got number typed.function typed.exists))
         (subst (λ o. Follows tree (entered number (body_of tree typed.function) m)
-            (known o (λ function. known (slice_get tree.types function.type_index) (λ type. go (record { store = store; frame = entered_frame number function type arguments; callers = callers })))))
+        (known o (λ function. known (slice_get tree.types function.type_index) (λ type. go (record { store = store; frame = entered_frame number function type arguments; callers = callers })))))
         (sym typed.exists)
         (subst (λ o. Follows tree (entered number (body_of tree typed.function) m)
-            (known o (λ type. go (record { store = store; frame = entered_frame number typed.function type arguments; callers = callers }))))
+        (known o (λ type. go (record { store = store; frame = entered_frame number typed.function type arguments; callers = callers }))))
         (sym typed.typed) entered_is))
 
   -- ---- calls
@@ -124,28 +124,35 @@ module _ (tree : Tree) where
       upper = record { values = take (length m.stack - params) m.stack; locals = m.locals; labels = m.labels }
 
       called_is : Follows tree (called number params m) (goes (entering state.store number (operands params state) (caller params state ∷ state.callers)))
-      called_is = (refl, record {
-        memories = is.memories;
-        globals = is.globals;
-        lower = upper;
-        values = refl;
-        locals = ap (λ ls. m.locals ++ ls) operands_are;
-        labels = refl;
-        callers_are = subst (λ others. AreActivations tree (caller params state ∷ state.callers) others upper) (sym (reverse-append m.callers (m.current ∷ []))) (is.lower, record {
-          exists = is.current.exists;
-          number = is.current.number;
-          place = is.current.place;
-          arity = is.current.arity;
-          values = stack_below;
-          locals = is.current.locals;
-          exits = is.current.exits;
-          labels = is.current.labels;
-          are_exits = is.current.are_exits;
-          values_below = is.current.values_below;
-          locals_below = is.current.locals_below;
-          labels_below = is.current.labels_below;
-        }, is.callers);
-      })
+      called_is = (
+        refl,
+        record {
+          memories = is.memories;
+          globals = is.globals;
+          lower = upper;
+          values = refl;
+          locals = ap (λ ls. m.locals ++ ls) operands_are;
+          labels = refl;
+          callers_are = subst (λ others. AreActivations tree (caller params state ∷ state.callers) others upper) (sym (reverse-append m.callers (m.current ∷ []))) (
+            is.lower,
+            record {
+              exists = is.current.exists;
+              number = is.current.number;
+              place = is.current.place;
+              arity = is.current.arity;
+              values = stack_below;
+              locals = is.current.locals;
+              exits = is.current.exits;
+              labels = is.current.labels;
+              are_exits = is.current.are_exits;
+              values_below = is.current.values_below;
+              locals_below = is.current.locals_below;
+              labels_below = is.current.labels_below;
+            },
+            is.callers,
+          );
+        },
+      )
 
     many : length state.callers ≡ length m.callers
     many = as_many_callers state.callers (reverse m.callers) is.lower is.callers ∙ length-reverse m.callers
@@ -162,11 +169,11 @@ module _ (tree : Tree) where
             → Follows tree (if b then called number (length type.params) m else trapped trap_kind.StackExhausted m) (call_at type number state)
         from true e =
             subst (λ b. Follows tree (called number (length type.params) m)
-                (if b then goes (entering state.store number (operands (length type.params) state) (caller (length type.params) state ∷ state.callers)) else trap trap_kind.StackExhausted state))
+            (if b then goes (entering state.store number (operands (length type.params) state) (caller (length type.params) state ∷ state.callers)) else trap trap_kind.StackExhausted state))
             (sym (by_depth true e)) (called_is (length type.params) enough)
         from false e =
             subst (λ b. Follows tree (trapped trap_kind.StackExhausted m)
-                (if b then goes (entering state.store number (operands (length type.params) state) (caller (length type.params) state ∷ state.callers)) else trap trap_kind.StackExhausted state))
+            (if b then goes (entering state.store number (operands (length type.params) state) (caller (length type.params) state ∷ state.callers)) else trap trap_kind.StackExhausted state))
             (sym (by_depth false e)) (ap (trapped_with trap_kind.StackExhausted) is.memories)
 
     -- the operands of a call are there
@@ -181,6 +188,7 @@ module _ (tree : Tree) where
         to function None e f has = absurd has
         to function (Some type) e f has =
             call_at_follows type (enough type (ap (option_and_then (λ function. slice_get tree.types function.type_index)) f ∙ e))
+
         from : (o : Option Function) → slice_get tree.functions number ≡ o
             → Then tree (call_of (slice_get bodies number) number m) (known (option_and_then (λ function. slice_get tree.types function.type_index) o) (λ type. call_at type number state))
         from None e has = absurd has

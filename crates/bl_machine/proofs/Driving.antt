@@ -53,15 +53,18 @@ pub begins : (tree : Tree) (function : ℕ) (start : Start) (m : Machine) → Is
 begins tree function start m linked bare is e = subst (Reached tree function start 0 (Entering function)) (sym e) (record {
   config = opening tree function start;
   comes = refl;
-  matches = (refl, record {
-    memories = no_memories tree.memories start.patches bare;
-    globals = refl;
-    lower = record { values = []; locals = []; labels = [] };
-    values = refl;
-    locals = refl;
-    labels = refl;
-    callers_are = record { values = refl; locals = refl; labels = refl };
-  });
+  matches = (
+    refl,
+    record {
+      memories = no_memories tree.memories start.patches bare;
+      globals = refl;
+      lower = record { values = []; locals = []; labels = [] };
+      values = refl;
+      locals = refl;
+      labels = refl;
+      callers_are = record { values = refl; locals = refl; labels = refl };
+    },
+  );
   results = is.type.results;
   typed = typed_opening tree linked function start is;
 })

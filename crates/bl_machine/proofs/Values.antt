@@ -219,4 +219,3 @@ module _ (tree : Tree) where
       subst (λ value. Then (running (with_global x value (popped m))) (set_global x v (with_values vs state))) (sym t)
       (knowing (slice_get state.store.globals x) (λ old. go (record (with_values vs state) { store = record state.store { globals = set state.store.globals x v } }))
       (running (with_global x v (popped m))) (λ old got has. globaled (popped m) (with_values vs state) below x v)))
-

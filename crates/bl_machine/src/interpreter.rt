@@ -18,7 +18,13 @@ use std::alloc::Global;
 /// The outcome of a function's run from a start within so many steps of the reduction rules (WebAssembly 1.0, section
 /// 4); Spent where there is none. The tree has neither memories nor tables. Linear in the tree and in the steps; the
 /// memory that it takes doesn't grow with the steps.
-pub fn interp(alloc: Global, tree: &Linked, function: u32, start: &Start, steps: u64) -> Result<Run, NoMemory>
+pub fn interp(
+    alloc: Global,
+    tree: &Linked,
+    function: u32,
+    start: &Start,
+    steps: u64,
+) -> Result<Run, NoMemory>
     requires start { IsStart tree.now function start.now }
     requires memories { tree.now.memories ≡ [] }
     requires tables { tree.now.tables ≡ [] }

@@ -15,6 +15,7 @@ use std::test::Fail;
 
 /// A run's end as a number: the result where it is one, 2^40 and the number of a trap, 2^41 where it hasn't ended.
 const TRAP: u64 = 0x100_0000_0000;
+
 const SPENT: u64 = 0x200_0000_0000;
 
 fn function(alloc: Global, items: Vec<Instr>) -> Result<Function, NoMemory> {
@@ -85,7 +86,11 @@ fn end_of(alloc: Global, items: Vec<Instr>, argument: u64, steps: u64) -> Result
 fn a_sum_wraps_after_five_steps(rt: HostRuntime) -> Result<(), Fail> {
     let a = rt.alloc();
     for (argument, steps, end) in [(4_294_967_295, 5, 0), (4_294_967_295, 4, SPENT), (6, 9, 7)] {
-        let items = vec![in a; Instr::LocalGet(0), Instr::I32Const(1), Instr::Integer(Op::I32Add)]?;
+        let items = vec![in a;
+            Instr::LocalGet(0),
+            Instr::I32Const(1),
+            Instr::Integer(Op::I32Add),
+        ]?;
         assert_eq!(rt; end_of(a, items, argument, steps)?, end);
     }
     Ok(())
@@ -110,8 +115,17 @@ fn quotients_trap(rt: HostRuntime) -> Result<(), Fail> {
 fn calls_are_1024_deep_at_most(rt: HostRuntime) -> Result<(), Fail> {
     let a = rt.alloc();
     for (argument, end) in [(0, 7), (1_023, 7), (1_024, TRAP + 7)] {
-        let items = vec![in a; Instr::LocalGet(0), Instr::If(None), Instr::LocalGet(0), Instr::I32Const(1),
-            Instr::Integer(Op::I32Sub), Instr::Call(0), Instr::Drop, Instr::End, Instr::I32Const(7)]?;
+        let items = vec![in a;
+            Instr::LocalGet(0),
+            Instr::If(None),
+            Instr::LocalGet(0),
+            Instr::I32Const(1),
+            Instr::Integer(Op::I32Sub),
+            Instr::Call(0),
+            Instr::Drop,
+            Instr::End,
+            Instr::I32Const(7),
+        ]?;
         assert_eq!(rt; end_of(a, items, argument, 20_000)?, end);
     }
     Ok(())
@@ -119,10 +133,25 @@ fn calls_are_1024_deep_at_most(rt: HostRuntime) -> Result<(), Fail> {
 
 /// Adds up the numbers to the argument.
 fn adding(alloc: Global) -> Result<Vec<Instr>, NoMemory> {
-    Ok(vec![in alloc; Instr::Block(None), Instr::Loop(None), Instr::LocalGet(0), Instr::Integer(Op::I32Eqz),
-        Instr::BrIf(1), Instr::LocalGet(1), Instr::LocalGet(0), Instr::Integer(Op::I32Add), Instr::LocalSet(1),
-        Instr::LocalGet(0), Instr::I32Const(1), Instr::Integer(Op::I32Sub), Instr::LocalSet(0), Instr::Br(0),
-        Instr::End, Instr::End, Instr::LocalGet(1)]?)
+    Ok(vec![in alloc;
+        Instr::Block(None),
+        Instr::Loop(None),
+        Instr::LocalGet(0),
+        Instr::Integer(Op::I32Eqz),
+        Instr::BrIf(1),
+        Instr::LocalGet(1),
+        Instr::LocalGet(0),
+        Instr::Integer(Op::I32Add),
+        Instr::LocalSet(1),
+        Instr::LocalGet(0),
+        Instr::I32Const(1),
+        Instr::Integer(Op::I32Sub),
+        Instr::LocalSet(0),
+        Instr::Br(0),
+        Instr::End,
+        Instr::End,
+        Instr::LocalGet(1),
+    ]?)
 }
 
 #[test]
@@ -140,10 +169,24 @@ fn branching(alloc: Global) -> Result<Vec<Instr>, NoMemory> {
     labels.push(0)?;
     labels.push(1)?;
     let kind = Some(WasmType::I32);
-    Ok(vec![in alloc; Instr::Block(kind), Instr::Block(kind), Instr::Block(kind), Instr::I32Const(40), Instr::LocalGet(0),
-        Instr::BrTable { labels, default: 2 }, Instr::Unreachable, Instr::End, Instr::I32Const(1),
-        Instr::Integer(Op::I32Add), Instr::End, Instr::I32Const(2), Instr::Integer(Op::I32Add), Instr::End,
-        Instr::I32Const(4), Instr::Integer(Op::I32Add)]?)
+    Ok(vec![in alloc;
+        Instr::Block(kind),
+        Instr::Block(kind),
+        Instr::Block(kind),
+        Instr::I32Const(40),
+        Instr::LocalGet(0),
+        Instr::BrTable { labels, default: 2 },
+        Instr::Unreachable,
+        Instr::End,
+        Instr::I32Const(1),
+        Instr::Integer(Op::I32Add),
+        Instr::End,
+        Instr::I32Const(2),
+        Instr::Integer(Op::I32Add),
+        Instr::End,
+        Instr::I32Const(4),
+        Instr::Integer(Op::I32Add),
+    ]?)
 }
 
 #[test]
@@ -158,9 +201,23 @@ fn tables_choose_labels(rt: HostRuntime) -> Result<(), Fail> {
 /// 9 less a number of either part, over a value that a branch leaves behind.
 fn choosing(alloc: Global) -> Result<Vec<Instr>, NoMemory> {
     let kind = Some(WasmType::I32);
-    Ok(vec![in alloc; Instr::I32Const(9), Instr::LocalGet(0), Instr::If(kind), Instr::Block(None), Instr::End,
-        Instr::I32Const(3), Instr::Else, Instr::Block(None), Instr::I32Const(8), Instr::I32Const(4), Instr::Br(1),
-        Instr::End, Instr::I32Const(5), Instr::End, Instr::Integer(Op::I32Sub)]?)
+    Ok(vec![in alloc;
+        Instr::I32Const(9),
+        Instr::LocalGet(0),
+        Instr::If(kind),
+        Instr::Block(None),
+        Instr::End,
+        Instr::I32Const(3),
+        Instr::Else,
+        Instr::Block(None),
+        Instr::I32Const(8),
+        Instr::I32Const(4),
+        Instr::Br(1),
+        Instr::End,
+        Instr::I32Const(5),
+        Instr::End,
+        Instr::Integer(Op::I32Sub),
+    ]?)
 }
 
 #[test]
