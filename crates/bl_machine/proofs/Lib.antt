@@ -1,0 +1,13 @@
+pub mod Blocks
+pub mod Calling
+pub mod Counting
+pub mod Driving
+pub mod Jumping
+pub mod Landing
+pub mod Leaving
+pub mod Operators
+pub mod Piles
+pub mod Simulation
+pub mod Smallest
+pub mod Typed
+pub mod Values

@@ -1,0 +1,107 @@
+-- What a typing says of the values that an item takes: they are there.
+use Rattle.std.proofs.Common.{◌≡◌, ℕ, zero, suc, ◌+◌, ◌≤◌, ◌<◌, List, [], ◌∷◌, ◌++◌, length, map, reverse, drop, replicate, Option, Some, None, slice_get, ◌⊎◌, inl, inr, refl, sym, ap, ◌∙◌, subst, arith, length-append}
+use Rattle.std.specs.Prelude.{IfSome, option_and_then, unwrap_or}
+use Rattle.std.specs.List.{All, AllZip}
+use Rattle.std.proofs.lemmas.List.{length-map, length-reverse, length-replicate}
+use Rattle.std.proofs.lemmas.List.Elements.{All-drop, All-get_or}
+use Rattle.bl_ops.specs.Table.{row_of}
+use Rattle.bl_ops.specs.declared.op.Op.{Op}
+use Rattle.bl_ops.specs.declared.op.OpRow.{OpRow}
+use Rattle.bl_wasm.specs.Linked.{IsLinked, IsFunction, context, function_type, seen}
+use Rattle.bl_wasm.specs.Typing.{block, loop, first_part, second_part, Label, Context, Open, Arrow, Leaves, HasType, Plain, integer, labels, of_result, taken_by}
+use Rattle.bl_wasm.specs.declared.instruction.Instr.{Instr}
+use Rattle.bl_wasm.specs.declared.types.FuncType.{FuncType}
+use Rattle.bl_wasm.specs.declared.types.WasmType.{WasmType}
+use Rattle.bl_wasm.specs.declared.types.WasmType.TheVariants.{I32}
+use Rattle.bl_wasm.specs.declared.linked.Signature.{Signature}
+use Rattle.bl_wasm.specs.declared.linked.Function.{Function}
+use Rattle.bl_wasm.specs.declared.linked.Tree.{Tree}
+use Rattle.bl_reduce.specs.Calls.{type_of}
+use Rattle.bl_reduce.specs.Configurations.{State, with_values}
+use Rattle.bl_reduce.specs.TypedConfigurations.{IsValue, AreLabels}
+use Rattle.bl_reduce.proofs.ControlItems.{ToLabel, OutOfAll, find_label}
+use Rattle.bl_reduce.proofs.Zips.{some_same, zip_length, mapped_get, all_get}
+use Rattle.bl_machine.proofs.Leaving.{Branches}
+use Rattle.bl_machine.proofs.Piles.{Carries}
+
+-- values of these types
+abbrev pub Typed : List WasmType → List ℕ → Type 0
+Typed types values = AllZip IsValue (reverse types) values
+
+pub enough : (stack lower types : List WasmType) (values : List ℕ) → stack ≡ lower ++ types → Typed stack values → length types ≤ length values
+enough stack lower types values e h =
+    let n = zip_length IsValue (reverse stack) values h in
+    omega (arith, n, length-reverse stack, ap length e, length-append lower types)
+
+-- the same of the values below one that is taken off
+pub enough_below : (stack lower types : List WasmType) (v : ℕ) (vs values : List ℕ) → stack ≡ lower ++ (types ++ I32 ∷ []) → Typed stack values → values ≡ v ∷ vs → length types ≤ length vs
+enough_below stack lower types v vs values e h f =
+    let n = enough stack lower (types ++ I32 ∷ []) values e h in
+    omega (arith, n, length-append types (I32 ∷ []), ap length f)
+
+few_of : (result : Option WasmType) → length (of_result result) ≤ 1
+few_of None = omega arith
+few_of (Some type) = omega arith
+
+few_taken : (label : Label) → length (taken_by label) ≤ 1
+few_taken (block result) = few_of result
+few_taken (loop result) = omega arith
+few_taken (first_part result) = few_of result
+few_taken (second_part result) = few_of result
+
+pub chosen : (P : ℕ → Type 0) (ls : List ℕ) (default index : ℕ) → All P (ls ++ default ∷ []) → P (unwrap_or (slice_get ls index) default)
+chosen P [] default index h = All-get_or P (default ∷ []) 0 0 (omega arith) h
+chosen P (l ∷ ls) default zero h = All-get_or P (l ∷ ls ++ default ∷ []) 0 0 (omega arith) h
+chosen P (l ∷ ls) default (suc index) h = chosen P ls default index (All-drop P 1 (l ∷ ls ++ default ∷ []) h)
+
+-- no memory or table of a function where the tree has none
+pub none_seen : {A : Type 0} (o : Option ℕ) (xs : List A) → xs ≡ [] → IfSome o (λ number. number < length xs) → 1 ≤ seen o → ⊥
+none_seen None xs e h le = omega (arith, le)
+none_seen (Some number) xs e h le = omega (arith, h, ap length e)
+
+module _ (tree : Tree) (linked : IsLinked tree) (type : Signature) (state : State) (exists : slice_get tree.types state.frame.function.type_index ≡ Some type)
+    (arity : state.frame.arity ≡ length type.results) where
+  abbrev c : Context
+  c = context tree type state.frame.function
+
+  few_results : length type.results ≤ 1
+  few_results = all_get (λ type. length type.results ≤ 1) tree.types state.frame.function.type_index type linked.types exists
+
+  pub returns_are_there : (stack lower : List WasmType) → stack ≡ lower ++ c.results → Typed stack state.frame.values → Carries state.frame.arity state.frame.values
+  returns_are_there stack lower e h =
+      let n = enough stack lower (map integer type.results) state.frame.values e h in
+      record { few = omega (arith, arity, few_results); there = omega (arith, arity, n, length-map type.results integer) }
+
+  pub branches_are_there : (open_ones : List Open) (l : ℕ) (types : List WasmType) (values : List ℕ) → AreLabels c state.frame.function.code.items open_ones state.frame.labels
+      → slice_get (labels c open_ones) l ≡ Some types → length types ≤ length values → Branches tree (with_values values state) (slice_get state.frame.labels l)
+  branches_are_there open_ones l types values are e room = by_kind (find_label c state.frame.function.code.items open_ones state.frame.labels l types are e)
+    where
+      by_kind : ToLabel c state.frame.function.code.items open_ones state.frame.labels l types ⊎ OutOfAll c state.frame.function.code.items state.frame.labels l types
+          → Branches tree (with_values values state) (slice_get state.frame.labels l)
+      by_kind (inl t) = subst (Branches tree (with_values values state)) (sym t.got) (record {
+        few = omega (arith, t.is.arity, few_taken t.one.label);
+        there = omega (arith, t.is.arity, ap length t.takes, room);
+      })
+      by_kind (inr o) = subst (Branches tree (with_values values state)) (sym o.got) (record {
+        few = omega (arith, arity, few_results);
+        there = omega (arith, arity, ap length o.takes, length-map type.results integer, room);
+      })
+
+  pub operands_are_there : (number : ℕ) (called : FuncType) (stack lower : List WasmType) → HasType c number called → stack ≡ lower ++ called.params → Typed stack state.frame.values
+      → (found : Signature) → type_of tree number ≡ Some found → length found.params ≤ length state.frame.values
+  operands_are_there number called stack lower has e h found got =
+      let f = mapped_get (λ function. function.type_index) tree.functions number has.0 has.1 in
+      let t = mapped_get function_type tree.types has.0 called has.2 in
+      let there : type_of tree number ≡ Some t.0 =
+      ap (option_and_then (λ function. slice_get tree.types function.type_index)) f.1 ∙ ap (slice_get tree.types) f.2 ∙ t.1 in
+      let same : found ≡ t.0 = some_same found t.0 (sym got ∙ there) in
+      let long : length called.params ≡ length found.params = ap (λ type. length type.params) (sym t.2) ∙ length-map t.0.params integer ∙ ap (λ s. length s.params) (sym same) in
+      let n = enough stack lower called.params state.frame.values e h in
+      omega (arith, n, long)
+
+  pub operator_operands : (op : Op) (row : OpRow) (kind : WasmType) (stack lower : List WasmType) → row_of op ≡ Some row → stack ≡ lower ++ replicate row.operands kind
+      → Typed stack state.frame.values → (found : OpRow) → row_of op ≡ Some found → found.operands ≤ length state.frame.values
+  operator_operands op row kind stack lower is e h found got =
+      let same : found ≡ row = some_same found row (sym got ∙ is) in
+      let n = enough stack lower (replicate row.operands kind) state.frame.values e h in
+      omega (arith, n, length-replicate row.operands kind, ap (λ r. r.operands) same)

@@ -1,0 +1,5 @@
+use Rattle.bl_machine.proofs.Driving.{Reached}
+use Rattle.bl_machine.proofs.interpreter.drive.Given as goal
+
+abbrev pub invariant-loop : goal.invariant-loop
+invariant-loop l = Reached l.tree l.function l.start l.counter l.progress l.machine

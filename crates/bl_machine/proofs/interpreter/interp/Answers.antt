@@ -1,0 +1,10 @@
+use Rattle.std.proofs.Common.{◌≡◌, subst}
+use Rattle.bl_wasm.specs.declared.linked.Tree.{Tree}
+use Rattle.bl_machine.specs.Interpreting.{Answers, Drives, run_of}
+use Rattle.bl_machine.proofs.Driving.{answers}
+use Rattle.bl_machine.proofs.interpreter.interp.Goals as goal
+
+pub returns : goal.returns
+returns c = rw c.finish.ensures
+    (answers c.args.tree.now c.args.function c.args.start.now c.args.steps c.in_ok-progress.progress c.drive.new.machine c.requires.start
+    (rw c.tree-tree.ensures.same at c.in_ok-progress.ensures))

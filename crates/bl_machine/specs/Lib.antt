@@ -1,0 +1,7 @@
+pub mod Bodies
+pub mod Interpreting
+pub mod Jumps
+pub mod Machines
+pub mod Matching
+pub mod Moves
+pub mod Shortest

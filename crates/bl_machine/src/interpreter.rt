@@ -1,0 +1,132 @@
+//! Runs of linked trees.
+ghost use Rattle.std.specs.Prelude.{◌≡◌, ℕ, [], IfOk, IsTrue, map};
+ghost use Rattle.bl_wasm.specs.Linked.{IsLinked};
+ghost use Rattle.bl_reduce.specs.Outcomes.{IsStart};
+ghost use Rattle.bl_machine.specs.Bodies.{body_of};
+ghost use Rattle.bl_machine.specs.Interpreting.{Answers, Drives, has_ended, run_of, starting};
+ghost use Rattle.bl_machine.specs.Machines.{Gives};
+ghost use Rattle.bl_machine.specs.Moves.{advanced};
+
+use crate::body::{Body, bodies};
+use crate::items::{enter, step_in};
+use crate::machine::{Activation, Machine, Progress};
+use crate::stack::Stack;
+use bl_base::{List, NoMemory, Run, Start};
+use bl_wasm::{Function, Linked, Tree};
+use std::alloc::Global;
+
+/// The outcome of a function's run from a start within so many steps of the reduction rules (WebAssembly 1.0, section
+/// 4); Spent where there is none. The tree has neither memories nor tables. Linear in the tree and in the steps; the
+/// memory that it takes doesn't grow with the steps.
+pub fn interp(
+    alloc: Global,
+    tree: &Linked,
+    function: u32,
+    start: &Start,
+    steps: u64,
+) -> Result<Run, NoMemory>
+    requires start { IsStart tree.now function start.now }
+    requires memories { tree.now.memories ≡ [] }
+    requires tables { tree.now.tables ≡ [] }
+    ensures { IfOk result (λ run. Answers tree.now function start.now steps run) }
+{
+    let tree = tree.tree();
+    let bodies = bodies(alloc, tree)?;
+    let mut machine = begin(alloc, tree, start)?;
+    let progress = drive(&mut machine, tree, &bodies, function, start, steps)?;
+    Ok(finish(alloc, machine, progress))
+}
+
+/// The machine before the first step: the arguments are its locals.
+pub fn begin(alloc: Global, tree: &Tree, start: &Start) -> Result<Machine, NoMemory>
+    ensures { IfOk result (λ machine. machine ≡ starting tree.now start.now) }
+{
+    let mut locals = Stack::new(alloc);
+    locals.push_all(start.args.as_slice())?;
+    let mut globals = Stack::new(alloc);
+    for global in tree.globals.as_slice() {
+        globals.push(global.first)?;
+    }
+    Ok(Machine {
+        stack: Stack::new(alloc),
+        locals,
+        labels: Stack::new(alloc),
+        current: Activation {
+            function: 0,
+            place: 0,
+            arity: 0,
+            locals: 0,
+            labels: 0,
+            values: 0,
+        },
+        callers: Stack::new(alloc),
+        globals,
+    })
+}
+
+/// So many steps from the entering of a function, or fewer where the run ends before.
+fn drive(
+    machine: &mut Machine,
+    tree: &Tree,
+    bodies: &[Body],
+    function: u32,
+    start: &Start,
+    steps: u64,
+) -> Result<Progress, NoMemory>
+    requires linked { IsLinked tree.now }
+    requires start { IsStart tree.now function start.now }
+    requires memories { tree.now.memories ≡ [] }
+    requires tables { tree.now.tables ≡ [] }
+    requires bodies { bodies.now ≡ map (body_of tree.now) tree.now.functions }
+    requires begun { machine.old ≡ starting tree.now start.now }
+    ensures { IfOk result (λ progress. Drives tree.now function start.now steps progress machine.new) }
+{
+    let mut progress = Progress::Entering(function);
+    for _ in 0..steps {
+        progress = advance(machine, tree.functions.as_slice(), bodies, progress)?;
+        if ended(progress) {
+            return Ok(progress);
+        }
+    }
+    Ok(progress)
+}
+
+/// A step.
+pub fn advance(
+    machine: &mut Machine,
+    functions: &[Function],
+    bodies: &[Body],
+    progress: Progress,
+) -> Result<Progress, NoMemory>
+    ensures { Gives result machine.new (advanced functions.now bodies.now progress machine.old) }
+{
+    match progress {
+        Progress::Running => step_in(machine, functions, bodies),
+        Progress::Entering(number) => enter(machine, bodies, number),
+        other => Ok(other),
+    }
+}
+
+/// Whether the run has ended.
+pub fn ended(progress: Progress) -> bool
+    ensures { result ≡ has_ended progress }
+{
+    matches!(progress, Progress::Returned | Progress::Trapped(_))
+}
+
+/// The outcome of a machine that has come so far.
+fn finish(alloc: Global, machine: Machine, progress: Progress) -> Run
+    ensures { result ≡ run_of progress machine }
+{
+    match progress {
+        Progress::Returned => Run::Returned {
+            values: List::of(machine.stack.into_vec()),
+            memories: List::new(alloc),
+        },
+        Progress::Trapped(kind) => Run::Trapped {
+            kind,
+            memories: List::new(alloc),
+        },
+        _ => Run::Spent,
+    }
+}

@@ -1,0 +1,14 @@
+//! The interpreter of linked trees.
+#![tactic(auto)]
+
+mod body;
+mod interpreter;
+mod items;
+mod jumps;
+mod machine;
+mod stack;
+
+pub use interpreter::interp;
+
+#[cfg(test)]
+mod tests;

@@ -1,0 +1,267 @@
+//! The machine: one stack for each kind of thing, whose parts belong to the functions that have been entered.
+ghost use Rattle.std.specs.Prelude.{◌≡◌, OnOk, length, nat_lt};
+ghost use Rattle.bl_machine.specs.Machines.{Gives, at_place, called, closed, entered, give, global_at, label_at, local_at, most_callers, opened, popped, push, resumed, returned, running, slid, to_label, top, with_global, with_local};
+
+use crate::body::Body;
+use crate::stack::Stack;
+use bl_base::{NoMemory, Trap};
+
+/// The most functions that wait for one that they called.
+const MOST_CALLERS: usize = 1_023;
+
+/// A block, loop or if that was entered.
+#[derive(Clone, Copy, Debug)]
+pub struct Exit {
+    /// How many values a branch to it takes.
+    pub arity: usize,
+    /// The place of the item that is executed after such a branch.
+    pub place: usize,
+    /// How many values lie below it on the stack.
+    pub height: usize,
+}
+
+/// A function that was entered.
+#[derive(Clone, Copy, Debug)]
+pub struct Activation {
+    /// Its number.
+    pub function: u32,
+    /// The place of its next item.
+    pub place: usize,
+    /// How many values it returns.
+    pub arity: usize,
+    /// How many locals belong to its callers.
+    pub locals: usize,
+    /// How many labels belong to its callers.
+    pub labels: usize,
+    /// How many values lie below it on the stack.
+    pub values: usize,
+}
+
+/// What a step has led to.
+#[derive(Clone, Copy, Debug)]
+pub enum Progress {
+    /// The function goes on.
+    Running,
+    /// The function of that number is entered next; its arguments are the topmost locals.
+    Entering(u32),
+    /// The outermost function has returned; its results are on the stack.
+    Returned,
+    /// The run has trapped.
+    Trapped(Trap),
+}
+
+/// A run between two steps.
+#[derive(Debug, Drop)]
+pub struct Machine {
+    /// The values of all functions that were entered.
+    pub stack: Stack<u64>,
+    /// Their locals, of each in order.
+    pub locals: Stack<u64>,
+    /// Their labels.
+    pub labels: Stack<Exit>,
+    /// The function that executes.
+    pub current: Activation,
+    /// Those that called, the innermost on top.
+    pub callers: Stack<Activation>,
+    /// The values of the globals.
+    pub globals: Stack<u64>,
+}
+
+impl Machine {
+    // ---- values
+
+    /// Takes the topmost value off the stack.
+    pub fn pop(&mut self) -> u64
+        ensures value { result ≡ top self.old }
+        ensures after { self.new ≡ popped self.old }
+    {
+        let value = self.stack.top(0);
+        self.stack.drop_top();
+        value
+    }
+
+    /// The topmost value.
+    pub fn topmost(&self) -> u64
+        ensures { result ≡ top self.now }
+    {
+        self.stack.top(0)
+    }
+
+    /// Puts a value on the stack.
+    pub fn push(&mut self, value: u64) -> Result<Progress, NoMemory>
+        ensures { Gives result self.new (push value self.old) }
+    {
+        self.stack.push(value)?;
+        Ok(Progress::Running)
+    }
+
+    /// Traps where there is a trap, else puts the value on the stack.
+    pub fn give(&mut self, trap: Option<Trap>, value: u64) -> Result<Progress, NoMemory>
+        ensures { Gives result self.new (give trap value self.old) }
+    {
+        match trap {
+            Some(kind) => Ok(Progress::Trapped(kind)),
+            None => self.push(value),
+        }
+    }
+
+    // ---- locals and globals
+
+    /// The value of a local of the function.
+    pub fn local(&self, x: u32) -> u64
+        ensures { result ≡ local_at x self.now }
+    {
+        self.locals.above(self.current.locals, x as usize, 0)
+    }
+
+    /// Changes a local of the function.
+    pub fn set_local(&mut self, x: u32, value: u64)
+        ensures { self.new ≡ with_local x value self.old }
+    {
+        self.locals
+            .put_above(self.current.locals, x as usize, value);
+    }
+
+    /// The value of a global.
+    pub fn global(&self, x: u32) -> u64
+        ensures { result ≡ global_at x self.now }
+    {
+        self.globals.at(x as usize, 0)
+    }
+
+    /// Changes a global.
+    pub fn set_global(&mut self, x: u32, value: u64)
+        ensures { self.new ≡ with_global x value self.old }
+    {
+        self.globals.put(x as usize, value);
+    }
+
+    // ---- labels
+
+    /// Goes on at a place.
+    pub fn go_to(&mut self, place: usize)
+        ensures { self.new ≡ at_place place self.old }
+    {
+        self.current.place = place;
+    }
+
+    /// Enters a block, loop or if.
+    pub fn open(&mut self, arity: usize, place: usize) -> Result<(), NoMemory>
+        ensures { OnOk result (self.new ≡ opened arity place self.old) }
+    {
+        self.labels.push(Exit {
+            arity,
+            place,
+            height: self.stack.len(),
+        })
+    }
+
+    /// The label of that number, 0 for the innermost, with its height; None from the function's own on.
+    pub fn label(&self, l: u32) -> Option<(Exit, usize)>
+        ensures { result ≡ label_at l self.now }
+    {
+        let l = l as usize;
+        let count = self.labels.len();
+        if l >= count.saturating_sub(self.current.labels) {
+            return None;
+        }
+        let height = count - 1 - l;
+        let none = Exit {
+            arity: 0,
+            place: 0,
+            height: 0,
+        };
+        Some((self.labels.at(height, none), height))
+    }
+
+    /// Leaves the innermost block, loop or if.
+    pub fn close(&mut self)
+        ensures { self.new ≡ closed self.old }
+    {
+        self.labels.drop_top();
+    }
+
+    /// Takes the values off down to that height, and keeps the topmost one unless the arity is 0.
+    fn slide(&mut self, height: usize, arity: usize) -> Result<(), NoMemory>
+        ensures { OnOk result (self.new ≡ slid height arity self.old) }
+    {
+        if arity == 0 {
+            self.stack.cut(height);
+            return Ok(());
+        }
+        let value = self.stack.top(0);
+        self.stack.cut(height);
+        self.stack.push(value)
+    }
+
+    /// Branches to a label, which lies at that height.
+    pub fn branch_to(&mut self, exit: Exit, height: usize) -> Result<Progress, NoMemory>
+        ensures { Gives result self.new (running (to_label exit height self.old)) }
+    {
+        self.labels.cut(height);
+        self.slide(exit.height, exit.arity)?;
+        self.go_to(exit.place);
+        Ok(Progress::Running)
+    }
+
+    // ---- functions
+
+    /// Returns from the function.
+    pub fn leave(&mut self) -> Result<Progress, NoMemory>
+        ensures { Gives result self.new (returned self.old) }
+    {
+        self.locals.cut(self.current.locals);
+        self.labels.cut(self.current.labels);
+        self.slide(self.current.values, self.current.arity)?;
+        Ok(self.resume())
+    }
+
+    /// Goes on in the innermost caller, where there is one.
+    fn resume(&mut self) -> Progress
+        ensures { resumed self.old ≡ record { progress = result; machine = self.new } }
+    {
+        if self.callers.len() == 0 {
+            return Progress::Returned;
+        }
+        self.current = self.callers.top(self.current);
+        self.callers.drop_top();
+        Progress::Running
+    }
+
+    /// Whether a function more may be entered.
+    pub fn may_call(&self) -> bool
+        ensures { result ≡ nat_lt (length self.now.callers) most_callers }
+    {
+        self.callers.len() < MOST_CALLERS
+    }
+
+    /// Begins a call of the function of that number, which takes so many arguments.
+    pub fn call(&mut self, number: u32, params: usize) -> Result<Progress, NoMemory>
+        ensures { Gives result self.new (called number params self.old) }
+    {
+        let first = self.stack.len().saturating_sub(params);
+        self.locals.push_all(self.stack.from(first))?;
+        self.stack.cut(first);
+        self.callers.push(self.current)?;
+        Ok(Progress::Entering(number))
+    }
+
+    /// Enters the function of that number, whose arguments are the topmost locals.
+    pub fn enter(&mut self, number: u32, body: &Body) -> Result<Progress, NoMemory>
+        ensures { Gives result self.new (entered number body.now self.old) }
+    {
+        let locals = self.locals.len().saturating_sub(body.params);
+        for _ in 0..body.zeros {
+            self.locals.push(0)?;
+        }
+        self.current = Activation {
+            function: number,
+            place: 0,
+            arity: body.arity,
+            locals,
+            labels: self.labels.len(),
+            values: self.stack.len(),
+        };
+        Ok(Progress::Running)
+    }
+}
