@@ -1,17 +1,16 @@
 -- The machine follows the items that open, part and close constructs.
-use Rattle.std.proofs.Common.{◌≡◌, ℕ, zero, suc, ◌+◌, ◌-◌, ◌≤◌, Bool, true, false, List, [], ◌∷◌, ◌++◌, length, reverse, take, drop, Option, Some, None, refl, sym, ap, ◌∙◌, subst, arith, append_assoc, length-append}
+use Rattle.std.proofs.Common.{◌≡◌, ℕ, ◌+◌, ◌-◌, Bool, true, false, List, [], ◌∷◌, ◌++◌, length, reverse, take, drop, Option, refl, sym, ap, ◌∙◌, subst, append_assoc, length-append}
 use Rattle.std.specs.Prelude.{◌==◌, if◌then◌else◌}
 use Rattle.std.proofs.lemmas.List.{length-reverse}
-use Rattle.bl_base.specs.Runs.{Next, HasStep}
-use Rattle.bl_wasm.specs.Typing.{of_result}
+use Rattle.bl_base.specs.Runs.{Next}
 use Rattle.bl_wasm.specs.declared.instruction.Instr.{Instr}
 use Rattle.bl_wasm.specs.declared.instruction.Instr.TheVariants.{Loop}
 use Rattle.bl_wasm.specs.declared.types.WasmType.{WasmType}
 use Rattle.bl_wasm.specs.declared.linked.Tree.{Tree}
-use Rattle.bl_reduce.specs.Configurations.{Label, State, Config, go, with_values}
-use Rattle.bl_reduce.specs.Control.{behind_end, second_part, enter_with, enter_block, enter_loop, enter_if, leave_label, reach_end, reach_else}
-use Rattle.bl_machine.specs.Machines.{Stepped, running, top, popped, at_place, opened, closed}
-use Rattle.bl_machine.specs.Matching.{under, values_of, IsExit, AreExits, IsActivation, IsState, Follows}
+use Rattle.bl_reduce.specs.Configurations.{Label, State, Config, with_values}
+use Rattle.bl_reduce.specs.Control.{behind_end, second_part, enter_block, enter_loop, enter_if, leave_label, reach_end, reach_else}
+use Rattle.bl_machine.specs.Machines.{Stepped, running, popped, at_place, opened, closed}
+use Rattle.bl_machine.specs.Matching.{under, values_of, IsExit, AreExits, IsState}
 use Rattle.bl_machine.specs.Moves.{arity_of, chosen_part}
 use Rattle.bl_machine.specs.declared.jumps.Jump.{Jump}
 use Rattle.bl_machine.specs.declared.machine.Exit.{Exit}

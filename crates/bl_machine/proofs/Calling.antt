@@ -1,26 +1,23 @@
 -- The machine follows calls and the entering of functions.
-use Rattle.std.proofs.Common.{◌≡◌, ℕ, suc, ◌+◌, ◌-◌, ◌≤◌, ◌<◌, Bool, true, false, List, [], ◌∷◌, ◌++◌, length, map, reverse, take, drop, replicate, Option, Some, None, slice_get, refl, sym, ap, ◌∙◌, subst, arith, append_assoc, append-nil, length-append}
+use Rattle.std.proofs.Common.{◌≡◌, ℕ, suc, ◌-◌, ◌≤◌, Bool, true, false, List, [], ◌∷◌, ◌++◌, length, map, reverse, take, drop, replicate, Option, Some, None, slice_get, refl, sym, ap, ◌∙◌, subst, arith, append_assoc, append-nil, length-append}
 use Rattle.std.specs.Prelude.{nat_lt, option_and_then, option_map, if◌then◌else◌}
-use Rattle.std.specs.List.{AllZip}
 use Rattle.std.proofs.lemmas.Bool.{lt-ltb, le-ltb, ltb-true, ltb-false}
 use Rattle.std.proofs.lemmas.List.{length-reverse, length-take, reverse-append, take-append-drop}
 use Rattle.std.proofs.lemmas.Option.{slice_get-map}
 use Rattle.bl_base.specs.Fits.{ArgumentFits}
-use Rattle.bl_base.specs.Runs.{Next, goes, stuck, HasStep, trapped as trapped_with}
+use Rattle.bl_base.specs.Runs.{goes, trapped as trapped_with}
 use Rattle.bl_base.specs.declared.names.ValueType.{ValueType}
 use Rattle.bl_base.specs.declared.trap.Trap.TheVariants as trap_kind
-use Rattle.bl_wasm.specs.Linked.{IsLinked}
-use Rattle.bl_wasm.specs.Validity.{locals_of}
 use Rattle.bl_wasm.specs.declared.linked.Signature.{Signature}
 use Rattle.bl_wasm.specs.declared.linked.Function.{Function}
 use Rattle.bl_wasm.specs.declared.linked.Tree.{Tree}
 use Rattle.bl_reduce.specs.Calls.{most_depth, depth, type_of, operands, caller, call_at, call, entered as entered_frame, enter}
-use Rattle.bl_reduce.specs.Configurations.{Store, Frame, State, Config, entering, running as running_with, go, known, trap}
+use Rattle.bl_reduce.specs.Configurations.{Store, Frame, State, entering, go, known, trap}
 use Rattle.bl_reduce.specs.TypedConfigurations.{IsEntering}
 use Rattle.bl_reduce.proofs.Zips.{zip_length}
 use Rattle.bl_machine.specs.Bodies.{body_of, params_of}
-use Rattle.bl_machine.specs.Machines.{Stepped, running, trapped, most_callers, called, entered}
-use Rattle.bl_machine.specs.Matching.{Pile, under, values_of, IsActivation, AreActivations, IsState, IsEntry, Follows}
+use Rattle.bl_machine.specs.Machines.{trapped, most_callers, called, entered}
+use Rattle.bl_machine.specs.Matching.{Pile, under, AreActivations, IsState, IsEntry, Follows}
 use Rattle.bl_machine.specs.Moves.{call_of, entered_at}
 use Rattle.bl_machine.specs.declared.body.Body.{Body}
 use Rattle.bl_machine.specs.declared.machine.Activation.{Activation}

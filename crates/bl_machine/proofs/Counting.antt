@@ -1,6 +1,6 @@
 -- How many locals the runs of a function are.
-use Rattle.std.proofs.Common.{◌≡◌, ℕ, ◌+◌, ◌≤◌, List, [], ◌∷◌, length, replicate, refl, sym, ap, ◌∙◌, arith, length-append, map, sum_by}
-use Rattle.std.proofs.lemmas.List.{length-map, length-replicate}
+use Rattle.std.proofs.Common.{◌≡◌, ◌≤◌, List, length, replicate, ◌∙◌, arith, length-append, map, sum_by}
+use Rattle.std.proofs.lemmas.List.{length-replicate}
 use Rattle.std.proofs.lemmas.List.Concat.{length-flat_map}
 use Rattle.bl_wasm.specs.Linked.{IsFunction}
 use Rattle.bl_wasm.specs.Typing.{integer}

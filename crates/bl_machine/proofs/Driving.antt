@@ -1,7 +1,7 @@
 -- Runs of the machine, from the steps that it follows.
-use Rattle.std.proofs.Common.{◌≡◌, ℕ, ◌+◌, ◌≤◌, ◌<◌, true, false, List, [], ◌∷◌, map, refl, sym, ap, ◌∙◌, subst, arith}
+use Rattle.std.proofs.Common.{◌≡◌, ℕ, ◌+◌, ◌≤◌, true, false, List, [], ◌∷◌, map, refl, sym, ap, ◌∙◌, subst, arith}
 use Rattle.std.specs.List.{fold}
-use Rattle.bl_base.specs.Runs.{MemoryState, Outcome, returned, trapped, Next, goes, ends, stuck, Comes, EndsAfter, last}
+use Rattle.bl_base.specs.Runs.{Outcome, returned, trapped, Next, goes, ends, Comes, EndsAfter, last}
 use Rattle.bl_base.specs.declared.names.ValueType.{ValueType}
 use Rattle.bl_base.specs.declared.start.Patch.{Patch}
 use Rattle.bl_base.specs.declared.start.Start.{Start}
@@ -9,15 +9,15 @@ use Rattle.bl_base.proofs.RunLemmas.{comes_then, comes_to_end, run_after, run_po
 use Rattle.bl_wasm.specs.Linked.{IsLinked}
 use Rattle.bl_wasm.specs.declared.linked.Memory.{Memory}
 use Rattle.bl_wasm.specs.declared.linked.Tree.{Tree}
-use Rattle.bl_reduce.specs.Configurations.{Config, entering}
-use Rattle.bl_reduce.specs.Outcomes.{first_memory, patched, first_store, opening, IsStart, source}
+use Rattle.bl_reduce.specs.Configurations.{Config}
+use Rattle.bl_reduce.specs.Outcomes.{first_memory, patched, opening, IsStart, source}
 use Rattle.bl_reduce.specs.Steps.{source_step}
 use Rattle.bl_reduce.specs.TypedConfigurations.{IsTyped, IsTypedStep}
 use Rattle.bl_reduce.proofs.Soundness.{typed_opening, typed_step}
 use Rattle.bl_machine.specs.Bodies.{body_of}
 use Rattle.bl_machine.specs.Interpreting.{Answers, Drives, has_ended, run_of, starting}
 use Rattle.bl_machine.specs.Machines.{Stepped}
-use Rattle.bl_machine.specs.Matching.{IsEntry, Matches, Follows, Leads}
+use Rattle.bl_machine.specs.Matching.{Matches, Leads}
 use Rattle.bl_machine.specs.Moves.{advanced}
 use Rattle.bl_machine.specs.declared.machine.Machine.{Machine}
 use Rattle.bl_machine.specs.declared.machine.Progress.{Progress}

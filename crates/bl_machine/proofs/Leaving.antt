@@ -1,19 +1,19 @@
 -- The machine follows branches and returns.
-use Rattle.std.proofs.Common.{◌≡◌, ℕ, zero, suc, ◌+◌, ◌-◌, ◌≤◌, ◌<◌, Bool, true, false, List, [], ◌∷◌, ◌++◌, length, reverse, take, drop, get_or, Option, Some, None, slice_get, refl, sym, ap, ◌∙◌, subst, arith, append_assoc, append-nil, length-append}
+use Rattle.std.proofs.Common.{◌≡◌, ℕ, zero, suc, ◌+◌, ◌-◌, ◌≤◌, Bool, true, false, List, [], ◌∷◌, ◌++◌, length, reverse, take, drop, get_or, Option, Some, None, slice_get, refl, sym, ap, ◌∙◌, subst, arith, append_assoc, length-append}
 use Rattle.std.specs.Prelude.{◌==◌, nat_lt, if◌then◌else◌, unwrap_or}
 use Rattle.std.proofs.lemmas.Bool.{lt-ltb, le-ltb}
 use Rattle.std.proofs.lemmas.List.{length-reverse, reverse-append, reverse-reverse}
 use Rattle.std.proofs.lemmas.Option.{none-some}
 use Rattle.std.proofs.Math.Dec.{eqb-suc-zero}
 use Rattle.std.proofs.Math.Seq.{take-append_seam, get_or-append_seam}
-use Rattle.bl_base.specs.Runs.{Next, stuck, HasStep, returned as returned_with}
+use Rattle.bl_base.specs.Runs.{stuck, returned as returned_with}
 use Rattle.bl_wasm.specs.declared.instruction.Instr.{Instr}
 use Rattle.bl_wasm.specs.declared.linked.Tree.{Tree}
-use Rattle.bl_reduce.specs.Configurations.{Store, Label, Frame, State, Config, go, with_values}
+use Rattle.bl_reduce.specs.Configurations.{Label, Frame, State, go, with_values}
 use Rattle.bl_reduce.specs.Control.{branch_to, branch, branch_if, branch_by}
 use Rattle.bl_reduce.specs.Returns.{return_to, return}
-use Rattle.bl_machine.specs.Machines.{Stepped, running, top, popped, slid, at_place, label_count, label_at, no_exit, to_label, left, resumed, returned}
-use Rattle.bl_machine.specs.Matching.{Pile, under, values_of, IsExit, AreExits, IsActivation, IsBare, AreActivations, IsState, Follows}
+use Rattle.bl_machine.specs.Machines.{Stepped, running, popped, label_count, label_at, no_exit, to_label, left, resumed, returned}
+use Rattle.bl_machine.specs.Matching.{Pile, under, values_of, IsExit, AreExits, IsActivation, AreActivations, IsState, Follows}
 use Rattle.bl_machine.specs.Moves.{branched_to, branched, branched_if, branched_by}
 use Rattle.bl_machine.specs.declared.machine.Exit.{Exit}
 use Rattle.bl_machine.specs.declared.machine.Activation.{Activation}
@@ -86,9 +86,6 @@ module _ (tree : Tree) where
   items_of state = state.frame.function.code.items
 
   module _ (m : Machine) (state : State) (is : IsState tree m state) where
-    abbrev low : Pile
-    low = is.lower
-
     -- ---- a branch within the function
 
     module _ (l : ℕ) (label : Label) (got : slice_get state.frame.labels l ≡ Some label) where

@@ -1,7 +1,5 @@
 -- Every operator has one operand or two.
-use Rattle.std.proofs.Common.{◌≡◌, ℕ, ◌≤◌, ◌⊎◌, inl, inr, List, length, take, drop, Option, Some, None, refl, sym, ap, ◌∙◌, subst, arith}
-use Rattle.std.proofs.lemmas.Option.{none-some}
-use Rattle.bl_base.specs.Runs.{HasStep}
+use Rattle.std.proofs.Common.{◌≡◌, ℕ, ◌≤◌, ◌⊎◌, inl, inr, length, take, drop, Option, Some, None, refl, sym, subst, arith}
 use Rattle.bl_ops.specs.Table.{row_of}
 use Rattle.bl_ops.specs.declared.op.Op.{Op}
 use Rattle.bl_ops.specs.declared.op.Op.TheVariants.{I32Eqz, I64Eqz, I32Clz, I32Ctz, I32Popcnt, I64Clz, I64Ctz, I64Popcnt, I32WrapI64, I64ExtendI32S, I64ExtendI32U, Move, Select, Outside}
@@ -12,7 +10,7 @@ use Rattle.bl_reduce.specs.Numeric.{apply, operate}
 use Rattle.bl_machine.specs.Matching.{IsState, Follows}
 use Rattle.bl_machine.specs.Moves.{operands_of, operated_on, operated}
 use Rattle.bl_machine.specs.declared.machine.Machine.{Machine}
-use Rattle.bl_machine.proofs.Values.{Then, knowing, one_operand, two_operands}
+use Rattle.bl_machine.proofs.Values.{Then, one_operand, two_operands}
 
 abbrev OneOrTwo : Option OpRow → Type 0
 OneOrTwo None = Unit {0}

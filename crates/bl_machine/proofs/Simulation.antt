@@ -1,8 +1,7 @@
 -- The machine follows the rules.
-use Rattle.std.proofs.Common.{◌≡◌, ℕ, ◌+◌, ◌≤◌, ◌<◌, ◌^◌, List, [], ◌∷◌, ◌++◌, length, map, reverse, drop, get_or, Option, Some, None, slice_get, refl, sym, ap, ◌∙◌, subst, arith}
+use Rattle.std.proofs.Common.{◌≡◌, ℕ, ◌+◌, ◌<◌, List, [], ◌∷◌, length, drop, get_or, Some, slice_get, refl, sym, ap, ◌∙◌, subst}
 use Rattle.std.specs.Prelude.{IfSome, unwrap_or}
-use Rattle.std.specs.List.{All, AllZip}
-use Rattle.bl_base.specs.Runs.{Next, HasStep, trapped as trapped_with}
+use Rattle.bl_base.specs.Runs.{HasStep, trapped as trapped_with}
 use Rattle.bl_base.specs.declared.names.ValueType.{ValueType}
 use Rattle.bl_base.specs.declared.trap.Trap.TheVariants as trap_kind
 use Rattle.bl_wasm.specs.Linked.{IsLinked, IsFunction, context}
@@ -10,32 +9,27 @@ use Rattle.bl_wasm.specs.Typing.{Open, Rule, Plain, integer, labels}
 use Rattle.bl_wasm.specs.declared.instruction.Instr.{Instr}
 use Rattle.bl_wasm.specs.declared.instruction.Instr.TheVariants.{Unreachable, Nop, Block, Loop, If, Else, End, Br, BrIf, BrTable, Return, Call, CallIndirect, Drop, Select, LocalGet, LocalSet, LocalTee, GlobalGet, GlobalSet, Load, Store, MemorySize, MemoryGrow, I32Const, I64Const, Integer}
 use Rattle.bl_wasm.specs.declared.types.WasmType.{WasmType}
-use Rattle.bl_wasm.specs.declared.types.WasmType.TheVariants.{I32}
 use Rattle.bl_wasm.specs.declared.linked.Signature.{Signature}
-use Rattle.bl_wasm.specs.declared.linked.Function.{Function}
 use Rattle.bl_wasm.specs.declared.linked.Tree.{Tree}
-use Rattle.bl_reduce.specs.Configurations.{State, Config, entering, running, with_rest, with_values}
+use Rattle.bl_reduce.specs.Configurations.{State, Config, entering, running, with_rest}
 use Rattle.bl_reduce.specs.Steps.{execute, frame_step, source_step}
 use Rattle.bl_reduce.specs.TypedConfigurations.{IsRest, IsRunning, IsTyped, AreLabels}
 use Rattle.bl_reduce.proofs.Places.{next_place, at_last}
 use Rattle.bl_reduce.proofs.Soundness.{step_of_typed}
 use Rattle.bl_reduce.proofs.Zips.{all_get}
-use Rattle.bl_machine.specs.Bodies.{body_of}
 use Rattle.bl_machine.specs.Jumps.{jumps_of}
 use Rattle.bl_machine.specs.Machines.{at_place}
 use Rattle.bl_machine.specs.Matching.{IsState, Matches, Follows}
 use Rattle.bl_machine.specs.Moves.{moved, moved_at, moved_in, entered_at, advanced, no_jump}
-use Rattle.bl_machine.specs.declared.body.Body.{Body}
 use Rattle.bl_machine.specs.declared.jumps.Jump.{Jump}
 use Rattle.bl_machine.specs.declared.machine.Machine.{Machine}
 use Rattle.bl_machine.specs.declared.machine.Progress.{Progress}
-use Rattle.bl_machine.specs.declared.machine.Progress.TheVariants.{Running, Entering, Returned, Trapped}
+use Rattle.bl_machine.specs.declared.machine.Progress.TheVariants.{Running, Entering}
 use Rattle.bl_machine.proofs.Blocks.{block_follows, loop_follows, if_follows, else_follows, end_follows}
 use Rattle.bl_machine.proofs.Calling.{bodies, body_got, enter_follows, call_follows}
 use Rattle.bl_machine.proofs.Landing.{IsJump, behind, item_there, none_there, jump_there}
-use Rattle.bl_machine.proofs.Leaving.{Branches, branch_follows, branch_if_follows, branch_by_follows, return_follows}
+use Rattle.bl_machine.proofs.Leaving.{branch_follows, branch_if_follows, branch_by_follows, return_follows}
 use Rattle.bl_machine.proofs.Operators.{operate_follows}
-use Rattle.bl_machine.proofs.Piles.{Carries}
 use Rattle.bl_machine.proofs.Typed.{Typed, enough, enough_below, chosen, none_seen, returns_are_there, branches_are_there, operands_are_there, operator_operands}
 use Rattle.bl_machine.proofs.Values.{Then, push_follows, drop_follows, select_follows, local_get_follows, local_set_follows, local_tee_follows, global_get_follows, global_set_follows}
 

@@ -1,5 +1,5 @@
 -- What a typing says of the values that an item takes: they are there.
-use Rattle.std.proofs.Common.{◌≡◌, ℕ, zero, suc, ◌+◌, ◌≤◌, ◌<◌, List, [], ◌∷◌, ◌++◌, length, map, reverse, drop, replicate, Option, Some, None, slice_get, ◌⊎◌, inl, inr, refl, sym, ap, ◌∙◌, subst, arith, length-append}
+use Rattle.std.proofs.Common.{◌≡◌, ℕ, zero, suc, ◌≤◌, ◌<◌, List, [], ◌∷◌, ◌++◌, length, map, reverse, replicate, Option, Some, None, slice_get, ◌⊎◌, inl, inr, sym, ap, ◌∙◌, subst, arith, length-append}
 use Rattle.std.specs.Prelude.{IfSome, option_and_then, unwrap_or}
 use Rattle.std.specs.List.{All, AllZip}
 use Rattle.std.proofs.lemmas.List.{length-map, length-reverse, length-replicate}
@@ -7,14 +7,12 @@ use Rattle.std.proofs.lemmas.List.Elements.{All-drop, All-get_or}
 use Rattle.bl_ops.specs.Table.{row_of}
 use Rattle.bl_ops.specs.declared.op.Op.{Op}
 use Rattle.bl_ops.specs.declared.op.OpRow.{OpRow}
-use Rattle.bl_wasm.specs.Linked.{IsLinked, IsFunction, context, function_type, seen}
-use Rattle.bl_wasm.specs.Typing.{block, loop, first_part, second_part, Label, Context, Open, Arrow, Leaves, HasType, Plain, integer, labels, of_result, taken_by}
-use Rattle.bl_wasm.specs.declared.instruction.Instr.{Instr}
+use Rattle.bl_wasm.specs.Linked.{IsLinked, context, function_type, seen}
+use Rattle.bl_wasm.specs.Typing.{block, loop, first_part, second_part, Label, Context, Open, HasType, integer, labels, of_result, taken_by}
 use Rattle.bl_wasm.specs.declared.types.FuncType.{FuncType}
 use Rattle.bl_wasm.specs.declared.types.WasmType.{WasmType}
 use Rattle.bl_wasm.specs.declared.types.WasmType.TheVariants.{I32}
 use Rattle.bl_wasm.specs.declared.linked.Signature.{Signature}
-use Rattle.bl_wasm.specs.declared.linked.Function.{Function}
 use Rattle.bl_wasm.specs.declared.linked.Tree.{Tree}
 use Rattle.bl_reduce.specs.Calls.{type_of}
 use Rattle.bl_reduce.specs.Configurations.{State, with_values}

@@ -1,21 +1,19 @@
 -- The machine follows the items that neither open nor close nor leave anything.
-use Rattle.std.proofs.Common.{◌≡◌, ℕ, zero, suc, ◌+◌, ◌-◌, ◌≤◌, List, [], ◌∷◌, ◌++◌, length, reverse, take, drop, set, get_or, Option, Some, None, slice_get, refl, sym, ap, ◌∙◌, subst, arith}
+use Rattle.std.proofs.Common.{◌≡◌, ℕ, ◌+◌, ◌-◌, ◌≤◌, List, [], ◌∷◌, ◌++◌, length, reverse, take, drop, set, get_or, Option, Some, None, slice_get, refl, sym, ap, ◌∙◌, subst, arith}
 use Rattle.std.proofs.lemmas.List.{get_or-append-add, set-append_right}
 use Rattle.std.proofs.lemmas.Option.{get_or_from_slice_get}
-use Rattle.bl_base.specs.Runs.{Next, goes, ends, stuck, HasStep, trapped as trapped_with}
+use Rattle.bl_base.specs.Runs.{Next, HasStep, trapped as trapped_with}
 use Rattle.bl_base.specs.declared.trap.Trap.{Trap}
 use Rattle.bl_ops.specs.Numerics.{meaning, traps}
-use Rattle.bl_ops.specs.Table.{row_of}
 use Rattle.bl_ops.specs.declared.op.Op.{Op}
 use Rattle.bl_ops.specs.declared.op.Op.TheVariants as op
-use Rattle.bl_ops.specs.declared.op.OpRow.{OpRow}
 use Rattle.bl_wasm.specs.declared.linked.Tree.{Tree}
-use Rattle.bl_reduce.specs.Configurations.{State, Config, go, trap, known, pop, pop_from, push as push_value, with_values}
-use Rattle.bl_reduce.specs.Numeric.{give as give_value, apply, operate}
+use Rattle.bl_reduce.specs.Configurations.{State, Config, go, known, pop, pop_from, push as push_value, with_values}
+use Rattle.bl_reduce.specs.Numeric.{give as give_value, apply}
 use Rattle.bl_reduce.specs.Variables.{local_get, local_set, local_tee, set_local, global_get, global_set, set_global}
-use Rattle.bl_machine.specs.Machines.{Stepped, running, trapped, top, popped, push, give, local_at, with_local, global_at, with_global}
-use Rattle.bl_machine.specs.Matching.{under, values_of, IsActivation, IsState, Follows}
-use Rattle.bl_machine.specs.Moves.{selected, operands_of, operated_on, operated}
+use Rattle.bl_machine.specs.Machines.{Stepped, running, top, popped, push, give, local_at, with_local, global_at, with_global}
+use Rattle.bl_machine.specs.Matching.{under, values_of, IsState, Follows}
+use Rattle.bl_machine.specs.Moves.{selected, operated_on}
 use Rattle.bl_machine.specs.declared.machine.Machine.{Machine}
 use Rattle.bl_machine.proofs.Piles.{last_is, front_is, on_top}
 

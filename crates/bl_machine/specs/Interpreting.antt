@@ -1,5 +1,5 @@
 -- What the interpreter answers.
-use Rattle.std.specs.Prelude.{◌≡◌, ℕ, ◌≤◌, Bool, true, false, List, [], map, Option, Some, None}
+use Rattle.std.specs.Prelude.{ℕ, ◌≤◌, Bool, true, false, [], map, Option, Some, None}
 use Rattle.bl_base.specs.Runs.{MemoryState, Outcome, returned, trapped, Comes, EndsAfter}
 use Rattle.bl_base.specs.declared.run.Pages.{Pages}
 use Rattle.bl_base.specs.declared.run.Run.{Run}

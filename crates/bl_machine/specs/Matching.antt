@@ -1,7 +1,7 @@
 -- How the machine stands for a configuration of the rules: what the functions that were entered have lies on one another on
 -- its stacks, and what is left to execute is a place of a body.
 use Rattle.std.specs.Prelude.{◌≡◌, ℕ, ◌+◌, List, [], ◌∷◌, ◌++◌, length, drop, reverse, slice_get, Some}
-use Rattle.bl_base.specs.Runs.{Next, goes, ends, stuck, returned, trapped}
+use Rattle.bl_base.specs.Runs.{Next, goes, ends, returned, trapped}
 use Rattle.bl_wasm.specs.declared.instruction.Instr.{Instr}
 use Rattle.bl_wasm.specs.declared.linked.Tree.{Tree}
 use Rattle.bl_reduce.specs.Configurations.{Store, Label, Frame, State, Config, entering, running}

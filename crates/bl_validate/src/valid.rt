@@ -39,4 +39,12 @@ impl ValidModule {
     {
         &self.wasm
     }
+
+    /// The module, given back; takes no memory.
+    pub fn into_module(self) -> Module
+        ensures same { result ≡ self }
+        ensures valid { Typed result }
+    {
+        self.wasm
+    }
 }

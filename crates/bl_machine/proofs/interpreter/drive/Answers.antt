@@ -1,4 +1,4 @@
-use Rattle.std.proofs.Common.{◌≡◌, ◌+◌, sym, ◌∙◌, arith}
+use Rattle.std.proofs.Common.{◌+◌, sym, ◌∙◌, arith}
 use Rattle.bl_machine.proofs.Driving.{begins, stepped, goes_on, is_over, is_spent}
 use Rattle.bl_machine.proofs.interpreter.drive.Goals as goal
 

@@ -1,6 +1,3 @@
-use Rattle.std.proofs.Common.{◌≡◌, subst}
-use Rattle.bl_wasm.specs.declared.linked.Tree.{Tree}
-use Rattle.bl_machine.specs.Interpreting.{Answers, Drives, run_of}
 use Rattle.bl_machine.proofs.Driving.{answers}
 use Rattle.bl_machine.proofs.interpreter.interp.Goals as goal
 

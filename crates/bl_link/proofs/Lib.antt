@@ -1,0 +1,5 @@
+pub mod Contexts
+pub mod ExportNames
+pub mod Pairing
+pub mod Spelled
+pub mod TreeLemmas

@@ -1,0 +1,114 @@
+-- What the spelling of a module says of its globals and its exports.
+use Rattle.std.proofs.Common.{◌≡◌, ℕ, ◌<◌, ◌≤◌, ◌^◌, inl, inr, List, [], ◌∷◌, length, length-append, ap, subst, sym, arith}
+use Rattle.std.specs.List.{All, zip}
+use Rattle.std.specs.Str.{IsUtf8}
+use Rattle.std.proofs.lemmas.List.Elements.{All-nil, All-cons}
+use Rattle.bl_wasm.specs.Values.{Spellings, each}
+use Rattle.bl_wasm.specs.Sections.{export_entry, global_entry, vec_section}
+use Rattle.bl_wasm.specs.Modules.{Spells, ◌▷◌}
+use Rattle.bl_wasm.specs.declared.module.CustomSection.{CustomSection}
+use Rattle.bl_wasm.specs.declared.module.DefinedGlobal.{DefinedGlobal}
+use Rattle.bl_wasm.specs.declared.module.Export.{Export}
+use Rattle.bl_wasm.specs.declared.module.Module.{Module}
+use Rattle.bl_link.specs.Alone.{IsAlone, locals_of}
+
+-- ---- spellings of several, one after another
+
+each_length : {A : Type 0} (B : A → Spellings) → ((x : A) (bytes : List ℕ) → B x bytes → 1 ≤ length bytes) → (xs : List A) (bytes : List ℕ) → each B xs bytes → length xs ≤ length bytes
+each_length B some [] bytes h = omega arith
+each_length B some (x ∷ xs) bytes h = omega (arith, some x h.front h.first, each_length B some xs h.rest h.second, ap length h.whole, length-append h.front h.rest)
+
+each_all : {A : Type 0} (B : A → Spellings) (P : A → Type 0) → ((x : A) (bytes : List ℕ) → B x bytes → P x) → (xs : List A) (bytes : List ℕ) → each B xs bytes → All P xs
+each_all B P gives [] bytes h = All-nil P
+each_all B P gives (x ∷ xs) bytes h = All-cons P x xs (gives x h.front h.first) (each_all B P gives xs h.rest h.second)
+
+-- ---- a section of several
+
+section_length : {A : Type 0} (id : ℕ) (B : A → Spellings) → ((x : A) (bytes : List ℕ) → B x bytes → 1 ≤ length bytes) → (xs : List A) (bytes : List ℕ) → vec_section id B xs bytes → length xs ≤ length bytes
+section_length id B some xs bytes (inl h) =
+    let contents = h.second.spelled in
+    omega (
+      arith,
+      each_length B some xs contents.rest contents.second,
+      ap length contents.whole,
+      length-append contents.front contents.rest,
+      ap length h.second.whole,
+      length-append h.second.size h.second.contents,
+      ap length h.whole,
+      length-append h.front h.rest,
+    )
+section_length id B some xs bytes (inr none) = omega (arith, ap length none.0)
+
+section_all : {A : Type 0} (id : ℕ) (B : A → Spellings) (P : A → Type 0) → ((x : A) (bytes : List ℕ) → B x bytes → P x) → (xs : List A) (bytes : List ℕ) → vec_section id B xs bytes → All P xs
+section_all id B P gives xs bytes (inl h) = each_all B P gives xs h.second.spelled.rest h.second.spelled.second
+section_all id B P gives xs bytes (inr none) = subst (All P) (sym none.0) (All-nil P)
+
+-- ---- the sections of a module
+
+-- a section, and what is behind it
+record Stands (Section : Spellings) (Behind : List CustomSection → Spellings) (whole : ℕ) : Type 0 where
+  section : List ℕ
+  spelled : Section section
+  within : length section ≤ whole
+  customs : List CustomSection
+  rest : List ℕ
+  behind : Behind customs rest
+  left : length rest ≤ whole
+
+stands : {Section : Spellings} {Behind : List CustomSection → Spellings} (customs : List CustomSection) (bytes : List ℕ) (whole : ℕ) → length bytes ≤ whole → (Section ▷ Behind) customs bytes → Stands Section Behind whole
+stands customs bytes whole most h =
+    let s = h.spelled in
+    let lengths : (length s.second.front ≤ whole) × (length s.second.rest ≤ whole) = (
+      omega (arith, most, ap length s.whole, length-append s.front s.rest, ap length s.second.whole, length-append s.second.front s.second.rest),
+      omega (arith, most, ap length s.whole, length-append s.front s.rest, ap length s.second.whole, length-append s.second.front s.second.rest),
+    ) in
+    record {
+      section = s.second.front;
+      spelled = s.second.first;
+      within = lengths.0;
+      customs = h.after;
+      rest = s.second.rest;
+      behind = s.second.second;
+      left = lengths.1;
+    }
+
+-- ---- globals and exports
+
+global_spelled : (global : DefinedGlobal) (bytes : List ℕ) → global_entry global bytes → 1 ≤ length bytes
+global_spelled global bytes h =
+    let last = h.second.1 in
+    omega (arith, ap length h.whole, length-append h.front h.rest, ap length last.whole, length-append last.front last.rest, ap length last.second)
+
+export_spelled : (entry : Export) (bytes : List ℕ) → export_entry entry bytes → IsUtf8 entry.name
+export_spelled entry bytes h = h.first.0
+
+-- each global takes a byte, and the names are text
+pub spelled_parts : (bytes : List ℕ) (tree : Module) → Spells bytes tree → (length tree.globals ≤ length bytes) × All (λ entry. IsUtf8 entry.name) tree.exports
+spelled_parts bytes tree h =
+    let start = h.1.second in
+    let most : length start.rest ≤ length bytes = omega (arith, ap length h.1.whole, length-append h.1.front h.1.rest, ap length start.whole, length-append start.front start.rest) in
+    let types = stands tree.customs start.rest (length bytes) most start.second in
+    let imports = stands types.customs types.rest (length bytes) types.left types.behind in
+    let functions = stands imports.customs imports.rest (length bytes) imports.left imports.behind in
+    let tables = stands functions.customs functions.rest (length bytes) functions.left functions.behind in
+    let memories = stands tables.customs tables.rest (length bytes) tables.left tables.behind in
+    let globals = stands memories.customs memories.rest (length bytes) memories.left memories.behind in
+    let exports = stands globals.customs globals.rest (length bytes) globals.left globals.behind in (
+      omega (arith, section_length 6 global_entry global_spelled tree.globals globals.section globals.spelled, globals.within),
+      section_all 7 export_entry (λ entry. IsUtf8 entry.name) export_spelled tree.exports exports.section exports.spelled,
+    )
+
+-- a module by its bytes
+pub alone_from : (bytes : List ℕ) (tree : Module) → Spells bytes tree → length bytes < 2 ^ 26 → tree.imports ≡ [] → tree.tables ≡ [] → tree.memories ≡ [] → length tree.functions ≤ 10000
+    → All (λ defined. locals_of tree.types defined ≤ 4096) (zip tree.functions tree.bodies) → IsAlone tree
+alone_from bytes tree spelled few imports tables memories functions locals =
+    let parts = spelled_parts bytes tree spelled in
+    record {
+      imports = imports;
+      tables = tables;
+      memories = memories;
+      functions = functions;
+      globals = omega (arith, parts.0, few);
+      locals = locals;
+      names = parts.1;
+    }

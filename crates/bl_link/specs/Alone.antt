@@ -1,0 +1,111 @@
+-- The linked tree of one module that imports nothing, and has no table and no memory (WebAssembly 1.0, section 4.5.4).
+use Rattle.std.specs.Prelude.{◌≡◌, ℕ, ◌+◌, ◌^◌, ◌<◌, ◌≤◌, ◌++◌, List, [], ◌∷◌, length, map, replicate, filter_map, slice_get, sum_by, Option, Some, None}
+use Rattle.std.specs.List.{All, zip}
+use Rattle.std.specs.Str.{IsUtf8}
+use Rattle.bl_base.specs.declared.names.Label.{Label}
+use Rattle.bl_base.specs.declared.names.Label.TheVariants.{Public}
+use Rattle.bl_base.specs.declared.names.ValueType.{ValueType}
+use Rattle.bl_base.specs.declared.names.ValueType.TheVariants as value
+use Rattle.bl_wasm.specs.declared.instruction.Instr.{Instr}
+use Rattle.bl_wasm.specs.declared.instruction.Instr.TheVariants.{I32Const, I64Const}
+use Rattle.bl_wasm.specs.declared.types.WasmType.{WasmType}
+use Rattle.bl_wasm.specs.declared.types.WasmType.TheVariants.{I32, I64, F32, F64}
+use Rattle.bl_wasm.specs.declared.types.FuncType.{FuncType}
+use Rattle.bl_wasm.specs.declared.module.Code.{Code}
+use Rattle.bl_wasm.specs.declared.module.DefinedGlobal.{DefinedGlobal}
+use Rattle.bl_wasm.specs.declared.module.Export.{Export}
+use Rattle.bl_wasm.specs.declared.module.ExportKind.{ExportKind}
+use Rattle.bl_wasm.specs.declared.module.ExportKind.TheVariants as export
+use Rattle.bl_wasm.specs.declared.module.Module.{Module}
+use Rattle.bl_wasm.specs.declared.linked.Signature.{Signature}
+use Rattle.bl_wasm.specs.declared.linked.Function.{Function}
+use Rattle.bl_wasm.specs.declared.linked.Global.{Global}
+use Rattle.bl_wasm.specs.declared.linked.Tree.{Tree}
+
+-- ---- which modules
+
+-- the number of a type's parameters; none where there is no such type
+abbrev pub count_of : Option FuncType → ℕ
+count_of None = 0
+count_of (Some type) = length type.params
+
+-- the number of a function's locals, with its parameters
+abbrev pub locals_of : List FuncType → ℕ × Code → ℕ
+locals_of types defined = count_of (slice_get types defined.0) + sum_by (λ run. run.count) defined.1.locals
+
+-- a module that imports nothing, has no table and no memory, and is within the limits
+pub record IsAlone (tree : Module) : Type 0 where
+  pub imports : tree.imports ≡ []
+  pub tables : tree.tables ≡ []
+  pub memories : tree.memories ≡ []
+  pub functions : length tree.functions ≤ 10000
+  pub globals : length tree.globals < 2 ^ 26
+  pub locals : All (λ defined. locals_of tree.types defined ≤ 4096) (zip tree.functions tree.bodies)
+  pub names : All (λ entry. IsUtf8 entry.name) tree.exports
+
+-- ---- the tree of such a module
+
+-- a type of values; a valid module has no floats
+abbrev pub value_of : WasmType → ValueType
+value_of I32 = value.I32
+value_of I64 = value.I64
+value_of F32 = value.I32
+value_of F64 = value.I64
+
+-- a type of functions
+abbrev pub signature : FuncType → Signature
+signature type = record { params = map value_of type.params; results = map value_of type.results }
+
+-- each parameter of a type is public
+abbrev pub labels_of : Option FuncType → List Label
+labels_of None = []
+labels_of (Some type) = replicate (length type.params) Public
+
+-- a function, by its type index and its code
+abbrev pub function : List FuncType → ℕ × Code → Function
+function types defined = record {
+  type_index = defined.0;
+  labels = labels_of (slice_get types defined.0);
+  code = defined.1;
+  memory = None;
+  table = None;
+}
+
+-- the number of one constant
+abbrev pub first_value : List Instr → ℕ
+first_value (I32Const n ∷ []) = n
+first_value (I64Const n ∷ []) = n
+first_value items = 0
+
+-- a global, which is public
+abbrev pub global : DefinedGlobal → Global
+global defined = record {
+  kind = value_of defined.kind.kind;
+  mutable = defined.kind.mutable;
+  first = first_value defined.first;
+  label = Public;
+}
+
+-- the name of an export behind the module's: a solidus parts them
+abbrev pub qualified : List ℕ → List ℕ → List ℕ
+qualified name these = name ++ 0x2F ∷ these
+
+-- the pair of what is exported, where that is a function
+abbrev pub of_function : ExportKind → List ℕ × ℕ → Option (List ℕ × ℕ)
+of_function export.Function pair = Some pair
+of_function other pair = None
+
+-- an exported function by its name in the tree; no other export is in it
+abbrev pub exported : List ℕ → Export → Option (List ℕ × ℕ)
+exported name entry = of_function entry.kind (qualified name entry.name, entry.index)
+
+-- the linked tree of the module of that name
+abbrev pub alone : List ℕ → Module → Tree
+alone name tree = record {
+  types = map signature tree.types;
+  functions = map (function tree.types) (zip tree.functions tree.bodies);
+  globals = map global tree.globals;
+  memories = [];
+  tables = [];
+  exports = filter_map (exported name) tree.exports;
+}
