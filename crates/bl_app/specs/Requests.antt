@@ -5,10 +5,22 @@ use Rattle.std.specs.Option.{option_map}
 use Rattle.std.specs.Str.{bytes_eq}
 
 -- `harden`: the files that are written, and the module that is read
-pub record Request : Type 0 where
+pub record HardenRequest : Type 0 where
   pub image : List ℕ
   pub certificate : List ℕ
   pub wasm : List ℕ
+
+-- `interp`: the name of an exported function, the start file and the module that are read, and the most steps
+pub record InterpRequest : Type 0 where
+  pub export : List ℕ
+  pub start : List ℕ
+  pub wasm : List ℕ
+  pub steps : ℕ
+
+-- what a call is asked for
+pub data Request : Type 0 where
+  harden : HardenRequest → Request
+  interp : InterpRequest → Request
 
 -- an option word begins with `-` and isn't `-` alone
 abbrev pub is_option : List ℕ → Bool

@@ -3,7 +3,7 @@ use Rattle.std.specs.Prelude.{ℕ}
 use Rattle.bl_app.specs.declared.refusal.Refusal.{Refusal}
 use Rattle.bl_app.specs.declared.refusal.Refusal.TheVariants as refusal
 use Rattle.bl_app.specs.declared.status.Status.{Status}
-use Rattle.bl_app.specs.declared.status.Status.TheVariants.{Done, Usage, ReadFault, WriteFault, Malformed, Invalid, Unsupported, Limit, Memory}
+use Rattle.bl_app.specs.declared.status.Status.TheVariants.{Done, Usage, ReadFault, WriteFault, Malformed, Invalid, Unsupported, Limit, Memory, Start, Trapped, Spent}
 
 abbrev pub code_of : Status → ℕ
 code_of Done = 0
@@ -15,6 +15,9 @@ code_of Invalid = 6
 code_of Unsupported = 7
 code_of Limit = 8
 code_of Memory = 11
+code_of Start = 15
+code_of Trapped = 16
+code_of Spent = 17
 
 -- the status of a refusal
 abbrev pub status_of : Refusal → ℕ

@@ -23,6 +23,12 @@ pub enum Status {
     Limit,
     /// Memory ran out.
     Memory,
+    /// The export is absent, or the start file doesn't fit its function.
+    Start,
+    /// The run ended by a trap.
+    Trapped,
+    /// The run had not ended when its steps were spent.
+    Spent,
 }
 
 impl Status {
@@ -40,6 +46,9 @@ impl Status {
             Status::Unsupported => 7,
             Status::Limit => 8,
             Status::Memory => 11,
+            Status::Start => 15,
+            Status::Trapped => 16,
+            Status::Spent => 17,
         }
     }
 }
