@@ -1,6 +1,6 @@
--- Why each status comes.
-use Rattle.std.proofs.Common.{◌≡◌, ℕ, zero, suc, Bool, true, false, cond, List, [], ◌∷◌, Option, Some, None, refl, ap, sym, ◌∙◌, subst, arith, inl, inr}
-use Rattle.std.specs.Prelude.{slice_get, ◌⊎◌, codes, option_and_then}
+-- Why each status comes, and what a call did that answers 0, 16 or 17.
+use Rattle.std.proofs.Common.{◌≡◌, ℕ, true, false, cond, List, Option, Some, None, refl, ap, sym, ◌∙◌, subst, arith, inl, inr}
+use Rattle.std.specs.Prelude.{◌⊎◌}
 use Rattle.std.specs.Cmp.{eq_by_cmp_equiv}
 use Rattle.std.specs.Cmp.Lexicographic.{nat_list_cmp_total}
 use Rattle.std.specs.FinMap as fin
@@ -8,117 +8,82 @@ use Rattle.std.specs.FinMap.{get-insert}
 use Rattle.std.specs.Str.{bytes_eq}
 use Rattle.std.proofs.lemmas.Map.Text.{is_eq-slice_cmp}
 use Rattle.std.proofs.lemmas.Slice.Eq.{bytes_eq-Decides}
+use Rattle.bl_base.specs.Runs.{Outcome, returned, trapped}
 use Rattle.bl_outside.specs.Faults.{Rose}
-use Rattle.bl_outside.specs.Shelf.{Files, ReadFails, WriteFails, with_file}
-use Rattle.bl_wasm.specs.declared.module.Module.{Module}
+use Rattle.bl_outside.specs.Shelf.{Files, with_file}
 use Rattle.bl_app.specs.declared.refusal.Refusal.{Refusal}
-use Rattle.bl_app.specs.declared.refusal.Refusal.TheVariants.{Malformed, InvalidFunction, InvalidModule, Unsupported, Limit}
+use Rattle.bl_app.specs.declared.refusal.Refusal.TheVariants.{Malformed, InvalidFunction, InvalidModule, Unsupported, Limit, NoExport, BadLine, FewArguments}
 use Rattle.bl_app.specs.Linking.{linked_of}
-use Rattle.bl_app.specs.Refusals.{Accepted, Refused}
 use Rattle.bl_app.specs.Status.{status_of}
 use Rattle.bl_app.specs.Image.{image_of}
-use Rattle.bl_app.specs.Requests.{Request, request_of, arguments_of, harden_request, module_name}
-use Rattle.bl_app.specs.Texts.{report_text, read_fault_text, write_fault_text, empty_certificate}
-use Rattle.bl_app.specs.Answers.{FileIs, Plan, PlanFor, usage, refused, harden, plan_of, harden_plan, World, with_files, took, Whole, Said, whole, cut, Delivers, all_kept, not_kept, no_memory_to_keep, Ends, as_planned, not_read, no_memory, program_of}
-use Rattle.bl_app.specs.Causes.{Causes, Hardens, UnlessFault, NoneRose, Asks, IsRefused, IsReadFault, IsKeepFault, IsUnprotected}
+use Rattle.bl_app.specs.Outcomes.{outcome_status}
+use Rattle.bl_app.specs.Requests.{Request, HardenRequest, InterpRequest, harden, interp, request_of, module_name}
+use Rattle.bl_app.specs.Requested.{FileIs, FirstRefusal, HardenReady, InterpReady}
+use Rattle.bl_app.specs.Running.{HasOutcome}
+use Rattle.bl_app.specs.Texts.{empty_certificate}
+use Rattle.bl_app.specs.Answers.{Plan, PlanFor, usage, refused, hardened, interpreted, harden_plan, World, Ends, program_of}
+use Rattle.bl_app.specs.Causes.{Causes, Hardens, Interprets, IsOfRun, AsksToRun, UnlessFault, NoneRose, IsRefused, IsReadFault, IsKeepFault, IsUnprotected}
 use Rattle.bl_app.proofs.EncodableLemmas.{HoldsOfMade, in_low}
 use Rattle.bl_app.proofs.KeepsMeaning.{keeps_meaning}
-use Rattle.bl_app.proofs.RefusalLemmas.{refused_one, accepted_refused}
-
--- a plan was carried out with no fault
-record Done (plan : Plan) (old new : World) (status : ℕ) : Type 0 where
-  files : new.files ≡ with_files old.files plan.keeps
-  faults : new.faults ≡ old.faults
-  said : Whole plan.text old.sink new.sink
-  meant : status ≡ plan.status
-
--- the ways in which a call can end, by their statuses
-data Way (words : List (List ℕ)) (old new : World) (status : ℕ) : Type 0 where
-  settled : (plan : Plan) → PlanFor words old.files plan → Done plan old new status → Way words old new status
-  faulty_read : IsReadFault words old new → status ≡ 3 → Way words old new status
-  faulty_keep : IsKeepFault words old new → status ≡ 4 → Way words old new status
-  faulty_sink : Rose old.sink.faults new.sink.faults → status ≡ 4 → Way words old new status
-  full : status ≡ 11 → Way words old new status
+use Rattle.bl_app.proofs.RequestLemmas.{first_one, hardened_refused, run_refused, run_once}
+use Rattle.bl_app.proofs.Ways.{Done, Way, settled, faulty_read, faulty_keep, faulty_sink, full, way}
+use Rattle.bl_app.proofs.WordsLemmas.{request_differs}
 
 -- a status of a refusal
 abbrev IsRefusal : ℕ → Type 0
-IsRefusal status = (status ≡ 5) ⊎ ((status ≡ 6) ⊎ ((status ≡ 7) ⊎ (status ≡ 8)))
+IsRefusal status = (status ≡ 5) ⊎ ((status ≡ 6) ⊎ ((status ≡ 7) ⊎ ((status ≡ 8) ⊎ (status ≡ 15))))
 
 status_big : (refusal : Refusal) → IsRefusal (status_of refusal)
 status_big Malformed = inl refl
 status_big (InvalidFunction index) = inr (inl refl)
 status_big InvalidModule = inr (inl refl)
 status_big Unsupported = inr (inr (inl refl))
-status_big (Limit which value) = inr (inr (inr refl))
+status_big (Limit which value) = inr (inr (inr (inl refl)))
+status_big NoExport = inr (inr (inr (inr refl)))
+status_big (BadLine number) = inr (inr (inr (inr refl)))
+status_big (FewArguments count) = inr (inr (inr (inr refl)))
 
--- a file that a plan keeps is one that the words name
-KeepOf : List (List ℕ) → List ℕ → Type 0
-KeepOf words name = (request : Request) × (request_of words ≡ Some request) × ((name ≡ request.certificate) ⊎ (name ≡ request.image))
+run_status : (outcome : Option Outcome) → IsOfRun (outcome_status outcome)
+run_status (Some (returned values memories)) = inl refl
+run_status (Some (trapped kind memories)) = inr (inl refl)
+run_status None = inr (inr refl)
 
-keep_named : (request : Request) (image report : List ℕ) (before : ℕ) (keep : List ℕ × List ℕ) → slice_get (plan_of request image report).keeps before ≡ Some keep → (keep.0 ≡ request.certificate) ⊎ (keep.0 ≡ request.image)
-keep_named request image report zero keep e = inl cc
-keep_named request image report (suc zero) keep e = inr cc
-keep_named request image report (suc (suc before)) keep e = cc
+-- the words ask for one request
+one_harden : {o : Option Request} (r s : HardenRequest) → o ≡ Some (harden r) → o ≡ Some (harden s) → r ≡ s
+one_harden r s e f = cc
 
-keep_of : (words : List (List ℕ)) (files : Option Files) (plan : Plan) (before : ℕ) (keep : List ℕ × List ℕ) → PlanFor words files plan → slice_get plan.keeps before ≡ Some keep → KeepOf words keep.0
-unfolding KeepOf
-keep_of words files plan before keep (usage none) e = cc
-keep_of words files plan before keep (refused request bytes refusal is file stands) e = cc
-keep_of words files plan before keep (harden request bytes tree is file accepted) e =
-    (request, is, keep_named request (image_of (program_of (module_name request.wasm) tree)) (report_text (program_of (module_name request.wasm) tree)) before keep e)
+one_interp : {o : Option Request} (r s : InterpRequest) → o ≡ Some (interp r) → o ≡ Some (interp s) → r ≡ s
+one_interp r s e f = cc
 
-keep_fault : (words : List (List ℕ)) (old new : World) (name : List ℕ) → KeepOf words name → WriteFails old.faults new.faults name → Whole (write_fault_text name) old.sink new.sink → IsKeepFault words old new
-unfolding KeepOf
-keep_fault words old new name k fails said = record {
-  request = k.0;
-  is_request = k.1;
-  is_kept = subst (λ n. (n ≡ k.0.certificate) ⊎ (n ≡ k.0.image)) (sym fails.last) k.2;
-  fails = subst (WriteFails old.faults new.faults) (sym fails.last) fails;
-  printed = said.taken ∙ ap (λ n. took old.sink.taken (write_fault_text n)) (sym fails.last);
-}
+one_request : {o : Option Request} (r s : Request) → o ≡ Some r → o ≡ Some s → r ≡ s
+one_request r s e f = cc
 
-said_planned : (words : List (List ℕ)) (old new : World) (status : ℕ) (plan : Plan) → PlanFor words old.files plan → new.files ≡ with_files old.files plan.keeps → new.faults ≡ old.faults → Said plan.text plan.status old.sink new.sink status → Way words old new status
-said_planned words old new status plan p files faults (whole said meant) = settled plan p (record { files = files; faults = faults; said = said; meant = meant })
-said_planned words old new status plan p files faults (cut c e) = faulty_sink c.rose e
+-- files that are told
+module _ (told : Option Files) (files : Files) (is : told ≡ Some files) where
+  told_one : (r s : Request) (a b : Refusal) → r ≡ s → FirstRefusal told r a → FirstRefusal told s b → a ≡ b
+  told_one r s a b same h i = first_one files s a b (subst (λ r. FirstRefusal (Some files) r a) same (subst (λ f. FirstRefusal f r a) is h)) (subst (λ f. FirstRefusal f s b) is i)
 
-said_keep : (words : List (List ℕ)) (old new : World) (status : ℕ) (name : List ℕ) → KeepOf words name → WriteFails old.faults new.faults name → Said (write_fault_text name) 4 old.sink new.sink status → Way words old new status
-said_keep words old new status name k fails (whole said meant) = faulty_keep (keep_fault words old new name k fails said) meant
-said_keep words old new status name k fails (cut c e) = faulty_sink c.rose e
+  told_hardened : (r : HardenRequest) (s : Request) (refusal : Refusal) → s ≡ harden r → HardenReady told r → FirstRefusal told s refusal → ⊥
+  told_hardened r s refusal same ready h =
+      hardened_refused files r refusal (subst (λ f. HardenReady f r) is ready) (subst (λ s. FirstRefusal (Some files) s refusal) same (subst (λ f. FirstRefusal f s refusal) is h))
 
-said_read : (words : List (List ℕ)) (old new : World) (status : ℕ) (request : Request) → request_of words ≡ Some request → ReadFails old.faults new.faults request.wasm → Said (read_fault_text request.wasm) 3 old.sink new.sink status → Way words old new status
-said_read words old new status request is fails (whole said meant) =
-    faulty_read (record {
-      request = request;
-      is_request = is;
-      fails = fails;
-      printed = said.taken ∙ ap (λ n. took old.sink.taken (read_fault_text n)) (sym fails.last);
-    }) meant
-said_read words old new status request is fails (cut c e) = faulty_sink c.rose e
+  told_run : (r : InterpRequest) (s : Request) (refusal : Refusal) → s ≡ interp r → InterpReady told r → FirstRefusal told s refusal → ⊥
+  told_run r s refusal same ready h =
+      run_refused files r refusal (subst (λ f. InterpReady f r) is ready) (subst (λ s. FirstRefusal (Some files) s refusal) same (subst (λ f. FirstRefusal f s refusal) is h))
 
-delivered : (words : List (List ℕ)) (old new : World) (status : ℕ) (plan : Plan) → PlanFor words old.files plan → Delivers plan old new status → Way words old new status
-delivered words old new status plan p (all_kept files faults said) = said_planned words old new status plan p files faults said
-delivered words old new status plan p (not_kept before keep is fails files said) =
-    said_keep words old new status keep.0 (keep_of words old.files plan before keep p is) fails said
-delivered words old new status plan p (no_memory_to_keep before files faults sink e) = full e
-
-way : (words : List (List ℕ)) (old new : World) (status : ℕ) → Ends words old new status → Way words old new status
-way words old new status (as_planned plan p d) = delivered words old new status plan p d
-way words old new status (not_read request is fails files said) = said_read words old new status request is fails said
-way words old new status (no_memory unchanged e) = full e
-
--- the words ask for one request, and a file that is told has one list of bytes
-same_request : {o : Option Request} (r s : Request) → o ≡ Some r → o ≡ Some s → r ≡ s
-same_request r s e f = cc
-
-same_bytes : (files : Files) (told : Option Files) (request other : Request) (bytes those : List ℕ) → told ≡ Some files → request ≡ other → FileIs told request.wasm bytes → FileIs told other.wasm those → bytes ≡ those
-same_bytes files None request other bytes those e same f g = cc
-same_bytes files (Some told) request other bytes those e same f g = cc
+  told_once : (r s : InterpRequest) (ready : InterpReady told r) (other : InterpReady told s) (a b : Option Outcome) → r ≡ s
+      → HasOutcome ready.runnable r.steps a → HasOutcome other.runnable s.steps b → a ≡ b
+  told_once r s ready other a b same h i =
+      let Once = λ (f : Option Files) (r s : InterpRequest). (ready : InterpReady f r) (other : InterpReady f s) → HasOutcome ready.runnable r.steps a → HasOutcome other.runnable s.steps b → a ≡ b in
+      let here : Once (Some files) s s = λ ready other h i. run_once files s ready other a b h i in
+      subst (λ r. Once told r s) (sym same) (subst (λ f. Once f s s) (sym is) here) ready other h i
 
 module _ (words : List (List ℕ)) (old new : World) (status : ℕ) where
   usage_only : Way words old new status → status ≡ 2 → request_of words ≡ None
   usage_only (settled plan (usage none) d) e = none
-  usage_only (settled plan (refused request bytes refusal is file stands) d) e = absurd (omega (arith, e, d.meant, status_big refusal))
-  usage_only (settled plan (harden request bytes tree is file accepted) d) e = absurd (omega (arith, e, d.meant))
+  usage_only (settled plan (refused request refusal is first) d) e = absurd (omega (arith, e, d.meant, status_big refusal))
+  usage_only (settled plan (hardened request ready is) d) e = absurd (omega (arith, e, d.meant))
+  usage_only (settled plan (interpreted request ready outcome is within) d) e = absurd (omega (arith, e, d.meant, run_status outcome))
   usage_only (faulty_read f e') e = absurd (omega arith)
   usage_only (faulty_keep f e') e = absurd (omega arith)
   usage_only (faulty_sink f e') e = absurd (omega arith)
@@ -126,8 +91,9 @@ module _ (words : List (List ℕ)) (old new : World) (status : ℕ) where
 
   no_request : Way words old new status → request_of words ≡ None → UnlessFault 2 status
   no_request (settled plan (usage none) d) e = inl d.meant
-  no_request (settled plan (refused request bytes refusal is file stands) d) e = cc
-  no_request (settled plan (harden request bytes tree is file accepted) d) e = cc
+  no_request (settled plan (refused request refusal is first) d) e = cc
+  no_request (settled plan (hardened request ready is) d) e = cc
+  no_request (settled plan (interpreted request ready outcome is within) d) e = cc
   no_request (faulty_read f e') e = inr (inl e')
   no_request (faulty_keep f e') e = inr (inr (inl e'))
   no_request (faulty_sink f e') e = inr (inr (inl e'))
@@ -136,37 +102,34 @@ module _ (words : List (List ℕ)) (old new : World) (status : ℕ) where
   -- the status of a refusal comes of a refusal
   refused_only : Way words old new status → IsRefusal status → IsRefused words old new status
   refused_only (settled plan (usage none) d) e = absurd (omega (arith, e, d.meant))
-  refused_only (settled plan (refused request bytes refusal is file stands) d) e =
-      record { request = request; bytes = bytes; refusal = refusal; asks = record { is_request = is; is_file = file }; refused = stands; meant = d.meant; printed = d.said.taken }
-  refused_only (settled plan (harden request bytes tree is file accepted) d) e = absurd (omega (arith, e, d.meant))
+  refused_only (settled plan (refused request refusal is first) d) e = 
+      record { request = request; refusal = refusal; is_request = is; first = first; meant = d.meant; printed = d.said.taken }
+  refused_only (settled plan (hardened request ready is) d) e = absurd (omega (arith, e, d.meant))
+  refused_only (settled plan (interpreted request ready outcome is within) d) e = absurd (omega (arith, e, d.meant, run_status outcome))
   refused_only (faulty_read f e') e = absurd (omega arith)
   refused_only (faulty_keep f e') e = absurd (omega arith)
   refused_only (faulty_sink f e') e = absurd (omega arith)
   refused_only (full e') e = absurd (omega arith)
 
-  asked_bytes : (files : Files) (request other : Request) (bytes those : List ℕ) → old.files ≡ Some files → Asks words old.files request bytes → request_of words ≡ Some other → FileIs old.files other.wasm those → bytes ≡ those
-  asked_bytes files request other bytes those told asks is file =
-      same_bytes files old.files request other bytes those told (same_request request other asks.is_request is) asks.is_file file
-
-  is_refused : Way words old new status → (files : Files) (request : Request) (bytes : List ℕ) (refusal : Refusal) → old.files ≡ Some files → Asks words old.files request bytes → Refused bytes refusal → UnlessFault (status_of refusal) status
-  is_refused (settled plan (usage none) d) files request bytes refusal told asks r = let is = asks.is_request in cc
-  is_refused (settled plan (refused other those found is file stands) d) files request bytes refusal told asks r =
-      let same = asked_bytes files request other bytes those told asks is file in
-      let one : found ≡ refusal = refused_one those found refusal stands (subst (λ b. Refused b refusal) same r) in
-      inl (d.meant ∙ ap status_of one)
-  is_refused (settled plan (harden other those tree is file accepted) d) files request bytes refusal told asks r =
-      let same = asked_bytes files request other bytes those told asks is file in
-      absurd (accepted_refused those tree refusal accepted (subst (λ b. Refused b refusal) same r))
-  is_refused (faulty_read f e') files request bytes refusal told asks r = inr (inl e')
-  is_refused (faulty_keep f e') files request bytes refusal told asks r = inr (inr (inl e'))
-  is_refused (faulty_sink f e') files request bytes refusal told asks r = inr (inr (inl e'))
-  is_refused (full e') files request bytes refusal told asks r = inr (inr (inr e'))
+  is_refused : Way words old new status → (files : Files) (request : Request) (refusal : Refusal) → old.files ≡ Some files → request_of words ≡ Some request → FirstRefusal old.files request refusal → UnlessFault (status_of refusal) status
+  is_refused (settled plan (usage none) d) files request refusal told is first = cc
+  is_refused (settled plan (refused other found is' first') d) files request refusal told is first =
+      inl (d.meant ∙ ap status_of (told_one old.files files told other request found refusal (one_request other request is' is) first' first))
+  is_refused (settled plan (hardened other ready is') d) files request refusal told is first =
+      absurd (told_hardened old.files files told other request refusal (one_request request (harden other) is is') ready first)
+  is_refused (settled plan (interpreted other ready outcome is' within) d) files request refusal told is first =
+      absurd (told_run old.files files told other request refusal (one_request request (interp other) is is') ready first)
+  is_refused (faulty_read f e) files request refusal told is first = inr (inl e)
+  is_refused (faulty_keep f e) files request refusal told is first = inr (inr (inl e))
+  is_refused (faulty_sink f e) files request refusal told is first = inr (inr (inl e))
+  is_refused (full e) files request refusal told is first = inr (inr (inr e))
 
   -- what is meant where nothing fails
-  meant_status : (plan : Plan) → PlanFor words old.files plan → (plan.status ≡ 0) ⊎ ((plan.status ≡ 2) ⊎ IsRefusal plan.status)
-  meant_status plan (usage none) = inr (inl refl)
-  meant_status plan (refused request bytes refusal is file stands) = inr (inr (status_big refusal))
-  meant_status plan (harden request bytes tree is file accepted) = inl refl
+  meant_status : (plan : Plan) → PlanFor words old.files plan → (plan.status ≡ 2) ⊎ (IsRefusal plan.status ⊎ IsOfRun plan.status)
+  meant_status plan (usage none) = inl refl
+  meant_status plan (refused request refusal is first) = inr (inl (status_big refusal))
+  meant_status plan (hardened request ready is) = inr (inr (inl refl))
+  meant_status plan (interpreted request ready outcome is within) = inr (inr (run_status outcome))
 
   read_fault : Way words old new status → status ≡ 3 → IsReadFault words old new
   read_fault (settled plan p d) e = absurd (omega (arith, e, d.meant, meant_status plan p))
@@ -189,16 +152,40 @@ module _ (words : List (List ℕ)) (old new : World) (status : ℕ) where
   quiet (faulty_sink f e) three four eleven = absurd (four e)
   quiet (full e) three four eleven = absurd (eleven e)
 
-  complete : Way words old new status → (files : Files) (request : Request) (bytes : List ℕ) (tree : Module) → old.files ≡ Some files → Asks words old.files request bytes → Accepted bytes tree → NoneRose old new → (status ≡ 0) ⊎ (status ≡ 11)
-  complete (settled plan (usage none) d) files request bytes tree told asks accepts none_rose = let is = asks.is_request in cc
-  complete (settled plan (refused other those refusal is file stands) d) files request bytes tree told asks accepts none_rose =
-      let same = asked_bytes files request other bytes those told asks is file in
-      absurd (accepted_refused those tree refusal (subst (λ b. Accepted b tree) same accepts) stands)
-  complete (settled plan (harden other those made is file accepted) d) files request bytes tree told asks accepts none_rose = inl d.meant
-  complete (faulty_read f e) files request bytes tree told asks accepts none_rose = absurd (none_rose.reads f.fails.rose)
-  complete (faulty_keep f e) files request bytes tree told asks accepts none_rose = absurd (none_rose.writes f.fails.rose)
-  complete (faulty_sink f e) files request bytes tree told asks accepts none_rose = absurd (none_rose.sink f)
-  complete (full e) files request bytes tree told asks accepts none_rose = inr e
+  -- 16 and 17 come of a run
+  run_only : Way words old new status → (status ≡ 16) ⊎ (status ≡ 17) → AsksToRun words
+  run_only (settled plan (usage none) d) e = absurd (omega (arith, e, d.meant))
+  run_only (settled plan (refused request refusal is first) d) e = absurd (omega (arith, e, d.meant, status_big refusal))
+  run_only (settled plan (hardened request ready is) d) e = absurd (omega (arith, e, d.meant))
+  run_only (settled plan (interpreted request ready outcome is within) d) e = (request, is)
+  run_only (faulty_read f e') e = absurd (omega arith)
+  run_only (faulty_keep f e') e = absurd (omega arith)
+  run_only (faulty_sink f e') e = absurd (omega arith)
+  run_only (full e') e = absurd (omega arith)
+
+  ran : Way words old new status → (files : Files) (request : InterpRequest) (ready : InterpReady old.files request) (outcome : Option Outcome) → old.files ≡ Some files → request_of words ≡ Some (interp request)
+      → HasOutcome ready.runnable request.steps outcome → UnlessFault (outcome_status outcome) status
+  ran (settled plan (usage none) d) files request ready outcome told is within = cc
+  ran (settled plan (refused other refusal is' first) d) files request ready outcome told is within =
+      absurd (told_run old.files files told request other refusal (one_request other (interp request) is' is) ready first)
+  ran (settled plan (hardened other ready' is') d) files request ready outcome told is within = cc
+  ran (settled plan (interpreted other ready' found is' within') d) files request ready outcome told is within =
+      inl (d.meant ∙ ap outcome_status (told_once old.files files told other request ready' ready found outcome (one_interp other request is' is) within' within))
+  ran (faulty_read f e) files request ready outcome told is within = inr (inl e)
+  ran (faulty_keep f e) files request ready outcome told is within = inr (inr (inl e))
+  ran (faulty_sink f e) files request ready outcome told is within = inr (inr (inl e))
+  ran (full e) files request ready outcome told is within = inr (inr (inr e))
+
+  complete : Way words old new status → (files : Files) (request : HardenRequest) → old.files ≡ Some files → request_of words ≡ Some (harden request) → HardenReady old.files request → NoneRose old new → (status ≡ 0) ⊎ (status ≡ 11)
+  complete (settled plan (usage none) d) files request told is ready none_rose = cc
+  complete (settled plan (refused other refusal is' first) d) files request told is ready none_rose =
+      absurd (told_hardened old.files files told request other refusal (one_request other (harden request) is' is) ready first)
+  complete (settled plan (hardened other ready' is') d) files request told is ready none_rose = inl d.meant
+  complete (settled plan (interpreted other ready' outcome is' within) d) files request told is ready none_rose = cc
+  complete (faulty_read f e) files request told is ready none_rose = absurd (none_rose.reads f.fails.rose)
+  complete (faulty_keep f e) files request told is ready none_rose = absurd (none_rose.writes f.fails.rose)
+  complete (faulty_sink f e) files request told is ready none_rose = absurd (none_rose.sink f)
+  complete (full e) files request told is ready none_rose = inr e
 
 -- what each status says, and when it comes
 pub causes : (words : List (List ℕ)) (old new : World) (status : ℕ) → Ends words old new status → Causes words old new status
@@ -210,41 +197,17 @@ causes words old new status ends =
       malformed_only = λ e. refused_only words old new status w (inl e);
       invalid_only = λ e. refused_only words old new status w (inr (inl e));
       unsupported_only = λ e. refused_only words old new status w (inr (inr (inl e)));
-      limit_only = λ e. refused_only words old new status w (inr (inr (inr e)));
+      limit_only = λ e. refused_only words old new status w (inr (inr (inr (inl e))));
+      start_only = λ e. refused_only words old new status w (inr (inr (inr (inr e))));
       refused = is_refused words old new status w;
       read_fault = read_fault words old new status w;
       write_fault = write_fault words old new status w;
+      trapped_only = λ e. run_only words old new status w (inl e);
+      spent_only = λ e. run_only words old new status w (inr e);
+      ran = ran words old new status w;
       quiet = quiet words old new status w;
       complete = complete words old new status w;
     }
-
--- a request keeps two files
-some_request : (b : Bool) (r s : Request) → cond b None (Some r) ≡ Some s → (b ≡ false) × (r ≡ s)
-some_request true r s e = cc
-some_request false r s e = (refl, cc)
-
-two_files : (arguments : List (List ℕ)) (request : Request) → harden_request arguments ≡ Some request → bytes_eq request.image request.certificate ≡ false
-two_files [] request e = cc
-two_files (image ∷ []) request e = cc
-two_files (image ∷ certificate ∷ []) request e = cc
-two_files (image ∷ certificate ∷ wasm ∷ []) request e =
-    let made : Request = record { image = image; certificate = certificate; wasm = wasm } in
-    let passed = some_request (bytes_eq image certificate) made request e in
-    subst (λ r. bytes_eq r.image r.certificate ≡ false) passed.1 passed.0
-two_files (image ∷ certificate ∷ wasm ∷ more ∷ rest) request e = cc
-
-of_arguments : (found : Option (List (List ℕ))) (request : Request) → option_and_then harden_request found ≡ Some request → bytes_eq request.image request.certificate ≡ false
-of_arguments None request e = cc
-of_arguments (Some arguments) request e = two_files arguments request e
-
-of_command : (b : Bool) (found : Option (List (List ℕ))) (request : Request) → cond b (option_and_then harden_request found) None ≡ Some request → bytes_eq request.image request.certificate ≡ false
-of_command true found request e = of_arguments found request e
-of_command false found request e = cc
-
-pub request_differs : (words : List (List ℕ)) (request : Request) → request_of words ≡ Some request → bytes_eq request.image request.certificate ≡ false
-request_differs [] request e = cc
-request_differs (program ∷ []) request e = cc
-request_differs (program ∷ command ∷ words) request e = of_command (bytes_eq command (codes "harden")) (arguments_of words) request e
 
 -- what an entry made new leaves at each name
 get_inserted : (files : Files) (name bytes other : List ℕ) → fin.get (fin.insert files name bytes) other ≡ cond (bytes_eq name other) (Some bytes) (fin.get files other)
@@ -268,37 +231,50 @@ unprotected_made : HoldsOfMade IsUnprotected
 unprotected_made = record { sets = λ to operator a b. refl; out = λ index value. refl; jump = λ to. tt; ret = tt; trap = λ kind. tt }
 
 module _ (words : List (List ℕ)) (old new : World) where
-  hardened : (request : Request) (bytes : List ℕ) (tree : Module) → request_of words ≡ Some request → FileIs old.files request.wasm bytes → Accepted bytes tree → (status : ℕ) → Done (harden_plan request tree) old new status → Hardens words old new
-  hardened request bytes tree is file accepted status d = record {
-    request = request;
-    bytes = bytes;
-    tree = tree;
-    asks = record { is_request = is; is_file = file };
-    accepted = accepted;
+  did_harden : (request : HardenRequest) (ready : HardenReady old.files request) → request_of words ≡ Some (harden request) → (status : ℕ) → Done (harden_plan request ready.tree) old new status → Hardens request old new
+  did_harden request ready is status d = record {
+    ready = ready;
     kept = d.files;
     image = subst (λ f. FileIs f request.image image) (sym d.files) (kept_last certified request.image image);
     certificate = subst (λ f. FileIs f request.certificate empty_certificate) (sym d.files)
         (kept_still certified request.image image request.certificate empty_certificate (request_differs words request is) (kept_last old.files request.certificate empty_certificate));
     printed = d.said.taken;
-    unprotected = in_low IsUnprotected unprotected_made (linked_of (module_name request.wasm) tree);
-    same_outcomes = keeps_meaning (module_name request.wasm) tree accepted.form;
+    unprotected = in_low IsUnprotected unprotected_made (linked_of (module_name request.wasm) ready.tree);
+    same_outcomes = keeps_meaning (module_name request.wasm) ready.tree ready.accepted.form;
   }
     where
       image : List ℕ
-      image = image_of (program_of (module_name request.wasm) tree)
+      image = image_of (program_of (module_name request.wasm) ready.tree)
 
       certified : Option Files
       certified = with_file old.files request.certificate empty_certificate
 
-  done : (status : ℕ) → Way words old new status → status ≡ 0 → Hardens words old new
-  done status (settled plan (usage none) d) e = absurd (omega (arith, e, d.meant))
-  done status (settled plan (refused request bytes refusal is file stands) d) e = absurd (omega (arith, e, d.meant, status_big refusal))
-  done status (settled plan (harden request bytes tree is file accepted) d) e = hardened request bytes tree is file accepted status d
-  done status (faulty_read f e') e = absurd (omega arith)
-  done status (faulty_keep f e') e = absurd (omega arith)
-  done status (faulty_sink f e') e = absurd (omega arith)
-  done status (full e') e = absurd (omega arith)
+  harden_done : (status : ℕ) (asked : HardenRequest) → Way words old new status → request_of words ≡ Some (harden asked) → status ≡ 0 → Hardens asked old new
+  harden_done status asked (settled plan (usage none) d) asks e = cc
+  harden_done status asked (settled plan (refused request refusal is first) d) asks e = absurd (omega (arith, e, d.meant, status_big refusal))
+  harden_done status asked (settled plan (hardened request ready is) d) asks e = subst (λ r. Hardens r old new) (one_harden request asked is asks) (did_harden request ready is status d)
+  harden_done status asked (settled plan (interpreted request ready outcome is within) d) asks e = cc
+  harden_done status asked (faulty_read f e') asks e = absurd (omega arith)
+  harden_done status asked (faulty_keep f e') asks e = absurd (omega arith)
+  harden_done status asked (faulty_sink f e') asks e = absurd (omega arith)
+  harden_done status asked (full e') asks e = absurd (omega arith)
 
--- what status 0 says
-pub hardens : (words : List (List ℕ)) (old new : World) (status : ℕ) → Ends words old new status → status ≡ 0 → Hardens words old new
-hardens words old new status ends e = done words old new status (way words old new status ends) e
+  interp_done : (status : ℕ) (asked : InterpRequest) → Way words old new status → request_of words ≡ Some (interp asked) → IsOfRun status → Interprets asked old new status
+  interp_done status asked (settled plan (usage none) d) asks e = cc
+  interp_done status asked (settled plan (refused request refusal is first) d) asks e = absurd (omega (arith, e, d.meant, status_big refusal))
+  interp_done status asked (settled plan (hardened request ready is) d) asks e = cc
+  interp_done status asked (settled plan (interpreted request ready outcome is within) d) asks e =
+      subst (λ r. Interprets r old new status) (one_interp request asked is asks)
+      (record { ready = ready; outcome = outcome; within = within; meant = d.meant; printed = d.said.taken; unchanged = d.files })
+  interp_done status asked (faulty_read f e') asks e = absurd (omega arith)
+  interp_done status asked (faulty_keep f e') asks e = absurd (omega arith)
+  interp_done status asked (faulty_sink f e') asks e = absurd (omega arith)
+  interp_done status asked (full e') asks e = absurd (omega arith)
+
+-- what status 0 of `harden` says
+pub hardens : (words : List (List ℕ)) (old new : World) (status : ℕ) → Ends words old new status → (request : HardenRequest) → request_of words ≡ Some (harden request) → status ≡ 0 → Hardens request old new
+hardens words old new status ends request asks e = harden_done words old new status request (way words old new status ends) asks e
+
+-- what statuses 0, 16 and 17 of `interp` say
+pub interprets : (words : List (List ℕ)) (old new : World) (status : ℕ) → Ends words old new status → (request : InterpRequest) → request_of words ≡ Some (interp request) → IsOfRun status → Interprets request old new status
+interprets words old new status ends request asks e = interp_done words old new status request (way words old new status ends) asks e

@@ -19,27 +19,26 @@ use Rattle.bl_decode.specs.declared.error.DecodeError.TheVariants as decode
 use Rattle.bl_validate.specs.Verdicts.{IsReason}
 use Rattle.bl_validate.specs.declared.verdict.Invalid.{Invalid}
 use Rattle.bl_validate.specs.declared.verdict.Invalid.TheVariants as invalid
-use Rattle.bl_app.specs.Form.{IsForm}
 use Rattle.bl_app.specs.Reading.{Reads, decoding_error, validation_error}
 use Rattle.bl_app.specs.Refusals.{most_bytes, Refused, malformed, against, unsupported, excess, invalid as untyped, other_form}
 use Rattle.bl_app.specs.declared.refusal.Refusal.TheVariants.{Unsupported}
 
 -- bytes that aren't decoded
-pub decoded : (bytes : List ℕ) (error : DecodeError) → length bytes ≤ most_bytes → Answers bytes (Err error) → Reads bytes (Err (decoding_error error))
-decoded bytes decode.Malformed short none = malformed short none refl
-decoded bytes decode.Unsupported short is = against is.0 short is.1 (unsupported is.2 refl)
-decoded bytes (decode.Limit which value) short is = against is.0 short is.1 (excess which value is.2 is.3 refl)
-decoded bytes decode.Memory short is = tt
+pub decoded : (Form : Module → Type 0) (bytes : List ℕ) (error : DecodeError) → length bytes ≤ most_bytes → Answers bytes (Err error) → Reads Form bytes (Err (decoding_error error))
+decoded Form bytes decode.Malformed short none = malformed short none refl
+decoded Form bytes decode.Unsupported short is = against is.0 short is.1 (unsupported is.2 refl)
+decoded Form bytes (decode.Limit which value) short is = against is.0 short is.1 (excess which value is.2 is.3 refl)
+decoded Form bytes decode.Memory short is = tt
 
 -- a module that isn't valid
-pub validated : (bytes : List ℕ) (tree : Module) (reason : Invalid) → length bytes ≤ most_bytes → Answers bytes (Ok tree) → IsReason tree reason → Reads bytes (Err (validation_error reason))
-validated bytes tree (invalid.Function index) short is why = against tree short is.0 (untyped (invalid.Function index) is.1 is.2 why refl)
-validated bytes tree invalid.Module short is why = against tree short is.0 (untyped invalid.Module is.1 is.2 why refl)
-validated bytes tree invalid.Memory short is why = tt
+pub validated : (Form : Module → Type 0) (bytes : List ℕ) (tree : Module) (reason : Invalid) → length bytes ≤ most_bytes → Answers bytes (Ok tree) → IsReason tree reason → Reads Form bytes (Err (validation_error reason))
+validated Form bytes tree (invalid.Function index) short is why = against tree short is.0 (untyped (invalid.Function index) is.1 is.2 why refl)
+validated Form bytes tree invalid.Module short is why = against tree short is.0 (untyped invalid.Module is.1 is.2 why refl)
+validated Form bytes tree invalid.Memory short is why = tt
 
 -- a module of another form
-pub of_other_form : (bytes : List ℕ) (tree : Module) → length bytes ≤ most_bytes → Answers bytes (Ok tree) → Typed tree → (IsForm tree → ⊥) → Refused bytes Unsupported
-of_other_form bytes tree short is valid not = against tree short is.0 (other_form is.1 is.2 valid not refl)
+pub of_other_form : (Form : Module → Type 0) (bytes : List ℕ) (tree : Module) → length bytes ≤ most_bytes → Answers bytes (Ok tree) → Typed tree → (Form tree → ⊥) → Refused Form bytes Unsupported
+of_other_form Form bytes tree short is valid not = against tree short is.0 (other_form is.1 is.2 valid not refl)
 
 -- how many functions are imported
 imported_count : List Import → ℕ

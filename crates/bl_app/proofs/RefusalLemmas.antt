@@ -44,46 +44,46 @@ reason_valid tree (reason.Function i) refusal r typed e = r.2.untyped (typed.fun
 reason_valid tree reason.Module refusal r typed e = r.1 typed.rules
 reason_valid tree reason.Memory refusal r typed e = e
 
-against_one : (tree : Module) (a b : Refusal) → Against tree a → Against tree b → a ≡ b
-against_one tree a b (unsupported not e) (unsupported other f) = e ∙ sym f
-against_one tree a b (unsupported not e) (excess which value is found f) = absurd (not is)
-against_one tree a b (unsupported not e) (invalid reason is within why f) = absurd (not is)
-against_one tree a b (unsupported not e) (other_form is within valid other f) = absurd (not is)
-against_one tree a b (excess which value is found e) (unsupported not f) = absurd (not is)
-against_one tree a b (excess which value is found e) (excess other count is' found' f) = e ∙ (one_limit (first_excess tree) which other value count found found' ∙ sym f)
-against_one tree a b (excess which value is found e) (invalid reason is' within why f) = absurd cc
-against_one tree a b (excess which value is found e) (other_form is' within valid other f) = absurd cc
-against_one tree a b (invalid reason is within why e) (unsupported not f) = absurd (not is)
-against_one tree a b (invalid reason is within why e) (excess which value is' found f) = absurd cc
-against_one tree a b (invalid reason is within why e) (invalid other is' within' why' f) = same_reason tree reason other a b why why' e f
-against_one tree a b (invalid reason is within why e) (other_form is' within' valid not f) = absurd (reason_valid tree reason a why valid e)
-against_one tree a b (other_form is within valid not e) (unsupported other f) = absurd (other is)
-against_one tree a b (other_form is within valid not e) (excess which value is' found f) = absurd cc
-against_one tree a b (other_form is within valid not e) (invalid reason is' within' why f) = absurd (reason_valid tree reason b why valid f)
-against_one tree a b (other_form is within valid not e) (other_form is' within' valid' other f) = e ∙ sym f
+against_one : (Form : Module → Type 0) (tree : Module) (a b : Refusal) → Against Form tree a → Against Form tree b → a ≡ b
+against_one Form tree a b (unsupported not e) (unsupported other f) = e ∙ sym f
+against_one Form tree a b (unsupported not e) (excess which value is found f) = absurd (not is)
+against_one Form tree a b (unsupported not e) (invalid reason is within why f) = absurd (not is)
+against_one Form tree a b (unsupported not e) (other_form is within valid other f) = absurd (not is)
+against_one Form tree a b (excess which value is found e) (unsupported not f) = absurd (not is)
+against_one Form tree a b (excess which value is found e) (excess other count is' found' f) = e ∙ (one_limit (first_excess tree) which other value count found found' ∙ sym f)
+against_one Form tree a b (excess which value is found e) (invalid reason is' within why f) = absurd cc
+against_one Form tree a b (excess which value is found e) (other_form is' within valid other f) = absurd cc
+against_one Form tree a b (invalid reason is within why e) (unsupported not f) = absurd (not is)
+against_one Form tree a b (invalid reason is within why e) (excess which value is' found f) = absurd cc
+against_one Form tree a b (invalid reason is within why e) (invalid other is' within' why' f) = same_reason tree reason other a b why why' e f
+against_one Form tree a b (invalid reason is within why e) (other_form is' within' valid not f) = absurd (reason_valid tree reason a why valid e)
+against_one Form tree a b (other_form is within valid not e) (unsupported other f) = absurd (other is)
+against_one Form tree a b (other_form is within valid not e) (excess which value is' found f) = absurd cc
+against_one Form tree a b (other_form is within valid not e) (invalid reason is' within' why f) = absurd (reason_valid tree reason b why valid f)
+against_one Form tree a b (other_form is within valid not e) (other_form is' within' valid' other f) = e ∙ sym f
 
 -- at most one refusal stands against the bytes
-pub refused_one : (bytes : List ℕ) (a b : Refusal) → Refused bytes a → Refused bytes b → a ≡ b
-refused_one bytes a b (too_long long e) (too_long long' f) = e ∙ sym f
-refused_one bytes a b (too_long long e) (malformed short none f) = absurd (omega arith)
-refused_one bytes a b (too_long long e) (against tree short spelled is) = absurd (omega arith)
-refused_one bytes a b (malformed short none e) (too_long long f) = absurd (omega arith)
-refused_one bytes a b (malformed short none e) (malformed short' none' f) = e ∙ sym f
-refused_one bytes a b (malformed short none e) (against tree short' spelled is) = absurd (none tree spelled)
-refused_one bytes a b (against tree short spelled is) (too_long long f) = absurd (omega arith)
-refused_one bytes a b (against tree short spelled is) (malformed short' none f) = absurd (none tree spelled)
-refused_one bytes a b (against tree short spelled is) (against other short' spelled' is') =
-    against_one tree a b is (subst (λ t. Against t b) (sym (one_spelled bytes tree other spelled spelled')) is')
+pub refused_one : (Form : Module → Type 0) (bytes : List ℕ) (a b : Refusal) → Refused Form bytes a → Refused Form bytes b → a ≡ b
+refused_one Form bytes a b (too_long long e) (too_long long' f) = e ∙ sym f
+refused_one Form bytes a b (too_long long e) (malformed short none f) = absurd (omega arith)
+refused_one Form bytes a b (too_long long e) (against tree short spelled is) = absurd (omega arith)
+refused_one Form bytes a b (malformed short none e) (too_long long f) = absurd (omega arith)
+refused_one Form bytes a b (malformed short none e) (malformed short' none' f) = e ∙ sym f
+refused_one Form bytes a b (malformed short none e) (against tree short' spelled is) = absurd (none tree spelled)
+refused_one Form bytes a b (against tree short spelled is) (too_long long f) = absurd (omega arith)
+refused_one Form bytes a b (against tree short spelled is) (malformed short' none f) = absurd (none tree spelled)
+refused_one Form bytes a b (against tree short spelled is) (against other short' spelled' is') =
+    against_one Form tree a b is (subst (λ t. Against Form t b) (sym (one_spelled bytes tree other spelled spelled')) is')
 
-against_none : (tree : Module) (refusal : Refusal) (bytes : List ℕ) → Accepted bytes tree → Against tree refusal → ⊥
-against_none tree refusal bytes a (unsupported not e) = not a.supported
-against_none tree refusal bytes a (excess which value is found e) = let within = a.within in cc
-against_none tree refusal bytes a (invalid reason is within why e) = reason_valid tree reason refusal why a.valid e
-against_none tree refusal bytes a (other_form is within valid not e) = not a.form
+against_none : (Form : Module → Type 0) (tree : Module) (refusal : Refusal) (bytes : List ℕ) → Accepted Form bytes tree → Against Form tree refusal → ⊥
+against_none Form tree refusal bytes a (unsupported not e) = not a.supported
+against_none Form tree refusal bytes a (excess which value is found e) = let within = a.within in cc
+against_none Form tree refusal bytes a (invalid reason is within why e) = reason_valid tree reason refusal why a.valid e
+against_none Form tree refusal bytes a (other_form is within valid not e) = not a.form
 
 -- no refusal stands against bytes that are accepted
-pub accepted_refused : (bytes : List ℕ) (tree : Module) (refusal : Refusal) → Accepted bytes tree → Refused bytes refusal → ⊥
-accepted_refused bytes tree refusal a (too_long long e) = let short = a.short in omega arith
-accepted_refused bytes tree refusal a (malformed short none e) = none tree a.spelled
-accepted_refused bytes tree refusal a (against other short spelled is) =
-    against_none tree refusal bytes a (subst (λ t. Against t refusal) (sym (one_spelled bytes tree other a.spelled spelled)) is)
+pub accepted_refused : (Form : Module → Type 0) (bytes : List ℕ) (tree : Module) (refusal : Refusal) → Accepted Form bytes tree → Refused Form bytes refusal → ⊥
+accepted_refused Form bytes tree refusal a (too_long long e) = let short = a.short in omega arith
+accepted_refused Form bytes tree refusal a (malformed short none e) = none tree a.spelled
+accepted_refused Form bytes tree refusal a (against other short spelled is) =
+    against_none Form tree refusal bytes a (subst (λ t. Against Form t refusal) (sym (one_spelled bytes tree other a.spelled spelled)) is)

@@ -1,30 +1,30 @@
 -- What a call is to do where nothing fails, and how it ends.
 use Rattle.std.specs.Prelude.{◌≡◌, ℕ, ◌≤◌, List, [], ◌∷◌, Option, Some, None, Result, Ok, Err, slice_get, take, length, ◌++◌}
-use Rattle.std.specs.FinMap as fin
+use Rattle.bl_base.specs.Runs.{Outcome}
 use Rattle.bl_outside.specs.Faults.{Rose}
-use Rattle.bl_outside.specs.Shelf.{Files, Faults, ReadFails, WriteFails, with_file}
+use Rattle.bl_outside.specs.Shelf.{Files, Faults, Gives, ReadFails, WriteFails, with_file}
 use Rattle.bl_outside.specs.declared.sink.SinkFault.{SinkFault}
 use Rattle.bl_outside.specs.declared.shelf.ShelfError.{ShelfError}
 use Rattle.bl_outside.specs.declared.shelf.ShelfError.TheVariants.{Failed, Memory}
 use Rattle.bl_wasm.specs.declared.module.Module.{Module}
 use Rattle.bl_app.specs.declared.program.Program.{Program}
 use Rattle.bl_app.specs.declared.refusal.Refusal.{Refusal}
-use Rattle.bl_app.specs.Refusals.{Accepted, Refused}
-use Rattle.bl_app.specs.Status.{status_of}
+use Rattle.bl_app.specs.Form.{IsForm}
+use Rattle.bl_app.specs.Refusals.{Accepted}
+use Rattle.bl_app.specs.Status.{code_of, status_of}
+use Rattle.bl_app.specs.declared.status.Status.{Status}
 use Rattle.bl_app.specs.Linking.{linked_of}
 use Rattle.bl_app.specs.Lowering.{low}
 use Rattle.bl_app.specs.Image.{image_of}
-use Rattle.bl_app.specs.Requests.{Request, request_of, module_name}
+use Rattle.bl_app.specs.Outcomes.{outcome_status}
+use Rattle.bl_app.specs.Requests.{Request, HardenRequest, InterpRequest, harden, interp, request_of, module_name}
+use Rattle.bl_app.specs.Requested.{FirstRefusal, HardenReady, InterpReady, IsRead, module_of}
+use Rattle.bl_app.specs.Running.{HasOutcome, printed_of}
 use Rattle.bl_app.specs.Texts.{usage_text, refusal_text, read_fault_text, write_fault_text, report_text, empty_certificate}
 
 -- the program of a module under that name
 abbrev pub program_of : List ℕ → Module → Program
 program_of part tree = low (linked_of part tree)
-
--- the file of that name has these bytes; nothing is said where the files aren't told
-abbrev pub FileIs : Option Files → List ℕ → List ℕ → Type 0
-FileIs None name bytes = Unit {0}
-FileIs (Some files) name bytes = fin.get files name ≡ Some bytes
 
 -- a status, the files that are kept, in order, by their names and bytes, and the text that is printed
 pub record Plan : Type 0 where
@@ -32,8 +32,12 @@ pub record Plan : Type 0 where
   pub keeps : List (List ℕ × List ℕ)
   pub text : List ℕ
 
+-- printing a text, and nothing else
+abbrev pub saying : ℕ → List ℕ → Plan
+saying status text = record { status = status; keeps = []; text = text }
+
 -- keeping the certificate without paths and then the image, and printing the report
-abbrev pub plan_of : Request → List ℕ → List ℕ → Plan
+abbrev pub plan_of : HardenRequest → List ℕ → List ℕ → Plan
 plan_of request image report = record {
   status = 0;
   keeps = (request.certificate, empty_certificate) ∷ (request.image, image) ∷ [];
@@ -41,26 +45,20 @@ plan_of request image report = record {
 }
 
 -- what `harden` does with a module of the form
-abbrev pub harden_plan : Request → Module → Plan
+abbrev pub harden_plan : HardenRequest → Module → Plan
 harden_plan request tree =
     let program = program_of (module_name request.wasm) tree in
     plan_of request (image_of program) (report_text program)
 
--- what is done where the module is refused
-abbrev pub refusal_plan : Request → Refusal → Plan
-refusal_plan request refusal = record { status = status_of refusal; keeps = []; text = refusal_text (module_name request.wasm) refusal }
-
--- what is done where the words are no request
-abbrev pub usage_plan : Plan
-usage_plan = record { status = 2; keeps = []; text = usage_text }
-
 -- what the words ask for where nothing fails
 pub data PlanFor (words : List (List ℕ)) (files : Option Files) : Plan → Type 0 where
-  usage : request_of words ≡ None → PlanFor words files usage_plan
-  refused : (request : Request) (bytes : List ℕ) (refusal : Refusal) → request_of words ≡ Some request → FileIs files request.wasm bytes → Refused bytes refusal
-      → PlanFor words files (refusal_plan request refusal)
-  harden : (request : Request) (bytes : List ℕ) (tree : Module) → request_of words ≡ Some request → FileIs files request.wasm bytes → Accepted bytes tree
-      → PlanFor words files (harden_plan request tree)
+  usage : request_of words ≡ None → PlanFor words files (saying 2 usage_text)
+  refused : (request : Request) (refusal : Refusal) → request_of words ≡ Some request → FirstRefusal files request refusal
+      → PlanFor words files (saying (status_of refusal) (refusal_text (module_of request) refusal))
+  hardened : (request : HardenRequest) (ready : HardenReady files request) → request_of words ≡ Some (harden request) → PlanFor words files (harden_plan request ready.tree)
+  interpreted : (request : InterpRequest) (ready : InterpReady files request) (outcome : Option Outcome) → request_of words ≡ Some (interp request)
+      → HasOutcome ready.runnable request.steps outcome
+      → PlanFor words files (saying (outcome_status outcome) (printed_of ready.runnable request.steps outcome))
 
 -- what a sink took, where that is told, and the count of its faults
 pub record Stream : Type 0 where
@@ -118,10 +116,20 @@ abbrev pub NotKept : ShelfError → List ℕ → Stream → Stream → ℕ → T
 NotKept Failed text old new status = Said text 4 old new status
 NotKept Memory text old new status = (new ≡ old) × (status ≡ 11)
 
--- what follows where a module is refused: the text, or nothing where there was no memory
+-- what follows where a request is refused: the text, or nothing where there was no memory
 pub data Refuses (text : List ℕ) (meant : ℕ) (old new : Stream) (status : ℕ) : Type 0 where
   is_said : Said text meant old new status → Refuses text meant old new status
   no_memory_to_say : new ≡ old → status ≡ 11 → Refuses text meant old new status
+
+-- a file could not be fetched: its line is printed, or there was no memory
+pub data NotFetched (name : List ℕ) (old new : World) (status : ℕ) : Type 0 where
+  failed : ReadFails old.faults new.faults name → new.files ≡ old.files → Said (read_fault_text name) 3 old.sink new.sink status → NotFetched name old new status
+  no_memory_to_fetch : Unchanged old new → status ≡ 11 → NotFetched name old new status
+
+-- what a fetch leaves, with the status where it gives no bytes
+abbrev pub Fetched : List ℕ → ℕ → World → World → Result (Vec ℕ Global) Status → Type 0
+Fetched name most old new (Ok bytes) = Unchanged old new × Gives old.files name most bytes.items
+Fetched name most old new (Err status) = NotFetched name old new (code_of status)
 
 -- how a plan is carried out
 pub data Delivers (plan : Plan) (old new : World) (status : ℕ) : Type 0 where
@@ -137,15 +145,15 @@ pub data Delivers (plan : Plan) (old new : World) (status : ℕ) : Type 0 where
 pub data Ends (words : List (List ℕ)) (old new : World) (status : ℕ) : Type 0 where
   -- as the words ask for
   as_planned : (plan : Plan) → PlanFor words old.files plan → Delivers plan old new status → Ends words old new status
-  -- the module's file could not be read
-  not_read : (request : Request) → request_of words ≡ Some request → ReadFails old.faults new.faults request.wasm → new.files ≡ old.files
-      → Said (read_fault_text request.wasm) 3 old.sink new.sink status → Ends words old new status
+  -- a file could not be read
+  not_read : (request : Request) (name : List ℕ) → request_of words ≡ Some request → IsRead request name → ReadFails old.faults new.faults name → new.files ≡ old.files
+      → Said (read_fault_text name) 3 old.sink new.sink status → Ends words old new status
   -- there was no memory before any file was to be kept or any text to be printed
   no_memory : Unchanged old new → status ≡ 11 → Ends words old new status
 
 -- the bytes are accepted, and these are the image and the report of their module's program
 pub record IsHardened (part bytes image report : List ℕ) : Type 0 where
   pub tree : Module
-  pub accepted : Accepted bytes tree
+  pub accepted : Accepted IsForm bytes tree
   pub is_image : image ≡ image_of (program_of part tree)
   pub is_report : report ≡ report_text (program_of part tree)

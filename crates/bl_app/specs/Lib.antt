@@ -3,13 +3,17 @@ pub mod Bodies
 pub mod Causes
 pub mod Form
 pub mod Image
+pub mod Interpreting
 pub mod Linking
 pub mod Lowering
 pub mod Meaning
 pub mod Plain
 pub mod Reading
+pub mod Outcomes
 pub mod Refusals
+pub mod Requested
 pub mod Requests
+pub mod Running
 pub mod Source
 pub mod Status
 pub mod Texts

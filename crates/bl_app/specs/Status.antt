@@ -26,3 +26,6 @@ status_of (refusal.InvalidFunction index) = 6
 status_of refusal.InvalidModule = 6
 status_of refusal.Unsupported = 7
 status_of (refusal.Limit which value) = 8
+status_of refusal.NoExport = 15
+status_of (refusal.BadLine number) = 15
+status_of (refusal.FewArguments count) = 15

@@ -3,7 +3,7 @@ use Rattle.std.specs.Prelude.{ℕ, Bool, true, false, List, [], ◌∷◌, ◌++
 use Rattle.std.specs.Fmt.{decimal}
 use Rattle.bl_base.specs.Quantity.{word_of}
 use Rattle.bl_app.specs.declared.refusal.Refusal.{Refusal}
-use Rattle.bl_app.specs.declared.refusal.Refusal.TheVariants.{Malformed, InvalidFunction, InvalidModule, Unsupported, Limit}
+use Rattle.bl_app.specs.declared.refusal.Refusal.TheVariants.{Malformed, InvalidFunction, InvalidModule, Unsupported, Limit, NoExport, BadLine, FewArguments}
 use Rattle.bl_app.specs.declared.program.Command.{Command}
 use Rattle.bl_app.specs.declared.program.Command.TheVariants.{Set, Jump, Out, Ret, Trap}
 use Rattle.bl_app.specs.declared.program.Program.{Program}
@@ -39,13 +39,16 @@ empty_certificate = codes "{\"paths\":[],\"weight\":0}"
 abbrev pub usage_text : List ℕ
 usage_text = line (codes "usage: blade COMMAND ARGUMENTS")
 
--- why a module under that name isn't hardened
+-- why a request is refused whose module has that name
 abbrev pub refusal_text : List ℕ → Refusal → List ℕ
 refusal_text name Malformed = line (codes "malformed: " ++ name)
 refusal_text name (InvalidFunction index) = line (codes "invalid: " ++ name ++ (codes " function " ++ decimal index))
 refusal_text name InvalidModule = line (codes "invalid: " ++ name ++ codes " module")
 refusal_text name Unsupported = line (codes "unsupported: " ++ name)
 refusal_text name (Limit which value) = line (codes "limit: " ++ word_of which ++ codes " " ++ decimal value)
+refusal_text name NoExport = line (codes "start: export")
+refusal_text name (BadLine number) = line (codes "start: line " ++ decimal number)
+refusal_text name (FewArguments count) = line (codes "start: arguments " ++ decimal count)
 
 abbrev pub read_fault_text : List ℕ → List ℕ
 read_fault_text word = line (codes "read fault: " ++ word)

@@ -4,11 +4,14 @@
 mod form;
 mod harden;
 mod image;
+mod interp;
 pub mod laws;
 mod link;
 mod linked;
 mod lists;
 mod lower;
+mod module;
+mod outcome;
 mod output;
 mod program;
 mod refusal;

@@ -1,4 +1,4 @@
-//! Why a module isn't hardened.
+//! Why a request is refused.
 ghost use Rattle.std.specs.Prelude.{◌≡◌, ◌++◌, IfOk, codes};
 ghost use Rattle.std.specs.Fmt.{decimal};
 ghost use Rattle.bl_base.specs.Quantity.{word_of};
@@ -9,10 +9,10 @@ use crate::status::Status;
 use bl_base::{NoMemory, Quantity};
 use std::alloc::Global;
 
-/// Why a module's bytes aren't hardened.
+/// Why a request is refused: the first cause in the order of work.
 #[derive(Clone, Copy, Debug, PartialEq, Eq)]
 pub enum Refusal {
-    /// They spell no module.
+    /// The module's bytes spell none.
     Malformed,
     /// A function has no typing: the least one's index, imports first.
     InvalidFunction(u32),
@@ -20,13 +20,19 @@ pub enum Refusal {
     InvalidModule,
     /// The module has something that isn't supported, or it is outside the form.
     Unsupported,
-    /// The file or the module is too large.
+    /// A file or the module is too large.
     Limit {
         /// The first quantity that is above its number.
         which: Quantity,
         /// Its value.
         value: u64,
     },
+    /// No function is exported under the name.
+    NoExport,
+    /// A line of the start file is bad: the first one's number, from 1.
+    BadLine(u64),
+    /// The start file has too few arguments: how many there are.
+    FewArguments(u64),
 }
 
 impl Refusal {
@@ -39,6 +45,7 @@ impl Refusal {
             Refusal::InvalidFunction(_) | Refusal::InvalidModule => Status::Invalid,
             Refusal::Unsupported => Status::Unsupported,
             Refusal::Limit { .. } => Status::Limit,
+            Refusal::NoExport | Refusal::BadLine(_) | Refusal::FewArguments(_) => Status::Start,
         }
     }
 
@@ -52,6 +59,9 @@ impl Refusal {
             Refusal::InvalidModule => named_line(alloc, "invalid: ", name, " module"),
             Refusal::Unsupported => named_line(alloc, "unsupported: ", name, ""),
             Refusal::Limit { which, value } => limit_line(alloc, which, value),
+            Refusal::NoExport => Ok(b"start: export\n".to_vec(alloc)?),
+            Refusal::BadLine(number) => Ok(format!(in alloc; "start: line {number}\n")?.into_bytes()),
+            Refusal::FewArguments(count) => Ok(format!(in alloc; "start: arguments {count}\n")?.into_bytes()),
         }
     }
 }

@@ -1,3 +1,5 @@
+mod interp;
+
 use super::*;
 use bl_base::List;
 use bl_outside::{MemoryShelf, MemorySink};

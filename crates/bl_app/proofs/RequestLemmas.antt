@@ -1,0 +1,69 @@
+-- At most one refusal stands against a request, and none where it can be carried out; a run has one outcome.
+use Rattle.std.proofs.Common.{◌≡◌, ℕ, ◌<◌, ◌≤◌, List, length, Option, Some, None, refl, ap, sym, ◌∙◌, subst, arith}
+use Rattle.std.specs.FinMap as fin
+use Rattle.bl_base.specs.Runs.{Outcome}
+use Rattle.bl_outside.specs.Shelf.{Files}
+use Rattle.bl_app.specs.Form.{IsForm}
+use Rattle.bl_app.specs.Refusals.{Refused}
+use Rattle.bl_app.specs.Requests.{Request, HardenRequest, InterpRequest, harden, interp, module_name}
+use Rattle.bl_app.specs.Requested.{FileIs, FirstRefusal, HardenReady, HardenRefused, InterpReady, InterpRefused, long_start, not_runnable}
+use Rattle.bl_app.specs.Running.{Runnable, NotRunnable, HasOutcome}
+use Rattle.bl_app.specs.declared.refusal.Refusal.{Refusal}
+use Rattle.bl_app.proofs.RefusalLemmas.{refused_one, accepted_refused}
+use Rattle.bl_app.proofs.InterpLemmas.{one_run, runnable_refused, not_runnable_one}
+
+module _ (files : Files) where
+  -- a file has one list of bytes
+  one_file : (name a b : List ℕ) → fin.get files name ≡ Some a → fin.get files name ≡ Some b → a ≡ b
+  one_file name a b e f = cc
+
+  harden_one : (request : HardenRequest) (a b : Refusal) → HardenRefused (Some files) request a → HardenRefused (Some files) request b → a ≡ b
+  harden_one request a b h i =
+      let same = one_file request.wasm i.bytes h.bytes i.file h.file in
+      refused_one IsForm h.bytes a b h.refused (subst (λ bytes. Refused IsForm bytes b) same i.refused)
+
+  interp_one : (request : InterpRequest) (a b : Refusal) → InterpRefused (Some files) request a → InterpRefused (Some files) request b → a ≡ b
+  interp_one request a b (long_start s file long e) (long_start s' file' long' e') = e ∙ sym e'
+  interp_one request a b (long_start s file long e) (not_runnable s' bytes file' short wasm r) =
+      absurd (let same = ap length (one_file request.start s s' file file') in omega arith)
+  interp_one request a b (not_runnable s' bytes file' short wasm r) (long_start s file long e) =
+      absurd (let same = ap length (one_file request.start s s' file file') in omega arith)
+  interp_one request a b (not_runnable s bytes file short wasm r) (not_runnable s' bytes' file' short' wasm' r') =
+      let name = module_name request.wasm in
+      let moved = subst (λ s. NotRunnable name request.export s bytes' b) (one_file request.start s' s file' file) r' in
+      not_runnable_one name request.export s bytes a b r (subst (λ bytes. NotRunnable name request.export s bytes b) (one_file request.wasm bytes' bytes wasm' wasm) moved)
+
+  -- at most one refusal is the first
+  pub first_one : (request : Request) (a b : Refusal) → FirstRefusal (Some files) request a → FirstRefusal (Some files) request b → a ≡ b
+  first_one (harden request) a b h i = harden_one request a b h i
+  first_one (interp request) a b h i = interp_one request a b h i
+
+  -- nothing stands against what can be hardened
+  pub hardened_refused : (request : HardenRequest) (refusal : Refusal) → HardenReady (Some files) request → HardenRefused (Some files) request refusal → ⊥
+  hardened_refused request refusal ready h =
+      let same = one_file request.wasm h.bytes ready.bytes h.file ready.file in
+      accepted_refused IsForm ready.bytes ready.tree refusal ready.accepted (subst (λ bytes. Refused IsForm bytes refusal) same h.refused)
+
+  -- nothing stands against what can be run
+  pub run_refused : (request : InterpRequest) (refusal : Refusal) → InterpReady (Some files) request → InterpRefused (Some files) request refusal → ⊥
+  run_refused request refusal ready (long_start s file long e) =
+      let short = ready.short in
+      let same = ap length (one_file request.start s ready.start file ready.start_file) in
+      omega arith
+  run_refused request refusal ready (not_runnable s bytes file short wasm r) =
+      let name = module_name request.wasm in
+      let moved = subst (λ s. NotRunnable name request.export s bytes refusal) (one_file request.start s ready.start file ready.start_file) r in
+      runnable_refused name request.export ready.start ready.bytes refusal ready.runnable
+      (subst (λ bytes. NotRunnable name request.export ready.start bytes refusal) (one_file request.wasm bytes ready.bytes wasm ready.file) moved)
+
+  -- a run has one outcome
+  pub run_once : (request : InterpRequest) (ready other : InterpReady (Some files) request) (a b : Option Outcome)
+      → HasOutcome ready.runnable request.steps a → HasOutcome other.runnable request.steps b → a ≡ b
+  run_once request ready other a b h i =
+      let name = module_name request.wasm in
+      let Outcomes = λ (s bytes : List ℕ). (r : Runnable name request.export s bytes) → HasOutcome r request.steps b → a ≡ b in
+      let here : Outcomes ready.start ready.bytes = λ r. one_run name request.export ready.start ready.bytes ready.runnable r request.steps a b h in
+      let there : Outcomes other.start other.bytes =
+          subst (λ s. Outcomes s other.bytes) (one_file request.start ready.start other.start ready.start_file other.start_file)
+          (subst (λ bytes. Outcomes ready.start bytes) (one_file request.wasm ready.bytes other.bytes ready.file other.file) here) in
+      there other.runnable i

@@ -1,0 +1,32 @@
+-- What the parts of `interp` answer.
+use Rattle.std.specs.Prelude.{ℕ, List, Result, Ok, Err}
+use Rattle.bl_trace.specs.declared.error.StartError.{StartError}
+use Rattle.bl_trace.specs.declared.error.StartError.TheVariants.{Line, Count, Memory}
+use Rattle.bl_wasm.specs.declared.linked.Tree.{Tree}
+use Rattle.bl_app.specs.Requests.{InterpRequest, module_name}
+use Rattle.bl_app.specs.Running.{AgainstStart, HasRun, NotRunnable, Opens}
+use Rattle.bl_app.specs.Status.{code_of}
+use Rattle.bl_app.specs.declared.interp.Opening.{Opening}
+use Rattle.bl_app.specs.declared.interp.Printed.{Printed}
+use Rattle.bl_app.specs.declared.module.WorkError.{WorkError}
+use Rattle.bl_app.specs.declared.module.WorkError.TheVariants as error
+use Rattle.bl_app.specs.declared.refusal.Refusal.TheVariants.{BadLine, FewArguments}
+
+-- an error of reading a start file
+abbrev pub start_error : StartError → WorkError
+start_error (Line number) = error.Refused (BadLine number)
+start_error (Count count) = error.Refused (FewArguments count)
+start_error Memory = error.Memory
+
+-- the function and its start, or what stands against them
+abbrev pub IsOpened : Tree → List ℕ → List ℕ → Result Opening WorkError → Type 0
+IsOpened tree export bytes (Ok opening) = Opens tree export bytes opening.function opening.kind.now opening.start
+IsOpened tree export bytes (Err (error.Refused refusal)) = AgainstStart tree export bytes refusal
+IsOpened tree export bytes (Err error.Memory) = Unit {0}
+
+-- the text and the status of the run, or what stands against it
+abbrev pub Interpreted : InterpRequest → List ℕ → List ℕ → Result Printed WorkError → Type 0
+Interpreted request start bytes (Ok printed) =
+    HasRun (module_name request.wasm) request.export start bytes request.steps printed.text.items (code_of printed.status)
+Interpreted request start bytes (Err (error.Refused refusal)) = NotRunnable (module_name request.wasm) request.export start bytes refusal
+Interpreted request start bytes (Err error.Memory) = Unit {0}
