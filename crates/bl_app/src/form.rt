@@ -1,7 +1,7 @@
 //! Whether a module is one of the form that is hardened today.
 ghost use Rattle.std.specs.Prelude.{◌≡◌, ◌↔◌, ℕ, List as Listed, ◌∷◌, [], ◌≤◌, codes, length, All, IsSome, IsTrue, sum_by};
 ghost use Rattle.bl_wasm.specs.declared.instruction.Instr.{Instr as Instruction};
-ghost use Rattle.bl_app.specs.Form.{HasNoFunction, HasOneFunction, IsBare, IsForm, IsFormBody, IsFormName, code_of, export_of, item_of as item_in, items_of, one_type, size_of};
+ghost use Rattle.bl_app.specs.Form.{HasNoFunction, HasOneFunction, IsBare, IsForm, IsFormBody, IsFormName, StandsAlone, code_of, export_of, item_of as item_in, items_of, one_type, size_of};
 ghost use Rattle.bl_app.specs.Typing.{BodyTyped};
 
 use crate::linked::Item;
@@ -18,21 +18,29 @@ pub fn is_form(tree: &Module) -> bool
     is_bare(tree) && (has_no_function(tree) || has_one_function(tree))
 }
 
-/// Whether it has functions, exports and custom sections alone, and no section of labels.
-fn is_bare(tree: &Module) -> bool
-    ensures { IsTrue result ↔ IsBare tree.now }
+/// Whether the module can be run by itself: it imports nothing, and has no table, no memory and no section of labels.
+/// Linear in the custom sections.
+pub fn stands_alone(tree: &Module) -> bool
+    ensures { IsTrue result ↔ StandsAlone tree.now }
 {
     tree.imports.is_empty()
         && tree.tables.is_empty()
         && tree.memories.is_empty()
-        && tree.globals.is_empty()
-        && tree.elements.is_empty()
-        && tree.segments.is_empty()
         && tree
             .customs
             .as_slice()
             .iter()
             .all(|custom| is_no_label_section(custom))
+}
+
+/// Whether it has functions, exports and custom sections alone, and no section of labels.
+fn is_bare(tree: &Module) -> bool
+    ensures { IsTrue result ↔ IsBare tree.now }
+{
+    stands_alone(tree)
+        && tree.globals.is_empty()
+        && tree.elements.is_empty()
+        && tree.segments.is_empty()
 }
 
 /// Whether a custom section isn't that of labels.

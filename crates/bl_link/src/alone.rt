@@ -1,6 +1,5 @@
 //! One module as a program of its own.
 ghost use Rattle.std.specs.Prelude.{◌≡◌, IfOk};
-ghost use Rattle.std.specs.Str.{IsUtf8};
 ghost use Rattle.bl_wasm.specs.Linked.{IsLinked};
 ghost use Rattle.bl_wasm.specs.Validity.{Typed};
 ghost use Rattle.bl_link.specs.Alone.{IsAlone, alone};
@@ -15,8 +14,7 @@ use std::alloc::Global;
 /// The linked tree of one valid module that imports nothing, has no table and no memory, and is within the limits
 /// (`IsAlone`). Its functions and globals keep their numbers, and everything is public. Each exported function has the
 /// module's name, a solidus and the name of the export. The bodies are moved.
-pub fn link_alone(alloc: Global, name: &[u8], wasm: ValidModule) -> Result<Linked, NoMemory>
-    requires name { IsUtf8 name.now }
+pub fn link_alone(alloc: Global, name: &str, wasm: ValidModule) -> Result<Linked, NoMemory>
     requires alone { IsAlone wasm }
     ensures { IfOk result (λ linked. linked ≡ alone name.now wasm) }
 {
@@ -25,8 +23,7 @@ pub fn link_alone(alloc: Global, name: &[u8], wasm: ValidModule) -> Result<Linke
 }
 
 /// The tree of a module; it can be run.
-fn linked_tree(alloc: Global, name: &[u8], wasm: Module) -> Result<Tree, NoMemory>
-    requires name { IsUtf8 name.now }
+fn linked_tree(alloc: Global, name: &str, wasm: Module) -> Result<Tree, NoMemory>
     requires alone { IsAlone wasm }
     requires typed { Typed wasm }
     ensures whole { IfOk result (λ tree. tree ≡ alone name.now wasm) }

@@ -95,8 +95,7 @@ fn first(kind: WasmType, items: &[Instr]) -> u64
 }
 
 /// The exported functions by their names in the tree.
-pub(crate) fn exports(alloc: Global, name: &[u8], entries: &[Export]) -> Result<Exports, NoMemory>
-    requires name { IsUtf8 name.now }
+pub(crate) fn exports(alloc: Global, name: &str, entries: &[Export]) -> Result<Exports, NoMemory>
     requires names { All (λ entry. IsUtf8 entry.name) entries.now }
     requires distinct { AreDistinct entries.now }
     ensures { IfOk result (λ all. all ≡ filter_map (exported name.now) entries.now) }
@@ -111,13 +110,12 @@ pub(crate) fn exports(alloc: Global, name: &[u8], entries: &[Export]) -> Result<
 }
 
 /// The name of an export behind the module's.
-fn qualified(alloc: Global, name: &[u8], these: &[u8]) -> Result<String, NoMemory>
-    requires name { IsUtf8 name.now }
+fn qualified(alloc: Global, name: &str, these: &[u8]) -> Result<String, NoMemory>
     requires these { IsUtf8 these.now }
     ensures { IfOk result (λ whole. string_bytes whole ≡ qualified_of name.now these.now) }
 {
     let mut bytes = Vec::new(alloc);
-    bytes.extend_from_slice(name)?;
+    bytes.extend_from_slice(name.as_bytes())?;
     bytes.push(b'/')?;
     bytes.extend_from_slice(these)?;
     match String::from_utf8(bytes) {

@@ -158,7 +158,7 @@ fn linked(alloc: Global) -> Result<Option<Linked>, Fail> {
         return Ok(None);
     }
     match validate(alloc, tree) {
-        Ok(valid) => Ok(Some(link_alone(alloc, "m".as_bytes(), valid)?)),
+        Ok(valid) => Ok(Some(link_alone(alloc, "m", valid)?)),
         Err(_) => Ok(None),
     }
 }

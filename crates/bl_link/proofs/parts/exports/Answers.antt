@@ -6,8 +6,8 @@ use Rattle.bl_link.proofs.ExportNames.{is_new, exported_more, exported_same}
 use Rattle.bl_link.proofs.parts.exports.Goals as goal
 use Rattle.bl_link.proofs.parts.exports.Goals.{then-eq+in_ok-qualified+in_ok-add, else-eq}
 
-pub qualified-requires-clause-these : goal.qualified-requires-clause-these
-qualified-requires-clause-these c =
+pub qualified-requires : goal.qualified-requires
+qualified-requires c =
     subst IsUtf8 (sym c.as_slice.ensures) (subst (λ (e : Export). IsUtf8 e.name) (sym c.entry-item.is) (c.requires.names c.loop-entry.entry-index c.entry-item.result c.loop-entry-test.true))
 
 pub add-requires : goal.add-requires
