@@ -1,5 +1,5 @@
 -- What the interpreter answers.
-use Rattle.std.specs.Prelude.{ℕ, ◌≤◌, Bool, true, false, [], map, Option, Some, None}
+use Rattle.std.specs.Prelude.{ℕ, ◌≤◌, Bool, true, false, List, [], map, Option, Some, None}
 use Rattle.bl_base.specs.Runs.{MemoryState, Outcome, returned, trapped, Comes, EndsAfter}
 use Rattle.bl_base.specs.declared.run.Pages.{Pages}
 use Rattle.bl_base.specs.declared.run.Run.{Run}
@@ -22,6 +22,12 @@ abbrev pub outcome_of : Run → Option Outcome
 outcome_of (run.Returned values memories) = Some (returned values (map memory_of memories))
 outcome_of (run.Trapped kind memories) = Some (trapped kind (map memory_of memories))
 outcome_of run.Spent = None
+
+-- the memories that an answer tells
+abbrev pub memories_in : Run → List Pages
+memories_in (run.Returned values memories) = memories
+memories_in (run.Trapped kind memories) = memories
+memories_in run.Spent = []
 
 -- the run has that outcome within so many steps, or it has none within them
 abbrev pub IsWithin : Tree → ℕ → Start → ℕ → Option Outcome → Type 0

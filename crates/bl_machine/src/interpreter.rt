@@ -3,7 +3,7 @@ ghost use Rattle.std.specs.Prelude.{◌≡◌, ℕ, [], IfOk, IsTrue, map};
 ghost use Rattle.bl_wasm.specs.Linked.{IsLinked};
 ghost use Rattle.bl_reduce.specs.Outcomes.{IsStart};
 ghost use Rattle.bl_machine.specs.Bodies.{body_of};
-ghost use Rattle.bl_machine.specs.Interpreting.{Answers, Drives, has_ended, run_of, starting};
+ghost use Rattle.bl_machine.specs.Interpreting.{Answers, Drives, has_ended, memories_in, run_of, starting};
 ghost use Rattle.bl_machine.specs.Machines.{Gives};
 ghost use Rattle.bl_machine.specs.Moves.{advanced};
 
@@ -28,7 +28,8 @@ pub fn interp(
     requires start { IsStart tree.now function start.now }
     requires memories { tree.now.memories ≡ [] }
     requires tables { tree.now.tables ≡ [] }
-    ensures { IfOk result (λ run. Answers tree.now function start.now steps run) }
+    ensures answers { IfOk result (λ run. Answers tree.now function start.now steps run) }
+    ensures memories { IfOk result (λ run. memories_in run ≡ []) }
 {
     let tree = tree.tree();
     let bodies = bodies(alloc, tree)?;
