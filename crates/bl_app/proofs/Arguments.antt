@@ -1,13 +1,19 @@
--- The arguments among words, one word after another.
-use Rattle.std.proofs.Common.{ℕ, Bool, true, false, List, ◌++◌, Option, Some}
+-- The parts of words, one word after another.
+use Rattle.std.proofs.Common.{ℕ, List, [], ◌++◌, Option, Some}
 use Rattle.std.specs.Option.{option_map}
-use Rattle.bl_app.specs.Requests.{arguments_of}
+use Rattle.bl_app.specs.Requests.{Parts, parts_of, parts_behind_steps}
+use Rattle.bl_app.specs.declared.words.Next.{Next}
+use Rattle.bl_app.specs.declared.words.Next.TheVariants.{Any, StepsValue, Argument}
 
--- what the words that are left give, where options are still to be met, and where they aren't
-abbrev pub rest_of : Bool → List (List ℕ) → Option (List (List ℕ))
-rest_of true words = arguments_of words
-rest_of false words = Some words
+-- what the words that are left give, by what the next of them may be
+abbrev pub rest_of : Next → List (List ℕ) → Option Parts
+rest_of Any words = parts_of words
+rest_of StepsValue words = parts_behind_steps words
+rest_of Argument words = Some (record { arguments = words; steps = [] })
 
--- the arguments so far, and those of what is left
-abbrev pub joined : List (List ℕ) → Bool → List (List ℕ) → Option (List (List ℕ))
-joined before options rest = option_map (λ arguments. before ++ arguments) (rest_of options rest)
+abbrev pub together : List (List ℕ) → List (List ℕ) → Parts → Parts
+together arguments steps more = record { arguments = arguments ++ more.arguments; steps = steps ++ more.steps }
+
+-- the parts so far, and those of what is left
+abbrev pub joined : List (List ℕ) → List (List ℕ) → Next → List (List ℕ) → Option Parts
+joined arguments steps next rest = option_map (together arguments steps) (rest_of next rest)

@@ -1,8 +1,9 @@
 -- What the words of a call ask for.
-use Rattle.std.specs.Prelude.{ℕ, ◌-◌, Bool, false, List, [], ◌∷◌, length, take, drop, Option, Some, None, option_and_then, nat_eq, codes, if◌then◌else◌}
+use Rattle.std.specs.Prelude.{ℕ, ◌-◌, ◌^◌, Bool, ◌&&◌, false, List, [], ◌∷◌, length, take, drop, Option, Some, None, option_and_then, nat_eq, nat_lt, codes, if◌then◌else◌}
 use Rattle.std.specs.List.{after_last}
 use Rattle.std.specs.Option.{option_map}
 use Rattle.std.specs.Str.{bytes_eq}
+use Rattle.bl_trace.specs.Digits.{decimal_below}
 
 -- `harden`: the files that are written, and the module that is read
 pub record HardenRequest : Type 0 where
@@ -22,30 +23,78 @@ pub data Request : Type 0 where
   harden : HardenRequest → Request
   interp : InterpRequest → Request
 
+-- a command's words taken apart: its arguments, and the values that `--steps` is given
+pub record Parts : Type 0 where
+  pub arguments : List (List ℕ)
+  pub steps : List (List ℕ)
+
+abbrev pub with_argument : List ℕ → Parts → Parts
+with_argument word parts = record parts { arguments = word ∷ parts.arguments }
+
+abbrev pub with_steps : List ℕ → Parts → Parts
+with_steps value parts = record parts { steps = value ∷ parts.steps }
+
 -- an option word begins with `-` and isn't `-` alone
 abbrev pub is_option : List ℕ → Bool
 is_option [] = false
 is_option (first ∷ []) = false
 is_option (first ∷ second ∷ rest) = nat_eq first 45
 
--- the arguments among a command's words: no option stands before the first `--`, which ends the options and is no argument
-abbrev pub arguments_of : List (List ℕ) → Option (List (List ℕ))
-arguments_of [] = Some []
-arguments_of (word ∷ words) =
-    (if bytes_eq word (codes "--") then Some words
-    else if is_option word then None
-    else option_map (λ arguments. word ∷ arguments) (arguments_of words))
+-- a word `--steps=N` has N behind the sign
+abbrev pub is_steps_value : List ℕ → Bool
+is_steps_value word = bytes_eq (take 8 word) (codes "--steps=")
 
--- what `harden` asks for with these arguments: an image, a certificate that is another file, and a module
-abbrev pub harden_request : List (List ℕ) → Option Request
-harden_request (image ∷ certificate ∷ wasm ∷ []) =
-    (if bytes_eq image certificate then None else Some (record { image = image; certificate = certificate; wasm = wasm }))
-harden_request arguments = None
+abbrev mutual
+  -- where options may stand: the first `--` ends them and is no argument, and another option than `--steps` is none
+  pub parts_of : List (List ℕ) → Option Parts
+  parts_of [] = Some (record { arguments = []; steps = [] })
+  parts_of (word ∷ words) =
+      (if bytes_eq word (codes "--") then Some (record { arguments = words; steps = [] })
+      else if bytes_eq word (codes "--steps") then parts_behind_steps words
+      else if is_steps_value word then option_map (with_steps (drop 8 word)) (parts_of words)
+      else if is_option word then None
+      else option_map (with_argument word) (parts_of words))
+
+  -- behind a `--steps` stands its value
+  pub parts_behind_steps : List (List ℕ) → Option Parts
+  parts_behind_steps [] = None
+  parts_behind_steps (value ∷ words) = option_map (with_steps value) (parts_of words)
+
+-- N of `--steps N`: one to ten decimal digits, leading zeros among them, of a number from 1 to 4,294,967,295
+abbrev pub count_of : List ℕ → Option ℕ
+count_of word =
+    option_and_then (λ count. if nat_lt 0 count && nat_lt (length word) 11 then Some count else None) (decimal_below (2 ^ 32) word)
+
+-- the most steps, by the values that `--steps` is given: none, or one
+abbrev pub steps_of : List (List ℕ) → Option ℕ
+steps_of [] = Some 1000000
+steps_of (value ∷ []) = count_of value
+steps_of values = None
+
+-- what `harden` asks for: an image, a certificate that is another file, and a module
+abbrev pub harden_of : List (List ℕ) → List (List ℕ) → Option Request
+harden_of (image ∷ certificate ∷ wasm ∷ []) [] =
+    (if bytes_eq image certificate then None else Some (harden (record { image = image; certificate = certificate; wasm = wasm })))
+harden_of arguments steps = None
+
+abbrev pub harden_request : Parts → Option Request
+harden_request parts = harden_of parts.arguments parts.steps
+
+-- what `interp` asks for: an export, a start file and a module, and the most steps
+abbrev pub interp_of : List (List ℕ) → List (List ℕ) → Option Request
+interp_of (export ∷ start ∷ wasm ∷ []) values =
+    option_map (λ steps. interp (record { export = export; start = start; wasm = wasm; steps = steps })) (steps_of values)
+interp_of arguments values = None
+
+abbrev pub interp_request : Parts → Option Request
+interp_request parts = interp_of parts.arguments parts.steps
 
 -- the request of all words, the program's own name first, and then the command
 abbrev pub request_of : List (List ℕ) → Option Request
 request_of (program ∷ command ∷ words) =
-    (if bytes_eq command (codes "harden") then option_and_then harden_request (arguments_of words) else None)
+    (if bytes_eq command (codes "harden") then option_and_then harden_request (parts_of words)
+    else if bytes_eq command (codes "interp") then option_and_then interp_request (parts_of words)
+    else None)
 request_of words = None
 
 -- a name without one final `.wasm`

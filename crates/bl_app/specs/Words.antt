@@ -1,7 +1,23 @@
 -- The words of a call as the code keeps them.
-use Rattle.bl_app.specs.Requests.{Request}
+use Rattle.std.specs.Prelude.{map}
+use Rattle.bl_app.specs.Requests.{Request, HardenRequest, InterpRequest, Parts as PartsOf, harden, interp}
 use Rattle.bl_app.specs.declared.words.HardenWords.{HardenWords}
+use Rattle.bl_app.specs.declared.words.InterpWords.{InterpWords}
+use Rattle.bl_app.specs.declared.words.Parts.{Parts}
+use Rattle.bl_app.specs.declared.words.Request.{Request as Words}
+use Rattle.bl_app.specs.declared.words.Request.TheVariants.{Harden, Interp}
+
+-- the parts that borrowed words are
+abbrev pub parts_in : Parts → PartsOf
+parts_in parts = record { arguments = map (λ word. word.now) parts.arguments.items; steps = map (λ word. word.now) parts.steps.items }
 
 -- the request that borrowed words are
-abbrev pub request_in : HardenWords → Request
-request_in words = record { image = words.image.now; certificate = words.certificate.now; wasm = words.wasm.now }
+abbrev pub harden_in : HardenWords → HardenRequest
+harden_in words = record { image = words.image.now; certificate = words.certificate.now; wasm = words.wasm.now }
+
+abbrev pub interp_in : InterpWords → InterpRequest
+interp_in words = record { export = words.export.now; start = words.start.now; wasm = words.wasm.now; steps = words.steps }
+
+abbrev pub request_in : Words → Request
+request_in (Harden words) = harden (harden_in words)
+request_in (Interp words) = interp (interp_in words)

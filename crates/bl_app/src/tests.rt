@@ -1,4 +1,5 @@
 mod interp;
+mod words;
 
 use super::*;
 use bl_base::List;

@@ -1,12 +1,22 @@
 //! The words of a call.
-ghost use Rattle.std.specs.Prelude.{◌≡◌, IfOk, map, nat_eq, string_bytes};
+ghost use Rattle.std.specs.Prelude.{◌≡◌, IfOk, map, nat_eq, string_bytes, if◌then◌else◌, drop};
 ghost use Rattle.std.specs.Option.{option_map};
 ghost use Rattle.std.specs.List.{after_last};
-ghost use Rattle.bl_app.specs.Requests.{arguments_of, harden_request, request_of, is_option, module_name as module_name_of};
-ghost use Rattle.bl_app.specs.Words.{request_in};
+ghost use Rattle.bl_app.specs.Requests.{parts_of, harden_request, interp_request, request_of, is_option, is_steps_value, count_of, steps_of, module_name as module_name_of, without_ending as name_without_ending};
+ghost use Rattle.bl_app.specs.Words.{parts_in, request_in};
 
 use bl_base::NoMemory;
 use std::alloc::Global;
+
+/// The most steps of an `interp` that doesn't say them.
+const DEFAULT_STEPS: u64 = 1_000_000;
+
+/// What the words of a call ask for.
+#[derive(Clone, Copy)]
+pub enum Request<'a> {
+    Harden(HardenWords<'a>),
+    Interp(InterpWords<'a>),
+}
 
 /// The words of a `harden`.
 #[derive(Clone, Copy)]
@@ -19,54 +29,145 @@ pub struct HardenWords<'a> {
     pub wasm: &'a str,
 }
 
+/// The words of an `interp`.
+#[derive(Clone, Copy)]
+pub struct InterpWords<'a> {
+    /// The name of the exported function that is entered.
+    pub export: &'a str,
+    /// The start file, which is read.
+    pub start: &'a str,
+    /// The file of the module, which is read.
+    pub wasm: &'a str,
+    /// The most steps that are made, from 1 to 4,294,967,295.
+    pub steps: u64,
+}
+
+/// A command's words taken apart.
+#[derive(Drop)]
+struct Parts<'a> {
+    arguments: Vec<&'a str>,
+    /// The values that `--steps` is given.
+    steps: Vec<&'a str>,
+}
+
+/// What the next word of a command may be.
+#[derive(Clone, Copy)]
+enum Next {
+    /// An argument or an option.
+    Any,
+    /// The value of a `--steps` that stands before it.
+    StepsValue,
+    /// An argument: the options have ended.
+    Argument,
+}
+
 /// The request that the words ask for, the program's own name first; None where they are no request.
-pub fn read_words(alloc: Global, words: &[String]) -> Result<Option<HardenWords<'_>>, NoMemory>
+pub fn read_words(alloc: Global, words: &[String]) -> Result<Option<Request<'_>>, NoMemory>
     ensures { IfOk result (λ request. option_map request_in request ≡ request_of (map string_bytes words.now)) }
 {
     let [_, command, words @ ..] = words else {
         return Ok(None);
     };
-    if command.as_str() != "harden" {
-        return Ok(None);
+    match command.as_str() {
+        "harden" => Ok(take_apart(alloc, words)?.and_then(|parts| harden_words(&parts))),
+        "interp" => Ok(take_apart(alloc, words)?.and_then(|parts| interp_words(&parts))),
+        _ => Ok(None),
     }
-    let Some(arguments) = read_arguments(alloc, words)? else {
-        return Ok(None);
-    };
-    Ok(harden_words(arguments.as_slice()))
 }
 
-/// The arguments among a command's words: the first `--` ends the options and is none; None where an option stands before
-/// it. Linear in the words.
-fn read_arguments(alloc: Global, words: &[String]) -> Result<Option<Vec<&str>>, NoMemory>
-    ensures { IfOk result (λ arguments. option_map (λ found. map (λ word. word.now) found.items) arguments ≡ arguments_of (map string_bytes words.now)) }
+/// Takes a command's words apart: the first `--` ends the options and is no argument; None where a `--steps` has no
+/// value or another option stands. Linear in the words.
+fn take_apart(alloc: Global, words: &[String]) -> Result<Option<Parts<'_>>, NoMemory>
+    ensures { IfOk result (λ found. option_map parts_in found ≡ parts_of (map string_bytes words.now)) }
 {
     let mut arguments = Vec::new(alloc);
-    let mut has_options = true;
+    let mut steps = Vec::new(alloc);
+    let mut next = Next::Any;
     for word in words {
         let word = word.as_str();
-        if has_options && word == "--" {
-            has_options = false;
-        } else if has_options && is_option_word(word) {
-            return Ok(None);
-        } else {
-            arguments.push(word)?;
+        match next {
+            Next::Argument => arguments.push(word)?,
+            Next::StepsValue => {
+                steps.push(word)?;
+                next = Next::Any;
+            }
+            Next::Any if word == "--" => next = Next::Argument,
+            Next::Any if word == "--steps" => next = Next::StepsValue,
+            Next::Any => match steps_value(word) {
+                Some(value) => steps.push(value)?,
+                None if is_option_word(word) => return Ok(None),
+                None => arguments.push(word)?,
+            },
         }
     }
-    Ok(Some(arguments))
+    match next {
+        Next::StepsValue => Ok(None),
+        Next::Any | Next::Argument => Ok(Some(Parts { arguments, steps })),
+    }
 }
 
-/// What `harden` asks for with these arguments.
-fn harden_words<'a>(arguments: &[&'a str]) -> Option<HardenWords<'a>>
-    ensures { option_map request_in result ≡ harden_request (map (λ word. word.now) arguments.now) }
+/// What `harden` asks for with these parts: three arguments, the first two not the same, and no `--steps`.
+fn harden_words<'a>(parts: &Parts<'a>) -> Option<Request<'a>>
+    ensures { option_map request_in result ≡ harden_request (parts_in parts.now) }
 {
-    match arguments {
-        [image, certificate, wasm] if image != certificate => Some(HardenWords {
-            image: *image,
-            certificate: *certificate,
-            wasm: *wasm,
-        }),
+    match (parts.arguments.as_slice(), parts.steps.as_slice()) {
+        ([image, certificate, wasm], []) if image != certificate => {
+            Some(Request::Harden(HardenWords {
+                image: *image,
+                certificate: *certificate,
+                wasm: *wasm,
+            }))
+        }
         _ => None,
     }
+}
+
+/// What `interp` asks for with these parts: three arguments, and at most one `--steps`.
+fn interp_words<'a>(parts: &Parts<'a>) -> Option<Request<'a>>
+    ensures { option_map request_in result ≡ interp_request (parts_in parts.now) }
+{
+    let [export, start, wasm] = parts.arguments.as_slice() else {
+        return None;
+    };
+    let steps = most_steps(parts.steps.as_slice())?;
+    Some(Request::Interp(InterpWords {
+        export: *export,
+        start: *start,
+        wasm: *wasm,
+        steps,
+    }))
+}
+
+/// The most steps, by the values that `--steps` is given: at most one may stand.
+fn most_steps(values: &[&str]) -> Option<u64>
+    ensures { result ≡ steps_of (map (λ value. value.now) values.now) }
+{
+    match values {
+        [] => Some(DEFAULT_STEPS),
+        [value] => read_count(*value),
+        _ => None,
+    }
+}
+
+/// A number from 1 to 4,294,967,295 in one to ten decimal digits, without a sign.
+fn read_count(word: &str) -> Option<u64>
+    ensures { result ≡ count_of word.now }
+{
+    if word.len() > 10 || word.starts_with('+') {
+        return None;
+    }
+    match word.parse::<u32>() {
+        Ok(0) => None,
+        Ok(count) => Some(u64::from(count)),
+        Err(_) => None,
+    }
+}
+
+/// The value of a word `--steps=N`.
+fn steps_value(word: &str) -> Option<&str>
+    ensures { option_map (λ value. value.now) result ≡ (if is_steps_value word.now then Some (drop 8 word.now) else None) }
+{
+    word.strip_prefix("--steps=")
 }
 
 /// Whether a word begins with `-` and isn't `-` alone.
@@ -78,20 +179,28 @@ fn is_option_word(word: &str) -> bool
 
 /// The name of the module in a file: what stands behind the last `/` of its word, without one final
 /// `.wasm`.
-pub fn module_name(word: &str) -> &[u8]
+pub fn module_name(word: &str) -> &str
     ensures { result.now ≡ module_name_of word.now }
 {
-    let name = base_name(word.as_bytes());
-    name.strip_suffix(b".wasm").unwrap_or(name)
+    without_ending(base_name(word))
+}
+
+/// A name without one final `.wasm`.
+fn without_ending(name: &str) -> &str
+    ensures { result.now ≡ name_without_ending name.now }
+{
+    match name.strip_suffix(".wasm") {
+        Some(front) => front,
+        None => name,
+    }
 }
 
 /// What stands behind the last `/`, or all where there is none.
-fn base_name(path: &[u8]) -> &[u8]
+fn base_name(path: &str) -> &str
     ensures { result.now ≡ after_last (nat_eq 47) path.now }
 {
-    let mut start = path.len();
-    while start > 0 && path[start - 1] != b'/' {
-        start -= 1;
+    match path.rsplit_once('/') {
+        Some((_, name)) => name,
+        None => path,
     }
-    &path[start..]
 }
