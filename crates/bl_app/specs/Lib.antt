@@ -6,6 +6,7 @@ pub mod Image
 pub mod Linking
 pub mod Lowering
 pub mod Meaning
+pub mod Outcomes
 pub mod Plain
 pub mod Reading
 pub mod Refusals

@@ -9,6 +9,7 @@ mod link;
 mod linked;
 mod lists;
 mod lower;
+mod outcome;
 mod output;
 mod program;
 mod refusal;
