@@ -41,11 +41,7 @@ pub fn outcome_status(run: &Run) -> Status
 }
 
 /// The line of the results.
-fn returned_line(
-    alloc: Global,
-    kinds: &[ValueType],
-    values: &[u64],
-) -> Result<Vec<u8>, NoMemory>
+fn returned_line(alloc: Global, kinds: &[ValueType], values: &[u64]) -> Result<Vec<u8>, NoMemory>
     ensures { IfOk result (λ text. text.items ≡ line (codes "returned" ++ values_text kinds.now values.now)) }
 {
     let mut text = "returned".as_bytes().to_vec(alloc)?;
