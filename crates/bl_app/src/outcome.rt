@@ -1,5 +1,5 @@
 //! How a run ended, as it is told.
-ghost use Rattle.std.specs.Prelude.{◌≡◌, ◌++◌, [], IfOk, codes, string_bytes};
+ghost use Rattle.std.specs.Prelude.{◌≡◌, ◌++◌, [], IfOk, codes};
 ghost use Rattle.std.specs.Fmt.{decimal};
 ghost use Rattle.bl_base.specs.Trap.{text_of};
 ghost use Rattle.bl_machine.specs.Interpreting.{memories_in, outcome_of};
