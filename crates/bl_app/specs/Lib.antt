@@ -7,6 +7,7 @@ pub mod Interpreting
 pub mod Linking
 pub mod Lowering
 pub mod Meaning
+pub mod Outcomes
 pub mod Plain
 pub mod Reading
 pub mod Outcomes
