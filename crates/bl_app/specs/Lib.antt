@@ -10,7 +10,6 @@ pub mod Meaning
 pub mod Outcomes
 pub mod Plain
 pub mod Reading
-pub mod Outcomes
 pub mod Refusals
 pub mod Requested
 pub mod Requests
