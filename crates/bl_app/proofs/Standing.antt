@@ -1,16 +1,15 @@
 -- A module that is run by itself, and is within the limits, can be linked alone.
-use Rattle.std.proofs.Common.{◌≡◌, ◌∙◌, refl, ap, subst, sym, ℕ, ◌≤◌, List, [], ◌∷◌, length, Option, Some, None, Bool, true, false, nat_lt, slice_get, sum_by, count_by, arith}
+use Rattle.std.proofs.Common.{◌≡◌, refl, ℕ, ◌≤◌, List, [], ◌∷◌, length, Option, Some, None, slice_get, arith}
 use Rattle.std.specs.List.{All, zip}
 use Rattle.std.specs.Option.{option_or}
 use Rattle.std.proofs.lemmas.List.Elements.{All-nil, All-cons, All-weaker}
 use Rattle.bl_base.specs.declared.quantity.Quantity.{Quantity}
 use Rattle.bl_base.specs.declared.quantity.Quantity.TheVariants as quantity
 use Rattle.bl_wasm.specs.declared.types.FuncType.{FuncType}
-use Rattle.bl_wasm.specs.declared.instruction.Instr.{Instr}
 use Rattle.bl_wasm.specs.declared.module.Code.{Code}
 use Rattle.bl_wasm.specs.declared.module.Module.{Module}
 use Rattle.bl_wasm.specs.Modules.{Spells}
-use Rattle.bl_decode.specs.Limits.{Excess, above, first_excess, first_in, function_excess, functions_of, is_function, locals_of as locals_in, nesting_of, params_of, targets_above}
+use Rattle.bl_decode.specs.Limits.{Excess, above, first_excess, first_in, function_excess, functions_of, locals_of as locals_in, params_of}
 use Rattle.bl_link.specs.Alone.{IsAlone, count_of, locals_of}
 use Rattle.bl_link.proofs.Spelled.{alone_from}
 use Rattle.bl_app.specs.Form.{IsForm, StandsAlone}
@@ -46,9 +45,10 @@ pub within_limits : (tree : Module) → first_excess tree ≡ None → (length t
 within_limits tree none =
     let functions = either_none (above quantity.Functions 10000 (functions_of tree)) _ none in
     let tables = either_none _ _ functions.1 in
-    let memories = either_none _ _ tables.1 in
-    (omega (arith, above_none quantity.Functions 10000 (functions_of tree) functions.0),
-     All-weaker (λ defined. function_excess tree.types defined ≡ None) (λ defined. locals_of tree.types defined ≤ 4096) (few_locals tree.types) (zip tree.functions tree.bodies) (all_none (function_excess tree.types) (zip tree.functions tree.bodies) memories.1))
+    let memories = either_none _ _ tables.1 in (
+      omega (arith, above_none quantity.Functions 10000 (functions_of tree) functions.0),
+      All-weaker (λ defined. function_excess tree.types defined ≡ None) (λ defined. locals_of tree.types defined ≤ 4096) (few_locals tree.types) (zip tree.functions tree.bodies) (all_none (function_excess tree.types) (zip tree.functions tree.bodies) memories.1),
+    )
 
 -- ---- modules that stand alone
 

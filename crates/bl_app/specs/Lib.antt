@@ -7,9 +7,9 @@ pub mod Interpreting
 pub mod Linking
 pub mod Lowering
 pub mod Meaning
+pub mod Outcomes
 pub mod Plain
 pub mod Reading
-pub mod Outcomes
 pub mod Refusals
 pub mod Requested
 pub mod Requests

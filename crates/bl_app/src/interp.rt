@@ -89,7 +89,7 @@ fn interpret(
     ensures { Interpreted (interp_in words.now) start.now bytes.now result }
 {
     let wasm = read_module(alloc, Form::Alone, bytes)?;
-    let linked = link_alone(alloc, module_name(words.wasm).as_bytes(), wasm)?;
+    let linked = link_alone(alloc, module_name(words.wasm), wasm)?;
     let opening = prepare(alloc, linked.tree(), words.export, start)?;
     let run = interp(alloc, &linked, opening.function, &opening.start, words.steps)?;
     let results = opening.kind.results.as_slice();

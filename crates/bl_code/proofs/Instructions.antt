@@ -55,7 +55,7 @@ abbrev rebuilt : ℕ → Shape → Instr
 rebuilt code Bare = bare code
 rebuilt code (Typed type) = choose code ((2, Block type) ∷ (3, Loop type) ∷ []) (If type)
 rebuilt code (Indexed x) = choose code ((0x0C, Br x) ∷ (0x0D, BrIf x) ∷ (0x10, Call x) ∷ (0x20, LocalGet x) ∷ (0x21, LocalSet x) ∷ (0x22, LocalTee x) ∷ (0x23, GlobalGet x) ∷ []) (GlobalSet x)
-rebuilt code (Labels labels default) = BrTable labels default
+rebuilt code (Labels labels default) = BrTable default labels
 rebuilt code (Indirect type) = CallIndirect type
 rebuilt code (Access argument) = access code argument (kind_of code)
 rebuilt code Zero = choose code ((0x3F, MemorySize) ∷ []) MemoryGrow
@@ -132,7 +132,7 @@ rebuilds Else code rest h = subst (λ (c : ℕ). bare c ≡ Else) (only_byte 0x0
 rebuilds End code rest h = subst (λ (c : ℕ). bare c ≡ End) (only_byte 0x0B code rest h).0 refl
 rebuilds (Br x) code rest h = subst (λ (c : ℕ). rebuilt c (Indexed x) ≡ Br x) (after_byte 0x0C code rest h).0 refl
 rebuilds (BrIf x) code rest h = subst (λ (c : ℕ). rebuilt c (Indexed x) ≡ BrIf x) (after_byte 0x0D code rest h).0 refl
-rebuilds (BrTable labels default) code rest h = refl
+rebuilds (BrTable default labels) code rest h = refl
 rebuilds Return code rest h = subst (λ (c : ℕ). bare c ≡ Return) (only_byte 0x0F code rest h).0 refl
 rebuilds (Call x) code rest h = subst (λ (c : ℕ). rebuilt c (Indexed x) ≡ Call x) (after_byte 0x10 code rest h).0 refl
 rebuilds (CallIndirect type) code rest h = refl

@@ -82,7 +82,7 @@ never_empty Else h = cc
 never_empty End h = cc
 never_empty (Br x) h = no_bytes h
 never_empty (BrIf x) h = no_bytes h
-never_empty (BrTable labels default) h = no_bytes h
+never_empty (BrTable default labels) h = no_bytes h
 never_empty Return h = cc
 never_empty (Call x) h = no_bytes h
 never_empty (CallIndirect type) h = no_bytes h
@@ -117,7 +117,7 @@ shaped Else code rest h = let p = only_byte 0x05 code rest h in (grind arith, p.
 shaped End code rest h = let p = only_byte 0x0B code rest h in (grind arith, p.1)
 shaped (Br x) code rest h = let p = after_byte 0x0C code rest h in (grind arith, p.1)
 shaped (BrIf x) code rest h = let p = after_byte 0x0D code rest h in (grind arith, p.1)
-shaped (BrTable labels default) code rest h = let p = after_byte 0x0E code rest h in (grind arith, p.1)
+shaped (BrTable default labels) code rest h = let p = after_byte 0x0E code rest h in (grind arith, p.1)
 shaped Return code rest h = let p = only_byte 0x0F code rest h in (grind arith, p.1)
 shaped (Call x) code rest h = let p = after_byte 0x10 code rest h in (grind arith, p.1)
 shaped (CallIndirect type) code rest h = let p = after_byte 0x11 code rest h in (grind arith, p.1)

@@ -15,7 +15,7 @@ use crate::format::{Format, read_vec};
 use crate::types::read_block_type;
 use crate::values::{read_byte, read_f32, read_f64, read_i32, read_i64, read_u32};
 use bl_ops::AccessKind;
-use bl_wasm::{FloatAccess, FloatOp, Instr, MemoryArgument, SignExtension, WasmType};
+use bl_wasm::{FloatAccess, FloatOp, Instr, MemoryArgument, SignExtension, Targets, WasmType};
 use std::alloc::Global;
 
 /// An unsigned number of 32 bits, as an index.
@@ -129,7 +129,8 @@ fn read_br_table(alloc: Global, bytes: &[u8], at: usize) -> Result<(Instr, usize
 {
     let (labels, place) = read_vec::<Index>(alloc, bytes, at)?;
     let (default, place) = read_u32(bytes, place)?;
-    Ok((Instr::BrTable { labels, default }, place))
+    let targets = Targets::of(alloc, labels)?;
+    Ok((Instr::BrTable { default, targets }, place))
 }
 
 /// Reads what stands behind the code of a `call_indirect` (section 5.4.1): an index, and a number that is zero.

@@ -69,7 +69,7 @@ nesting_of items = greatest_open items (length items + 1)
 
 -- a br_table with too many targets
 abbrev pub targets_above : Instr → Option Excess
-targets_above (BrTable labels default) = above quantity.Targets 1024 (length labels)
+targets_above (BrTable default labels) = above quantity.Targets 1024 (length labels)
 targets_above _ = None
 
 -- the first quantity that a function exceeds

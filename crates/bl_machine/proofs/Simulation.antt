@@ -60,7 +60,7 @@ module _ (tree : Tree) (linked : IsLinked tree) (no_memories : tree.memories ≡
     plain_follows (BrIf l) from to place jump m state h s =
         branch_if_follows tree m state l s.is (λ v vs e.
         branches_are_there tree linked type state s.typed s.arity open_ones l h.0 vs s.labels_are h.1 (enough_below from h.2.lower h.0 v vs state.frame.values h.2.before s.values e))
-    plain_follows (BrTable ls default) from to place jump m state h s =
+    plain_follows (BrTable default ls) from to place jump m state h s =
         branch_by_follows tree m state ls default s.is (λ v vs e.
         branches_are_there tree linked type state s.typed s.arity open_ones (unwrap_or (slice_get ls v) default) h.0 vs s.labels_are
         (chosen (λ l. slice_get (labels (context tree type state.frame.function) open_ones) l ≡ Some h.0) ls default v h.1)

@@ -9,7 +9,9 @@ use crate::jumps::jumps;
 use crate::machine::Progress;
 use bl_base::{Label, List, NoMemory, Run, Start};
 use bl_ops::Op;
-use bl_wasm::{Code, Exports, Function, Instr, Linked, LocalRun, Signature, Tree, WasmType};
+use bl_wasm::{
+    Code, Exports, Function, Instr, Linked, LocalRun, Signature, Targets, Tree, WasmType,
+};
 use std::alloc::Global;
 use std::test::Fail;
 
@@ -168,6 +170,7 @@ fn branching(alloc: Global) -> Result<Vec<Instr>, NoMemory> {
     let mut labels = List::new(alloc);
     labels.push(0)?;
     labels.push(1)?;
+    let targets = Targets::of(alloc, labels)?;
     let kind = Some(WasmType::I32);
     Ok(vec![in alloc;
         Instr::Block(kind),
@@ -175,7 +178,10 @@ fn branching(alloc: Global) -> Result<Vec<Instr>, NoMemory> {
         Instr::Block(kind),
         Instr::I32Const(40),
         Instr::LocalGet(0),
-        Instr::BrTable { labels, default: 2 },
+        Instr::BrTable {
+            default: 2,
+            targets
+        },
         Instr::Unreachable,
         Instr::End,
         Instr::I32Const(1),

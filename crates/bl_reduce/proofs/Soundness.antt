@@ -68,7 +68,7 @@ module _ (tree : Tree) (linked : IsLinked tree) (results : List ValueType) where
     plain_steps Nop open_ones from to state h fits ready begins = nop_steps tree results type open_ones from to state h ready begins
     plain_steps (Br l) open_ones from to state h fits ready begins = br_steps tree results type open_ones l h.0 from state h.1 h.2 ready
     plain_steps (BrIf l) open_ones from to state h fits ready begins = br_if_steps tree results type open_ones l h.0 from to state h.1 h.2 ready begins
-    plain_steps (BrTable ls default) open_ones from to state h fits ready begins = br_table_steps tree results type open_ones ls default h.0 from state h.1 h.2 ready
+    plain_steps (BrTable default ls) open_ones from to state h fits ready begins = br_table_steps tree results type open_ones ls default h.0 from state h.1 h.2 ready
     plain_steps Return open_ones from to state h fits ready begins =
         return_steps tree results type open_ones (reverse h.lower) state (taken tree results type open_ones from h.lower (map integer type.results) state h.before ready)
     plain_steps (Call number) open_ones from to state h fits ready begins = call_steps tree linked results type open_ones number h.0 from to state h.1 h.2 ready begins

@@ -128,7 +128,7 @@ count_down = refl
 
 -- block, block, local.get 0, br_table 0 1 2, end, i32.const 10, return, end, i32.const 20
 abbrev choose : Tree
-choose = one 1 1 0 (Block None ∷ Block None ∷ LocalGet 0 ∷ BrTable (0 ∷ 1 ∷ []) 1 ∷ End ∷ I32Const 10 ∷ Return ∷ End ∷ I32Const 20 ∷ [])
+choose = one 1 1 0 (Block None ∷ Block None ∷ LocalGet 0 ∷ BrTable 1 (0 ∷ 1 ∷ []) ∷ End ∷ I32Const 10 ∷ Return ∷ End ∷ I32Const 20 ∷ [])
 
 choose_first : run choose 7 (0 ∷ []) ≡ ends (returned (10 ∷ []) [])
 choose_first = refl

@@ -77,8 +77,8 @@ impl Body<'_> {
             Instr::End => stacks.end(),
             Instr::Br(label) => Ok(self.branch(stacks, *label)),
             Instr::BrIf(label) => self.branch_if(stacks, *label),
-            Instr::BrTable { labels, default } => {
-                Ok(self.branch_by(stacks, labels.as_slice(), *default))
+            Instr::BrTable { default, targets } => {
+                Ok(self.branch_by(stacks, targets.as_slice(), *default))
             }
             Instr::Return => Ok(stacks.leave(self.results)),
             Instr::Call(function) => self.call(stacks, *function),
@@ -134,7 +134,7 @@ impl Body<'_> {
 
     /// `br_table`.
     fn branch_by(&self, stacks: &mut Stacks, wanted: &[u32], default: u32) -> bool
-        ensures { Steps (seen self.now) (Instr.BrTable wanted.now default) stacks.old result stacks.new }
+        ensures { Steps (seen self.now) (Instr.BrTable default wanted.now) stacks.old result stacks.new }
     {
         let Some(target) = stacks.target(default) else {
             return false;

@@ -21,6 +21,7 @@ use bl_wasm::WasmType::{self, F32, F64, I32, I64};
 use bl_wasm::{
     Code, DataSegment, DefinedGlobal, ElementSegment, Export, ExportKind, FloatOp, FuncType,
     GlobalType, Import, ImportKind, Instr, Limits, LocalRun, MemoryArgument, Module, SignExtension,
+    Targets,
 };
 use std::alloc::Global;
 use std::test::Fail;
@@ -161,8 +162,8 @@ fn table(alloc: Global, rest: &[u8]) -> Result<Instr, Fail> {
         _ => (List::new(alloc), 0),
     };
     Ok(Instr::BrTable {
-        labels,
         default: u32::from(default),
+        targets: Targets::of(alloc, labels)?,
     })
 }
 

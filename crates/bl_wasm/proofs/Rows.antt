@@ -201,7 +201,7 @@ long_size = (
 )
 
 -- labels and the default
-table : instruction (BrTable (0 ∷ 1 ∷ []) 2) (0x0E ∷ 0x02 ∷ 0x00 ∷ 0x01 ∷ 0x02 ∷ [])
+table : instruction (BrTable 2 (0 ∷ 1 ∷ [])) (0x0E ∷ 0x02 ∷ 0x00 ∷ 0x01 ∷ 0x02 ∷ [])
 table = after _ (both (0x02 ∷ 0x00 ∷ 0x01 ∷ []) _
     (counted u32 (0 ∷ 1 ∷ []) (0x00 ∷ 0x01 ∷ []) (omega arith) (both (0x00 ∷ []) _ (small 0 (omega arith)) (both (0x01 ∷ []) [] (small 1 (omega arith)) refl)))
     (small 2 (omega arith)))

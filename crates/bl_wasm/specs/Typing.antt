@@ -124,7 +124,7 @@ Plain c open_ones Unreachable from to = Leaves [] from
 Plain c open_ones Nop from to = Arrow [] [] from to
 Plain c open_ones (Br l) from to = (types : List WasmType) × (slice_get (labels c open_ones) l ≡ Some types) × Leaves types from
 Plain c open_ones (BrIf l) from to = (types : List WasmType) × (slice_get (labels c open_ones) l ≡ Some types) × Arrow (types ++ I32 ∷ []) types from to
-Plain c open_ones (BrTable ls default) from to =
+Plain c open_ones (BrTable default ls) from to =
     (types : List WasmType) × All (λ l. slice_get (labels c open_ones) l ≡ Some types) (ls ++ default ∷ []) × Leaves (types ++ I32 ∷ []) from
 Plain c open_ones Return from to = Leaves c.results from
 Plain c open_ones (Call function) from to = (type : FuncType) × HasType c function type × Arrow type.params type.results from to

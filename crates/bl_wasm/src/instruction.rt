@@ -1,7 +1,7 @@
 //! Instructions (WebAssembly 1.0, section 2.4).
 use crate::float::{FloatAccess, FloatOp};
+use crate::targets::Targets;
 use crate::types::WasmType;
-use bl_base::List;
 use bl_ops::{AccessKind, Op};
 
 /// One item of a body. A body is a flat list of these, in which a block, loop or if stands before its items, and its
@@ -29,10 +29,10 @@ pub enum Instr {
     BrIf(u32),
     /// `br_table`.
     BrTable {
-        /// The labels by index.
-        labels: List<u32>,
-        /// The label where the index is past them.
+        /// The label where the index is past the others.
         default: u32,
+        /// The other labels by index.
+        targets: Targets,
     },
     /// `return`.
     Return,

@@ -7,6 +7,7 @@ mod instruction;
 pub mod laws;
 mod linked;
 mod module;
+mod targets;
 mod types;
 
 pub use exports::Exports;
@@ -17,6 +18,7 @@ pub use module::{
     Code, CustomSection, DataSegment, DefinedGlobal, ElementSegment, Export, ExportKind, Import,
     ImportKind, LocalRun, Module,
 };
+pub use targets::Targets;
 pub use types::{FuncType, GlobalType, Limits, WasmType};
 
 #[cfg(test)]

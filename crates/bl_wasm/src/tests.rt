@@ -1,5 +1,6 @@
 use super::*;
 use bl_base::List;
+use std::mem::size_of;
 use std::test::Fail;
 
 #[test]
@@ -26,5 +27,11 @@ fn the_empty_tree_is_linked(rt: HostRuntime) -> Result<(), Fail> {
         exports: Exports::new(rt.alloc()),
     });
     assert_eq!(rt; linked.tree().functions.len(), 0);
+    Ok(())
+}
+
+#[test]
+fn an_item_takes_16_bytes(rt: HostRuntime) -> Result<(), Fail> {
+    assert_eq!(rt; size_of::<Instr>(), 16);
     Ok(())
 }

@@ -25,4 +25,4 @@ returns c =
     let first = stands (vec u32) bytes c.args.at c.in_ok-labels.place c.in_ok-labels.labels c.in_ok-labels.ensures in
     let second = stands u32 bytes c.in_ok-labels.place c.in_ok-default.place c.in_ok-default.default c.in_ok-default.ensures in
     let both = join bytes c.args.at c.in_ok-labels.place c.in_ok-default.place first second in
-    is_at (behind instruction 0x0E) bytes c.args.at c.in_ok-default.place _ (as_other bytes c.args.at c.in_ok-default.place (before 0x0E) both)
+    rw c.in_ok-targets.ensures (is_at (behind instruction 0x0E) bytes c.args.at c.in_ok-default.place _ (as_other bytes c.args.at c.in_ok-default.place (before 0x0E) both))

@@ -8,7 +8,7 @@ use Rattle.bl_link.proofs.parts.exports.Goals.{then-eq+in_ok-qualified+in_ok-add
 
 pub qualified-requires : goal.qualified-requires
 qualified-requires c =
-    subst IsUtf8 (sym c.as_slice.ensures) (subst (λ (e : Export). IsUtf8 e.name) (sym c.entry-item.is) (c.requires.names c.loop-entry.entry-index c.entry-item.result c.loop-entry-test.true))
+    record { these = subst IsUtf8 (sym c.as_slice.ensures) (subst (λ (e : Export). IsUtf8 e.name) (sym c.entry-item.is) (c.requires.names c.loop-entry.entry-index c.entry-item.result c.loop-entry-test.true)) }
 
 pub add-requires : goal.add-requires
 add-requires c =
