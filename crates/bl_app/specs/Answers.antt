@@ -11,7 +11,7 @@ use Rattle.bl_app.specs.declared.program.Program.{Program}
 use Rattle.bl_app.specs.declared.refusal.Refusal.{Refusal}
 use Rattle.bl_app.specs.Refusals.{Accepted, Refused}
 use Rattle.bl_app.specs.Status.{status_of}
-use Rattle.bl_app.specs.Linking.{linked_of}
+use Rattle.bl_link.specs.Alone.{alone}
 use Rattle.bl_app.specs.Lowering.{low}
 use Rattle.bl_app.specs.Image.{image_of}
 use Rattle.bl_app.specs.Requests.{Request, request_of, module_name}
@@ -19,7 +19,7 @@ use Rattle.bl_app.specs.Texts.{usage_text, refusal_text, read_fault_text, write_
 
 -- the program of a module under that name
 abbrev pub program_of : List ℕ → Module → Program
-program_of part tree = low (linked_of part tree)
+program_of part tree = low (alone part tree)
 
 -- the file of that name has these bytes; nothing is said where the files aren't told
 abbrev pub FileIs : Option Files → List ℕ → List ℕ → Type 0

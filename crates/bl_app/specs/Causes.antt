@@ -8,7 +8,7 @@ use Rattle.bl_app.specs.declared.program.Command.TheVariants.{Set, Jump, Out, Re
 use Rattle.bl_app.specs.declared.refusal.Refusal.{Refusal}
 use Rattle.bl_app.specs.Refusals.{Accepted, Refused}
 use Rattle.bl_app.specs.Status.{status_of}
-use Rattle.bl_app.specs.Linking.{linked_of}
+use Rattle.bl_link.specs.Alone.{alone}
 use Rattle.bl_app.specs.Image.{image_of}
 use Rattle.bl_app.specs.Meaning.{SameOutcomes}
 use Rattle.bl_app.specs.Requests.{Request, request_of, module_name}
@@ -99,4 +99,4 @@ pub record Hardens (words : List (List ℕ)) (old new : World) : Type 0 where
   pub certificate : FileIs new.files request.certificate empty_certificate
   pub printed : new.sink.taken ≡ took old.sink.taken (report_text (program_of (module_name request.wasm) tree))
   pub unprotected : All IsUnprotected (program_of (module_name request.wasm) tree).commands
-  pub same_outcomes : SameOutcomes (linked_of (module_name request.wasm) tree) (program_of (module_name request.wasm) tree)
+  pub same_outcomes : SameOutcomes (alone (module_name request.wasm) tree) (program_of (module_name request.wasm) tree)

@@ -3,14 +3,12 @@ pub mod Bodies
 pub mod Causes
 pub mod Form
 pub mod Image
-pub mod Linking
 pub mod Lowering
 pub mod Meaning
 pub mod Plain
 pub mod Reading
 pub mod Refusals
 pub mod Requests
-pub mod Source
 pub mod Status
 pub mod Texts
 pub mod Typing

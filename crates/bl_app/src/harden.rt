@@ -7,12 +7,12 @@ ghost use Rattle.bl_app.specs.declared.harden.HardenError.TheVariants as error;
 
 use crate::form::is_form;
 use crate::image::encode;
-use crate::link::link;
 use crate::lower::lower;
 use crate::refusal::Refusal;
 use crate::report::report;
 use bl_base::{NoMemory, Quantity};
 use bl_decode::{DecodeError, decode};
+use bl_link::link_alone;
 use bl_validate::{Invalid, ValidModule, validate};
 use std::alloc::Global;
 use thiserror::Error;
@@ -58,8 +58,8 @@ pub fn harden(alloc: Global, part: &[u8], bytes: &[u8]) -> Result<Hardened, Hard
         Ok(wasm) => wasm,
         Err(error) => return Err(error),
     };
-    let linked = link(alloc, part, wasm.module())?;
-    let program = lower(alloc, linked)?;
+    let linked = link_alone(alloc, part, wasm)?;
+    let program = lower(alloc, &linked)?;
     let image = encode(alloc, &program)?;
     let report = report(alloc, &program)?;
     Ok(Hardened { image, report })

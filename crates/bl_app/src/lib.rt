@@ -5,8 +5,6 @@ mod form;
 mod harden;
 mod image;
 pub mod laws;
-mod link;
-mod linked;
 mod lists;
 mod lower;
 mod output;
