@@ -1,4 +1,4 @@
-//! Whether a module is one of the form that is hardened today.
+//! The form of module that is hardened today: whether a module is of it, and the items of its body.
 ghost use Rattle.std.specs.Prelude.{◌≡◌, ◌↔◌, ℕ, List as Listed, ◌∷◌, [], ◌≤◌, codes, length, All, IfOk, IsSome, IsTrue, sum_by};
 ghost use Rattle.bl_wasm.specs.declared.instruction.Instr.{Instr as Instruction};
 ghost use Rattle.bl_app.specs.Form.{HasNoFunction, HasOneFunction, IsBare, IsForm, IsFormBody, IsFormName, code_of, export_of, item_of as item_in, items_of, one_type, size_of};
