@@ -13,7 +13,7 @@ use Rattle.bl_outside.specs.Faults.{Rose}
 use Rattle.bl_outside.specs.Shelf.{Files, with_file}
 use Rattle.bl_app.specs.declared.refusal.Refusal.{Refusal}
 use Rattle.bl_app.specs.declared.refusal.Refusal.TheVariants.{Malformed, InvalidFunction, InvalidModule, Unsupported, Limit, NoExport, BadLine, FewArguments}
-use Rattle.bl_app.specs.Linking.{linked_of}
+use Rattle.bl_link.specs.Alone.{alone}
 use Rattle.bl_app.specs.Status.{status_of}
 use Rattle.bl_app.specs.Image.{image_of}
 use Rattle.bl_app.specs.Outcomes.{outcome_status}
@@ -239,7 +239,7 @@ module _ (words : List (List ℕ)) (old new : World) where
     certificate = subst (λ f. FileIs f request.certificate empty_certificate) (sym d.files)
         (kept_still certified request.image image request.certificate empty_certificate (request_differs words request is) (kept_last old.files request.certificate empty_certificate));
     printed = d.said.taken;
-    unprotected = in_low IsUnprotected unprotected_made (linked_of (module_name request.wasm) ready.tree);
+    unprotected = in_low IsUnprotected unprotected_made (alone (module_name request.wasm) ready.tree);
     same_outcomes = keeps_meaning (module_name request.wasm) ready.tree ready.accepted.form;
   }
     where

@@ -2,14 +2,13 @@ use Rattle.std.proofs.Common.{◌≡◌, subst, sym}
 use Rattle.std.specs.Prelude.{Err}
 use Rattle.bl_app.specs.declared.harden.HardenError.TheVariants as error
 use Rattle.bl_app.specs.Bodies.{IsLinkedForm}
-use Rattle.bl_app.specs.Form.{IsForm}
 use Rattle.bl_app.specs.Image.{IsEncodable}
 use Rattle.bl_app.specs.Reading.{Reads}
 use Rattle.bl_app.proofs.EncodableLemmas.{encodable, linked_form}
 use Rattle.bl_app.proofs.harden.harden.Goals as goal
 
 pub lower-requires : goal.lower-requires
-lower-requires c = subst IsLinkedForm (sym c.in_ok-linked.ensures) (linked_form c.args.part.now c.module.result.now (subst IsForm (sym c.module.ensures.same) c.in-Ok.ensures.form))
+lower-requires c = subst IsLinkedForm (sym c.in_ok-linked.ensures) (linked_form c.args.part.now c.in-Ok.wasm c.in-Ok.ensures.form)
 
 pub encode-requires : goal.encode-requires
 encode-requires c = subst IsEncodable (sym c.in_ok-program.ensures) (encodable c.in_ok-linked.linked)
