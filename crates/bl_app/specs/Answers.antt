@@ -1,5 +1,6 @@
 -- What a call is to do where nothing fails, and how it ends.
-use Rattle.std.specs.Prelude.{◌≡◌, ℕ, ◌≤◌, List, [], ◌∷◌, Option, Some, None, Result, Ok, Err, slice_get, take, length, ◌++◌}
+use Rattle.std.specs.Prelude.{◌≡◌, ℕ, ◌≤◌, List, [], ◌∷◌, Option, Some, None, Result, Ok, Err, slice_get, take, length, ◌++◌, Vec}
+use Rattle.std.specs.declared.alloc.Global.{Global}
 use Rattle.bl_base.specs.Runs.{Outcome}
 use Rattle.bl_outside.specs.Faults.{Rose}
 use Rattle.bl_outside.specs.Shelf.{Files, Faults, Gives, ReadFails, WriteFails, with_file}

@@ -2,7 +2,7 @@ use Rattle.std.proofs.Common.{◌∙◌, ap, refl}
 use Rattle.bl_outside.specs.Shelf.{with_file}
 use Rattle.bl_app.specs.Answers.{all_kept, whole, cut}
 use Rattle.bl_app.proofs.Delivery.{keep_refused}
-use Rattle.bl_app.proofs.top.deliver.Goals as goal
+use Rattle.bl_app.proofs.harden.deliver.Goals as goal
 
 pub returns-in-Err : goal.returns-in-Err
 returns-in-Err g c =

@@ -1,6 +1,6 @@
 use Rattle.std.proofs.Common.{◌++◌}
 use Rattle.bl_app.proofs.Took.{whole_both, cut_first, cut_second, cut_pushes, pushes_both}
-use Rattle.bl_app.proofs.top.push_line.Goals as goal
+use Rattle.bl_app.proofs.output.push_line.Goals as goal
 
 pub returns-in_err-push_all : goal.returns-in_err-push_all
 returns-in_err-push_all g c =
