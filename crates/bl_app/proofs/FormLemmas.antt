@@ -1,5 +1,5 @@
 -- Bodies of the form: what is left of one behind an instruction, and how long one is.
-use Rattle.std.proofs.Common.{◌≡◌, ℕ, zero, suc, ◌+◌, ◌<◌, ◌≤◌, List, [], ◌∷◌, Option, Some, None, Bool, true, false, length, drop, get_or, refl, ap, sym, ◌∙◌, subst, arith}
+use Rattle.std.proofs.Common.{◌≡◌, ℕ, zero, suc, ◌+◌, ◌<◌, ◌≤◌, List, [], ◌∷◌, Option, Some, None, Bool, true, false, length, map, drop, get_or, refl, ap, ap₂, sym, ◌∙◌, subst, arith}
 use Rattle.std.specs.Prelude.{All, IsSome, sum_by, if◌then◌else◌}
 use Rattle.std.proofs.lemmas.List.{drop_more}
 use Rattle.std.proofs.lemmas.List.Elements.{All-nil, All-cons, All-head, All-tail}
@@ -7,8 +7,8 @@ use Rattle.std.proofs.lemmas.List.Sums.{sum_by-cons}
 use Rattle.bl_ops.specs.declared.op.Op.TheVariants as op
 use Rattle.bl_wasm.specs.declared.instruction.Instr.{Instr}
 use Rattle.bl_wasm.specs.declared.instruction.Instr.TheVariants as wasm
-use Rattle.bl_app.specs.declared.linked.Item.{Item}
-use Rattle.bl_app.specs.declared.linked.Item.TheVariants.{LocalGet, I32Const, I32Add}
+use Rattle.bl_app.specs.declared.form.Item.{Item}
+use Rattle.bl_app.specs.declared.form.Item.TheVariants.{LocalGet, I32Const, I32Add}
 use Rattle.bl_app.specs.Bodies.{ReadsParameter}
 use Rattle.bl_app.specs.Form.{IsFormBody, add_of, item_of, items_of, local_of, size_of}
 use Rattle.bl_app.specs.Typing.{GoesTo, operands_after}
@@ -92,3 +92,42 @@ reads_more instruction rest None is reads all = rw is all
 pub items_read : (instructions : List Instr) → All ReadsParameter (items_of instructions)
 items_read [] = All-nil ReadsParameter
 items_read (instruction ∷ rest) = reads_more instruction rest (item_of instruction) refl (item_reads instruction) (items_read rest)
+
+-- the instruction that an item is
+abbrev pub instruction_of : Item → Instr
+instruction_of (LocalGet x) = wasm.LocalGet x
+instruction_of (I32Const n) = wasm.I32Const n
+instruction_of I32Add = wasm.Integer op.I32Add
+
+-- an instruction is that item, where it is one
+abbrev Spells : Instr → Option Item → Type 0
+Spells instruction (Some item) = instruction ≡ instruction_of item
+Spells instruction None = Unit {0}
+
+local_spells : (x : ℕ) → Spells (wasm.LocalGet x) (local_of x)
+local_spells zero = refl
+local_spells (suc x) = tt
+
+constant_spells : (small : Bool) (n : ℕ) → Spells (wasm.I32Const n) (if small then Some (I32Const n) else None)
+constant_spells true n = refl
+constant_spells false n = tt
+
+spells : (instruction : Instr) → Spells instruction (item_of instruction)
+spells instruction = elim instruction as (λ k. Spells k (item_of k)) [
+  | wasm.LocalGet x ↦ local_spells x
+  | wasm.I32Const n ↦ constant_spells _ n
+  | wasm.Integer operator ↦ elim operator as (λ k. Spells (wasm.Integer k) (add_of k)) [ op.I32Add ↦ refl | _ ↦ tt ]
+  | _ ↦ tt
+]
+
+spelled_more : (instruction : Instr) (rest : List Instr) (o : Option Item) → item_of instruction ≡ o → IsSome o → Spells instruction o → rest ≡ map instruction_of (items_of rest)
+    → instruction ∷ rest ≡ map instruction_of (items_of (instruction ∷ rest))
+spelled_more instruction rest (Some item) is some same e =
+    ap₂ (λ x xs. x ∷ xs) same e ∙ ap (map instruction_of) (sym (item_in_front instruction item rest is))
+spelled_more instruction rest None is some same e = cc
+
+-- a body of items alone is the instructions of its items
+pub spelled : (instructions : List Instr) → All IsItem instructions → instructions ≡ map instruction_of (items_of instructions)
+spelled [] all = refl
+spelled (instruction ∷ rest) all =
+    spelled_more instruction rest (item_of instruction) refl (All-head IsItem instruction rest all) (spells instruction) (spelled rest (All-tail IsItem instruction rest all))

@@ -3,24 +3,26 @@ use Rattle.std.proofs.Common.{◌≡◌, ℕ, List, [], ◌∷◌, ◌++◌, inr
 use Rattle.std.proofs.lemmas.List.Elements.{All-nil, All-cons}
 use Rattle.std.specs.Prelude.{codes, zero, suc}
 use Rattle.bl_base.specs.declared.trap.Trap.TheVariants as kind
-use Rattle.bl_app.specs.declared.linked.Linked.{Linked}
+use Rattle.bl_wasm.specs.declared.linked.Tree.{Tree}
 use Rattle.bl_app.specs.declared.program.Operator.TheVariants as op
 use Rattle.bl_app.specs.declared.program.Operand.TheVariants.{Constant}
 use Rattle.bl_app.specs.declared.program.Command.TheVariants.{Jump, Out, Ret, Trap}
+use Rattle.bl_ops.specs.Numerics.{meaning, traps}
 use Rattle.bl_ops.specs.declared.op.Op.TheVariants as operator
 use Rattle.bl_wasm.specs.declared.instruction.Instr.{Instr}
 use Rattle.bl_wasm.specs.declared.instruction.Instr.TheVariants as wasm
 use Rattle.bl_wasm.specs.declared.module.Module.{Module}
 use Rattle.bl_app.specs.Form.{IsForm, IsPrintable, code_of, export_of, item_of, one_type}
-use Rattle.bl_app.specs.Linking.{linked_of}
+use Rattle.bl_link.specs.Alone.{alone}
 use Rattle.bl_app.specs.Lowering.{low, set, reads, plain_mark, steps_bound}
 use Rattle.bl_base.specs.Runs.{Next, goes, ends, stuck, returned}
-use Rattle.bl_app.specs.Source.{source_step, entering}
+use Rattle.bl_reduce.specs.Configurations.{entering}
+use Rattle.bl_reduce.specs.Steps.{source_step}
 use Rattle.std.specs.Fmt.{digits}
 use Rattle.std.specs.Prelude.{All, Some, None, IsSome}
 use Rattle.bl_app.specs.Image.{image_of, leb}
 use Rattle.bl_app.specs.Texts.{report_text}
-use Rattle.bl_app.specs.Requests.{module_name, request_of}
+use Rattle.bl_app.specs.Requests.{harden, module_name, request_of}
 use Rattle.bl_app.specs.Plain.{plain_step, opening, State, placed, Placed}
 
 abbrev name : List ℕ
@@ -45,8 +47,8 @@ add_one = record {
   customs = [];
 }
 
-abbrev tree : Linked
-tree = linked_of (codes "inc") add_one
+abbrev tree : Tree
+tree = alone (codes "inc") add_one
 
 printable : All IsPrintable name
 printable =
@@ -67,13 +69,10 @@ are_items =
 form : IsForm add_one
 form = record {
   bare = record {
-    imports = refl;
-    tables = refl;
-    memories = refl;
+    alone = record { imports = refl; tables = refl; memories = refl; labels = All-nil _ };
     globals = refl;
     elements = refl;
     segments = refl;
-    labels = All-nil _;
   };
   functions = inr (record {
     name = name;
@@ -105,8 +104,8 @@ run step (suc n) (ends o) = ends o
 run step (suc n) stuck = stuck
 
 -- five steps and six commands return 0 for the greatest argument
-source_run : run (source_step tree) 5 (goes (entering 0 (4294967295 ∷ []) [])) ≡ ends (returned (0 ∷ []) [])
-unfolding run
+source_run : run (source_step tree) 5 (goes (entering (record { memories = []; globals = [] }) 0 (4294967295 ∷ []) [])) ≡ ends (returned (0 ∷ []) [])
+unfolding run meaning traps
 source_run = refl
 
 abbrev entered : List Placed → State
@@ -135,7 +134,7 @@ part = refl
 bare_part : module_name (codes "wasm") ≡ codes "wasm"
 bare_part = refl
 
-words : request_of (codes "blade" ∷ codes "harden" ∷ codes "a" ∷ codes "b" ∷ codes "c" ∷ []) ≡ Some (record { image = codes "a"; certificate = codes "b"; wasm = codes "c" })
+words : request_of (codes "blade" ∷ codes "harden" ∷ codes "a" ∷ codes "b" ∷ codes "c" ∷ []) ≡ Some (harden (record { image = codes "a"; certificate = codes "b"; wasm = codes "c" }))
 words = refl
 
 same_words : request_of (codes "blade" ∷ codes "harden" ∷ codes "a" ∷ codes "a" ∷ codes "c" ∷ []) ≡ None

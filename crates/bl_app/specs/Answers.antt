@@ -14,7 +14,7 @@ use Rattle.bl_app.specs.Form.{IsForm}
 use Rattle.bl_app.specs.Refusals.{Accepted}
 use Rattle.bl_app.specs.Status.{code_of, status_of}
 use Rattle.bl_app.specs.declared.status.Status.{Status}
-use Rattle.bl_app.specs.Linking.{linked_of}
+use Rattle.bl_link.specs.Alone.{alone}
 use Rattle.bl_app.specs.Lowering.{low}
 use Rattle.bl_app.specs.Image.{image_of}
 use Rattle.bl_app.specs.Outcomes.{outcome_status}
@@ -25,7 +25,7 @@ use Rattle.bl_app.specs.Texts.{usage_text, refusal_text, read_fault_text, write_
 
 -- the program of a module under that name
 abbrev pub program_of : List ℕ → Module → Program
-program_of part tree = low (linked_of part tree)
+program_of part tree = low (alone part tree)
 
 -- a status, the files that are kept, in order, by their names and bytes, and the text that is printed
 pub record Plan : Type 0 where

@@ -7,7 +7,7 @@ use Rattle.bl_app.specs.declared.program.Command.{Command}
 use Rattle.bl_app.specs.declared.program.Command.TheVariants.{Set, Jump, Out, Ret, Trap}
 use Rattle.bl_app.specs.declared.refusal.Refusal.{Refusal}
 use Rattle.bl_app.specs.Status.{status_of}
-use Rattle.bl_app.specs.Linking.{linked_of}
+use Rattle.bl_link.specs.Alone.{alone}
 use Rattle.bl_app.specs.Image.{image_of}
 use Rattle.bl_app.specs.Meaning.{SameOutcomes}
 use Rattle.bl_app.specs.Outcomes.{outcome_status}
@@ -103,7 +103,7 @@ pub record Hardens (request : HardenRequest) (old new : World) : Type 0 where
   pub certificate : FileIs new.files request.certificate empty_certificate
   pub printed : new.sink.taken ≡ took old.sink.taken (report_text (program_of (module_name request.wasm) ready.tree))
   pub unprotected : All IsUnprotected (program_of (module_name request.wasm) ready.tree).commands
-  pub same_outcomes : SameOutcomes (linked_of (module_name request.wasm) ready.tree) (program_of (module_name request.wasm) ready.tree)
+  pub same_outcomes : SameOutcomes (alone (module_name request.wasm) ready.tree) (program_of (module_name request.wasm) ready.tree)
 
 -- the statuses of a run that was carried out
 abbrev pub IsOfRun : ℕ → Type 0

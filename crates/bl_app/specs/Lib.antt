@@ -4,7 +4,6 @@ pub mod Causes
 pub mod Form
 pub mod Image
 pub mod Interpreting
-pub mod Linking
 pub mod Lowering
 pub mod Meaning
 pub mod Outcomes
@@ -14,7 +13,6 @@ pub mod Refusals
 pub mod Requested
 pub mod Requests
 pub mod Running
-pub mod Source
 pub mod Status
 pub mod Texts
 pub mod Typing

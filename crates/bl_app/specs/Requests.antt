@@ -40,12 +40,13 @@ is_option [] = false
 is_option (first ∷ []) = false
 is_option (first ∷ second ∷ rest) = nat_eq first 45
 
--- a word `--steps=N` has N behind the sign
+-- `--steps=N` is one word, and N its value
 abbrev pub is_steps_value : List ℕ → Bool
 is_steps_value word = bytes_eq (take 8 word) (codes "--steps=")
 
 abbrev mutual
-  -- where options may stand: the first `--` ends them and is no argument, and another option than `--steps` is none
+  -- the parts of words among which options may stand: the first `--` ends the options and is no argument, and an option
+  -- other than `--steps` leaves none
   pub parts_of : List (List ℕ) → Option Parts
   parts_of [] = Some (record { arguments = []; steps = [] })
   parts_of (word ∷ words) =
@@ -60,7 +61,8 @@ abbrev mutual
   parts_behind_steps [] = None
   parts_behind_steps (value ∷ words) = option_map (with_steps value) (parts_of words)
 
--- N of `--steps N`: one to ten decimal digits, leading zeros among them, of a number from 1 to 4,294,967,295
+-- N of `--steps N`: one to ten decimal digits, leading zeros among them, of a number from 1 to 4,294,967,295; so no
+-- value begins with a sign
 abbrev pub count_of : List ℕ → Option ℕ
 count_of word =
     option_and_then (λ count. if nat_lt 0 count && nat_lt (length word) 11 then Some count else None) (decimal_below (2 ^ 32) word)

@@ -1,8 +1,8 @@
 -- The typing of a body of the form (WebAssembly 1.0, section 3.3), whose operands are all i32: a stack type is a number of
 -- operands.
 use Rattle.std.specs.Prelude.{◌≡◌, ℕ, ◌+◌, List, [], ◌∷◌, Option, Some, None, suc, zero}
-use Rattle.bl_app.specs.declared.linked.Item.{Item}
-use Rattle.bl_app.specs.declared.linked.Item.TheVariants.{LocalGet, I32Const, I32Add}
+use Rattle.bl_app.specs.declared.form.Item.{Item}
+use Rattle.bl_app.specs.declared.form.Item.TheVariants.{LocalGet, I32Const, I32Add}
 
 -- the operands after an item, from those before it; none where there are too few (section 3.3)
 abbrev pub operands_after : Item → ℕ → Option ℕ

@@ -1,12 +1,24 @@
-//! Whether a module is one of the form that is hardened today.
-ghost use Rattle.std.specs.Prelude.{◌≡◌, ◌↔◌, ℕ, List as Listed, ◌∷◌, [], ◌≤◌, codes, length, All, IsSome, IsTrue, sum_by};
+//! The form of module that is hardened today: whether a module is of it, and the items of its body.
+ghost use Rattle.std.specs.Prelude.{◌≡◌, ◌↔◌, ℕ, List as Listed, ◌∷◌, [], ◌≤◌, codes, length, All, IfOk, IsSome, IsTrue, sum_by};
 ghost use Rattle.bl_wasm.specs.declared.instruction.Instr.{Instr as Instruction};
 ghost use Rattle.bl_app.specs.Form.{HasNoFunction, HasOneFunction, IsBare, IsForm, IsFormBody, IsFormName, StandsAlone, code_of, export_of, item_of as item_in, items_of, one_type, size_of};
 ghost use Rattle.bl_app.specs.Typing.{BodyTyped};
 
-use crate::linked::Item;
+use bl_base::NoMemory;
 use bl_ops::Op;
 use bl_wasm::{Code, CustomSection, Export, ExportKind, FuncType, Instr, Module, WasmType};
+use std::alloc::Global;
+
+/// An instruction of a body of the form. A body is a flat list of these.
+#[derive(Clone, Copy, Debug, PartialEq, Eq)]
+pub enum Item {
+    /// `local.get` of the local with that index, parameters first.
+    LocalGet(u32),
+    /// `i32.const` of that number, unsigned.
+    I32Const(u32),
+    /// `i32.add`.
+    I32Add,
+}
 
 /// The most bytes of a name, and of a body's items.
 const MOST: usize = 123;
@@ -182,4 +194,17 @@ pub fn item_of(instruction: &Instr) -> Option<Item>
         Instr::Integer(Op::I32Add) => Some(Item::I32Add),
         _ => None,
     }
+}
+
+/// The items of a body, in order, without the instructions that are none. Linear in the body.
+pub fn items_in(alloc: Global, instructions: &[Instr]) -> Result<Vec<Item>, NoMemory>
+    ensures { IfOk result (λ items. items.items ≡ items_of instructions.now) }
+{
+    let mut items = Vec::new(alloc);
+    for instruction in instructions {
+        if let Some(item) = item_of(instruction) {
+            items.push(item)?;
+        }
+    }
+    Ok(items)
 }

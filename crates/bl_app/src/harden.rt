@@ -10,7 +10,6 @@ ghost use Rattle.bl_app.specs.Words.{harden_in};
 ghost use Rattle.bl_app.specs.declared.module.WorkError.TheVariants as error;
 
 use crate::image::encode;
-use crate::link::link;
 use crate::lower::lower;
 use crate::module::{Form, MODULE_LIMIT, WorkError, read_module};
 use crate::output::{fetch, refuse, say, say_line};
@@ -18,6 +17,7 @@ use crate::refusal::Refusal;
 use crate::report::report;
 use crate::status::Status;
 use crate::words::{HardenWords, module_name};
+use bl_link::link_alone;
 use bl_outside::{Shelf, ShelfError, Sink};
 use std::alloc::Global;
 
@@ -67,8 +67,8 @@ fn harden(alloc: Global, name: &str, bytes: &[u8]) -> Result<Hardened, WorkError
         Ok(wasm) => wasm,
         Err(error) => return Err(error),
     };
-    let linked = link(alloc, name.as_bytes(), wasm.module())?;
-    let program = lower(alloc, linked)?;
+    let linked = link_alone(alloc, name, wasm)?;
+    let program = lower(alloc, &linked)?;
     let image = encode(alloc, &program)?;
     let report = report(alloc, &program)?;
     Ok(Hardened { image, report })

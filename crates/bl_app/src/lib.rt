@@ -6,8 +6,6 @@ mod harden;
 mod image;
 mod interp;
 pub mod laws;
-mod link;
-mod linked;
 mod lists;
 mod lower;
 mod module;

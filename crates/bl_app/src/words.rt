@@ -14,7 +14,9 @@ const DEFAULT_STEPS: u64 = 1_000_000;
 /// What the words of a call ask for.
 #[derive(Clone, Copy)]
 pub enum Request<'a> {
+    /// To write the image and the certificate of a module.
     Harden(HardenWords<'a>),
+    /// To run an exported function of a module.
     Interp(InterpWords<'a>),
 }
 
