@@ -19,9 +19,9 @@ use Rattle.bl_app.specs.Image.{image_of}
 use Rattle.bl_app.specs.Outcomes.{outcome_status}
 use Rattle.bl_app.specs.Requests.{Request, HardenRequest, InterpRequest, harden, interp, request_of, module_name}
 use Rattle.bl_app.specs.Requested.{FileIs, FirstRefusal, HardenReady, InterpReady}
-use Rattle.bl_app.specs.Running.{HasOutcome}
+use Rattle.bl_app.specs.Running.{HasOutcome, printed_of}
 use Rattle.bl_app.specs.Texts.{empty_certificate}
-use Rattle.bl_app.specs.Answers.{Plan, PlanFor, usage, refused, hardened, interpreted, harden_plan, World, Ends, program_of}
+use Rattle.bl_app.specs.Answers.{Plan, PlanFor, usage, refused, hardened, interpreted, harden_plan, saying, World, Ends, program_of}
 use Rattle.bl_app.specs.Causes.{Causes, Hardens, Interprets, IsOfRun, AsksToRun, UnlessFault, NoneRose, IsRefused, IsReadFault, IsKeepFault, IsUnprotected}
 use Rattle.bl_app.proofs.EncodableLemmas.{HoldsOfMade, in_low}
 use Rattle.bl_app.proofs.KeepsMeaning.{keeps_meaning}
@@ -57,6 +57,9 @@ one_interp r s e f = cc
 
 one_request : {o : Option Request} (r s : Request) → o ≡ Some r → o ≡ Some s → r ≡ s
 one_request r s e f = cc
+
+one_command : {o : Option Request} (r : HardenRequest) (s : InterpRequest) → o ≡ Some (harden r) → o ≡ Some (interp s) → ⊥
+one_command r s e f = cc
 
 -- files that are told
 module _ (told : Option Files) (files : Files) (is : told ≡ Some files) where
@@ -102,7 +105,7 @@ module _ (words : List (List ℕ)) (old new : World) (status : ℕ) where
   -- the status of a refusal comes of a refusal
   refused_only : Way words old new status → IsRefusal status → IsRefused words old new status
   refused_only (settled plan (usage none) d) e = absurd (omega (arith, e, d.meant))
-  refused_only (settled plan (refused request refusal is first) d) e = 
+  refused_only (settled plan (refused request refusal is first) d) e =
       record { request = request; refusal = refusal; is_request = is; first = first; meant = d.meant; printed = d.said.taken }
   refused_only (settled plan (hardened request ready is) d) e = absurd (omega (arith, e, d.meant))
   refused_only (settled plan (interpreted request ready outcome is within) d) e = absurd (omega (arith, e, d.meant, run_status outcome))
@@ -249,32 +252,43 @@ module _ (words : List (List ℕ)) (old new : World) where
       certified : Option Files
       certified = with_file old.files request.certificate empty_certificate
 
-  harden_done : (status : ℕ) (asked : HardenRequest) → Way words old new status → request_of words ≡ Some (harden asked) → status ≡ 0 → Hardens asked old new
-  harden_done status asked (settled plan (usage none) d) asks e = cc
-  harden_done status asked (settled plan (refused request refusal is first) d) asks e = absurd (omega (arith, e, d.meant, status_big refusal))
-  harden_done status asked (settled plan (hardened request ready is) d) asks e = subst (λ r. Hardens r old new) (one_harden request asked is asks) (did_harden request ready is status d)
-  harden_done status asked (settled plan (interpreted request ready outcome is within) d) asks e = cc
-  harden_done status asked (faulty_read f e') asks e = absurd (omega arith)
-  harden_done status asked (faulty_keep f e') asks e = absurd (omega arith)
-  harden_done status asked (faulty_sink f e') asks e = absurd (omega arith)
-  harden_done status asked (full e') asks e = absurd (omega arith)
+  did_run : (request : InterpRequest) (ready : InterpReady old.files request) (outcome : Option Outcome) → HasOutcome ready.runnable request.steps outcome → (status : ℕ)
+      → Done (saying (outcome_status outcome) (printed_of ready.runnable request.steps outcome)) old new status → Interprets request old new status
+  did_run request ready outcome within status d = record { ready = ready; outcome = outcome; within = within; meant = d.meant; printed = d.said.taken; unchanged = d.files }
 
-  interp_done : (status : ℕ) (asked : InterpRequest) → Way words old new status → request_of words ≡ Some (interp asked) → IsOfRun status → Interprets asked old new status
-  interp_done status asked (settled plan (usage none) d) asks e = cc
-  interp_done status asked (settled plan (refused request refusal is first) d) asks e = absurd (omega (arith, e, d.meant, status_big refusal))
-  interp_done status asked (settled plan (hardened request ready is) d) asks e = cc
-  interp_done status asked (settled plan (interpreted request ready outcome is within) d) asks e =
-      subst (λ r. Interprets r old new status) (one_interp request asked is asks)
-      (record { ready = ready; outcome = outcome; within = within; meant = d.meant; printed = d.said.taken; unchanged = d.files })
-  interp_done status asked (faulty_read f e') asks e = absurd (omega arith)
-  interp_done status asked (faulty_keep f e') asks e = absurd (omega arith)
-  interp_done status asked (faulty_sink f e') asks e = absurd (omega arith)
-  interp_done status asked (full e') asks e = absurd (omega arith)
+  -- what was done, by what the words ask for
+  data Work (status : ℕ) : Type 0 where
+    no_work : (status ≡ 0 → ⊥) → (IsOfRun status → ⊥) → Work status
+    harden_work : (request : HardenRequest) → request_of words ≡ Some (harden request) → Hardens request old new → Work status
+    interp_work : (request : InterpRequest) → request_of words ≡ Some (interp request) → Interprets request old new status → Work status
+
+  no_fault : (status : ℕ) → (status ≡ 2) ⊎ ((status ≡ 3) ⊎ ((status ≡ 4) ⊎ ((status ≡ 11) ⊎ IsRefusal status))) → Work status
+  no_fault status cause = no_work (λ e. omega (arith, e, cause)) (λ e. omega (arith, e, cause))
+
+  work : (status : ℕ) → Way words old new status → Work status
+  work status (settled plan (usage none) d) = no_fault status (inl d.meant)
+  work status (settled plan (refused request refusal is first) d) = no_fault status (inr (inr (inr (inr (subst IsRefusal (sym d.meant) (status_big refusal))))))
+  work status (settled plan (hardened request ready is) d) = harden_work request is (did_harden request ready is status d)
+  work status (settled plan (interpreted request ready outcome is within) d) = interp_work request is (did_run request ready outcome within status d)
+  work status (faulty_read f e) = no_fault status (inr (inl e))
+  work status (faulty_keep f e) = no_fault status (inr (inr (inl e)))
+  work status (faulty_sink f e) = no_fault status (inr (inr (inl e)))
+  work status (full e) = no_fault status (inr (inr (inr (inl e))))
+
+  harden_done : (status : ℕ) (asked : HardenRequest) → Work status → request_of words ≡ Some (harden asked) → status ≡ 0 → Hardens asked old new
+  harden_done status asked (no_work not not_run) asks e = absurd (not e)
+  harden_done status asked (harden_work request is h) asks e = subst (λ r. Hardens r old new) (one_harden request asked is asks) h
+  harden_done status asked (interp_work request is h) asks e = absurd (one_command asked request asks is)
+
+  interp_done : (status : ℕ) (asked : InterpRequest) → Work status → request_of words ≡ Some (interp asked) → IsOfRun status → Interprets asked old new status
+  interp_done status asked (no_work not not_run) asks e = absurd (not_run e)
+  interp_done status asked (harden_work request is h) asks e = absurd (one_command request asked is asks)
+  interp_done status asked (interp_work request is h) asks e = subst (λ r. Interprets r old new status) (one_interp request asked is asks) h
 
 -- what status 0 of `harden` says
 pub hardens : (words : List (List ℕ)) (old new : World) (status : ℕ) → Ends words old new status → (request : HardenRequest) → request_of words ≡ Some (harden request) → status ≡ 0 → Hardens request old new
-hardens words old new status ends request asks e = harden_done words old new status request (way words old new status ends) asks e
+hardens words old new status ends request asks e = harden_done words old new status request (work words old new status (way words old new status ends)) asks e
 
 -- what statuses 0, 16 and 17 of `interp` say
 pub interprets : (words : List (List ℕ)) (old new : World) (status : ℕ) → Ends words old new status → (request : InterpRequest) → request_of words ≡ Some (interp request) → IsOfRun status → Interprets request old new status
-interprets words old new status ends request asks e = interp_done words old new status request (way words old new status ends) asks e
+interprets words old new status ends request asks e = interp_done words old new status request (work words old new status (way words old new status ends)) asks e

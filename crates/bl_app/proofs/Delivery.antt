@@ -1,5 +1,5 @@
 -- Steps of carrying out a plan.
-use Rattle.std.proofs.Common.{◌≡◌, ℕ, ◌<◌, ◌≤◌, List, length, refl, Some, ◌∙◌, ap, sym, subst, take}
+use Rattle.std.proofs.Common.{◌≡◌, ℕ, ◌<◌, ◌≤◌, List, length, refl, Some, ◌∙◌, sym, subst, take}
 use Rattle.std.specs.Prelude.{Err, slice_get}
 use Rattle.bl_base.specs.declared.quantity.Quantity.TheVariants as quantity
 use Rattle.bl_outside.specs.Shelf.{Faults, KeepFaults, Gives}
@@ -7,6 +7,7 @@ use Rattle.bl_outside.specs.declared.shelf.ShelfError.{ShelfError}
 use Rattle.bl_outside.specs.declared.shelf.ShelfError.TheVariants.{Failed, Memory}
 use Rattle.bl_app.specs.Answers.{Plan, saying, World, Unchanged, Delivers, all_kept, not_kept, no_memory_to_keep, NotKept, NotFetched, failed, no_memory_to_fetch, with_files, Said, Refuses, is_said, no_memory_to_say, Ends, as_planned, not_read, no_memory, hardened, interpreted, refused, harden_plan, plan_of, IsHardened}
 use Rattle.bl_app.specs.Form.{IsForm, StandsAlone}
+use Rattle.bl_app.specs.Outcomes.{outcome_status}
 use Rattle.bl_app.specs.Refusals.{most_bytes, Refused}
 use Rattle.bl_app.specs.Status.{status_of}
 use Rattle.bl_app.specs.declared.refusal.Refusal.{Refusal}
@@ -32,6 +33,10 @@ same_world old mid u = λ i. record { files = u.files i; faults = u.faults i; si
 pub unchanged_both : (old mid new : World) → Unchanged old mid → Unchanged mid new → Unchanged old new
 unchanged_both old mid new first second = record { files = second.files ∙ first.files; faults = second.faults ∙ first.faults; sink = second.sink ∙ first.sink }
 
+-- what was fetched of files that stay as they are
+pub gives_still : (old mid : World) (name : List ℕ) (most : ℕ) (fetched : List ℕ) → Unchanged old mid → Gives old.files name most fetched → Gives mid.files name most fetched
+gives_still old mid name most fetched u = subst (λ files. Gives files name most fetched) (sym u.files)
+
 -- an end from a world that differs from an earlier one in nothing
 pub ends_from : (words : List (List ℕ)) (old mid new : World) (status : ℕ) → Unchanged old mid → Ends words mid new status → Ends words old new status
 ends_from words old mid new status u = subst (λ w. Ends words w new status) (same_world old mid u)
@@ -54,7 +59,6 @@ refused_ends words request refusal old new status is first files faults (no_memo
 
 module _ (words : List (List ℕ)) (request : HardenRequest) (fetched : List ℕ) (old new : World) (status : ℕ)
     (is : request_of words ≡ Some (harden request)) (gives : Gives old.files request.wasm most_bytes fetched) where
-
   -- a module that was fetched and hardened
   pub hardened_ends : (image report : List ℕ) → IsHardened (module_name request.wasm) fetched image report → Delivers (plan_of request image report) old new status → Ends words old new status
   hardened_ends image report h d =
@@ -74,7 +78,6 @@ module _ (words : List (List ℕ)) (request : HardenRequest) (fetched : List ℕ
 
 module _ (words : List (List ℕ)) (request : InterpRequest) (start : List ℕ) (old new : World) (status : ℕ)
     (is : request_of words ≡ Some (interp request)) (start_gives : Gives old.files request.start most_start start) where
-
   -- a start file that is too long
   pub long_start_ends : most_start < length start → new.files ≡ old.files → new.faults ≡ old.faults
       → Refuses (refusal_text (module_name request.wasm) (Limit quantity.Start 16777217)) 8 old.sink new.sink status → Ends words old new status
@@ -83,7 +86,6 @@ module _ (words : List (List ℕ)) (request : InterpRequest) (start : List ℕ) 
       refused_ends words (interp request) (Limit quantity.Start 16777217) old new status is (long_start file.bytes file.is_file file.long refl) files faults said
 
   module _ (fetched : List ℕ) (gives : Gives old.files request.wasm most_bytes fetched) (short : length start ≤ most_start) where
-
     start_file : FileIs old.files request.start start
     start_file = fetched_whole old.files request.start most_start start start_gives short
 
@@ -103,6 +105,5 @@ module _ (words : List (List ℕ)) (request : InterpRequest) (start : List ℕ) 
     run_ends text meant h files faults said =
         let file = fetched_whole old.files request.wasm most_bytes fetched gives h.runnable.accepted.short in
         let ready : InterpReady old.files request = record { start = start; bytes = fetched; start_file = start_file; short = short; file = file; runnable = h.runnable } in
-        let printed = printed_of h.runnable request.steps h.outcome in
-        as_planned _ (interpreted request ready h.outcome is h.within)
-        (all_kept files faults (subst (λ t. Said t _ old.sink new.sink status) h.is_text (subst (λ m. Said text m old.sink new.sink status) h.is_status said)))
+        as_planned (saying (outcome_status h.outcome) (printed_of h.runnable request.steps h.outcome)) (interpreted request ready h.outcome is h.within)
+        (all_kept files faults (subst (λ t. Said t (outcome_status h.outcome) old.sink new.sink status) h.is_text (subst (λ m. Said text m old.sink new.sink status) h.is_status said)))

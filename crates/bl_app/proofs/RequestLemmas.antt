@@ -1,12 +1,12 @@
 -- At most one refusal stands against a request, and none where it can be carried out; a run has one outcome.
-use Rattle.std.proofs.Common.{◌≡◌, ℕ, ◌<◌, ◌≤◌, List, length, Option, Some, None, refl, ap, sym, ◌∙◌, subst, arith}
+use Rattle.std.proofs.Common.{◌≡◌, ℕ, List, length, Option, Some, ap, sym, ◌∙◌, subst, arith}
 use Rattle.std.specs.FinMap as fin
 use Rattle.bl_base.specs.Runs.{Outcome}
 use Rattle.bl_outside.specs.Shelf.{Files}
 use Rattle.bl_app.specs.Form.{IsForm}
 use Rattle.bl_app.specs.Refusals.{Refused}
 use Rattle.bl_app.specs.Requests.{Request, HardenRequest, InterpRequest, harden, interp, module_name}
-use Rattle.bl_app.specs.Requested.{FileIs, FirstRefusal, HardenReady, HardenRefused, InterpReady, InterpRefused, long_start, not_runnable}
+use Rattle.bl_app.specs.Requested.{FirstRefusal, HardenReady, HardenRefused, InterpReady, InterpRefused, long_start, not_runnable}
 use Rattle.bl_app.specs.Running.{Runnable, NotRunnable, HasOutcome}
 use Rattle.bl_app.specs.declared.refusal.Refusal.{Refusal}
 use Rattle.bl_app.proofs.RefusalLemmas.{refused_one, accepted_refused}
@@ -64,6 +64,6 @@ module _ (files : Files) where
       let Outcomes = λ (s bytes : List ℕ). (r : Runnable name request.export s bytes) → HasOutcome r request.steps b → a ≡ b in
       let here : Outcomes ready.start ready.bytes = λ r. one_run name request.export ready.start ready.bytes ready.runnable r request.steps a b h in
       let there : Outcomes other.start other.bytes =
-          subst (λ s. Outcomes s other.bytes) (one_file request.start ready.start other.start ready.start_file other.start_file)
-          (subst (λ bytes. Outcomes ready.start bytes) (one_file request.wasm ready.bytes other.bytes ready.file other.file) here) in
+      subst (λ s. Outcomes s other.bytes) (one_file request.start ready.start other.start ready.start_file other.start_file)
+      (subst (λ bytes. Outcomes ready.start bytes) (one_file request.wasm ready.bytes other.bytes ready.file other.file) here) in
       there other.runnable i

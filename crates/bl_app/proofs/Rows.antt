@@ -22,7 +22,7 @@ use Rattle.std.specs.Fmt.{digits}
 use Rattle.std.specs.Prelude.{All, Some, None, IsSome}
 use Rattle.bl_app.specs.Image.{image_of, leb}
 use Rattle.bl_app.specs.Texts.{report_text}
-use Rattle.bl_app.specs.Requests.{module_name, request_of}
+use Rattle.bl_app.specs.Requests.{harden, module_name, request_of}
 use Rattle.bl_app.specs.Plain.{plain_step, opening, State, placed, Placed}
 
 abbrev name : List ℕ
@@ -69,13 +69,10 @@ are_items =
 form : IsForm add_one
 form = record {
   bare = record {
-    imports = refl;
-    tables = refl;
-    memories = refl;
+    alone = record { imports = refl; tables = refl; memories = refl; labels = All-nil _ };
     globals = refl;
     elements = refl;
     segments = refl;
-    labels = All-nil _;
   };
   functions = inr (record {
     name = name;
@@ -137,7 +134,7 @@ part = refl
 bare_part : module_name (codes "wasm") ≡ codes "wasm"
 bare_part = refl
 
-words : request_of (codes "blade" ∷ codes "harden" ∷ codes "a" ∷ codes "b" ∷ codes "c" ∷ []) ≡ Some (record { image = codes "a"; certificate = codes "b"; wasm = codes "c" })
+words : request_of (codes "blade" ∷ codes "harden" ∷ codes "a" ∷ codes "b" ∷ codes "c" ∷ []) ≡ Some (harden (record { image = codes "a"; certificate = codes "b"; wasm = codes "c" }))
 words = refl
 
 same_words : request_of (codes "blade" ∷ codes "harden" ∷ codes "a" ∷ codes "a" ∷ codes "c" ∷ []) ≡ None

@@ -13,7 +13,7 @@ use Rattle.bl_decode.specs.Limits.{Excess, above, first_excess, first_in, functi
 use Rattle.bl_link.specs.Alone.{IsAlone, count_of, locals_of}
 use Rattle.bl_link.proofs.Spelled.{alone_from}
 use Rattle.bl_app.specs.Form.{IsForm, StandsAlone}
-use Rattle.bl_app.specs.Refusals.{most_bytes}
+use Rattle.bl_app.specs.Refusals.{Accepted, most_bytes}
 
 -- ---- the limits
 
@@ -61,3 +61,10 @@ alone_of bytes tree short spelled within alone =
 -- one of the form stands alone
 pub form_alone : (tree : Module) → IsForm tree → StandsAlone tree
 form_alone tree form = form.bare.alone
+
+-- accepted modules can be linked by themselves
+pub accepted_alone : (bytes : List ℕ) (tree : Module) → Accepted StandsAlone bytes tree → IsAlone tree
+accepted_alone bytes tree a = alone_of bytes tree a.short a.spelled a.within a.form
+
+pub accepted_form_alone : (bytes : List ℕ) (tree : Module) → Accepted IsForm bytes tree → IsAlone tree
+accepted_form_alone bytes tree a = alone_of bytes tree a.short a.spelled a.within (form_alone tree a.form)

@@ -1,10 +1,10 @@
 -- The ways in which a call ends, by their statuses.
-use Rattle.std.proofs.Common.{◌≡◌, ℕ, zero, suc, List, ◌∷◌, Option, Some, refl, ap, sym, ◌∙◌, subst, inl, inr}
-use Rattle.std.specs.Prelude.{slice_get, ◌⊎◌}
+use Rattle.std.proofs.Common.{◌≡◌, ℕ, zero, suc, List, Option, Some, ap, sym, ◌∙◌, subst, inl, inr}
+use Rattle.std.specs.Prelude.{slice_get}
 use Rattle.bl_outside.specs.Faults.{Rose}
 use Rattle.bl_outside.specs.Shelf.{Files, ReadFails, WriteFails}
 use Rattle.bl_app.specs.Image.{image_of}
-use Rattle.bl_app.specs.Requests.{Request, HardenRequest, harden, interp, request_of, module_name}
+use Rattle.bl_app.specs.Requests.{Request, HardenRequest, harden, request_of, module_name}
 use Rattle.bl_app.specs.Requested.{IsRead, IsKept}
 use Rattle.bl_app.specs.Texts.{report_text, read_fault_text, write_fault_text}
 use Rattle.bl_app.specs.Answers.{Plan, PlanFor, usage, refused, hardened, interpreted, plan_of, World, with_files, took, Whole, Said, whole, cut, Delivers, all_kept, not_kept, no_memory_to_keep, Ends, as_planned, not_read, no_memory, program_of}

@@ -1,8 +1,11 @@
 -- What the parts of `interp` answer.
-use Rattle.std.specs.Prelude.{ℕ, List, Result, Ok, Err}
+use Rattle.std.specs.Prelude.{◌≡◌, ℕ, List, [], Option, Result, Ok, Err}
+use Rattle.bl_base.specs.Runs.{Outcome}
+use Rattle.bl_machine.specs.Interpreting.{IsWithin}
 use Rattle.bl_trace.specs.declared.error.StartError.{StartError}
 use Rattle.bl_trace.specs.declared.error.StartError.TheVariants.{Line, Count, Memory}
 use Rattle.bl_wasm.specs.declared.linked.Tree.{Tree}
+use Rattle.bl_app.specs.Outcomes.{outcome_status, outcome_text}
 use Rattle.bl_app.specs.Requests.{InterpRequest, module_name}
 use Rattle.bl_app.specs.Running.{AgainstStart, HasRun, NotRunnable, Opens}
 use Rattle.bl_app.specs.Status.{code_of}
@@ -23,6 +26,13 @@ abbrev pub IsOpened : Tree → List ℕ → List ℕ → Result Opening WorkErro
 IsOpened tree export bytes (Ok opening) = Opens tree export bytes opening.function opening.kind.now opening.start
 IsOpened tree export bytes (Err (error.Refused refusal)) = AgainstStart tree export bytes refusal
 IsOpened tree export bytes (Err error.Memory) = Unit {0}
+
+-- the text and the status of the outcome of a function's run from a start
+pub record Tells (tree : Tree) (opening : Opening) (steps : ℕ) (printed : Printed) : Type 0 where
+  pub outcome : Option Outcome
+  pub within : IsWithin tree opening.function opening.start steps outcome
+  pub is_text : printed.text.items ≡ outcome_text opening.kind.now.results [] steps outcome
+  pub is_status : code_of printed.status ≡ outcome_status outcome
 
 -- the text and the status of the run, or what stands against it
 abbrev pub Interpreted : InterpRequest → List ℕ → List ℕ → Result Printed WorkError → Type 0

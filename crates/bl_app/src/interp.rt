@@ -1,9 +1,10 @@
 //! `interp`: from a module's bytes and a start file's to the text of the run's outcome.
-ghost use Rattle.std.specs.Prelude.{◌≡◌, ◌<◌, ℕ, List as Listed, [], Some, length};
+ghost use Rattle.std.specs.Prelude.{◌≡◌, ◌<◌, ℕ, List as Listed, [], Some, IfOk, length};
 ghost use Rattle.bl_wasm.specs.Linked.{IsLinked};
+ghost use Rattle.bl_reduce.specs.Outcomes.{IsStart};
 ghost use Rattle.bl_app.specs.Answers.{Ends};
 ghost use Rattle.bl_app.specs.Requests.{interp as interpreting, request_of};
-ghost use Rattle.bl_app.specs.Interpreting.{Interpreted, IsOpened, start_error};
+ghost use Rattle.bl_app.specs.Interpreting.{Interpreted, IsOpened, Tells, start_error};
 ghost use Rattle.bl_app.specs.Running.{type_of};
 ghost use Rattle.bl_app.specs.Status.{code_of};
 ghost use Rattle.bl_app.specs.Words.{interp_in};
@@ -14,12 +15,12 @@ use crate::output::{fetch, refuse, say};
 use crate::refusal::Refusal;
 use crate::status::Status;
 use crate::words::{InterpWords, module_name};
-use bl_base::{Quantity, Start};
+use bl_base::{NoMemory, Quantity, Start};
 use bl_link::link_alone;
 use bl_machine::interp;
 use bl_outside::{Shelf, Sink};
 use bl_trace::{StartError, read_start};
-use bl_wasm::{Signature, Tree};
+use bl_wasm::{Linked, Signature, Tree};
 use std::alloc::Global;
 
 /// The most bytes of a start file.
@@ -88,15 +89,35 @@ fn interpret(
 ) -> Result<Printed, WorkError>
     ensures { Interpreted (interp_in words.now) start.now bytes.now result }
 {
-    let wasm = read_module(alloc, Form::Alone, bytes)?;
+    let wasm = match read_module(alloc, Form::Alone, bytes) {
+        Ok(wasm) => wasm,
+        Err(error) => return Err(error),
+    };
     let linked = link_alone(alloc, module_name(words.wasm), wasm)?;
-    let opening = prepare(alloc, linked.tree(), words.export, start)?;
-    let run = interp(alloc, &linked, opening.function, &opening.start, words.steps)?;
-    let results = opening.kind.results.as_slice();
-    Ok(Printed {
-        text: outcome_text(alloc, results, words.steps, &run)?,
-        status: outcome_status(&run),
-    })
+    let opening = match prepare(alloc, linked.tree(), words.export, start) {
+        Ok(opening) => opening,
+        Err(error) => return Err(error),
+    };
+    Ok(tell(alloc, &linked, &opening, words.steps)?)
+}
+
+/// Runs a function from its start; the text and the status of the outcome within so many steps. Linear in the tree and in the
+/// steps.
+fn tell(
+    alloc: Global,
+    linked: &Linked,
+    opening: &Opening<'_>,
+    steps: u64,
+) -> Result<Printed, NoMemory>
+    requires start { IsStart linked.now opening.now.function opening.now.start }
+    requires memories { linked.now.memories ≡ [] }
+    requires tables { linked.now.tables ≡ [] }
+    ensures { IfOk result (λ printed. Tells linked.now opening.now steps printed) }
+{
+    let run = interp(alloc, linked, opening.function, &opening.start, steps)?;
+    let text = outcome_text(alloc, opening.kind.results.as_slice(), steps, &run)?;
+    let status = outcome_status(&run);
+    Ok(Printed { text, status })
 }
 
 /// The function exported under a name, and the start of it that a start file asks for.
@@ -108,7 +129,8 @@ fn prepare<'a>(
 ) -> Result<Opening<'a>, WorkError>
     requires linked { IsLinked tree.now }
     requires memories { tree.now.memories ≡ [] }
-    ensures { IsOpened tree.now export.now bytes.now result }
+    ensures opened { IsOpened tree.now export.now bytes.now result }
+    ensures fits { IfOk result (λ opening. IsStart tree.now opening.function opening.start) }
 {
     let Some(function) = tree.exports.find(export) else {
         return Err(WorkError::Refused(Refusal::NoExport));

@@ -1,14 +1,16 @@
 //! Laws of the definitions. Each function is its contract alone.
-ghost use Rattle.std.specs.Prelude.{◌≡◌, ℕ, ◌^◌, ◌<◌, List as Listed};
+ghost use Rattle.std.specs.Prelude.{◌≡◌, ℕ, ◌^◌, ◌<◌, Some};
+ghost use Rattle.bl_outside.specs.Shelf.{Files};
 ghost use Rattle.bl_leb.specs.Numbers.{IsUnsigned};
 ghost use Rattle.bl_leb.specs.Spellings.{IsShortest};
 ghost use Rattle.bl_app.specs.Image.{leb};
-ghost use Rattle.bl_app.specs.Refusals.{Refused};
+ghost use Rattle.bl_app.specs.Requested.{FirstRefusal};
+ghost use Rattle.bl_app.specs.Requests.{Request};
 ghost use Rattle.bl_app.specs.declared.refusal.Refusal.{Refusal};
 
-/// At most one refusal stands against a module's bytes.
+/// At most one refusal is the first that stands against a request.
 pub fn one_refusal()
-    ensures { (bytes : Listed ℕ) (a b : Refusal) → Refused bytes a → Refused bytes b → a ≡ b }
+    ensures { (files : Files) (request : Request) (a b : Refusal) → FirstRefusal (Some files) request a → FirstRefusal (Some files) request b → a ≡ b }
 {}
 
 /// An image spells each number by its shortest spelling in LEB128.

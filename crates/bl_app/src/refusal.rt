@@ -60,8 +60,12 @@ impl Refusal {
             Refusal::Unsupported => named_line(alloc, "unsupported: ", name, ""),
             Refusal::Limit { which, value } => limit_line(alloc, which, value),
             Refusal::NoExport => Ok(b"start: export\n".to_vec(alloc)?),
-            Refusal::BadLine(number) => Ok(format!(in alloc; "start: line {number}\n")?.into_bytes()),
-            Refusal::FewArguments(count) => Ok(format!(in alloc; "start: arguments {count}\n")?.into_bytes()),
+            Refusal::BadLine(number) => Ok(format!(in alloc;
+                "start: line {number}\n"
+            )?.into_bytes()),
+            Refusal::FewArguments(count) => Ok(format!(in alloc;
+                "start: arguments {count}\n"
+            )?.into_bytes()),
         }
     }
 }

@@ -35,8 +35,8 @@ const RUN: [&str; 5] = ["blade", "interp", "m/f", "start", "m.wasm"];
 const fn of_two(operator: u8) -> [u8; 31] {
     [
         0x01, 0x07, 0x01, 0x60, 0x02, 0x7F, 0x7F, 0x01, 0x7F, 0x03, 0x02, 0x01, 0x00, 0x07, 0x05,
-        0x01, 0x01, 0x66, 0x00, 0x00, 0x0A, 0x09, 0x01, 0x07, 0x00, 0x20, 0x00, 0x20, 0x01, operator,
-        0x0B,
+        0x01, 0x01, 0x66, 0x00, 0x00, 0x0A, 0x09, 0x01, 0x07, 0x00, 0x20, 0x00, 0x20, 0x01,
+        operator, 0x0B,
     ]
 }
 
@@ -69,10 +69,25 @@ fn outcomes_of_divisions_calls_and_code_that_is_not_reached(rt: HostRuntime) -> 
             16,
             "trapped integer overflow\n",
         ),
-        (&of_two(0x6D), "arg 1\narg 0\n", 16, "trapped integer divide by zero\n"),
-        (&of_two(0x6F), "arg 2147483648\narg 4294967295\n", 0, "returned i32 0\n"),
+        (
+            &of_two(0x6D),
+            "arg 1\narg 0\n",
+            16,
+            "trapped integer divide by zero\n",
+        ),
+        (
+            &of_two(0x6F),
+            "arg 2147483648\narg 4294967295\n",
+            0,
+            "returned i32 0\n",
+        ),
         (&COUNT_DOWN, "arg 1023\n", 0, "returned i32 7\n"),
-        (&COUNT_DOWN, "arg 1024\n", 16, "trapped call stack exhausted\n"),
+        (
+            &COUNT_DOWN,
+            "arg 1024\n",
+            16,
+            "trapped call stack exhausted\n",
+        ),
         (&UNREACHABLE, "", 16, "trapped unreachable\n"),
         (&UNTYPED, "", 6, "invalid: m function 0\n"),
     ];
@@ -117,12 +132,40 @@ fn exports_and_starts_that_are_refused_and_files_that_are_not_read(
     let cases: [(&str, &[u8], &[u8], Option<u64>, u8, &str); 8] = [
         ("m/dec", &ADD_ONE, b"arg 1\n", None, 15, "start: export\n"),
         ("m/inc", &ADD_ONE, b"", None, 15, "start: arguments 0\n"),
-        ("m/inc", &ADD_ONE, b"arg 4294967296\n", None, 15, "start: line 1\n"),
+        (
+            "m/inc",
+            &ADD_ONE,
+            b"arg 4294967296\n",
+            None,
+            15,
+            "start: line 1\n",
+        ),
         ("m/inc", &ADD_ONE, &long, None, 8, "limit: start 16777217\n"),
-        ("m/inc", &ADD_ONE[..39], b"arg 1\n", None, 5, "malformed: m\n"),
+        (
+            "m/inc",
+            &ADD_ONE[..39],
+            b"arg 1\n",
+            None,
+            5,
+            "malformed: m\n",
+        ),
         ("m/f", &LOADS, b"", None, 7, "unsupported: m\n"),
-        ("m/inc", &ADD_ONE, b"arg 1\n", Some(1), 3, "read fault: start\n"),
-        ("m/inc", &ADD_ONE, b"arg 1\n", Some(2), 3, "read fault: m.wasm\n"),
+        (
+            "m/inc",
+            &ADD_ONE,
+            b"arg 1\n",
+            Some(1),
+            3,
+            "read fault: start\n",
+        ),
+        (
+            "m/inc",
+            &ADD_ONE,
+            b"arg 1\n",
+            Some(2),
+            3,
+            "read fault: m.wasm\n",
+        ),
     ];
     for (export, wasm, start, failing, status, text) in cases {
         let words = ["blade", "interp", export, "start", "m.wasm"];
