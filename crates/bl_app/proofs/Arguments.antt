@@ -9,11 +9,11 @@ use Rattle.bl_app.specs.declared.words.Next.TheVariants.{Any, StepsValue, Argume
 abbrev pub rest_of : Next → List (List ℕ) → Option Parts
 rest_of Any words = parts_of words
 rest_of StepsValue words = parts_behind_steps words
-rest_of Argument words = Some (record { arguments = words; steps = [] })
+rest_of Argument words = Some (record { arguments = words; steps_values = [] })
 
 abbrev pub together : List (List ℕ) → List (List ℕ) → Parts → Parts
-together arguments steps more = record { arguments = arguments ++ more.arguments; steps = steps ++ more.steps }
+together arguments values more = record { arguments = arguments ++ more.arguments; steps_values = values ++ more.steps_values }
 
 -- the parts so far, and those of what is left
 abbrev pub joined : List (List ℕ) → List (List ℕ) → Next → List (List ℕ) → Option Parts
-joined arguments steps next rest = option_map (together arguments steps) (rest_of next rest)
+joined arguments values next rest = option_map (together arguments values) (rest_of next rest)

@@ -1,5 +1,5 @@
 -- What the words of a call ask for.
-use Rattle.std.specs.Prelude.{ℕ, ◌-◌, ◌^◌, Bool, ◌&&◌, false, List, [], ◌∷◌, length, take, drop, Option, Some, None, option_and_then, nat_eq, nat_lt, codes, if◌then◌else◌}
+use Rattle.std.specs.Prelude.{◌≡◌, ℕ, ◌-◌, ◌^◌, Bool, ◌&&◌, false, List, [], ◌∷◌, ◌++◌, length, take, drop, Option, Some, None, option_and_then, nat_eq, nat_lt, codes, if◌then◌else◌}
 use Rattle.std.specs.List.{after_last}
 use Rattle.std.specs.Option.{option_map}
 use Rattle.std.specs.Str.{bytes_eq}
@@ -23,64 +23,95 @@ pub data Request : Type 0 where
   harden : HardenRequest → Request
   interp : InterpRequest → Request
 
+-- a word that begins with `-`
+pub record BeginsWithDash (word : List ℕ) : Type 0 where
+  pub rest : List ℕ
+  pub spelled : word ≡ codes "-" ++ rest
+
+-- an option begins with `-` and isn't `-` alone
+pub record IsOption (word : List ℕ) : Type 0 where
+  pub begins_with_dash : BeginsWithDash word
+  pub not_alone : word ≡ codes "-" → ⊥
+
+-- the words behind a command, the arguments among them, and the values that `--steps` is given. Words with another option
+-- have none, and neither have words that end in `--steps` or have a word behind it that begins with `-`
+pub data IsTakenApart : (words arguments values : List (List ℕ)) → Type 0 where
+  -- no words have none
+  no_words : IsTakenApart [] [] []
+  -- the first `--` ends the options and is no argument: the words behind it are arguments
+  options_end : (words : List (List ℕ)) → IsTakenApart (codes "--" ∷ words) words []
+  -- a word that is no option is an argument
+  argument : (word : List ℕ) (words arguments values : List (List ℕ)) → (IsOption word → ⊥) → IsTakenApart words arguments values
+      → IsTakenApart (word ∷ words) (word ∷ arguments) values
+  -- `--steps` takes the next word as its value, which doesn't begin with `-`
+  value_in_next_word : (value : List ℕ) (words arguments values : List (List ℕ)) → (BeginsWithDash value → ⊥) → IsTakenApart words arguments values
+      → IsTakenApart (codes "--steps" ∷ value ∷ words) arguments (value ∷ values)
+  -- `--steps=N` is one word, and its value is N
+  value_in_same_word : (value : List ℕ) (words arguments values : List (List ℕ)) → IsTakenApart words arguments values
+      → IsTakenApart ((codes "--steps=" ++ value) ∷ words) arguments (value ∷ values)
+
 -- a command's words taken apart: its arguments, and the values that `--steps` is given
 pub record Parts : Type 0 where
   pub arguments : List (List ℕ)
-  pub steps : List (List ℕ)
+  pub steps_values : List (List ℕ)
 
 abbrev pub with_argument : List ℕ → Parts → Parts
 with_argument word parts = record parts { arguments = word ∷ parts.arguments }
 
 abbrev pub with_steps : List ℕ → Parts → Parts
-with_steps value parts = record parts { steps = value ∷ parts.steps }
+with_steps value parts = record parts { steps_values = value ∷ parts.steps_values }
 
--- an option word begins with `-` and isn't `-` alone
+-- the tests of a word
+abbrev pub begins_with_dash : List ℕ → Bool
+begins_with_dash [] = false
+begins_with_dash (first ∷ rest) = nat_eq first 45
+
 abbrev pub is_option : List ℕ → Bool
 is_option [] = false
 is_option (first ∷ []) = false
 is_option (first ∷ second ∷ rest) = nat_eq first 45
 
--- `--steps=N` is one word, and N its value
+-- the word is a `--steps=N`, whose value stands behind these 8 bytes
 abbrev pub is_steps_value : List ℕ → Bool
 is_steps_value word = bytes_eq (take 8 word) (codes "--steps=")
 
 abbrev mutual
-  -- the parts of words among which options may stand: the first `--` ends the options and is no argument, and an option
-  -- other than `--steps` leaves none
+  -- the parts of words, where they can be taken apart
   pub parts_of : List (List ℕ) → Option Parts
-  parts_of [] = Some (record { arguments = []; steps = [] })
+  parts_of [] = Some (record { arguments = []; steps_values = [] })
   parts_of (word ∷ words) =
-      (if bytes_eq word (codes "--") then Some (record { arguments = words; steps = [] })
+      (if bytes_eq word (codes "--") then Some (record { arguments = words; steps_values = [] })
       else if bytes_eq word (codes "--steps") then parts_behind_steps words
       else if is_steps_value word then option_map (with_steps (drop 8 word)) (parts_of words)
       else if is_option word then None
       else option_map (with_argument word) (parts_of words))
 
-  -- behind a `--steps` stands its value
+  -- the parts of the words behind a `--steps`, the first of which is its value: a last `--steps` leaves no parts, and so
+  -- does one with a value that begins with `-`
   pub parts_behind_steps : List (List ℕ) → Option Parts
   parts_behind_steps [] = None
-  parts_behind_steps (value ∷ words) = option_map (with_steps value) (parts_of words)
+  parts_behind_steps (value ∷ words) = (if begins_with_dash value then None else option_map (with_steps value) (parts_of words))
 
 -- N of `--steps N`: one to ten decimal digits, leading zeros among them, of a number from 1 to 4,294,967,295; so no
 -- value begins with a sign
-abbrev pub count_of : List ℕ → Option ℕ
-count_of word =
-    option_and_then (λ count. if nat_lt 0 count && nat_lt (length word) 11 then Some count else None) (decimal_below (2 ^ 32) word)
+abbrev pub number_of_steps : List ℕ → Option ℕ
+number_of_steps word =
+    option_and_then (λ steps. if nat_lt 0 steps && nat_lt (length word) 11 then Some steps else None) (decimal_below (2 ^ 32) word)
 
 -- the most steps, by the values that `--steps` is given: none, or one
 abbrev pub steps_of : List (List ℕ) → Option ℕ
 steps_of [] = Some 1000000
-steps_of (value ∷ []) = count_of value
+steps_of (value ∷ []) = number_of_steps value
 steps_of values = None
 
 -- what `harden` asks for: an image, a certificate that is another file, and a module
 abbrev pub harden_of : List (List ℕ) → List (List ℕ) → Option Request
 harden_of (image ∷ certificate ∷ wasm ∷ []) [] =
     (if bytes_eq image certificate then None else Some (harden (record { image = image; certificate = certificate; wasm = wasm })))
-harden_of arguments steps = None
+harden_of arguments values = None
 
 abbrev pub harden_request : Parts → Option Request
-harden_request parts = harden_of parts.arguments parts.steps
+harden_request parts = harden_of parts.arguments parts.steps_values
 
 -- what `interp` asks for: an export, a start file and a module, and the most steps
 abbrev pub interp_of : List (List ℕ) → List (List ℕ) → Option Request
@@ -89,7 +120,7 @@ interp_of (export ∷ start ∷ wasm ∷ []) values =
 interp_of arguments values = None
 
 abbrev pub interp_request : Parts → Option Request
-interp_request parts = interp_of parts.arguments parts.steps
+interp_request parts = interp_of parts.arguments parts.steps_values
 
 -- the request of all words, the program's own name first, and then the command
 abbrev pub request_of : List (List ℕ) → Option Request

@@ -4,12 +4,12 @@ use Rattle.bl_app.specs.Requests.{Request, HardenRequest, InterpRequest, Parts a
 use Rattle.bl_app.specs.declared.words.HardenWords.{HardenWords}
 use Rattle.bl_app.specs.declared.words.InterpWords.{InterpWords}
 use Rattle.bl_app.specs.declared.words.Parts.{Parts}
-use Rattle.bl_app.specs.declared.words.Request.{Request as Words}
+use Rattle.bl_app.specs.declared.words.Request.{Request as RequestWords}
 use Rattle.bl_app.specs.declared.words.Request.TheVariants.{Harden, Interp}
 
 -- the parts that borrowed words are
 abbrev pub parts_in : Parts → PartsOf
-parts_in parts = record { arguments = map (λ word. word.now) parts.arguments.items; steps = map (λ word. word.now) parts.steps.items }
+parts_in parts = record { arguments = map (λ word. word.now) parts.arguments.items; steps_values = map (λ word. word.now) parts.steps_values.items }
 
 -- the request that borrowed words are
 abbrev pub harden_in : HardenWords → HardenRequest
@@ -18,6 +18,6 @@ harden_in words = record { image = words.image.now; certificate = words.certific
 abbrev pub interp_in : InterpWords → InterpRequest
 interp_in words = record { export = words.export.now; start = words.start.now; wasm = words.wasm.now; steps = words.steps }
 
-abbrev pub request_in : Words → Request
+abbrev pub request_in : RequestWords → Request
 request_in (Harden words) = harden (harden_in words)
 request_in (Interp words) = interp (interp_in words)

@@ -2,7 +2,7 @@
 ghost use Rattle.std.specs.Prelude.{◌≡◌, IfOk, map, nat_eq, string_bytes, if◌then◌else◌, drop};
 ghost use Rattle.std.specs.Option.{option_map};
 ghost use Rattle.std.specs.List.{after_last};
-ghost use Rattle.bl_app.specs.Requests.{parts_of, harden_request, interp_request, request_of, is_option, is_steps_value, count_of, steps_of, module_name as module_name_of, without_ending as name_without_ending};
+ghost use Rattle.bl_app.specs.Requests.{parts_of, harden_request, interp_request, request_of, begins_with_dash as word_begins_with_dash, is_option, is_steps_value, number_of_steps, steps_of, module_name as module_name_of, without_ending as name_without_ending};
 ghost use Rattle.bl_app.specs.Words.{parts_in, request_in};
 
 use bl_base::NoMemory;
@@ -49,7 +49,7 @@ pub struct InterpWords<'a> {
 struct Parts<'a> {
     arguments: Vec<&'a str>,
     /// The values that `--steps` is given.
-    steps: Vec<&'a str>,
+    steps_values: Vec<&'a str>,
 }
 
 /// What the next word of a command may be.
@@ -78,25 +78,26 @@ pub fn read_words(alloc: Global, words: &[String]) -> Result<Option<Request<'_>>
 }
 
 /// Takes a command's words apart: the first `--` ends the options and is no argument; None where a `--steps` has no
-/// value or another option stands. Linear in the words.
+/// value, or one that begins with `-`, or another option stands. Linear in the words.
 fn take_apart(alloc: Global, words: &[String]) -> Result<Option<Parts<'_>>, NoMemory>
     ensures { IfOk result (λ found. option_map parts_in found ≡ parts_of (map string_bytes words.now)) }
 {
     let mut arguments = Vec::new(alloc);
-    let mut steps = Vec::new(alloc);
+    let mut steps_values = Vec::new(alloc);
     let mut next = Next::Any;
     for word in words {
         let word = word.as_str();
         match next {
             Next::Argument => arguments.push(word)?,
+            Next::StepsValue if begins_with_dash(word) => return Ok(None),
             Next::StepsValue => {
-                steps.push(word)?;
+                steps_values.push(word)?;
                 next = Next::Any;
             }
             Next::Any if word == "--" => next = Next::Argument,
             Next::Any if word == "--steps" => next = Next::StepsValue,
             Next::Any => match steps_value(word) {
-                Some(value) => steps.push(value)?,
+                Some(value) => steps_values.push(value)?,
                 None if is_option_word(word) => return Ok(None),
                 None => arguments.push(word)?,
             },
@@ -104,7 +105,10 @@ fn take_apart(alloc: Global, words: &[String]) -> Result<Option<Parts<'_>>, NoMe
     }
     match next {
         Next::StepsValue => Ok(None),
-        Next::Any | Next::Argument => Ok(Some(Parts { arguments, steps })),
+        Next::Any | Next::Argument => Ok(Some(Parts {
+            arguments,
+            steps_values,
+        })),
     }
 }
 
@@ -112,7 +116,7 @@ fn take_apart(alloc: Global, words: &[String]) -> Result<Option<Parts<'_>>, NoMe
 fn harden_words<'a>(parts: &Parts<'a>) -> Option<Request<'a>>
     ensures { option_map request_in result ≡ harden_request (parts_in parts.now) }
 {
-    match (parts.arguments.as_slice(), parts.steps.as_slice()) {
+    match (parts.arguments.as_slice(), parts.steps_values.as_slice()) {
         ([image, certificate, wasm], []) if image != certificate => {
             Some(Request::Harden(HardenWords {
                 image: *image,
@@ -131,7 +135,7 @@ fn interp_words<'a>(parts: &Parts<'a>) -> Option<Request<'a>>
     let [export, start, wasm] = parts.arguments.as_slice() else {
         return None;
     };
-    let steps = most_steps(parts.steps.as_slice())?;
+    let steps = most_steps(parts.steps_values.as_slice())?;
     Some(Request::Interp(InterpWords {
         export: *export,
         start: *start,
@@ -153,7 +157,7 @@ fn most_steps(values: &[&str]) -> Option<u64>
 
 /// A number from 1 to 4,294,967,295 in one to ten decimal digits, without a sign.
 fn read_count(word: &str) -> Option<u64>
-    ensures { result ≡ count_of word.now }
+    ensures { result ≡ number_of_steps word.now }
 {
     if word.len() > 10 || word.starts_with('+') {
         return None;
@@ -170,6 +174,13 @@ fn steps_value(word: &str) -> Option<&str>
     ensures { option_map (λ value. value.now) result ≡ (if is_steps_value word.now then Some (drop 8 word.now) else None) }
 {
     word.strip_prefix("--steps=")
+}
+
+/// Whether a word begins with `-`.
+fn begins_with_dash(word: &str) -> bool
+    ensures { result ≡ word_begins_with_dash word.now }
+{
+    matches!(word.as_bytes(), [b'-', ..])
 }
 
 /// Whether a word begins with `-` and isn't `-` alone.

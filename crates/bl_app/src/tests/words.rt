@@ -4,7 +4,7 @@ use std::test::Fail;
 
 /// The words of a line behind the program's name, and the steps of the `interp` that they ask for; None where they are
 /// no request.
-static STEPS: [(&str, Option<u64>); 25] = [
+static STEPS: [(&str, Option<u64>); 26] = [
     ("interp m/f s m.wasm", Some(1_000_000)),
     ("interp --steps=7 m/f s m.wasm", Some(7)),
     ("interp m/f --steps 7 s m.wasm", Some(7)),
@@ -19,6 +19,7 @@ static STEPS: [(&str, Option<u64>); 25] = [
     ("interp m/f s m.wasm --steps=0", None),
     ("interp m/f s m.wasm --steps=", None),
     ("interp m/f s m.wasm --steps=+1", None),
+    ("interp m/f s m.wasm --steps=-1", None),
     ("interp m/f s m.wasm --steps=1x", None),
     ("interp m/f s m.wasm --steps -1", None),
     ("interp m/f s m.wasm --steps --", None),

@@ -7,7 +7,7 @@ use Rattle.std.proofs.lemmas.Bool.Decides.{not_from_Decides}
 use Rattle.std.proofs.lemmas.Str.Parse.{without_leading_plus_none}
 use Rattle.std.proofs.lemmas.Str.Pattern.{starts_char}
 use Rattle.bl_trace.specs.Digits.{is_decimal, decimal_below}
-use Rattle.bl_app.specs.Requests.{count_of}
+use Rattle.bl_app.specs.Requests.{number_of_steps}
 use Rattle.bl_app.proofs.words.read_count.Goals as goal
 
 all_digits : (word : List ℕ) → AllDigits 10 word → list_all (λ byte. is_digit byte 10) word ≡ true
@@ -44,7 +44,7 @@ unread word limit none =
     ]
 
 -- a count in ten digits or fewer is what is asked for
-counted : (word : List ℕ) (count : ℕ) → 0 < count → length word ≤ 10 → decimal_below (2 ^ 32) word ≡ Some count → Some count ≡ count_of word
+counted : (word : List ℕ) (count : ℕ) → 0 < count → length word ≤ 10 → decimal_below (2 ^ 32) word ≡ Some count → Some count ≡ number_of_steps word
 counted word count above short is =
     sym (ap (option_and_then (λ n. if nat_lt 0 n && nat_lt (length word) 11 then Some n else None)) is
     ∙ cond-true _ _ _ (both_true _ _ (lt-ltb _ _ above) (lt-ltb _ _ (omega arith))))
