@@ -85,18 +85,18 @@ mutual
 pub taken_apart : (words arguments values : List (List ℕ)) → parts_of words ≡ Some (record { arguments = arguments; steps_values = values }) → IsTakenApart words arguments values
 taken_apart words arguments values found = subst (AreParts words) found (are_parts words)
 
--- a word that is no option is none of the words that stand for more
-is_no : (word : List ℕ) (test : Bool) → (IsOption word → ⊥) → (test ≡ true → is_option word ≡ true) → test ≡ false
-is_no word test plain so = false_from_ne_true test (λ e. plain (option_is word (so e)))
+-- a test that options alone pass fails at another word
+other_fails : (word : List ℕ) (test : Bool) → (IsOption word → ⊥) → (test ≡ true → is_option word ≡ true) → test ≡ false
+other_fails word test plain so = false_from_ne_true test (λ e. plain (option_is word (so e)))
 
 pub parts_found : (words arguments values : List (List ℕ)) → IsTakenApart words arguments values → parts_of words ≡ Some (record { arguments = arguments; steps_values = values })
 parts_found _ _ _ no_words = refl
 parts_found _ _ _ (options_end words) = refl
 parts_found _ _ _ (argument word words arguments values plain apart) =
-    cond-false (bytes_eq word (codes "--")) _ _ (is_no word _ plain (λ e. ap is_option ((bytes_eq-Decides word (codes "--")).0 e)))
-    ∙ cond-false (bytes_eq word (codes "--steps")) _ _ (is_no word _ plain (λ e. ap is_option ((bytes_eq-Decides word (codes "--steps")).0 e)))
-    ∙ cond-false (is_steps_value word) _ _ (is_no word _ plain (λ e. ap is_option (sym (steps_is word e))))
-    ∙ cond-false (is_option word) _ _ (is_no word _ plain (λ e. e))
+    cond-false (bytes_eq word (codes "--")) _ _ (other_fails word _ plain (λ e. ap is_option ((bytes_eq-Decides word (codes "--")).0 e)))
+    ∙ cond-false (bytes_eq word (codes "--steps")) _ _ (other_fails word _ plain (λ e. ap is_option ((bytes_eq-Decides word (codes "--steps")).0 e)))
+    ∙ cond-false (is_steps_value word) _ _ (other_fails word _ plain (λ e. ap is_option (sym (steps_is word e))))
+    ∙ cond-false (is_option word) _ _ (other_fails word _ plain (λ e. e))
     ∙ ap (option_map (with_argument word)) (parts_found words arguments values apart)
 parts_found _ _ _ (value_in_next_word value words arguments values plain apart) =
     cond-false (begins_with_dash value) _ _ (false_from_ne_true _ (λ e. plain (begins value e)))

@@ -33,8 +33,8 @@ pub record IsOption (word : List ℕ) : Type 0 where
   pub begins_with_dash : BeginsWithDash word
   pub not_alone : word ≡ codes "-" → ⊥
 
--- the words behind a command, the arguments among them, and the values that `--steps` is given. Words with another option
--- have none, and neither have words that end in `--steps` or have a word behind it that begins with `-`
+-- the words behind a command, the arguments among them, and the values that `--steps` is given. Words can't be taken
+-- apart where, before a `--`, another option stands, or a `--steps` without a value
 pub data IsTakenApart : (words arguments values : List (List ℕ)) → Type 0 where
   -- no words have none
   no_words : IsTakenApart [] [] []
