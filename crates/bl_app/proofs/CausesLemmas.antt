@@ -22,7 +22,7 @@ use Rattle.bl_app.specs.Requested.{FileIs, FirstRefusal, HardenReady, InterpRead
 use Rattle.bl_app.specs.Running.{HasOutcome, printed_of}
 use Rattle.bl_app.specs.Texts.{empty_certificate}
 use Rattle.bl_app.specs.Answers.{Plan, PlanFor, usage, refused, hardened, interpreted, harden_plan, saying, World, Ends, program_of}
-use Rattle.bl_app.specs.Causes.{Causes, Hardens, Interprets, IsOfRun, AsksToRun, UnlessFault, NoneRose, IsRefused, IsReadFault, IsKeepFault, IsUnprotected}
+use Rattle.bl_app.specs.Causes.{Causes, Hardens, Interprets, IsOfRun, DidRun, UnlessFault, NoneRose, IsRefused, IsReadFault, IsKeepFault, IsUnprotected}
 use Rattle.bl_app.proofs.EncodableLemmas.{HoldsOfMade, in_low}
 use Rattle.bl_app.proofs.KeepsMeaning.{keeps_meaning}
 use Rattle.bl_app.proofs.RequestLemmas.{first_one, hardened_refused, run_refused, run_once}
@@ -155,17 +155,6 @@ module _ (words : List (List ℕ)) (old new : World) (status : ℕ) where
   quiet (faulty_sink f e) three four eleven = absurd (four e)
   quiet (full e) three four eleven = absurd (eleven e)
 
-  -- 16 and 17 come of a run
-  run_only : Way words old new status → (status ≡ 16) ⊎ (status ≡ 17) → AsksToRun words
-  run_only (settled plan (usage none) d) e = absurd (omega (arith, e, d.meant))
-  run_only (settled plan (refused request refusal is first) d) e = absurd (omega (arith, e, d.meant, status_big refusal))
-  run_only (settled plan (hardened request ready is) d) e = absurd (omega (arith, e, d.meant))
-  run_only (settled plan (interpreted request ready outcome is within) d) e = (request, is)
-  run_only (faulty_read f e') e = absurd (omega arith)
-  run_only (faulty_keep f e') e = absurd (omega arith)
-  run_only (faulty_sink f e') e = absurd (omega arith)
-  run_only (full e') e = absurd (omega arith)
-
   ran : Way words old new status → (files : Files) (request : InterpRequest) (ready : InterpReady old.files request) (outcome : Option Outcome) → old.files ≡ Some files → request_of words ≡ Some (interp request)
       → HasOutcome ready.runnable request.steps outcome → UnlessFault (outcome_status outcome) status
   ran (settled plan (usage none) d) files request ready outcome told is within = cc
@@ -190,28 +179,6 @@ module _ (words : List (List ℕ)) (old new : World) (status : ℕ) where
   complete (faulty_sink f e) files request told is ready none_rose = absurd (none_rose.sink f)
   complete (full e) files request told is ready none_rose = inr e
 
--- what each status says, and when it comes
-pub causes : (words : List (List ℕ)) (old new : World) (status : ℕ) → Ends words old new status → Causes words old new status
-causes words old new status ends =
-    let w = way words old new status ends in
-    record {
-      usage_only = usage_only words old new status w;
-      usage = no_request words old new status w;
-      malformed_only = λ e. refused_only words old new status w (inl e);
-      invalid_only = λ e. refused_only words old new status w (inr (inl e));
-      unsupported_only = λ e. refused_only words old new status w (inr (inr (inl e)));
-      limit_only = λ e. refused_only words old new status w (inr (inr (inr (inl e))));
-      start_only = λ e. refused_only words old new status w (inr (inr (inr (inr e))));
-      refused = is_refused words old new status w;
-      read_fault = read_fault words old new status w;
-      write_fault = write_fault words old new status w;
-      trapped_only = λ e. run_only words old new status w (inl e);
-      spent_only = λ e. run_only words old new status w (inr e);
-      ran = ran words old new status w;
-      quiet = quiet words old new status w;
-      complete = complete words old new status w;
-    }
-
 -- what an entry made new leaves at each name
 get_inserted : (files : Files) (name bytes other : List ℕ) → fin.get (fin.insert files name bytes) other ≡ cond (bytes_eq name other) (Some bytes) (fin.get files other)
 get_inserted files name bytes other =
@@ -234,7 +201,7 @@ unprotected_made : HoldsOfMade IsUnprotected
 unprotected_made = record { sets = λ to operator a b. refl; out = λ index value. refl; jump = λ to. tt; ret = tt; trap = λ kind. tt }
 
 module _ (words : List (List ℕ)) (old new : World) where
-  did_harden : (request : HardenRequest) (ready : HardenReady old.files request) → request_of words ≡ Some (harden request) → (status : ℕ) → Done (harden_plan request ready.tree) old new status → Hardens request old new
+  did_harden : (request : HardenRequest) (ready : HardenReady old.files request) → request_of words ≡ Some (harden request) → (status : ℕ) → Done (harden_plan request ready.wasm) old new status → Hardens request old new
   did_harden request ready is status d = record {
     ready = ready;
     kept = d.files;
@@ -242,12 +209,12 @@ module _ (words : List (List ℕ)) (old new : World) where
     certificate = subst (λ f. FileIs f request.certificate empty_certificate) (sym d.files)
         (kept_still certified request.image image request.certificate empty_certificate (request_differs words request is) (kept_last old.files request.certificate empty_certificate));
     printed = d.said.taken;
-    unprotected = in_low IsUnprotected unprotected_made (alone (module_name request.wasm) ready.tree);
-    same_outcomes = keeps_meaning (module_name request.wasm) ready.tree ready.accepted.form;
+    unprotected = in_low IsUnprotected unprotected_made (alone (module_name request.wasm) ready.wasm);
+    same_outcomes = keeps_meaning (module_name request.wasm) ready.wasm ready.accepted.form;
   }
     where
       image : List ℕ
-      image = image_of (program_of (module_name request.wasm) ready.tree)
+      image = image_of (program_of (module_name request.wasm) ready.wasm)
 
       certified : Option Files
       certified = with_file old.files request.certificate empty_certificate
@@ -259,7 +226,7 @@ module _ (words : List (List ℕ)) (old new : World) where
   -- what was done, by what the words ask for
   data Work (status : ℕ) : Type 0 where
     no_work : (status ≡ 0 → ⊥) → (IsOfRun status → ⊥) → Work status
-    harden_work : (request : HardenRequest) → request_of words ≡ Some (harden request) → Hardens request old new → Work status
+    harden_work : status ≡ 0 → (request : HardenRequest) → request_of words ≡ Some (harden request) → Hardens request old new → Work status
     interp_work : (request : InterpRequest) → request_of words ≡ Some (interp request) → Interprets request old new status → Work status
 
   no_fault : (status : ℕ) → (status ≡ 2) ⊎ ((status ≡ 3) ⊎ ((status ≡ 4) ⊎ ((status ≡ 11) ⊎ IsRefusal status))) → Work status
@@ -268,7 +235,7 @@ module _ (words : List (List ℕ)) (old new : World) where
   work : (status : ℕ) → Way words old new status → Work status
   work status (settled plan (usage none) d) = no_fault status (inl d.meant)
   work status (settled plan (refused request refusal is first) d) = no_fault status (inr (inr (inr (inr (subst IsRefusal (sym d.meant) (status_big refusal))))))
-  work status (settled plan (hardened request ready is) d) = harden_work request is (did_harden request ready is status d)
+  work status (settled plan (hardened request ready is) d) = harden_work d.meant request is (did_harden request ready is status d)
   work status (settled plan (interpreted request ready outcome is within) d) = interp_work request is (did_run request ready outcome within status d)
   work status (faulty_read f e) = no_fault status (inr (inl e))
   work status (faulty_keep f e) = no_fault status (inr (inr (inl e)))
@@ -277,13 +244,41 @@ module _ (words : List (List ℕ)) (old new : World) where
 
   harden_done : (status : ℕ) (asked : HardenRequest) → Work status → request_of words ≡ Some (harden asked) → status ≡ 0 → Hardens asked old new
   harden_done status asked (no_work not not_run) asks e = absurd (not e)
-  harden_done status asked (harden_work request is h) asks e = subst (λ r. Hardens r old new) (one_harden request asked is asks) h
+  harden_done status asked (harden_work done request is h) asks e = subst (λ r. Hardens r old new) (one_harden request asked is asks) h
   harden_done status asked (interp_work request is h) asks e = absurd (one_command asked request asks is)
 
   interp_done : (status : ℕ) (asked : InterpRequest) → Work status → request_of words ≡ Some (interp asked) → IsOfRun status → Interprets asked old new status
   interp_done status asked (no_work not not_run) asks e = absurd (not_run e)
-  interp_done status asked (harden_work request is h) asks e = absurd (one_command request asked is asks)
+  interp_done status asked (harden_work done request is h) asks e = absurd (one_command request asked is asks)
   interp_done status asked (interp_work request is h) asks e = subst (λ r. Interprets r old new status) (one_interp request asked is asks) h
+
+  -- 16 and 17 come of a run
+  did_run_only : (status : ℕ) → Work status → (status ≡ 16) ⊎ (status ≡ 17) → DidRun words old new status
+  did_run_only status (no_work not not_run) e = absurd (not_run (inr e))
+  did_run_only status (harden_work done request is h) e = absurd (omega (arith, e, done))
+  did_run_only status (interp_work request is h) e = (request, is, h)
+
+-- what each status says, and when it comes
+pub causes : (words : List (List ℕ)) (old new : World) (status : ℕ) → Ends words old new status → Causes words old new status
+causes words old new status ends =
+    let w = way words old new status ends in
+    record {
+      usage_only = usage_only words old new status w;
+      usage = no_request words old new status w;
+      malformed_only = λ e. refused_only words old new status w (inl e);
+      invalid_only = λ e. refused_only words old new status w (inr (inl e));
+      unsupported_only = λ e. refused_only words old new status w (inr (inr (inl e)));
+      limit_only = λ e. refused_only words old new status w (inr (inr (inr (inl e))));
+      start_only = λ e. refused_only words old new status w (inr (inr (inr (inr e))));
+      refused = is_refused words old new status w;
+      read_fault = read_fault words old new status w;
+      write_fault = write_fault words old new status w;
+      trapped_only = λ e. did_run_only words old new status (work words old new status w) (inl e);
+      spent_only = λ e. did_run_only words old new status (work words old new status w) (inr e);
+      ran = ran words old new status w;
+      quiet = quiet words old new status w;
+      complete = complete words old new status w;
+    }
 
 -- what status 0 of `harden` says
 pub hardens : (words : List (List ℕ)) (old new : World) (status : ℕ) → Ends words old new status → (request : HardenRequest) → request_of words ≡ Some (harden request) → status ≡ 0 → Hardens request old new

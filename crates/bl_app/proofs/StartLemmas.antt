@@ -19,7 +19,7 @@ use Rattle.bl_trace.specs.Answers.{answer_of, IsAnswer}
 use Rattle.bl_trace.specs.declared.error.StartError.{StartError}
 use Rattle.bl_trace.specs.declared.error.StartError.TheVariants.{Line, Count, Memory}
 use Rattle.bl_app.specs.Form.{StandsAlone}
-use Rattle.bl_app.specs.Interpreting.{Interpreted, IsOpened, Tells, start_error}
+use Rattle.bl_app.specs.Interpreting.{IsInterpreted, IsOpened, IsTold, start_error}
 use Rattle.bl_app.specs.Outcomes.{outcome_text}
 use Rattle.bl_app.specs.Reading.{Reads}
 use Rattle.bl_app.specs.Refusals.{Accepted}
@@ -67,14 +67,14 @@ no_memories (patch ∷ patches) = no_memories patches
 
 -- what was run
 pub has_run : (name export start bytes : List ℕ) (steps : ℕ) (wasm : Module) (linked : Tree) (opening : Opening) (printed : Printed) → Accepted StandsAlone bytes wasm → linked ≡ alone name wasm
-    → IsOpened linked export start (Ok opening) → Tells linked opening steps printed → HasRun name export start bytes steps printed.text.items (code_of printed.status)
+    → IsOpened linked export start (Ok opening) → IsTold linked opening steps printed → HasRun name export start bytes steps printed.text.items (code_of printed.status)
 has_run name export start bytes steps wasm linked opening printed accepted same opens tells = record {
   runnable = record {
-    tree = wasm;
+    wasm = wasm;
     accepted = accepted;
     function = opening.function;
     type = opening.kind.now;
-    opening = opening.start;
+    start = opening.start;
     opens = subst (λ tree. Opens tree export start opening.function opening.kind.now opening.start) same opens;
   };
   outcome = tells.outcome;
@@ -84,12 +84,12 @@ has_run name export start bytes steps wasm linked opening printed accepted same 
 }
 
 -- what stands against a module's bytes stands against the run
-pub module_refused : (request : InterpRequest) (start bytes : List ℕ) (error : WorkError) → Reads StandsAlone bytes (Err error) → Interpreted request start bytes (Err error)
+pub module_refused : (request : InterpRequest) (start bytes : List ℕ) (error : WorkError) → Reads StandsAlone bytes (Err error) → IsInterpreted request start bytes (Err error)
 module_refused request start bytes (work.Refused refusal) h = of_module h
 module_refused request start bytes work.Memory h = tt
 
 -- and so does what stands against its start
 pub start_not_run : (request : InterpRequest) (start bytes : List ℕ) (wasm : Module) (linked : Tree) (error : WorkError) → Accepted StandsAlone bytes wasm → linked ≡ alone (module_name request.wasm) wasm
-    → IsOpened linked request.export start (Err error) → Interpreted request start bytes (Err error)
+    → IsOpened linked request.export start (Err error) → IsInterpreted request start bytes (Err error)
 start_not_run request start bytes wasm linked (work.Refused refusal) accepted same h = of_start wasm accepted (subst (λ tree. AgainstStart tree request.export start refusal) same h)
 start_not_run request start bytes wasm linked work.Memory accepted same h = tt

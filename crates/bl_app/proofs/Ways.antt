@@ -39,7 +39,7 @@ unfolding KeepOf
 keep_of words files plan before keep (usage none) e = cc
 keep_of words files plan before keep (refused request refusal is first) e = cc
 keep_of words files plan before keep (hardened request ready is) e =
-    (harden request, is, keep_named request (image_of (program_of (module_name request.wasm) ready.tree)) (report_text (program_of (module_name request.wasm) ready.tree)) before keep e)
+    (harden request, is, keep_named request (image_of (program_of (module_name request.wasm) ready.wasm)) (report_text (program_of (module_name request.wasm) ready.wasm)) before keep e)
 keep_of words files plan before keep (interpreted request ready outcome is within) e = cc
 
 keep_fault : (words : List (List ℕ)) (old new : World) (name : List ℕ) → KeepOf words name → WriteFails old.faults new.faults name → Whole (write_fault_text name) old.sink new.sink → IsKeepFault words old new
@@ -60,12 +60,12 @@ said_keep : (words : List (List ℕ)) (old new : World) (status : ℕ) (name : L
 said_keep words old new status name k fails (whole said meant) = faulty_keep (keep_fault words old new name k fails said) meant
 said_keep words old new status name k fails (cut c e) = faulty_sink c.rose e
 
-said_read : (words : List (List ℕ)) (old new : World) (status : ℕ) (request : Request) (name : List ℕ) → request_of words ≡ Some request → IsRead request name → ReadFails old.faults new.faults name → Said (read_fault_text name) 3 old.sink new.sink status → Way words old new status
+said_read : (words : List (List ℕ)) (old new : World) (status : ℕ) (request : Request) (name : List ℕ) → request_of words ≡ Some request → IsRead old.files request name → ReadFails old.faults new.faults name → Said (read_fault_text name) 3 old.sink new.sink status → Way words old new status
 said_read words old new status request name is read fails (whole said meant) =
     faulty_read (record {
       request = request;
       is_request = is;
-      is_read = subst (IsRead request) (sym fails.last) read;
+      is_read = subst (IsRead old.files request) (sym fails.last) read;
       fails = subst (ReadFails old.faults new.faults) (sym fails.last) fails;
       printed = said.taken ∙ ap (λ n. took old.sink.taken (read_fault_text n)) (sym fails.last);
     }) meant
@@ -75,7 +75,7 @@ delivered : (words : List (List ℕ)) (old new : World) (status : ℕ) (plan : P
 delivered words old new status plan p (all_kept files faults said) = said_planned words old new status plan p files faults said
 delivered words old new status plan p (not_kept before keep is fails files said) =
     said_keep words old new status keep.0 (keep_of words old.files plan before keep p is) fails said
-delivered words old new status plan p (no_memory_to_keep before files faults sink e) = full e
+delivered words old new status plan p (no_memory_to_keep before keep is files faults sink e) = full e
 
 pub way : (words : List (List ℕ)) (old new : World) (status : ℕ) → Ends words old new status → Way words old new status
 way words old new status (as_planned plan p d) = delivered words old new status plan p d

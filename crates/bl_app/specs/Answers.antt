@@ -56,7 +56,7 @@ pub data PlanFor (words : List (List ℕ)) (files : Option Files) : Plan → Typ
   usage : request_of words ≡ None → PlanFor words files (saying 2 usage_text)
   refused : (request : Request) (refusal : Refusal) → request_of words ≡ Some request → FirstRefusal files request refusal
       → PlanFor words files (saying (status_of refusal) (refusal_text (module_of request) refusal))
-  hardened : (request : HardenRequest) (ready : HardenReady files request) → request_of words ≡ Some (harden request) → PlanFor words files (harden_plan request ready.tree)
+  hardened : (request : HardenRequest) (ready : HardenReady files request) → request_of words ≡ Some (harden request) → PlanFor words files (harden_plan request ready.wasm)
   interpreted : (request : InterpRequest) (ready : InterpReady files request) (outcome : Option Outcome) → request_of words ≡ Some (interp request)
       → HasOutcome ready.runnable request.steps outcome
       → PlanFor words files (saying (outcome_status outcome) (printed_of ready.runnable request.steps outcome))
@@ -140,14 +140,14 @@ pub data Delivers (plan : Plan) (old new : World) (status : ℕ) : Type 0 where
   not_kept : (before : ℕ) (keep : List ℕ × List ℕ) → slice_get plan.keeps before ≡ Some keep → WriteFails old.faults new.faults keep.0
       → new.files ≡ with_files old.files (take before plan.keeps) → Said (write_fault_text keep.0) 4 old.sink new.sink status → Delivers plan old new status
   -- there was no memory to keep a file; those before it were kept, and nothing was printed
-  no_memory_to_keep : (before : ℕ) → new.files ≡ with_files old.files (take before plan.keeps) → new.faults ≡ old.faults → new.sink ≡ old.sink → status ≡ 11 → Delivers plan old new status
+  no_memory_to_keep : (before : ℕ) (keep : List ℕ × List ℕ) → slice_get plan.keeps before ≡ Some keep → new.files ≡ with_files old.files (take before plan.keeps) → new.faults ≡ old.faults → new.sink ≡ old.sink → status ≡ 11 → Delivers plan old new status
 
 -- how a call ends
 pub data Ends (words : List (List ℕ)) (old new : World) (status : ℕ) : Type 0 where
   -- as the words ask for
   as_planned : (plan : Plan) → PlanFor words old.files plan → Delivers plan old new status → Ends words old new status
   -- a file could not be read
-  not_read : (request : Request) (name : List ℕ) → request_of words ≡ Some request → IsRead request name → ReadFails old.faults new.faults name → new.files ≡ old.files
+  not_read : (request : Request) (name : List ℕ) → request_of words ≡ Some request → IsRead old.files request name → ReadFails old.faults new.faults name → new.files ≡ old.files
       → Said (read_fault_text name) 3 old.sink new.sink status → Ends words old new status
   -- there was no memory before any file was to be kept or any text to be printed
   no_memory : Unchanged old new → status ≡ 11 → Ends words old new status

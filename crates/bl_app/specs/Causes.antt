@@ -49,7 +49,7 @@ pub record IsRefused (words : List (List ℕ)) (old new : World) (status : ℕ) 
 pub record IsReadFault (words : List (List ℕ)) (old new : World) : Type 0 where
   pub request : Request
   pub is_request : request_of words ≡ Some request
-  pub is_read : IsRead request new.faults.last
+  pub is_read : IsRead old.files request new.faults.last
   pub fails : ReadFails old.faults new.faults new.faults.last
   pub printed : new.sink.taken ≡ took old.sink.taken (read_fault_text new.faults.last)
 
@@ -60,50 +60,6 @@ pub record IsKeepFault (words : List (List ℕ)) (old new : World) : Type 0 wher
   pub is_kept : IsKept request new.faults.last
   pub fails : WriteFails old.faults new.faults new.faults.last
   pub printed : new.sink.taken ≡ took old.sink.taken (write_fault_text new.faults.last)
-
--- the words ask for an `interp`
-abbrev pub AsksToRun : List (List ℕ) → Type 0
-AsksToRun words = (request : InterpRequest) × (request_of words ≡ Some (interp request))
-
--- what each status says, and when it comes
-pub record Causes (words : List (List ℕ)) (old new : World) (status : ℕ) : Type 0 where
-  -- 2 exactly where the words are no request
-  pub usage_only : status ≡ 2 → request_of words ≡ None
-  pub usage : request_of words ≡ None → UnlessFault 2 status
-  -- 5 to 8 and 15 exactly where that is the first that stands against the request: 5 where the module's bytes spell none, 6 where it
-  -- has no typing, 7 where it has something that isn't supported or is outside the form, 8 where a quantity exceeds its number, and
-  -- 15 where the export is absent or the start file doesn't fit its function
-  pub malformed_only : status ≡ 5 → IsRefused words old new status
-  pub invalid_only : status ≡ 6 → IsRefused words old new status
-  pub unsupported_only : status ≡ 7 → IsRefused words old new status
-  pub limit_only : status ≡ 8 → IsRefused words old new status
-  pub start_only : status ≡ 15 → IsRefused words old new status
-  pub refused : (files : Files) (request : Request) (refusal : Refusal) → old.files ≡ Some files → request_of words ≡ Some request → FirstRefusal old.files request refusal
-      → UnlessFault (status_of refusal) status
-  -- 3 and 4 only with a fault of the shelf or of the sink
-  pub read_fault : status ≡ 3 → IsReadFault words old new
-  pub write_fault : status ≡ 4 → Rose old.sink.faults new.sink.faults ⊎ IsKeepFault words old new
-  -- 16 and 17 only where a run is asked for: 16 where its outcome within the steps is a trap, and 17 where it has none within them
-  pub trapped_only : status ≡ 16 → AsksToRun words
-  pub spent_only : status ≡ 17 → AsksToRun words
-  pub ran : (files : Files) (request : InterpRequest) (ready : InterpReady old.files request) (outcome : Option Outcome) → old.files ≡ Some files → request_of words ≡ Some (interp request)
-      → HasOutcome ready.runnable request.steps outcome → UnlessFault (outcome_status outcome) status
-  -- with any status but 3, 4 and 11 no count of faults is changed
-  pub quiet : (status ≡ 3 → ⊥) → (status ≡ 4 → ⊥) → (status ≡ 11 → ⊥) → (new.faults ≡ old.faults) × (new.sink.faults ≡ old.sink.faults)
-  -- where no count rises, a module that can be hardened is answered by 0 or 11
-  pub complete : (files : Files) (request : HardenRequest) → old.files ≡ Some files → request_of words ≡ Some (harden request) → HardenReady old.files request → NoneRose old new → (status ≡ 0) ⊎ (status ≡ 11)
-
--- status 0 of `harden`: the module's bytes spell a module of the form; the certificate without paths and the image of its program
--- are kept, and nothing else is changed; the report is printed; the program has no protects, and it ends exactly as the linked
--- tree does
-pub record Hardens (request : HardenRequest) (old new : World) : Type 0 where
-  pub ready : HardenReady old.files request
-  pub kept : new.files ≡ with_file (with_file old.files request.certificate empty_certificate) request.image (image_of (program_of (module_name request.wasm) ready.tree))
-  pub image : FileIs new.files request.image (image_of (program_of (module_name request.wasm) ready.tree))
-  pub certificate : FileIs new.files request.certificate empty_certificate
-  pub printed : new.sink.taken ≡ took old.sink.taken (report_text (program_of (module_name request.wasm) ready.tree))
-  pub unprotected : All IsUnprotected (program_of (module_name request.wasm) ready.tree).commands
-  pub same_outcomes : SameOutcomes (alone (module_name request.wasm) ready.tree) (program_of (module_name request.wasm) ready.tree)
 
 -- the statuses of a run that was carried out
 abbrev pub IsOfRun : ℕ → Type 0
@@ -118,3 +74,47 @@ pub record Interprets (request : InterpRequest) (old new : World) (status : ℕ)
   pub meant : status ≡ outcome_status outcome
   pub printed : new.sink.taken ≡ took old.sink.taken (printed_of ready.runnable request.steps outcome)
   pub unchanged : new.files ≡ old.files
+
+-- the words ask for an `interp`, which was carried out
+abbrev pub DidRun : List (List ℕ) → World → World → ℕ → Type 0
+DidRun words old new status = (request : InterpRequest) × (request_of words ≡ Some (interp request)) × Interprets request old new status
+
+-- what each status says, and when it comes
+pub record Causes (words : List (List ℕ)) (old new : World) (status : ℕ) : Type 0 where
+  -- 2 exactly where the words are no request
+  pub usage_only : status ≡ 2 → request_of words ≡ None
+  pub usage : request_of words ≡ None → UnlessFault 2 status
+  -- 5 to 8 and 15 exactly where that is the first that stands against the request: 5 where the module's bytes spell none, 6 where it
+  -- has no typing, 7 where it has something that isn't supported or is outside the form, 8 where a quantity exceeds its number, and
+  -- 15 where the export is absent, a line of the start file is bad, or there are too few arguments
+  pub malformed_only : status ≡ 5 → IsRefused words old new status
+  pub invalid_only : status ≡ 6 → IsRefused words old new status
+  pub unsupported_only : status ≡ 7 → IsRefused words old new status
+  pub limit_only : status ≡ 8 → IsRefused words old new status
+  pub start_only : status ≡ 15 → IsRefused words old new status
+  pub refused : (files : Files) (request : Request) (refusal : Refusal) → old.files ≡ Some files → request_of words ≡ Some request → FirstRefusal old.files request refusal
+      → UnlessFault (status_of refusal) status
+  -- 3 and 4 only with a fault of the shelf or of the sink
+  pub read_fault : status ≡ 3 → IsReadFault words old new
+  pub write_fault : status ≡ 4 → Rose old.sink.faults new.sink.faults ⊎ IsKeepFault words old new
+  -- 16 exactly where a run is asked for whose outcome within the steps is a trap, and 17 where it has none within them
+  pub trapped_only : status ≡ 16 → DidRun words old new status
+  pub spent_only : status ≡ 17 → DidRun words old new status
+  pub ran : (files : Files) (request : InterpRequest) (ready : InterpReady old.files request) (outcome : Option Outcome) → old.files ≡ Some files → request_of words ≡ Some (interp request)
+      → HasOutcome ready.runnable request.steps outcome → UnlessFault (outcome_status outcome) status
+  -- with any status but 3, 4 and 11 no count of faults is changed
+  pub quiet : (status ≡ 3 → ⊥) → (status ≡ 4 → ⊥) → (status ≡ 11 → ⊥) → (new.faults ≡ old.faults) × (new.sink.faults ≡ old.sink.faults)
+  -- where no count rises, a module that can be hardened is answered by 0 or 11
+  pub complete : (files : Files) (request : HardenRequest) → old.files ≡ Some files → request_of words ≡ Some (harden request) → HardenReady old.files request → NoneRose old new → (status ≡ 0) ⊎ (status ≡ 11)
+
+-- status 0 of `harden`: the module's bytes spell a module of the form; the certificate without paths and the image of its program
+-- are kept, and nothing else is changed; the report is printed; the program has no protects, and it ends exactly as the linked
+-- tree does
+pub record Hardens (request : HardenRequest) (old new : World) : Type 0 where
+  pub ready : HardenReady old.files request
+  pub kept : new.files ≡ with_file (with_file old.files request.certificate empty_certificate) request.image (image_of (program_of (module_name request.wasm) ready.wasm))
+  pub image : FileIs new.files request.image (image_of (program_of (module_name request.wasm) ready.wasm))
+  pub certificate : FileIs new.files request.certificate empty_certificate
+  pub printed : new.sink.taken ≡ took old.sink.taken (report_text (program_of (module_name request.wasm) ready.wasm))
+  pub unprotected : All IsUnprotected (program_of (module_name request.wasm) ready.wasm).commands
+  pub same_outcomes : SameOutcomes (alone (module_name request.wasm) ready.wasm) (program_of (module_name request.wasm) ready.wasm)

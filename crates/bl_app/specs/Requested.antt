@@ -21,37 +21,41 @@ abbrev pub module_of : Request → List ℕ
 module_of (harden request) = module_name request.wasm
 module_of (interp request) = module_name request.wasm
 
--- a file of that name is read
-abbrev pub IsRead : Request → List ℕ → Type 0
-IsRead (harden request) name = name ≡ request.wasm
-IsRead (interp request) name = (name ≡ request.start) ⊎ (name ≡ request.wasm)
+-- the most bytes of a start file
+abbrev pub most_start : ℕ
+most_start = 16777216
+
+-- the start file of a request is there, and isn't too long
+pub record HasStart (files : Option Files) (request : InterpRequest) : Type 0 where
+  pub start_bytes : List ℕ
+  pub start_file : FileIs files request.start start_bytes
+  pub short : length start_bytes ≤ most_start
+
+-- a file of that name is read; a module's only behind its start file
+abbrev pub IsRead : Option Files → Request → List ℕ → Type 0
+IsRead files (harden request) name = name ≡ request.wasm
+IsRead files (interp request) name = (name ≡ request.start) ⊎ ((name ≡ request.wasm) × HasStart files request)
 
 -- a file of that name is written
 abbrev pub IsKept : Request → List ℕ → Type 0
 IsKept (harden request) name = (name ≡ request.certificate) ⊎ (name ≡ request.image)
 IsKept (interp request) name = ⊥
 
--- the most bytes of a start file
-abbrev pub most_start : ℕ
-most_start = 16777216
-
 -- ---- where nothing stands against the request
 
 -- a module to be hardened
 pub record HardenReady (files : Option Files) (request : HardenRequest) : Type 0 where
   pub bytes : List ℕ
-  pub tree : Module
+  pub wasm : Module
   pub file : FileIs files request.wasm bytes
-  pub accepted : Accepted IsForm bytes tree
+  pub accepted : Accepted IsForm bytes wasm
 
 -- a module and a start to be run
 pub record InterpReady (files : Option Files) (request : InterpRequest) : Type 0 where
-  pub start : List ℕ
+  pub start : HasStart files request
   pub bytes : List ℕ
-  pub start_file : FileIs files request.start start
-  pub short : length start ≤ most_start
   pub file : FileIs files request.wasm bytes
-  pub runnable : Runnable (module_name request.wasm) request.export start bytes
+  pub runnable : Runnable (module_name request.wasm) request.export start.start_bytes bytes
 
 -- ---- the first thing that stands against the request, in the order of work, for files that are read without fault
 
@@ -62,10 +66,10 @@ pub record HardenRefused (files : Option Files) (request : HardenRequest) (refus
 
 pub data InterpRefused (files : Option Files) (request : InterpRequest) (refusal : Refusal) : Type 0 where
   -- the start file is too long
-  long_start : (start : List ℕ) → FileIs files request.start start → most_start < length start → refusal ≡ Limit quantity.Start (most_start + 1) → InterpRefused files request refusal
+  long_start : (start_bytes : List ℕ) → FileIs files request.start start_bytes → most_start < length start_bytes → refusal ≡ Limit quantity.Start (most_start + 1) → InterpRefused files request refusal
   -- something stands against the module, the exported name or the start
-  not_runnable : (start bytes : List ℕ) → FileIs files request.start start → length start ≤ most_start → FileIs files request.wasm bytes
-      → NotRunnable (module_name request.wasm) request.export start bytes refusal → InterpRefused files request refusal
+  not_runnable : (start : HasStart files request) (bytes : List ℕ) → FileIs files request.wasm bytes
+      → NotRunnable (module_name request.wasm) request.export start.start_bytes bytes refusal → InterpRefused files request refusal
 
 abbrev pub FirstRefusal : Option Files → Request → Refusal → Type 0
 FirstRefusal files (harden request) refusal = HardenRefused files request refusal

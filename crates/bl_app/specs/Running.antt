@@ -25,48 +25,49 @@ type_of tree function = option_and_then (λ f. slice_get tree.types f.type_index
 abbrev pub sizes_of : Tree → List ℕ
 sizes_of tree = map (λ memory. memory.pages) tree.memories
 
--- a function is exported under a name, it has that type, and a start file asks for that start of it
-pub record Opens (tree : Tree) (export bytes : List ℕ) (function : ℕ) (type : Signature) (start : Start) : Type 0 where
+-- a function is exported under a name, it has that type, and the bytes of a start file ask for that start of it
+pub record Opens (tree : Tree) (export start_bytes : List ℕ) (function : ℕ) (type : Signature) (start : Start) : Type 0 where
   pub exported : number_of export tree.exports ≡ Some function
   pub typed : type_of tree function ≡ Some type
-  pub read : answer_of type.params (sizes_of tree) bytes ≡ Ok start
+  pub read : answer_of type.params (sizes_of tree) start_bytes ≡ Ok start
 
--- what stands against an exported name and a start file
-pub data AgainstStart (tree : Tree) (export bytes : List ℕ) (refusal : Refusal) : Type 0 where
+-- what stands against an exported name and the bytes of a start file
+pub data AgainstStart (tree : Tree) (export start_bytes : List ℕ) (refusal : Refusal) : Type 0 where
   -- no function is exported under that name
-  no_export : number_of export tree.exports ≡ None → refusal ≡ NoExport → AgainstStart tree export bytes refusal
+  no_export : number_of export tree.exports ≡ None → refusal ≡ NoExport → AgainstStart tree export start_bytes refusal
   -- a line is bad; the first one
   bad_line : (function line : ℕ) (type : Signature) → number_of export tree.exports ≡ Some function → type_of tree function ≡ Some type
-      → answer_of type.params (sizes_of tree) bytes ≡ Err (Line line) → refusal ≡ BadLine line → AgainstStart tree export bytes refusal
-  -- there are too few arguments
+      → answer_of type.params (sizes_of tree) start_bytes ≡ Err (Line line) → refusal ≡ BadLine line → AgainstStart tree export start_bytes refusal
+  -- no line is bad, and there are too few arguments
   few_arguments : (function count : ℕ) (type : Signature) → number_of export tree.exports ≡ Some function → type_of tree function ≡ Some type
-      → answer_of type.params (sizes_of tree) bytes ≡ Err (Count count) → refusal ≡ FewArguments count → AgainstStart tree export bytes refusal
+      → answer_of type.params (sizes_of tree) start_bytes ≡ Err (Count count) → refusal ≡ FewArguments count → AgainstStart tree export start_bytes refusal
 
--- nothing stands against a module under that name, an exported name and a start file
-pub record Runnable (name export start bytes : List ℕ) : Type 0 where
-  pub tree : Module
-  pub accepted : Accepted StandsAlone bytes tree
+-- nothing stands against running the module that the bytes spell, under that name, from the function exported under a name and the
+-- start that a start file asks for
+pub record Runnable (name export start_bytes bytes : List ℕ) : Type 0 where
+  pub wasm : Module
+  pub accepted : Accepted StandsAlone bytes wasm
   pub function : ℕ
   pub type : Signature
-  pub opening : Start
-  pub opens : Opens (alone name tree) export start function type opening
+  pub start : Start
+  pub opens : Opens (alone name wasm) export start_bytes function type start
 
--- what stands against them
-pub data NotRunnable (name export start bytes : List ℕ) (refusal : Refusal) : Type 0 where
-  of_module : Refused StandsAlone bytes refusal → NotRunnable name export start bytes refusal
-  of_start : (tree : Module) → Accepted StandsAlone bytes tree → AgainstStart (alone name tree) export start refusal → NotRunnable name export start bytes refusal
+-- what stands against it
+pub data NotRunnable (name export start_bytes bytes : List ℕ) (refusal : Refusal) : Type 0 where
+  of_module : Refused StandsAlone bytes refusal → NotRunnable name export start_bytes bytes refusal
+  of_start : (wasm : Module) → Accepted StandsAlone bytes wasm → AgainstStart (alone name wasm) export start_bytes refusal → NotRunnable name export start_bytes bytes refusal
 
--- that outcome comes within so many steps, or none does
-abbrev pub HasOutcome : {name export start bytes : List ℕ} → Runnable name export start bytes → ℕ → Option Outcome → Type 0
-HasOutcome {name} r steps outcome = IsWithin (alone name r.tree) r.function r.opening steps outcome
+-- the run has that outcome within so many steps, or none within them
+abbrev pub HasOutcome : {name export start_bytes bytes : List ℕ} → Runnable name export start_bytes bytes → ℕ → Option Outcome → Type 0
+HasOutcome {name} r steps outcome = IsWithin (alone name r.wasm) r.function r.start steps outcome
 
 -- the text of an outcome, by the types of the results and the memories at the start
-abbrev pub printed_of : {name export start bytes : List ℕ} → Runnable name export start bytes → ℕ → Option Outcome → List ℕ
-printed_of {name} r steps outcome = outcome_text r.type.results (first_store (alone name r.tree) r.opening).memories steps outcome
+abbrev pub printed_of : {name export start_bytes bytes : List ℕ} → Runnable name export start_bytes bytes → ℕ → Option Outcome → List ℕ
+printed_of {name} r steps outcome = outcome_text r.type.results (first_store (alone name r.wasm) r.start).memories steps outcome
 
--- they were run for so many steps at most, and this is the text and the status
-pub record HasRun (name export start bytes : List ℕ) (steps : ℕ) (text : List ℕ) (status : ℕ) : Type 0 where
-  pub runnable : Runnable name export start bytes
+-- the module was run for at most so many steps, and these are the text and the status of its outcome
+pub record HasRun (name export start_bytes bytes : List ℕ) (steps : ℕ) (text : List ℕ) (status : ℕ) : Type 0 where
+  pub runnable : Runnable name export start_bytes bytes
   pub outcome : Option Outcome
   pub within : HasOutcome runnable steps outcome
   pub is_text : text ≡ printed_of runnable steps outcome

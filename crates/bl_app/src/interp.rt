@@ -4,7 +4,7 @@ ghost use Rattle.bl_wasm.specs.Linked.{IsLinked};
 ghost use Rattle.bl_reduce.specs.Outcomes.{IsStart};
 ghost use Rattle.bl_app.specs.Answers.{Ends};
 ghost use Rattle.bl_app.specs.Requests.{interp as interpreting, request_of};
-ghost use Rattle.bl_app.specs.Interpreting.{Interpreted, IsOpened, Tells, start_error};
+ghost use Rattle.bl_app.specs.Interpreting.{IsInterpreted, IsOpened, IsTold, start_error};
 ghost use Rattle.bl_app.specs.Running.{type_of};
 ghost use Rattle.bl_app.specs.Status.{code_of};
 ghost use Rattle.bl_app.specs.Words.{interp_in};
@@ -87,7 +87,7 @@ fn interpret(
     start: &[u8],
     bytes: &[u8],
 ) -> Result<Printed, WorkError>
-    ensures { Interpreted (interp_in words.now) start.now bytes.now result }
+    ensures { IsInterpreted (interp_in words.now) start.now bytes.now result }
 {
     let wasm = match read_module(alloc, Form::Alone, bytes) {
         Ok(wasm) => wasm,
@@ -112,7 +112,7 @@ fn tell(
     requires start { IsStart linked.now opening.now.function opening.now.start }
     requires memories { linked.now.memories ≡ [] }
     requires tables { linked.now.tables ≡ [] }
-    ensures { IfOk result (λ printed. Tells linked.now opening.now steps printed) }
+    ensures { IfOk result (λ printed. IsTold linked.now opening.now steps printed) }
 {
     let run = interp(alloc, linked, opening.function, &opening.start, steps)?;
     let text = outcome_text(alloc, opening.kind.results.as_slice(), steps, &run)?;

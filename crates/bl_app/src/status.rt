@@ -11,7 +11,7 @@ pub enum Status {
     Usage,
     /// A file could not be read.
     ReadFault,
-    /// A file or the stream could not be written.
+    /// A file or the sink could not be written.
     WriteFault,
     /// A module's bytes aren't in the grammar.
     Malformed,
@@ -23,7 +23,7 @@ pub enum Status {
     Limit,
     /// Memory ran out.
     Memory,
-    /// The export is absent, or the start file doesn't fit its function.
+    /// The export is absent, a line of the start file is bad, or there are too few arguments.
     Start,
     /// The run ended by a trap.
     Trapped,

@@ -1,6 +1,6 @@
 -- What lines say fits the parameters and the memories.
-use Rattle.std.proofs.Common.{◌≡◌, ℕ, ◌+◌, ◌*◌, ◌^◌, ◌<◌, ◌≤◌, true, cond, nat_lt, ◌&&◌, List, [], ◌∷◌, length, take, drop, Option, Some, None, Result, Ok, Err, refl, sym, ap, subst, ◌∙◌, arith, suc, IfSome, IfOk, MatchOption, codes, option_map, slice_get, All}
-use Rattle.std.proofs.lemmas.Bool.{cond_both, and_parts, ltb-true, leb-true}
+use Rattle.std.proofs.Common.{◌≡◌, ℕ, ◌+◌, ◌*◌, ◌^◌, ◌<◌, ◌≤◌, Bool, true, false, cond, nat_lt, ◌&&◌, List, [], ◌∷◌, length, take, drop, Option, Some, None, Result, Ok, Err, refl, sym, ap, subst, ◌∙◌, arith, suc, IfSome, IfOk, MatchOption, codes, option_map, slice_get, All}
+use Rattle.std.proofs.lemmas.Bool.{cond_both, and_parts, ltb-false, ltb-true, leb-true}
 use Rattle.std.proofs.lemmas.List.{at_drop_more, take_all}
 use Rattle.std.proofs.lemmas.List.Elements.{All-cons, All-nil}
 use Rattle.std.proofs.lemmas.Option.{slice_get_within, get_or_from_slice_get}
@@ -15,9 +15,11 @@ use Rattle.bl_base.specs.declared.start.Start.{Start}
 use Rattle.bl_base.specs.Fits.{ArgumentFits, AreBytes, LiesIn, PatchFits, Fits}
 use Rattle.bl_trace.specs.declared.entry.Entry.{Entry}
 use Rattle.bl_trace.specs.declared.entry.Entry.TheVariants.{Argument, Contents}
+use Rattle.bl_trace.specs.declared.error.StartError.{StartError}
+use Rattle.bl_trace.specs.declared.error.StartError.TheVariants.{Count}
 use Rattle.bl_trace.specs.Digits.{is_decimal, decimal_below, byte_of, byte_and, bytes_of_hex}
-use Rattle.bl_trace.specs.Lines.{words_of, limit_of, argument_of, lies_in, patch_by, patch_of, entry_by, entry_of}
-use Rattle.bl_trace.specs.Answers.{arguments_in, said_before, said}
+use Rattle.bl_trace.specs.Lines.{lines_of, words_of, limit_of, argument_of, lies_in, patch_by, patch_of, entry_by, entry_of}
+use Rattle.bl_trace.specs.Answers.{answer_by, answer_of, arguments_in, said_before, said}
 
 -- an argument is one of a parameter that is left, a patch lies in its memory
 abbrev EntryFits : Option ValueType → List ℕ → Entry → Type 0
@@ -168,3 +170,23 @@ fits_whole params sizes lines start is whole =
       arguments = subst (λ (xs : List ValueType). AllZip ArgumentFits xs start.args) (take_all (length start.args) params whole) fitting.arguments_fit;
       patches = fitting.patches_fit;
     }
+
+-- an answer that is a start comes of lines that say it, with no parameter left
+told : (given start : Start) (params : List ValueType) (few : Bool) (e : Result Start StartError) → e ≡ cond few (Err (Count (length given.args))) (Ok given) → nat_lt (length given.args) (length params) ≡ few → e ≡ Ok start
+    → (given ≡ start) × (length params ≤ length given.args)
+told given start params true e made is same = cc
+told given start params false e made is same = (cc, ltb-false (length given.args) (length params) is)
+
+of_answer : (params : List ValueType) (r : Result Start ℕ) (start : Start) → answer_by params r ≡ Ok start → IfOk r (λ given. (given ≡ start) × (length params ≤ length given.args))
+of_answer params (Err number) start e = tt
+of_answer params (Ok given) start e = told given start params (nat_lt (length given.args) (length params)) (answer_by params (Ok given)) refl refl e
+
+-- a start that a file asks for fits
+pub answered_fits : (params : List ValueType) (sizes bytes : List ℕ) (start : Start) → answer_of params sizes bytes ≡ Ok start → Fits params sizes start
+answered_fits params sizes bytes start e = of_said (said params sizes 0 (lines_of bytes)) refl e
+  where
+    of_said : (r : Result Start ℕ) → said params sizes 0 (lines_of bytes) ≡ r → answer_by params r ≡ Ok start → Fits params sizes start
+    of_said (Err number) is e = cc
+    of_said (Ok given) is e =
+        let found = of_answer params (Ok given) start e in
+        subst (Fits params sizes) found.0 (fits_whole params sizes (lines_of bytes) given is found.1)

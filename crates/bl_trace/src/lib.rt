@@ -4,6 +4,7 @@
 mod digits;
 mod entry;
 mod error;
+pub mod laws;
 mod line;
 mod read;
 

@@ -123,13 +123,15 @@ fn steps_are_counted_and_given_once(rt: HostRuntime) -> Result<(), Fail> {
     Ok(())
 }
 
+const ABSENT: [&str; 5] = ["blade", "interp", "m/f", "absent", "absent.wasm"];
+
 #[test]
 fn exports_and_starts_that_are_refused_and_files_that_are_not_read(
     rt: HostRuntime,
 ) -> Result<(), Fail> {
     let alloc = rt.alloc();
     let long = vec![in alloc; b'a'; 16_777_217]?;
-    let cases: [(&str, &[u8], &[u8], Option<u64>, u8, &str); 8] = [
+    let cases: [(&str, &[u8], &[u8], Option<u64>, u8, &str); 9] = [
         ("m/dec", &ADD_ONE, b"arg 1\n", None, 15, "start: export\n"),
         ("m/inc", &ADD_ONE, b"", None, 15, "start: arguments 0\n"),
         (
@@ -141,6 +143,14 @@ fn exports_and_starts_that_are_refused_and_files_that_are_not_read(
             "start: line 1\n",
         ),
         ("m/inc", &ADD_ONE, &long, None, 8, "limit: start 16777217\n"),
+        (
+            "m/inc",
+            &ADD_ONE,
+            &long,
+            Some(2),
+            8,
+            "limit: start 16777217\n",
+        ),
         (
             "m/inc",
             &ADD_ONE[..39],
@@ -173,5 +183,8 @@ fn exports_and_starts_that_are_refused_and_files_that_are_not_read(
         assert_eq!(rt; answer, status);
         assert_eq!(rt; out.bytes(), text.as_bytes());
     }
+    let (answer, out) = call(alloc, &ABSENT, (&ADD_ONE, b""), None)?;
+    assert_eq!(rt; answer, 3);
+    assert_eq!(rt; out.bytes(), b"read fault: absent\n".as_slice());
     Ok(())
 }
