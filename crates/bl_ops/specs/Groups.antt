@@ -17,6 +17,8 @@ use Rattle.bl_ops.specs.declared.group.Comparison.{Comparison}
 use Rattle.bl_ops.specs.declared.group.Comparison.TheVariants.{Eq, Ne, LtS, LtU, GtS, GtU, LeS, LeU, GeS, GeU}
 use Rattle.bl_ops.specs.declared.group.Conversion.{Conversion}
 use Rattle.bl_ops.specs.declared.group.Conversion.TheVariants.{Wrap, ExtendS, ExtendU}
+use Rattle.bl_ops.specs.declared.group.Extension.{Extension}
+use Rattle.bl_ops.specs.declared.group.Extension.TheVariants.{Low8, Low16, Low32}
 
 -- sums and products
 abbrev pub arithmetic : Arithmetic → ℕ → ℕ → ℕ → ℕ
@@ -70,6 +72,12 @@ abbrev pub conversion : Conversion → ℕ → ℕ
 conversion Wrap a = iwrap 32 a
 conversion ExtendS a = iextend_s 32 64 (a % 2 ^ 32)
 conversion ExtendU a = iextend_u 32 64 (a % 2 ^ 32)
+
+-- the lowest bits, extended by their sign to n bits
+abbrev pub extension : Extension → ℕ → ℕ → ℕ
+extension Low8 n a = iextend_s 8 n (a % 2 ^ 8)
+extension Low16 n a = iextend_s 16 n (a % 2 ^ 16)
+extension Low32 n a = iextend_s 32 n (a % 2 ^ 32)
 
 -- where a quotient or a remainder is undefined
 abbrev pub undefined : Division → ℕ → ℕ → ℕ → Option Trap

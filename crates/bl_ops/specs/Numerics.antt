@@ -4,7 +4,7 @@ use Rattle.bl_base.specs.declared.trap.Trap.{Trap}
 use Rattle.bl_base.specs.declared.trap.Trap.TheVariants.{DivideByZero, Overflow}
 use Rattle.bl_ops.specs.Integer.{truth, iadd, isub, imul, idiv_u, idiv_s, irem_u, irem_s, iand, ior, ixor, ishl, ishr_u, ishr_s, irotl, irotr, iclz, ictz, ipopcnt, ieqz, ieq, ine, ilt_s, ilt_u, igt_s, igt_u, ile_s, ile_u, ige_s, ige_u, iwrap, iextend_s, iextend_u}
 use Rattle.bl_ops.specs.declared.op.Op.{Op}
-use Rattle.bl_ops.specs.declared.op.Op.TheVariants.{I32Eqz, I32Eq, I32Ne, I32LtS, I32LtU, I32GtS, I32GtU, I32LeS, I32LeU, I32GeS, I32GeU, I64Eqz, I64Eq, I64Ne, I64LtS, I64LtU, I64GtS, I64GtU, I64LeS, I64LeU, I64GeS, I64GeU, I32Clz, I32Ctz, I32Popcnt, I32Add, I32Sub, I32Mul, I32DivS, I32DivU, I32RemS, I32RemU, I32And, I32Or, I32Xor, I32Shl, I32ShrS, I32ShrU, I32Rotl, I32Rotr, I64Clz, I64Ctz, I64Popcnt, I64Add, I64Sub, I64Mul, I64DivS, I64DivU, I64RemS, I64RemU, I64And, I64Or, I64Xor, I64Shl, I64ShrS, I64ShrU, I64Rotl, I64Rotr, I32WrapI64, I64ExtendI32S, I64ExtendI32U, Move, Select, Outside}
+use Rattle.bl_ops.specs.declared.op.Op.TheVariants.{I32Eqz, I32Eq, I32Ne, I32LtS, I32LtU, I32GtS, I32GtU, I32LeS, I32LeU, I32GeS, I32GeU, I64Eqz, I64Eq, I64Ne, I64LtS, I64LtU, I64GtS, I64GtU, I64LeS, I64LeU, I64GeS, I64GeU, I32Clz, I32Ctz, I32Popcnt, I32Add, I32Sub, I32Mul, I32DivS, I32DivU, I32RemS, I32RemU, I32And, I32Or, I32Xor, I32Shl, I32ShrS, I32ShrU, I32Rotl, I32Rotr, I64Clz, I64Ctz, I64Popcnt, I64Add, I64Sub, I64Mul, I64DivS, I64DivU, I64RemS, I64RemU, I64And, I64Or, I64Xor, I64Shl, I64ShrS, I64ShrU, I64Rotl, I64Rotr, I32WrapI64, I64ExtendI32S, I64ExtendI32U, I32Extend8S, I32Extend16S, I64Extend8S, I64Extend16S, I64Extend32S, Move, Select, Outside}
 
 -- the first operand where the third, an i32, isn't 0, else the second (section 4.4.2)
 abbrev pub select : ℕ → ℕ → ℕ → ℕ
@@ -77,6 +77,11 @@ meaning I64Rotr a b c = irotr 64 a b
 meaning I32WrapI64 a b c = iwrap 32 a
 meaning I64ExtendI32S a b c = iextend_s 32 64 (a % 2 ^ 32)
 meaning I64ExtendI32U a b c = iextend_u 32 64 (a % 2 ^ 32)
+meaning I32Extend8S a b c = iextend_s 8 32 (a % 2 ^ 8)
+meaning I32Extend16S a b c = iextend_s 16 32 (a % 2 ^ 16)
+meaning I64Extend8S a b c = iextend_s 8 64 (a % 2 ^ 8)
+meaning I64Extend16S a b c = iextend_s 16 64 (a % 2 ^ 16)
+meaning I64Extend32S a b c = iextend_s 32 64 (a % 2 ^ 32)
 meaning Move a b c = a
 meaning Select a b c = select a b c
 meaning Outside a b c = outside a b c

@@ -1,6 +1,6 @@
 //! The operators by shape, on numbers of 32 and of 64 bits, by the machine's operations.
 ghost use Rattle.std.specs.Prelude.{◌≡◌, ℕ, ◌%◌, ◌^◌};
-ghost use Rattle.bl_ops.specs.Groups.{arithmetic, bitwise, comparison, conversion, division, shift, unary, undefined};
+ghost use Rattle.bl_ops.specs.Groups.{arithmetic, bitwise, comparison, conversion, division, extension, shift, unary, undefined};
 
 use bl_base::Trap;
 
@@ -69,6 +69,14 @@ pub enum Conversion {
     Wrap,
     ExtendS,
     ExtendU,
+}
+
+/// The lowest bits of a number, extended by their sign.
+#[derive(Clone, Copy, Debug)]
+pub enum Extension {
+    Low8,
+    Low16,
+    Low32,
 }
 
 /// The lowest 32 bits.
@@ -302,6 +310,32 @@ impl Conversion {
             Conversion::Wrap => u64::from(low(a)),
             Conversion::ExtendS => i64::from(low(a).cast_signed()).cast_unsigned(),
             Conversion::ExtendU => u64::from(low(a)),
+        }
+    }
+}
+
+impl Extension {
+    /// At i32: the number of 32 bits with the signed reading of the lowest ones.
+    pub fn on_32(self, a: u64) -> u64
+        ensures { result ≡ extension self 32 a }
+    {
+        match self {
+            Extension::Low8 => u64::from(i32::from(((a % 0x100) as u8).cast_signed()).cast_unsigned()),
+            Extension::Low16 => u64::from(
+                i32::from(((a % 0x1_0000) as u16).cast_signed()).cast_unsigned(),
+            ),
+            Extension::Low32 => u64::from(low(a)),
+        }
+    }
+
+    /// At i64: the number of 64 bits with the signed reading of the lowest ones.
+    pub fn on_64(self, a: u64) -> u64
+        ensures { result ≡ extension self 64 a }
+    {
+        match self {
+            Extension::Low8 => i64::from(((a % 0x100) as u8).cast_signed()).cast_unsigned(),
+            Extension::Low16 => i64::from(((a % 0x1_0000) as u16).cast_signed()).cast_unsigned(),
+            Extension::Low32 => i64::from(low(a).cast_signed()).cast_unsigned(),
         }
     }
 }

@@ -1,8 +1,8 @@
 //! Operators, their rows and the table of rows.
 use bl_base::ValueType;
 
-/// An operator: the integer operators of WebAssembly 1.0 (section 2.4.1) in the order of their codes (section 5.4.5),
-/// and three of an image.
+/// An operator: the integer operators of WebAssembly 1.0 (section 2.4.1) and the extensions by sign that came after it
+/// (version 2.0), in the order of their codes (section 5.4.5), and three of an image.
 #[derive(Clone, Copy, Debug, PartialEq, Eq)]
 pub enum Op {
     /// `i32.eqz`
@@ -127,6 +127,16 @@ pub enum Op {
     I64ExtendI32S,
     /// `i64.extend_i32_u`
     I64ExtendI32U,
+    /// `i32.extend8_s` (version 2.0)
+    I32Extend8S,
+    /// `i32.extend16_s` (version 2.0)
+    I32Extend16S,
+    /// `i64.extend8_s` (version 2.0)
+    I64Extend8S,
+    /// `i64.extend16_s` (version 2.0)
+    I64Extend16S,
+    /// `i64.extend32_s` (version 2.0)
+    I64Extend32S,
     /// The first operand itself.
     Move,
     /// The first operand where the third, an i32, isn't 0, and else the second (`select`, section 4.4.2).

@@ -4,7 +4,7 @@ ghost use Rattle.bl_ops.specs.Numerics.{meaning, outside, select, traps};
 ghost use Rattle.bl_ops.specs.Table.{code_of, image_code_of, row_of, rows};
 ghost use Rattle.bl_ops.specs.declared.op.Op.{Op};
 
-use crate::group::{Arithmetic, Bitwise, Comparison, Conversion, Division, Shift, Unary, low};
+use crate::group::{Arithmetic, Bitwise, Comparison, Conversion, Division, Extension, Shift, Unary, low};
 use crate::op::{Op, OpRow, OpTable};
 use bl_base::{Trap, ValueType};
 
@@ -74,6 +74,11 @@ macro_rules! by_row {
             I32WrapI64 0xA7 1 I64 I32 Conversion Wrap,
             I64ExtendI32S 0xAC 1 I32 I64 Conversion ExtendS,
             I64ExtendI32U 0xAD 1 I32 I64 Conversion ExtendU,
+            I32Extend8S 0xC0 1 I32 I32 Extension Low8,
+            I32Extend16S 0xC1 1 I32 I32 Extension Low16,
+            I64Extend8S 0xC2 1 I64 I64 Extension Low8,
+            I64Extend16S 0xC3 1 I64 I64 Extension Low16,
+            I64Extend32S 0xC4 1 I64 I64 Extension Low32,
         )
     };
     (@table ()
@@ -156,8 +161,8 @@ macro_rules! by_row {
     (@trap $from:ident $group:ident $kind:ident, $a:expr, $b:expr) => { None };
 }
 
-/// The rows of the 61 integer operators.
-pub fn table() -> OpTable<61>
+/// The rows of the 66 integer operators.
+pub fn table() -> OpTable<66>
     ensures { result.rows ≡ rows }
 {
     by_row!(table())

@@ -90,7 +90,7 @@ module _ (tree : Tree) (linked : IsLinked tree) (results : List ValueType) where
               labels = tt;
               values = tt;
             };
-            begins = record { place = 0; inside = omega arith; left = refl; at_place = refl; later = start.0; typing = start.1 };
+            begins = record { place = 0; inside = omega arith; left = refl; later = start.0; typing = start.1 };
             callers_are = is.callers_are;
             depth = is.depth;
           }

@@ -10,9 +10,11 @@ use Rattle.bl_base.specs.Fits.{ArgumentFits}
 use Rattle.bl_base.specs.Runs.{Next, stuck}
 use Rattle.bl_base.specs.declared.names.ValueType.{ValueType}
 use Rattle.bl_wasm.specs.Linked.{context}
-use Rattle.bl_wasm.specs.Typing.{block, loop, first_part, Context, Open, opened, Arrow, Leaves, integer, labels, of_result, taken_by}
+use Rattle.bl_wasm.specs.Typing.{block, loop, first_part, Context, Open, opened, Arrow, Leaves, integer, labels, taken_by}
 use Rattle.bl_wasm.specs.declared.instruction.Instr.{Instr}
 use Rattle.bl_wasm.specs.declared.instruction.Instr.TheVariants.{Loop}
+use Rattle.bl_wasm.specs.declared.types.BlockType.{BlockType}
+use Rattle.bl_wasm.specs.declared.types.FuncType.{FuncType}
 use Rattle.bl_wasm.specs.declared.types.WasmType.{WasmType}
 use Rattle.bl_wasm.specs.declared.types.WasmType.TheVariants.{I32}
 use Rattle.bl_wasm.specs.declared.linked.Signature.{Signature}
@@ -24,7 +26,7 @@ use Rattle.bl_reduce.specs.Returns.{return_to, return}
 use Rattle.bl_reduce.specs.TypedConfigurations.{IsValue, IsStore, IsRest, IsLabel, AreLabels, BeginsWith, AreCallers, IsTypedStep}
 use Rattle.bl_reduce.proofs.Places.{parted, place_onward, place_behind_end}
 use Rattle.bl_reduce.proofs.Ready.{Ready, onto, taken, going, popping, integer_argument}
-use Rattle.bl_reduce.proofs.Zips.{some_same, zip_append, zip_front, zip_unmap, zip_unreverse}
+use Rattle.bl_reduce.proofs.Zips.{some_same, zip_append, zip_front, zip_back, zip_unmap, zip_unreverse}
 
 -- ---- labels
 
@@ -208,63 +210,63 @@ module _ (tree : Tree) (results : List ValueType) (type : Signature) (open_ones 
 
   -- ---- blocks
 
-  entering_steps : (one : Open) (arity : ℕ) (continuation inside : List Instr) (state : State) → ReadyAt (reverse one.lower) state → arity ≡ length (taken_by one.label)
+  entering_steps : (one : Open) (params : List WasmType) (arity : ℕ) (continuation inside : List Instr) (state : State) → ReadyAt (reverse params ++ reverse one.lower) state → arity ≡ length (taken_by one.label)
       → IsRest (of_state state) (body_of state) open_ones (one.lower ++ taken_by one.label) continuation
-      → IsRest (of_state state) (body_of state) (one ∷ open_ones) [] inside → Steps (enter_with arity continuation inside state)
-  entering_steps one arity continuation inside state ready e then begins = record {
+      → IsRest (of_state state) (body_of state) (one ∷ open_ones) params inside → Steps (enter_with arity (length params) continuation inside state)
+  entering_steps one params arity continuation inside state ready e then begins = record {
     store_is = ready.store_is;
     type = type;
     open_ones = one ∷ open_ones;
-    stack = [];
+    stack = params;
     frame_is = record {
       exists = ready.exists;
       typed = ready.typed;
       arity = ready.arity;
       locals = ready.locals;
-      labels = (record { arity = e; continuation = then; below = ready.values }, ready.labels);
-      values = tt;
+      labels = (record { arity = e; continuation = then; below = subst (λ n. AllZip IsValue (reverse one.lower) (drop n state.frame.values)) (length-reverse params) (zip_back IsValue (reverse params) (reverse one.lower) state.frame.values ready.values) }, ready.labels);
+      values = subst (λ n. AllZip IsValue (reverse params) (take n state.frame.values)) (length-reverse params) (zip_front IsValue (reverse params) (reverse one.lower) state.frame.values ready.values);
     };
     begins = begins;
     callers_are = ready.callers_are;
     depth = ready.depth;
   }
 
-  pub block_steps : (result : Option WasmType) (from : List WasmType) (state : State) → ReadyAt (reverse from) state
-      → IsRest (of_state state) (body_of state) (opened (block result) from ∷ open_ones) [] state.frame.rest → Steps (enter_block result state.frame.rest state)
-  block_steps result from state ready begins =
-      entering_steps (opened (block result) from) (length (of_result result)) (behind_end 0 state.frame.rest) state.frame.rest state ready refl
-      (place_behind_end (of_state state) (body_of state) (opened (block result) from) open_ones [] state.frame.rest begins) begins
+  pub block_steps : (kind : FuncType) (lower from : List WasmType) (state : State) → from ≡ lower ++ kind.params → ReadyAt (reverse from) state
+      → IsRest (of_state state) (body_of state) (opened (block kind) lower ∷ open_ones) kind.params state.frame.rest → Steps (enter_block kind state.frame.rest state)
+  block_steps kind lower from state e ready begins =
+      entering_steps (opened (block kind) lower) kind.params (length kind.results) (behind_end 0 state.frame.rest) state.frame.rest state (taken tree results type open_ones from lower kind.params state e ready) refl
+      (place_behind_end (of_state state) (body_of state) (opened (block kind) lower) open_ones kind.params state.frame.rest begins) begins
 
-  pub loop_steps : (result : Option WasmType) (from : List WasmType) (state : State) → ReadyAt (reverse from) state
-      → IsRest (of_state state) (body_of state) open_ones from (Loop result ∷ state.frame.rest)
-      → IsRest (of_state state) (body_of state) (opened (loop result) from ∷ open_ones) [] state.frame.rest → Steps (enter_loop result state)
-  loop_steps result from state ready again begins =
-      entering_steps (opened (loop result) from) 0 (Loop result ∷ state.frame.rest) state.frame.rest state ready refl
-      (subst (λ stack. IsRest (of_state state) (body_of state) open_ones stack (Loop result ∷ state.frame.rest)) (sym (append-nil from)) again) begins
+  pub loop_steps : (named : BlockType) (kind : FuncType) (lower from : List WasmType) (state : State) → from ≡ lower ++ kind.params → ReadyAt (reverse from) state
+      → IsRest (of_state state) (body_of state) open_ones from (Loop named ∷ state.frame.rest)
+      → IsRest (of_state state) (body_of state) (opened (loop kind) lower ∷ open_ones) kind.params state.frame.rest → Steps (enter_loop named kind state)
+  loop_steps named kind lower from state e ready again begins =
+      entering_steps (opened (loop kind) lower) kind.params (length kind.params) (Loop named ∷ state.frame.rest) state.frame.rest state (taken tree results type open_ones from lower kind.params state e ready) refl
+      (subst (λ stack. IsRest (of_state state) (body_of state) open_ones stack (Loop named ∷ state.frame.rest)) e again) begins
 
   -- an if whose condition was taken off
-  part_steps : (test : Bool) (result : Option WasmType) (lower : List WasmType) (state : State) → ReadyAt (reverse lower) state
-      → IsRest (of_state state) (body_of state) (opened (first_part result) lower ∷ open_ones) [] state.frame.rest
-      → Steps (cond test (enter_block result (second_part 0 state.frame.rest) state) (enter_block result state.frame.rest state))
-  part_steps false result lower state ready begins =
-      entering_steps (opened (first_part result) lower) (length (of_result result)) (behind_end 0 state.frame.rest) state.frame.rest state ready refl
-      (place_behind_end (of_state state) (body_of state) (opened (first_part result) lower) open_ones [] state.frame.rest begins) begins
-  part_steps true result lower state ready begins =
-      let s = parted (of_state state) result lower state.frame.rest open_ones [] [] begins.later begins.typing in
-      let same : s.one.lower ++ taken_by s.one.label ≡ lower ++ of_result result = ap (λ l. l ++ taken_by s.one.label) s.lower_is ∙ ap (λ t. lower ++ t) s.taken in
-      entering_steps s.one (length (of_result result)) (behind_end 0 state.frame.rest) (second_part 0 state.frame.rest) state
-      (subst (λ l. ReadyAt (reverse l) state) (sym s.lower_is) ready) (ap length (sym s.taken))
+  part_steps : (test : Bool) (kind : FuncType) (lower : List WasmType) (state : State) → ReadyAt (reverse kind.params ++ reverse lower) state
+      → IsRest (of_state state) (body_of state) (opened (first_part kind) lower ∷ open_ones) kind.params state.frame.rest
+      → Steps (cond test (enter_block kind (second_part 0 state.frame.rest) state) (enter_block kind state.frame.rest state))
+  part_steps false kind lower state ready begins =
+      entering_steps (opened (first_part kind) lower) kind.params (length kind.results) (behind_end 0 state.frame.rest) state.frame.rest state ready refl
+      (place_behind_end (of_state state) (body_of state) (opened (first_part kind) lower) open_ones kind.params state.frame.rest begins) begins
+  part_steps true kind lower state ready begins =
+      let s = parted (of_state state) kind lower state.frame.rest open_ones [] kind.params begins.later begins.typing in
+      let same : s.one.lower ++ taken_by s.one.label ≡ lower ++ kind.results = ap (λ l. l ++ taken_by s.one.label) s.lower_is ∙ ap (λ t. lower ++ t) s.taken in
+      entering_steps s.one kind.params (length kind.results) (behind_end 0 state.frame.rest) (second_part 0 state.frame.rest) state
+      (subst (λ l. ReadyAt (reverse kind.params ++ reverse l) state) (sym s.lower_is) ready) (ap length (sym s.taken))
       (subst (λ stack. IsRest (of_state state) (body_of state) open_ones stack (behind_end 0 state.frame.rest)) (sym same)
-      (place_behind_end (of_state state) (body_of state) (opened (first_part result) lower) open_ones [] state.frame.rest begins))
-      (place_onward (of_state state) (body_of state) (opened (first_part result) lower ∷ open_ones) (s.one ∷ open_ones) [] [] state.frame.rest (second_part 0 state.frame.rest) begins s.onward)
+      (place_behind_end (of_state state) (body_of state) (opened (first_part kind) lower) open_ones kind.params state.frame.rest begins))
+      (place_onward (of_state state) (body_of state) (opened (first_part kind) lower ∷ open_ones) (s.one ∷ open_ones) kind.params kind.params state.frame.rest (second_part 0 state.frame.rest) begins s.onward)
 
-  pub if_steps : (result : Option WasmType) (from lower : List WasmType) (state : State) → from ≡ lower ++ I32 ∷ [] → ReadyAt (reverse from) state
-      → IsRest (of_state state) (body_of state) (opened (first_part result) lower ∷ open_ones) [] state.frame.rest → Steps (enter_if result state)
-  if_steps result from lower state e ready begins =
-      popping tree results type open_ones (reverse lower) I32 state
-      (λ condition state. cond (eqb condition 0) (enter_block result (second_part 0 state.frame.rest) state) (enter_block result state.frame.rest state))
-      (taken tree results type open_ones from lower (I32 ∷ []) state e ready)
-      (λ condition below h r. part_steps (eqb condition 0) result lower (with_values below state) r begins)
+  pub if_steps : (kind : FuncType) (from lower : List WasmType) (state : State) → from ≡ lower ++ (kind.params ++ I32 ∷ []) → ReadyAt (reverse from) state
+      → IsRest (of_state state) (body_of state) (opened (first_part kind) lower ∷ open_ones) kind.params state.frame.rest → Steps (enter_if kind state)
+  if_steps kind from lower state e ready begins =
+      popping tree results type open_ones (reverse kind.params ++ reverse lower) I32 state
+      (λ condition state. cond (eqb condition 0) (enter_block kind (second_part 0 state.frame.rest) state) (enter_block kind state.frame.rest state))
+      (above from lower kind.params state e ready)
+      (λ condition below h r. part_steps (eqb condition 0) kind lower (with_values below state) r begins)
 
 module _ (tree : Tree) (results : List ValueType) (type : Signature) (one : Open) (outer : List Open) where
   -- the end of a construct, at its results

@@ -40,11 +40,11 @@ number_below (byte ∷ bytes) (suc n) all le =
     let others = number_below bytes n (All-drop (λ byte. byte < 2 ^ 8) 1 (byte ∷ bytes) all) (omega (arith, le)) in
     omega (arith, first, others, eight_more n)
 
-bytes_all : (width number : ℕ) → All (λ byte. byte < 2 ^ 8) (bytes_of width number)
+pub bytes_all : (width number : ℕ) → All (λ byte. byte < 2 ^ 8) (bytes_of width number)
 bytes_all zero number = All-nil (λ byte. byte < 2 ^ 8)
 bytes_all (suc width) number = All-cons (λ byte. byte < 2 ^ 8) (number % 256) (bytes_of width (number / 256)) (mod-lt number (omega arith)) (bytes_all width (number / 256))
 
-length-bytes_of : (width number : ℕ) → length (bytes_of width number) ≡ width
+pub length-bytes_of : (width number : ℕ) → length (bytes_of width number) ≡ width
 length-bytes_of zero number = refl
 length-bytes_of (suc width) number = ap suc (length-bytes_of width (number / 256))
 
@@ -65,7 +65,7 @@ written_state defined memory address new le all is = record {
       (All-drop (λ byte. byte < 2 ^ 8) (address + length new) memory.bytes is.bytes);
 }
 
-grown_state : (defined : Memory) (memory : MemoryState) (delta : ℕ) → memory.pages + delta ≤ defined.reserve → IsMemoryState defined memory → IsMemoryState defined (grow memory delta)
+pub grown_state : (defined : Memory) (memory : MemoryState) (delta : ℕ) → memory.pages + delta ≤ defined.reserve → IsMemoryState defined memory → IsMemoryState defined (grow memory delta)
 grown_state defined memory delta le is = record {
   most = le;
   size =

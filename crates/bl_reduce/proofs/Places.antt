@@ -4,43 +4,26 @@ use Rattle.std.specs.Prelude.{option_and_then}
 use Rattle.std.proofs.lemmas.List.{drop-drop}
 use Rattle.std.proofs.lemmas.Option.{none-some}
 use Rattle.std.proofs.Math.Seq.{take-add}
-use Rattle.bl_wasm.specs.Typing.{Label, first_part, second_part as second_label, block, loop, Context, Open, opened, Rule, Types, labels_after, labels_through, of_result, results_of, taken_by}
+use Rattle.bl_wasm.specs.Typing.{Label, first_part, second_part as second_label, block, loop, Context, Open, opened, Rule, Types, type_in, results_of, taken_by}
 use Rattle.bl_wasm.specs.declared.instruction.Instr.{Instr}
 use Rattle.bl_wasm.specs.declared.instruction.Instr.TheVariants.{Block, Loop, If, Else, End}
 use Rattle.bl_wasm.specs.declared.types.WasmType.{WasmType}
+use Rattle.bl_wasm.specs.declared.types.FuncType.{FuncType}
 use Rattle.bl_reduce.specs.Control.{behind_end, second_part}
 use Rattle.bl_reduce.specs.TypedConfigurations.{IsRest}
-
--- the labels of what is open
-abbrev pub kinds : List Open → List Label
-kinds open_ones = map (λ one. one.label) open_ones
 
 -- a later place, where other constructs are open
 pub record Onward (c : Context) (open_ones : List Open) (items : List Instr) (inner : List Open) (stack : List WasmType) (rest : List Instr) : Type 0 where
   pub steps : ℕ
   pub inside : steps ≤ length items
   pub left : rest ≡ drop steps items
-  pub through : labels_through (take steps items) (kinds open_ones) ≡ Some (kinds inner)
   pub later : List (List WasmType)
   pub typing : Types c inner rest (stack ∷ later)
 
 module _ (c : Context) where
-  -- what a rule opens and closes
-  rule_labels : (item : Instr) (outer : List Open) (from : List WasmType) (behind : List Open) (to : List WasmType) → Rule c item outer from behind to
-      → labels_after item (kinds outer) ≡ Some (kinds behind)
-  rule_labels (Block result) outer from behind to h = ap (λ os. Some (kinds os)) (sym h.0)
-  rule_labels (Loop result) outer from behind to h = ap (λ os. Some (kinds os)) (sym h.0)
-  rule_labels (If result) outer from behind to h = ap (λ os. Some (kinds os)) (sym h.2)
-  rule_labels Else [] from behind to h = absurd h
-  rule_labels Else (innermost ∷ outer) from behind to h =
-      subst (λ l. labels_after Else (l ∷ kinds outer) ≡ Some (kinds behind)) (sym h.1) (ap (λ os. Some (kinds os)) (sym h.3))
-  rule_labels End [] from behind to h = absurd h
-  rule_labels End (innermost ∷ outer) from behind to h = ap (λ os. Some (kinds os)) (sym h.2)
-  rule_labels item outer from behind to h = ap (λ os. Some (kinds os)) (sym h.0)
-
   pub here : (open_ones : List Open) (items : List Instr) (stack : List WasmType) (later : List (List WasmType)) → Types c open_ones items (stack ∷ later)
       → Onward c open_ones items open_ones stack items
-  here open_ones items stack later typing = record { steps = 0; inside = omega arith; left = refl; through = refl; later = later; typing = typing }
+  here open_ones items stack later typing = record { steps = 0; inside = omega arith; left = refl; later = later; typing = typing }
 
   -- past an item
   pub past : (item : Instr) (items : List Instr) (outer : List Open) (from : List WasmType) (behind : List Open) (to : List WasmType)
@@ -50,7 +33,6 @@ module _ (c : Context) where
     steps = suc h.steps;
     inside = omega (arith, h.inside);
     left = h.left;
-    through = ap (option_and_then (labels_through (take h.steps items))) (rule_labels item outer from behind to rule) ∙ h.through;
     later = h.later;
     typing = h.typing;
   }
@@ -105,9 +87,9 @@ module _ (c : Context) where
 
   ended_at : (item : Instr) (items : List Instr) (outer inner : List Open) (one : Open) (from : List WasmType) → EndedAfter items outer
       → Behind item items (inner ++ one ∷ outer) from → Ended inner one outer (length inner) (item ∷ items)
-  ended_at (Block result) items outer inner one from again b = onto (Block result) items outer inner (opened (block result) from ∷ inner) one one from again b b.rule.0 refl
-  ended_at (Loop result) items outer inner one from again b = onto (Loop result) items outer inner (opened (loop result) from ∷ inner) one one from again b b.rule.0 refl
-  ended_at (If result) items outer inner one from again b = onto (If result) items outer inner (opened (first_part result) b.rule.0 ∷ inner) one one from again b b.rule.2 refl
+  ended_at (Block result) items outer inner one from again b = onto (Block result) items outer inner (opened (block b.rule.0) b.rule.2 ∷ inner) one one from again b b.rule.4 refl
+  ended_at (Loop result) items outer inner one from again b = onto (Loop result) items outer inner (opened (loop b.rule.0) b.rule.2 ∷ inner) one one from again b b.rule.4 refl
+  ended_at (If result) items outer inner one from again b = onto (If result) items outer inner (opened (first_part b.rule.0) b.rule.2 ∷ inner) one one from again b b.rule.4 refl
   ended_at Else items outer [] one from again b =
       onto Else items outer [] [] one (opened (second_label b.rule.0) one.lower) from again b b.rule.3 (ap (λ label. one.lower ++ results_of label) (sym b.rule.1))
   ended_at Else items outer (o ∷ inner) one from again b =
@@ -130,67 +112,69 @@ module _ (c : Context) where
   -- ---- the second part of an if
 
   -- what is open in the second part, and the place where it begins
-  pub record Second (result : Option WasmType) (lower : List WasmType) (outer inner : List Open) (items : List Instr) : Type 0 where
+  pub record Second (type : FuncType) (lower : List WasmType) (outer inner : List Open) (items : List Instr) : Type 0 where
     pub one : Open
     pub lower_is : one.lower ≡ lower
-    pub results : results_of one.label ≡ of_result result
-    pub taken : taken_by one.label ≡ of_result result
-    pub onward : Onward c (inner ++ opened (first_part result) lower ∷ outer) items (one ∷ outer) [] (second_part (length inner) items)
+    pub results : results_of one.label ≡ type.results
+    pub taken : taken_by one.label ≡ type.results
+    pub onward : Onward c (inner ++ opened (first_part type) lower ∷ outer) items (one ∷ outer) type.params (second_part (length inner) items)
 
-  abbrev PartedAfter : Option WasmType → List WasmType → List Instr → List Open → Type 0
-  PartedAfter result lower items outer = (inner : List Open) (from : List WasmType) (later : List (List WasmType))
-      → Types c (inner ++ opened (first_part result) lower ∷ outer) items (from ∷ later) → Second result lower outer inner items
+  abbrev PartedAfter : FuncType → List WasmType → List Instr → List Open → Type 0
+  PartedAfter type lower items outer = (inner : List Open) (from : List WasmType) (later : List (List WasmType))
+      → Types c (inner ++ opened (first_part type) lower ∷ outer) items (from ∷ later) → Second type lower outer inner items
 
-  module _ (result : Option WasmType) (lower : List WasmType) (outer : List Open) where
+  module _ (type : FuncType) (lower : List WasmType) (outer : List Open) where
     abbrev Within : List Open → List Open
-    Within inner = inner ++ opened (first_part result) lower ∷ outer
+    Within inner = inner ++ opened (first_part type) lower ∷ outer
 
-    further : (item : Instr) (items : List Instr) (inner within : List Open) (from : List WasmType) → PartedAfter result lower items outer
+    further : (item : Instr) (items : List Instr) (inner within : List Open) (from : List WasmType) → PartedAfter type lower items outer
         → (b : Behind item items (Within inner) from) → b.behind ≡ Within within
-        → (one : Open) × (one.lower ≡ lower) × (results_of one.label ≡ of_result result) × (taken_by one.label ≡ of_result result)
-        × Onward c (Within inner) (item ∷ items) (one ∷ outer) [] (second_part (length within) items)
+        → (one : Open) × (one.lower ≡ lower) × (results_of one.label ≡ type.results) × (taken_by one.label ≡ type.results)
+        × Onward c (Within inner) (item ∷ items) (one ∷ outer) type.params (second_part (length within) items)
     further item items inner within from again b e =
         let s = again within b.to b.later (subst (λ o. Types c o items (b.to ∷ b.later)) e b.typing) in (
           s.one,
           s.lower_is,
           s.results,
           s.taken,
-          past item items (Within inner) from b.behind b.to (s.one ∷ outer) [] (second_part (length within) items) b.rule
-              (subst (λ o. Onward c o items (s.one ∷ outer) [] (second_part (length within) items)) (sym e) s.onward),
+          past item items (Within inner) from b.behind b.to (s.one ∷ outer) type.params (second_part (length within) items) b.rule
+              (subst (λ o. Onward c o items (s.one ∷ outer) type.params (second_part (length within) items)) (sym e) s.onward),
         )
 
-    parted_at : (item : Instr) (items : List Instr) (inner : List Open) (from : List WasmType) → PartedAfter result lower items outer
-        → Behind item items (Within inner) from → (later : List (List WasmType)) → Types c (Within inner) (item ∷ items) (from ∷ later) → Second result lower outer inner (item ∷ items)
+    parted_at : (item : Instr) (items : List Instr) (inner : List Open) (from : List WasmType) → PartedAfter type lower items outer
+        → Behind item items (Within inner) from → (later : List (List WasmType)) → Types c (Within inner) (item ∷ items) (from ∷ later) → Second type lower outer inner (item ∷ items)
     parted_at (Block r) items inner from again b later h =
-        let f = further (Block r) items inner (opened (block r) from ∷ inner) from again b b.rule.0 in
+        let f = further (Block r) items inner (opened (block b.rule.0) b.rule.2 ∷ inner) from again b b.rule.4 in
         record { one = f.0; lower_is = f.1; results = f.2; taken = f.3; onward = f.4 }
     parted_at (Loop r) items inner from again b later h =
-        let f = further (Loop r) items inner (opened (loop r) from ∷ inner) from again b b.rule.0 in
+        let f = further (Loop r) items inner (opened (loop b.rule.0) b.rule.2 ∷ inner) from again b b.rule.4 in
         record { one = f.0; lower_is = f.1; results = f.2; taken = f.3; onward = f.4 }
     parted_at (If r) items inner from again b later h =
-        let f = further (If r) items inner (opened (first_part r) b.rule.0 ∷ inner) from again b b.rule.2 in
+        let f = further (If r) items inner (opened (first_part b.rule.0) b.rule.2 ∷ inner) from again b b.rule.4 in
         record { one = f.0; lower_is = f.1; results = f.2; taken = f.3; onward = f.4 }
-    parted_at Else items [] from again b later h = record {
-      one = opened (second_label b.rule.0) lower;
-      lower_is = refl;
-      results = ap results_of (sym b.rule.1);
-      taken = ap results_of (sym b.rule.1);
-      onward = past Else items (Within []) from b.behind b.to (opened (second_label b.rule.0) lower ∷ outer) [] items b.rule
-          (subst (λ o. Onward c o items (opened (second_label b.rule.0) lower ∷ outer) [] items) (sym b.rule.3)
-          (here (opened (second_label b.rule.0) lower ∷ outer) items [] b.later
-          (subst (λ o. Types c o items ([] ∷ b.later)) b.rule.3 (subst (λ to. Types c b.behind items (to ∷ b.later)) b.rule.4 b.typing))));
-    }
+    parted_at Else items [] from again b later h =
+        let same : b.rule.0.params ≡ type.params = ap (λ l. (type_in l).params) (sym b.rule.1) in
+        record {
+          one = opened (second_label b.rule.0) lower;
+          lower_is = refl;
+          results = ap results_of (sym b.rule.1);
+          taken = ap results_of (sym b.rule.1);
+          onward = past Else items (Within []) from b.behind b.to (opened (second_label b.rule.0) lower ∷ outer) type.params items b.rule
+              (subst (λ o. Onward c o items (opened (second_label b.rule.0) lower ∷ outer) type.params items) (sym b.rule.3)
+              (here (opened (second_label b.rule.0) lower ∷ outer) items type.params b.later
+              (subst (λ o. Types c o items (type.params ∷ b.later)) b.rule.3 (subst (λ to. Types c b.behind items (to ∷ b.later)) (b.rule.4 ∙ same) b.typing))));
+        }
     parted_at Else items (o ∷ inner) from again b later h =
         let f = further Else items (o ∷ inner) (opened (second_label b.rule.0) o.lower ∷ inner) from again b b.rule.3 in
         record { one = f.0; lower_is = f.1; results = f.2; taken = f.3; onward = f.4 }
     parted_at End items [] from again b later h =
-        let empty : from ≡ [] = b.rule.1 ∙ ap of_result (b.rule.0 result refl) in
+        let empty : from ≡ type.params = b.rule.1 ∙ sym (b.rule.0 type refl) in
         record {
-          one = opened (first_part result) lower;
+          one = opened (first_part type) lower;
           lower_is = refl;
           results = refl;
           taken = refl;
-          onward = here (Within []) (End ∷ items) [] later (subst (λ stack. Types c (Within []) (End ∷ items) (stack ∷ later)) empty h);
+          onward = here (Within []) (End ∷ items) type.params later (subst (λ stack. Types c (Within []) (End ∷ items) (stack ∷ later)) empty h);
         }
     parted_at End items (o ∷ inner) from again b later h =
         let f = further End items (o ∷ inner) inner from again b b.rule.2 in
@@ -200,24 +184,14 @@ module _ (c : Context) where
         record { one = f.0; lower_is = f.1; results = f.2; taken = f.3; onward = f.4 }
 
   -- from inside the first part of an if to its second part
-  pub parted : (result : Option WasmType) (lower : List WasmType) (items : List Instr) (outer inner : List Open) (from : List WasmType) (later : List (List WasmType))
-      → Types c (inner ++ opened (first_part result) lower ∷ outer) items (from ∷ later) → Second result lower outer inner items
-  parted result lower [] outer inner from later h = absurd (unended inner (opened (first_part result) lower) outer from later h)
-  parted result lower (item ∷ items) outer inner from later h =
-      parted_at result lower outer item items inner from (λ inner from later t. parted result lower items outer inner from later t)
-      (behind_item item items (inner ++ opened (first_part result) lower ∷ outer) from later h) later h
+  pub parted : (type : FuncType) (lower : List WasmType) (items : List Instr) (outer inner : List Open) (from : List WasmType) (later : List (List WasmType))
+      → Types c (inner ++ opened (first_part type) lower ∷ outer) items (from ∷ later) → Second type lower outer inner items
+  parted type lower [] outer inner from later h = absurd (unended inner (opened (first_part type) lower) outer from later h)
+  parted type lower (item ∷ items) outer inner from later h =
+      parted_at type lower outer item items inner from (λ inner from later t. parted type lower items outer inner from later t)
+      (behind_item item items (inner ++ opened (first_part type) lower ∷ outer) from later h) later h
 
   -- ---- places of a body
-
-  through_from : (a b : List Instr) (o : Option (List Label)) (between : List Label)
-      → ((outer : List Label) → labels_through a outer ≡ Some between → labels_through (a ++ b) outer ≡ labels_through b between)
-      → option_and_then (labels_through a) o ≡ Some between → option_and_then (labels_through (a ++ b)) o ≡ labels_through b between
-  through_from a b None between again e = absurd (none-some between e)
-  through_from a b (Some next) between again e = again next e
-
-  through_append : (a b : List Instr) (outer : List Label) (between : List Label) → labels_through a outer ≡ Some between → labels_through (a ++ b) outer ≡ labels_through b between
-  through_append [] b outer between e = ap (λ o. option_and_then (labels_through b) o) e
-  through_append (item ∷ a) b outer between e = through_from a b (labels_after item outer) between (λ outer e. through_append a b outer between e) e
 
   module _ (body : List Instr) where
     -- a later place than a place of a body is a place of it
@@ -225,14 +199,10 @@ module _ (c : Context) where
         → IsRest c body open_ones from items → Onward c open_ones items inner stack rest → IsRest c body inner stack rest
     place_onward open_ones inner from stack items rest r o =
         let left : rest ≡ drop (r.place + o.steps) body = o.left ∙ ap (drop o.steps) r.left ∙ drop-drop o.steps r.place body in
-        let steps : labels_through (take o.steps (drop r.place body)) (kinds open_ones) ≡ Some (kinds inner) =
-        subst (λ items. labels_through (take o.steps items) (kinds open_ones) ≡ Some (kinds inner)) r.left o.through in
         record {
           place = r.place + o.steps;
           inside = omega (arith, r.inside, o.inside, ap length r.left, length-drop r.place body);
           left = left;
-          at_place = ap (λ items. labels_through items []) (take-add r.place o.steps body)
-              ∙ through_append (take r.place body) (take o.steps (drop r.place body)) [] (kinds open_ones) r.at_place ∙ steps;
           later = o.later;
           typing = o.typing;
         }

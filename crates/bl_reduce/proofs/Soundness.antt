@@ -10,8 +10,8 @@ use Rattle.bl_base.specs.declared.names.ValueType.{ValueType}
 use Rattle.bl_base.specs.declared.start.Patch.{Patch}
 use Rattle.bl_base.specs.declared.start.Start.{Start}
 use Rattle.bl_base.specs.declared.trap.Trap.TheVariants as kind
-use Rattle.bl_wasm.specs.Linked.{IsLinked, IsFunction, IsMemory, HasImmediates, context}
-use Rattle.bl_wasm.specs.Typing.{second_part as second_label, Open, opened, Rule, Plain, integer, of_result, results_of}
+use Rattle.bl_wasm.specs.Linked.{IsLinked, IsFunction, IsMemory, HasImmediates, context, function_type}
+use Rattle.bl_wasm.specs.Typing.{second_part as second_label, Open, opened, Rule, Plain, integer, results_of, expanded}
 use Rattle.bl_wasm.specs.declared.instruction.Instr.{Instr}
 use Rattle.bl_wasm.specs.declared.instruction.Instr.TheVariants.{Unreachable, Nop, Block, Loop, If, Else, End, Br, BrIf, BrTable, Return, Call, CallIndirect, Drop, Select, LocalGet, LocalSet, LocalTee, GlobalGet, GlobalSet, Load, Store, MemorySize, MemoryGrow, I32Const, I64Const, Integer}
 use Rattle.bl_wasm.specs.declared.types.WasmType.{WasmType}
@@ -20,7 +20,7 @@ use Rattle.bl_wasm.specs.declared.linked.Memory.{Memory}
 use Rattle.bl_wasm.specs.declared.linked.Signature.{Signature}
 use Rattle.bl_wasm.specs.declared.linked.Tree.{Tree}
 use Rattle.bl_reduce.specs.Configurations.{State, Config, entering, running, with_rest}
-use Rattle.bl_reduce.specs.Control.{behind_end}
+use Rattle.bl_reduce.specs.Control.{behind_end, enter_block, enter_loop, enter_if}
 use Rattle.bl_reduce.specs.Memory.{write}
 use Rattle.bl_reduce.specs.Outcomes.{first_memory, patched, patch_over, opening, IsStart}
 use Rattle.bl_reduce.specs.Steps.{execute, frame_step, source_step}
@@ -30,12 +30,12 @@ use Rattle.bl_reduce.proofs.ControlItems.{return_steps, br_steps, br_if_steps, b
 use Rattle.bl_reduce.proofs.MemoryItems.{load_steps, store_steps, memory_size_steps, memory_grow_steps, written_state}
 use Rattle.bl_reduce.proofs.NumericItems.{operate_steps}
 use Rattle.bl_reduce.proofs.Places.{next_place, place_behind_end, at_last}
-use Rattle.bl_reduce.proofs.Ready.{Ready, taken, trapping}
+use Rattle.bl_reduce.proofs.Ready.{Ready, taken, trapping, knowing}
 use Rattle.bl_reduce.proofs.VariableItems.{constant_steps, nop_steps, drop_steps, select_steps, local_get_steps, local_set_steps, local_tee_steps, global_get_steps, global_set_steps}
 use Rattle.bl_reduce.proofs.Zips.{zip_got, zip_set, zip_each, zip_images, all_get}
 
 -- the item at a place
-drop_head : (xs : List Instr) (place : ℕ) (item : Instr) (rest : List Instr) → item ∷ rest ≡ drop place xs → slice_get xs place ≡ Some item
+pub drop_head : (xs : List Instr) (place : ℕ) (item : Instr) (rest : List Instr) → item ∷ rest ≡ drop place xs → slice_get xs place ≡ Some item
 drop_head [] zero item rest e = absurd (subst IsCons e tt)
   where
     IsCons : List Instr → Type 0
@@ -93,21 +93,24 @@ module _ (tree : Tree) (linked : IsLinked tree) (results : List ValueType) where
     execute_steps : (item : Instr) (open_ones : List Open) (from : List WasmType) (behind : List Open) (to : List WasmType) (state : State)
         → Rule (context tree type state.frame.function) item open_ones from behind to → HasImmediates item → Ready tree results type open_ones (reverse from) state
         → RestOf state open_ones from (item ∷ state.frame.rest) → RestOf state behind to state.frame.rest → Steps (execute tree item state)
-    execute_steps (Block result) open_ones from behind to state rule fits ready now begins =
-        block_steps tree results type open_ones result from state ready
-        (subst (λ o. RestOf state o [] state.frame.rest) rule.0 (subst (λ stack. RestOf state behind stack state.frame.rest) rule.1 begins))
-    execute_steps (Loop result) open_ones from behind to state rule fits ready now begins =
-        loop_steps tree results type open_ones result from state ready now
-        (subst (λ o. RestOf state o [] state.frame.rest) rule.0 (subst (λ stack. RestOf state behind stack state.frame.rest) rule.1 begins))
-    execute_steps (If result) open_ones from behind to state rule fits ready now begins =
-        if_steps tree results type open_ones result from rule.0 state rule.1 ready
-        (subst (λ o. RestOf state o [] state.frame.rest) rule.2 (subst (λ stack. RestOf state behind stack state.frame.rest) rule.3 begins))
+    execute_steps (Block kind) open_ones from behind to state rule fits ready now begins =
+        knowing tree results (expanded (map function_type tree.types) kind) rule.0 (λ type. enter_block type state.frame.rest state) rule.1
+        (block_steps tree results type open_ones rule.0 rule.2 from state rule.3 ready
+        (subst (λ o. RestOf state o rule.0.params state.frame.rest) rule.4 (subst (λ stack. RestOf state behind stack state.frame.rest) rule.5 begins)))
+    execute_steps (Loop kind) open_ones from behind to state rule fits ready now begins =
+        knowing tree results (expanded (map function_type tree.types) kind) rule.0 (λ type. enter_loop kind type state) rule.1
+        (loop_steps tree results type open_ones kind rule.0 rule.2 from state rule.3 ready now
+        (subst (λ o. RestOf state o rule.0.params state.frame.rest) rule.4 (subst (λ stack. RestOf state behind stack state.frame.rest) rule.5 begins)))
+    execute_steps (If kind) open_ones from behind to state rule fits ready now begins =
+        knowing tree results (expanded (map function_type tree.types) kind) rule.0 (λ type. enter_if type state) rule.1
+        (if_steps tree results type open_ones rule.0 from rule.2 state rule.3 ready
+        (subst (λ o. RestOf state o rule.0.params state.frame.rest) rule.4 (subst (λ stack. RestOf state behind stack state.frame.rest) rule.5 begins)))
     execute_steps Else [] from behind to state rule fits ready now begins = absurd rule
     execute_steps Else (innermost ∷ outer) from behind to state rule fits ready now begins =
-        let inside = subst (λ o. RestOf state o [] state.frame.rest) rule.3 (subst (λ stack. RestOf state behind stack state.frame.rest) rule.4 begins) in
-        leave_steps tree results type innermost outer state.frame.labels (behind_end 0 state.frame.rest) (of_result rule.0) state ready.labels
+        let inside = subst (λ o. RestOf state o rule.0.params state.frame.rest) rule.3 (subst (λ stack. RestOf state behind stack state.frame.rest) rule.4 begins) in
+        leave_steps tree results type innermost outer state.frame.labels (behind_end 0 state.frame.rest) rule.0.results state ready.labels
         (subst (λ stack. Ready tree results type (innermost ∷ outer) (reverse stack) state) rule.2 ready)
-        (place_behind_end (context tree type state.frame.function) state.frame.function.code.items (opened (second_label rule.0) innermost.lower) outer [] state.frame.rest inside)
+        (place_behind_end (context tree type state.frame.function) state.frame.function.code.items (opened (second_label rule.0) innermost.lower) outer rule.0.params state.frame.rest inside)
     execute_steps End [] from behind to state rule fits ready now begins = absurd rule
     execute_steps End (innermost ∷ outer) from behind to state rule fits ready now begins =
         leave_steps tree results type innermost outer state.frame.labels state.frame.rest (results_of innermost.label) state ready.labels
@@ -171,9 +174,9 @@ module _ (tree : Tree) (linked : IsLinked tree) (results : List ValueType) where
 
 module _ (tree : Tree) (linked : IsLinked tree) where
   -- a memory whose first pages stand, with patches written over them
-  record IsOpening (memory : Memory) (state : MemoryState) : Type 0 where
-    is : IsMemoryState memory state
-    pages : state.pages ≡ memory.pages
+  pub record IsOpening (memory : Memory) (state : MemoryState) : Type 0 where
+    pub is : IsMemoryState memory state
+    pub pages : state.pages ≡ memory.pages
 
   patch_one : (o : Option MemoryState) (states : List MemoryState) (patch : Patch) → slice_get states patch.memory ≡ o → PatchFits (map (λ memory. memory.pages) tree.memories) patch
       → AllZip IsOpening tree.memories states → AllZip IsOpening tree.memories (patch_over o states patch)
@@ -188,7 +191,7 @@ module _ (tree : Tree) (linked : IsLinked tree) where
       zip_set IsOpening tree.memories states patch.memory found.0 (write state patch.offset patch.bytes) h found.1
       (record { is = written_state found.0 state patch.offset patch.bytes le fits.1 found.2.is; pages = found.2.pages })
 
-  openings : (patches : List Patch) (states : List MemoryState) → All (PatchFits (map (λ memory. memory.pages) tree.memories)) patches
+  pub openings : (patches : List Patch) (states : List MemoryState) → All (PatchFits (map (λ memory. memory.pages) tree.memories)) patches
       → AllZip IsOpening tree.memories states → AllZip IsOpening tree.memories (fold patched states patches)
   openings [] states fits h = h
   openings (patch ∷ patches) states fits h =
@@ -196,7 +199,7 @@ module _ (tree : Tree) (linked : IsLinked tree) where
       (patch_one (slice_get states patch.memory) states patch refl
       (All-get_or (PatchFits (map (λ memory. memory.pages) tree.memories)) (patch ∷ patches) 0 patch (omega arith) fits) h)
 
-  first_opening : (memory : Memory) → IsMemory memory → IsOpening memory (first_memory memory)
+  pub first_opening : (memory : Memory) → IsMemory memory → IsOpening memory (first_memory memory)
   first_opening memory is = record { is = record { most = is.first; size = is.size; bytes = is.bytes }; pages = refl }
 
   -- the entering of a function with a start that fits is typed

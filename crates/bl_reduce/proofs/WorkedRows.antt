@@ -11,6 +11,7 @@ use Rattle.bl_ops.specs.declared.op.Op.TheVariants.{I32Eqz, I32Add, I32DivS, I32
 use Rattle.bl_wasm.specs.declared.instruction.Instr.{Instr}
 use Rattle.bl_wasm.specs.declared.instruction.Instr.TheVariants.{Unreachable, Block, Loop, If, End, Br, BrIf, BrTable, Return, Call, CallIndirect, Drop, LocalGet, LocalSet, LocalTee, Load, Store, MemoryGrow, I32Const, Integer}
 use Rattle.bl_wasm.specs.declared.types.WasmType.TheVariants as type
+use Rattle.bl_wasm.specs.declared.types.BlockType.TheVariants.{Empty}
 use Rattle.bl_wasm.specs.declared.linked.Signature.{Signature}
 use Rattle.bl_wasm.specs.declared.linked.Function.{Function}
 use Rattle.bl_wasm.specs.declared.linked.Tree.{Tree}
@@ -95,7 +96,7 @@ rem_of_least = refl
 
 -- a function that calls itself, one deeper for each of its argument
 abbrev deep : Tree
-deep = one 1 1 0 (LocalGet 0 ∷ If None ∷ LocalGet 0 ∷ I32Const 1 ∷ Integer I32Sub ∷ Call 0 ∷ Drop ∷ End ∷ I32Const 7 ∷ [])
+deep = one 1 1 0 (LocalGet 0 ∷ If Empty ∷ LocalGet 0 ∷ I32Const 1 ∷ Integer I32Sub ∷ Call 0 ∷ Drop ∷ End ∷ I32Const 7 ∷ [])
 
 -- of argument 0: entering, local.get, if, the end of the empty part, i32.const, the return
 deep_at_none : run deep 6 (0 ∷ []) ≡ ends (returned (7 ∷ []) [])
@@ -119,7 +120,7 @@ too_deep = refl
 
 -- a loop that counts down: loop, local.get 0, i32.const 1, i32.sub, local.tee 0, br_if 0, end, local.get 0
 abbrev count : Tree
-count = one 1 1 0 (Loop None ∷ LocalGet 0 ∷ I32Const 1 ∷ Integer I32Sub ∷ LocalTee 0 ∷ BrIf 0 ∷ End ∷ LocalGet 0 ∷ [])
+count = one 1 1 0 (Loop Empty ∷ LocalGet 0 ∷ I32Const 1 ∷ Integer I32Sub ∷ LocalTee 0 ∷ BrIf 0 ∷ End ∷ LocalGet 0 ∷ [])
 
 -- entering, 6 steps a round (the loop is executed again), the end, local.get, the return
 count_down : run count 22 (3 ∷ []) ≡ ends (returned (0 ∷ []) [])
@@ -128,7 +129,7 @@ count_down = refl
 
 -- block, block, local.get 0, br_table 0 1 2, end, i32.const 10, return, end, i32.const 20
 abbrev choose : Tree
-choose = one 1 1 0 (Block None ∷ Block None ∷ LocalGet 0 ∷ BrTable 1 (0 ∷ 1 ∷ []) ∷ End ∷ I32Const 10 ∷ Return ∷ End ∷ I32Const 20 ∷ [])
+choose = one 1 1 0 (Block Empty ∷ Block Empty ∷ LocalGet 0 ∷ BrTable 1 (0 ∷ 1 ∷ []) ∷ End ∷ I32Const 10 ∷ Return ∷ End ∷ I32Const 20 ∷ [])
 
 choose_first : run choose 7 (0 ∷ []) ≡ ends (returned (10 ∷ []) [])
 choose_first = refl
@@ -154,7 +155,7 @@ through_three : run through 3 (3 ∷ []) ≡ ends (trapped kind.UndefinedElement
 through_three = refl
 
 -- br to the outermost label is a return, with the topmost value
-out_of_all : run (one 1 1 0 (Block None ∷ I32Const 5 ∷ I32Const 6 ∷ Br 1 ∷ End ∷ I32Const 7 ∷ [])) 5 (0 ∷ []) ≡ ends (returned (6 ∷ []) [])
+out_of_all : run (one 1 1 0 (Block Empty ∷ I32Const 5 ∷ I32Const 6 ∷ Br 1 ∷ End ∷ I32Const 7 ∷ [])) 5 (0 ∷ []) ≡ ends (returned (6 ∷ []) [])
 out_of_all = refl
 
 -- ---- a memory
@@ -222,7 +223,7 @@ grow_two = refl
 abbrev sum : Tree
 sum = record {
   types = signature 2 1 ∷ [];
-  functions = record (function 0 1 (Block None ∷ LocalGet 1 ∷ Integer I32Eqz ∷ BrIf 0 ∷ Loop None
+  functions = record (function 0 1 (Block Empty ∷ LocalGet 1 ∷ Integer I32Eqz ∷ BrIf 0 ∷ Loop Empty
       ∷ LocalGet 0 ∷ Load access.I32Load (record { alignment = 2; offset = 0 }) ∷ LocalGet 2 ∷ Integer I32Add ∷ LocalSet 2
       ∷ LocalGet 0 ∷ I32Const 4 ∷ Integer I32Add ∷ LocalSet 0 ∷ LocalGet 1 ∷ I32Const 4294967295 ∷ Integer I32Add ∷ LocalTee 1 ∷ BrIf 0
       ∷ End ∷ End ∷ LocalGet 2 ∷ [])) { memory = Some 0 } ∷ [];

@@ -1,10 +1,10 @@
 -- Control instructions but for calls (WebAssembly 1.0, sections 4.4.5 and 4.4.6).
 use Rattle.std.specs.Prelude.{ℕ, zero, suc, ◌+◌, ◌==◌, if◌then◌else◌, List, [], ◌∷◌, ◌++◌, length, take, drop, slice_get, Option, Some, None, unwrap_or}
 use Rattle.bl_base.specs.Runs.{Next, stuck}
-use Rattle.bl_wasm.specs.Typing.{of_result}
 use Rattle.bl_wasm.specs.declared.instruction.Instr.{Instr}
 use Rattle.bl_wasm.specs.declared.instruction.Instr.TheVariants.{Block, Loop, If, Else, End}
-use Rattle.bl_wasm.specs.declared.types.WasmType.{WasmType}
+use Rattle.bl_wasm.specs.declared.types.BlockType.{BlockType}
+use Rattle.bl_wasm.specs.declared.types.FuncType.{FuncType}
 use Rattle.bl_reduce.specs.Configurations.{Label, State, Config, go, pop}
 use Rattle.bl_reduce.specs.Returns.{return}
 
@@ -34,28 +34,29 @@ second_part depth (item ∷ items) = second_part depth items
 
 -- ---- blocks (section 4.4.6)
 
--- entering items with a label: how many values a branch to it takes, and what is executed after one
-abbrev pub enter_with : ℕ → List Instr → List Instr → State → Next Config
-enter_with arity continuation inside state = go (record state {
+-- entering items with a label, with so many values taken along: how many values a branch to it takes, and what is executed
+-- after one
+abbrev pub enter_with : ℕ → ℕ → List Instr → List Instr → State → Next Config
+enter_with arity count continuation inside state = go (record state {
   frame = record state.frame {
-    labels = record { arity = arity; continuation = continuation; below = state.frame.values } ∷ state.frame.labels;
-    values = [];
+    labels = record { arity = arity; continuation = continuation; below = drop count state.frame.values } ∷ state.frame.labels;
+    values = take count state.frame.values;
     rest = inside;
   };
 })
 
 -- block: after a branch to it, what stands behind its end
-abbrev pub enter_block : Option WasmType → List Instr → State → Next Config
-enter_block result inside state = enter_with (length (of_result result)) (behind_end 0 state.frame.rest) inside state
+abbrev pub enter_block : FuncType → List Instr → State → Next Config
+enter_block type inside state = enter_with (length type.results) (length type.params) (behind_end 0 state.frame.rest) inside state
 
 -- loop: after a branch to it, the loop again
-abbrev pub enter_loop : Option WasmType → State → Next Config
-enter_loop result state = enter_with 0 (Loop result ∷ state.frame.rest) state.frame.rest state
+abbrev pub enter_loop : BlockType → FuncType → State → Next Config
+enter_loop kind type state = enter_with (length type.params) (length type.params) (Loop kind ∷ state.frame.rest) state.frame.rest state
 
 -- if: a block of its first part where the condition isn't 0, else of its second part
-abbrev pub enter_if : Option WasmType → State → Next Config
-enter_if result state = pop state (λ condition state.
-    if condition == 0 then enter_block result (second_part 0 state.frame.rest) state else enter_block result state.frame.rest state)
+abbrev pub enter_if : FuncType → State → Next Config
+enter_if type state = pop state (λ condition state.
+    if condition == 0 then enter_block type (second_part 0 state.frame.rest) state else enter_block type state.frame.rest state)
 
 -- the end of a block, loop or part of an if is reached: its label is taken off, and its values are left
 abbrev pub leave_label : List Label → List Instr → State → Next Config

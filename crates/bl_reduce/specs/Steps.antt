@@ -1,13 +1,15 @@
 -- One step of a run (WebAssembly 1.0, sections 4.2.13 and 4.4).
-use Rattle.std.specs.Prelude.{List, [], ◌∷◌}
+use Rattle.std.specs.Prelude.{List, [], ◌∷◌, map}
 use Rattle.bl_base.specs.Runs.{Next, stuck}
 use Rattle.bl_base.specs.declared.trap.Trap.TheVariants as trap_kind
 use Rattle.bl_ops.specs.Numerics.{meaning}
 use Rattle.bl_ops.specs.declared.op.Op.TheVariants as op
+use Rattle.bl_wasm.specs.Linked.{function_type}
+use Rattle.bl_wasm.specs.Typing.{expanded}
 use Rattle.bl_wasm.specs.declared.instruction.Instr.{Instr}
 use Rattle.bl_wasm.specs.declared.instruction.Instr.TheVariants.{Unreachable, Nop, Block, Loop, If, Else, End, Br, BrIf, BrTable, Return, Call, CallIndirect, Drop, Select, LocalGet, LocalSet, LocalTee, GlobalGet, GlobalSet, Load, Store, FloatAccess, MemorySize, MemoryGrow, I32Const, I64Const, F32Const, F64Const, Integer, Float, Extend}
 use Rattle.bl_wasm.specs.declared.linked.Tree.{Tree}
-use Rattle.bl_reduce.specs.Configurations.{Config, entering, running, State, go, trap, pop, push, with_rest}
+use Rattle.bl_reduce.specs.Configurations.{Config, entering, running, State, go, trap, known, pop, push, with_rest}
 use Rattle.bl_reduce.specs.Numeric.{operate}
 use Rattle.bl_reduce.specs.Variables.{local_get, local_set, local_tee, global_get, global_set}
 use Rattle.bl_reduce.specs.Memory.{load, store, memory_size, memory_grow}
@@ -38,9 +40,9 @@ execute tree MemoryGrow state = memory_grow tree state
 -- control instructions (section 4.4.5)
 execute tree Nop state = go state
 execute tree Unreachable state = trap trap_kind.Unreachable state
-execute tree (Block result) state = enter_block result state.frame.rest state
-execute tree (Loop result) state = enter_loop result state
-execute tree (If result) state = enter_if result state
+execute tree (Block kind) state = known (expanded (map function_type tree.types) kind) (λ type. enter_block type state.frame.rest state)
+execute tree (Loop kind) state = known (expanded (map function_type tree.types) kind) (λ type. enter_loop kind type state)
+execute tree (If kind) state = known (expanded (map function_type tree.types) kind) (λ type. enter_if type state)
 execute tree Else state = reach_else state
 execute tree End state = reach_end state
 execute tree (Br l) state = branch l state

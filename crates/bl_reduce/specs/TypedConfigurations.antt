@@ -6,7 +6,7 @@ use Rattle.bl_base.specs.Fits.{AreBytes, ArgumentFits}
 use Rattle.bl_base.specs.Runs.{MemoryState, Outcome, returned, trapped, Next, goes, ends, stuck}
 use Rattle.bl_base.specs.declared.names.ValueType.{ValueType}
 use Rattle.bl_wasm.specs.Linked.{all_locals, context}
-use Rattle.bl_wasm.specs.Typing.{Context, Open, Types, integer, labels_at, taken_by}
+use Rattle.bl_wasm.specs.Typing.{Context, Open, Types, integer, taken_by}
 use Rattle.bl_wasm.specs.declared.instruction.Instr.{Instr}
 use Rattle.bl_wasm.specs.declared.types.WasmType.{WasmType}
 use Rattle.bl_wasm.specs.declared.types.WasmType.TheVariants.{I32, I64, F32, F64}
@@ -53,7 +53,6 @@ pub record IsRest (c : Context) (body : List Instr) (open_ones : List Open) (sta
   pub place : ℕ
   pub inside : place ≤ length body
   pub left : rest ≡ drop place body
-  pub at_place : labels_at body place ≡ Some (map (λ one. one.label) open_ones)
   pub later : List (List WasmType)
   pub typing : Types c open_ones rest (stack ∷ later)
 

@@ -3,7 +3,7 @@ use Rattle.std.proofs.Common.{append-nil, ◌≡◌, List, [], ◌∷◌, ◌++�
 use Rattle.std.proofs.lemmas.List.{append_assoc}
 use Rattle.bl_wasm.specs.Instructions.{Nests, none, plain, block, loop, if_then, if_else, IsPlain}
 use Rattle.bl_wasm.specs.Nesting.{Construct, part, whole, after, Closes}
-use Rattle.bl_wasm.specs.declared.types.WasmType.{WasmType}
+use Rattle.bl_wasm.specs.declared.types.BlockType.{BlockType}
 use Rattle.bl_wasm.specs.declared.instruction.Instr.{Instr}
 use Rattle.bl_wasm.specs.declared.instruction.Instr.TheVariants.{Block, Loop, If, Else, End}
 
@@ -99,7 +99,7 @@ opened outer item items inside rest e lead p =
     rw e (rw (append_assoc inside (End ∷ []) rest) at q)
 
 -- an if behind whose items its part ends
-chosen : (type : Option WasmType) (outer : List Construct) (items : List Instr) → Parsed (part ∷ outer) items → Parsed outer (If type ∷ items)
+chosen : (type : BlockType) (outer : List Construct) (items : List Instr) → Parsed (part ∷ outer) items → Parsed outer (If type ∷ items)
 chosen type outer items (inl p) = opened outer (If type) items p.inside p.rest p.split (λ more n. if_then type p.inside more p.nests n) p.further
 chosen type outer items (inr p) =
     opened outer (If type) items (p.first ++ Else ∷ p.second) p.rest p.split (λ more n. if_else type p.first p.second more p.nests p.nests_too n) p.further

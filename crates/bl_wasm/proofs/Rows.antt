@@ -22,6 +22,7 @@ use Rattle.bl_wasm.specs.declared.module.Export.{Export}
 use Rattle.bl_wasm.specs.declared.types.FuncType.{FuncType}
 use Rattle.bl_wasm.specs.declared.module.ExportKind.TheVariants.{Function}
 use Rattle.bl_wasm.specs.declared.types.WasmType.TheVariants.{I32}
+use Rattle.bl_wasm.specs.declared.types.BlockType.TheVariants.{Empty, Value}
 
 -- a spelling of the first, and then one of the second
 both : {First Second : Spellings} (front rest : List ℕ) → First front → Second rest → (First ⨾ Second) (front ++ rest)
@@ -218,14 +219,14 @@ one : instruction (F32Const 0x3F800000) (0x43 ∷ 0x00 ∷ 0x00 ∷ 0x80 ∷ 0x3
 one = after _ (refl, refl)
 
 -- an if with two parts, the second one a loop
-nested : Nests (If None ∷ Nop ∷ Else ∷ Loop (Some I32) ∷ Br 0 ∷ End ∷ End ∷ [])
-nested = if_else None (Nop ∷ []) (Loop (Some I32) ∷ Br 0 ∷ End ∷ []) [] (plain Nop [] tt none)
-    (loop (Some I32) (Br 0 ∷ []) [] (plain (Br 0) [] tt none) none) none
+nested : Nests (If Empty ∷ Nop ∷ Else ∷ Loop (Value I32) ∷ Br 0 ∷ End ∷ End ∷ [])
+nested = if_else Empty (Nop ∷ []) (Loop (Value I32) ∷ Br 0 ∷ End ∷ []) [] (plain Nop [] tt none)
+    (loop (Value I32) (Br 0 ∷ []) [] (plain (Br 0) [] tt none) none) none
 
 -- a second else has no if
-two_parts : Nests (If None ∷ Else ∷ Else ∷ End ∷ []) → ⊥
+two_parts : Nests (If Empty ∷ Else ∷ Else ∷ End ∷ []) → ⊥
 two_parts n =
-    let c = closes (If None ∷ Else ∷ Else ∷ End ∷ []) n in
+    let c = closes (If Empty ∷ Else ∷ Else ∷ End ∷ []) n in
     let first : Closes (part ∷ []) (Else ∷ Else ∷ End ∷ []) = on (part ∷ []) c.0 (Else ∷ Else ∷ End ∷ []) c.1 c.2 in
     let second : Closes (whole ∷ []) (Else ∷ End ∷ []) = on (whole ∷ []) first.0 (Else ∷ End ∷ []) first.1 first.2 in
     absurd (cc second.1)

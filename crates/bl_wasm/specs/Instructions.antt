@@ -10,7 +10,7 @@ use Rattle.bl_wasm.specs.Values.{Spellings, ◌⨾◌, byte, given, each, u32, i
 use Rattle.bl_wasm.specs.declared.instruction.Instr.{Instr}
 use Rattle.bl_wasm.specs.declared.instruction.Instr.TheVariants.{Unreachable, Nop, Block, Loop, If, Else, End, Br, BrIf, BrTable, Return, Call, CallIndirect, Drop, Select, LocalGet, LocalSet, LocalTee, GlobalGet, GlobalSet, Load, Store, FloatAccess, MemorySize, MemoryGrow, I32Const, I64Const, F32Const, F64Const, Integer, Float, Extend}
 use Rattle.bl_wasm.specs.declared.instruction.MemoryArgument.{MemoryArgument}
-use Rattle.bl_wasm.specs.declared.types.WasmType.{WasmType}
+use Rattle.bl_wasm.specs.declared.types.BlockType.{BlockType}
 
 -- memarg (section 5.4.4)
 abbrev pub memory_argument : MemoryArgument → Spellings
@@ -74,13 +74,13 @@ pub data Nests : List Instr → Type 0 where
   none : Nests []
   plain : (item : Instr) (rest : List Instr) → IsPlain item → Nests rest → Nests (item ∷ rest)
   -- block bt in* end
-  block : (type : Option WasmType) (inside rest : List Instr) → Nests inside → Nests rest → Nests (Block type ∷ inside ++ End ∷ rest)
+  block : (type : BlockType) (inside rest : List Instr) → Nests inside → Nests rest → Nests (Block type ∷ inside ++ End ∷ rest)
   -- loop bt in* end
-  loop : (type : Option WasmType) (inside rest : List Instr) → Nests inside → Nests rest → Nests (Loop type ∷ inside ++ End ∷ rest)
+  loop : (type : BlockType) (inside rest : List Instr) → Nests inside → Nests rest → Nests (Loop type ∷ inside ++ End ∷ rest)
   -- if bt in* end
-  if_then : (type : Option WasmType) (inside rest : List Instr) → Nests inside → Nests rest → Nests (If type ∷ inside ++ End ∷ rest)
+  if_then : (type : BlockType) (inside rest : List Instr) → Nests inside → Nests rest → Nests (If type ∷ inside ++ End ∷ rest)
   -- if bt in* else in* end
-  if_else : (type : Option WasmType) (first second rest : List Instr) → Nests first → Nests second → Nests rest → Nests (If type ∷ first ++ Else ∷ second ++ End ∷ rest)
+  if_else : (type : BlockType) (first second rest : List Instr) → Nests first → Nests second → Nests rest → Nests (If type ∷ first ++ Else ∷ second ++ End ∷ rest)
 
 -- expr: items that nest, and then an `end` (section 5.4.6)
 abbrev pub expression : List Instr → Spellings

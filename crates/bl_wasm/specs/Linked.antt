@@ -87,8 +87,8 @@ IsSlot tree slot = IfSome slot (λ function. function < length tree.functions)
 -- ---- the whole
 
 pub record IsLinked (tree : Tree) : Type 0 where
-  -- no type has more than one result
-  pub types : All (λ type. length type.results ≤ 1) tree.types
+  -- no type has more than 1,024 results
+  pub types : All (λ type. length type.results ≤ 1024) tree.types
   pub functions : All (IsFunction tree) tree.functions
   pub globals : All (λ global. ArgumentFits global.kind global.first) tree.globals
   pub memories : All IsMemory tree.memories

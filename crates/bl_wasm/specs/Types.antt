@@ -1,5 +1,8 @@
 -- Types in the binary format (WebAssembly 1.0, section 5.3).
-use Rattle.std.specs.Prelude.{ℕ, Bool, true, false, Option, Some, None}
+use Rattle.std.specs.Prelude.{ℕ, Bool, true, false, Option, Some, None, pos}
+use Rattle.bl_wasm.specs.declared.types.BlockType.{BlockType}
+use Rattle.bl_wasm.specs.declared.types.BlockType.TheVariants.{Empty, Value, Index}
+use Rattle.bl_leb.specs.Numbers.{IsSigned}
 use Rattle.bl_wasm.specs.Values.{Spellings, ◌⨾◌, byte, u32, vec}
 use Rattle.bl_wasm.specs.declared.types.WasmType.{WasmType}
 use Rattle.bl_wasm.specs.declared.types.WasmType.TheVariants.{I32, I64, F32, F64}
@@ -14,10 +17,11 @@ value_type I64 = byte 0x7E
 value_type F32 = byte 0x7D
 value_type F64 = byte 0x7C
 
--- blocktype: no result, or one (section 5.3.2)
-abbrev pub block_type : Option WasmType → Spellings
-block_type None = byte 0x40
-block_type (Some result) = value_type result
+-- blocktype: nothing, one result, or the index of a type, a signed number of 33 bits that isn't negative
+abbrev pub block_type : BlockType → Spellings
+block_type Empty = byte 0x40
+block_type (Value result) = value_type result
+block_type (Index index) = λ bytes. IsSigned 33 bytes (pos index)
 
 -- functype (section 5.3.3)
 abbrev pub function_type : FuncType → Spellings

@@ -10,6 +10,8 @@ use Rattle.bl_ops.specs.declared.op.OpRow.{OpRow}
 use Rattle.bl_wasm.specs.declared.instruction.Instr.{Instr}
 use Rattle.bl_wasm.specs.declared.instruction.Instr.TheVariants.{Unreachable, Nop, Block, Loop, If, Else, End, Br, BrIf, BrTable, Return, Call, CallIndirect, Drop, Select, LocalGet, LocalSet, LocalTee, GlobalGet, GlobalSet, Load, Store, FloatAccess, MemorySize, MemoryGrow, I32Const, I64Const, F32Const, F64Const, Integer, Float, Extend}
 use Rattle.bl_wasm.specs.declared.instruction.MemoryArgument.{MemoryArgument}
+use Rattle.bl_wasm.specs.declared.types.BlockType.{BlockType}
+use Rattle.bl_wasm.specs.declared.types.BlockType.TheVariants.{Empty, Value, Index}
 use Rattle.bl_wasm.specs.declared.types.WasmType.{WasmType}
 use Rattle.bl_wasm.specs.declared.types.WasmType.TheVariants.{I32, I64}
 use Rattle.bl_wasm.specs.declared.types.FuncType.{FuncType}
@@ -17,50 +19,36 @@ use Rattle.bl_wasm.specs.declared.types.GlobalType.{GlobalType}
 
 -- ---- the constructs that are open
 
--- a construct that an `end` closes, with its result where it has one: a block, a loop, an if up to its `else` or its end,
+-- a construct that an `end` closes, with its parameters and results: a block, a loop, an if up to its `else` or its end,
 -- or an if behind its `else`
 pub data Label : Type 0 where
-  block : Option WasmType → Label
-  loop : Option WasmType → Label
-  first_part : Option WasmType → Label
-  second_part : Option WasmType → Label
+  block : FuncType → Label
+  loop : FuncType → Label
+  first_part : FuncType → Label
+  second_part : FuncType → Label
 
--- what is open behind an item, innermost first, where the item may stand there
-abbrev pub labels_after : Instr → List Label → Option (List Label)
-labels_after (Block result) labels = Some (block result ∷ labels)
-labels_after (Loop result) labels = Some (loop result ∷ labels)
-labels_after (If result) labels = Some (first_part result ∷ labels)
-labels_after Else (first_part result ∷ outer) = Some (second_part result ∷ outer)
-labels_after Else labels = None
-labels_after End (innermost ∷ outer) = Some outer
-labels_after End [] = None
-labels_after item labels = Some labels
-
--- what is open behind items, where they may stand there
-abbrev pub labels_through : List Instr → List Label → Option (List Label)
-labels_through [] labels = Some labels
-labels_through (item ∷ items) labels = option_and_then (labels_through items) (labels_after item labels)
-
--- what is open at a place of a body, innermost first, where the items before it may stand there
-abbrev pub labels_at : List Instr → ℕ → Option (List Label)
-labels_at body place = labels_through (take place body) []
+abbrev pub type_in : Label → FuncType
+type_in (block type) = type
+type_in (loop type) = type
+type_in (first_part type) = type
+type_in (second_part type) = type
 
 -- the types that a construct leaves
-abbrev pub of_result : Option WasmType → List WasmType
-of_result None = []
-of_result (Some type) = type ∷ []
-
--- the types that a construct leaves, by its label
 abbrev pub results_of : Label → List WasmType
-results_of (block result) = of_result result
-results_of (loop result) = of_result result
-results_of (first_part result) = of_result result
-results_of (second_part result) = of_result result
+results_of label = (type_in label).results
 
--- the types that a branch to a label takes: to a loop none, else the construct's results (section 3.3.5)
+-- the types that a branch to a label takes: to a loop its parameters, else the construct's results (section 3.3.5)
 abbrev pub taken_by : Label → List WasmType
-taken_by (loop result) = []
-taken_by other = results_of other
+taken_by (loop type) = type.params
+taken_by (block type) = type.results
+taken_by (first_part type) = type.results
+taken_by (second_part type) = type.results
+
+-- the parameters and results of a block type (section 3.2.2)
+abbrev pub expanded : List FuncType → BlockType → Option FuncType
+expanded types Empty = Some (record { params = []; results = [] })
+expanded types (Value type) = Some (record { params = []; results = type ∷ [] })
+expanded types (Index index) = slice_get types index
 
 -- ---- what a body stands in
 
@@ -157,18 +145,20 @@ Plain c open_ones item from to = ⊥
 
 -- the rule of an item: what is open and the operands' types before it, and both behind it (section 3.3.5)
 abbrev pub Rule : Context → Instr → List Open → List WasmType → List Open → List WasmType → Type 0
-Rule c (Block result) outer from inner to = (inner ≡ opened (block result) from ∷ outer) × (to ≡ [])
-Rule c (Loop result) outer from inner to = (inner ≡ opened (loop result) from ∷ outer) × (to ≡ [])
-Rule c (If result) outer from inner to =
-    (lower : List WasmType) × (from ≡ lower ++ I32 ∷ []) × (inner ≡ opened (first_part result) lower ∷ outer) × (to ≡ [])
+Rule c (Block kind) outer from inner to = (type : FuncType) × (expanded c.types kind ≡ Some type) × (lower : List WasmType) × (from ≡ lower ++ type.params)
+    × (inner ≡ opened (block type) lower ∷ outer) × (to ≡ type.params)
+Rule c (Loop kind) outer from inner to = (type : FuncType) × (expanded c.types kind ≡ Some type) × (lower : List WasmType) × (from ≡ lower ++ type.params)
+    × (inner ≡ opened (loop type) lower ∷ outer) × (to ≡ type.params)
+Rule c (If kind) outer from inner to = (type : FuncType) × (expanded c.types kind ≡ Some type) × (lower : List WasmType) × (from ≡ lower ++ (type.params ++ I32 ∷ []))
+    × (inner ≡ opened (first_part type) lower ∷ outer) × (to ≡ type.params)
 Rule c Else [] from behind to = ⊥
 Rule c Else (innermost ∷ outer) from behind to =
-    (result : Option WasmType) × (innermost.label ≡ first_part result) × (from ≡ of_result result)
-    × (behind ≡ opened (second_part result) innermost.lower ∷ outer) × (to ≡ [])
+    (type : FuncType) × (innermost.label ≡ first_part type) × (from ≡ type.results)
+    × (behind ≡ opened (second_part type) innermost.lower ∷ outer) × (to ≡ type.params)
 Rule c End [] from behind to = ⊥
 Rule c End (innermost ∷ outer) from behind to =
-    -- an if without `else` has no result
-    ((result : Option WasmType) → innermost.label ≡ first_part result → result ≡ None)
+    -- an if without `else` leaves its parameters
+    ((type : FuncType) → innermost.label ≡ first_part type → type.params ≡ type.results)
     × (from ≡ results_of innermost.label) × (behind ≡ outer) × (to ≡ innermost.lower ++ results_of innermost.label)
 Rule c item open_ones from behind to = (behind ≡ open_ones) × Plain c open_ones item from to
 

@@ -6,6 +6,8 @@ use Rattle.bl_wasm.specs.Typing.{Context, IsTyping}
 use Rattle.bl_wasm.specs.declared.instruction.Instr.{Instr}
 use Rattle.bl_wasm.specs.declared.instruction.Instr.TheVariants.{Block, Loop, If, I32Const, I64Const, GlobalGet}
 use Rattle.bl_wasm.specs.declared.types.WasmType.{WasmType}
+use Rattle.bl_wasm.specs.declared.types.BlockType.{BlockType}
+use Rattle.bl_wasm.specs.declared.types.BlockType.TheVariants.{Empty, Value, Index}
 use Rattle.bl_wasm.specs.declared.types.WasmType.TheVariants.{I32, I64, F32, F64}
 use Rattle.bl_wasm.specs.declared.types.FuncType.{FuncType}
 use Rattle.bl_wasm.specs.declared.types.GlobalType.{GlobalType}
@@ -101,18 +103,23 @@ IsInteger I64 = Unit {0}
 IsInteger F32 = ⊥
 IsInteger F64 = ⊥
 
+abbrev pub HasIntegerType : BlockType → Type 0
+HasIntegerType Empty = Unit {0}
+HasIntegerType (Value type) = IsInteger type
+HasIntegerType (Index index) = Unit {0}
+
 -- a block type of this profile
 abbrev pub HasIntegers : Instr → Type 0
-HasIntegers (Block result) = IfSome result IsInteger
-HasIntegers (Loop result) = IfSome result IsInteger
-HasIntegers (If result) = IfSome result IsInteger
+HasIntegers (Block type) = HasIntegerType type
+HasIntegers (Loop type) = HasIntegerType type
+HasIntegers (If type) = HasIntegerType type
 HasIntegers item = Unit {0}
 
 -- a type of functions: integers, and at most one result (section 3.2.2)
 pub record IsFunctionType (type : FuncType) : Type 0 where
   pub params : All IsInteger type.params
   pub results : All IsInteger type.results
-  pub one : length type.results ≤ 1
+  pub few : length type.results ≤ 1024
 
 -- locals and block types are integers
 pub record IsCode (code : Code) : Type 0 where

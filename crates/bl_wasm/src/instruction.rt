@@ -1,7 +1,7 @@
 //! Instructions (WebAssembly 1.0, section 2.4).
 use crate::float::{FloatAccess, FloatOp};
 use crate::targets::Targets;
-use crate::types::WasmType;
+use crate::types::BlockType;
 use bl_ops::{AccessKind, Op};
 
 /// One item of a body. A body is a flat list of these, in which a block, loop or if stands before its items, and its
@@ -13,12 +13,12 @@ pub enum Instr {
     Unreachable,
     /// `nop`.
     Nop,
-    /// `block` with the type of its result, where it has one.
-    Block(Option<WasmType>),
-    /// `loop` with the type of its result, where it has one.
-    Loop(Option<WasmType>),
-    /// `if` with the type of its result, where it has one.
-    If(Option<WasmType>),
+    /// `block` with its type.
+    Block(BlockType),
+    /// `loop` with its type.
+    Loop(BlockType),
+    /// `if` with its type.
+    If(BlockType),
     /// `else`: the first part of an if ends, and the second one begins.
     Else,
     /// `end` of a block, a loop or an if.

@@ -19,7 +19,7 @@ pub use module::{
     ImportKind, LocalRun, Module,
 };
 pub use targets::Targets;
-pub use types::{FuncType, GlobalType, Limits, WasmType};
+pub use types::{BlockType, FuncType, GlobalType, Limits, WasmType};
 
 #[cfg(test)]
 mod tests;

@@ -14,6 +14,17 @@ pub enum WasmType {
     F64,
 }
 
+/// The type of a block: nothing, one result, or a type of the module by its index.
+#[derive(Clone, Copy, Debug, PartialEq, Eq)]
+pub enum BlockType {
+    /// Nothing is taken and nothing is left.
+    Empty,
+    /// One result.
+    Value(WasmType),
+    /// The parameters and results of that type.
+    Index(u32),
+}
+
 /// The type of a function (section 2.3.3).
 #[derive(Debug, Drop)]
 pub struct FuncType {
