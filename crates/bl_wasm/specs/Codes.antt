@@ -4,8 +4,6 @@ use Rattle.bl_ops.specs.declared.op.Op.{Op}
 use Rattle.bl_ops.specs.Table.{code_of}
 use Rattle.bl_wasm.specs.declared.float.FloatAccess.{FloatAccess}
 use Rattle.bl_wasm.specs.declared.float.FloatAccess.TheVariants.{F32Load, F64Load, F32Store, F64Store}
-use Rattle.bl_wasm.specs.declared.instruction.SignExtension.{SignExtension}
-use Rattle.bl_wasm.specs.declared.instruction.SignExtension.TheVariants.{I32Extend8S, I32Extend16S, I64Extend8S, I64Extend16S, I64Extend32S}
 
 -- a code from 45 to BF that isn't the code of an integer operator (section 5.4.5)
 abbrev pub IsFloatCode : ℕ → Type 0
@@ -17,11 +15,3 @@ float_access_code F32Load = 0x2A
 float_access_code F64Load = 0x2B
 float_access_code F32Store = 0x38
 float_access_code F64Store = 0x39
-
--- the extensions by sign (version 2.0, section 5.4.7)
-abbrev pub sign_extension_code : SignExtension → ℕ
-sign_extension_code I32Extend8S = 0xC0
-sign_extension_code I32Extend16S = 0xC1
-sign_extension_code I64Extend8S = 0xC2
-sign_extension_code I64Extend16S = 0xC3
-sign_extension_code I64Extend32S = 0xC4

@@ -4,11 +4,11 @@ use Rattle.std.specs.Prelude.{◌≡◌, ℕ, ◌++◌, List, [], ◌∷◌, IsT
 use Rattle.bl_ops.specs.declared.op.Op.{Op}
 use Rattle.bl_ops.specs.Access.{is_load, code_of as access_code}
 use Rattle.bl_ops.specs.Table.{code_of}
-use Rattle.bl_wasm.specs.Codes.{IsFloatCode, float_access_code, sign_extension_code}
+use Rattle.bl_wasm.specs.Codes.{IsFloatCode, float_access_code}
 use Rattle.bl_wasm.specs.Types.{block_type}
 use Rattle.bl_wasm.specs.Values.{Spellings, ◌⨾◌, byte, given, each, u32, int, f32, f64, vec}
 use Rattle.bl_wasm.specs.declared.instruction.Instr.{Instr}
-use Rattle.bl_wasm.specs.declared.instruction.Instr.TheVariants.{Unreachable, Nop, Block, Loop, If, Else, End, Br, BrIf, BrTable, Return, Call, CallIndirect, Drop, Select, LocalGet, LocalSet, LocalTee, GlobalGet, GlobalSet, Load, Store, FloatAccess, MemorySize, MemoryGrow, I32Const, I64Const, F32Const, F64Const, Integer, Float, Extend}
+use Rattle.bl_wasm.specs.declared.instruction.Instr.TheVariants.{Unreachable, Nop, Block, Loop, If, Else, End, Br, BrIf, BrTable, Return, Call, CallIndirect, Drop, Select, LocalGet, LocalSet, LocalTee, GlobalGet, GlobalSet, Load, Store, FloatAccess, MemorySize, MemoryGrow, I32Const, I64Const, F32Const, F64Const, Integer, Float}
 use Rattle.bl_wasm.specs.declared.instruction.MemoryArgument.{MemoryArgument}
 use Rattle.bl_wasm.specs.declared.types.BlockType.{BlockType}
 
@@ -58,7 +58,6 @@ instruction (F32Const bits) = byte 0x43 ⨾ f32 bits
 instruction (F64Const bits) = byte 0x44 ⨾ f64 bits
 instruction (Integer op) = integer op
 instruction (Float op) = given (IsFloatCode op) (byte op)
-instruction (Extend op) = byte (sign_extension_code op)
 
 -- an item that neither opens nor parts nor closes a construct
 abbrev pub IsPlain : Instr → Type 0
@@ -67,7 +66,32 @@ IsPlain (Loop type) = ⊥
 IsPlain (If type) = ⊥
 IsPlain Else = ⊥
 IsPlain End = ⊥
-IsPlain item = Unit {0}
+IsPlain Unreachable = Unit {0}
+IsPlain Nop = Unit {0}
+IsPlain (Br l) = Unit {0}
+IsPlain (BrIf l) = Unit {0}
+IsPlain (BrTable default others) = Unit {0}
+IsPlain Return = Unit {0}
+IsPlain (Call function) = Unit {0}
+IsPlain (CallIndirect type) = Unit {0}
+IsPlain Drop = Unit {0}
+IsPlain Select = Unit {0}
+IsPlain (LocalGet x) = Unit {0}
+IsPlain (LocalSet x) = Unit {0}
+IsPlain (LocalTee x) = Unit {0}
+IsPlain (GlobalGet x) = Unit {0}
+IsPlain (GlobalSet x) = Unit {0}
+IsPlain (Load kind argument) = Unit {0}
+IsPlain (Store kind argument) = Unit {0}
+IsPlain (FloatAccess kind argument) = Unit {0}
+IsPlain MemorySize = Unit {0}
+IsPlain MemoryGrow = Unit {0}
+IsPlain (I32Const n) = Unit {0}
+IsPlain (I64Const n) = Unit {0}
+IsPlain (F32Const bits) = Unit {0}
+IsPlain (F64Const bits) = Unit {0}
+IsPlain (Integer op) = Unit {0}
+IsPlain (Float op) = Unit {0}
 
 -- (in:instr)*: items that nest (section 5.4.1)
 pub data Nests : List Instr → Type 0 where

@@ -1,12 +1,13 @@
 -- What a linked tree keeps (WebAssembly 1.0, sections 3.4 and 4.5.4).
-use Rattle.std.specs.Prelude.{◌≡◌, ℕ, ◌*◌, ◌^◌, ◌<◌, ◌≤◌, ◌++◌, List, length, map, slice_get, sum_by, Option, Some, None, IfSome}
+use Rattle.std.specs.Prelude.{◌≡◌, ℕ, false, ◌*◌, ◌^◌, ◌<◌, ◌≤◌, ◌++◌, List, length, map, slice_get, sum_by, Option, Some, None, IfSome}
 use Rattle.std.specs.List.{All}
 use Rattle.bl_base.specs.Fits.{AreBytes, ArgumentFits}
+use Rattle.bl_base.specs.declared.names.Label.TheVariants.{Secret}
 use Rattle.bl_wasm.specs.Exports.{AreDistinct}
 use Rattle.bl_wasm.specs.Typing.{Context, IsTyping, integer}
 use Rattle.bl_wasm.specs.Validity.{locals_of}
 use Rattle.bl_wasm.specs.declared.instruction.Instr.{Instr}
-use Rattle.bl_wasm.specs.declared.instruction.Instr.TheVariants.{Load, Store, I32Const, I64Const}
+use Rattle.bl_wasm.specs.declared.instruction.Instr.TheVariants.{Unreachable, Nop, Block, Loop, If, Else, End, Br, BrIf, BrTable, Return, Call, CallIndirect, Drop, Select, LocalGet, LocalSet, LocalTee, GlobalGet, GlobalSet, Load, Store, FloatAccess, MemorySize, MemoryGrow, I32Const, I64Const, F32Const, F64Const, Integer, Float}
 use Rattle.bl_wasm.specs.declared.types.WasmType.{WasmType}
 use Rattle.bl_wasm.specs.declared.types.FuncType.{FuncType}
 use Rattle.bl_wasm.specs.declared.types.GlobalType.{GlobalType}
@@ -55,7 +56,33 @@ HasImmediates (I32Const n) = n < 2 ^ 32
 HasImmediates (I64Const n) = n < 2 ^ 64
 HasImmediates (Load kind argument) = argument.offset < 2 ^ 32
 HasImmediates (Store kind argument) = argument.offset < 2 ^ 32
-HasImmediates item = Unit {0}
+HasImmediates (Block type) = Unit {0}
+HasImmediates (Loop type) = Unit {0}
+HasImmediates (If type) = Unit {0}
+HasImmediates Else = Unit {0}
+HasImmediates End = Unit {0}
+HasImmediates Unreachable = Unit {0}
+HasImmediates Nop = Unit {0}
+HasImmediates (Br l) = Unit {0}
+HasImmediates (BrIf l) = Unit {0}
+HasImmediates (BrTable default others) = Unit {0}
+HasImmediates Return = Unit {0}
+HasImmediates (Call function) = Unit {0}
+HasImmediates (CallIndirect type) = Unit {0}
+HasImmediates Drop = Unit {0}
+HasImmediates Select = Unit {0}
+HasImmediates (LocalGet x) = Unit {0}
+HasImmediates (LocalSet x) = Unit {0}
+HasImmediates (LocalTee x) = Unit {0}
+HasImmediates (GlobalGet x) = Unit {0}
+HasImmediates (GlobalSet x) = Unit {0}
+HasImmediates (FloatAccess kind argument) = Unit {0}
+HasImmediates MemorySize = Unit {0}
+HasImmediates MemoryGrow = Unit {0}
+HasImmediates (F32Const bits) = Unit {0}
+HasImmediates (F64Const bits) = Unit {0}
+HasImmediates (Integer op) = Unit {0}
+HasImmediates (Float op) = Unit {0}
 
 -- a function of the tree
 pub record IsFunction (tree : Tree) (function : Function) : Type 0 where
@@ -68,6 +95,8 @@ pub record IsFunction (tree : Tree) (function : Function) : Type 0 where
   pub immediates : All HasImmediates function.code.items
   -- each parameter has one label
   pub labels : length function.labels ≡ length type.params
+  -- and each result is demanded public, or isn't
+  pub demanded : length function.demanded ≡ length type.results
   -- parameters and locals together
   pub room : length (all_locals type function) ≤ 4096
   pub memory : IfSome function.memory (λ number. number < length tree.memories)
@@ -91,6 +120,8 @@ pub record IsLinked (tree : Tree) : Type 0 where
   pub types : All (λ type. length type.results ≤ 1024) tree.types
   pub functions : All (IsFunction tree) tree.functions
   pub globals : All (λ global. ArgumentFits global.kind global.first) tree.globals
+  -- no global is both declared secret and demanded public
+  pub labels : All (λ global. global.label ≡ Secret → global.demanded ≡ false) tree.globals
   pub memories : All IsMemory tree.memories
   pub tables : All (All (IsSlot tree)) tree.tables
   -- exported functions exist, by names of their own

@@ -4,7 +4,7 @@ use Rattle.std.specs.Prelude.{◌≡◌, ℕ, ◌<◌, ◌≤◌, ◌++◌, ◌�
 use Rattle.std.specs.List.{All}
 use Rattle.bl_wasm.specs.Typing.{Context, IsTyping}
 use Rattle.bl_wasm.specs.declared.instruction.Instr.{Instr}
-use Rattle.bl_wasm.specs.declared.instruction.Instr.TheVariants.{Block, Loop, If, I32Const, I64Const, GlobalGet}
+use Rattle.bl_wasm.specs.declared.instruction.Instr.TheVariants.{Unreachable, Nop, Block, Loop, If, Else, End, Br, BrIf, BrTable, Return, Call, CallIndirect, Drop, Select, LocalGet, LocalSet, LocalTee, GlobalGet, GlobalSet, Load, Store, FloatAccess, MemorySize, MemoryGrow, I32Const, I64Const, F32Const, F64Const, Integer, Float}
 use Rattle.bl_wasm.specs.declared.types.WasmType.{WasmType}
 use Rattle.bl_wasm.specs.declared.types.BlockType.{BlockType}
 use Rattle.bl_wasm.specs.declared.types.BlockType.TheVariants.{Empty, Value, Index}
@@ -103,6 +103,7 @@ IsInteger I64 = Unit {0}
 IsInteger F32 = ⊥
 IsInteger F64 = ⊥
 
+-- the value type that a block type is, where it is one, is of integers; the types that it may name are tested as such
 abbrev pub HasIntegerType : BlockType → Type 0
 HasIntegerType Empty = Unit {0}
 HasIntegerType (Value type) = IsInteger type
@@ -113,13 +114,39 @@ abbrev pub HasIntegers : Instr → Type 0
 HasIntegers (Block type) = HasIntegerType type
 HasIntegers (Loop type) = HasIntegerType type
 HasIntegers (If type) = HasIntegerType type
-HasIntegers item = Unit {0}
+HasIntegers Else = Unit {0}
+HasIntegers End = Unit {0}
+HasIntegers Unreachable = Unit {0}
+HasIntegers Nop = Unit {0}
+HasIntegers (Br l) = Unit {0}
+HasIntegers (BrIf l) = Unit {0}
+HasIntegers (BrTable default others) = Unit {0}
+HasIntegers Return = Unit {0}
+HasIntegers (Call function) = Unit {0}
+HasIntegers (CallIndirect type) = Unit {0}
+HasIntegers Drop = Unit {0}
+HasIntegers Select = Unit {0}
+HasIntegers (LocalGet x) = Unit {0}
+HasIntegers (LocalSet x) = Unit {0}
+HasIntegers (LocalTee x) = Unit {0}
+HasIntegers (GlobalGet x) = Unit {0}
+HasIntegers (GlobalSet x) = Unit {0}
+HasIntegers (Load kind argument) = Unit {0}
+HasIntegers (Store kind argument) = Unit {0}
+HasIntegers (FloatAccess kind argument) = Unit {0}
+HasIntegers MemorySize = Unit {0}
+HasIntegers MemoryGrow = Unit {0}
+HasIntegers (I32Const n) = Unit {0}
+HasIntegers (I64Const n) = Unit {0}
+HasIntegers (F32Const bits) = Unit {0}
+HasIntegers (F64Const bits) = Unit {0}
+HasIntegers (Integer op) = Unit {0}
+HasIntegers (Float op) = Unit {0}
 
--- a type of functions: integers, and at most one result (section 3.2.2)
+-- a type of functions is of integers (section 3.2.2)
 pub record IsFunctionType (type : FuncType) : Type 0 where
   pub params : All IsInteger type.params
   pub results : All IsInteger type.results
-  pub few : length type.results ≤ 1024
 
 -- locals and block types are integers
 pub record IsCode (code : Code) : Type 0 where

@@ -87,12 +87,10 @@ pub enum Instr {
     F32Const(u32),
     /// `f64.const` of the float whose bits are those of this number (IEEE 754, binary64).
     F64Const(u64),
-    /// A numeric operator on integers, one of the 61 that have a code.
+    /// A numeric operator on integers, one of the 66 that have a code.
     Integer(Op),
     /// A numeric operator with floats.
     Float(FloatOp),
-    /// An operator of the extension that came after version 1.0.
-    Extend(SignExtension),
 }
 
 /// The immediate of a load or a store (section 2.4.4).
@@ -102,20 +100,4 @@ pub struct MemoryArgument {
     pub alignment: u32,
     /// What is added to the address, in bytes.
     pub offset: u32,
-}
-
-/// The operators that extend the lowest bits of an integer by their sign. They came after version 1.0 (version 2.0,
-/// section 2.4.1); the tree holds them.
-#[derive(Clone, Copy, Debug, PartialEq, Eq)]
-pub enum SignExtension {
-    /// `i32.extend8_s`
-    I32Extend8S,
-    /// `i32.extend16_s`
-    I32Extend16S,
-    /// `i64.extend8_s`
-    I64Extend8S,
-    /// `i64.extend16_s`
-    I64Extend16S,
-    /// `i64.extend32_s`
-    I64Extend32S,
 }

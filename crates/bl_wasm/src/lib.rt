@@ -12,7 +12,7 @@ mod types;
 
 pub use exports::Exports;
 pub use float::{FloatAccess, FloatOp};
-pub use instruction::{Instr, MemoryArgument, SignExtension};
+pub use instruction::{Instr, MemoryArgument};
 pub use linked::{Function, Global, Linked, Memory, Signature, Tree};
 pub use module::{
     Code, CustomSection, DataSegment, DefinedGlobal, ElementSegment, Export, ExportKind, Import,

@@ -24,6 +24,8 @@ pub struct Function {
     pub type_index: u32,
     /// The label of each parameter.
     pub labels: List<Label>,
+    /// Whether each result is to stay public.
+    pub demanded: List<bool>,
     /// Its other locals and its body. Indices of types, functions and globals in it are numbers of the tree.
     pub code: Code,
     /// The number of the memory that its items use, where its module has one.
@@ -43,6 +45,8 @@ pub struct Global {
     pub first: u64,
     /// Who may learn its first value.
     pub label: Label,
+    /// Whether its value is to stay public.
+    pub demanded: bool,
 }
 
 /// A memory (section 4.2.8).

@@ -14,7 +14,8 @@ pub enum WasmType {
     F64,
 }
 
-/// The type of a block: nothing, one result, or a type of the module by its index.
+/// The type of a block, a loop or an if (section 5.3.2; version 2.0, section 5.4.1): nothing, one result, or a type of the
+/// module by its index.
 #[derive(Clone, Copy, Debug, PartialEq, Eq)]
 pub enum BlockType {
     /// Nothing is taken and nothing is left.
