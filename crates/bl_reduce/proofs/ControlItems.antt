@@ -26,7 +26,7 @@ use Rattle.bl_reduce.specs.Returns.{return_to, return}
 use Rattle.bl_reduce.specs.TypedConfigurations.{IsValue, IsStore, IsRest, IsLabel, AreLabels, BeginsWith, AreCallers, IsTypedStep}
 use Rattle.bl_reduce.proofs.Places.{parted, place_onward, place_behind_end}
 use Rattle.bl_reduce.proofs.Ready.{Ready, onto, taken, going, popping, integer_argument}
-use Rattle.bl_reduce.proofs.Zips.{some_same, zip_append, zip_front, zip_back, zip_unmap, zip_unreverse}
+use Rattle.bl_base.proofs.Lists.{some_same, zip_append, zip_front, zip_back, zip_unmap, zip_unreverse}
 
 -- ---- labels
 

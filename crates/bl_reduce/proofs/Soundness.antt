@@ -32,7 +32,7 @@ use Rattle.bl_reduce.proofs.NumericItems.{operate_steps}
 use Rattle.bl_reduce.proofs.Places.{next_place, place_behind_end, at_last}
 use Rattle.bl_reduce.proofs.Ready.{Ready, taken, trapping, knowing}
 use Rattle.bl_reduce.proofs.VariableItems.{constant_steps, nop_steps, drop_steps, select_steps, local_get_steps, local_set_steps, local_tee_steps, global_get_steps, global_set_steps}
-use Rattle.bl_reduce.proofs.Zips.{zip_got, zip_set, zip_each, zip_images, all_get}
+use Rattle.bl_base.proofs.Lists.{zip_got, zip_set, zip_each, zip_images, all_get}
 
 -- the item at a place
 pub drop_head : (xs : List Instr) (place : ℕ) (item : Instr) (rest : List Instr) → item ∷ rest ≡ drop place xs → slice_get xs place ≡ Some item
