@@ -1,3 +1,4 @@
+pub mod Bytes
 pub mod Fits
 pub mod Quantity
 pub mod Runs

@@ -1,5 +1,6 @@
 -- Memory instructions (WebAssembly 1.0, section 4.4.4).
-use Rattle.std.specs.Prelude.{ℕ, zero, suc, ◌+◌, ◌*◌, ◌/◌, ◌%◌, nat_le, if◌then◌else◌, List, [], ◌∷◌, ◌++◌, length, take, drop, set, replicate, slice_get}
+use Rattle.std.specs.Prelude.{ℕ, ◌+◌, ◌*◌, nat_le, if◌then◌else◌, List, ◌++◌, length, take, drop, set, replicate, slice_get}
+pub use Rattle.bl_base.specs.Bytes.{number_of, bytes_of, write}
 use Rattle.bl_base.specs.Runs.{MemoryState, Next}
 use Rattle.bl_base.specs.declared.trap.Trap.TheVariants.{OutOfBounds}
 use Rattle.bl_ops.specs.Access.{extended, narrowed, width_of}
@@ -8,25 +9,11 @@ use Rattle.bl_wasm.specs.declared.instruction.MemoryArgument.{MemoryArgument}
 use Rattle.bl_wasm.specs.declared.linked.Tree.{Tree}
 use Rattle.bl_reduce.specs.Configurations.{State, Config, go, trap, known, pop, push}
 
--- ---- bytes
-
--- littleendian: the number that bytes are, the lowest first (section 4.3.1.3)
-abbrev pub number_of : List ℕ → ℕ
-number_of [] = 0
-number_of (byte ∷ bytes) = byte + 256 * number_of bytes
-
--- so many bytes of a number, the lowest first
-abbrev pub bytes_of : ℕ → ℕ → List ℕ
-bytes_of zero number = []
-bytes_of (suc width) number = number % 256 ∷ bytes_of width (number / 256)
+-- ---- bytes of a memory
 
 -- so many bytes of a memory from a place on
 abbrev pub read : MemoryState → ℕ → ℕ → List ℕ
 read memory address width = take width (drop address memory.bytes)
-
--- a memory with other bytes from a place on
-abbrev pub write : MemoryState → ℕ → List ℕ → MemoryState
-write memory address new = record memory { bytes = take address memory.bytes ++ new ++ drop (address + length new) memory.bytes }
 
 -- a memory with so many pages more, whose bytes are 0
 abbrev pub grow : MemoryState → ℕ → MemoryState

@@ -1,29 +1,20 @@
 -- What a run of a function from a start ends with (WebAssembly 1.0, section 4.5.5).
-use Rattle.std.specs.Prelude.{◌≡◌, ℕ, List, [], map, set, slice_get, Option, Some, None}
+use Rattle.std.specs.Prelude.{◌≡◌, ℕ, List, [], map, slice_get, Some}
 use Rattle.std.specs.List.{fold}
+pub use Rattle.bl_base.specs.Bytes.{patch_over, patched}
 use Rattle.bl_base.specs.Fits.{Fits}
 use Rattle.bl_base.specs.Runs.{MemoryState, Outcome, EndsAfter}
-use Rattle.bl_base.specs.declared.start.Patch.{Patch}
 use Rattle.bl_base.specs.declared.start.Start.{Start}
 use Rattle.bl_wasm.specs.declared.linked.Signature.{Signature}
 use Rattle.bl_wasm.specs.declared.linked.Function.{Function}
 use Rattle.bl_wasm.specs.declared.linked.Memory.{Memory}
 use Rattle.bl_wasm.specs.declared.linked.Tree.{Tree}
 use Rattle.bl_reduce.specs.Configurations.{Store, Config, entering}
-use Rattle.bl_reduce.specs.Memory.{write}
 use Rattle.bl_reduce.specs.Steps.{source_step}
 
 -- a memory before the patches
 abbrev pub first_memory : Memory → MemoryState
 first_memory memory = record { pages = memory.pages; bytes = memory.bytes }
-
--- the memories with a patch written over the one that it names
-abbrev pub patch_over : Option MemoryState → List MemoryState → Patch → List MemoryState
-patch_over None memories patch = memories
-patch_over (Some memory) memories patch = set memories patch.memory (write memory patch.offset patch.bytes)
-
-abbrev pub patched : List MemoryState → Patch → List MemoryState
-patched memories patch = patch_over (slice_get memories patch.memory) memories patch
 
 -- the store at the start: the globals have their first values, and the memories their first contents with the patches written
 -- over them in order

@@ -1,0 +1,53 @@
+-- What holds of every program.
+use Rattle.std.specs.Prelude.{◌≡◌, ◌<◌, ℕ, IsTrue, not, length, All, Option, Some, None}
+use Rattle.bl_base.specs.Trap.{trap_of}
+use Rattle.bl_ops.specs.Access.{is_load}
+use Rattle.bl_ops.specs.Table.{row_of}
+use Rattle.bl_ops.specs.declared.op.Op.{Op}
+use Rattle.bl_ops.specs.declared.op.Op.TheVariants.{Move}
+use Rattle.bl_ops.specs.declared.op.OpRow.{OpRow}
+use Rattle.bl_cmd.specs.Layout.{entry_of, command_at}
+use Rattle.bl_cmd.specs.declared.command.Operand.{Operand}
+use Rattle.bl_cmd.specs.declared.command.Operand.TheVariants as operand
+use Rattle.bl_cmd.specs.declared.command.Command.{Command}
+use Rattle.bl_cmd.specs.declared.command.Command.TheVariants.{Set, Load, Store, Test, Jump, Arg, Call, Out, Ret, Trap}
+use Rattle.bl_cmd.specs.declared.definitions.ProgramParts.{ProgramParts as Program}
+
+-- how many operands an operator with that row takes, or else one of the three without a row
+abbrev pub arity_by : Op → Option OpRow → ℕ
+arity_by op (Some row) = row.operands
+arity_by Move None = 1
+arity_by op None = 3
+
+-- how many operands an operator takes
+abbrev pub arity : Op → ℕ
+arity op = arity_by op (row_of op)
+
+-- the operand that stands where an operator takes none
+abbrev pub IsZero : Operand → Type 0
+IsZero value = value ≡ operand.Const 0
+
+-- operands past those that an operator takes are 0
+abbrev pub ArePadded : Op → Operand → Operand → Type 0
+ArePadded op b c = (arity op < 2 → IsZero b) × (arity op < 3 → IsZero c)
+
+-- each load has the kind of a load and each store that of a store, and the operands of each Set are padded
+abbrev pub IsCommand : Command → Type 0
+IsCommand (Set mark op to a b c) = ArePadded op b c
+IsCommand (Load mark kind memory to offset address) = IsTrue (is_load kind)
+IsCommand (Store kind memory offset address value) = IsTrue (not (is_load kind))
+IsCommand (Test cond one other) = Unit {0}
+IsCommand (Jump to) = Unit {0}
+IsCommand (Arg mark function index value) = Unit {0}
+IsCommand (Call function) = Unit {0}
+IsCommand (Out mark index value) = Unit {0}
+IsCommand Ret = Unit {0}
+IsCommand (Trap kind) = Unit {0}
+
+-- the parts are those of a program
+pub record IsProgram (program : Program) : Type 0 where
+  pub commands : All IsCommand program.commands
+  -- positions 0 to 6 are the traps of kinds 0 to 6
+  pub traps : (position : ℕ) → position < 7 → (kind : _) × (trap_of position ≡ Some kind) × (command_at program position ≡ Some (Trap kind))
+  -- the functions' lengths add up to the commands behind the traps
+  pub lengths : length program.commands ≡ entry_of program (length program.functions)

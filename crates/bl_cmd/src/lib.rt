@@ -1,0 +1,18 @@
+//! Programs of commands: what they are, the rules that they keep, and the weights of their sites. What a command does, and
+//! what a run of a program ends with, stands in specs/.
+#![tactic(auto)]
+
+mod command;
+mod definitions;
+mod program;
+mod verdict;
+mod wellformed;
+
+pub use command::{Command, Mark, Operand};
+pub use definitions::{
+    Demand, ExportDef, FunctionDef, GlobalDef, MemRow, MemoryDef, ParamDef, ProgramParts,
+    SiteWeight,
+};
+pub use program::Program;
+pub use verdict::{CheckError, check};
+pub use wellformed::WellFormed;
