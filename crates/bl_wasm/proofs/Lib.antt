@@ -1,3 +1,7 @@
-mod Rows
 pub mod ExportLemmas
+pub mod LeadingLemmas
 pub mod NestingLemmas
+pub mod ReachedLemmas
+pub mod RenamingLemmas
+mod Rows
+pub mod SequenceLemmas
