@@ -78,12 +78,14 @@ placed spaces locals results = record {
 
 -- a function of those spaces has that type
 abbrev pub IsOfType : Spaces → ℕ → FuncType → Type 0
-IsOfType spaces function type = (index : ℕ) × (slice_get spaces.functions function ≡ Some index) × (slice_get spaces.types index ≡ Some type)
+IsOfType spaces function type =
+    (index : ℕ) × (slice_get spaces.functions function ≡ Some index) × (slice_get spaces.types index ≡ Some type)
 
 -- the new names name there what the old ones name here, and there is a table or a memory there where there is one here
 pub record NameAlike (names : Names) (here there : Spaces) : Type 0 where
   pub types : (index : ℕ) (type : FuncType) → slice_get here.types index ≡ Some type → slice_get there.types (names.type index) ≡ Some type
   pub functions : (index : ℕ) (type : FuncType) → IsOfType here index type → IsOfType there (names.function index) type
-  pub globals : (index : ℕ) (global : GlobalType) → slice_get here.globals index ≡ Some global → slice_get there.globals (names.global index) ≡ Some global
+  pub globals : (index : ℕ) (global : GlobalType) → slice_get here.globals index ≡ Some global
+      → slice_get there.globals (names.global index) ≡ Some global
   pub tables : 1 ≤ here.tables → 1 ≤ there.tables
   pub memories : 1 ≤ here.memories → 1 ≤ there.memories

@@ -24,7 +24,8 @@ pub fn a_typed_body_nests()
 
 /// A body has a typing exactly where it is a sequence from no operands to the function's results (section 3.3.9).
 pub fn a_typing_is_a_sequence()
-    ensures { (c : Context) (body : List Instr) → ((places : List (List WasmType)) × IsTyping c body places) ↔ Sequence c (labels c []) body [] c.results }
+    ensures { (c : Context) (body : List Instr)
+        → ((places : List (List WasmType)) × IsTyping c body places) ↔ Sequence c (labels c []) body [] c.results }
 {}
 
 /// Of a sequence that begins with a construct whose parts and what stands behind it nest, these are the construct's parts: of
