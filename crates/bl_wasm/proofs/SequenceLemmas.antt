@@ -74,7 +74,7 @@ sequence_of c _ (else_items i first second more f s m) outer from inner to h =
     let one = sequence_of c first f (opened then_part b.type b.lower ∷ outer) b.type.params p.0 p.1 p.2 in
     let q : Leads c (Else ∷ (second ++ End ∷ more)) (opened then_part b.type b.lower ∷ outer) p.1 inner to = subst (λ (o : List Open). Leads c (Else ∷ (second ++ End ∷ more)) o p.1 inner to) one.0 p.3 in
     let r : Leads c (second ++ End ∷ more) (opened else_part b.type b.lower ∷ outer) b.type.params inner to =
-    subst (λ (o : List Open). Leads c (second ++ End ∷ more) o b.type.params inner to) q.2.inside (subst (λ (s : List WasmType). Leads c (second ++ End ∷ more) q.0 s inner to) q.2.behind q.3) in
+    subst (λ (o : List Open). Leads c (second ++ End ∷ more) o b.type.params inner to) {x = q.0} q.2.inside (subst (λ (s : List WasmType). Leads c (second ++ End ∷ more) q.0 s inner to) {x = q.1} q.2.behind q.3) in
     let e = ended c else_part b.type b.lower outer second more inner to (sequence_of c second s) (sequence_of c more m) r in (
       e.same,
       subst (λ (s : List WasmType). Sequence c (labels c outer) (If i ∷ first ++ Else ∷ second ++ End ∷ more) s to) (sym b.before)
@@ -168,7 +168,7 @@ else_made c outer i first second more from to f n m s =
     let one = sequence_of c first f (opened then_part b.type b.lower ∷ outer) b.type.params p.0 p.1 p.2 in
     let q : Leads c (Else ∷ (second ++ End ∷ more)) (opened then_part b.type b.lower ∷ outer) p.1 outer to = subst (λ (o : List Open). Leads c (Else ∷ (second ++ End ∷ more)) o p.1 outer to) one.0 p.3 in
     let r : Leads c (second ++ End ∷ more) (opened else_part b.type b.lower ∷ outer) b.type.params outer to =
-    subst (λ (o : List Open). Leads c (second ++ End ∷ more) o b.type.params outer to) q.2.inside (subst (λ (s : List WasmType). Leads c (second ++ End ∷ more) q.0 s outer to) q.2.behind q.3) in
+    subst (λ (o : List Open). Leads c (second ++ End ∷ more) o b.type.params outer to) {x = q.0} q.2.inside (subst (λ (s : List WasmType). Leads c (second ++ End ∷ more) q.0 s outer to) {x = q.1} q.2.behind q.3) in
     let e = ended c else_part b.type b.lower outer second more outer to (sequence_of c second n) (sequence_of c more m) r in
     record {
       type = b.type;
