@@ -10,6 +10,7 @@ use Rattle.bl_wasm.specs.declared.types.BlockType.{BlockType}
 use Rattle.bl_wasm.specs.declared.types.FuncType.{FuncType}
 use Rattle.bl_wasm.specs.declared.types.WasmType.{WasmType}
 use Rattle.bl_wasm.specs.declared.types.WasmType.TheVariants.{I32}
+use Rattle.bl_wasm.proofs.LeadingLemmas.{AreAlike}
 use Rattle.bl_reduce.specs.Control.{items_behind_end, items_of_else}
 use Rattle.bl_reduce.specs.TypedConfigurations.{IsRest}
 
@@ -20,12 +21,6 @@ pub record Onward (c : Context) (open_ones : List Open) (items : List Instr) (in
   pub left : rest ≡ drop steps items
   pub later : List (List WasmType)
   pub typing : Types c inner rest (stack ∷ later)
-
--- constructs and open ones of the same kinds
-abbrev AreAlike : List Construct → List Open → Type 0
-AreAlike [] [] = Unit {0}
-AreAlike (one ∷ constructs) (other ∷ inner) = (one.kind ≡ other.kind) × AreAlike constructs inner
-AreAlike constructs inner = ⊥
 
 -- an item behind which the constructs within one that is open are these
 record Moves (item : Instr) (constructs : List Construct) (one : Open) (outer behind : List Open) : Type 0 where

@@ -5,3 +5,4 @@ pub mod ReachedLemmas
 pub mod RenamingLemmas
 mod Rows
 pub mod SequenceLemmas
+mod TypingRows

@@ -123,10 +123,6 @@ same_labels c (here ∷ o ∷ outer) (p ∷ ps) s (q ∷ qs) t h =
 -- ---- an item
 
 module _ (c : Context) where
-  -- two typings behind an item
-  Behind : List Bool → Instr → List Open → List WasmType → List Open → List WasmType → Type 0
-  Behind reach item ps s qs t = (ps' : List Open) (s' : List WasmType) (qs' : List Open) (t' : List WasmType) → Rule c item ps s ps' s' → Rule c item qs t qs' t' → Agree (reached_behind reach item) ps' s' qs' t'
-
   -- equal operands below equal ones
   below : (a b above : List WasmType) (type other : FuncType) (s t : List WasmType) → type ≡ other → s ≡ a ++ (type.params ++ above) → t ≡ b ++ (other.params ++ above) → s ≡ t → a ≡ b
   below a b above type other s t same one two e =
