@@ -1,6 +1,8 @@
 -- A typing as a list of places, and as a sequence whose constructs have sequences of their own.
 use Rattle.std.proofs.Common.{◌≡◌, refl, sym, ap, subst, List, [], ◌∷◌, ◌++◌, append_assoc, Some, slice_get}
 use Rattle.std.proofs.lemmas.List.Elements.{All-cons, All-nil}
+use Rattle.std.specs.List.{All}
+use Rattle.bl_base.proofs.Lists.{all_get}
 use Rattle.bl_wasm.specs.Instructions.{Nests}
 use Rattle.bl_wasm.specs.Instructions.{none as no_items, plain as plain_item, block as block_items, loop as loop_items, if_then as if_items, if_else as else_items}
 use Rattle.bl_wasm.specs.Nesting.{Kind, of_block, of_loop, then_part, else_part}
@@ -181,6 +183,36 @@ else_made c outer i first second more from to f n m s =
           (All-cons (λ part. Sequence c (b.type.results ∷ labels c outer) part b.type.params b.type.results) second [] e.body (All-nil (λ part. Sequence c (b.type.results ∷ labels c outer) part b.type.params b.type.results)));
       later = e.later;
     }
+
+-- the same from its parts
+
+part_is : (P : List Instr → Type 0) (first : List Instr) (parts : List (List Instr)) → All P (first ∷ parts) → P first
+part_is P first parts h = all_get P (first ∷ parts) 0 first h refl
+
+pub block_of : (c : Context) (ls : List (List WasmType)) (i : BlockType) (inside more : List Instr) (from to : List WasmType)
+    → IsConstruct c ls of_block i [] (inside ∷ []) more from to → Sequence c ls (Block i ∷ inside ++ End ∷ more) from to
+block_of c ls i inside more from to m =
+    subst (λ (s : List WasmType). Sequence c ls (Block i ∷ inside ++ End ∷ more) s to) (sym m.before) (block i m.type m.lower inside more m.named
+    (part_is (λ part. Sequence c (m.type.results ∷ ls) part m.type.params m.type.results) inside [] m.inside) m.later)
+
+pub loop_of : (c : Context) (ls : List (List WasmType)) (i : BlockType) (inside more : List Instr) (from to : List WasmType)
+    → IsConstruct c ls of_loop i [] (inside ∷ []) more from to → Sequence c ls (Loop i ∷ inside ++ End ∷ more) from to
+loop_of c ls i inside more from to m =
+    subst (λ (s : List WasmType). Sequence c ls (Loop i ∷ inside ++ End ∷ more) s to) (sym m.before) (loop i m.type m.lower inside more m.named
+    (part_is (λ part. Sequence c (m.type.params ∷ ls) part m.type.params m.type.results) inside [] m.inside) m.later)
+
+pub if_of : (c : Context) (ls : List (List WasmType)) (i : BlockType) (inside more : List Instr) (from to : List WasmType)
+    → IsConstruct c ls then_part i (I32 ∷ []) (inside ∷ []) more from to → Sequence c ls (If i ∷ inside ++ End ∷ more) from to
+if_of c ls i inside more from to m =
+    subst (λ (s : List WasmType). Sequence c ls (If i ∷ inside ++ End ∷ more) s to) (sym m.before) (if_then i m.type m.lower inside more m.named (m.missing refl)
+    (part_is (λ part. Sequence c (m.type.results ∷ ls) part m.type.params m.type.results) inside [] m.inside) m.later)
+
+pub else_of : (c : Context) (ls : List (List WasmType)) (i : BlockType) (first second more : List Instr) (from to : List WasmType)
+    → IsConstruct c ls else_part i (I32 ∷ []) (first ∷ second ∷ []) more from to → Sequence c ls (If i ∷ first ++ Else ∷ second ++ End ∷ more) from to
+else_of c ls i first second more from to m =
+    let P = λ (part : List Instr). Sequence c (m.type.results ∷ ls) part m.type.params m.type.results in
+    subst (λ (s : List WasmType). Sequence c ls (If i ∷ first ++ Else ∷ second ++ End ∷ more) s to) (sym m.before) (if_else i m.type m.lower first second more m.named
+    (part_is P first (second ∷ []) m.inside) (all_get P (first ∷ second ∷ []) 1 second m.inside refl) m.later)
 
 -- ---- the whole
 

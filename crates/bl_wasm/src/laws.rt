@@ -28,22 +28,22 @@ pub fn a_typing_is_a_sequence()
         → ((places : List (List WasmType)) × IsTyping c body places) ↔ Sequence c (labels c []) body [] c.results }
 {}
 
-/// Of a sequence that begins with a construct whose parts and what stands behind it nest, these are the construct's parts: of
-/// a block, a loop, an if without `else`, and an if with one (sections 3.3.8 and 3.3.9).
+/// A sequence begins with a construct exactly where the construct's parts are sequences of their own, here by the ends of its
+/// parts: of a block, a loop, an if without `else`, and an if with one (sections 3.3.8 and 3.3.9).
 pub fn a_construct_is_its_parts()
     ensures blocks { (c : Context) (outer : List Open) (immediate : BlockType) (inside more : List Instr) (from to : List WasmType)
         → Nests inside → Nests more → Sequence c (labels c outer) (instr.Block immediate ∷ inside ++ instr.End ∷ more) from to
-        → IsConstruct c (labels c outer) of_block immediate [] (inside ∷ []) more from to }
+        ↔ IsConstruct c (labels c outer) of_block immediate [] (inside ∷ []) more from to }
     ensures loops { (c : Context) (outer : List Open) (immediate : BlockType) (inside more : List Instr) (from to : List WasmType)
         → Nests inside → Nests more → Sequence c (labels c outer) (instr.Loop immediate ∷ inside ++ instr.End ∷ more) from to
-        → IsConstruct c (labels c outer) of_loop immediate [] (inside ∷ []) more from to }
+        ↔ IsConstruct c (labels c outer) of_loop immediate [] (inside ∷ []) more from to }
     ensures ifs { (c : Context) (outer : List Open) (immediate : BlockType) (inside more : List Instr) (from to : List WasmType)
         → Nests inside → Nests more → Sequence c (labels c outer) (instr.If immediate ∷ inside ++ instr.End ∷ more) from to
-        → IsConstruct c (labels c outer) then_part immediate (kind.I32 ∷ []) (inside ∷ []) more from to }
+        ↔ IsConstruct c (labels c outer) then_part immediate (kind.I32 ∷ []) (inside ∷ []) more from to }
     ensures elses { (c : Context) (outer : List Open) (immediate : BlockType) (first second more : List Instr) (from to : List WasmType)
         → Nests first → Nests second → Nests more
         → Sequence c (labels c outer) (instr.If immediate ∷ first ++ instr.Else ∷ second ++ instr.End ∷ more) from to
-        → IsConstruct c (labels c outer) else_part immediate (kind.I32 ∷ []) (first ∷ second ∷ []) more from to }
+        ↔ IsConstruct c (labels c outer) else_part immediate (kind.I32 ∷ []) (first ∷ second ∷ []) more from to }
 {}
 
 /// At a place that can be reached, all typings of a body agree.
