@@ -8,6 +8,7 @@ pub mod Reached
 pub mod Renaming
 pub mod Sections
 pub mod Sequences
+pub mod TypedPlaces
 pub mod Types
 pub mod Typing
 pub mod Validity

@@ -1,10 +1,11 @@
 //! Laws of the grammar and of typings. Each function is its contract alone.
-ghost use Rattle.std.specs.Prelude.{◌≡◌, ◌↔◌, ◌++◌, ℕ, true, List, [], ◌∷◌, map, slice_get};
+ghost use Rattle.std.specs.Prelude.{◌≡◌, ◌↔◌, ◌++◌, ℕ, ◌≤◌, true, List, [], ◌∷◌, length, map, slice_get};
 ghost use Rattle.bl_wasm.specs.Instructions.{Nests};
 ghost use Rattle.bl_wasm.specs.Nesting.{Closes, else_part, of_block, of_loop, then_part};
 ghost use Rattle.bl_wasm.specs.Reached.{is_reached};
 ghost use Rattle.bl_wasm.specs.Renaming.{NameAlike, Names, Spaces, placed, renamed};
 ghost use Rattle.bl_wasm.specs.Sequences.{IsConstruct, Sequence};
+ghost use Rattle.bl_wasm.specs.TypedPlaces.{IsOpenAt};
 ghost use Rattle.bl_wasm.specs.Typing.{Context, IsTyping, Open, Types, labels};
 ghost use Rattle.bl_wasm.specs.declared.instruction.Instr.TheVariants as instr;
 ghost use Rattle.bl_wasm.specs.declared.instruction.Instr.{Instr};
@@ -20,6 +21,12 @@ pub fn nesting_is_closing()
 /// A body with a typing nests.
 pub fn a_typed_body_nests()
     ensures { (c : Context) (body : List Instr) (places : List (List WasmType)) → IsTyping c body places → Nests body }
+{}
+
+/// At each place of a typed body the same constructs are open by nesting and by the typing, of the same kinds and types.
+pub fn a_typing_has_open_what_is_open()
+    ensures { (c : Context) (body : List Instr) (places : List (List WasmType)) → IsTyping c body places
+        → (place : ℕ) → place ≤ length body → IsOpenAt c body places place }
 {}
 
 /// A body has a typing exactly where it is a sequence from no operands to the function's results (section 3.3.9).
