@@ -44,7 +44,8 @@ enter_block type inside state = enter_with (length type.results) (length type.pa
 
 -- loop: its parameters are taken along; after a branch to it, the loop again
 abbrev pub enter_loop : BlockType → FuncType → State → Next Config
-enter_loop immediate type state = enter_with (length type.params) (length type.params) (Loop immediate ∷ state.frame.rest) state.frame.rest state
+enter_loop immediate type state =
+    enter_with (length type.params) (length type.params) (Loop immediate ∷ state.frame.rest) state.frame.rest state
 
 -- if: a block of its then part where the condition isn't 0, else of its else part
 abbrev pub enter_if : FuncType → State → Next Config

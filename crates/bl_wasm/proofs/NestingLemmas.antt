@@ -1,5 +1,5 @@
 -- Items nest exactly where they close what they open.
-use Rattle.std.proofs.Common.{append-nil, ◌≡◌, List, [], ◌∷◌, ◌++◌, Option, Some, ◌⊎◌, inl, inr, refl, subst}
+use Rattle.std.proofs.Common.{append-nil, ◌≡◌, List, [], ◌∷◌, ◌++◌, Some, ◌⊎◌, inl, inr, refl, subst}
 use Rattle.std.proofs.lemmas.List.{append_assoc}
 use Rattle.bl_wasm.specs.Instructions.{Nests, none, plain, block, loop, if_then, if_else, IsPlain}
 use Rattle.bl_wasm.specs.Nesting.{Kind, of_block, of_loop, then_part, else_part, Construct, construct, behind_else, open_behind, Closes}

@@ -1,6 +1,6 @@
 -- Instructions in the binary format (WebAssembly 1.0, section 5.4). A body is a flat list in the tree: a block, loop or
 -- if, its items and its `end` are items one after another, and the list is well nested.
-use Rattle.std.specs.Prelude.{◌≡◌, ℕ, ◌++◌, List, [], ◌∷◌, IsTrue, IsFalse, Option, Some}
+use Rattle.std.specs.Prelude.{◌≡◌, ℕ, ◌++◌, List, [], ◌∷◌, IsTrue, IsFalse, Some}
 use Rattle.bl_ops.specs.declared.op.Op.{Op}
 use Rattle.bl_ops.specs.Access.{is_load, code_of as access_code}
 use Rattle.bl_ops.specs.Table.{code_of}
@@ -104,7 +104,8 @@ pub data Nests : List Instr → Type 0 where
   -- if bt in* end
   if_then : (type : BlockType) (inside rest : List Instr) → Nests inside → Nests rest → Nests (If type ∷ inside ++ End ∷ rest)
   -- if bt in* else in* end
-  if_else : (type : BlockType) (first second rest : List Instr) → Nests first → Nests second → Nests rest → Nests (If type ∷ first ++ Else ∷ second ++ End ∷ rest)
+  if_else : (type : BlockType) (first second rest : List Instr) → Nests first → Nests second → Nests rest
+      → Nests (If type ∷ first ++ Else ∷ second ++ End ∷ rest)
 
 -- expr: items that nest, and then an `end` (section 5.4.6)
 abbrev pub expression : List Instr → Spellings
