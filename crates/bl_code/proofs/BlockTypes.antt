@@ -1,10 +1,11 @@
 -- No value type begins another, and no block type does: each is a spelling of one signed number of 33 bits.
-use Rattle.std.proofs.Common.{◌≡◌, ◌≢◌, ℕ, ℤ, pos, negsuc, ◌≤◌, ◌<◌, List, [], ◌∷◌, ap, sym, ◌∙◌, refl, subst, arith, inr}
+use Rattle.std.proofs.Common.{◌≡◌, ◌≢◌, ℕ, ℤ, pos, negsuc, ◌≤◌, ◌<◌, List, [], ◌∷◌, ap, sym, ◌∙◌, refl, subst, arith, inr, slice_range}
 use Rattle.std.specs.Prelude.{◌==◌, ◌-ℤ◌, if◌then◌else◌}
-use Rattle.std.proofs.lemmas.Int.{ints}
 use Rattle.bl_leb.proofs.Signed as signed
-use Rattle.bl_leb.specs.Numbers.{IsSigned}
+use Rattle.bl_leb.specs.Numbers.{IsSigned, IsSignedNumber}
+use Rattle.bl_leb.specs.Spellings.{IsSpelledAt}
 use Rattle.bl_wasm.specs.Types.{block_type, value_type}
+use Rattle.bl_wasm.specs.Values.{byte}
 use Rattle.bl_wasm.specs.declared.types.BlockType.{BlockType}
 use Rattle.bl_wasm.specs.declared.types.BlockType.TheVariants.{Empty, Value, Index}
 use Rattle.bl_wasm.specs.declared.types.WasmType.{WasmType}
@@ -12,8 +13,7 @@ use Rattle.bl_wasm.specs.declared.types.WasmType.TheVariants.{I32, I64, F32, F64
 use Rattle.bl_code.specs.Reading.{IsAt, NoneAt}
 use Rattle.bl_code.specs.Types.{type_index}
 use Rattle.bl_code.specs.Unique.{IsOne}
-use Rattle.bl_code.proofs.Places.{stands, same_at, by_first, none_behind}
-use Rattle.bl_code.proofs.Shapes.{only_byte}
+use Rattle.bl_code.proofs.Places.{stands, same_at, one_at, none_behind}
 use Rattle.bl_code.proofs.Unique.{byte_same}
 
 -- the number that a block type's spelling is one of
@@ -84,14 +84,28 @@ block_never_empty Empty h = cc
 block_never_empty (Value x) h = type_never_empty x h
 block_never_empty (Index index) h = absurd h
 
--- a number that isn't negative stands where one stands
-pub index_number : (bytes : List ℕ) (i j n : ℕ) (value : ℤ) → value ≡ pos n → IsAt (λ z these. IsSigned 33 these z) bytes i j value → IsAt type_index bytes i j n
-index_number bytes i j n value is h = rw is at h
+signed_one : IsOne (λ (value : ℤ) these. IsSigned 33 these value)
+signed_one = record {
+  same = λ v w. record {
+    both = λ a b x y p q e.
+        let same = signed.one_end 33 33 a b x y v w p q e in
+        (same, signed.one_value 33 b v w (subst (λ (t : List ℕ). IsSigned 33 t v) same p) q);
+  };
+}
+
+-- where a signed number of 33 bits stands, an index stands only if it is that number
+pub index_same : (bytes : List ℕ) (i j k n : ℕ) (value : ℤ) → IsSpelledAt (IsSigned 33) bytes i j value → IsAt type_index bytes i k n → (value ≡ pos n) × IsSignedNumber 33 (pos n)
+index_same bytes i j k n value p q =
+    let first : IsAt (λ (v : ℤ) these. IsSigned 33 these v) bytes i j value = record { forward = p.forward; inside = p.inside; spelled = p.spelled } in
+    let second : IsAt (λ (v : ℤ) these. IsSigned 33 these v) bytes i k (pos n) = record { forward = q.forward; inside = q.inside; spelled = q.spelled } in
+    ((one_at bytes i j k value (pos n) signed_one first second).1, signed.bounded 33 (slice_range bytes i k) (pos n) q.spelled)
 
 -- a byte that is neither 40 nor a value type begins a block type only as the index of one
-pub none_block : (bytes : List ℕ) (i j code : ℕ) → IsAt (λ n these. these ≡ n ∷ []) bytes i j code → code ≢ 0x40 → ((x : WasmType) (rest : List ℕ) → value_type x (code ∷ rest) → ⊥) → NoneAt type_index bytes i → NoneAt block_type bytes i
+pub none_block : (bytes : List ℕ) (i j code : ℕ) → IsAt byte bytes i j code → code ≢ 0x40 → ((x : WasmType) (rest : List ℕ) → value_type x (code ∷ rest) → ⊥) → NoneAt type_index bytes i → NoneAt block_type bytes i
 none_block bytes i j code first other none no_index Empty end h =
-    other (same_at bytes i j end (byte_same code 0x40) (stands (λ n these. these ≡ n ∷ []) bytes i j code first) (stands block_type bytes i end Empty h)).1
+    other (same_at bytes i j end (byte_same code 0x40) (stands byte bytes i j code first) (stands block_type bytes i end Empty h)).1
 none_block bytes i j code first other none no_index (Value x) end h =
-    none_behind value_type bytes i j code type_never_empty first (λ y last g. none y _ g.spelled) x end h
-none_block bytes i j code first other none no_index (Index index) end h = no_index index end h
+    let here : IsAt value_type bytes i end x = record { forward = h.forward; inside = h.inside; spelled = h.spelled } in
+    none_behind value_type bytes i j code type_never_empty first (λ y last g. none y (slice_range bytes j last) g.spelled) x end here
+none_block bytes i j code first other none no_index (Index index) end h =
+    no_index index end (record { forward = h.forward; inside = h.inside; spelled = h.spelled })
