@@ -1,5 +1,9 @@
-//! Tests of the layer between a module's bytes and its runs.
+//! Tests of the public calls of the front, from the bytes of a module to its linked tree and its runs.
 #![tactic(auto)]
 
+#[cfg(test)]
+mod code;
+#[cfg(test)]
+mod decode;
 #[cfg(test)]
 mod wasm;
