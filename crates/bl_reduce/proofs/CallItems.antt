@@ -28,7 +28,7 @@ use Rattle.bl_reduce.specs.Configurations.{Store, Frame, State, Config, entering
 use Rattle.bl_reduce.specs.TypedConfigurations.{IsValue, BeginsWith, IsEntering, IsRunning, IsTypedStep}
 use Rattle.bl_reduce.proofs.ControlItems.{topmost, above}
 use Rattle.bl_reduce.proofs.Ready.{Ready, taken, popping, trapping, knowing, integer_value, integer_argument, zero_value}
-use Rattle.bl_reduce.proofs.Zips.{some_same, zip_append, zip_back, zip_map, zip_unmap, zip_unreverse, zip_replicate, mapped_get, all_get, within_get}
+use Rattle.bl_base.proofs.Lists.{some_same, zip_append, zip_back, zip_map, zip_unmap, zip_unreverse, zip_replicate, mapped_get, all_get, within_get}
 
 -- ---- types of functions
 

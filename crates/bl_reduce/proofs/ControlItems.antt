@@ -1,5 +1,5 @@
 -- Steps of control instructions but for calls keep types.
-use Rattle.std.proofs.Common.{◌≡◌, ℕ, zero, suc, ◌+◌, ◌<◌, Bool, true, false, cond, eqb, List, [], ◌∷◌, ◌++◌, length, map, reverse, take, drop, Option, Some, None, slice_get, ◌⊎◌, inl, inr, refl, sym, ap, ◌∙◌, subst, arith, append-nil}
+use Rattle.std.proofs.Common.{◌≡◌, ℕ, zero, suc, ◌+◌, ◌<◌, Bool, true, false, cond, eqb, List, [], ◌∷◌, ◌++◌, length, map, reverse, take, drop, Some, None, slice_get, ◌⊎◌, inl, inr, refl, sym, ap, ◌∙◌, subst, arith}
 use Rattle.std.specs.Prelude.{unwrap_or}
 use Rattle.std.specs.List.{All, AllZip}
 use Rattle.std.proofs.lemmas.Bool.{eq-eqb}
@@ -10,7 +10,8 @@ use Rattle.bl_base.specs.Fits.{ArgumentFits}
 use Rattle.bl_base.specs.Runs.{Next, stuck}
 use Rattle.bl_base.specs.declared.names.ValueType.{ValueType}
 use Rattle.bl_wasm.specs.Linked.{context}
-use Rattle.bl_wasm.specs.Typing.{block, loop, first_part, Context, Open, opened, Arrow, Leaves, integer, labels, taken_by}
+use Rattle.bl_wasm.specs.Nesting.{of_block, of_loop, then_part}
+use Rattle.bl_wasm.specs.Typing.{Context, Open, opened, Arrow, Leaves, integer, labels, taken_by}
 use Rattle.bl_wasm.specs.declared.instruction.Instr.{Instr}
 use Rattle.bl_wasm.specs.declared.instruction.Instr.TheVariants.{Loop}
 use Rattle.bl_wasm.specs.declared.types.BlockType.{BlockType}
@@ -21,12 +22,12 @@ use Rattle.bl_wasm.specs.declared.linked.Signature.{Signature}
 use Rattle.bl_wasm.specs.declared.linked.Tree.{Tree}
 use Rattle.bl_reduce.specs.Calls.{most_depth}
 use Rattle.bl_reduce.specs.Configurations.{Store, Label, Frame, State, Config, go, with_values}
-use Rattle.bl_reduce.specs.Control.{behind_end, second_part, enter_with, enter_block, enter_loop, enter_if, leave_label, branch_to, branch, branch_if, branch_by}
+use Rattle.bl_reduce.specs.Control.{items_behind_end, items_of_else, enter_with, enter_block, enter_loop, enter_if, leave_label, branch_to, branch, branch_if, branch_by}
 use Rattle.bl_reduce.specs.Returns.{return_to, return}
 use Rattle.bl_reduce.specs.TypedConfigurations.{IsValue, IsStore, IsRest, IsLabel, AreLabels, BeginsWith, AreCallers, IsTypedStep}
 use Rattle.bl_reduce.proofs.Places.{parted, place_onward, place_behind_end}
 use Rattle.bl_reduce.proofs.Ready.{Ready, onto, taken, going, popping, integer_argument}
-use Rattle.bl_reduce.proofs.Zips.{some_same, zip_append, zip_front, zip_back, zip_unmap, zip_unreverse}
+use Rattle.bl_base.proofs.Lists.{some_same, zip_append, zip_front, zip_back, zip_unmap, zip_unreverse}
 
 -- ---- labels
 
@@ -39,7 +40,7 @@ module _ (c : Context) (body : List Instr) where
     pub got : slice_get frame_labels l ≡ Some label
     pub is : IsLabel c body one outer label
     pub others : AreLabels c body outer (drop (l + 1) frame_labels)
-    pub takes : taken_by one.label ≡ types
+    pub takes : taken_by one.kind one.type ≡ types
 
   -- a branch out of it
   pub record OutOfAll (frame_labels : List Label) (l : ℕ) (types : List WasmType) : Type 0 where
@@ -55,7 +56,7 @@ module _ (c : Context) (body : List Instr) where
   find_label [] (label ∷ frame_labels) l types h e = absurd h
   find_label (one ∷ outer) [] l types h e = absurd h
   find_label (one ∷ outer) (label ∷ frame_labels) zero types h e =
-      inl (record { label = label; one = one; outer = outer; got = refl; is = h.0; others = h.1; takes = some_same (taken_by one.label) types e })
+      inl (record { label = label; one = one; outer = outer; got = refl; is = h.0; others = h.1; takes = some_same (taken_by one.kind one.type) types e })
   find_label (one ∷ outer) (label ∷ frame_labels) (suc l) types h e = further (find_label outer frame_labels l types h.1 e)
     where
       further : ToLabel outer frame_labels l types ⊎ OutOfAll frame_labels l types → ToLabel (one ∷ outer) (label ∷ frame_labels) (suc l) types ⊎ OutOfAll (label ∷ frame_labels) (suc l) types
@@ -141,21 +142,21 @@ module _ (tree : Tree) (results : List ValueType) (type : Signature) (open_ones 
   branch_to_label l types low state ready t =
       let arity : t.label.arity ≡ length types = t.is.arity ∙ ap length t.takes in
       let takes = topmost types low t.label.arity state arity ready in
-      let takes_too : AllZip IsValue (reverse (taken_by t.one.label)) (take t.label.arity state.frame.values) =
+      let takes_too : AllZip IsValue (reverse (taken_by t.one.kind t.one.type)) (take t.label.arity state.frame.values) =
       subst (λ types. AllZip IsValue (reverse types) (take t.label.arity state.frame.values)) (sym t.takes) takes in
       subst (λ o. Steps (branch_to o l state)) (sym t.got) (record {
         store_is = ready.store_is;
         type = type;
         open_ones = t.outer;
-        stack = t.one.lower ++ taken_by t.one.label;
+        stack = t.one.lower ++ taken_by t.one.kind t.one.type;
         frame_is = record {
           exists = ready.exists;
           typed = ready.typed;
           arity = ready.arity;
           locals = ready.locals;
           labels = t.others;
-          values = subst (λ top. AllZip IsValue top (take t.label.arity state.frame.values ++ t.label.below)) (sym (reverse-append t.one.lower (taken_by t.one.label)))
-              (zip_append IsValue (reverse (taken_by t.one.label)) (reverse t.one.lower) (take t.label.arity state.frame.values) t.label.below takes_too t.is.below);
+          values = subst (λ top. AllZip IsValue top (take t.label.arity state.frame.values ++ t.label.below)) (sym (reverse-append t.one.lower (taken_by t.one.kind t.one.type)))
+              (zip_append IsValue (reverse (taken_by t.one.kind t.one.type)) (reverse t.one.lower) (take t.label.arity state.frame.values) t.label.below takes_too t.is.below);
         };
         begins = t.is.continuation;
         callers_are = ready.callers_are;
@@ -210,21 +211,29 @@ module _ (tree : Tree) (results : List ValueType) (type : Signature) (open_ones 
 
   -- ---- blocks
 
-  entering_steps : (one : Open) (params : List WasmType) (arity : ℕ) (continuation inside : List Instr) (state : State) → ReadyAt (reverse params ++ reverse one.lower) state → arity ≡ length (taken_by one.label)
-      → IsRest (of_state state) (body_of state) open_ones (one.lower ++ taken_by one.label) continuation
-      → IsRest (of_state state) (body_of state) (one ∷ open_ones) params inside → Steps (enter_with arity (length params) continuation inside state)
-  entering_steps one params arity continuation inside state ready e then begins = record {
+  entering_steps : (one : Open) (arity : ℕ) (continuation inside : List Instr) (state : State) → ReadyAt (reverse one.type.params ++ reverse one.lower) state
+      → arity ≡ length (taken_by one.kind one.type) → IsRest (of_state state) (body_of state) open_ones (one.lower ++ taken_by one.kind one.type) continuation
+      → IsRest (of_state state) (body_of state) (one ∷ open_ones) one.type.params inside → Steps (enter_with arity (length one.type.params) continuation inside state)
+  entering_steps one arity continuation inside state ready e then begins = record {
     store_is = ready.store_is;
     type = type;
     open_ones = one ∷ open_ones;
-    stack = params;
+    stack = one.type.params;
     frame_is = record {
       exists = ready.exists;
       typed = ready.typed;
       arity = ready.arity;
       locals = ready.locals;
-      labels = (record { arity = e; continuation = then; below = subst (λ n. AllZip IsValue (reverse one.lower) (drop n state.frame.values)) (length-reverse params) (zip_back IsValue (reverse params) (reverse one.lower) state.frame.values ready.values) }, ready.labels);
-      values = subst (λ n. AllZip IsValue (reverse params) (take n state.frame.values)) (length-reverse params) (zip_front IsValue (reverse params) (reverse one.lower) state.frame.values ready.values);
+      labels = (
+        record {
+          arity = e;
+          continuation = then;
+          below = subst (λ n. AllZip IsValue (reverse one.lower) (drop n state.frame.values)) (length-reverse one.type.params)
+              (zip_back IsValue (reverse one.type.params) (reverse one.lower) state.frame.values ready.values);
+        },
+        ready.labels,
+      );
+      values = topmost one.type.params (reverse one.lower) (length one.type.params) state refl ready;
     };
     begins = begins;
     callers_are = ready.callers_are;
@@ -232,41 +241,42 @@ module _ (tree : Tree) (results : List ValueType) (type : Signature) (open_ones 
   }
 
   pub block_steps : (kind : FuncType) (lower from : List WasmType) (state : State) → from ≡ lower ++ kind.params → ReadyAt (reverse from) state
-      → IsRest (of_state state) (body_of state) (opened (block kind) lower ∷ open_ones) kind.params state.frame.rest → Steps (enter_block kind state.frame.rest state)
+      → IsRest (of_state state) (body_of state) (opened of_block kind lower ∷ open_ones) kind.params state.frame.rest → Steps (enter_block kind state.frame.rest state)
   block_steps kind lower from state e ready begins =
-      entering_steps (opened (block kind) lower) kind.params (length kind.results) (behind_end 0 state.frame.rest) state.frame.rest state (taken tree results type open_ones from lower kind.params state e ready) refl
-      (place_behind_end (of_state state) (body_of state) (opened (block kind) lower) open_ones kind.params state.frame.rest begins) begins
+      entering_steps (opened of_block kind lower) (length kind.results) (items_behind_end [] state.frame.rest) state.frame.rest state
+      (taken tree results type open_ones from lower kind.params state e ready) refl
+      (place_behind_end (of_state state) (body_of state) (opened of_block kind lower) open_ones kind.params state.frame.rest begins) begins
 
-  pub loop_steps : (named : BlockType) (kind : FuncType) (lower from : List WasmType) (state : State) → from ≡ lower ++ kind.params → ReadyAt (reverse from) state
-      → IsRest (of_state state) (body_of state) open_ones from (Loop named ∷ state.frame.rest)
-      → IsRest (of_state state) (body_of state) (opened (loop kind) lower ∷ open_ones) kind.params state.frame.rest → Steps (enter_loop named kind state)
-  loop_steps named kind lower from state e ready again begins =
-      entering_steps (opened (loop kind) lower) kind.params (length kind.params) (Loop named ∷ state.frame.rest) state.frame.rest state (taken tree results type open_ones from lower kind.params state e ready) refl
-      (subst (λ stack. IsRest (of_state state) (body_of state) open_ones stack (Loop named ∷ state.frame.rest)) e again) begins
+  pub loop_steps : (immediate : BlockType) (kind : FuncType) (lower from : List WasmType) (state : State) → from ≡ lower ++ kind.params → ReadyAt (reverse from) state
+      → IsRest (of_state state) (body_of state) open_ones from (Loop immediate ∷ state.frame.rest)
+      → IsRest (of_state state) (body_of state) (opened of_loop kind lower ∷ open_ones) kind.params state.frame.rest → Steps (enter_loop immediate kind state)
+  loop_steps immediate kind lower from state e ready again begins =
+      entering_steps (opened of_loop kind lower) (length kind.params) (Loop immediate ∷ state.frame.rest) state.frame.rest state
+      (taken tree results type open_ones from lower kind.params state e ready) refl
+      (subst (λ stack. IsRest (of_state state) (body_of state) open_ones stack (Loop immediate ∷ state.frame.rest)) e again) begins
 
   -- an if whose condition was taken off
-  part_steps : (test : Bool) (kind : FuncType) (lower : List WasmType) (state : State) → ReadyAt (reverse kind.params ++ reverse lower) state
-      → IsRest (of_state state) (body_of state) (opened (first_part kind) lower ∷ open_ones) kind.params state.frame.rest
-      → Steps (cond test (enter_block kind (second_part 0 state.frame.rest) state) (enter_block kind state.frame.rest state))
-  part_steps false kind lower state ready begins =
-      entering_steps (opened (first_part kind) lower) kind.params (length kind.results) (behind_end 0 state.frame.rest) state.frame.rest state ready refl
-      (place_behind_end (of_state state) (body_of state) (opened (first_part kind) lower) open_ones kind.params state.frame.rest begins) begins
-  part_steps true kind lower state ready begins =
-      let s = parted (of_state state) kind lower state.frame.rest open_ones [] kind.params begins.later begins.typing in
-      let same : s.one.lower ++ taken_by s.one.label ≡ lower ++ kind.results = ap (λ l. l ++ taken_by s.one.label) s.lower_is ∙ ap (λ t. lower ++ t) s.taken in
-      entering_steps s.one kind.params (length kind.results) (behind_end 0 state.frame.rest) (second_part 0 state.frame.rest) state
-      (subst (λ l. ReadyAt (reverse kind.params ++ reverse l) state) (sym s.lower_is) ready) (ap length (sym s.taken))
-      (subst (λ stack. IsRest (of_state state) (body_of state) open_ones stack (behind_end 0 state.frame.rest)) (sym same)
-      (place_behind_end (of_state state) (body_of state) (opened (first_part kind) lower) open_ones kind.params state.frame.rest begins))
-      (place_onward (of_state state) (body_of state) (opened (first_part kind) lower ∷ open_ones) (s.one ∷ open_ones) kind.params kind.params state.frame.rest (second_part 0 state.frame.rest) begins s.onward)
+  chosen_steps : (test : Bool) (kind : FuncType) (lower : List WasmType) (state : State) → ReadyAt (reverse kind.params ++ reverse lower) state
+      → IsRest (of_state state) (body_of state) (opened then_part kind lower ∷ open_ones) kind.params state.frame.rest
+      → Steps (cond test (enter_block kind (items_of_else [] state.frame.rest) state) (enter_block kind state.frame.rest state))
+  chosen_steps false kind lower state ready begins =
+      entering_steps (opened then_part kind lower) (length kind.results) (items_behind_end [] state.frame.rest) state.frame.rest state ready refl
+      (place_behind_end (of_state state) (body_of state) (opened then_part kind lower) open_ones kind.params state.frame.rest begins) begins
+  chosen_steps true kind lower state ready begins =
+      let s = parted (of_state state) kind lower state.frame.rest open_ones [] [] kind.params begins.later tt begins.typing in
+      entering_steps (opened s.kind kind lower) (length kind.results) (items_behind_end [] state.frame.rest) (items_of_else [] state.frame.rest) state ready (ap length (sym s.taken))
+      (subst (λ types. IsRest (of_state state) (body_of state) open_ones (lower ++ types) (items_behind_end [] state.frame.rest)) (sym s.taken)
+      (place_behind_end (of_state state) (body_of state) (opened then_part kind lower) open_ones kind.params state.frame.rest begins))
+      (place_onward (of_state state) (body_of state) (opened then_part kind lower ∷ open_ones) (opened s.kind kind lower ∷ open_ones) kind.params kind.params
+      state.frame.rest (items_of_else [] state.frame.rest) begins s.onward)
 
   pub if_steps : (kind : FuncType) (from lower : List WasmType) (state : State) → from ≡ lower ++ (kind.params ++ I32 ∷ []) → ReadyAt (reverse from) state
-      → IsRest (of_state state) (body_of state) (opened (first_part kind) lower ∷ open_ones) kind.params state.frame.rest → Steps (enter_if kind state)
+      → IsRest (of_state state) (body_of state) (opened then_part kind lower ∷ open_ones) kind.params state.frame.rest → Steps (enter_if kind state)
   if_steps kind from lower state e ready begins =
       popping tree results type open_ones (reverse kind.params ++ reverse lower) I32 state
-      (λ condition state. cond (eqb condition 0) (enter_block kind (second_part 0 state.frame.rest) state) (enter_block kind state.frame.rest state))
+      (λ condition state. cond (eqb condition 0) (enter_block kind (items_of_else [] state.frame.rest) state) (enter_block kind state.frame.rest state))
       (above from lower kind.params state e ready)
-      (λ condition below h r. part_steps (eqb condition 0) kind lower (with_values below state) r begins)
+      (λ condition below h r. chosen_steps (eqb condition 0) kind lower (with_values below state) r begins)
 
 module _ (tree : Tree) (results : List ValueType) (type : Signature) (one : Open) (outer : List Open) where
   -- the end of a construct, at its results

@@ -7,4 +7,3 @@ pub mod Ready
 pub mod Soundness
 pub mod VariableItems
 mod WorkedRows
-pub mod Zips

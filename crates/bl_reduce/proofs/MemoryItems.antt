@@ -24,7 +24,7 @@ use Rattle.bl_reduce.specs.Configurations.{State, Config, go, trap, known, pop, 
 use Rattle.bl_reduce.specs.Memory.{number_of, bytes_of, read, write, grow, with_memory, set_memory, within, load_at, load, store_at, store, memory_size, memory_grow, grow_within}
 use Rattle.bl_reduce.specs.TypedConfigurations.{IsValue, IsMemoryState, BeginsWith, IsTypedStep}
 use Rattle.bl_reduce.proofs.Ready.{Ready, Onto, onto, taken, going, pushing, popping, trapping, knowing, integer_value}
-use Rattle.bl_reduce.proofs.Zips.{zip_get, zip_set, all_get, within_get}
+use Rattle.bl_base.proofs.Lists.{zip_get, zip_set, all_get, within_get}
 
 -- ---- bytes
 

@@ -1,15 +1,16 @@
--- Places of a typed body: the next one, the one behind the end of a construct, the second part of an if.
-use Rattle.std.proofs.Common.{◌≡◌, ℕ, suc, ◌+◌, ◌≤◌, List, [], ◌∷◌, ◌++◌, length, map, take, drop, Option, Some, None, refl, sym, ap, ◌∙◌, subst, arith, length-drop}
-use Rattle.std.specs.Prelude.{option_and_then}
+-- Places of a typed body: the next one, the one behind the end of a construct, the else part of an if.
+use Rattle.std.proofs.Common.{◌≡◌, ℕ, suc, ◌+◌, ◌≤◌, List, [], ◌∷◌, ◌++◌, length, drop, Some, refl, sym, ap, ◌∙◌, subst, arith, length-drop}
+use Rattle.std.specs.Prelude.{unwrap_or}
 use Rattle.std.proofs.lemmas.List.{drop-drop}
-use Rattle.std.proofs.lemmas.Option.{none-some}
-use Rattle.std.proofs.Math.Seq.{take-add}
-use Rattle.bl_wasm.specs.Typing.{Label, first_part, second_part as second_label, block, loop, Context, Open, opened, Rule, Types, type_in, results_of, taken_by}
+use Rattle.bl_wasm.specs.Nesting.{Kind, of_block, of_loop, then_part, else_part, Construct, construct, behind_else, open_behind}
+use Rattle.bl_wasm.specs.Typing.{Context, Open, opened, taken_by, Begins, Parts, Ends, Rule, Types}
 use Rattle.bl_wasm.specs.declared.instruction.Instr.{Instr}
 use Rattle.bl_wasm.specs.declared.instruction.Instr.TheVariants.{Block, Loop, If, Else, End}
-use Rattle.bl_wasm.specs.declared.types.WasmType.{WasmType}
+use Rattle.bl_wasm.specs.declared.types.BlockType.{BlockType}
 use Rattle.bl_wasm.specs.declared.types.FuncType.{FuncType}
-use Rattle.bl_reduce.specs.Control.{behind_end, second_part}
+use Rattle.bl_wasm.specs.declared.types.WasmType.{WasmType}
+use Rattle.bl_wasm.specs.declared.types.WasmType.TheVariants.{I32}
+use Rattle.bl_reduce.specs.Control.{items_behind_end, items_of_else}
 use Rattle.bl_reduce.specs.TypedConfigurations.{IsRest}
 
 -- a later place, where other constructs are open
@@ -19,6 +20,26 @@ pub record Onward (c : Context) (open_ones : List Open) (items : List Instr) (in
   pub left : rest ≡ drop steps items
   pub later : List (List WasmType)
   pub typing : Types c inner rest (stack ∷ later)
+
+-- constructs and open ones of the same kinds
+abbrev AreAlike : List Construct → List Open → Type 0
+AreAlike [] [] = Unit {0}
+AreAlike (one ∷ constructs) (other ∷ inner) = (one.kind ≡ other.kind) × AreAlike constructs inner
+AreAlike constructs inner = ⊥
+
+-- an item behind which the constructs within one that is open are these
+record Moves (item : Instr) (constructs : List Construct) (one : Open) (outer behind : List Open) : Type 0 where
+  next : List Construct
+  within : List Open
+  opens : open_behind item constructs ≡ Some next
+  alike : AreAlike next within
+  are : behind ≡ within ++ one ∷ outer
+
+-- an item inside a construct: it moves what is open within, or is the construct's own `else` or its own `end`
+data Met (one : Open) (outer : List Open) (from : List WasmType) (behind : List Open) (to : List WasmType) : Instr → List Construct → List Open → Type 0 where
+  moved : (item : Instr) (constructs : List Construct) (inner : List Open) → Moves item constructs one outer behind → Met one outer from behind to item constructs inner
+  own_else : Parts one outer from behind to → Met one outer from behind to Else [] []
+  own_end : Ends one outer from behind to → Met one outer from behind to End [] []
 
 module _ (c : Context) where
   pub here : (open_ones : List Open) (items : List Instr) (stack : List WasmType) (later : List (List WasmType)) → Types c open_ones items (stack ∷ later)
@@ -49,147 +70,166 @@ module _ (c : Context) where
   behind_item item items outer from [] h = absurd h
   behind_item item items outer from (to ∷ later) h = record { behind = h.0; to = to; rule = h.1; later = later; typing = h.2 }
 
+  -- ---- what is open within a construct
+
+  begun : (item : Instr) (kind : Kind) (immediate : BlockType) (above : List WasmType) (constructs : List Construct) (inner : List Open) (one : Open) (outer : List Open)
+      (from : List WasmType) (behind : List Open) (to : List WasmType) → open_behind item constructs ≡ Some (construct kind immediate ∷ constructs) → AreAlike constructs inner
+      → Begins c kind immediate above (inner ++ one ∷ outer) from behind to → Met one outer from behind to item constructs inner
+  begun item kind immediate above constructs inner one outer from behind to e alike rule =
+      moved item constructs inner (record {
+        next = construct kind immediate ∷ constructs;
+        within = opened kind rule.type rule.lower ∷ inner;
+        opens = e;
+        alike = (refl, alike);
+        are = rule.inside;
+      })
+
+  parts_within : (kind : Kind) (immediate : BlockType) (constructs : List Construct) (o : Open) (inner : List Open) (one : Open) (outer : List Open)
+      (from : List WasmType) (behind : List Open) (to : List WasmType) → kind ≡ o.kind → AreAlike constructs inner
+      → Parts o (inner ++ one ∷ outer) from behind to → Moves Else (construct kind immediate ∷ constructs) one outer behind
+  parts_within kind immediate constructs o inner one outer from behind to e alike rule = record {
+    next = construct else_part immediate ∷ constructs;
+    within = opened else_part o.type o.lower ∷ inner;
+    opens = ap (λ kind. behind_else (construct kind immediate ∷ constructs)) (e ∙ rule.first);
+    alike = (refl, alike);
+    are = rule.inside;
+  }
+
+  met : (item : Instr) (constructs : List Construct) (inner : List Open) (one : Open) (outer : List Open) (from : List WasmType) (behind : List Open) (to : List WasmType)
+      → AreAlike constructs inner → Rule c item (inner ++ one ∷ outer) from behind to → Met one outer from behind to item constructs inner
+  met (Block immediate) constructs inner one outer from behind to alike rule = begun (Block immediate) of_block immediate [] constructs inner one outer from behind to refl alike rule
+  met (Loop immediate) constructs inner one outer from behind to alike rule = begun (Loop immediate) of_loop immediate [] constructs inner one outer from behind to refl alike rule
+  met (If immediate) constructs inner one outer from behind to alike rule = begun (If immediate) then_part immediate (I32 ∷ []) constructs inner one outer from behind to refl alike rule
+  met Else [] [] one outer from behind to alike rule = own_else rule
+  met Else (x ∷ constructs) [] one outer from behind to alike rule = absurd alike
+  met Else [] (o ∷ inner) one outer from behind to alike rule = absurd alike
+  met Else (x ∷ constructs) (o ∷ inner) one outer from behind to alike rule =
+      moved Else (x ∷ constructs) (o ∷ inner) (parts_within x.kind x.type constructs o inner one outer from behind to alike.0 alike.1 rule)
+  met End [] [] one outer from behind to alike rule = own_end rule
+  met End (x ∷ constructs) [] one outer from behind to alike rule = absurd alike
+  met End [] (o ∷ inner) one outer from behind to alike rule = absurd alike
+  met End (x ∷ constructs) (o ∷ inner) one outer from behind to alike rule =
+      moved End (x ∷ constructs) (o ∷ inner) (record { next = constructs; within = inner; opens = refl; alike = alike.1; are = rule.inside })
+  met item constructs inner one outer from behind to alike rule =
+      moved item constructs inner (record { next = constructs; within = inner; opens = refl; alike = alike; are = rule.inside })
+
   -- ---- the end of a construct
 
   open_not_empty : (inner : List Open) (one : Open) (outer : List Open) → inner ++ one ∷ outer ≡ [] → ⊥
-  open_not_empty [] one outer e = subst IsCons e tt
-    where
-      IsCons : List Open → Type 0
-      IsCons [] = ⊥
-      IsCons (x ∷ xs) = Unit {0}
-  open_not_empty (x ∷ inner) one outer e = subst IsCons e tt
-    where
-      IsCons : List Open → Type 0
-      IsCons [] = ⊥
-      IsCons (x ∷ xs) = Unit {0}
+  open_not_empty [] one outer e = cc
+  open_not_empty (x ∷ inner) one outer e = cc
 
   unended : (inner : List Open) (one : Open) (outer : List Open) (from : List WasmType) (later : List (List WasmType)) → Types c (inner ++ one ∷ outer) [] (from ∷ later) → ⊥
   unended inner one outer from [] h = open_not_empty inner one outer h.0
   unended inner one outer from (to ∷ later) h = h
 
-  abbrev Ended : List Open → Open → List Open → ℕ → List Instr → Type 0
-  Ended inner one outer depth items = Onward c (inner ++ one ∷ outer) items outer (one.lower ++ results_of one.label) (behind_end depth items)
+  abbrev Ended : List Construct → List Open → Open → List Open → List Instr → Type 0
+  Ended constructs inner one outer items = Onward c (inner ++ one ∷ outer) items outer (one.lower ++ one.type.results) (items_behind_end constructs items)
 
   -- the same of the items behind an item, whatever is open within
-  abbrev EndedAfter : List Instr → List Open → Type 0
-  EndedAfter items outer = (inner : List Open) (one : Open) (from : List WasmType) (later : List (List WasmType))
-      → Types c (inner ++ one ∷ outer) items (from ∷ later) → Ended inner one outer (length inner) items
+  abbrev EndedBehind : List Instr → List Open → Type 0
+  EndedBehind items outer = (constructs : List Construct) (inner : List Open) (one : Open) (from : List WasmType) (later : List (List WasmType)) → AreAlike constructs inner
+      → Types c (inner ++ one ∷ outer) items (from ∷ later) → Ended constructs inner one outer items
 
-  -- an item behind which other constructs are open within the one that ends
-  onto : (item : Instr) (items : List Instr) (outer inner within : List Open) (one other : Open) (from : List WasmType) → EndedAfter items outer
-      → (b : Behind item items (inner ++ one ∷ outer) from) → b.behind ≡ within ++ other ∷ outer → other.lower ++ results_of other.label ≡ one.lower ++ results_of one.label
-      → Onward c (inner ++ one ∷ outer) (item ∷ items) outer (one.lower ++ results_of one.label) (behind_end (length within) items)
-  onto item items outer inner within one other from again b e same =
-      past item items (inner ++ one ∷ outer) from b.behind b.to outer (one.lower ++ results_of one.label) (behind_end (length within) items) b.rule
-      (subst (λ o. Onward c o items outer (one.lower ++ results_of one.label) (behind_end (length within) items)) (sym e)
-      (subst (λ stack. Onward c (within ++ other ∷ outer) items outer stack (behind_end (length within) items)) same
-      (again within other b.to b.later (subst (λ o. Types c o items (b.to ∷ b.later)) e b.typing))))
+  -- an item behind which other constructs are open within the one that ends, or within another one with the same end
+  onto : (item : Instr) (items : List Instr) (outer inner within : List Open) (next : List Construct) (one other : Open) (from : List WasmType) → EndedBehind items outer
+      → (b : Behind item items (inner ++ one ∷ outer) from) → AreAlike next within → b.behind ≡ within ++ other ∷ outer → other.lower ++ other.type.results ≡ one.lower ++ one.type.results
+      → Onward c (inner ++ one ∷ outer) (item ∷ items) outer (one.lower ++ one.type.results) (items_behind_end next items)
+  onto item items outer inner within next one other from again b alike e same =
+      past item items (inner ++ one ∷ outer) from b.behind b.to outer (one.lower ++ one.type.results) (items_behind_end next items) b.rule
+      (subst (λ o. Onward c o items outer (one.lower ++ one.type.results) (items_behind_end next items)) (sym e)
+      (subst (λ stack. Onward c (within ++ other ∷ outer) items outer stack (items_behind_end next items)) same
+      (again next within other b.to b.later alike (subst (λ o. Types c o items (b.to ∷ b.later)) e b.typing))))
 
-  ended_at : (item : Instr) (items : List Instr) (outer inner : List Open) (one : Open) (from : List WasmType) → EndedAfter items outer
-      → Behind item items (inner ++ one ∷ outer) from → Ended inner one outer (length inner) (item ∷ items)
-  ended_at (Block result) items outer inner one from again b = onto (Block result) items outer inner (opened (block b.rule.0) b.rule.2 ∷ inner) one one from again b b.rule.4 refl
-  ended_at (Loop result) items outer inner one from again b = onto (Loop result) items outer inner (opened (loop b.rule.0) b.rule.2 ∷ inner) one one from again b b.rule.4 refl
-  ended_at (If result) items outer inner one from again b = onto (If result) items outer inner (opened (first_part b.rule.0) b.rule.2 ∷ inner) one one from again b b.rule.4 refl
-  ended_at Else items outer [] one from again b =
-      onto Else items outer [] [] one (opened (second_label b.rule.0) one.lower) from again b b.rule.3 (ap (λ label. one.lower ++ results_of label) (sym b.rule.1))
-  ended_at Else items outer (o ∷ inner) one from again b =
-      onto Else items outer (o ∷ inner) (opened (second_label b.rule.0) o.lower ∷ inner) one one from again b b.rule.3 refl
-  ended_at End items outer [] one from again b =
-      past End items (one ∷ outer) from b.behind b.to outer (one.lower ++ results_of one.label) items b.rule
-      (subst (λ o. Onward c o items outer (one.lower ++ results_of one.label) items) (sym b.rule.2)
-      (here outer items (one.lower ++ results_of one.label) b.later
-      (subst (λ o. Types c o items ((one.lower ++ results_of one.label) ∷ b.later)) b.rule.2 (subst (λ to. Types c b.behind items (to ∷ b.later)) b.rule.3 b.typing))))
-  ended_at End items outer (o ∷ inner) one from again b = onto End items outer (o ∷ inner) inner one one from again b b.rule.2 refl
-  ended_at item items outer inner one from again b = onto item items outer inner inner one one from again b b.rule.0 refl
+  end_moves : (item : Instr) (items : List Instr) (constructs next : List Construct) → open_behind item constructs ≡ Some next
+      → items_behind_end constructs (item ∷ items) ≡ items_behind_end next items
+  end_moves End items [] next e = absurd (cc e)
+  end_moves item items [] next e = ap (λ o. items_behind_end (unwrap_or o []) items) e
+  end_moves item items (x ∷ constructs) next e = ap (λ o. items_behind_end (unwrap_or o (x ∷ constructs)) items) e
+
+  ended_at : (item : Instr) (items : List Instr) (outer : List Open) (constructs : List Construct) (inner : List Open) (one : Open) (from : List WasmType) → EndedBehind items outer
+      → (b : Behind item items (inner ++ one ∷ outer) from) → Met one outer from b.behind b.to item constructs inner → Ended constructs inner one outer (item ∷ items)
+  ended_at item items outer constructs inner one from again b (moved _ _ _ m) =
+      subst (λ rest. Onward c (inner ++ one ∷ outer) (item ∷ items) outer (one.lower ++ one.type.results) rest) (sym (end_moves item items constructs m.next m.opens))
+      (onto item items outer inner m.within m.next one one from again b m.alike m.are refl)
+  ended_at _ items outer _ _ one from again b (own_else rule) =
+      onto Else items outer [] [] [] one (opened else_part one.type one.lower) from again b tt rule.inside refl
+  ended_at _ items outer _ _ one from again b (own_end rule) =
+      past End items (one ∷ outer) from b.behind b.to outer (one.lower ++ one.type.results) items b.rule
+      (subst (λ o. Onward c o items outer (one.lower ++ one.type.results) items) (sym rule.inside)
+      (here outer items (one.lower ++ one.type.results) b.later
+      (subst (λ o. Types c o items ((one.lower ++ one.type.results) ∷ b.later)) rule.inside (subst (λ to. Types c b.behind items (to ∷ b.later)) rule.behind b.typing))))
 
   -- from inside a construct to what stands behind its end
-  pub ended : (items : List Instr) (outer inner : List Open) (one : Open) (from : List WasmType) (later : List (List WasmType))
-      → Types c (inner ++ one ∷ outer) items (from ∷ later) → Ended inner one outer (length inner) items
-  ended [] outer inner one from later h = absurd (unended inner one outer from later h)
-  ended (item ∷ items) outer inner one from later h =
-      ended_at item items outer inner one from (λ inner one from later t. ended items outer inner one from later t) (behind_item item items (inner ++ one ∷ outer) from later h)
+  pub ended : (items : List Instr) (outer : List Open) (constructs : List Construct) (inner : List Open) (one : Open) (from : List WasmType) (later : List (List WasmType))
+      → AreAlike constructs inner → Types c (inner ++ one ∷ outer) items (from ∷ later) → Ended constructs inner one outer items
+  ended [] outer constructs inner one from later alike h = absurd (unended inner one outer from later h)
+  ended (item ∷ items) outer constructs inner one from later alike h =
+      let b = behind_item item items (inner ++ one ∷ outer) from later h in
+      ended_at item items outer constructs inner one from (λ constructs inner one from later alike t. ended items outer constructs inner one from later alike t) b
+      (met item constructs inner one outer from b.behind b.to alike b.rule)
 
-  -- ---- the second part of an if
+  -- ---- the else part of an if
 
-  -- what is open in the second part, and the place where it begins
-  pub record Second (type : FuncType) (lower : List WasmType) (outer inner : List Open) (items : List Instr) : Type 0 where
-    pub one : Open
-    pub lower_is : one.lower ≡ lower
-    pub results : results_of one.label ≡ type.results
-    pub taken : taken_by one.label ≡ type.results
-    pub onward : Onward c (inner ++ opened (first_part type) lower ∷ outer) items (one ∷ outer) type.params (second_part (length inner) items)
+  -- what is open in the else part, and the place where it begins: the kind is that of the then part where there is no else
+  pub record InElse (type : FuncType) (lower : List WasmType) (outer : List Open) (constructs : List Construct) (inner : List Open) (items : List Instr) : Type 0 where
+    pub kind : Kind
+    pub taken : taken_by kind type ≡ type.results
+    pub onward : Onward c (inner ++ opened then_part type lower ∷ outer) items (opened kind type lower ∷ outer) type.params (items_of_else constructs items)
 
-  abbrev PartedAfter : FuncType → List WasmType → List Instr → List Open → Type 0
-  PartedAfter type lower items outer = (inner : List Open) (from : List WasmType) (later : List (List WasmType))
-      → Types c (inner ++ opened (first_part type) lower ∷ outer) items (from ∷ later) → Second type lower outer inner items
+  abbrev InElseBehind : FuncType → List WasmType → List Instr → List Open → Type 0
+  InElseBehind type lower items outer = (constructs : List Construct) (inner : List Open) (from : List WasmType) (later : List (List WasmType)) → AreAlike constructs inner
+      → Types c (inner ++ opened then_part type lower ∷ outer) items (from ∷ later) → InElse type lower outer constructs inner items
+
+  else_moves : (item : Instr) (items : List Instr) (constructs next : List Construct) → open_behind item constructs ≡ Some next
+      → items_of_else constructs (item ∷ items) ≡ items_of_else next items
+  else_moves Else items [] next e = absurd (cc e)
+  else_moves End items [] next e = absurd (cc e)
+  else_moves item items [] next e = ap (λ o. items_of_else (unwrap_or o []) items) e
+  else_moves item items (x ∷ constructs) next e = ap (λ o. items_of_else (unwrap_or o (x ∷ constructs)) items) e
 
   module _ (type : FuncType) (lower : List WasmType) (outer : List Open) where
     abbrev Within : List Open → List Open
-    Within inner = inner ++ opened (first_part type) lower ∷ outer
+    Within inner = inner ++ opened then_part type lower ∷ outer
 
-    further : (item : Instr) (items : List Instr) (inner within : List Open) (from : List WasmType) → PartedAfter type lower items outer
-        → (b : Behind item items (Within inner) from) → b.behind ≡ Within within
-        → (one : Open) × (one.lower ≡ lower) × (results_of one.label ≡ type.results) × (taken_by one.label ≡ type.results)
-        × Onward c (Within inner) (item ∷ items) (one ∷ outer) type.params (second_part (length within) items)
-    further item items inner within from again b e =
-        let s = again within b.to b.later (subst (λ o. Types c o items (b.to ∷ b.later)) e b.typing) in (
-          s.one,
-          s.lower_is,
-          s.results,
-          s.taken,
-          past item items (Within inner) from b.behind b.to (s.one ∷ outer) type.params (second_part (length within) items) b.rule
-              (subst (λ o. Onward c o items (s.one ∷ outer) type.params (second_part (length within) items)) (sym e) s.onward),
-        )
-
-    parted_at : (item : Instr) (items : List Instr) (inner : List Open) (from : List WasmType) → PartedAfter type lower items outer
-        → Behind item items (Within inner) from → (later : List (List WasmType)) → Types c (Within inner) (item ∷ items) (from ∷ later) → Second type lower outer inner (item ∷ items)
-    parted_at (Block r) items inner from again b later h =
-        let f = further (Block r) items inner (opened (block b.rule.0) b.rule.2 ∷ inner) from again b b.rule.4 in
-        record { one = f.0; lower_is = f.1; results = f.2; taken = f.3; onward = f.4 }
-    parted_at (Loop r) items inner from again b later h =
-        let f = further (Loop r) items inner (opened (loop b.rule.0) b.rule.2 ∷ inner) from again b b.rule.4 in
-        record { one = f.0; lower_is = f.1; results = f.2; taken = f.3; onward = f.4 }
-    parted_at (If r) items inner from again b later h =
-        let f = further (If r) items inner (opened (first_part b.rule.0) b.rule.2 ∷ inner) from again b b.rule.4 in
-        record { one = f.0; lower_is = f.1; results = f.2; taken = f.3; onward = f.4 }
-    parted_at Else items [] from again b later h =
-        let same : b.rule.0.params ≡ type.params = ap (λ l. (type_in l).params) (sym b.rule.1) in
+    parted_at : (item : Instr) (items : List Instr) (constructs : List Construct) (inner : List Open) (from : List WasmType) (later : List (List WasmType)) → InElseBehind type lower items outer
+        → (b : Behind item items (Within inner) from) → Types c (Within inner) (item ∷ items) (from ∷ later)
+        → Met (opened then_part type lower) outer from b.behind b.to item constructs inner → InElse type lower outer constructs inner (item ∷ items)
+    parted_at item items constructs inner from later again b h (moved _ _ _ m) =
+        let s = again m.next m.within b.to b.later m.alike (subst (λ o. Types c o items (b.to ∷ b.later)) m.are b.typing) in
         record {
-          one = opened (second_label b.rule.0) lower;
-          lower_is = refl;
-          results = ap results_of (sym b.rule.1);
-          taken = ap results_of (sym b.rule.1);
-          onward = past Else items (Within []) from b.behind b.to (opened (second_label b.rule.0) lower ∷ outer) type.params items b.rule
-              (subst (λ o. Onward c o items (opened (second_label b.rule.0) lower ∷ outer) type.params items) (sym b.rule.3)
-              (here (opened (second_label b.rule.0) lower ∷ outer) items type.params b.later
-              (subst (λ o. Types c o items (type.params ∷ b.later)) b.rule.3 (subst (λ to. Types c b.behind items (to ∷ b.later)) (b.rule.4 ∙ same) b.typing))));
+          kind = s.kind;
+          taken = s.taken;
+          onward = past item items (Within inner) from b.behind b.to (opened s.kind type lower ∷ outer) type.params (items_of_else constructs (item ∷ items)) b.rule
+              (subst (λ o. Onward c o items (opened s.kind type lower ∷ outer) type.params (items_of_else constructs (item ∷ items))) (sym m.are)
+              (subst (λ rest. Onward c (Within m.within) items (opened s.kind type lower ∷ outer) type.params rest) (sym (else_moves item items constructs m.next m.opens)) s.onward));
         }
-    parted_at Else items (o ∷ inner) from again b later h =
-        let f = further Else items (o ∷ inner) (opened (second_label b.rule.0) o.lower ∷ inner) from again b b.rule.3 in
-        record { one = f.0; lower_is = f.1; results = f.2; taken = f.3; onward = f.4 }
-    parted_at End items [] from again b later h =
-        let empty : from ≡ type.params = b.rule.1 ∙ sym (b.rule.0 type refl) in
+    parted_at _ items _ _ from later again b h (own_else rule) =
+        let behind : List Open = opened else_part type lower ∷ outer in
         record {
-          one = opened (first_part type) lower;
-          lower_is = refl;
-          results = refl;
+          kind = else_part;
+          taken = refl;
+          onward = past Else items (Within []) from b.behind b.to behind type.params items b.rule
+              (subst (λ o. Onward c o items behind type.params items) (sym rule.inside)
+              (here behind items type.params b.later
+              (subst (λ o. Types c o items (type.params ∷ b.later)) rule.inside (subst (λ to. Types c b.behind items (to ∷ b.later)) rule.behind b.typing))));
+        }
+    parted_at _ items _ _ from later again b h (own_end rule) =
+        let empty : from ≡ type.params = rule.before ∙ sym (rule.missing refl) in
+        record {
+          kind = then_part;
           taken = refl;
           onward = here (Within []) (End ∷ items) type.params later (subst (λ stack. Types c (Within []) (End ∷ items) (stack ∷ later)) empty h);
         }
-    parted_at End items (o ∷ inner) from again b later h =
-        let f = further End items (o ∷ inner) inner from again b b.rule.2 in
-        record { one = f.0; lower_is = f.1; results = f.2; taken = f.3; onward = f.4 }
-    parted_at item items inner from again b later h =
-        let f = further item items inner inner from again b b.rule.0 in
-        record { one = f.0; lower_is = f.1; results = f.2; taken = f.3; onward = f.4 }
 
-  -- from inside the first part of an if to its second part
-  pub parted : (type : FuncType) (lower : List WasmType) (items : List Instr) (outer inner : List Open) (from : List WasmType) (later : List (List WasmType))
-      → Types c (inner ++ opened (first_part type) lower ∷ outer) items (from ∷ later) → Second type lower outer inner items
-  parted type lower [] outer inner from later h = absurd (unended inner (opened (first_part type) lower) outer from later h)
-  parted type lower (item ∷ items) outer inner from later h =
-      parted_at type lower outer item items inner from (λ inner from later t. parted type lower items outer inner from later t)
-      (behind_item item items (inner ++ opened (first_part type) lower ∷ outer) from later h) later h
+  -- from inside the then part of an if to its else part
+  pub parted : (type : FuncType) (lower : List WasmType) (items : List Instr) (outer : List Open) (constructs : List Construct) (inner : List Open) (from : List WasmType) (later : List (List WasmType))
+      → AreAlike constructs inner → Types c (inner ++ opened then_part type lower ∷ outer) items (from ∷ later) → InElse type lower outer constructs inner items
+  parted type lower [] outer constructs inner from later alike h = absurd (unended inner (opened then_part type lower) outer from later h)
+  parted type lower (item ∷ items) outer constructs inner from later alike h =
+      let b = behind_item item items (inner ++ opened then_part type lower ∷ outer) from later h in
+      parted_at type lower outer item items constructs inner from later (λ constructs inner from later alike t. parted type lower items outer constructs inner from later alike t) b h
+      (met item constructs inner (opened then_part type lower) outer from b.behind b.to alike b.rule)
 
   -- ---- places of a body
 
@@ -221,9 +261,9 @@ module _ (c : Context) where
 
     -- behind the end of the innermost construct
     pub place_behind_end : (one : Open) (outer : List Open) (from : List WasmType) (items : List Instr)
-        → IsRest c body (one ∷ outer) from items → IsRest c body outer (one.lower ++ results_of one.label) (behind_end 0 items)
+        → IsRest c body (one ∷ outer) from items → IsRest c body outer (one.lower ++ one.type.results) (items_behind_end [] items)
     place_behind_end one outer from items r =
-        place_onward (one ∷ outer) outer from (one.lower ++ results_of one.label) items (behind_end 0 items) r (ended items outer [] one from r.later r.typing)
+        place_onward (one ∷ outer) outer from (one.lower ++ one.type.results) items (items_behind_end [] items) r (ended items outer [] [] one from r.later tt r.typing)
 
     -- the last place
     pub at_last : (outer : List Open) (from : List WasmType) → IsRest c body outer from [] → (outer ≡ []) × (from ≡ c.results)

@@ -11,7 +11,9 @@ use Rattle.bl_base.specs.declared.start.Patch.{Patch}
 use Rattle.bl_base.specs.declared.start.Start.{Start}
 use Rattle.bl_base.specs.declared.trap.Trap.TheVariants as kind
 use Rattle.bl_wasm.specs.Linked.{IsLinked, IsFunction, IsMemory, HasImmediates, context, function_type}
-use Rattle.bl_wasm.specs.Typing.{second_part as second_label, Open, opened, Rule, Plain, integer, results_of, expanded}
+use Rattle.bl_wasm.specs.Nesting.{Kind, of_block, of_loop, then_part, else_part}
+use Rattle.bl_wasm.specs.Typing.{Open, opened, labels, Begins, Rule, Plain, integer, expanded}
+use Rattle.bl_wasm.specs.declared.types.BlockType.{BlockType}
 use Rattle.bl_wasm.specs.declared.instruction.Instr.{Instr}
 use Rattle.bl_wasm.specs.declared.instruction.Instr.TheVariants.{Unreachable, Nop, Block, Loop, If, Else, End, Br, BrIf, BrTable, Return, Call, CallIndirect, Drop, Select, LocalGet, LocalSet, LocalTee, GlobalGet, GlobalSet, Load, Store, MemorySize, MemoryGrow, I32Const, I64Const, Integer}
 use Rattle.bl_wasm.specs.declared.types.WasmType.{WasmType}
@@ -20,7 +22,7 @@ use Rattle.bl_wasm.specs.declared.linked.Memory.{Memory}
 use Rattle.bl_wasm.specs.declared.linked.Signature.{Signature}
 use Rattle.bl_wasm.specs.declared.linked.Tree.{Tree}
 use Rattle.bl_reduce.specs.Configurations.{State, Config, entering, running, with_rest}
-use Rattle.bl_reduce.specs.Control.{behind_end, enter_block, enter_loop, enter_if}
+use Rattle.bl_reduce.specs.Control.{items_behind_end, enter_block, enter_loop, enter_if}
 use Rattle.bl_reduce.specs.Memory.{write}
 use Rattle.bl_reduce.specs.Outcomes.{first_memory, patched, patch_over, opening, IsStart}
 use Rattle.bl_reduce.specs.Steps.{execute, frame_step, source_step}
@@ -32,7 +34,7 @@ use Rattle.bl_reduce.proofs.NumericItems.{operate_steps}
 use Rattle.bl_reduce.proofs.Places.{next_place, place_behind_end, at_last}
 use Rattle.bl_reduce.proofs.Ready.{Ready, taken, trapping, knowing}
 use Rattle.bl_reduce.proofs.VariableItems.{constant_steps, nop_steps, drop_steps, select_steps, local_get_steps, local_set_steps, local_tee_steps, global_get_steps, global_set_steps}
-use Rattle.bl_reduce.proofs.Zips.{zip_got, zip_set, zip_each, zip_images, all_get}
+use Rattle.bl_base.proofs.Lists.{zip_got, zip_set, zip_each, zip_images, all_get}
 
 -- the item at a place
 pub drop_head : (xs : List Instr) (place : ℕ) (item : Instr) (rest : List Instr) → item ∷ rest ≡ drop place xs → slice_get xs place ≡ Some item
@@ -53,6 +55,9 @@ drop_head (x ∷ xs) zero item rest e = ap Some (sym (subst (IsHead item) e refl
     IsHead item (y ∷ ys) = item ≡ y
 drop_head (x ∷ xs) (suc place) item rest e = drop_head xs place item rest e
 
+without_more : (lower params from : List WasmType) → from ≡ lower ++ (params ++ []) → from ≡ lower ++ params
+without_more lower params from e = e ∙ ap (λ types. lower ++ types) (append-nil params)
+
 module _ (tree : Tree) (linked : IsLinked tree) (results : List ValueType) where
   abbrev Steps : Next Config → Type 0
   Steps next = IsTypedStep tree results next
@@ -62,7 +67,7 @@ module _ (tree : Tree) (linked : IsLinked tree) (results : List ValueType) where
     abbrev RestOf : State → List Open → List WasmType → List Instr → Type 0
     RestOf state open_ones stack rest = IsRest (context tree type state.frame.function) state.frame.function.code.items open_ones stack rest
 
-    plain_steps : (item : Instr) (open_ones : List Open) (from to : List WasmType) (state : State) → Plain (context tree type state.frame.function) open_ones item from to
+    plain_steps : (item : Instr) (open_ones : List Open) (from to : List WasmType) (state : State) → Plain (context tree type state.frame.function) (labels (context tree type state.frame.function) open_ones) item from to
         → HasImmediates item → Ready tree results type open_ones (reverse from) state → RestOf state open_ones to state.frame.rest → Steps (execute tree item state)
     plain_steps Unreachable open_ones from to state h fits ready begins = trapping tree results type open_ones (reverse from) kind.Unreachable state ready
     plain_steps Nop open_ones from to state h fits ready begins = nop_steps tree results type open_ones from to state h ready begins
@@ -90,35 +95,42 @@ module _ (tree : Tree) (linked : IsLinked tree) (results : List ValueType) where
     plain_steps (Integer op) open_ones from to state h fits ready begins = operate_steps tree results type open_ones op h.0 h.1 from to state h.2 ready begins
     plain_steps item open_ones from to state h fits ready begins = absurd h
 
+    -- what is left inside a construct that begins
+    inside_of : (kind : Kind) (immediate : BlockType) (over : List WasmType) (open_ones : List Open) (from : List WasmType) (behind : List Open) (to : List WasmType) (state : State)
+        → (b : Begins (context tree type state.frame.function) kind immediate over open_ones from behind to) → RestOf state behind to state.frame.rest
+        → RestOf state (opened kind b.type b.lower ∷ open_ones) b.type.params state.frame.rest
+    inside_of kind immediate over open_ones from behind to state b begins =
+        subst (λ o. RestOf state o b.type.params state.frame.rest) b.inside (subst (λ stack. RestOf state behind stack state.frame.rest) b.behind begins)
+
     execute_steps : (item : Instr) (open_ones : List Open) (from : List WasmType) (behind : List Open) (to : List WasmType) (state : State)
         → Rule (context tree type state.frame.function) item open_ones from behind to → HasImmediates item → Ready tree results type open_ones (reverse from) state
         → RestOf state open_ones from (item ∷ state.frame.rest) → RestOf state behind to state.frame.rest → Steps (execute tree item state)
-    execute_steps (Block kind) open_ones from behind to state rule fits ready now begins =
-        knowing tree results (expanded (map function_type tree.types) kind) rule.0 (λ type. enter_block type state.frame.rest state) rule.1
-        (block_steps tree results type open_ones rule.0 rule.2 from state rule.3 ready
-        (subst (λ o. RestOf state o rule.0.params state.frame.rest) rule.4 (subst (λ stack. RestOf state behind stack state.frame.rest) rule.5 begins)))
-    execute_steps (Loop kind) open_ones from behind to state rule fits ready now begins =
-        knowing tree results (expanded (map function_type tree.types) kind) rule.0 (λ type. enter_loop kind type state) rule.1
-        (loop_steps tree results type open_ones kind rule.0 rule.2 from state rule.3 ready now
-        (subst (λ o. RestOf state o rule.0.params state.frame.rest) rule.4 (subst (λ stack. RestOf state behind stack state.frame.rest) rule.5 begins)))
-    execute_steps (If kind) open_ones from behind to state rule fits ready now begins =
-        knowing tree results (expanded (map function_type tree.types) kind) rule.0 (λ type. enter_if type state) rule.1
-        (if_steps tree results type open_ones rule.0 from rule.2 state rule.3 ready
-        (subst (λ o. RestOf state o rule.0.params state.frame.rest) rule.4 (subst (λ stack. RestOf state behind stack state.frame.rest) rule.5 begins)))
+    execute_steps (Block immediate) open_ones from behind to state rule fits ready now begins =
+        knowing tree results (expanded (map function_type tree.types) immediate) rule.type (λ type. enter_block type state.frame.rest state) rule.named
+        (block_steps tree results type open_ones rule.type rule.lower from state (without_more rule.lower rule.type.params from rule.before) ready
+        (inside_of of_block immediate [] open_ones from behind to state rule begins))
+    execute_steps (Loop immediate) open_ones from behind to state rule fits ready now begins =
+        knowing tree results (expanded (map function_type tree.types) immediate) rule.type (λ type. enter_loop immediate type state) rule.named
+        (loop_steps tree results type open_ones immediate rule.type rule.lower from state (without_more rule.lower rule.type.params from rule.before) ready now
+        (inside_of of_loop immediate [] open_ones from behind to state rule begins))
+    execute_steps (If immediate) open_ones from behind to state rule fits ready now begins =
+        knowing tree results (expanded (map function_type tree.types) immediate) rule.type (λ type. enter_if type state) rule.named
+        (if_steps tree results type open_ones rule.type from rule.lower state rule.before ready
+        (inside_of then_part immediate (I32 ∷ []) open_ones from behind to state rule begins))
     execute_steps Else [] from behind to state rule fits ready now begins = absurd rule
-    execute_steps Else (innermost ∷ outer) from behind to state rule fits ready now begins =
-        let inside = subst (λ o. RestOf state o rule.0.params state.frame.rest) rule.3 (subst (λ stack. RestOf state behind stack state.frame.rest) rule.4 begins) in
-        leave_steps tree results type innermost outer state.frame.labels (behind_end 0 state.frame.rest) rule.0.results state ready.labels
-        (subst (λ stack. Ready tree results type (innermost ∷ outer) (reverse stack) state) rule.2 ready)
-        (place_behind_end (context tree type state.frame.function) state.frame.function.code.items (opened (second_label rule.0) innermost.lower) outer rule.0.params state.frame.rest inside)
+    execute_steps Else (one ∷ outer) from behind to state rule fits ready now begins =
+        let inside = subst (λ o. RestOf state o one.type.params state.frame.rest) rule.inside (subst (λ stack. RestOf state behind stack state.frame.rest) rule.behind begins) in
+        leave_steps tree results type one outer state.frame.labels (items_behind_end [] state.frame.rest) one.type.results state ready.labels
+        (subst (λ stack. Ready tree results type (one ∷ outer) (reverse stack) state) rule.before ready)
+        (place_behind_end (context tree type state.frame.function) state.frame.function.code.items (opened else_part one.type one.lower) outer one.type.params state.frame.rest inside)
     execute_steps End [] from behind to state rule fits ready now begins = absurd rule
-    execute_steps End (innermost ∷ outer) from behind to state rule fits ready now begins =
-        leave_steps tree results type innermost outer state.frame.labels state.frame.rest (results_of innermost.label) state ready.labels
-        (subst (λ stack. Ready tree results type (innermost ∷ outer) (reverse stack) state) rule.1 ready)
-        (subst (λ o. RestOf state o (innermost.lower ++ results_of innermost.label) state.frame.rest) rule.2
-        (subst (λ stack. RestOf state behind stack state.frame.rest) rule.3 begins))
+    execute_steps End (one ∷ outer) from behind to state rule fits ready now begins =
+        leave_steps tree results type one outer state.frame.labels state.frame.rest one.type.results state ready.labels
+        (subst (λ stack. Ready tree results type (one ∷ outer) (reverse stack) state) rule.before ready)
+        (subst (λ o. RestOf state o (one.lower ++ one.type.results) state.frame.rest) rule.inside
+        (subst (λ stack. RestOf state behind stack state.frame.rest) rule.behind begins))
     execute_steps item open_ones from behind to state rule fits ready now begins =
-        plain_steps item open_ones from to state rule.1 fits ready (subst (λ o. RestOf state o to state.frame.rest) rule.0 begins)
+        plain_steps item open_ones from to state rule.rule fits ready (subst (λ o. RestOf state o to state.frame.rest) rule.inside begins)
 
     -- the state with other items left is ready for them
     ready_of : (state : State) (is : IsRunning tree results state) (rest : List Instr) → is.type ≡ type → Ready tree results type is.open_ones (reverse is.stack) (with_rest rest state)
@@ -149,10 +161,10 @@ module _ (tree : Tree) (linked : IsLinked tree) (results : List ValueType) where
       (all_get HasImmediates state.frame.function.code.items begins.place item function.immediates there)
       (ready_of is.type state is rest refl) begins next.3
 
-  -- what is typed has a step, to what is typed again or to an end
-  pub typed_step : (config : Config) → IsTyped tree results config → Steps (source_step tree config)
-  typed_step (entering store number arguments callers) is = enter_steps tree linked results store number arguments callers is
-  typed_step (running state) is = frame_steps state.frame.rest state is is.begins
+  -- what is typed steps to what is typed again, or to a typed end
+  pub preservation : (config : Config) → IsTyped tree results config → Steps (source_step tree config)
+  preservation (entering store number arguments callers) is = enter_steps tree linked results store number arguments callers is
+  preservation (running state) is = frame_steps state.frame.rest state is is.begins
 
   at_next : (next : Next Config) (config : Config) → next ≡ goes config → Steps next → IsTyped tree results config
   at_next next config e h = subst Steps e h
@@ -160,15 +172,16 @@ module _ (tree : Tree) (linked : IsLinked tree) (results : List ValueType) where
   -- every configuration of a run from what is typed is typed
   pub typed_run : (n : ℕ) (from to : Config) → IsTyped tree results from → Comes (source_step tree) n from to → IsTyped tree results to
   typed_run zero from to is comes = subst (IsTyped tree results) comes is
-  typed_run (suc n) from to is comes = typed_run n comes.0 to (at_next (source_step tree from) comes.0 comes.1 (typed_step from is)) comes.2
+  typed_run (suc n) from to is comes = typed_run n comes.0 to (at_next (source_step tree from) comes.0 comes.1 (preservation from is)) comes.2
 
   has_step : (next : Next Config) → Steps next → HasStep next
   has_step (goes config) h = tt
   has_step (ends outcome) h = tt
   has_step stuck h = h
 
-  pub step_of_typed : (config : Config) → IsTyped tree results config → HasStep (source_step tree config)
-  step_of_typed config is = has_step (source_step tree config) (typed_step config is)
+  -- what is typed has a step
+  pub progress : (config : Config) → IsTyped tree results config → HasStep (source_step tree config)
+  progress config is = has_step (source_step tree config) (preservation config is)
 
 -- ---- the start
 
@@ -224,4 +237,4 @@ module _ (tree : Tree) (linked : IsLinked tree) where
   pub never_stuck : (number : ℕ) (start : Start) → IsStart tree number start → (n : ℕ) (config : Config) → Comes (source_step tree) n (opening tree number start) config
       → HasStep (source_step tree config)
   never_stuck number start is n config comes =
-      step_of_typed tree linked is.type.results config (typed_run tree linked is.type.results n (opening tree number start) config (typed_opening number start is) comes)
+      progress tree linked is.type.results config (typed_run tree linked is.type.results n (opening tree number start) config (typed_opening number start is) comes)

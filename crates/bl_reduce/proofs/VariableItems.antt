@@ -16,7 +16,7 @@ use Rattle.bl_reduce.specs.Configurations.{State, Config, go, pop, push, with_va
 use Rattle.bl_reduce.specs.Variables.{local_get, local_set, local_tee, global_get, global_set, set_local, set_global}
 use Rattle.bl_reduce.specs.TypedConfigurations.{IsValue, IsGlobalValue, BeginsWith, IsTypedStep}
 use Rattle.bl_reduce.proofs.Ready.{Ready, Onto, onto, taken, going, pushing, popping, knowing, integer_value, integer_argument}
-use Rattle.bl_reduce.proofs.Zips.{zip_get, zip_set, mapped_get}
+use Rattle.bl_base.proofs.Lists.{zip_get, zip_set, mapped_get}
 
 module _ (tree : Tree) (results : List ValueType) (type : Signature) (open_ones : List Open) where
   abbrev Steps : Next Config → Type 0

@@ -41,6 +41,7 @@ abbrev function : ℕ → ℕ → List Instr → Function
 function index locals items = record {
   type_index = index;
   labels = [];
+  demanded = [];
   code = record { locals = record { count = locals; kind = type.I32 } ∷ []; items = items };
   memory = None;
   table = Some 0;

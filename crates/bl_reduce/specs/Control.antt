@@ -1,8 +1,9 @@
 -- Control instructions but for calls (WebAssembly 1.0, sections 4.4.5 and 4.4.6).
-use Rattle.std.specs.Prelude.{ℕ, zero, suc, ◌+◌, ◌==◌, if◌then◌else◌, List, [], ◌∷◌, ◌++◌, length, take, drop, slice_get, Option, Some, None, unwrap_or}
+use Rattle.std.specs.Prelude.{ℕ, ◌+◌, ◌==◌, if◌then◌else◌, List, [], ◌∷◌, ◌++◌, length, take, drop, slice_get, Option, Some, None, unwrap_or}
 use Rattle.bl_base.specs.Runs.{Next, stuck}
+use Rattle.bl_wasm.specs.Nesting.{Construct, open_behind}
 use Rattle.bl_wasm.specs.declared.instruction.Instr.{Instr}
-use Rattle.bl_wasm.specs.declared.instruction.Instr.TheVariants.{Block, Loop, If, Else, End}
+use Rattle.bl_wasm.specs.declared.instruction.Instr.TheVariants.{Loop, Else, End}
 use Rattle.bl_wasm.specs.declared.types.BlockType.{BlockType}
 use Rattle.bl_wasm.specs.declared.types.FuncType.{FuncType}
 use Rattle.bl_reduce.specs.Configurations.{Label, State, Config, go, pop}
@@ -10,32 +11,24 @@ use Rattle.bl_reduce.specs.Returns.{return}
 
 -- ---- the parts of a construct in a flat list of items
 
--- what stands behind the `end` of the construct that is the innermost but so many
-abbrev pub behind_end : ℕ → List Instr → List Instr
-behind_end depth [] = []
-behind_end depth (Block result ∷ items) = behind_end (suc depth) items
-behind_end depth (Loop result ∷ items) = behind_end (suc depth) items
-behind_end depth (If result ∷ items) = behind_end (suc depth) items
-behind_end zero (End ∷ items) = items
-behind_end (suc depth) (End ∷ items) = behind_end depth items
-behind_end depth (item ∷ items) = behind_end depth items
+-- what stands behind the `end` of a construct, from a place in it where these constructs are open within it
+abbrev pub items_behind_end : List Construct → List Instr → List Instr
+items_behind_end inner [] = []
+items_behind_end [] (End ∷ items) = items
+items_behind_end inner (item ∷ items) = items_behind_end (unwrap_or (open_behind item inner) inner) items
 
--- the second part of an if with its `end`, from inside its first part: what stands behind `else`; where there is no `else`,
--- an empty part
-abbrev pub second_part : ℕ → List Instr → List Instr
-second_part depth [] = []
-second_part depth (Block result ∷ items) = second_part (suc depth) items
-second_part depth (Loop result ∷ items) = second_part (suc depth) items
-second_part depth (If result ∷ items) = second_part (suc depth) items
-second_part zero (Else ∷ items) = items
-second_part zero (End ∷ items) = End ∷ items
-second_part (suc depth) (End ∷ items) = second_part depth items
-second_part depth (item ∷ items) = second_part depth items
+-- the else part of an if with its `end`, from a place in the then part where these constructs are open within it: what stands
+-- behind `else`; where there is no `else`, an empty part
+abbrev pub items_of_else : List Construct → List Instr → List Instr
+items_of_else inner [] = []
+items_of_else [] (Else ∷ items) = items
+items_of_else [] (End ∷ items) = End ∷ items
+items_of_else inner (item ∷ items) = items_of_else (unwrap_or (open_behind item inner) inner) items
 
 -- ---- blocks (section 4.4.6)
 
--- entering items with a label, with so many values taken along: how many values a branch to it takes, and what is executed
--- after one
+-- entering items with a label: how many values a branch to it takes, how many are taken along, what is executed after such a
+-- branch, and the items
 abbrev pub enter_with : ℕ → ℕ → List Instr → List Instr → State → Next Config
 enter_with arity count continuation inside state = go (record state {
   frame = record state.frame {
@@ -45,18 +38,18 @@ enter_with arity count continuation inside state = go (record state {
   };
 })
 
--- block: after a branch to it, what stands behind its end
+-- block: its parameters are taken along; after a branch to it, what stands behind its end
 abbrev pub enter_block : FuncType → List Instr → State → Next Config
-enter_block type inside state = enter_with (length type.results) (length type.params) (behind_end 0 state.frame.rest) inside state
+enter_block type inside state = enter_with (length type.results) (length type.params) (items_behind_end [] state.frame.rest) inside state
 
--- loop: after a branch to it, the loop again
+-- loop: its parameters are taken along; after a branch to it, the loop again
 abbrev pub enter_loop : BlockType → FuncType → State → Next Config
-enter_loop kind type state = enter_with (length type.params) (length type.params) (Loop kind ∷ state.frame.rest) state.frame.rest state
+enter_loop immediate type state = enter_with (length type.params) (length type.params) (Loop immediate ∷ state.frame.rest) state.frame.rest state
 
--- if: a block of its first part where the condition isn't 0, else of its second part
+-- if: a block of its then part where the condition isn't 0, else of its else part
 abbrev pub enter_if : FuncType → State → Next Config
 enter_if type state = pop state (λ condition state.
-    if condition == 0 then enter_block type (second_part 0 state.frame.rest) state else enter_block type state.frame.rest state)
+    if condition == 0 then enter_block type (items_of_else [] state.frame.rest) state else enter_block type state.frame.rest state)
 
 -- the end of a block, loop or part of an if is reached: its label is taken off, and its values are left
 abbrev pub leave_label : List Label → List Instr → State → Next Config
@@ -73,9 +66,9 @@ leave_label (label ∷ labels) rest state = go (record state {
 abbrev pub reach_end : State → Next Config
 reach_end state = leave_label state.frame.labels state.frame.rest state
 
--- `else`: the end of the first part
+-- `else`: the end of the then part
 abbrev pub reach_else : State → Next Config
-reach_else state = leave_label state.frame.labels (behind_end 0 state.frame.rest) state
+reach_else state = leave_label state.frame.labels (items_behind_end [] state.frame.rest) state
 
 -- ---- branches (section 4.4.5)
 

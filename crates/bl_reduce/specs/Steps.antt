@@ -7,7 +7,7 @@ use Rattle.bl_ops.specs.declared.op.Op.TheVariants as op
 use Rattle.bl_wasm.specs.Linked.{function_type}
 use Rattle.bl_wasm.specs.Typing.{expanded}
 use Rattle.bl_wasm.specs.declared.instruction.Instr.{Instr}
-use Rattle.bl_wasm.specs.declared.instruction.Instr.TheVariants.{Unreachable, Nop, Block, Loop, If, Else, End, Br, BrIf, BrTable, Return, Call, CallIndirect, Drop, Select, LocalGet, LocalSet, LocalTee, GlobalGet, GlobalSet, Load, Store, FloatAccess, MemorySize, MemoryGrow, I32Const, I64Const, F32Const, F64Const, Integer, Float, Extend}
+use Rattle.bl_wasm.specs.declared.instruction.Instr.TheVariants.{Unreachable, Nop, Block, Loop, If, Else, End, Br, BrIf, BrTable, Return, Call, CallIndirect, Drop, Select, LocalGet, LocalSet, LocalTee, GlobalGet, GlobalSet, Load, Store, FloatAccess, MemorySize, MemoryGrow, I32Const, I64Const, F32Const, F64Const, Integer, Float}
 use Rattle.bl_wasm.specs.declared.linked.Tree.{Tree}
 use Rattle.bl_reduce.specs.Configurations.{Config, entering, running, State, go, trap, known, pop, push, with_rest}
 use Rattle.bl_reduce.specs.Numeric.{operate}
@@ -37,12 +37,12 @@ execute tree (Load kind argument) state = load kind argument state
 execute tree (Store kind argument) state = store kind argument state
 execute tree MemorySize state = memory_size state
 execute tree MemoryGrow state = memory_grow tree state
--- control instructions (section 4.4.5)
+-- control instructions (sections 4.4.5 and 4.4.6); the type that a block names exists
 execute tree Nop state = go state
 execute tree Unreachable state = trap trap_kind.Unreachable state
-execute tree (Block kind) state = known (expanded (map function_type tree.types) kind) (λ type. enter_block type state.frame.rest state)
-execute tree (Loop kind) state = known (expanded (map function_type tree.types) kind) (λ type. enter_loop kind type state)
-execute tree (If kind) state = known (expanded (map function_type tree.types) kind) (λ type. enter_if type state)
+execute tree (Block immediate) state = known (expanded (map function_type tree.types) immediate) (λ type. enter_block type state.frame.rest state)
+execute tree (Loop immediate) state = known (expanded (map function_type tree.types) immediate) (λ type. enter_loop immediate type state)
+execute tree (If immediate) state = known (expanded (map function_type tree.types) immediate) (λ type. enter_if type state)
 execute tree Else state = reach_else state
 execute tree End state = reach_end state
 execute tree (Br l) state = branch l state
@@ -51,12 +51,11 @@ execute tree (BrTable default labels) state = branch_by labels default state
 execute tree Return state = return state
 execute tree (Call number) state = call tree number state
 execute tree (CallIndirect type_index) state = call_indirect tree type_index state
--- floats and extensions by sign aren't in this profile
+-- floats aren't in this profile
 execute tree (FloatAccess kind argument) state = stuck
 execute tree (F32Const bits) state = stuck
 execute tree (F64Const bits) state = stuck
 execute tree (Float op) state = stuck
-execute tree (Extend op) state = stuck
 
 -- a step of a frame: its next item, or its end, which is a return (section 4.4.7)
 abbrev pub frame_step : Tree → List Instr → State → Next Config

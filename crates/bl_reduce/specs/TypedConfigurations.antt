@@ -59,8 +59,8 @@ pub record IsRest (c : Context) (body : List Instr) (open_ones : List Open) (sta
 -- a label is that of an open construct: a branch takes its types, and goes on at a place outside of it where they lie on the
 -- operands below it
 pub record IsLabel (c : Context) (body : List Instr) (one : Open) (outer : List Open) (label : Label) : Type 0 where
-  pub arity : label.arity ≡ length (taken_by one.label)
-  pub continuation : IsRest c body outer (one.lower ++ taken_by one.label) label.continuation
+  pub arity : label.arity ≡ length (taken_by one.kind one.type)
+  pub continuation : IsRest c body outer (one.lower ++ taken_by one.kind one.type) label.continuation
   pub below : AreValues one.lower label.below
 
 -- labels are those of the open constructs, innermost first

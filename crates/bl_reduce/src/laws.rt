@@ -37,8 +37,8 @@ pub fn a_start_is_typed()
         → IsLinked tree → (is : IsStart tree function start) → IsTyped tree is.type.results (opening tree function start) }
 {}
 
-/// What is typed has a step, to what is typed again or to an end with values of the results' types.
-pub fn a_step_keeps_types()
+/// Preservation and progress: what is typed has a step, to what is typed again or to an end with values of the results' types.
+pub fn preservation_and_progress()
     ensures { (tree : Tree) (results : Listed ValueType) (c : Config)
         → IsLinked tree → IsTyped tree results c → IsTypedStep tree results (source_step tree c) }
 {}

@@ -1,37 +1,42 @@
 -- Items nest exactly where they close what they open.
-use Rattle.std.proofs.Common.{append-nil, ◌≡◌, List, [], ◌∷◌, ◌++◌, Option, Some, ◌⊎◌, inl, inr, refl}
+use Rattle.std.proofs.Common.{append-nil, ◌≡◌, List, [], ◌∷◌, ◌++◌, Some, ◌⊎◌, inl, inr, refl, subst}
 use Rattle.std.proofs.lemmas.List.{append_assoc}
 use Rattle.bl_wasm.specs.Instructions.{Nests, none, plain, block, loop, if_then, if_else, IsPlain}
-use Rattle.bl_wasm.specs.Nesting.{Construct, part, whole, after, Closes}
+use Rattle.bl_wasm.specs.Nesting.{Kind, of_block, of_loop, then_part, else_part, Construct, construct, behind_else, open_behind, Closes}
 use Rattle.bl_wasm.specs.declared.types.BlockType.{BlockType}
 use Rattle.bl_wasm.specs.declared.instruction.Instr.{Instr}
 use Rattle.bl_wasm.specs.declared.instruction.Instr.TheVariants.{Block, Loop, If, Else, End}
 
 -- a plain item leaves open what is open
-after_plain : (item : Instr) (outer : List Construct) → IsPlain item → after item outer ≡ Some outer
-after_plain (Block type) outer p = absurd p
-after_plain (Loop type) outer p = absurd p
-after_plain (If type) outer p = absurd p
-after_plain Else outer p = absurd p
-after_plain End outer p = absurd p
-after_plain item outer p = refl
+behind_plain : (item : Instr) (outer : List Construct) → IsPlain item → open_behind item outer ≡ Some outer
+behind_plain (Block type) outer p = absurd p
+behind_plain (Loop type) outer p = absurd p
+behind_plain (If type) outer p = absurd p
+behind_plain Else outer p = absurd p
+behind_plain End outer p = absurd p
+behind_plain item outer p = refl
 
 -- items that nest stand anywhere
 pub closes_after : (items : List Instr) → Nests items → (outer : List Construct) (rest : List Instr) → Closes outer rest → Closes outer (items ++ rest)
 closes_after _ none outer rest h = h
-closes_after _ (plain item items p n) outer rest h = (outer, after_plain item outer p, closes_after items n outer rest h)
+closes_after _ (plain item items p n) outer rest h = (outer, behind_plain item outer p, closes_after items n outer rest h)
 closes_after _ (block type inside more n m) outer rest h =
-    (whole ∷ outer, refl, rw (append_assoc inside (End ∷ more) rest) (closes_after inside n (whole ∷ outer) (End ∷ (more ++ rest)) (outer, refl, closes_after more m outer rest h)))
+    let within = construct of_block type ∷ outer in
+    (within, refl, rw (append_assoc inside (End ∷ more) rest) (closes_after inside n within (End ∷ (more ++ rest)) (outer, refl, closes_after more m outer rest h)))
 closes_after _ (loop type inside more n m) outer rest h =
-    (whole ∷ outer, refl, rw (append_assoc inside (End ∷ more) rest) (closes_after inside n (whole ∷ outer) (End ∷ (more ++ rest)) (outer, refl, closes_after more m outer rest h)))
+    let within = construct of_loop type ∷ outer in
+    (within, refl, rw (append_assoc inside (End ∷ more) rest) (closes_after inside n within (End ∷ (more ++ rest)) (outer, refl, closes_after more m outer rest h)))
 closes_after _ (if_then type inside more n m) outer rest h =
-    (part ∷ outer, refl, rw (append_assoc inside (End ∷ more) rest) (closes_after inside n (part ∷ outer) (End ∷ (more ++ rest)) (outer, refl, closes_after more m outer rest h)))
+    let within = construct then_part type ∷ outer in
+    (within, refl, rw (append_assoc inside (End ∷ more) rest) (closes_after inside n within (End ∷ (more ++ rest)) (outer, refl, closes_after more m outer rest h)))
 closes_after _ (if_else type first second more f s m) outer rest h =
-    let ended : Closes (whole ∷ outer) (second ++ End ∷ (more ++ rest)) = closes_after second s (whole ∷ outer) (End ∷ (more ++ rest)) (outer, refl, closes_after more m outer rest h) in (
-      part ∷ outer,
+    let within = construct then_part type ∷ outer in
+    let behind = construct else_part type ∷ outer in
+    let ended : Closes behind (second ++ End ∷ (more ++ rest)) = closes_after second s behind (End ∷ (more ++ rest)) (outer, refl, closes_after more m outer rest h) in (
+      within,
       refl,
       rw (append_assoc (first ++ Else ∷ second) (End ∷ more) rest, append_assoc first (Else ∷ second) (End ∷ (more ++ rest)))
-          (closes_after first f (part ∷ outer) (Else ∷ (second ++ End ∷ (more ++ rest))) (whole ∷ outer, refl, ended)),
+          (closes_after first f within (Else ∷ (second ++ End ∷ (more ++ rest))) (behind, refl, ended)),
     )
 
 pub closes : (items : List Instr) → Nests items → Closes [] items
@@ -45,7 +50,7 @@ record Ended (Rest : List Instr → Type 0) (items : List Instr) : Type 0 where
   nests : Nests inside
   further : Rest rest
 
--- or its first part ends, and then its second one
+-- or its then part ends, and then its else part
 record Parted (Rest : List Instr → Type 0) (items : List Instr) : Type 0 where
   first : List Instr
   second : List Instr
@@ -55,11 +60,17 @@ record Parted (Rest : List Instr → Type 0) (items : List Instr) : Type 0 where
   nests_too : Nests second
   further : Rest rest
 
+-- what is left of a construct of that kind, and of what it stands in
+abbrev ParsedIn : Kind → (List Instr → Type 0) → List Instr → Type 0
+ParsedIn of_block Rest items = Ended Rest items
+ParsedIn of_loop Rest items = Ended Rest items
+ParsedIn then_part Rest items = Ended Rest items ⊎ Parted Rest items
+ParsedIn else_part Rest items = Ended Rest items
+
 -- the items by the constructs that are open, innermost first
 abbrev Parsed : List Construct → List Instr → Type 0
 Parsed [] items = Nests items
-Parsed (whole ∷ outer) items = Ended (Parsed outer) items
-Parsed (part ∷ outer) items = Ended (Parsed outer) items ⊎ Parted (Parsed outer) items
+Parsed (one ∷ outer) items = ParsedIn one.kind (Parsed outer) items
 
 -- what keeps items nested may stand before them
 abbrev Leads : List Instr → Type 0
@@ -85,33 +96,53 @@ parted_lead group Rest items lead e = record {
   further = e.further;
 }
 
+leads_in : (group : List Instr) (kind : Kind) (Rest : List Instr → Type 0) (items : List Instr) → Leads group
+    → ParsedIn kind Rest items → ParsedIn kind Rest (group ++ items)
+leads_in group of_block Rest items lead p = ended_lead group Rest items lead p
+leads_in group of_loop Rest items lead p = ended_lead group Rest items lead p
+leads_in group then_part Rest items lead (inl p) = inl (ended_lead group Rest items lead p)
+leads_in group then_part Rest items lead (inr p) = inr (parted_lead group Rest items lead p)
+leads_in group else_part Rest items lead p = ended_lead group Rest items lead p
+
 leads : (group : List Instr) (outer : List Construct) (items : List Instr) → Leads group → Parsed outer items → Parsed outer (group ++ items)
 leads group [] items lead p = lead items p
-leads group (whole ∷ outer) items lead p = ended_lead group (Parsed outer) items lead p
-leads group (part ∷ outer) items lead (inl p) = inl (ended_lead group (Parsed outer) items lead p)
-leads group (part ∷ outer) items lead (inr p) = inr (parted_lead group (Parsed outer) items lead p)
+leads group (one ∷ outer) items lead p = leads_in group one.kind (Parsed outer) items lead p
 
 -- a construct and what stands behind its end
-opened : (outer : List Construct) (item : Instr) (items inside rest : List Instr) → items ≡ inside ++ End ∷ rest
+whole : (outer : List Construct) (item : Instr) (items inside rest : List Instr) → items ≡ inside ++ End ∷ rest
     → ((more : List Instr) → Nests more → Nests (item ∷ inside ++ End ∷ more)) → Parsed outer rest → Parsed outer (item ∷ items)
-opened outer item items inside rest e lead p =
+whole outer item items inside rest e lead p =
     let q = leads (item ∷ inside ++ End ∷ []) outer rest (λ more n. rw (append_assoc inside (End ∷ []) more) (lead more n)) p in
     rw e (rw (append_assoc inside (End ∷ []) rest) at q)
 
--- an if behind whose items its part ends
-chosen : (type : BlockType) (outer : List Construct) (items : List Instr) → Parsed (part ∷ outer) items → Parsed outer (If type ∷ items)
-chosen type outer items (inl p) = opened outer (If type) items p.inside p.rest p.split (λ more n. if_then type p.inside more p.nests n) p.further
+-- an if without else, or with one
+chosen : (type : BlockType) (outer : List Construct) (items : List Instr) → ParsedIn then_part (Parsed outer) items → Parsed outer (If type ∷ items)
+chosen type outer items (inl p) = whole outer (If type) items p.inside p.rest p.split (λ more n. if_then type p.inside more p.nests n) p.further
 chosen type outer items (inr p) =
-    opened outer (If type) items (p.first ++ Else ∷ p.second) p.rest p.split (λ more n. if_else type p.first p.second more p.nests p.nests_too n) p.further
+    whole outer (If type) items (p.first ++ Else ∷ p.second) p.rest p.split (λ more n. if_else type p.first p.second more p.nests p.nests_too n) p.further
 
--- an end closes what is open
-ended : (construct : Construct) (outer : List Construct) (items : List Instr) → Parsed outer items → Parsed (construct ∷ outer) (End ∷ items)
-ended whole outer items p = record { inside = []; rest = items; split = refl; nests = none; further = p }
-ended part outer items p = inl (record { inside = []; rest = items; split = refl; nests = none; further = p })
+-- an `end` closes what is open
+at_end : (Rest : List Instr → Type 0) (items : List Instr) → Rest items → Ended Rest (End ∷ items)
+at_end Rest items p = record { inside = []; rest = items; split = refl; nests = none; further = p }
 
--- an else ends the first part
-parted : (outer : List Construct) (items : List Instr) → Parsed (whole ∷ outer) items → Parsed (part ∷ outer) (Else ∷ items)
-parted outer items p = inr (record { first = []; second = p.inside; rest = p.rest; split = rw p.split refl; nests = none; nests_too = p.nests; further = p.further })
+ended_in : (kind : Kind) (Rest : List Instr → Type 0) (items : List Instr) → Rest items → ParsedIn kind Rest (End ∷ items)
+ended_in of_block Rest items p = at_end Rest items p
+ended_in of_loop Rest items p = at_end Rest items p
+ended_in then_part Rest items p = inl (at_end Rest items p)
+ended_in else_part Rest items p = at_end Rest items p
+
+-- an `else` ends the then part
+parted : (Rest : List Instr → Type 0) (items : List Instr) → Ended Rest items → Parted Rest (Else ∷ items)
+parted Rest items p = record { first = []; second = p.inside; rest = p.rest; split = rw p.split refl; nests = none; nests_too = p.nests; further = p.further }
+
+parted_in : (kind : Kind) (type : BlockType) (outer next : List Construct) (items : List Instr)
+    → behind_else (construct kind type ∷ outer) ≡ Some next → Parsed next items → ParsedIn kind (Parsed outer) (Else ∷ items)
+parted_in of_block type outer next items e p = absurd (cc e)
+parted_in of_loop type outer next items e p = absurd (cc e)
+parted_in then_part type outer next items e p =
+    let same : next ≡ construct else_part type ∷ outer = cc e in
+    inr (parted (Parsed outer) items (subst (λ open_ones. Parsed open_ones items) same p))
+parted_in else_part type outer next items e p = absurd (cc e)
 
 -- what is open next is known
 pub on : (known next : List Construct) (items : List Instr) → Some known ≡ Some next → Closes next items → Closes known items
@@ -119,19 +150,18 @@ on known next items e h = let same : next ≡ known = cc e in rw same at h
 
 parsed : (items : List Instr) (outer : List Construct) → Closes outer items → Parsed outer items
 parsed [] [] h = none
-parsed [] (construct ∷ outer) h = absurd (cc h)
+parsed [] (one ∷ outer) h = absurd (cc h)
 parsed (Block type ∷ items) outer h =
-    let p = parsed items (whole ∷ outer) (on (whole ∷ outer) h.0 items h.1 h.2) in
-    opened outer (Block type) items p.inside p.rest p.split (λ more n. block type p.inside more p.nests n) p.further
+    let p : Ended (Parsed outer) items = parsed items (construct of_block type ∷ outer) (on (construct of_block type ∷ outer) h.0 items h.1 h.2) in
+    whole outer (Block type) items p.inside p.rest p.split (λ more n. block type p.inside more p.nests n) p.further
 parsed (Loop type ∷ items) outer h =
-    let p = parsed items (whole ∷ outer) (on (whole ∷ outer) h.0 items h.1 h.2) in
-    opened outer (Loop type) items p.inside p.rest p.split (λ more n. loop type p.inside more p.nests n) p.further
-parsed (If type ∷ items) outer h = chosen type outer items (parsed items (part ∷ outer) (on (part ∷ outer) h.0 items h.1 h.2))
-parsed (Else ∷ items) (part ∷ outer) h = parted outer items (parsed items (whole ∷ outer) (on (whole ∷ outer) h.0 items h.1 h.2))
-parsed (Else ∷ items) (whole ∷ outer) h = absurd (cc h.1)
+    let p : Ended (Parsed outer) items = parsed items (construct of_loop type ∷ outer) (on (construct of_loop type ∷ outer) h.0 items h.1 h.2) in
+    whole outer (Loop type) items p.inside p.rest p.split (λ more n. loop type p.inside more p.nests n) p.further
+parsed (If type ∷ items) outer h = chosen type outer items (parsed items (construct then_part type ∷ outer) (on (construct then_part type ∷ outer) h.0 items h.1 h.2))
 parsed (Else ∷ items) [] h = absurd (cc h.1)
-parsed (End ∷ items) (construct ∷ outer) h = ended construct outer items (parsed items outer (on outer h.0 items h.1 h.2))
+parsed (Else ∷ items) (one ∷ outer) h = parted_in one.kind one.type outer h.0 items h.1 (parsed items h.0 h.2)
 parsed (End ∷ items) [] h = absurd (cc h.1)
+parsed (End ∷ items) (one ∷ outer) h = ended_in one.kind (Parsed outer) items (parsed items outer (on outer h.0 items h.1 h.2))
 parsed (item ∷ items) outer h = leads (item ∷ []) outer items (λ more n. plain item more tt n) (parsed items outer (on outer h.0 items h.1 h.2))
 
 pub nests : (items : List Instr) → Closes [] items → Nests items

@@ -1,5 +1,5 @@
 -- The grammar on worked modules.
-use Rattle.std.proofs.Common.{ℕ, ◌<◌, List, [], ◌∷◌, ◌++◌, length, Some, None, inl, inr, refl, sym, arith, append-nil}
+use Rattle.std.proofs.Common.{ℕ, ◌<◌, List, [], ◌∷◌, ◌++◌, length, None, inl, inr, refl, sym, arith, append-nil}
 use Rattle.std.specs.Prelude.{codes, pos, negsuc}
 use Rattle.std.specs.Str.{IsAscii}
 use Rattle.std.proofs.lemmas.Str.{IsUtf8-from_ascii}
@@ -10,7 +10,7 @@ use Rattle.bl_wasm.specs.Values.{Spellings, ◌⨾◌, byte, u32, each, vec, nam
 use Rattle.bl_wasm.specs.Types.{value_type, function_type}
 use Rattle.bl_wasm.specs.Instructions.{Nests, none, plain, loop, if_else, instruction, expression}
 use Rattle.bl_wasm.proofs.NestingLemmas.{closes, on}
-use Rattle.bl_wasm.specs.Nesting.{part, whole, Closes}
+use Rattle.bl_wasm.specs.Nesting.{then_part, else_part, construct, Closes}
 use Rattle.bl_wasm.specs.Sections.{section, custom_section, export_entry, local_run, code_entry}
 use Rattle.bl_wasm.specs.Modules.{Spells, ◌▷◌}
 use Rattle.bl_wasm.specs.declared.instruction.Instr.{Instr}
@@ -227,8 +227,10 @@ nested = if_else Empty (Nop ∷ []) (Loop (Value I32) ∷ Br 0 ∷ End ∷ []) [
 two_parts : Nests (If Empty ∷ Else ∷ Else ∷ End ∷ []) → ⊥
 two_parts n =
     let c = closes (If Empty ∷ Else ∷ Else ∷ End ∷ []) n in
-    let first : Closes (part ∷ []) (Else ∷ Else ∷ End ∷ []) = on (part ∷ []) c.0 (Else ∷ Else ∷ End ∷ []) c.1 c.2 in
-    let second : Closes (whole ∷ []) (Else ∷ End ∷ []) = on (whole ∷ []) first.0 (Else ∷ End ∷ []) first.1 first.2 in
+    let before = construct then_part Empty ∷ [] in
+    let behind = construct else_part Empty ∷ [] in
+    let first : Closes before (Else ∷ Else ∷ End ∷ []) = on before c.0 (Else ∷ Else ∷ End ∷ []) c.1 c.2 in
+    let second : Closes behind (Else ∷ End ∷ []) = on behind first.0 (Else ∷ End ∷ []) first.1 first.2 in
     absurd (cc second.1)
 
 -- a custom section may hold any bytes behind its name

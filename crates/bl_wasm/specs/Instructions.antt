@@ -1,6 +1,6 @@
 -- Instructions in the binary format (WebAssembly 1.0, section 5.4). A body is a flat list in the tree: a block, loop or
 -- if, its items and its `end` are items one after another, and the list is well nested.
-use Rattle.std.specs.Prelude.{◌≡◌, ℕ, ◌++◌, List, [], ◌∷◌, IsTrue, IsFalse, Option, Some}
+use Rattle.std.specs.Prelude.{◌≡◌, ℕ, ◌++◌, List, [], ◌∷◌, IsTrue, IsFalse, Some}
 use Rattle.bl_ops.specs.declared.op.Op.{Op}
 use Rattle.bl_ops.specs.Access.{is_load, code_of as access_code}
 use Rattle.bl_ops.specs.Table.{code_of}

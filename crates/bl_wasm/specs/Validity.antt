@@ -1,6 +1,6 @@
 -- Valid modules (WebAssembly 1.0, section 3.4): each function that the module defines has a typing, and the module keeps
 -- the rules on its other parts.
-use Rattle.std.specs.Prelude.{◌≡◌, ℕ, ◌<◌, ◌≤◌, ◌++◌, ◌⊎◌, List, [], ◌∷◌, length, replicate, map, filter_map, flat_map, slice_get, Bool, false, Option, Some, None, IfSome}
+use Rattle.std.specs.Prelude.{◌≡◌, ℕ, ◌<◌, ◌≤◌, ◌++◌, List, [], ◌∷◌, length, replicate, map, filter_map, flat_map, slice_get, false, Option, Some, None, IfSome}
 use Rattle.std.specs.List.{All}
 use Rattle.bl_wasm.specs.Typing.{Context, IsTyping}
 use Rattle.bl_wasm.specs.declared.instruction.Instr.{Instr}
@@ -12,17 +12,14 @@ use Rattle.bl_wasm.specs.declared.types.WasmType.TheVariants.{I32, I64, F32, F64
 use Rattle.bl_wasm.specs.declared.types.FuncType.{FuncType}
 use Rattle.bl_wasm.specs.declared.types.GlobalType.{GlobalType}
 use Rattle.bl_wasm.specs.declared.types.Limits.{Limits}
-use Rattle.bl_wasm.specs.declared.module.Import.{Import}
 use Rattle.bl_wasm.specs.declared.module.ImportKind.{ImportKind}
 use Rattle.bl_wasm.specs.declared.module.ImportKind.TheVariants as import
-use Rattle.bl_wasm.specs.declared.module.DefinedGlobal.{DefinedGlobal}
 use Rattle.bl_wasm.specs.declared.module.Export.{Export}
 use Rattle.bl_wasm.specs.declared.module.ExportKind.{ExportKind}
 use Rattle.bl_wasm.specs.declared.module.ExportKind.TheVariants as export
 use Rattle.bl_wasm.specs.declared.module.ElementSegment.{ElementSegment}
 use Rattle.bl_wasm.specs.declared.module.DataSegment.{DataSegment}
 use Rattle.bl_wasm.specs.declared.module.Code.{Code}
-use Rattle.bl_wasm.specs.declared.module.LocalRun.{LocalRun}
 use Rattle.bl_wasm.specs.declared.module.Module.{Module}
 
 -- ---- the spaces of indices: what is imported, and then what is defined (section 2.5.1)
