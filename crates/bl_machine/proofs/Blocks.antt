@@ -9,7 +9,7 @@ use Rattle.bl_wasm.specs.declared.types.BlockType.{BlockType}
 use Rattle.bl_wasm.specs.declared.types.FuncType.{FuncType}
 use Rattle.bl_wasm.specs.declared.linked.Tree.{Tree}
 use Rattle.bl_reduce.specs.Configurations.{Label, State, Config, with_values}
-use Rattle.bl_reduce.specs.Control.{behind_end, second_part, enter_block, enter_loop, enter_if, leave_label, reach_end, reach_else}
+use Rattle.bl_reduce.specs.Control.{items_behind_end, items_of_else, enter_block, enter_loop, enter_if, leave_label, reach_end, reach_else}
 use Rattle.bl_machine.specs.Machines.{Stepped, running, popped, at_place, opened, closed}
 use Rattle.bl_machine.specs.MatchStates.{under, values_of, IsExit, AreExits, IsState}
 use Rattle.bl_machine.specs.Transitions.{in_block, in_loop, chosen_part}
@@ -101,16 +101,16 @@ module _ (tree : Tree) where
     inside_block : (next : ℕ) (inside : List Instr) → IsJump (body_of state) state.frame.rest jump.ends → inside ≡ drop next (body_of state)
         → Then tree (running (at_place next (in_block jump m))) (enter_block type inside state)
     inside_block next inside lands here has =
-        subst (λ n. IsState tree (at_place next (opened jump.counts.results n jump.ends.end m)) (inside_of (length type.results) (length type.params) (behind_end 0 state.frame.rest) inside state)) (sym counts.params)
-        (subst (λ n. IsState tree (at_place next (opened n (length type.params) jump.ends.end m)) (inside_of (length type.results) (length type.params) (behind_end 0 state.frame.rest) inside state)) (sym counts.results)
-        (opened_is m state is (length type.params) enough (length type.results) jump.ends.end next (behind_end 0 state.frame.rest) inside lands.end here))
+        subst (λ n. IsState tree (at_place next (opened jump.counts.results n jump.ends.end m)) (inside_of (length type.results) (length type.params) (items_behind_end [] state.frame.rest) inside state)) (sym counts.params)
+        (subst (λ n. IsState tree (at_place next (opened n (length type.params) jump.ends.end m)) (inside_of (length type.results) (length type.params) (items_behind_end [] state.frame.rest) inside state)) (sym counts.results)
+        (opened_is m state is (length type.params) enough (length type.results) jump.ends.end next (items_behind_end [] state.frame.rest) inside lands.end here))
 
     pub block_simulates : IsJump (body_of state) state.frame.rest jump.ends → Then tree (running (in_block jump m)) (enter_block type state.frame.rest state)
     block_simulates lands = inside_block m.current.place state.frame.rest lands is.current.place
 
     pub else_part_simulates : IsJump (body_of state) state.frame.rest jump.ends
-        → Then tree (running (at_place jump.ends.else_part (in_block jump m))) (enter_block type (second_part 0 state.frame.rest) state)
-    else_part_simulates lands = inside_block jump.ends.else_part (second_part 0 state.frame.rest) lands lands.else_part
+        → Then tree (running (at_place jump.ends.else_part (in_block jump m))) (enter_block type (items_of_else [] state.frame.rest) state)
+    else_part_simulates lands = inside_block jump.ends.else_part (items_of_else [] state.frame.rest) lands lands.else_part
 
     pub loop_simulates : (kind : BlockType) (place : ℕ) → Loop kind ∷ state.frame.rest ≡ drop place (body_of state) → Then tree (running (in_loop place jump m)) (enter_loop kind type state)
     loop_simulates kind place here has =
@@ -126,13 +126,13 @@ module _ (tree : Tree) where
       → ((v : ℕ) (vs : List ℕ) → state.frame.values ≡ v ∷ vs → length type.params ≤ length vs) → Then tree (chosen_part jump m) (enter_if type state)
   if_simulates m state type jump is lands counts enough =
       popping tree m state is
-      (λ condition state. if condition == 0 then enter_block type (second_part 0 state.frame.rest) state else enter_block type state.frame.rest state)
+      (λ condition state. if condition == 0 then enter_block type (items_of_else [] state.frame.rest) state else enter_block type state.frame.rest state)
       (chosen_part jump m) (λ v vs e t below.
       let within = with_values vs state in
       let other : Stepped = running (at_place jump.ends.else_part (in_block jump (popped m))) in
       let first : Stepped = running (in_block jump (popped m)) in
-      subst (λ x. Then tree (if x == 0 then other else first) (if v == 0 then enter_block type (second_part 0 state.frame.rest) within else enter_block type state.frame.rest within)) (sym t)
-      (either (v == 0) other first (enter_block type (second_part 0 state.frame.rest) within) (enter_block type state.frame.rest within)
+      subst (λ x. Then tree (if x == 0 then other else first) (if v == 0 then enter_block type (items_of_else [] state.frame.rest) within else enter_block type state.frame.rest within)) (sym t)
+      (either (v == 0) other first (enter_block type (items_of_else [] state.frame.rest) within) (enter_block type state.frame.rest within)
       (else_part_simulates (popped m) within type jump below counts (enough v vs e) lands) (block_simulates (popped m) within type jump below counts (enough v vs e) lands)))
 
   -- ---- closing
@@ -180,4 +180,4 @@ module _ (tree : Tree) where
 
   pub else_simulates : (m : Machine) (state : State) (jump : Jump) → IsState tree m state → IsJump (body_of state) state.frame.rest jump.ends
       → Then tree (running (at_place jump.ends.end (closed m))) (reach_else state)
-  else_simulates m state jump is lands = leaving m state jump.ends.end (behind_end 0 state.frame.rest) is lands.end
+  else_simulates m state jump is lands = leaving m state jump.ends.end (items_behind_end [] state.frame.rest) is lands.end

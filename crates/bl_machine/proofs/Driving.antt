@@ -13,7 +13,7 @@ use Rattle.bl_reduce.specs.Configurations.{Config}
 use Rattle.bl_reduce.specs.Outcomes.{first_memory, patched, opening, IsStart, source}
 use Rattle.bl_reduce.specs.Steps.{source_step}
 use Rattle.bl_reduce.specs.TypedConfigurations.{IsTyped, IsTypedStep}
-use Rattle.bl_reduce.proofs.Soundness.{typed_opening, typed_step}
+use Rattle.bl_reduce.proofs.Soundness.{typed_opening, preservation}
 use Rattle.bl_machine.specs.Bodies.{body_of}
 use Rattle.bl_machine.specs.Interpreting.{Drives, has_ended, run_of, starting}
 use Rattle.bl_machine.specs.Machines.{Stepped}
@@ -94,7 +94,7 @@ stepped tree function start steps progress m later n linked memories tables r e 
     let follows = step_simulates tree linked memories tables r.results progress m r.config r.matches r.typed in
     let P : Stepped → Type 0 = λ s. After tree function start (steps + 1) s.progress s.machine in
     let s = advanced tree.functions (map (body_of tree) tree.functions) progress m in
-    subst P e (led tree function start steps r.config r.comes r.results s.progress s.machine (source_step tree r.config) refl (typed_step tree linked r.results r.config r.typed) follows)
+    subst P e (led tree function start steps r.config r.comes r.results s.progress s.machine (source_step tree r.config) refl (preservation tree linked r.results r.config r.typed) follows)
 
 pub goes_on : (tree : Tree) (function : ℕ) (start : Start) (steps : ℕ) (progress : Progress) (m : Machine) → has_ended progress ≡ false → After tree function start steps progress m
     → Reached tree function start steps progress m

@@ -18,7 +18,7 @@ use Rattle.bl_reduce.specs.Control.{enter_block, enter_loop, enter_if}
 use Rattle.bl_reduce.specs.Steps.{execute, frame_step, source_step}
 use Rattle.bl_reduce.specs.TypedConfigurations.{IsRest, IsRunning, IsTyped, AreLabels}
 use Rattle.bl_reduce.proofs.Places.{next_place, at_last}
-use Rattle.bl_reduce.proofs.Soundness.{step_of_typed}
+use Rattle.bl_reduce.proofs.Soundness.{progress as has_step}
 use Rattle.bl_base.proofs.Lists.{all_get}
 use Rattle.bl_machine.specs.Jumps.{counts_of, counts_of_type, jumps_of}
 use Rattle.bl_machine.specs.Machines.{running as on, at_place}
@@ -195,7 +195,7 @@ module _ (tree : Tree) (linked : IsLinked tree) (no_memories : tree.memories ≡
   -- a step of the machine follows one of the rules
   pub step_simulates : (results : List ValueType) (progress : Progress) (m : Machine) (config : Config) → match_states tree progress m config → IsTyped tree results config
       → simulates tree (advanced tree.functions (bodies tree) progress m) (source_step tree config)
-  step_simulates results Running m (running state) is typed = state_simulates results m state is typed (step_of_typed tree linked results (running state) typed)
+  step_simulates results Running m (running state) is typed = state_simulates results m state is typed (has_step tree linked results (running state) typed)
   step_simulates results (Entering called) m (entering store number arguments callers) is typed =
       subst (λ n. simulates tree (entered_at (slice_get (bodies tree) n) n m) (source_step tree (entering store number arguments callers))) (sym is.0)
       (enter_simulates tree results m store number arguments callers is.1 typed)
