@@ -1,19 +1,19 @@
 -- What begins no instruction, by the readers of immediates.
-use Rattle.std.proofs.Common.{◌≡◌, ◌≢◌, ℕ, List, [], ◌∷◌, Option, Some, None, refl, subst, arith}
+use Rattle.std.proofs.Common.{◌≡◌, ◌≢◌, ℕ, List, [], ◌∷◌, Some, refl, subst, arith}
 use Rattle.bl_ops.specs.Access.{code_of as access_code}
 use Rattle.bl_ops.specs.declared.access.AccessKind.{AccessKind}
 use Rattle.bl_ops.specs.Table.{code_of}
 use Rattle.bl_ops.specs.declared.op.Op.{Op}
-use Rattle.bl_wasm.specs.Codes.{IsFloatCode, float_access_code, sign_extension_code}
+use Rattle.bl_wasm.specs.Codes.{IsFloatCode, float_access_code}
 use Rattle.bl_wasm.specs.Types.{block_type}
 use Rattle.bl_wasm.specs.Values.{Spellings, ◌⨾◌, byte, u32, int, f32, f64, vec}
 use Rattle.bl_wasm.specs.Instructions.{instruction, memory_argument}
 use Rattle.bl_wasm.specs.declared.float.FloatAccess.{FloatAccess}
 use Rattle.bl_wasm.specs.declared.instruction.Instr.{Instr}
-use Rattle.bl_wasm.specs.declared.instruction.Instr.TheVariants.{Unreachable, Nop, Else, End, Return, Drop, Select, Load, Store, FloatAccess as FloatAccessed, Integer, Float, Extend}
-use Rattle.bl_wasm.specs.declared.instruction.SignExtension.{SignExtension}
+use Rattle.bl_wasm.specs.declared.instruction.Instr.TheVariants.{Unreachable, Nop, Else, End, Return, Drop, Select, Load, Store, FloatAccess as FloatAccessed, Integer, Float}
 use Rattle.bl_wasm.specs.declared.instruction.MemoryArgument.{MemoryArgument}
-use Rattle.bl_wasm.specs.declared.types.WasmType.{WasmType}
+use Rattle.bl_wasm.specs.declared.types.BlockType.{BlockType}
+use Rattle.bl_wasm.specs.declared.types.BlockType.TheVariants.{Empty}
 use Rattle.bl_code.specs.Laws.{u32_one}
 use Rattle.bl_code.specs.Reading.{IsAt, NoneAt, Refuses, behind}
 use Rattle.bl_code.specs.Shapes.{Shape, Bare, Typed, Indexed, Labels, Indirect, Access, Zero, Int32, Int64, Float32, Float64, shape_of, IsCodeOf, immediates, IsTypedCode, IsIndexedCode, IsAccessCode, IsZeroCode, IsOtherCode, IsNumericCode}
@@ -27,9 +27,9 @@ pub before : {S : Spellings} (c : ℕ) (t : List ℕ) → S t → (byte c ⨾ S)
 before c t s = record { front = c ∷ []; rest = t; whole = refl; first = refl; second = s }
 
 -- the parts of immediates, where they are of that kind
-abbrev pub type_part : Shape → Option WasmType
+abbrev pub type_part : Shape → BlockType
 type_part (Typed type) = type
-type_part s = None
+type_part s = Empty
 
 abbrev pub number_part : Shape → ℕ
 number_part (Indexed x) = x
@@ -150,13 +150,12 @@ none_bare code bytes j ok none x end h =
     none x bare (subst (λ (t : List ℕ). instruction x (code ∷ t)) (bare_rest (shape_of x) s.front bare p.1) s.spelled)
 
 -- a code of nothing but numeric instructions, and of no numeric one, begins none
-pub none_numeric : (code : ℕ) (bytes : List ℕ) (j : ℕ) → IsNumericCode code → ((op : Op) → code_of op ≡ Some code → ⊥) → (IsFloatCode code → ⊥) → ((op : SignExtension) → sign_extension_code op ≡ code → ⊥) → NoneAt (behind instruction code) bytes j
-none_numeric code bytes j ok integer float extension = none_bare code bytes j (grind arith) never
+pub none_numeric : (code : ℕ) (bytes : List ℕ) (j : ℕ) → IsNumericCode code → ((op : Op) → code_of op ≡ Some code → ⊥) → (IsFloatCode code → ⊥) → NoneAt (behind instruction code) bytes j
+none_numeric code bytes j ok integer float = none_bare code bytes j (grind arith) never
   where
     never : (x : Instr) → shape_of x ≡ Bare → instruction x (code ∷ []) → ⊥
     never (Integer op) s h = let same : h.0 ≡ code = cc in integer op (subst (λ (c : ℕ). code_of op ≡ Some c) same h.1)
     never (Float op) s h = let same : op ≡ code = cc in float (subst IsFloatCode same h.0)
-    never (Extend op) s h = extension op cc
     never Unreachable s h = let same : code ≡ 0x00 = cc in absurd (omega arith)
     never Nop s h = let same : code ≡ 0x01 = cc in absurd (omega arith)
     never Else s h = let same : code ≡ 0x05 = cc in absurd (omega arith)

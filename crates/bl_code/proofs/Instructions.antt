@@ -8,21 +8,17 @@ use Rattle.bl_ops.specs.declared.access.AccessKind.{AccessKind}
 use Rattle.bl_ops.specs.declared.access.AccessKind.TheVariants.{I32Load}
 use Rattle.bl_ops.specs.declared.op.Op.{Op}
 use Rattle.bl_ops.specs.declared.op.Op.TheVariants.{I32Eqz, Move, Select as Selected, Outside}
-use Rattle.bl_wasm.specs.Codes.{IsFloatCode, float_access_code, sign_extension_code}
-use Rattle.bl_wasm.specs.Types.{block_type, value_type}
+use Rattle.bl_wasm.specs.Codes.{IsFloatCode, float_access_code}
 use Rattle.bl_wasm.specs.Instructions.{instruction, memory_argument}
 use Rattle.bl_wasm.specs.declared.float.FloatAccess.{FloatAccess}
 use Rattle.bl_wasm.specs.declared.float.FloatAccess.TheVariants.{F32Load, F64Load, F32Store, F64Store}
-use Rattle.bl_wasm.specs.declared.instruction.SignExtension.{SignExtension}
-use Rattle.bl_wasm.specs.declared.instruction.SignExtension.TheVariants.{I32Extend8S, I32Extend16S, I64Extend8S, I64Extend16S, I64Extend32S}
 use Rattle.bl_wasm.specs.declared.instruction.Instr.{Instr}
-use Rattle.bl_wasm.specs.declared.instruction.Instr.TheVariants.{Unreachable, Nop, Block, Loop, If, Else, End, Br, BrIf, BrTable, Return, Call, CallIndirect, Drop, Select, LocalGet, LocalSet, LocalTee, GlobalGet, GlobalSet, Load, Store, FloatAccess as FloatAccessed, MemorySize, MemoryGrow, I32Const, I64Const, F32Const, F64Const, Integer, Float, Extend}
+use Rattle.bl_wasm.specs.declared.instruction.Instr.TheVariants.{Unreachable, Nop, Block, Loop, If, Else, End, Br, BrIf, BrTable, Return, Call, CallIndirect, Drop, Select, LocalGet, LocalSet, LocalTee, GlobalGet, GlobalSet, Load, Store, FloatAccess as FloatAccessed, MemorySize, MemoryGrow, I32Const, I64Const, F32Const, F64Const, Integer, Float}
 use Rattle.bl_wasm.specs.declared.instruction.MemoryArgument.{MemoryArgument}
-use Rattle.bl_wasm.specs.declared.types.WasmType.{WasmType}
-use Rattle.bl_wasm.specs.declared.types.WasmType.TheVariants.{I32, I64, F32, F64}
 use Rattle.bl_code.specs.Shapes.{Shape, Bare, Typed, Indexed, Labels, Indirect, Access, Zero, Int32, Int64, Float32, Float64, shape_of, IsCodeOf, immediates}
 use Rattle.bl_code.specs.Laws.{u32_one}
 use Rattle.bl_code.specs.Unique.{Same, IsOne}
+use Rattle.bl_code.proofs.BlockTypes.{block_type_one}
 use Rattle.bl_code.proofs.Shapes.{after_byte, only_byte, never_empty, shaped}
 use Rattle.bl_code.proofs.Unique.{byte_same, u32_same, seq_same, vec_one, then_same, nothing_same, int_same, f32_same, f64_same}
 
@@ -46,9 +42,7 @@ abbrev bare : ℕ → Instr
 bare code =
     (if nat_lt code 0x45
     then choose code ((0x00, Unreachable) ∷ (0x01, Nop) ∷ (0x05, Else) ∷ (0x0B, End) ∷ (0x0F, Return) ∷ (0x1A, Drop) ∷ []) Select
-    else (if nat_lt 0xBF code
-    then choose code ((0xC0, Extend I32Extend8S) ∷ (0xC1, Extend I32Extend16S) ∷ (0xC2, Extend I64Extend8S) ∷ (0xC3, Extend I64Extend16S) ∷ []) (Extend I64Extend32S)
-    else numeric code (operator_of code)))
+    else numeric code (operator_of code))
 
 -- the instruction of a code and of immediates
 abbrev rebuilt : ℕ → Shape → Instr
@@ -76,9 +70,6 @@ store_rebuilt kind argument store = rw (access_found, store) refl
 
 float_rebuilt : (kind : FloatAccess) (argument : MemoryArgument) → access (float_access_code kind) argument (kind_of (float_access_code kind)) ≡ FloatAccessed kind argument
 float_rebuilt kind argument = elim kind as (λ (k : FloatAccess). access (float_access_code k) argument (kind_of (float_access_code k)) ≡ FloatAccessed k argument) [ F32Load ↦ refl | _ ↦ refl ]
-
-extension_rebuilt : (op : SignExtension) → bare (sign_extension_code op) ≡ Extend op
-extension_rebuilt op = elim op as (λ (o : SignExtension). bare (sign_extension_code o) ≡ Extend o) [ I32Extend8S ↦ refl | _ ↦ refl ]
 
 -- an operator is that of its code
 abbrev IsRebuilt : Op → Option ℕ → Type 0
@@ -111,8 +102,7 @@ code_if op code e large = elim (op_image op) [ inl is ↦ is ∙ ap Some e | inr
 float_op_rebuilt : (code : ℕ) → IsFloatCode code → bare code ≡ Float code
 float_op_rebuilt code float =
     let low : nat_lt code 0x45 ≡ false = grind (arith, nat_tests) in
-    let high : nat_lt 0xBF code ≡ false = grind (arith, nat_tests) in
-    rw (low, high) (none (operator_of code) refl)
+    rw low (none (operator_of code) refl)
   where
     none : (o : Option Op) → operator_of code ≡ o → numeric code o ≡ Float code
     none None e = refl
@@ -154,63 +144,6 @@ rebuilds (F32Const x) code rest h = refl
 rebuilds (F64Const x) code rest h = refl
 rebuilds (Integer op) code rest h = integer_rebuilt op (code_of op) code (op_rebuilt op) (h.1 ∙ ap Some (only_byte h.0 code rest h.2).0)
 rebuilds (Float op) code rest h = let same = (only_byte op code rest h.1).0 in subst (λ (c : ℕ). bare c ≡ Float op) same (float_op_rebuilt op h.0)
-rebuilds (Extend op) code rest h = subst (λ (c : ℕ). bare c ≡ Extend op) (only_byte (sign_extension_code op) code rest h).0 (extension_rebuilt op)
-
--- the type of a code
-abbrev typed : ℕ → WasmType
-typed code = choose code ((0x7F, I32) ∷ (0x7E, I64) ∷ (0x7D, F32) ∷ []) F64
-
-abbrev typed_result : ℕ → Option WasmType
-typed_result code = (if code == 0x40 then None else Some (typed code))
-
--- a type by its one byte
-pub type_first : (x : WasmType) (a : List ℕ) → value_type x a → (code : ℕ) × (a ≡ code ∷ []) × (typed code ≡ x) × ((code == 0x40) ≡ false)
-type_first I32 a h = (0x7F, h, refl, refl)
-type_first I64 a h = (0x7E, h, refl, refl)
-type_first F32 a h = (0x7D, h, refl, refl)
-type_first F64 a h = (0x7C, h, refl, refl)
-
-block_first : (x : Option WasmType) (a : List ℕ) → block_type x a → (code : ℕ) × (a ≡ code ∷ []) × (typed_result code ≡ x)
-block_first None a h = (0x40, h, refl)
-block_first (Some x) a h = let p = type_first x a h in (p.0, p.1, rw p.3 (ap Some p.2))
-
--- a type's spelling has a byte
-pub type_never_empty : (x : WasmType) → value_type x [] → ⊥
-type_never_empty I32 h = cc
-type_never_empty I64 h = cc
-type_never_empty F32 h = cc
-type_never_empty F64 h = cc
-
-pub block_never_empty : (x : Option WasmType) → block_type x [] → ⊥
-block_never_empty None h = cc
-block_never_empty (Some x) h = type_never_empty x h
-
--- a byte that is neither 40 nor a value type begins no block type
-pub block_none : (code : ℕ) → code ≢ 0x40 → ((x : WasmType) (rest : List ℕ) → value_type x (code ∷ rest) → ⊥) → (x : Option WasmType) (rest : List ℕ) → block_type x (code ∷ rest) → ⊥
-block_none code other none None rest h = other (sym (only_byte 0x40 code rest h).0)
-block_none code other none (Some x) rest h = none x rest h
-
-pub value_type_one : IsOne value_type
-value_type_one = record {
-  same = λ x y. record {
-    both = λ a b u v p q e.
-        let f = type_first x a p in
-        let g = type_first y b q in
-        let same = (byte_same f.0 g.0).both a b u v f.1 g.1 e in
-        (same.0, sym f.2 ∙ ap typed same.1 ∙ g.2);
-  };
-}
-
-pub block_type_one : IsOne block_type
-block_type_one = record {
-  same = λ x y. record {
-    both = λ a b u v p q e.
-        let f = block_first x a p in
-        let g = block_first y b q in
-        let same = (byte_same f.0 g.0).both a b u v f.1 g.1 e in
-        (same.0, sym f.2 ∙ ap typed_result same.1 ∙ g.2);
-  };
-}
 
 abbrev made : ℕ → ℕ → MemoryArgument
 made alignment offset = record { alignment = alignment; offset = offset }

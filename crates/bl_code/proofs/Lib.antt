@@ -1,3 +1,4 @@
+pub mod BlockTypes
 pub mod Immediates
 pub mod Instructions
 pub mod Limits

@@ -4,7 +4,7 @@ use Rattle.std.specs.Prelude.{unwrap_or}
 use Rattle.bl_wasm.specs.Types.{limits, limits_of}
 use Rattle.bl_wasm.specs.Values.{Spellings, ◌⨾◌, byte, u32}
 use Rattle.bl_wasm.specs.declared.types.Limits.{Limits}
-use Rattle.bl_code.specs.Limits.{maximum}
+use Rattle.bl_code.specs.Types.{maximum}
 use Rattle.bl_code.specs.Reading.{IsAt, NoneAt, Refuses, behind}
 use Rattle.bl_code.specs.Unique.{Same, IsOne}
 use Rattle.bl_code.specs.declared.error.CodeError.{CodeError}

@@ -8,15 +8,13 @@ use Rattle.bl_ops.specs.declared.access.AccessKind.{AccessKind}
 use Rattle.bl_ops.specs.declared.access.AccessKind.TheVariants.{I32Load}
 use Rattle.bl_ops.specs.declared.op.Op.{Op}
 use Rattle.bl_ops.specs.declared.op.Op.TheVariants.{I32Eqz}
-use Rattle.bl_wasm.specs.Codes.{float_access_code, sign_extension_code}
+use Rattle.bl_wasm.specs.Codes.{float_access_code}
 use Rattle.bl_wasm.specs.Values.{Spellings, ◌⨾◌, byte}
 use Rattle.bl_wasm.specs.Instructions.{instruction}
 use Rattle.bl_wasm.specs.declared.float.FloatAccess.{FloatAccess}
 use Rattle.bl_wasm.specs.declared.float.FloatAccess.TheVariants.{F32Load, F64Load, F32Store, F64Store}
-use Rattle.bl_wasm.specs.declared.instruction.SignExtension.{SignExtension}
-use Rattle.bl_wasm.specs.declared.instruction.SignExtension.TheVariants.{I32Extend8S, I32Extend16S, I64Extend8S, I64Extend16S, I64Extend32S}
 use Rattle.bl_wasm.specs.declared.instruction.Instr.{Instr}
-use Rattle.bl_wasm.specs.declared.instruction.Instr.TheVariants.{Unreachable, Nop, Block, Loop, If, Else, End, Br, BrIf, BrTable, Return, Call, CallIndirect, Drop, Select, LocalGet, LocalSet, LocalTee, GlobalGet, GlobalSet, Load, Store, FloatAccess as FloatAccessed, MemorySize, MemoryGrow, I32Const, I64Const, F32Const, F64Const, Integer, Float, Extend}
+use Rattle.bl_wasm.specs.declared.instruction.Instr.TheVariants.{Unreachable, Nop, Block, Loop, If, Else, End, Br, BrIf, BrTable, Return, Call, CallIndirect, Drop, Select, LocalGet, LocalSet, LocalTee, GlobalGet, GlobalSet, Load, Store, FloatAccess as FloatAccessed, MemorySize, MemoryGrow, I32Const, I64Const, F32Const, F64Const, Integer, Float}
 use Rattle.bl_code.specs.Shapes.{shape_of, IsCodeOf, immediates}
 
 -- a byte, and what stands behind it
@@ -35,10 +33,10 @@ only_byte c code rest h = (cc, cc)
 no_bytes : {S : Spellings} {c : ℕ} → (byte c ⨾ S) [] → ⊥
 no_bytes {S} {c} h = let whole : [] ≡ c ∷ h.rest = h.whole ∙ ap (λ t. t ++ h.rest) h.first in cc
 
--- from 45 to BF, where there is a code
+-- from 45 on, where there is a code
 abbrev is_numeric : Option ℕ → Bool
 is_numeric None = true
-is_numeric (Some code) = nat_le 0x45 code && nat_le code 0xBF
+is_numeric (Some code) = nat_le 0x45 code
 
 op_numeric : (op : Op) → IsTrue (is_numeric (code_of op))
 op_numeric op = elim op as (λ (o : Op). IsTrue (is_numeric (code_of o))) [ I32Eqz ↦ refl | _ ↦ refl ]
@@ -63,13 +61,6 @@ float_access_in F32Load code e = (omega arith, omega arith)
 float_access_in F64Load code e = (omega arith, omega arith)
 float_access_in F32Store code e = (omega arith, omega arith)
 float_access_in F64Store code e = (omega arith, omega arith)
-
-extension_in : (op : SignExtension) (code : ℕ) → sign_extension_code op ≡ code → 0x45 ≤ code
-extension_in I32Extend8S code e = omega arith
-extension_in I32Extend16S code e = omega arith
-extension_in I64Extend8S code e = omega arith
-extension_in I64Extend16S code e = omega arith
-extension_in I64Extend32S code e = omega arith
 
 -- a spelling has a first byte
 pub never_empty : (x : Instr) → instruction x [] → ⊥
@@ -104,7 +95,6 @@ never_empty (F32Const x) h = no_bytes h
 never_empty (F64Const x) h = no_bytes h
 never_empty (Integer op) h = let none = h.2 in cc
 never_empty (Float op) h = let none = h.1 in cc
-never_empty (Extend op) h = cc
 
 -- behind an instruction's code stand its immediates
 pub shaped : (x : Instr) (code : ℕ) (rest : List ℕ) → instruction x (code ∷ rest) → IsCodeOf (shape_of x) code × immediates (shape_of x) rest
@@ -139,4 +129,3 @@ shaped (F32Const x) code rest h = let p = after_byte 0x43 code rest h in (grind 
 shaped (F64Const x) code rest h = let p = after_byte 0x44 code rest h in (grind arith, p.1)
 shaped (Integer op) code rest h = let p = only_byte h.0 code rest h.2 in let large = numeric_in (code_of op) code (op_numeric op) (h.1 ∙ ap Some p.0) in (grind arith, p.1)
 shaped (Float op) code rest h = let p = only_byte op code rest h.1 in let large : 0x45 ≤ code = rw (← p.0) h.0.0 in (grind arith, p.1)
-shaped (Extend op) code rest h = let p = only_byte (sign_extension_code op) code rest h in let large = extension_in op code p.0 in (grind arith, p.1)

@@ -1,6 +1,6 @@
+pub mod Constructs
 pub mod Laws
-pub mod Limits
-pub mod Nesting
 pub mod Reading
 pub mod Shapes
+pub mod Types
 pub mod Unique

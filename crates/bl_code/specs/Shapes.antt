@@ -1,17 +1,17 @@
 -- Instructions by their immediates, which stand behind their codes (WebAssembly 1.0, section 5.4).
-use Rattle.std.specs.Prelude.{◌≡◌, ℕ, ◌≤◌, ◌⊎◌, List, Option}
+use Rattle.std.specs.Prelude.{◌≡◌, ℕ, ◌≤◌, ◌⊎◌, List}
 use Rattle.bl_wasm.specs.Types.{block_type}
 use Rattle.bl_wasm.specs.Values.{Spellings, ◌⨾◌, nothing, byte, u32, int, f32, f64, vec}
 use Rattle.bl_wasm.specs.Instructions.{memory_argument}
 use Rattle.bl_wasm.specs.declared.instruction.Instr.{Instr}
-use Rattle.bl_wasm.specs.declared.instruction.Instr.TheVariants.{Unreachable, Nop, Block, Loop, If, Else, End, Br, BrIf, BrTable, Return, Call, CallIndirect, Drop, Select, LocalGet, LocalSet, LocalTee, GlobalGet, GlobalSet, Load, Store, FloatAccess, MemorySize, MemoryGrow, I32Const, I64Const, F32Const, F64Const, Integer, Float, Extend}
+use Rattle.bl_wasm.specs.declared.instruction.Instr.TheVariants.{Unreachable, Nop, Block, Loop, If, Else, End, Br, BrIf, BrTable, Return, Call, CallIndirect, Drop, Select, LocalGet, LocalSet, LocalTee, GlobalGet, GlobalSet, Load, Store, FloatAccess, MemorySize, MemoryGrow, I32Const, I64Const, F32Const, F64Const, Integer, Float}
 use Rattle.bl_wasm.specs.declared.instruction.MemoryArgument.{MemoryArgument}
-use Rattle.bl_wasm.specs.declared.types.WasmType.{WasmType}
+use Rattle.bl_wasm.specs.declared.types.BlockType.{BlockType}
 
 -- the immediates of an instruction
 pub data Shape : Type 0 where
   Bare : Shape
-  Typed : Option WasmType → Shape
+  Typed : BlockType → Shape
   Indexed : ℕ → Shape
   Labels : List ℕ → ℕ → Shape
   Indirect : ℕ → Shape
@@ -55,7 +55,6 @@ shape_of (F32Const bits) = Float32 bits
 shape_of (F64Const bits) = Float64 bits
 shape_of (Integer op) = Bare
 shape_of (Float op) = Bare
-shape_of (Extend op) = Bare
 
 -- the codes of block, loop and if
 abbrev pub IsTypedCode : ℕ → Type 0

@@ -1,8 +1,10 @@
 //! Expressions (WebAssembly 1.0, section 5.4.6).
-ghost use Rattle.std.specs.Prelude.{◌≡◌, ◌≤◌, ◌↔◌, [], Some, None, length, reverse, IsTrue, IsErrOf, OnOk};
+ghost use Rattle.std.specs.Prelude.{◌≡◌, ◌≤◌, ◌↔◌, [], Some, None, List as Listed, length, reverse, IsTrue, IsErrOf, OnOk};
+ghost use Rattle.std.specs.Option.{option_map};
 ghost use Rattle.bl_wasm.specs.Instructions.{expression};
 ghost use Rattle.bl_wasm.specs.declared.instruction.Instr.TheVariants.{End};
-ghost use Rattle.bl_code.specs.Nesting.{stepped};
+ghost use Rattle.bl_wasm.specs.Nesting.{Construct, open_behind};
+ghost use Rattle.bl_code.specs.Constructs.{kept};
 ghost use Rattle.bl_code.specs.Reading.{Reads};
 
 use crate::error::CodeError;
@@ -23,7 +25,7 @@ enum Open {
 /// Reads the expression whose spelling begins at `at`, a place of `bytes` or their length: items that nest, and an `end`
 /// (section 5.4.6). Ok gives the items without that `end`, and the place after it. Malformed comes exactly where no
 /// expression begins there: an item isn't read, an `else` stands anywhere but in an if before its `else`, or the bytes
-/// end before it does. It reads no byte twice, goes down no deeper the more constructs are open, and keeps no more items
+/// end before it does. It reads no byte more than twice, goes down no deeper the more constructs are open, and keeps no more items
 /// and open constructs than there are bytes.
 pub fn read_expression(
     alloc: Global,
@@ -56,8 +58,10 @@ fn is_last(constructs: &[Open], item: &Instr) -> bool
 
 /// Opens what the item begins, and closes what it ends. Malformed exactly where it may not stand.
 fn nest(constructs: &mut Vec<Open>, item: &Instr) -> Result<(), CodeError>
-    ensures ok { OnOk result (stepped item.now (reverse constructs.old.items) ≡ Some (reverse constructs.new.items)) }
-    ensures malformed { IsErrOf result CodeError.Malformed → stepped item.now (reverse constructs.old.items) ≡ None }
+    ensures ok { (open_ones : Listed Construct) → kept open_ones ≡ reverse constructs.old.items →
+        OnOk result (option_map kept (open_behind item.now open_ones) ≡ Some (reverse constructs.new.items)) }
+    ensures malformed { (open_ones : Listed Construct) → kept open_ones ≡ reverse constructs.old.items →
+        IsErrOf result CodeError.Malformed → open_behind item.now open_ones ≡ None }
 {
     match item {
         Instr::Block(_) | Instr::Loop(_) => constructs.push(Open::Other)?,

@@ -1,21 +1,21 @@
 //! Instructions (WebAssembly 1.0, section 5.4).
-ghost use Rattle.std.specs.Prelude.{◌≡◌, ◌≤◌, ℕ, List as Listed, [], ◌∷◌, Option, length, IfSome, IfNone};
+ghost use Rattle.std.specs.Prelude.{◌≡◌, ◌≤◌, ℕ, List as Listed, [], ◌∷◌, length, IfSome, IfNone};
 ghost use Rattle.bl_ops.specs.Access.{code_of as access_code};
-ghost use Rattle.bl_wasm.specs.Codes.{float_access_code, sign_extension_code};
+ghost use Rattle.bl_wasm.specs.Codes.{float_access_code};
 ghost use Rattle.bl_wasm.specs.Types.{block_type};
 ghost use Rattle.bl_wasm.specs.Values.{u32};
 ghost use Rattle.bl_wasm.specs.Instructions.{instruction, memory_argument};
 ghost use Rattle.bl_code.specs.Reading.{Reads, behind};
 ghost use Rattle.bl_code.specs.Shapes.{IsTypedCode, IsIndexedCode, IsAccessCode, IsZeroCode, IsOtherCode, IsNumericCode};
 ghost use Rattle.bl_wasm.specs.declared.instruction.Instr.{Instr};
-ghost use Rattle.bl_wasm.specs.declared.types.WasmType.{WasmType};
+ghost use Rattle.bl_wasm.specs.declared.types.BlockType.{BlockType};
 
 use crate::error::CodeError;
 use crate::format::{Format, read_vec};
 use crate::types::read_block_type;
 use crate::values::{read_byte, read_f32, read_f64, read_i32, read_i64, read_u32};
 use bl_ops::AccessKind;
-use bl_wasm::{FloatAccess, FloatOp, Instr, MemoryArgument, SignExtension, Targets, WasmType};
+use bl_wasm::{BlockType, FloatAccess, FloatOp, Instr, MemoryArgument, Targets};
 use std::alloc::Global;
 
 /// An unsigned number of 32 bits, as an index.
@@ -39,7 +39,7 @@ impl Format for Index {
 /// Reads the instruction whose spelling begins at `at`, a place of `bytes` or their length; of a block, a loop or an if,
 /// what stands before its items (section 5.4). Ok gives it with the place after its last byte. Malformed comes exactly
 /// where no instruction begins there, Memory where there was none for the labels of a `br_table`. It reads no byte
-/// twice, and keeps no more labels than there are bytes.
+/// more than twice, and keeps no more labels than there are bytes.
 pub fn read_instr(alloc: Global, bytes: &[u8], at: usize) -> Result<(Instr, usize), CodeError>
     requires { at ≤ length bytes.now }
     ensures { Reads instruction bytes.now at result }
@@ -84,7 +84,7 @@ fn read_block(code: u8, bytes: &[u8], at: usize) -> Result<(Instr, usize), CodeE
 }
 
 /// The block, loop or if of that code and of that type.
-fn block(code: u8, kind: Option<WasmType>) -> Instr
+fn block(code: u8, kind: BlockType) -> Instr
     requires { IsTypedCode code }
     ensures { (rest : Listed ℕ) → block_type kind rest → instruction result (code ∷ rest) }
 {
@@ -284,26 +284,8 @@ fn read_numeric(code: u8, bytes: &[u8], at: usize) -> Result<(Instr, usize), Cod
     if let Some(op) = bl_ops::by_code(code) {
         return Ok((Instr::Integer(op), at));
     }
-    if let Some(op) = FloatOp::by_code(code) {
-        return Ok((Instr::Float(op), at));
-    }
-    match extension(code) {
-        Some(op) => Ok((Instr::Extend(op), at)),
+    match FloatOp::by_code(code) {
+        Some(op) => Ok((Instr::Float(op), at)),
         None => Err(CodeError::Malformed),
-    }
-}
-
-/// The extension by sign of that code (version 2.0, section 5.4.7); None where the byte is the code of none.
-fn extension(code: u8) -> Option<SignExtension>
-    ensures found { IfSome result (λ op. sign_extension_code op ≡ code) }
-    ensures none { IfNone result ((op : _) → sign_extension_code op ≡ code → ⊥) }
-{
-    match code {
-        0xC0 => Some(SignExtension::I32Extend8S),
-        0xC1 => Some(SignExtension::I32Extend16S),
-        0xC2 => Some(SignExtension::I64Extend8S),
-        0xC3 => Some(SignExtension::I64Extend16S),
-        0xC4 => Some(SignExtension::I64Extend32S),
-        _ => None,
     }
 }

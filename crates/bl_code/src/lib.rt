@@ -19,6 +19,3 @@ pub use values::{
     read_byte, read_bytes, read_exactly, read_f32, read_f64, read_i32, read_i64, read_name,
     read_u32,
 };
-
-#[cfg(test)]
-mod tests;

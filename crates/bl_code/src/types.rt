@@ -1,12 +1,12 @@
 //! Types (WebAssembly 1.0, section 5.3).
 ghost use Rattle.std.specs.Prelude.{◌≡◌, ◌≤◌, ℕ, List, [], ◌∷◌, length, IfSome, IfNone};
 ghost use Rattle.bl_wasm.specs.Types.{value_type, block_type, limits};
-ghost use Rattle.bl_code.specs.Reading.{Reads, behind};
-ghost use Rattle.bl_code.specs.Limits.{maximum};
+ghost use Rattle.bl_code.specs.Reading.{Finds, Reads, behind};
+ghost use Rattle.bl_code.specs.Types.{maximum, type_index};
 
 use crate::error::CodeError;
 use crate::values::{read_byte, read_u32};
-use bl_wasm::{Limits, WasmType};
+use bl_wasm::{BlockType, Limits, WasmType};
 
 /// The value type of that code; None where the byte is the code of none (section 5.3.1).
 fn value_type_of(code: u8) -> Option<WasmType>
@@ -34,18 +34,34 @@ pub fn read_value_type(bytes: &[u8], at: usize) -> Result<(WasmType, usize), Cod
     }
 }
 
-/// Reads a block type (sections 5.3.2 and 5.4.1): the type of the result, where there is one.
-pub fn read_block_type(bytes: &[u8], at: usize) -> Result<(Option<WasmType>, usize), CodeError>
+/// Reads a block type (section 5.3.2; version 2.0, section 5.4.1): 40, a value type, or the index of a type as a signed
+/// number of 33 bits that isn't negative, in any spelling of it.
+pub fn read_block_type(bytes: &[u8], at: usize) -> Result<(BlockType, usize), CodeError>
     requires { at ≤ length bytes.now }
     ensures { Reads block_type bytes.now at result }
 {
     let (code, place) = read_byte(bytes, at)?;
     if code == 0x40 {
-        return Ok((None, place));
+        return Ok((BlockType::Empty, place));
     }
-    match value_type_of(code) {
-        Some(kind) => Ok((Some(kind), place)),
+    if let Some(kind) = value_type_of(code) {
+        return Ok((BlockType::Value(kind), place));
+    }
+    match read_type_index(bytes, at) {
+        Some((index, end)) => Ok((BlockType::Index(index), end)),
         None => Err(CodeError::Malformed),
+    }
+}
+
+/// Reads the index of a block's type.
+fn read_type_index(bytes: &[u8], at: usize) -> Option<(u32, usize)>
+    requires { at ≤ length bytes.now }
+    ensures { Finds type_index bytes.now at result }
+{
+    let (number, place) = bl_leb::read_s33(bytes, at)?;
+    match u32::try_from(number) {
+        Ok(index) => Some((index, place)),
+        Err(_) => None,
     }
 }
 

@@ -22,7 +22,7 @@ use Rattle.bl_code.specs.Unique.{Same, IsOne}
 use Rattle.bl_code.specs.Laws.{u32_one}
 use Rattle.bl_code.proofs.Unique.{byte_same, seq_same, given_same, then_same, vec_one, byte_vec_one, name_one, sized_one}
 use Rattle.bl_code.proofs.Limits.{limits_one}
-use Rattle.bl_code.proofs.Instructions.{value_type_one}
+use Rattle.bl_code.proofs.BlockTypes.{value_type_one}
 use Rattle.bl_code.proofs.Nesting.{expression_one}
 
 -- one after another

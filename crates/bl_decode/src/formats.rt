@@ -5,7 +5,7 @@ ghost use Rattle.bl_wasm.specs.Types.{limits, value_type, mutability};
 ghost use Rattle.bl_wasm.specs.Instructions.{expression};
 ghost use Rattle.bl_code.proofs.Unique.{byte_vec_one, name_one, vec_one};
 ghost use Rattle.bl_code.proofs.Limits.{limits_one};
-ghost use Rattle.bl_code.proofs.Instructions.{value_type_one};
+ghost use Rattle.bl_code.proofs.BlockTypes.{value_type_one};
 ghost use Rattle.bl_code.proofs.Nesting.{expression_one};
 ghost use Rattle.bl_decode.specs.Laws.{seq_one, mark_one, mutability_one};
 

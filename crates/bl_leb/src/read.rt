@@ -88,6 +88,18 @@ pub fn read_i32(bytes: &[u8], at: usize) -> Option<(i32, usize)>
     Some((value as i32, place))
 }
 
+/// Reads the signed number of 33 bits whose spelling begins at `at`, a place of `bytes` or their length
+/// (WebAssembly 1.0, section 5.2.2; of block types in version 2.0, section 5.4.1). Some holds the number and the place after
+/// its last byte. None comes exactly where no spelling begins there: the bytes end before it does, or its fifth byte is none
+/// of 00 to 0F and 70 to 7F.
+pub fn read_s33(bytes: &[u8], at: usize) -> Option<(i64, usize)>
+    requires { at ≤ length bytes.now }
+    ensures found { IfSome result (λ found. IsSpelledAt (IsSigned 33) bytes.now at found.1 found.0) }
+    ensures none { IfNone result ((value : ℤ) (place : ℕ) → ¬ IsSpelledAt (IsSigned 33) bytes.now at place value) }
+{
+    read_signed(bytes, at, 33)
+}
+
 /// Reads the signed number of 64 bits whose spelling begins at `at`, a place of `bytes` or their length
 /// (WebAssembly 1.0, section 5.2.2). Some holds the number and the place after its last byte. None comes
 /// exactly where no spelling begins there: the bytes end before it does, or its tenth byte is neither 00 nor

@@ -5,4 +5,4 @@ pub returns-in-None : goal.returns-in-None
 returns-in-None c =
     none_numeric c.args.code c.args.bytes.now c.args.at c.requires.code
     (λ op e. let found = c.by_code.ensures.only op e in let none = c.in_default.is in cc)
-    c.in_default-by_code.ensures.none c.in-None.ensures.none
+    c.in-None.ensures.none

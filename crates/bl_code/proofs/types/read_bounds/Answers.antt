@@ -1,7 +1,7 @@
 use Rattle.bl_wasm.specs.Values.{u32}
 use Rattle.bl_wasm.specs.declared.types.Limits.{Limits}
 use Rattle.bl_code.specs.Laws.{u32_one}
-use Rattle.bl_code.specs.Limits.{maximum}
+use Rattle.bl_code.specs.Types.{maximum}
 use Rattle.bl_code.proofs.Limits.{err_bounds, bounds_at}
 use Rattle.bl_code.proofs.Places.{passes, err_first, err_second}
 use Rattle.bl_code.proofs.types.read_bounds.Goals as goal
