@@ -1,3 +1,4 @@
+pub mod Depths
 pub mod Excesses
 pub mod Firsts
 pub mod ImportForms

@@ -1,5 +1,5 @@
 -- The sections of a module as a chain.
-use Rattle.std.proofs.Common.{◌≡◌, inl, inr, ℕ, ◌<◌, ◌^◌, List, [], ◌∷◌, ◌++◌, All, ap, ap₂, sym, ◌∙◌, subst, arith, drop, sum_by, Option, Result, Err}
+use Rattle.std.proofs.Common.{◌≡◌, inl, inr, ℕ, ◌<◌, List, [], ◌∷◌, ◌++◌, All, ap, ap₂, sym, ◌∙◌, subst, arith, drop, Option, Result, Err}
 use Rattle.std.specs.List.{AllByRecursion}
 use Rattle.std.specs.Result.{IsErrAnd}
 use Rattle.std.proofs.lemmas.Result.{err_from_is_err_and}
@@ -24,6 +24,7 @@ use Rattle.bl_code.specs.declared.error.CodeError.TheVariants.{Malformed, Memory
 use Rattle.bl_code.proofs.Limits.{limits_one}
 use Rattle.bl_decode.specs.Chains.{IsSection, IsTail, IsLink, ReadsTail}
 use Rattle.bl_decode.specs.Laws.{function_type_one, import_entry_one, table_type_one, global_entry_one, export_entry_one, element_entry_one, code_entry_one, data_entry_one}
+use Rattle.bl_decode.specs.Grammar.{IsInGrammar}
 use Rattle.bl_decode.specs.Whole.{ReadsAll}
 use Rattle.bl_decode.proofs.Optionals.{vectors_section, start_is_section}
 use Rattle.bl_decode.proofs.Tails.{chain_tail, end_tail}
@@ -197,17 +198,17 @@ module_err bytes r e gives h = let p = err_from_is_err_and r gives in rw (p.1, p
     refused Malformed none = λ x spelled. none x (spelled_sections bytes x spelled)
     refused Memory none = tt
 
--- the locals of each function are fewer than 2^32
-few_each : (bodies : List Code) (bytes : List ℕ) → each code_entry bodies bytes → AllByRecursion (λ (code : Code). sum_by (λ run. run.count) code.locals < 2 ^ 32) bodies
-few_each [] bytes h = tt
-few_each (c ∷ cs) bytes h = (h.first.spelled.0, few_each cs h.rest h.second)
+-- the grammar's rules on the code of each function
+spelled_each : (bodies : List Code) (bytes : List ℕ) → each code_entry bodies bytes → AllByRecursion IsInGrammar bodies
+spelled_each [] bytes h = tt
+spelled_each (c ∷ cs) bytes h = (record { few = h.first.spelled.0; nests = h.first.spelled.1.second.0 }, spelled_each cs h.rest h.second)
 
-few_section : (bodies : List Code) (bytes : List ℕ) → code_section bodies bytes → All (λ (code : Code). sum_by (λ run. run.count) code.locals < 2 ^ 32) bodies
-few_section bodies bytes (inl h) = All-from_recursion (λ (code : Code). sum_by (λ run. run.count) code.locals < 2 ^ 32) bodies (few_each bodies h.second.spelled.rest h.second.spelled.second)
-few_section bodies bytes (inr h) = subst (λ (l : List Code). All (λ (code : Code). sum_by (λ run. run.count) code.locals < 2 ^ 32) l) (sym h.0) (All-from_recursion (λ (code : Code). sum_by (λ run. run.count) code.locals < 2 ^ 32) [] tt)
+spelled_section : (bodies : List Code) (bytes : List ℕ) → code_section bodies bytes → All IsInGrammar bodies
+spelled_section bodies bytes (inl h) = All-from_recursion IsInGrammar bodies (spelled_each bodies h.second.spelled.rest h.second.spelled.second)
+spelled_section bodies bytes (inr h) = subst (λ (l : List Code). All IsInGrammar l) (sym h.0) (All-from_recursion IsInGrammar [] tt)
 
-pub few_locals : (bytes : List ℕ) (x : Module) → Spells bytes x → All (λ (code : Code). sum_by (λ run. run.count) code.locals < 2 ^ 32) x.bodies
-few_locals bytes x h =
+pub spelled_bodies : (bytes : List ℕ) (x : Module) → Spells bytes x → All IsInGrammar x.bodies
+spelled_bodies bytes x h =
     let types = h.1.second.second in
     let imports = types.spelled.second.second in
     let functions = imports.spelled.second.second in
@@ -218,4 +219,4 @@ few_locals bytes x h =
     let start = exports.spelled.second.second in
     let elements = start.spelled.second.second in
     let codes = elements.spelled.second.second in
-    few_section x.bodies codes.spelled.second.front codes.spelled.second.first
+    spelled_section x.bodies codes.spelled.second.front codes.spelled.second.first

@@ -3,7 +3,7 @@ use Rattle.std.specs.Prelude.{◌≡◌, ℕ, List, Some, None, Result, Ok, Err}
 use Rattle.bl_wasm.specs.Modules.{Spells}
 use Rattle.bl_wasm.specs.declared.module.Module.{Module}
 use Rattle.bl_decode.specs.Supported.{IsSupported}
-use Rattle.bl_decode.specs.Limits.{first_excess}
+use Rattle.bl_wasm.specs.Limits.{first_excess}
 use Rattle.bl_decode.specs.declared.error.DecodeError.{DecodeError}
 use Rattle.bl_decode.specs.declared.error.DecodeError.TheVariants.{Malformed, Unsupported, Limit, Memory}
 

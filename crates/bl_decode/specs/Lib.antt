@@ -1,6 +1,6 @@
 pub mod Chains
 pub mod Decoding
+pub mod Grammar
 pub mod Laws
-pub mod Limits
 pub mod Supported
 pub mod Whole

@@ -1,21 +1,13 @@
--- What is supported of version 1.0: integers alone, no start function, and no extension by sign of version 2.0.
-use Rattle.std.specs.Prelude.{◌≡◌, None, All, IfSome}
-use Rattle.bl_wasm.specs.declared.types.WasmType.{WasmType}
-use Rattle.bl_wasm.specs.declared.types.WasmType.TheVariants.{I32, I64, F32, F64}
+-- What is supported of the grammar: integers alone, and no start function.
+use Rattle.std.specs.Prelude.{◌≡◌, None, All}
+use Rattle.bl_wasm.specs.Validity.{IsInteger, HasIntegerType}
 use Rattle.bl_wasm.specs.declared.types.FuncType.{FuncType}
 use Rattle.bl_wasm.specs.declared.instruction.Instr.{Instr}
-use Rattle.bl_wasm.specs.declared.instruction.Instr.TheVariants.{Block, Loop, If, FloatAccess, F32Const, F64Const, Float, Extend}
+use Rattle.bl_wasm.specs.declared.instruction.Instr.TheVariants.{Unreachable, Nop, Block, Loop, If, Else, End, Br, BrIf, BrTable, Return, Call, CallIndirect, Drop, Select, LocalGet, LocalSet, LocalTee, GlobalGet, GlobalSet, Load, Store, FloatAccess, MemorySize, MemoryGrow, I32Const, I64Const, F32Const, F64Const, Integer, Float}
 use Rattle.bl_wasm.specs.declared.module.Module.{Module}
 use Rattle.bl_wasm.specs.declared.module.ImportKind.{ImportKind}
 use Rattle.bl_wasm.specs.declared.module.ImportKind.TheVariants as import
 use Rattle.bl_wasm.specs.declared.module.Code.{Code}
-
--- a value type of integers (section 2.3.1)
-abbrev pub IsInteger : WasmType → Type 0
-IsInteger I32 = Unit {0}
-IsInteger I64 = Unit {0}
-IsInteger F32 = ⊥
-IsInteger F64 = ⊥
 
 -- a function type of integers (section 2.3.3)
 unfoldable pub IsIntegerFunction : FuncType → Type 0
@@ -28,17 +20,39 @@ IsIntegerImport (import.Table type) = Unit {0}
 IsIntegerImport (import.Memory type) = Unit {0}
 IsIntegerImport (import.Global type) = IsInteger type.kind
 
--- an instruction of version 1.0 without floats (section 2.4)
+-- an instruction that is none of floats, and names no type of floats (section 2.4)
 abbrev pub IsIntegerInstr : Instr → Type 0
-IsIntegerInstr (Block type) = IfSome type IsInteger
-IsIntegerInstr (Loop type) = IfSome type IsInteger
-IsIntegerInstr (If type) = IfSome type IsInteger
+IsIntegerInstr (Block type) = HasIntegerType type
+IsIntegerInstr (Loop type) = HasIntegerType type
+IsIntegerInstr (If type) = HasIntegerType type
+IsIntegerInstr Else = Unit {0}
+IsIntegerInstr End = Unit {0}
+IsIntegerInstr Unreachable = Unit {0}
+IsIntegerInstr Nop = Unit {0}
+IsIntegerInstr (Br l) = Unit {0}
+IsIntegerInstr (BrIf l) = Unit {0}
+IsIntegerInstr (BrTable default others) = Unit {0}
+IsIntegerInstr Return = Unit {0}
+IsIntegerInstr (Call function) = Unit {0}
+IsIntegerInstr (CallIndirect type) = Unit {0}
+IsIntegerInstr Drop = Unit {0}
+IsIntegerInstr Select = Unit {0}
+IsIntegerInstr (LocalGet x) = Unit {0}
+IsIntegerInstr (LocalSet x) = Unit {0}
+IsIntegerInstr (LocalTee x) = Unit {0}
+IsIntegerInstr (GlobalGet x) = Unit {0}
+IsIntegerInstr (GlobalSet x) = Unit {0}
+IsIntegerInstr (Load kind argument) = Unit {0}
+IsIntegerInstr (Store kind argument) = Unit {0}
 IsIntegerInstr (FloatAccess kind argument) = ⊥
+IsIntegerInstr MemorySize = Unit {0}
+IsIntegerInstr MemoryGrow = Unit {0}
+IsIntegerInstr (I32Const n) = Unit {0}
+IsIntegerInstr (I64Const n) = Unit {0}
 IsIntegerInstr (F32Const bits) = ⊥
 IsIntegerInstr (F64Const bits) = ⊥
+IsIntegerInstr (Integer op) = Unit {0}
 IsIntegerInstr (Float op) = ⊥
-IsIntegerInstr (Extend op) = ⊥
-IsIntegerInstr _ = Unit {0}
 
 -- the code of a function whose locals are integers, those of empty runs too (section 2.5.3)
 unfoldable pub IsIntegerCode : Code → Type 0

@@ -12,7 +12,7 @@ pub enum DecodeError {
     /// The bytes spell no module.
     #[error("malformed")]
     Malformed,
-    /// The module has floats, a start function or an extension by sign.
+    /// The module has floats or a start function.
     #[error("unsupported")]
     Unsupported,
     /// The module is too large.

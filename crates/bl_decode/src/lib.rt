@@ -16,5 +16,3 @@ mod supported;
 pub use error::DecodeError;
 pub use module::decode;
 
-#[cfg(test)]
-mod tests;

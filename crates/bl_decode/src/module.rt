@@ -1,9 +1,10 @@
 //! Modules (WebAssembly 1.0, section 5.5.15).
-ghost use Rattle.std.specs.Prelude.{◌≡◌, ◌≤◌, ◌<◌, ◌^◌, ℕ, All, IfNone, IfSome, drop, length, sum_by, List as Listed};
+ghost use Rattle.std.specs.Prelude.{◌≡◌, ◌≤◌, ℕ, All, IfNone, IfSome, drop, length, List as Listed};
 ghost use Rattle.bl_wasm.specs.Modules.{Spells, sections};
 ghost use Rattle.bl_wasm.specs.declared.module.Module.{Module};
 ghost use Rattle.bl_decode.specs.Decoding.{Answers, AnswersOf};
-ghost use Rattle.bl_decode.specs.Limits.{first_excess};
+ghost use Rattle.bl_decode.specs.Grammar.{IsInGrammar};
+ghost use Rattle.bl_wasm.specs.Limits.{first_excess};
 ghost use Rattle.bl_decode.specs.Supported.{IsSupported};
 ghost use Rattle.bl_decode.specs.Whole.{ReadsAll};
 
@@ -63,7 +64,7 @@ fn read_module(alloc: Global, bytes: &[u8]) -> Result<Module, CodeError>
 
 /// The first quantity that the module exceeds, and its value, where it is supported; None where it isn't.
 fn check(tree: &Module) -> Option<Option<(Quantity, u64)>>
-    requires few { All (λ code. sum_by (λ run. run.count) code.locals < 2 ^ 32) tree.now.bodies }
+    requires spelled { All IsInGrammar tree.now.bodies }
     requires even { length tree.now.functions ≡ length tree.now.bodies }
     ensures found { IfSome result (λ excess. IsSupported tree.now × (excess ≡ first_excess tree.now)) }
     ensures none { IfNone result (¬ IsSupported tree.now) }
@@ -82,13 +83,13 @@ fn check(tree: &Module) -> Option<Option<(Quantity, u64)>>
 /// Decodes the module that the bytes spell (WebAssembly 1.0, section 5), by every spelling of it.
 ///
 /// Malformed comes exactly where the bytes spell no module. Unsupported comes exactly where they spell one that has a
-/// float type or an instruction on floats, a start function, or an extension by sign. Limit comes exactly where they spell
-/// one that has none of these and more than 10,000 functions with the imported ones, a table of more than 1,024 slots, a
-/// memory of more than 256 pages, or a function with more than 4,096 locals with its parameters, more than 256 blocks,
-/// loops and ifs open at one place, or a br_table of more than 1,024 targets beside the default. The first three are tested
-/// in this order, and then the last three, in this order, for each function in turn; the value is that of the first table,
-/// memory, function or br_table that has too many. Nothing is read by recursion but the spelling of a number, and no room
-/// is made that the bytes don't fill.
+/// float type, an instruction on floats or a start function. Limit comes exactly where they spell one that has none of these
+/// and exceeds a limit: more than 10,000 functions with the imported ones, a type of more than 1,024 results, a table of
+/// more than 1,024 slots, a memory of more than 256 pages, or a function with more than 4,096 locals with its parameters,
+/// more than 256 blocks, loops and ifs open at one place, or a br_table of more than 1,024 targets beside the default. The
+/// first four are tested in this order, and then the last three, in this order, for each function in turn; the value is that
+/// of the first type, table, memory, function or br_table that has too many. Nothing is read by recursion but the spelling
+/// of a number, and no room is made that the bytes don't fill.
 pub fn decode(alloc: Global, bytes: &[u8]) -> Result<Module, DecodeError>
     ensures answer { Answers bytes.now result }
     ensures only { (tree : Module) → Spells bytes.now tree → AnswersOf tree result }

@@ -1,9 +1,10 @@
-//! Whether a tree is supported: no floats, no start function, no extension by sign.
-ghost use Rattle.std.specs.Prelude.{◌↔◌, All, IfSome, IsFalse, IsTrue};
-ghost use Rattle.bl_decode.specs.Supported.{IsInteger, IsIntegerCode, IsIntegerFunction, IsIntegerImport, IsIntegerInstr, IsSupported};
+//! Whether a tree is supported: no floats, and no start function.
+ghost use Rattle.std.specs.Prelude.{◌↔◌, All, IsFalse, IsTrue};
+ghost use Rattle.bl_wasm.specs.Validity.{IsInteger, HasIntegerType};
+ghost use Rattle.bl_decode.specs.Supported.{IsIntegerCode, IsIntegerFunction, IsIntegerImport, IsIntegerInstr, IsSupported};
 
 use bl_wasm::{
-    Code, DataSegment, DefinedGlobal, ElementSegment, FuncType, Import, ImportKind, Instr,
+    BlockType, Code, DataSegment, DefinedGlobal, ElementSegment, FuncType, Import, ImportKind, Instr,
     LocalRun, Module, WasmType,
 };
 
@@ -53,32 +54,32 @@ fn are_integer_imports(imports: &[Import]) -> bool
     imports.iter().all(|entry| is_integer_import(entry.kind))
 }
 
-/// Whether a block's result is an integer, where it has one.
-fn is_integer_block(kind: Option<WasmType>) -> bool
-    ensures { IsTrue result ↔ IfSome kind IsInteger }
+/// Whether a block's type is no float.
+fn is_integer_block(block_type: BlockType) -> bool
+    ensures { IsTrue result ↔ HasIntegerType block_type }
 {
-    match kind {
-        Some(kind) => is_integer(kind),
-        None => true,
+    match block_type {
+        BlockType::Value(kind) => is_integer(kind),
+        BlockType::Empty | BlockType::Index(_) => true,
     }
 }
 
-/// Whether the instruction is one of version 1.0 without floats.
+/// Whether the instruction is without floats.
 fn is_integer_instr(item: &Instr) -> bool
     ensures { IsTrue result ↔ IsIntegerInstr item.now }
 {
     match item {
-        Instr::Block(kind) | Instr::Loop(kind) | Instr::If(kind) => is_integer_block(*kind),
-        Instr::FloatAccess { .. }
-        | Instr::F32Const(_)
-        | Instr::F64Const(_)
-        | Instr::Float(_)
-        | Instr::Extend(_) => false,
+        Instr::Block(block_type) | Instr::Loop(block_type) | Instr::If(block_type) => {
+            is_integer_block(*block_type)
+        }
+        Instr::FloatAccess { .. } | Instr::F32Const(_) | Instr::F64Const(_) | Instr::Float(_) => {
+            false
+        }
         _ => true,
     }
 }
 
-/// Whether the instructions are all of version 1.0 without floats.
+/// Whether the instructions are all without floats.
 fn are_integer_instrs(items: &[Instr]) -> bool
     ensures { IsTrue result ↔ All IsIntegerInstr items.now }
 {

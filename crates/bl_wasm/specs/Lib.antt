@@ -1,6 +1,7 @@
 pub mod Codes
 pub mod Exports
 pub mod Instructions
+pub mod Limits
 pub mod Linked
 pub mod Modules
 pub mod Nesting

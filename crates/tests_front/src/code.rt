@@ -1,7 +1,67 @@
-use super::*;
+use bl_code::{
+    CodeError, Index, read_block_type, read_expression, read_instr, read_limits, read_name,
+    read_sized, read_vec,
+};
 use bl_ops::{AccessKind, Op};
-use bl_wasm::{Instr, Limits, MemoryArgument};
+use bl_wasm::{BlockType, Instr, Limits, MemoryArgument, WasmType};
 use std::test::Fail;
+
+/// Spellings of block types, and the place after each; None where no block type begins.
+static BLOCK_TYPES: [(&[u8], Option<(BlockType, usize)>); 21] = [
+    (&[0x40], Some((BlockType::Empty, 1))),
+    (&[0x7F], Some((BlockType::Value(WasmType::I32), 1))),
+    (&[0x7E], Some((BlockType::Value(WasmType::I64), 1))),
+    (&[0x7D], Some((BlockType::Value(WasmType::F32), 1))),
+    (&[0x7C], Some((BlockType::Value(WasmType::F64), 1))),
+    (&[0x00], Some((BlockType::Index(0), 1))),
+    (&[0x3F, 0x0B], Some((BlockType::Index(63), 1))),
+    (&[0xC0, 0x00], Some((BlockType::Index(64), 2))),
+    (
+        &[0x81, 0x80, 0x80, 0x80, 0x00],
+        Some((BlockType::Index(1), 5)),
+    ),
+    (
+        &[0xFF, 0xFF, 0xFF, 0xFF, 0x0F],
+        Some((BlockType::Index(4_294_967_295), 5)),
+    ),
+    // no value type, and negative numbers
+    (&[0x7B], None),
+    (&[0x41], None),
+    (&[0xC0, 0x7F], None),
+    (&[0xFF, 0x7F], None),
+    (&[0xFF, 0xFF, 0xFF, 0xFF, 0x7F], None),
+    (&[0x80, 0x80, 0x80, 0x80, 0x70], None),
+    // numbers of more than 33 bits, and spellings that are too long or end early
+    (&[0x80, 0x80, 0x80, 0x80, 0x10], None),
+    (&[0x81, 0x80, 0x80, 0x80, 0x80, 0x00], None),
+    (&[0x80], None),
+    (&[0xFF, 0xFF, 0xFF, 0xFF], None),
+    (&[], None),
+];
+
+#[test]
+fn a_block_type_is_nothing_a_value_type_or_an_index(rt: HostRuntime) -> Result<(), Fail> {
+    for (bytes, found) in BLOCK_TYPES.iter() {
+        let expected = found.ok_or(CodeError::Malformed);
+        assert!(rt; read_block_type(bytes, 0) == expected);
+    }
+    let alloc = rt.alloc();
+    let found = read_instr(alloc, &[0x03, 0x81, 0x00], 0);
+    assert!(rt; matches!(found, Ok((Instr::Loop(BlockType::Index(1)), 3))));
+    let found = read_instr(alloc, &[0x04, 0xFF, 0x7F], 0);
+    assert!(rt; matches!(found, Err(CodeError::Malformed)));
+    Ok(())
+}
+
+#[test]
+fn extensions_by_sign_are_integer_operators(rt: HostRuntime) -> Result<(), Fail> {
+    let alloc = rt.alloc();
+    let found = read_instr(alloc, &[0xC0], 0);
+    assert!(rt; matches!(found, Ok((Instr::Integer(Op::I32Extend8S), 1))));
+    let found = read_instr(alloc, &[0xC4], 0);
+    assert!(rt; matches!(found, Ok((Instr::Integer(Op::I64Extend32S), 1))));
+    Ok(())
+}
 
 #[test]
 fn instructions_are_those_of_the_opcode_table(rt: HostRuntime) -> Result<(), Fail> {
@@ -31,19 +91,32 @@ fn instructions_are_those_of_the_opcode_table(rt: HostRuntime) -> Result<(), Fai
 
 #[test]
 fn what_begins_no_instruction_is_malformed(rt: HostRuntime) -> Result<(), Fail> {
-    let spellings: [&[u8]; 12] = [
+    let spellings: [&[u8]; 19] = [
         &[],
+        // immediates that end early
         &[0x41],
+        &[0x42, 0x80],
+        &[0x0C],
+        &[0x20, 0x80],
         &[0x28, 0x02],
+        &[0x2A, 0x02],
         &[0x43, 0x00, 0x00, 0x00],
+        &[0x44, 0x00, 0x00, 0x00, 0x00, 0x00, 0x00, 0x00],
+        // reserved immediates that aren't zero
         &[0x11, 0x00, 0x01],
+        &[0x3F, 0x01],
+        &[0x40, 0x80, 0x00],
+        // codes of no instruction
         &[0x06],
         &[0x12],
         &[0xC5],
+        // no block type
         &[0x02, 0x7B],
-        &[0x3F, 0x01],
+        // labels that end early
         &[0x0E, 0x01, 0x00],
         &[0x0E, 0xFF, 0xFF, 0xFF, 0xFF, 0x0F, 0x00, 0x00],
+        // an index of more than 32 bits
+        &[0x10, 0x80, 0x80, 0x80, 0x80, 0x10],
     ];
     for bytes in spellings {
         let found = read_instr(rt.alloc(), bytes, 0);

@@ -1,6 +1,10 @@
-//! Tests of the public calls of the crates that read, check, link and run modules.
+//! Tests of the public calls of the front, from the bytes of a module to its linked tree and its runs.
 #![tactic(auto)]
 
+#[cfg(test)]
+mod code;
+#[cfg(test)]
+mod decode;
 #[cfg(test)]
 mod leb;
 #[cfg(test)]

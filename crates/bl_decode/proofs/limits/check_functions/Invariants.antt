@@ -3,7 +3,7 @@ use Rattle.std.specs.List.{zip}
 use Rattle.std.specs.Option.{option_or}
 use Rattle.std.specs.Iterator.Adapters.{zip_first, zip_second}
 use Rattle.std.specs.Slice.Iter.{iter_rest}
-use Rattle.bl_decode.specs.Limits.{first_in, function_excess}
+use Rattle.bl_wasm.specs.Limits.{first_in, function_excess}
 use Rattle.bl_decode.specs.Supported.{IsIntegerCode}
 use Rattle.bl_decode.proofs.limits.check_functions.Given as goal
 

@@ -1,5 +1,5 @@
 use Rattle.std.proofs.Common.{◌≡◌, drop}
-use Rattle.bl_decode.specs.Limits.{first_in, targets_above}
+use Rattle.bl_wasm.specs.Limits.{first_in, targets_above}
 use Rattle.bl_decode.proofs.limits.first_targets.Given as goal
 
 abbrev pub invariant-loop-item : goal.invariant-loop-item

@@ -1,10 +1,11 @@
-use Rattle.std.proofs.Common.{◌≡◌, ◌+◌, count_by, take}
-use Rattle.bl_decode.specs.Limits.{begins, ends, greatest_open}
+use Rattle.std.proofs.Common.{◌≡◌, ◌+◌, ◌≤◌}
+use Rattle.bl_wasm.specs.Limits.{greatest_depth}
+use Rattle.bl_wasm.specs.Nesting.{depth_at}
 use Rattle.bl_decode.proofs.limits.nesting.Given as goal
 
 abbrev pub invariant-loop-item : goal.invariant-loop-item
 invariant-loop-item l = record {
-  begun : l.begun ≡ count_by begins (take l.item-index l.items);
-  ended : l.ended ≡ count_by ends (take l.item-index l.items);
-  deepest : l.deepest ≡ greatest_open l.items (l.item-index + 1);
+  depth : l.depth ≡ depth_at l.items l.item-index;
+  few : l.depth ≤ l.item-index;
+  deepest : l.deepest ≡ greatest_depth l.items (l.item-index + 1);
 }

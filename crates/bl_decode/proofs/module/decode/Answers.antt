@@ -1,12 +1,12 @@
 use Rattle.std.proofs.Common.{◌≡◌, ◌∙◌, sym, subst, Some, None}
 use Rattle.bl_wasm.specs.declared.module.Module.{Module}
 use Rattle.bl_decode.specs.Supported.{IsSupported}
-use Rattle.bl_decode.specs.Limits.{first_excess}
-use Rattle.bl_decode.proofs.Trees.{one_spelled, few_locals}
+use Rattle.bl_wasm.specs.Limits.{first_excess}
+use Rattle.bl_decode.proofs.Trees.{one_spelled, spelled_bodies}
 use Rattle.bl_decode.proofs.module.decode.Goals as goal
 
-pub check-requires-clause-few : goal.check-requires-clause-few
-check-requires-clause-few c = few_locals c.args.bytes.now c.in-Ok.tree c.in-Ok.ensures
+pub check-requires-clause-spelled : goal.check-requires-clause-spelled
+check-requires-clause-spelled c = spelled_bodies c.args.bytes.now c.in-Ok.tree c.in-Ok.ensures
 
 pub returns-in_default-clause-only : goal.returns-in_default-clause-only
 returns-in_default-clause-only c = λ tree h s.

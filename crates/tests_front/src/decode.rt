@@ -1,5 +1,5 @@
-use super::*;
 use bl_base::{NoMemory, Quantity};
+use bl_decode::{DecodeError, decode};
 use std::alloc::Global;
 use std::test::Fail;
 
@@ -44,7 +44,12 @@ fn a_module_is_decoded_whole(rt: HostRuntime) -> Result<(), Fail> {
     let alloc = rt.alloc();
     for len in 0..LOADS.len() {
         let whole = len == 8 || len == 16;
-        assert_eq!(rt; decode(alloc, &LOADS[..len]).is_ok(), whole);
+        let cause = if whole {
+            None
+        } else {
+            Some(DecodeError::Malformed)
+        };
+        assert_eq!(rt; decode(alloc, &LOADS[..len]).err(), cause);
     }
     let tree = decode(alloc, &LOADS).expect(&rt, "the module is decoded");
     assert_eq!(rt; tree.types.len(), 1);
@@ -74,12 +79,86 @@ fn a_size_of_five_bytes_gives_the_same_tree(rt: HostRuntime) -> Result<(), Fail>
     Ok(())
 }
 
+/// Sections that break one rule of the grammar each.
+static MALFORMED: [&[u8]; 22] = [
+    // an id of no section, and a section longer than the module
+    &[0x0C, 0x01, 0x00],
+    &[0x01, 0x05, 0x01, 0x60, 0x00, 0x00],
+    // a size in six bytes
+    &[0x01, 0x81, 0x80, 0x80, 0x80, 0x80, 0x00, 0x00],
+    // a custom section without a name, and one whose name is longer than it
+    &[0x00, 0x00],
+    &[0x00, 0x01, 0x02],
+    // a type without 60, and one of no value type
+    &[0x01, 0x04, 0x01, 0x61, 0x00, 0x00],
+    &[0x01, 0x05, 0x01, 0x60, 0x01, 0x7B, 0x00],
+    // an import of no kind, and of a table without 70
+    &[0x02, 0x05, 0x01, 0x00, 0x00, 0x04, 0x00],
+    &[0x02, 0x07, 0x01, 0x00, 0x00, 0x01, 0x6F, 0x00, 0x00],
+    // an index of a type in six bytes
+    &[0x03, 0x07, 0x01, 0x80, 0x80, 0x80, 0x80, 0x80, 0x00],
+    // a table without 70, and limits of no form
+    &[0x04, 0x04, 0x01, 0x6F, 0x00, 0x00],
+    &[0x05, 0x03, 0x01, 0x02, 0x00],
+    &[0x05, 0x03, 0x01, 0x01, 0x00],
+    // a global of no value type, one that neither can be set nor can't, and a first value without its end
+    &[0x06, 0x06, 0x01, 0x7B, 0x00, 0x41, 0x00, 0x0B],
+    &[0x06, 0x06, 0x01, 0x7F, 0x02, 0x41, 0x00, 0x0B],
+    &[0x06, 0x05, 0x01, 0x7F, 0x00, 0x41, 0x00],
+    // an export of no kind, and one whose name isn't UTF-8
+    &[0x07, 0x04, 0x01, 0x00, 0x04, 0x00],
+    &[0x07, 0x05, 0x01, 0x01, 0xFF, 0x00, 0x00],
+    // a start section longer than its index
+    &[0x08, 0x02, 0x00, 0x00],
+    // an offset without its end, and fewer bytes than a segment counts
+    &[0x09, 0x04, 0x01, 0x00, 0x41, 0x00],
+    &[0x0B, 0x06, 0x01, 0x00, 0x41, 0x00, 0x0B, 0x01],
+    // code without a function
+    &CODE,
+];
+
+#[test]
+fn each_rule_of_the_grammar_is_tested(rt: HostRuntime) -> Result<(), Fail> {
+    let alloc = rt.alloc();
+    let malformed = Some(DecodeError::Malformed);
+    for section in MALFORMED.iter() {
+        assert_eq!(rt; refusal(alloc, &[section])?, malformed);
+    }
+    // another first word, and another version
+    let found = decode(alloc, &[0x00, 0x61, 0x73, 0x6E, 0x01, 0x00, 0x00, 0x00]);
+    assert_eq!(rt; found.err(), malformed);
+    let found = decode(alloc, &[0x00, 0x61, 0x73, 0x6D, 0x02, 0x00, 0x00, 0x00]);
+    assert_eq!(rt; found.err(), malformed);
+    Ok(())
+}
+
+#[test]
+fn a_type_has_at_most_1024_results(rt: HostRuntime) -> Result<(), Fail> {
+    let alloc = rt.alloc();
+    let most = times(alloc, &[0x7F], 1_024)?;
+    let largest: [&[u8]; 2] = [&[0x01, 0x85, 0x08, 0x01, 0x60, 0x00, 0x80, 0x08], &most];
+    assert_eq!(rt; refusal(alloc, &largest)?, None);
+    // one more, before a table of 1,025 slots
+    let results = times(alloc, &[0x7F], 1_025)?;
+    let larger: [&[u8]; 3] = [
+        &[0x01, 0x86, 0x08, 0x01, 0x60, 0x00, 0x81, 0x08],
+        &results,
+        &[0x04, 0x05, 0x01, 0x70, 0x00, 0x81, 0x08],
+    ];
+    let cause = DecodeError::Limit {
+        which: Quantity::Results,
+        value: 1025,
+    };
+    assert_eq!(rt; refusal(alloc, &larger)?, Some(cause));
+    Ok(())
+}
+
 #[test]
 fn each_refusal_has_its_cause(rt: HostRuntime) -> Result<(), Fail> {
     let alloc = rt.alloc();
     let malformed = Some(DecodeError::Malformed);
     let custom = [0x00, 0x03, 0x01, 0x61, 0xFF];
-    let table: [(&[&[u8]], Option<DecodeError>); 14] = [
+    let table: [(&[&[u8]], Option<DecodeError>); 16] = [
         (&[&custom, &TYPE, &custom, &FUNCTION, &CODE, &custom], None),
         // sections out of order, and of unequal counts
         (&[&FUNCTION, &TYPE, &CODE], malformed),
@@ -111,7 +190,16 @@ fn each_refusal_has_its_cause(rt: HostRuntime) -> Result<(), Fail> {
             ],
             malformed,
         ),
-        // a float, a start function, an extension by sign
+        // an extension by sign
+        (
+            &[
+                &TYPE,
+                &FUNCTION,
+                &[0x0A, 0x05, 0x01, 0x03, 0x00, 0xC0, 0x0B],
+            ],
+            None,
+        ),
+        // a type of floats, a start function, a constant float, a block of a float
         (
             &[&[0x01, 0x05, 0x01, 0x60, 0x01, 0x7C, 0x00]],
             Some(DecodeError::Unsupported),
@@ -124,7 +212,17 @@ fn each_refusal_has_its_cause(rt: HostRuntime) -> Result<(), Fail> {
             &[
                 &TYPE,
                 &FUNCTION,
-                &[0x0A, 0x05, 0x01, 0x03, 0x00, 0xC0, 0x0B],
+                &[
+                    0x0A, 0x09, 0x01, 0x07, 0x00, 0x43, 0x00, 0x00, 0x00, 0x00, 0x0B,
+                ],
+            ],
+            Some(DecodeError::Unsupported),
+        ),
+        (
+            &[
+                &TYPE,
+                &FUNCTION,
+                &[0x0A, 0x07, 0x01, 0x05, 0x00, 0x02, 0x7C, 0x0B, 0x0B],
             ],
             Some(DecodeError::Unsupported),
         ),
