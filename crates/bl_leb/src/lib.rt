@@ -8,6 +8,3 @@ mod read;
 
 pub use push::{push_i32, push_u32, push_u64};
 pub use read::{read_i32, read_i64, read_s33, read_short, read_u32};
-
-#[cfg(test)]
-mod tests;

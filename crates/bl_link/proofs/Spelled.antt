@@ -3,6 +3,9 @@ use Rattle.std.proofs.Common.{◌≡◌, ℕ, ◌<◌, ◌≤◌, ◌^◌, inl, 
 use Rattle.std.specs.List.{All, zip}
 use Rattle.std.specs.Str.{IsUtf8}
 use Rattle.std.proofs.lemmas.List.Elements.{All-nil, All-cons}
+use Rattle.bl_base.specs.Quantity.{limit_of}
+use Rattle.bl_base.specs.declared.quantity.Quantity.TheVariants.{Functions, Locals, Results}
+use Rattle.bl_wasm.specs.Limits.{local_count}
 use Rattle.bl_wasm.specs.Values.{Spellings, each}
 use Rattle.bl_wasm.specs.Sections.{export_entry, global_entry, vec_section}
 use Rattle.bl_wasm.specs.Modules.{Spells, ◌▷◌}
@@ -10,7 +13,7 @@ use Rattle.bl_wasm.specs.declared.module.CustomSection.{CustomSection}
 use Rattle.bl_wasm.specs.declared.module.DefinedGlobal.{DefinedGlobal}
 use Rattle.bl_wasm.specs.declared.module.Export.{Export}
 use Rattle.bl_wasm.specs.declared.module.Module.{Module}
-use Rattle.bl_link.specs.Alone.{IsAlone, locals_of}
+use Rattle.bl_link.specs.Alone.{IsAlone}
 
 -- ---- spellings of several, one after another
 
@@ -99,15 +102,16 @@ spelled_parts bytes tree h =
     )
 
 -- a module by its bytes
-pub alone_from : (bytes : List ℕ) (tree : Module) → Spells bytes tree → length bytes < 2 ^ 26 → tree.imports ≡ [] → tree.tables ≡ [] → tree.memories ≡ [] → length tree.functions ≤ 10000
-    → All (λ defined. locals_of tree.types defined ≤ 4096) (zip tree.functions tree.bodies) → IsAlone tree
-alone_from bytes tree spelled few imports tables memories functions locals =
+pub alone_from : (bytes : List ℕ) (tree : Module) → Spells bytes tree → length bytes < 2 ^ 26 → tree.imports ≡ [] → tree.tables ≡ [] → tree.memories ≡ [] → length tree.functions ≤ limit_of Functions
+    → All (λ type. length type.results ≤ limit_of Results) tree.types → All (λ defined. local_count tree.types defined ≤ limit_of Locals) (zip tree.functions tree.bodies) → IsAlone tree
+alone_from bytes tree spelled few imports tables memories functions results locals =
     let parts = spelled_parts bytes tree spelled in
     record {
       imports = imports;
       tables = tables;
       memories = memories;
       functions = functions;
+      results = results;
       globals = omega (arith, parts.0, few);
       locals = locals;
       names = parts.1;

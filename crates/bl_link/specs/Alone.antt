@@ -1,11 +1,14 @@
 -- The linked tree of one module that imports nothing, and has no table and no memory (WebAssembly 1.0, section 4.5.4).
-use Rattle.std.specs.Prelude.{◌≡◌, ℕ, ◌+◌, ◌^◌, ◌<◌, ◌≤◌, ◌++◌, List, [], ◌∷◌, length, map, replicate, filter_map, slice_get, sum_by, Option, Some, None}
+use Rattle.std.specs.Prelude.{◌≡◌, ℕ, ◌^◌, ◌<◌, ◌≤◌, ◌++◌, List, [], ◌∷◌, length, map, replicate, filter_map, slice_get, Bool, false, Option, Some, None}
 use Rattle.std.specs.List.{All, zip}
 use Rattle.std.specs.Str.{IsUtf8}
+use Rattle.bl_base.specs.Quantity.{limit_of}
 use Rattle.bl_base.specs.declared.names.Label.{Label}
 use Rattle.bl_base.specs.declared.names.Label.TheVariants.{Public}
 use Rattle.bl_base.specs.declared.names.ValueType.{ValueType}
 use Rattle.bl_base.specs.declared.names.ValueType.TheVariants as value
+use Rattle.bl_base.specs.declared.quantity.Quantity.TheVariants.{Functions, Locals, Results}
+use Rattle.bl_wasm.specs.Limits.{local_count}
 use Rattle.bl_wasm.specs.declared.instruction.Instr.{Instr}
 use Rattle.bl_wasm.specs.declared.instruction.Instr.TheVariants.{I32Const, I64Const}
 use Rattle.bl_wasm.specs.declared.types.WasmType.{WasmType}
@@ -24,23 +27,15 @@ use Rattle.bl_wasm.specs.declared.linked.Tree.{Tree}
 
 -- ---- which modules
 
--- the number of a type's parameters; none where there is no such type
-abbrev pub count_of : Option FuncType → ℕ
-count_of None = 0
-count_of (Some type) = length type.params
-
--- the number of a function's locals, with its parameters
-abbrev pub locals_of : List FuncType → ℕ × Code → ℕ
-locals_of types defined = count_of (slice_get types defined.0) + sum_by (λ run. run.count) defined.1.locals
-
 -- a module that imports nothing, has no table and no memory, and is within the limits
 pub record IsAlone (tree : Module) : Type 0 where
   pub imports : tree.imports ≡ []
   pub tables : tree.tables ≡ []
   pub memories : tree.memories ≡ []
-  pub functions : length tree.functions ≤ 10000
+  pub functions : length tree.functions ≤ limit_of Functions
+  pub results : All (λ type. length type.results ≤ limit_of Results) tree.types
   pub globals : length tree.globals < 2 ^ 26
-  pub locals : All (λ defined. locals_of tree.types defined ≤ 4096) (zip tree.functions tree.bodies)
+  pub locals : All (λ defined. local_count tree.types defined ≤ limit_of Locals) (zip tree.functions tree.bodies)
   pub names : All (λ entry. IsUtf8 entry.name) tree.exports
 
 -- ---- the tree of such a module
@@ -61,11 +56,17 @@ abbrev pub labels_of : Option FuncType → List Label
 labels_of None = []
 labels_of (Some type) = replicate (length type.params) Public
 
+-- and no result is demanded
+abbrev pub demanded_of : Option FuncType → List Bool
+demanded_of None = []
+demanded_of (Some type) = replicate (length type.results) false
+
 -- a function, by its type index and its code
 abbrev pub function : List FuncType → ℕ × Code → Function
 function types defined = record {
   type_index = defined.0;
   labels = labels_of (slice_get types defined.0);
+  demanded = demanded_of (slice_get types defined.0);
   code = defined.1;
   memory = None;
   table = None;
@@ -77,13 +78,14 @@ first_value (I32Const n ∷ []) = n
 first_value (I64Const n ∷ []) = n
 first_value items = 0
 
--- a global, which is public
+-- a global, which is public and isn't demanded
 abbrev pub global : DefinedGlobal → Global
 global defined = record {
   kind = value_of defined.kind.kind;
   mutable = defined.kind.mutable;
   first = first_value defined.first;
   label = Public;
+  demanded = false;
 }
 
 -- the name of an export behind the module's: a solidus parts them

@@ -2,7 +2,7 @@
 ghost use Rattle.std.specs.Prelude.{◌≡◌, ◌<◌, ◌^◌, map, option_copied, replicate, IfOk};
 ghost use Rattle.std.specs.List.{All, zip};
 ghost use Rattle.bl_wasm.specs.Linked.{HasImmediates};
-ghost use Rattle.bl_link.specs.Alone.{function as function_of, labels_of};
+ghost use Rattle.bl_link.specs.Alone.{demanded_of, function as function_of, labels_of};
 
 use bl_base::{Label, List, NoMemory};
 use bl_wasm::{Code, FuncType, Function, Instr};
@@ -33,11 +33,14 @@ fn function(alloc: Global, types: &[FuncType], index: u32, code: Code) -> Result
     ensures whole { IfOk result (λ function. function ≡ function_of types.now (index, code)) }
     ensures immediates { IfOk result (λ function. All HasImmediates function.code.items) }
 {
-    let labels = labels(alloc, types.get(index as usize))?;
+    let kind = types.get(index as usize);
+    let labels = labels(alloc, kind)?;
+    let demanded = demanded(alloc, kind)?;
     read_all(code.items.as_slice());
     Ok(Function {
         type_index: index,
         labels,
+        demanded,
         code,
         memory: None,
         table: None,
@@ -49,20 +52,30 @@ fn labels(alloc: Global, kind: Option<&FuncType>) -> Result<List<Label>, NoMemor
     ensures { IfOk result (λ labels. labels ≡ labels_of (option_copied kind.entry)) }
 {
     match kind {
-        Some(found) => all_public(alloc, found.params.len()),
+        Some(found) => repeated(alloc, Label::Public, found.params.len()),
         None => Ok(List::new(alloc)),
     }
 }
 
-/// So many labels, all public.
-fn all_public(alloc: Global, count: usize) -> Result<List<Label>, NoMemory>
-    ensures { IfOk result (λ labels. labels ≡ replicate count Label.Public) }
+/// No result of the type is demanded public.
+fn demanded(alloc: Global, kind: Option<&FuncType>) -> Result<List<bool>, NoMemory>
+    ensures { IfOk result (λ demanded. demanded ≡ demanded_of (option_copied kind.entry)) }
 {
-    let mut labels = List::new(alloc);
-    for _done in 0..count {
-        labels.push(Label::Public)?;
+    match kind {
+        Some(found) => repeated(alloc, false, found.results.len()),
+        None => Ok(List::new(alloc)),
     }
-    Ok(labels)
+}
+
+/// So many times one value.
+fn repeated<T: Copy + Drop>(alloc: Global, x: T, count: usize) -> Result<List<T>, NoMemory>
+    ensures { IfOk result (λ all. all ≡ replicate count x) }
+{
+    let mut all = List::new(alloc);
+    for _done in 0..count {
+        all.push(x)?;
+    }
+    Ok(all)
 }
 
 /// Reads the immediates of the items, whose types say that they are numbers of their widths.

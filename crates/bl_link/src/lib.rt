@@ -7,5 +7,3 @@ mod parts;
 
 pub use alone::link_alone;
 
-#[cfg(test)]
-mod tests;

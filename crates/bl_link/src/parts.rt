@@ -78,6 +78,7 @@ fn global(defined: &DefinedGlobal) -> bl_wasm::Global
         mutable: defined.kind.mutable,
         first: first(defined.kind.kind, defined.first.as_slice()),
         label: Label::Public,
+        demanded: false,
     }
 }
 

@@ -14,11 +14,12 @@ use Rattle.bl_wasm.specs.declared.linked.Tree.{Tree}
 use Rattle.bl_reduce.specs.Calls.{most_depth, depth, type_of, operands, caller, call_at, call, entered as entered_frame, enter}
 use Rattle.bl_reduce.specs.Configurations.{Store, Frame, State, entering, go, known, trap}
 use Rattle.bl_reduce.specs.TypedConfigurations.{IsEntering}
-use Rattle.bl_reduce.proofs.Zips.{zip_length}
-use Rattle.bl_machine.specs.Bodies.{body_of, params_of}
+use Rattle.bl_base.proofs.Lists.{zip_length}
+use Rattle.bl_machine.specs.Bodies.{body_of}
+use Rattle.bl_machine.specs.Jumps.{counted}
 use Rattle.bl_machine.specs.Machines.{trapped, most_callers, called, entered}
-use Rattle.bl_machine.specs.Matching.{Pile, under, AreActivations, IsState, IsEntry, Follows}
-use Rattle.bl_machine.specs.Moves.{call_of, entered_at}
+use Rattle.bl_machine.specs.MatchStates.{Pile, under, AreActivations, IsState, IsEntry, simulates}
+use Rattle.bl_machine.specs.Transitions.{call_of, entered_at}
 use Rattle.bl_machine.specs.declared.body.Body.{Body}
 use Rattle.bl_machine.specs.declared.machine.Activation.{Activation}
 use Rattle.bl_machine.specs.declared.machine.Machine.{Machine}
@@ -40,10 +41,10 @@ module _ (tree : Tree) where
     abbrev new_frame : Frame
     new_frame = entered_frame number typed.function typed.type arguments
 
-    given : length arguments ≡ params_of (slice_get tree.types typed.function.type_index)
-    given = sym (zip_length ArgumentFits typed.type.params arguments typed.arguments_are) ∙ ap params_of (sym typed.typed)
+    given : length arguments ≡ (counted (slice_get tree.types typed.function.type_index)).params
+    given = sym (zip_length ArgumentFits typed.type.params arguments typed.arguments_are) ∙ ap (λ o. (counted o).params) (sym typed.typed)
 
-    entered_is : Follows tree (entered number (body_of tree typed.function) m) (go (record { store = store; frame = new_frame; callers = callers }))
+    entered_is : simulates tree (entered number (body_of tree typed.function) m) (go (record { store = store; frame = new_frame; callers = callers }))
     entered_is = record {
       memories = is.memories;
       globals = is.globals;
@@ -52,7 +53,7 @@ module _ (tree : Tree) where
         exists = typed.exists;
         number = refl;
         place = refl;
-        arity = ap arity_by typed.typed;
+        arity = ap (λ o. (counted o).results) typed.typed;
         values = is.values ∙ sym (append-nil is.lower.values);
         locals = ap (λ ls. ls ++ replicate (body_of tree typed.function).zeros 0) is.locals ∙ append_assoc is.lower.locals arguments (replicate (body_of tree typed.function).zeros 0)
             ∙ ap (λ n. is.lower.locals ++ (arguments ++ replicate n 0)) (sym (locals_counted typed.function.code));
@@ -65,18 +66,14 @@ module _ (tree : Tree) where
       };
       callers = is.callers_are;
     }
-      where
-        arity_by : Option Signature → ℕ
-        arity_by None = 0
-        arity_by (Some type) = length type.results
 
-    pub enter_follows : Follows tree (entered_at (slice_get bodies number) number m) (enter tree store number arguments callers)
-    enter_follows =
-        subst (λ o. Follows tree (entered_at o number m) (enter tree store number arguments callers)) (sym (body_got number typed.function typed.exists))
-        (subst (λ o. Follows tree (entered number (body_of tree typed.function) m)
+    pub enter_simulates : simulates tree (entered_at (slice_get bodies number) number m) (enter tree store number arguments callers)
+    enter_simulates =
+        subst (λ o. simulates tree (entered_at o number m) (enter tree store number arguments callers)) (sym (body_got number typed.function typed.exists))
+        (subst (λ o. simulates tree (entered number (body_of tree typed.function) m)
         (known o (λ function. known (slice_get tree.types function.type_index) (λ type. go (record { store = store; frame = entered_frame number function type arguments; callers = callers })))))
         (sym typed.exists)
-        (subst (λ o. Follows tree (entered number (body_of tree typed.function) m)
+        (subst (λ o. simulates tree (entered number (body_of tree typed.function) m)
         (known o (λ type. go (record { store = store; frame = entered_frame number typed.function type arguments; callers = callers }))))
         (sym typed.typed) entered_is))
 
@@ -120,7 +117,7 @@ module _ (tree : Tree) where
       abbrev upper : Pile
       upper = record { values = take (length m.stack - params) m.stack; locals = m.locals; labels = m.labels }
 
-      called_is : Follows tree (called number params m) (goes (entering state.store number (operands params state) (caller params state ∷ state.callers)))
+      called_is : simulates tree (called number params m) (goes (entering state.store number (operands params state) (caller params state ∷ state.callers)))
       called_is = (
         refl,
         record {
@@ -158,18 +155,18 @@ module _ (tree : Tree) where
     by_depth true e = let h = ltb-true (length m.callers) most_callers e in lt-ltb (depth state) most_depth (omega (arith, h, many))
     by_depth false e = let h = ltb-false (length m.callers) most_callers e in le-ltb (depth state) most_depth (omega (arith, h, many))
 
-    call_at_follows : (type : Signature) → length type.params ≤ length state.frame.values
-        → Follows tree (if nat_lt (length m.callers) most_callers then called number (length type.params) m else trapped trap_kind.StackExhausted m) (call_at type number state)
-    call_at_follows type enough = from (nat_lt (length m.callers) most_callers) refl
+    call_at_simulates : (type : Signature) → length type.params ≤ length state.frame.values
+        → simulates tree (if nat_lt (length m.callers) most_callers then called number (length type.params) m else trapped trap_kind.StackExhausted m) (call_at type number state)
+    call_at_simulates type enough = from (nat_lt (length m.callers) most_callers) refl
       where
         from : (b : Bool) → nat_lt (length m.callers) most_callers ≡ b
-            → Follows tree (if b then called number (length type.params) m else trapped trap_kind.StackExhausted m) (call_at type number state)
+            → simulates tree (if b then called number (length type.params) m else trapped trap_kind.StackExhausted m) (call_at type number state)
         from true e =
-            subst (λ b. Follows tree (called number (length type.params) m)
+            subst (λ b. simulates tree (called number (length type.params) m)
             (if b then goes (entering state.store number (operands (length type.params) state) (caller (length type.params) state ∷ state.callers)) else trap trap_kind.StackExhausted state))
             (sym (by_depth true e)) (called_is (length type.params) enough)
         from false e =
-            subst (λ b. Follows tree (trapped trap_kind.StackExhausted m)
+            subst (λ b. simulates tree (trapped trap_kind.StackExhausted m)
             (if b then goes (entering state.store number (operands (length type.params) state) (caller (length type.params) state ∷ state.callers)) else trap trap_kind.StackExhausted state))
             (sym (by_depth false e)) (ap (trapped_with trap_kind.StackExhausted) is.memories)
 
@@ -177,18 +174,18 @@ module _ (tree : Tree) where
     abbrev pub HasOperands : Type 0
     HasOperands = (type : Signature) → type_of tree number ≡ Some type → length type.params ≤ length state.frame.values
 
-    pub call_follows : HasOperands → Then tree (call_of (slice_get bodies number) number m) (call tree number state)
-    call_follows enough = from (slice_get tree.functions number) refl
+    pub call_simulates : HasOperands → Then tree (call_of (slice_get bodies number) number m) (call tree number state)
+    call_simulates enough = from (slice_get tree.functions number) refl
       where
         to : (function : Function) (o : Option Signature) → slice_get tree.types function.type_index ≡ o → slice_get tree.functions number ≡ Some function
-            → Then tree (if nat_lt (length m.callers) most_callers then called number (params_of o) m else trapped trap_kind.StackExhausted m) (known o (λ type. call_at type number state))
+            → Then tree (if nat_lt (length m.callers) most_callers then called number (counted o).params m else trapped trap_kind.StackExhausted m) (known o (λ type. call_at type number state))
         to function None e f has = absurd has
         to function (Some type) e f has =
-            call_at_follows type (enough type (ap (option_and_then (λ function. slice_get tree.types function.type_index)) f ∙ e))
+            call_at_simulates type (enough type (ap (option_and_then (λ function. slice_get tree.types function.type_index)) f ∙ e))
 
         from : (o : Option Function) → slice_get tree.functions number ≡ o
             → Then tree (call_of (slice_get bodies number) number m) (known (option_and_then (λ function. slice_get tree.types function.type_index) o) (λ type. call_at type number state))
         from None e has = absurd has
         from (Some function) e has =
-            subst (λ o. Follows tree (call_of o number m) (known (slice_get tree.types function.type_index) (λ type. call_at type number state))) (sym (body_got number function e))
+            subst (λ o. simulates tree (call_of o number m) (known (slice_get tree.types function.type_index) (λ type. call_at type number state))) (sym (body_got number function e))
             (to function (slice_get tree.types function.type_index) refl e has)

@@ -1,7 +1,7 @@
 -- Runs of the machine, from the steps that it follows.
 use Rattle.std.proofs.Common.{◌≡◌, ℕ, ◌+◌, ◌≤◌, true, false, List, [], ◌∷◌, map, refl, sym, ap, ◌∙◌, subst, arith}
 use Rattle.std.specs.List.{fold}
-use Rattle.bl_base.specs.Runs.{Outcome, returned, trapped, Next, goes, ends, Comes, EndsAfter, last}
+use Rattle.bl_base.specs.Runs.{Outcome, returned, trapped, Next, goes, ends, Comes, EndsAfter, last, Tells}
 use Rattle.bl_base.specs.declared.names.ValueType.{ValueType}
 use Rattle.bl_base.specs.declared.start.Patch.{Patch}
 use Rattle.bl_base.specs.declared.start.Start.{Start}
@@ -13,22 +13,22 @@ use Rattle.bl_reduce.specs.Configurations.{Config}
 use Rattle.bl_reduce.specs.Outcomes.{first_memory, patched, opening, IsStart, source}
 use Rattle.bl_reduce.specs.Steps.{source_step}
 use Rattle.bl_reduce.specs.TypedConfigurations.{IsTyped, IsTypedStep}
-use Rattle.bl_reduce.proofs.Soundness.{typed_opening, typed_step}
+use Rattle.bl_reduce.proofs.Soundness.{typed_opening, preservation}
 use Rattle.bl_machine.specs.Bodies.{body_of}
-use Rattle.bl_machine.specs.Interpreting.{Answers, Drives, has_ended, run_of, starting}
+use Rattle.bl_machine.specs.Interpreting.{Drives, has_ended, run_of, starting}
 use Rattle.bl_machine.specs.Machines.{Stepped}
-use Rattle.bl_machine.specs.Matching.{Matches, Leads}
-use Rattle.bl_machine.specs.Moves.{advanced}
+use Rattle.bl_machine.specs.MatchStates.{match_states, Leads}
+use Rattle.bl_machine.specs.Transitions.{advanced}
 use Rattle.bl_machine.specs.declared.machine.Machine.{Machine}
 use Rattle.bl_machine.specs.declared.machine.Progress.{Progress}
 use Rattle.bl_machine.specs.declared.machine.Progress.TheVariants.{Running, Entering, Returned, Trapped}
-use Rattle.bl_machine.proofs.Simulation.{step_follows}
+use Rattle.bl_machine.proofs.Simulation.{step_simulates}
 
 -- so many steps have come to a configuration that the machine stands for
 pub record Reached (tree : Tree) (function : ℕ) (start : Start) (steps : ℕ) (progress : Progress) (m : Machine) : Type 0 where
   pub config : Config
   pub comes : Comes (source_step tree) steps (opening tree function start) config
-  pub matches : Matches tree progress m config
+  pub matches : match_states tree progress m config
   pub results : List ValueType
   pub typed : IsTyped tree results config
 
@@ -91,10 +91,10 @@ pub stepped : (tree : Tree) (function : ℕ) (start : Start) (steps : ℕ) (prog
     → advanced tree.functions (map (body_of tree) tree.functions) progress m ≡ record { progress = later; machine = n }
     → After tree function start (steps + 1) later n
 stepped tree function start steps progress m later n linked memories tables r e =
-    let follows = step_follows tree linked memories tables r.results progress m r.config r.matches r.typed in
+    let follows = step_simulates tree linked memories tables r.results progress m r.config r.matches r.typed in
     let P : Stepped → Type 0 = λ s. After tree function start (steps + 1) s.progress s.machine in
     let s = advanced tree.functions (map (body_of tree) tree.functions) progress m in
-    subst P e (led tree function start steps r.config r.comes r.results s.progress s.machine (source_step tree r.config) refl (typed_step tree linked r.results r.config r.typed) follows)
+    subst P e (led tree function start steps r.config r.comes r.results s.progress s.machine (source_step tree r.config) refl (preservation tree linked r.results r.config r.typed) follows)
 
 pub goes_on : (tree : Tree) (function : ℕ) (start : Start) (steps : ℕ) (progress : Progress) (m : Machine) → has_ended progress ≡ false → After tree function start steps progress m
     → Reached tree function start steps progress m
@@ -129,7 +129,7 @@ not_within tree function start steps config comes n outcome s le =
     omega (arith, le, rest.1, some)
 
 pub answers : (tree : Tree) (function : ℕ) (start : Start) (steps : ℕ) (progress : Progress) (m : Machine) → IsStart tree function start
-    → Drives tree function start steps progress m → Answers tree function start steps (run_of progress m)
+    → Drives tree function start steps progress m → Tells (source tree function start) steps (run_of progress m)
 answers tree function start steps Running m is d = not_within tree function start steps d.0 d.1
 answers tree function start steps (Entering number) m is d = not_within tree function start steps d.0 d.1
 answers tree function start steps Returned m is d = (d.0, record { start_fits = is; run = d.1 }, d.2)

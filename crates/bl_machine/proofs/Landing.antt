@@ -1,10 +1,14 @@
 -- The places that were found for the ends of constructs are those where the rules go on.
 use Rattle.std.proofs.Common.{◌≡◌, ℕ, zero, suc, ◌+◌, List, [], ◌∷◌, length, drop, get_or, Some, None, slice_get, refl, sym, ap, ◌∙◌, subst, arith}
+use Rattle.std.specs.Prelude.{option_and_then, unwrap_or}
+use Rattle.bl_wasm.specs.Nesting.{Kind, of_block, of_loop, then_part, else_part, Construct, construct, kind_behind_else, behind_else}
 use Rattle.bl_wasm.specs.declared.instruction.Instr.{Instr}
 use Rattle.bl_wasm.specs.declared.instruction.Instr.TheVariants.{Block, Loop, If, Else, End}
-use Rattle.bl_reduce.specs.Control.{behind_end, second_part}
+use Rattle.bl_reduce.specs.Control.{items_behind_end, items_of_else}
+use Rattle.bl_wasm.specs.declared.linked.Signature.{Signature}
+use Rattle.bl_machine.specs.declared.jumps.Ends.{Ends}
 use Rattle.bl_machine.specs.declared.jumps.Jump.{Jump}
-use Rattle.bl_machine.specs.Jumps.{innermost, open_before, open_at, jumps_from, jumps_of}
+use Rattle.bl_machine.specs.Jumps.{counts_of, innermost, open_before, open_at, jumps_from, jumps_of}
 
 abbrev none_of : (A : Type 0) → List A
 none_of A = []
@@ -45,6 +49,13 @@ none_there place [] e = refl
 none_there zero (x ∷ body) e = cc
 none_there (suc place) (x ∷ body) e = none_there place body e
 
+-- an `else` leaves as many constructs open as there were
+as_many : (kind : Kind) (one : Construct) (ones : List Construct) → length (unwrap_or (option_and_then (λ k. Some (construct k one.type ∷ ones)) (kind_behind_else kind)) (one ∷ ones)) ≡ suc (length ones)
+as_many of_block one ones = refl
+as_many of_loop one ones = refl
+as_many then_part one ones = refl
+as_many else_part one ones = refl
+
 -- ---- the ends
 
 module _ (body : List Instr) where
@@ -52,61 +63,86 @@ module _ (body : List Instr) where
   last = length body
 
   -- the construct that is the innermost but so many
-  abbrev around : ℕ → List Jump → Jump
-  around depth jumps = innermost last (drop depth jumps)
+  abbrev around : ℕ → List Ends → Ends
+  around depth open_ones = innermost last (drop depth open_ones)
 
-  pub record Lands (depth : ℕ) (items : List Instr) (jumps : List Jump) : Type 0 where
-    pub end : behind_end depth items ≡ drop (around depth jumps).end body
-    pub second : second_part depth items ≡ drop (around depth jumps).second body
+  -- where these constructs are open within one, so many of them, its parts stand at the places that were found
+  pub record Lands (depth : ℕ) (within : List Construct) (items : List Instr) (open_ones : List Ends) : Type 0 where
+    pub end : items_behind_end within items ≡ drop (around depth open_ones).end body
+    pub else_part : items_of_else within items ≡ drop (around depth open_ones).else_part body
 
   -- with one construct fewer round the items
-  inner : (depth : ℕ) (items : List Instr) (jumps : List Jump) → Lands (suc depth) items jumps → (behind_end (suc depth) items ≡ drop (around depth (drop 1 jumps)).end body)
-      × (second_part (suc depth) items ≡ drop (around depth (drop 1 jumps)).second body)
-  inner depth items [] h =
-      let none : around depth (drop 1 []) ≡ around (suc depth) [] = ap (innermost last) (drop_none Jump depth) in
-      (rw none h.end, rw none h.second)
-  inner depth items (jump ∷ jumps) h = (h.end, h.second)
+  fewer : (depth : ℕ) (within : List Construct) (items : List Instr) (open_ones : List Ends) → Lands (suc depth) within items open_ones
+      → (items_behind_end within items ≡ drop (around depth (drop 1 open_ones)).end body) × (items_of_else within items ≡ drop (around depth (drop 1 open_ones)).else_part body)
+  fewer depth within items [] h =
+      let none : around depth (drop 1 []) ≡ around (suc depth) [] = ap (innermost last) (drop_none Ends depth) in
+      (rw none h.end, rw none h.else_part)
+  fewer depth within items (ends ∷ open_ones) h = (h.end, h.else_part)
 
-  module _ (place : ℕ) (items : List Instr) (outer : List Jump) (here : items ≡ drop (place + 1) body) where
-    landing : (item : Instr) (depth : ℕ) → item ∷ items ≡ drop place body → ((depth : ℕ) → Lands depth items outer) → Lands depth (item ∷ items) (open_before last place item outer)
-    landing (Block r) depth e h = let i = inner depth items outer (h (suc depth)) in record { end = i.0; second = i.1 }
-    landing (Loop r) depth e h = let i = inner depth items outer (h (suc depth)) in record { end = i.0; second = i.1 }
-    landing (If r) depth e h = let i = inner depth items outer (h (suc depth)) in record { end = i.0; second = i.1 }
-    landing Else zero e h = record { end = (h 0).end; second = here }
-    landing Else (suc depth) e h = let i = inner depth items outer (h (suc depth)) in record { end = i.0; second = i.1 }
-    landing End zero e h = record { end = here; second = e }
-    landing End (suc depth) e h = record { end = (h depth).end; second = (h depth).second }
-    landing item depth e h = record { end = (h depth).end; second = (h depth).second }
+  module _ (place : ℕ) (items : List Instr) (outer : List Ends) (here : items ≡ drop (place + 1) body) where
+    landing : (item : Instr) (depth : ℕ) (within : List Construct) → length within ≡ depth → item ∷ items ≡ drop place body
+        → ((depth : ℕ) (within : List Construct) → length within ≡ depth → Lands depth within items outer) → Lands depth within (item ∷ items) (open_before last place item outer)
+    landing (Block r) depth [] n e h = let i = fewer depth _ items outer (h (suc depth) (construct of_block r ∷ []) (ap suc n)) in record { end = i.0; else_part = i.1 }
+    landing (Loop r) depth [] n e h = let i = fewer depth _ items outer (h (suc depth) (construct of_loop r ∷ []) (ap suc n)) in record { end = i.0; else_part = i.1 }
+    landing (If r) depth [] n e h = let i = fewer depth _ items outer (h (suc depth) (construct then_part r ∷ []) (ap suc n)) in record { end = i.0; else_part = i.1 }
+    landing (Block r) depth (one ∷ ones) n e h =
+        let i = fewer depth _ items outer (h (suc depth) (construct of_block r ∷ one ∷ ones) (ap suc n)) in record { end = i.0; else_part = i.1 }
+    landing (Loop r) depth (one ∷ ones) n e h =
+        let i = fewer depth _ items outer (h (suc depth) (construct of_loop r ∷ one ∷ ones) (ap suc n)) in record { end = i.0; else_part = i.1 }
+    landing (If r) depth (one ∷ ones) n e h =
+        let i = fewer depth _ items outer (h (suc depth) (construct then_part r ∷ one ∷ ones) (ap suc n)) in record { end = i.0; else_part = i.1 }
+    landing Else depth [] n e h = subst (λ d. Lands d [] (Else ∷ items) (open_before last place Else outer)) n (record { end = (h 0 [] refl).end; else_part = here })
+    landing Else depth (one ∷ ones) n e h =
+        let i = fewer (length ones) _ items outer (h (suc (length ones)) (unwrap_or (behind_else (one ∷ ones)) (one ∷ ones)) (as_many one.kind one ones)) in
+        subst (λ d. Lands d (one ∷ ones) (Else ∷ items) (open_before last place Else outer)) n (record { end = i.0; else_part = i.1 })
+    landing End depth [] n e h = subst (λ d. Lands d [] (End ∷ items) (open_before last place End outer)) n (record { end = here; else_part = e })
+    landing End depth (one ∷ ones) n e h =
+        let i = h (length ones) ones refl in
+        subst (λ d. Lands d (one ∷ ones) (End ∷ items) (open_before last place End outer)) n (record { end = i.end; else_part = i.else_part })
+    landing item depth [] n e h = let i = h depth [] n in record { end = i.end; else_part = i.else_part }
+    landing item depth (one ∷ ones) n e h = let i = h depth (one ∷ ones) n in record { end = i.end; else_part = i.else_part }
 
-  lands : (place : ℕ) (items : List Instr) → items ≡ drop place body → (depth : ℕ) → Lands depth items (open_at last place items)
-  lands place [] e depth =
-      let none : around depth [] ≡ innermost last [] = ap (innermost last) (drop_none Jump depth) in
-      record { end = rw (none, drop_all) refl; second = rw (none, drop_all) refl }
-  lands place (item ∷ items) e depth =
+  lands : (place : ℕ) (items : List Instr) → items ≡ drop place body → (depth : ℕ) (within : List Construct) → length within ≡ depth → Lands depth within items (open_at last place items)
+  lands place [] e depth within n =
+      let none : around depth [] ≡ innermost last [] = ap (innermost last) (drop_none Ends depth) in
+      record { end = rw (none, drop_all) refl; else_part = rw (none, drop_all) refl }
+  lands place (item ∷ items) e depth within n =
       let here = behind item items place body e in
-      landing place items (open_at last (place + 1) items) here item depth e (λ depth. lands (place + 1) items here depth)
+      landing place items (open_at last (place + 1) items) here item depth within n e (λ depth within n. lands (place + 1) items here depth within n)
 
   -- ---- the list of all
 
-  looked_up : (place k : ℕ) (items : List Instr) (item : Instr) (rest : List Instr) (d : Jump) → item ∷ rest ≡ drop k items
-      → get_or (jumps_from last place items) k d ≡ innermost last (open_at last (place + k + 1) rest)
-  looked_up place k [] item rest d e = absurd (nothing item rest k e)
-  looked_up place zero (x ∷ items) item rest d e =
-      let same : items ≡ rest = sym (ap (drop 1) e) in
-      let there : place + 1 ≡ place + 0 + 1 = omega arith in
-      ap (λ n. innermost last (open_at last n items)) there ∙ ap (λ r. innermost last (open_at last (place + 0 + 1) r)) same
-  looked_up place (suc k) (x ∷ items) item rest d e =
-      let there : (place + 1) + k + 1 ≡ place + suc k + 1 = omega arith in
-      subst (λ n. get_or (jumps_from last (place + 1) items) k d ≡ innermost last (open_at last n rest)) there (looked_up (place + 1) k items item rest d e)
+  module _ (types : List Signature) where
+    abbrev jump_at : ℕ → Instr → List Instr → Jump
+    jump_at place item rest = record { ends = innermost last (open_at last place rest); counts = counts_of types item }
+
+    looked_up : (place k : ℕ) (items : List Instr) (item : Instr) (rest : List Instr) (d : Jump) → item ∷ rest ≡ drop k items
+        → get_or (jumps_from types last place items) k d ≡ jump_at (place + k + 1) item rest
+    looked_up place k [] item rest d e = absurd (nothing item rest k e)
+    looked_up place zero (x ∷ items) item rest d e =
+        let same : items ≡ rest = sym (ap (drop 1) e) in
+        let first : x ≡ item = cc in
+        let there : place + 1 ≡ place + 0 + 1 = omega arith in
+        ap (λ n. jump_at n x items) there ∙ ap (λ r. jump_at (place + 0 + 1) x r) same ∙ ap (λ i. jump_at (place + 0 + 1) i rest) first
+    looked_up place (suc k) (x ∷ items) item rest d e =
+        let there : (place + 1) + k + 1 ≡ place + suc k + 1 = omega arith in
+        subst (λ n. get_or (jumps_from types last (place + 1) items) k d ≡ jump_at n item rest) there (looked_up (place + 1) k items item rest d e)
 
 -- the places that were found for an item lead to where the rules go on
-pub record IsJump (body rest : List Instr) (jump : Jump) : Type 0 where
-  pub end : behind_end 0 rest ≡ drop jump.end body
-  pub second : second_part 0 rest ≡ drop jump.second body
+pub record IsJump (body rest : List Instr) (ends : Ends) : Type 0 where
+  pub end : items_behind_end [] rest ≡ drop ends.end body
+  pub else_part : items_of_else [] rest ≡ drop ends.else_part body
 
-pub jump_there : (place : ℕ) (body : List Instr) (item : Instr) (rest : List Instr) (d : Jump) → item ∷ rest ≡ drop place body → IsJump body rest (get_or (jumps_of body) place d)
-jump_there place body item rest d e =
-    let found = looked_up body 0 place body item rest d e in
-    let there : 0 + place + 1 ≡ place + 1 = omega arith in
-    let l = lands body (place + 1) rest (behind item rest place body e) 0 in
-    subst (IsJump body rest) (sym (found ∙ ap (λ n. innermost (length body) (open_at (length body) n rest)) there)) (record { end = l.end; second = l.second })
+module _ (types : List Signature) (place : ℕ) (body : List Instr) (item : Instr) (rest : List Instr) (d : Jump) (e : item ∷ rest ≡ drop place body) where
+  got : get_or (jumps_of types body) place d ≡ jump_at body types (place + 1) item rest
+  got =
+      let there : 0 + place + 1 ≡ place + 1 = omega arith in
+      looked_up body types 0 place body item rest d e ∙ ap (λ n. jump_at body types n item rest) there
+
+  pub jump_there : IsJump body rest (get_or (jumps_of types body) place d).ends
+  jump_there =
+      let l = lands body (place + 1) rest (behind item rest place body e) 0 [] refl in
+      subst (λ jump. IsJump body rest jump.ends) (sym got) (record { end = l.end; else_part = l.else_part })
+
+  pub counts_there : (get_or (jumps_of types body) place d).counts ≡ counts_of types item
+  counts_there = ap (λ jump. jump.counts) got

@@ -13,8 +13,8 @@ use Rattle.bl_reduce.specs.Configurations.{Label, Frame, State, go, with_values}
 use Rattle.bl_reduce.specs.Control.{branch_to, branch, branch_if, branch_by}
 use Rattle.bl_reduce.specs.Returns.{return_to, return}
 use Rattle.bl_machine.specs.Machines.{Stepped, running, popped, label_count, label_at, no_exit, to_label, left, resumed, returned}
-use Rattle.bl_machine.specs.Matching.{Pile, under, values_of, IsExit, AreExits, IsActivation, AreActivations, IsState, Follows}
-use Rattle.bl_machine.specs.Moves.{branched_to, branched, branched_if, branched_by}
+use Rattle.bl_machine.specs.MatchStates.{Pile, under, values_of, IsExit, AreExits, IsActivation, AreActivations, IsState, simulates}
+use Rattle.bl_machine.specs.Transitions.{branched_to, branched, branched_if, branched_by}
 use Rattle.bl_machine.specs.declared.machine.Exit.{Exit}
 use Rattle.bl_machine.specs.declared.machine.Activation.{Activation}
 use Rattle.bl_machine.specs.declared.machine.Machine.{Machine}
@@ -143,7 +143,7 @@ module _ (tree : Tree) where
           ∙ sym (on_others is.lower.values (take label.arity state.frame.values) (label.below ++ under outer))
           ∙ ap (λ v. is.lower.values ++ reverse v) (sym (append_assoc (take label.arity state.frame.values) label.below (under outer)))
 
-      branched_there : Carries label.arity state.frame.values → Follows tree (running (to_label found.exit (length kept) m)) (branch_to (Some label) l state)
+      branched_there : Carries label.arity state.frame.values → simulates tree (running (to_label found.exit (length kept) m)) (branch_to (Some label) l state)
       branched_there carries = record {
         memories = is.memories;
         globals = is.globals;
@@ -165,8 +165,8 @@ module _ (tree : Tree) where
         callers = is.callers;
       }
 
-      to_label_follows : Carries label.arity state.frame.values → Follows tree (branched l m) (branch_to (Some label) l state)
-      to_label_follows carries = subst (λ o. Follows tree (branched_to o m) (branch_to (Some label) l state)) (sym label_found) (branched_there carries)
+      to_label_simulates : Carries label.arity state.frame.values → simulates tree (branched l m) (branch_to (Some label) l state)
+      to_label_simulates carries = subst (λ o. simulates tree (branched_to o m) (branch_to (Some label) l state)) (sym label_found) (branched_there carries)
 
     -- ---- returns
 
@@ -243,7 +243,7 @@ module _ (tree : Tree) where
           ∙ ap (λ c. running (record bare { current = c; callers = take (length cs - 1) cs })) (last_is (reverse others) a m.current)
           ∙ ap (λ c. running (record bare { current = a; callers = c })) (front_is (reverse others) a)
 
-      resuming : (frames : List Frame) (others : List Activation) → AreActivations tree frames others is.lower → Follows tree (resumed (bare_with (reverse others))) (return_to frames results state.store)
+      resuming : (frames : List Frame) (others : List Activation) → AreActivations tree frames others is.lower → simulates tree (resumed (bare_with (reverse others))) (return_to frames results state.store)
       resuming [] [] h =
           let values : is.lower.values ++ reverse results ≡ reverse results = ap (λ v. v ++ reverse results) h.values in
           ap (λ memories. returned_with (reverse results) memories) is.memories ∙ ap (λ v. returned_with v []) (sym values)
@@ -251,13 +251,13 @@ module _ (tree : Tree) where
       resuming (frame ∷ frames) [] h = absurd h
       resuming (frame ∷ frames) (a ∷ others) h =
           let turned : reverse (a ∷ others) ≡ reverse others ++ a ∷ [] = reverse-append (a ∷ []) others in
-          subst (λ cs. Follows tree (resumed (bare_with cs)) (return_to (frame ∷ frames) results state.store)) (sym turned)
-          (subst (λ s. Follows tree s (return_to (frame ∷ frames) results state.store)) (sym (resumed_is others a)) (resumed_in frame a h.0 frames others h.1 h.2))
+          subst (λ cs. simulates tree (resumed (bare_with cs)) (return_to (frame ∷ frames) results state.store)) (sym turned)
+          (subst (λ s. simulates tree s (return_to (frame ∷ frames) results state.store)) (sym (resumed_is others a)) (resumed_in frame a h.0 frames others h.1 h.2))
 
-      pub return_follows : Follows tree (returned m) (return state)
-      return_follows =
-          subst (λ n. Follows tree (resumed n) (return state)) (sym left_is)
-          (subst (λ cs. Follows tree (resumed (bare_with cs)) (return state)) (reverse-reverse m.callers) (resuming state.callers (reverse m.callers) is.callers))
+      pub return_simulates : simulates tree (returned m) (return state)
+      return_simulates =
+          subst (λ n. simulates tree (resumed n) (return state)) (sym left_is)
+          (subst (λ cs. simulates tree (resumed (bare_with cs)) (return state)) (reverse-reverse m.callers) (resuming state.callers (reverse m.callers) is.callers))
 
   -- ---- branches
 
@@ -276,28 +276,28 @@ module _ (tree : Tree) where
 
   out_of_all : (b : Bool) (m : Machine) (state : State) (is : IsState tree m state) → Carries state.frame.arity state.frame.values
       → Then tree (returned m) (if b then return state else stuck)
-  out_of_all true m state is carries has = return_follows m state is carries
+  out_of_all true m state is carries has = return_simulates m state is carries
   out_of_all false m state is carries has = absurd has
 
-  pub branch_follows : (m : Machine) (state : State) (l : ℕ) → IsState tree m state → Branches state (slice_get state.frame.labels l) → Then tree (branched l m) (branch l state)
-  branch_follows m state l is carries = from (slice_get state.frame.labels l) refl carries
+  pub branch_simulates : (m : Machine) (state : State) (l : ℕ) → IsState tree m state → Branches state (slice_get state.frame.labels l) → Then tree (branched l m) (branch l state)
+  branch_simulates m state l is carries = from (slice_get state.frame.labels l) refl carries
     where
       from : (o : Option Label) → slice_get state.frame.labels l ≡ o → Branches state o → Then tree (branched l m) (branch_to o l state)
       from None e carries = subst (λ o. Then tree (branched_to o m) (branch_to None l state)) (sym (none_found m state is l e)) (out_of_all (l == length state.frame.labels) m state is carries)
-      from (Some label) e carries = λ has. to_label_follows m state is l label e carries
+      from (Some label) e carries = λ has. to_label_simulates m state is l label e carries
 
-  pub branch_if_follows : (m : Machine) (state : State) (l : ℕ) → IsState tree m state
+  pub branch_if_simulates : (m : Machine) (state : State) (l : ℕ) → IsState tree m state
       → ((v : ℕ) (vs : List ℕ) → state.frame.values ≡ v ∷ vs → Branches (with_values vs state) (slice_get state.frame.labels l)) → Then tree (branched_if l m) (branch_if l state)
-  branch_if_follows m state l is carries =
+  branch_if_simulates m state l is carries =
       popping tree m state is (λ condition state. if condition == 0 then go state else branch l state) (branched_if l m) (λ v vs e t below.
       subst (λ x. Then tree (if x == 0 then running (popped m) else branched l (popped m)) (if v == 0 then go (with_values vs state) else branch l (with_values vs state))) (sym t)
       (either tree (v == 0) (running (popped m)) (branched l (popped m)) (go (with_values vs state)) (branch l (with_values vs state))
-      (λ has. below) (branch_follows (popped m) (with_values vs state) l below (carries v vs e))))
+      (λ has. below) (branch_simulates (popped m) (with_values vs state) l below (carries v vs e))))
 
-  pub branch_by_follows : (m : Machine) (state : State) (ls : List ℕ) (default : ℕ) → IsState tree m state
+  pub branch_by_simulates : (m : Machine) (state : State) (ls : List ℕ) (default : ℕ) → IsState tree m state
       → ((v : ℕ) (vs : List ℕ) → state.frame.values ≡ v ∷ vs → Branches (with_values vs state) (slice_get state.frame.labels (unwrap_or (slice_get ls v) default)))
       → Then tree (branched_by ls default m) (branch_by ls default state)
-  branch_by_follows m state ls default is carries =
+  branch_by_simulates m state ls default is carries =
       popping tree m state is (λ index state. branch (unwrap_or (slice_get ls index) default) state) (branched_by ls default m) (λ v vs e t below.
       subst (λ x. Then tree (branched (unwrap_or (slice_get ls x) default) (popped m)) (branch (unwrap_or (slice_get ls v) default) (with_values vs state))) (sym t)
-      (branch_follows (popped m) (with_values vs state) (unwrap_or (slice_get ls v) default) below (carries v vs e)))
+      (branch_simulates (popped m) (with_values vs state) (unwrap_or (slice_get ls v) default) below (carries v vs e)))

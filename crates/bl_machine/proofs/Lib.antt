@@ -8,6 +8,5 @@ pub mod Leaving
 pub mod Operators
 pub mod Piles
 pub mod Simulation
-pub mod Smallest
 pub mod Typed
 pub mod Values

@@ -2,13 +2,13 @@
 use Rattle.std.proofs.Common.{◌≡◌, ℕ, ◌≤◌, ◌⊎◌, inl, inr, length, take, drop, Option, Some, None, refl, sym, subst, arith}
 use Rattle.bl_ops.specs.Table.{row_of}
 use Rattle.bl_ops.specs.declared.op.Op.{Op}
-use Rattle.bl_ops.specs.declared.op.Op.TheVariants.{I32Eqz, I64Eqz, I32Clz, I32Ctz, I32Popcnt, I64Clz, I64Ctz, I64Popcnt, I32WrapI64, I64ExtendI32S, I64ExtendI32U, Move, Select, Outside}
+use Rattle.bl_ops.specs.declared.op.Op.TheVariants.{I32Eqz, I64Eqz, I32Clz, I32Ctz, I32Popcnt, I64Clz, I64Ctz, I64Popcnt, I32WrapI64, I64ExtendI32S, I64ExtendI32U, I32Extend8S, I32Extend16S, I64Extend8S, I64Extend16S, I64Extend32S, Move, Select, Outside}
 use Rattle.bl_ops.specs.declared.op.OpRow.{OpRow}
 use Rattle.bl_wasm.specs.declared.linked.Tree.{Tree}
 use Rattle.bl_reduce.specs.Configurations.{State, known, with_values}
 use Rattle.bl_reduce.specs.Numeric.{apply, operate}
-use Rattle.bl_machine.specs.Matching.{IsState, Follows}
-use Rattle.bl_machine.specs.Moves.{operands_of, operated_on, operated}
+use Rattle.bl_machine.specs.MatchStates.{IsState, simulates}
+use Rattle.bl_machine.specs.Transitions.{operands_of, operated_on, operated}
 use Rattle.bl_machine.specs.declared.machine.Machine.{Machine}
 use Rattle.bl_machine.proofs.Values.{Then, one_operand, two_operands}
 
@@ -28,6 +28,11 @@ one_or_two I64Popcnt = inl refl
 one_or_two I32WrapI64 = inl refl
 one_or_two I64ExtendI32S = inl refl
 one_or_two I64ExtendI32U = inl refl
+one_or_two I32Extend8S = inl refl
+one_or_two I32Extend16S = inl refl
+one_or_two I64Extend8S = inl refl
+one_or_two I64Extend16S = inl refl
+one_or_two I64Extend32S = inl refl
 one_or_two Move = tt
 one_or_two Select = tt
 one_or_two Outside = tt
@@ -35,14 +40,14 @@ one_or_two op = inr refl
 
 module _ (tree : Tree) (op : Op) (m : Machine) (state : State) (is : IsState tree m state) where
   abbrev Applied : ℕ → Type 0
-  Applied n = Follows tree (operated_on op n m) (apply op (take n state.frame.values) (with_values (drop n state.frame.values) state))
+  Applied n = simulates tree (operated_on op n m) (apply op (take n state.frame.values) (with_values (drop n state.frame.values) state))
 
   by_count : (n : ℕ) → (n ≡ 1) ⊎ (n ≡ 2) → n ≤ length state.frame.values → Applied n
   by_count n (inl e) le = subst Applied (sym e) (one_operand tree op m state is (omega (arith, e, le)))
   by_count n (inr e) le = subst Applied (sym e) (two_operands tree op m state is (omega (arith, e, le)))
 
-  pub operate_follows : ((row : OpRow) → row_of op ≡ Some row → row.operands ≤ length state.frame.values) → Then tree (operated op m) (operate op state)
-  operate_follows enough = from (row_of op) refl (one_or_two op)
+  pub operate_simulates : ((row : OpRow) → row_of op ≡ Some row → row.operands ≤ length state.frame.values) → Then tree (operated op m) (operate op state)
+  operate_simulates enough = from (row_of op) refl (one_or_two op)
     where
       from : (o : Option OpRow) → row_of op ≡ o → OneOrTwo o
           → Then tree (operated_on op (operands_of o) m) (known o (λ row. apply op (take row.operands state.frame.values) (with_values (drop row.operands state.frame.values) state)))

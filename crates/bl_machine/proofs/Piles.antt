@@ -1,7 +1,6 @@
 -- Lists whose last elements are taken off.
-use Rattle.std.proofs.Common.{◌≡◌, ℕ, zero, suc, ◌-◌, ◌≤◌, List, [], ◌∷◌, ◌++◌, length, reverse, take, drop, get_or, sym, ap, ◌∙◌, arith, append_assoc, append-nil, length-append}
-use Rattle.std.specs.Prelude.{◌==◌, if◌then◌else◌}
-use Rattle.std.proofs.lemmas.List.{reverse-append}
+use Rattle.std.proofs.Common.{◌≡◌, ℕ, ◌-◌, ◌≤◌, List, [], ◌∷◌, ◌++◌, length, reverse, take, drop, get_or, sym, ap, ◌∙◌, arith, append_assoc, length-append}
+use Rattle.std.proofs.lemmas.List.{length-reverse, length-take, reverse-append, take-append-drop}
 use Rattle.std.proofs.Math.Seq.{take-append_seam, drop-append_seam, get_or-append_seam}
 
 module _ {A : Type 0} where
@@ -34,25 +33,25 @@ module _ {A : Type 0} where
       let n : length (low ++ xs) - length xs ≡ length low = omega (arith, length-append low xs) in
       ap (λ n. drop n (low ++ xs)) n ∙ drop-append_seam low xs
 
--- as many values as are carried: one at most, and no more than there are
-pub record Carries (arity : ℕ) (values : List ℕ) : Type 0 where
-  pub few : arity ≤ 1
-  pub there : arity ≤ length values
+-- as many values as are carried are there
+abbrev pub Carries : ℕ → List ℕ → Type 0
+Carries count values = count ≤ length values
 
 -- the machine's stack behind a branch or a return
 abbrev pub slide : ℕ → ℕ → List ℕ → List ℕ
-slide height arity stack = if arity == 0 then take height stack else take height stack ++ get_or stack (length stack - 1) 0 ∷ []
+slide height count stack = take height (take (length stack - count) stack) ++ drop (length stack - count) stack
 
 -- the carried values lie on those below
-pub slid_is : (low high values : List ℕ) (arity : ℕ) → Carries arity values → slide (length low) arity ((low ++ high) ++ reverse values) ≡ low ++ reverse (take arity values)
-slid_is low high values zero c =
-    ap (take (length low)) (append_assoc low high (reverse values)) ∙ take-append_seam low (high ++ reverse values) ∙ sym (append-nil low)
-slid_is low high [] (suc zero) c = absurd (omega (arith, c.there))
-slid_is low high (v ∷ vs) (suc zero) c =
-    let e : (low ++ high) ++ reverse (v ∷ vs) ≡ ((low ++ high) ++ reverse vs) ++ v ∷ [] = on_top (low ++ high) v vs in
-    let taken : take (length low) ((low ++ high) ++ reverse (v ∷ vs)) ≡ low =
-    ap (take (length low)) (append_assoc low high (reverse (v ∷ vs))) ∙ take-append_seam low (high ++ reverse (v ∷ vs)) in
-    let last : get_or ((low ++ high) ++ reverse (v ∷ vs)) (length ((low ++ high) ++ reverse (v ∷ vs)) - 1) 0 ≡ v =
-    ap (λ s. get_or s (length s - 1) 0) e ∙ last_is ((low ++ high) ++ reverse vs) v 0 in
-    ap (λ s. s ++ get_or ((low ++ high) ++ reverse (v ∷ vs)) (length ((low ++ high) ++ reverse (v ∷ vs)) - 1) 0 ∷ []) taken ∙ ap (λ x. low ++ x ∷ []) last
-slid_is low high values (suc (suc n)) c = absurd (omega (arith, c.few))
+pub slid_is : (low high values : List ℕ) (count : ℕ) → Carries count values → slide (length low) count ((low ++ high) ++ reverse values) ≡ low ++ reverse (take count values)
+slid_is low high values count enough =
+    let carried = reverse (take count values) in
+    let others = high ++ reverse (drop count values) in
+    let counted : length carried ≡ count = omega (arith, length-reverse (take count values), length-take count values, enough) in
+    let shape : (low ++ high) ++ reverse values ≡ (low ++ others) ++ carried =
+    ap (λ v. (low ++ high) ++ reverse v) (sym (take-append-drop count values)) ∙ on_others (low ++ high) (take count values) (drop count values)
+    ∙ ap (λ s. s ++ carried) (append_assoc low high (reverse (drop count values))) in
+    let whole = (low ++ others) ++ carried in
+    ap (slide (length low) count) shape ∙ ap (λ n. slide (length low) n whole) (sym counted)
+    ∙ ap (λ s. take (length low) s ++ drop (length whole - length carried) whole) (below_top (low ++ others) carried)
+    ∙ ap (λ s. take (length low) (low ++ others) ++ s) (topmost_are (low ++ others) carried)
+    ∙ ap (λ s. s ++ carried) (take-append_seam low others)

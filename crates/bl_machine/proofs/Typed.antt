@@ -1,5 +1,5 @@
 -- What a typing says of the values that an item takes: they are there.
-use Rattle.std.proofs.Common.{◌≡◌, ℕ, zero, suc, ◌≤◌, ◌<◌, List, [], ◌∷◌, ◌++◌, length, map, reverse, replicate, Option, Some, None, slice_get, ◌⊎◌, inl, inr, sym, ap, ◌∙◌, subst, arith, length-append}
+use Rattle.std.proofs.Common.{◌≡◌, ℕ, zero, suc, ◌≤◌, ◌<◌, List, [], ◌∷◌, ◌++◌, length, map, reverse, replicate, Option, Some, None, slice_get, ◌⊎◌, inl, inr, refl, sym, ap, ◌∙◌, subst, arith, length-append}
 use Rattle.std.specs.Prelude.{IfSome, option_and_then, unwrap_or}
 use Rattle.std.specs.List.{All, AllZip}
 use Rattle.std.proofs.lemmas.List.{length-map, length-reverse, length-replicate}
@@ -7,8 +7,10 @@ use Rattle.std.proofs.lemmas.List.Elements.{All-drop, All-get_or}
 use Rattle.bl_ops.specs.Table.{row_of}
 use Rattle.bl_ops.specs.declared.op.Op.{Op}
 use Rattle.bl_ops.specs.declared.op.OpRow.{OpRow}
-use Rattle.bl_wasm.specs.Linked.{IsLinked, context, function_type, seen}
-use Rattle.bl_wasm.specs.Typing.{block, loop, first_part, second_part, Label, Context, Open, HasType, integer, labels, of_result, taken_by}
+use Rattle.bl_wasm.specs.Linked.{context, function_type, seen}
+use Rattle.bl_wasm.specs.Typing.{Context, Open, HasType, expanded, integer, labels}
+use Rattle.bl_wasm.specs.declared.types.BlockType.{BlockType}
+use Rattle.bl_wasm.specs.declared.types.BlockType.TheVariants.{Empty, Value, Index}
 use Rattle.bl_wasm.specs.declared.types.FuncType.{FuncType}
 use Rattle.bl_wasm.specs.declared.types.WasmType.{WasmType}
 use Rattle.bl_wasm.specs.declared.types.WasmType.TheVariants.{I32}
@@ -18,7 +20,9 @@ use Rattle.bl_reduce.specs.Calls.{type_of}
 use Rattle.bl_reduce.specs.Configurations.{State, with_values}
 use Rattle.bl_reduce.specs.TypedConfigurations.{IsValue, AreLabels}
 use Rattle.bl_reduce.proofs.ControlItems.{ToLabel, OutOfAll, find_label}
-use Rattle.bl_reduce.proofs.Zips.{some_same, zip_length, mapped_get, all_get}
+use Rattle.bl_base.proofs.Lists.{some_same, zip_length, mapped_get}
+use Rattle.bl_machine.specs.Jumps.{counted, counts_of_type}
+use Rattle.bl_machine.specs.declared.jumps.Counts.{Counts}
 use Rattle.bl_machine.proofs.Leaving.{Branches}
 use Rattle.bl_machine.proofs.Piles.{Carries}
 
@@ -37,38 +41,36 @@ enough_below stack lower types v vs values e h f =
     let n = enough stack lower (types ++ I32 ∷ []) values e h in
     omega (arith, n, length-append types (I32 ∷ []), ap length f)
 
-few_of : (result : Option WasmType) → length (of_result result) ≤ 1
-few_of None = omega arith
-few_of (Some type) = omega arith
-
-few_taken : (label : Label) → length (taken_by label) ≤ 1
-few_taken (block result) = few_of result
-few_taken (loop result) = omega arith
-few_taken (first_part result) = few_of result
-few_taken (second_part result) = few_of result
-
 pub chosen : (P : ℕ → Type 0) (ls : List ℕ) (default index : ℕ) → All P (ls ++ default ∷ []) → P (unwrap_or (slice_get ls index) default)
 chosen P [] default index h = All-get_or P (default ∷ []) 0 0 (omega arith) h
 chosen P (l ∷ ls) default zero h = All-get_or P (l ∷ ls ++ default ∷ []) 0 0 (omega arith) h
 chosen P (l ∷ ls) default (suc index) h = chosen P ls default index (All-drop P 1 (l ∷ ls ++ default ∷ []) h)
+
+-- the counts that were found are those of the type
+module _ (types : List Signature) where
+  abbrev Counted : Counts → FuncType → Type 0
+  Counted counts type = (counts.params ≡ length type.params) × (counts.results ≡ length type.results)
+
+  pub counts_are : (kind : BlockType) (type : FuncType) → expanded (map function_type types) kind ≡ Some type → Counted (counts_of_type types kind) type
+  counts_are Empty type e = subst (Counted (counts_of_type types Empty)) (some_same (record { params = []; results = [] }) type e) (refl, refl)
+  counts_are (Value value) type e = subst (Counted (counts_of_type types (Value value))) (some_same (record { params = []; results = value ∷ [] }) type e) (refl, refl)
+  counts_are (Index number) type e =
+      let t = mapped_get function_type types number type e in
+      subst (λ o. Counted (counted o) type) (sym t.1) (subst (Counted (counted (Some t.0))) t.2 (sym (length-map t.0.params integer), sym (length-map t.0.results integer)))
 
 -- no memory or table of a function where the tree has none
 pub none_seen : {A : Type 0} (o : Option ℕ) (xs : List A) → xs ≡ [] → IfSome o (λ number. number < length xs) → 1 ≤ seen o → ⊥
 none_seen None xs e h le = omega (arith, le)
 none_seen (Some number) xs e h le = omega (arith, h, ap length e)
 
-module _ (tree : Tree) (linked : IsLinked tree) (type : Signature) (state : State) (exists : slice_get tree.types state.frame.function.type_index ≡ Some type)
-    (arity : state.frame.arity ≡ length type.results) where
+module _ (tree : Tree) (type : Signature) (state : State) (arity : state.frame.arity ≡ length type.results) where
   abbrev c : Context
   c = context tree type state.frame.function
-
-  few_results : length type.results ≤ 1
-  few_results = all_get (λ type. length type.results ≤ 1) tree.types state.frame.function.type_index type linked.types exists
 
   pub returns_are_there : (stack lower : List WasmType) → stack ≡ lower ++ c.results → Typed stack state.frame.values → Carries state.frame.arity state.frame.values
   returns_are_there stack lower e h =
       let n = enough stack lower (map integer type.results) state.frame.values e h in
-      record { few = omega (arith, arity, few_results); there = omega (arith, arity, n, length-map type.results integer) }
+      omega (arith, arity, n, length-map type.results integer)
 
   pub branches_are_there : (open_ones : List Open) (l : ℕ) (types : List WasmType) (values : List ℕ) → AreLabels c state.frame.function.code.items open_ones state.frame.labels
       → slice_get (labels c open_ones) l ≡ Some types → length types ≤ length values → Branches tree (with_values values state) (slice_get state.frame.labels l)
@@ -76,14 +78,8 @@ module _ (tree : Tree) (linked : IsLinked tree) (type : Signature) (state : Stat
     where
       by_kind : ToLabel c state.frame.function.code.items open_ones state.frame.labels l types ⊎ OutOfAll c state.frame.function.code.items state.frame.labels l types
           → Branches tree (with_values values state) (slice_get state.frame.labels l)
-      by_kind (inl t) = subst (Branches tree (with_values values state)) (sym t.got) (record {
-        few = omega (arith, t.is.arity, few_taken t.one.label);
-        there = omega (arith, t.is.arity, ap length t.takes, room);
-      })
-      by_kind (inr o) = subst (Branches tree (with_values values state)) (sym o.got) (record {
-        few = omega (arith, arity, few_results);
-        there = omega (arith, arity, ap length o.takes, length-map type.results integer, room);
-      })
+      by_kind (inl t) = subst (Branches tree (with_values values state)) (sym t.got) (omega (arith, t.is.arity, ap length t.takes, room))
+      by_kind (inr o) = subst (Branches tree (with_values values state)) (sym o.got) (omega (arith, arity, ap length o.takes, length-map type.results integer, room))
 
   pub operands_are_there : (number : ℕ) (called : FuncType) (stack lower : List WasmType) → HasType c number called → stack ≡ lower ++ called.params → Typed stack state.frame.values
       → (found : Signature) → type_of tree number ≡ Some found → length found.params ≤ length state.frame.values

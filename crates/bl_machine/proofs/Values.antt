@@ -12,15 +12,15 @@ use Rattle.bl_reduce.specs.Configurations.{State, Config, go, known, pop, pop_fr
 use Rattle.bl_reduce.specs.Numeric.{give as give_value, apply}
 use Rattle.bl_reduce.specs.Variables.{local_get, local_set, local_tee, set_local, global_get, global_set, set_global}
 use Rattle.bl_machine.specs.Machines.{Stepped, running, top, popped, push, give, local_at, with_local, global_at, with_global}
-use Rattle.bl_machine.specs.Matching.{under, values_of, IsState, Follows}
-use Rattle.bl_machine.specs.Moves.{selected, operated_on}
+use Rattle.bl_machine.specs.MatchStates.{under, values_of, IsState, simulates}
+use Rattle.bl_machine.specs.Transitions.{selected, operated_on}
 use Rattle.bl_machine.specs.declared.machine.Machine.{Machine}
 use Rattle.bl_machine.proofs.Piles.{last_is, front_is, on_top}
 
 module _ (tree : Tree) where
   -- a step that isn't stuck is followed
   abbrev pub Then : Stepped → Next Config → Type 0
-  Then stepped next = HasStep next → Follows tree stepped next
+  Then stepped next = HasStep next → simulates tree stepped next
 
   -- other values above the innermost label
   pub with_stack : (m : Machine) (state : State) (is : IsState tree m state) (values stack : List ℕ) → stack ≡ is.lower.values ++ reverse (values ++ under state.frame.labels)
@@ -80,51 +80,51 @@ module _ (tree : Tree) where
 
   -- ---- parametric and numeric items
 
-  pub push_follows : (m : Machine) (state : State) (value : ℕ) → IsState tree m state → Then (push value m) (push_value value state)
-  push_follows m state value is has = pushed m state value is
+  pub push_simulates : (m : Machine) (state : State) (value : ℕ) → IsState tree m state → Then (push value m) (push_value value state)
+  push_simulates m state value is has = pushed m state value is
 
-  pub drop_follows : (m : Machine) (state : State) → IsState tree m state → Then (running (popped m)) (pop state (λ value state. go state))
-  drop_follows m state is = popping m state is (λ value state. go state) (running (popped m)) (λ v vs e t below has. below)
+  pub drop_simulates : (m : Machine) (state : State) → IsState tree m state → Then (running (popped m)) (pop state (λ value state. go state))
+  drop_simulates m state is = popping m state is (λ value state. go state) (running (popped m)) (λ v vs e t below has. below)
 
-  pub select_follows : (m : Machine) (state : State) → IsState tree m state
+  pub select_simulates : (m : Machine) (state : State) → IsState tree m state
       → Then (selected m) (pop state (λ c state. pop state (λ b state. pop state (λ a state. push_value (meaning op.Select a b c) state))))
-  select_follows m state is =
+  select_simulates m state is =
       popping m state is (λ c state. pop state (λ b state. pop state (λ a state. push_value (meaning op.Select a b c) state))) (selected m) (λ c cs e tc is_c.
       popping (popped m) (with_values cs state) is_c (λ b state. pop state (λ a state. push_value (meaning op.Select a b c) state)) (selected m) (λ b bs e tb is_b.
       popping (popped (popped m)) (with_values bs state) is_b (λ a state. push_value (meaning op.Select a b c) state) (selected m) (λ a vs e ta is_a has.
       let value : meaning op.Select (top (popped (popped m))) (top (popped m)) (top m) ≡ meaning op.Select a b c =
       ap (λ x. meaning op.Select x (top (popped m)) (top m)) ta ∙ ap (λ x. meaning op.Select a x (top m)) tb ∙ ap (meaning op.Select a b) tc in
-      subst (λ x. Follows tree (push x (popped (popped (popped m)))) (push_value (meaning op.Select a b c) (with_values vs state))) (sym value)
+      subst (λ x. simulates tree (push x (popped (popped (popped m)))) (push_value (meaning op.Select a b c) (with_values vs state))) (sym value)
       (pushed (popped (popped (popped m))) (with_values vs state) (meaning op.Select a b c) is_a))))
 
-  give_follows : (m : Machine) (state : State) (kind : Option Trap) (value : ℕ) → IsState tree m state → Follows tree (give kind value m) (give_value kind value state)
-  give_follows m state None value is = pushed m state value is
-  give_follows m state (Some kind) value is = ap (trapped_with kind) is.memories
+  give_simulates : (m : Machine) (state : State) (kind : Option Trap) (value : ℕ) → IsState tree m state → simulates tree (give kind value m) (give_value kind value state)
+  give_simulates m state None value is = pushed m state value is
+  give_simulates m state (Some kind) value is = ap (trapped_with kind) is.memories
 
   pub one_operand : (op : Op) (m : Machine) (state : State) → IsState tree m state → 1 ≤ length state.frame.values
-      → Follows tree (operated_on op 1 m) (apply op (take 1 state.frame.values) (with_values (drop 1 state.frame.values) state))
+      → simulates tree (operated_on op 1 m) (apply op (take 1 state.frame.values) (with_values (drop 1 state.frame.values) state))
   one_operand op m state is enough = from state.frame.values refl enough
     where
-      from : (values : List ℕ) → state.frame.values ≡ values → 1 ≤ length values → Follows tree (operated_on op 1 m) (apply op (take 1 values) (with_values (drop 1 values) state))
+      from : (values : List ℕ) → state.frame.values ≡ values → 1 ≤ length values → simulates tree (operated_on op 1 m) (apply op (take 1 values) (with_values (drop 1 values) state))
       from [] e le = absurd (omega (arith, le))
       from (a ∷ vs) e le =
-          subst (λ x. Follows tree (give (traps op x 0) (meaning op x 0 0) (popped m)) (give_value (traps op a 0) (meaning op a 0 0) (with_values vs state))) (sym (top_is m state is a vs e))
-          (give_follows (popped m) (with_values vs state) (traps op a 0) (meaning op a 0 0) (popped_is m state is a vs e))
+          subst (λ x. simulates tree (give (traps op x 0) (meaning op x 0 0) (popped m)) (give_value (traps op a 0) (meaning op a 0 0) (with_values vs state))) (sym (top_is m state is a vs e))
+          (give_simulates (popped m) (with_values vs state) (traps op a 0) (meaning op a 0 0) (popped_is m state is a vs e))
 
   pub two_operands : (op : Op) (m : Machine) (state : State) → IsState tree m state → 2 ≤ length state.frame.values
-      → Follows tree (operated_on op 2 m) (apply op (take 2 state.frame.values) (with_values (drop 2 state.frame.values) state))
+      → simulates tree (operated_on op 2 m) (apply op (take 2 state.frame.values) (with_values (drop 2 state.frame.values) state))
   two_operands op m state is enough = from state.frame.values refl enough
     where
-      from : (values : List ℕ) → state.frame.values ≡ values → 2 ≤ length values → Follows tree (operated_on op 2 m) (apply op (take 2 values) (with_values (drop 2 values) state))
+      from : (values : List ℕ) → state.frame.values ≡ values → 2 ≤ length values → simulates tree (operated_on op 2 m) (apply op (take 2 values) (with_values (drop 2 values) state))
       from [] e le = absurd (omega (arith, le))
       from (b ∷ []) e le = absurd (omega (arith, le))
       from (b ∷ a ∷ vs) e le =
           let first = popped_is m state is b (a ∷ vs) e in
-          subst (λ y. Follows tree (give (traps op (top (popped m)) y) (meaning op (top (popped m)) y 0) (popped (popped m))) (give_value (traps op a b) (meaning op a b 0) (with_values vs state)))
+          subst (λ y. simulates tree (give (traps op (top (popped m)) y) (meaning op (top (popped m)) y 0) (popped (popped m))) (give_value (traps op a b) (meaning op a b 0) (with_values vs state)))
           (sym (top_is m state is b (a ∷ vs) e))
-          (subst (λ x. Follows tree (give (traps op x b) (meaning op x b 0) (popped (popped m))) (give_value (traps op a b) (meaning op a b 0) (with_values vs state)))
+          (subst (λ x. simulates tree (give (traps op x b) (meaning op x b 0) (popped (popped m))) (give_value (traps op a b) (meaning op a b 0) (with_values vs state)))
           (sym (top_is (popped m) (with_values (a ∷ vs) state) first a vs refl))
-          (give_follows (popped (popped m)) (with_values vs state) (traps op a b) (meaning op a b 0) (popped_is (popped m) (with_values (a ∷ vs) state) first a vs refl)))
+          (give_simulates (popped (popped m)) (with_values vs state) (traps op a b) (meaning op a b 0) (popped_is (popped m) (with_values (a ∷ vs) state) first a vs refl)))
 
   -- ---- variable items
 
@@ -134,10 +134,10 @@ module _ (tree : Tree) where
       ∙ ap (λ n. get_or (is.lower.locals ++ state.frame.locals) (n + x) 0) is.current.locals_below
       ∙ get_or-append-add is.lower.locals state.frame.locals x 0 ∙ get_or_from_slice_get state.frame.locals x value 0 got
 
-  pub local_get_follows : (m : Machine) (state : State) (x : ℕ) → IsState tree m state → Then (push (local_at x m) m) (local_get x state)
-  local_get_follows m state x is =
+  pub local_get_simulates : (m : Machine) (state : State) (x : ℕ) → IsState tree m state → Then (push (local_at x m) m) (local_get x state)
+  local_get_simulates m state x is =
       knowing (slice_get state.frame.locals x) (λ value. push_value value state) (push (local_at x m) m) (λ value got has.
-      subst (λ v. Follows tree (push v m) (push_value value state)) (sym (local_is m state is x value got)) (pushed m state value is))
+      subst (λ v. simulates tree (push v m) (push_value value state)) (sym (local_is m state is x value got)) (pushed m state value is))
 
   localed : (m : Machine) (state : State) (is : IsState tree m state) (x value : ℕ)
       → IsState tree (with_local x value m) (record state { frame = record state.frame { locals = set state.frame.locals x value } })
@@ -172,21 +172,21 @@ module _ (tree : Tree) where
       knowing (slice_get state.frame.locals x) (λ old. go (record state { frame = record state.frame { locals = set state.frame.locals x value } })) (running (with_local x value m))
       (λ old got has. localed m state is x value)
 
-  pub local_set_follows : (m : Machine) (state : State) (x : ℕ) → IsState tree m state → Then (running (with_local x (top m) (popped m))) (local_set x state)
-  local_set_follows m state x is =
+  pub local_set_simulates : (m : Machine) (state : State) (x : ℕ) → IsState tree m state → Then (running (with_local x (top m) (popped m))) (local_set x state)
+  local_set_simulates m state x is =
       popping m state is (λ value state. set_local x value state) (running (with_local x (top m) (popped m))) (λ v vs e t below.
       subst (λ value. Then (running (with_local x value (popped m))) (set_local x v (with_values vs state))) (sym t) (setting (popped m) (with_values vs state) x v below))
 
-  pub local_tee_follows : (m : Machine) (state : State) (x : ℕ) → IsState tree m state → Then (running (with_local x (top m) m)) (local_tee x state)
-  local_tee_follows m state x is =
+  pub local_tee_simulates : (m : Machine) (state : State) (x : ℕ) → IsState tree m state → Then (running (with_local x (top m) m)) (local_tee x state)
+  local_tee_simulates m state x is =
       popping m state is (λ value below. set_local x value state) (running (with_local x (top m) m)) (λ v vs e t below.
       subst (λ value. Then (running (with_local x value m)) (set_local x v state)) (sym t) (setting m state x v is))
 
-  pub global_get_follows : (m : Machine) (state : State) (x : ℕ) → IsState tree m state → Then (push (global_at x m) m) (global_get x state)
-  global_get_follows m state x is =
+  pub global_get_simulates : (m : Machine) (state : State) (x : ℕ) → IsState tree m state → Then (push (global_at x m) m) (global_get x state)
+  global_get_simulates m state x is =
       knowing (slice_get state.store.globals x) (λ value. push_value value state) (push (global_at x m) m) (λ value got has.
       let there : global_at x m ≡ value = ap (λ globals. get_or globals x 0) is.globals ∙ get_or_from_slice_get state.store.globals x value 0 got in
-      subst (λ v. Follows tree (push v m) (push_value value state)) (sym there) (pushed m state value is))
+      subst (λ v. simulates tree (push v m) (push_value value state)) (sym there) (pushed m state value is))
 
   globaled : (m : Machine) (state : State) (is : IsState tree m state) (x value : ℕ)
       → IsState tree (with_global x value m) (record state { store = record state.store { globals = set state.store.globals x value } })
@@ -211,8 +211,8 @@ module _ (tree : Tree) where
     callers = is.callers;
   }
 
-  pub global_set_follows : (m : Machine) (state : State) (x : ℕ) → IsState tree m state → Then (running (with_global x (top m) (popped m))) (global_set x state)
-  global_set_follows m state x is =
+  pub global_set_simulates : (m : Machine) (state : State) (x : ℕ) → IsState tree m state → Then (running (with_global x (top m) (popped m))) (global_set x state)
+  global_set_simulates m state x is =
       popping m state is (λ value state. set_global x value state) (running (with_global x (top m) (popped m))) (λ v vs e t below.
       subst (λ value. Then (running (with_global x value (popped m))) (set_global x v (with_values vs state))) (sym t)
       (knowing (slice_get state.store.globals x) (λ old. go (record (with_values vs state) { store = record state.store { globals = set state.store.globals x v } }))

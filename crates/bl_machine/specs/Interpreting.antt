@@ -1,42 +1,23 @@
 -- What the interpreter answers.
-use Rattle.std.specs.Prelude.{ℕ, ◌≤◌, Bool, true, false, List, [], map, Option, Some, None}
-use Rattle.bl_base.specs.Runs.{MemoryState, Outcome, returned, trapped, Comes, EndsAfter}
+use Rattle.std.specs.Prelude.{ℕ, ◌≤◌, Bool, true, false, List, [], map}
+use Rattle.bl_base.specs.Runs.{returned, trapped, Comes, EndsAfter}
 use Rattle.bl_base.specs.declared.run.Pages.{Pages}
 use Rattle.bl_base.specs.declared.run.Run.{Run}
 use Rattle.bl_base.specs.declared.run.Run.TheVariants as run
 use Rattle.bl_base.specs.declared.start.Start.{Start}
 use Rattle.bl_wasm.specs.declared.linked.Tree.{Tree}
 use Rattle.bl_reduce.specs.Configurations.{Config}
-use Rattle.bl_reduce.specs.Outcomes.{opening, source}
+use Rattle.bl_reduce.specs.Outcomes.{opening}
 use Rattle.bl_reduce.specs.Steps.{source_step}
 use Rattle.bl_machine.specs.declared.machine.Machine.{Machine}
 use Rattle.bl_machine.specs.declared.machine.Progress.{Progress}
 use Rattle.bl_machine.specs.declared.machine.Progress.TheVariants.{Running, Entering, Returned, Trapped}
-
--- a memory as the rules see it
-abbrev pub memory_of : Pages → MemoryState
-memory_of pages = record { pages = pages.pages; bytes = pages.bytes }
-
--- the outcome that an answer tells; none where the steps were spent
-abbrev pub outcome_of : Run → Option Outcome
-outcome_of (run.Returned values memories) = Some (returned values (map memory_of memories))
-outcome_of (run.Trapped kind memories) = Some (trapped kind (map memory_of memories))
-outcome_of run.Spent = None
 
 -- the memories that an answer tells
 abbrev pub memories_in : Run → List Pages
 memories_in (run.Returned values memories) = memories
 memories_in (run.Trapped kind memories) = memories
 memories_in run.Spent = []
-
--- the run has that outcome within so many steps, or it has none within them
-abbrev pub IsWithin : Tree → ℕ → Start → ℕ → Option Outcome → Type 0
-IsWithin tree function start steps (Some outcome) = (n : ℕ) × source tree function start n outcome × (n ≤ steps)
-IsWithin tree function start steps None = (n : ℕ) (outcome : Outcome) → source tree function start n outcome → n ≤ steps → ⊥
-
--- a true answer
-abbrev pub Answers : Tree → ℕ → Start → ℕ → Run → Type 0
-Answers tree function start steps answer = IsWithin tree function start steps (outcome_of answer)
 
 -- ---- the machine
 

@@ -1,11 +1,12 @@
 //! Runs of linked trees.
 ghost use Rattle.std.specs.Prelude.{◌≡◌, ℕ, [], IfOk, IsTrue, map};
+ghost use Rattle.bl_base.specs.Runs.{Tells};
 ghost use Rattle.bl_wasm.specs.Linked.{IsLinked};
-ghost use Rattle.bl_reduce.specs.Outcomes.{IsStart};
+ghost use Rattle.bl_reduce.specs.Outcomes.{IsStart, source};
 ghost use Rattle.bl_machine.specs.Bodies.{body_of};
-ghost use Rattle.bl_machine.specs.Interpreting.{Answers, Drives, has_ended, memories_in, run_of, starting};
+ghost use Rattle.bl_machine.specs.Interpreting.{Drives, has_ended, memories_in, run_of, starting};
 ghost use Rattle.bl_machine.specs.Machines.{Gives};
-ghost use Rattle.bl_machine.specs.Moves.{advanced};
+ghost use Rattle.bl_machine.specs.Transitions.{advanced};
 
 use crate::body::{Body, bodies};
 use crate::items::{enter, step_in};
@@ -28,7 +29,7 @@ pub fn interp(
     requires start { IsStart tree.now function start.now }
     requires memories { tree.now.memories ≡ [] }
     requires tables { tree.now.tables ≡ [] }
-    ensures answers { IfOk result (λ run. Answers tree.now function start.now steps run) }
+    ensures answers { IfOk result (λ run. Tells (source tree.now function start.now) steps run) }
     ensures memories { IfOk result (λ run. memories_in run ≡ []) }
 {
     let tree = tree.tree();

@@ -10,5 +10,3 @@ mod stack;
 
 pub use interpreter::interp;
 
-#[cfg(test)]
-mod tests;

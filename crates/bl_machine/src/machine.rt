@@ -1,6 +1,6 @@
 //! The machine: one stack for each kind of thing, whose parts belong to the functions that have been entered.
 ghost use Rattle.std.specs.Prelude.{◌≡◌, OnOk, length, nat_lt};
-ghost use Rattle.bl_machine.specs.Machines.{Gives, at_place, called, closed, entered, give, global_at, label_at, local_at, most_callers, opened, popped, push, resumed, returned, running, slid, to_label, top, with_global, with_local};
+ghost use Rattle.bl_machine.specs.Machines.{Becomes, Gives, at_place, called, closed, entered, give, global_at, label_at, local_at, most_callers, opened, popped, push, resumed, returned, running, to_label, top, with_global, with_local};
 
 use crate::body::Body;
 use crate::stack::Stack;
@@ -145,14 +145,14 @@ impl Machine {
         self.current.place = place;
     }
 
-    /// Enters a block, loop or if.
-    pub fn open(&mut self, arity: usize, place: usize) -> Result<(), NoMemory>
-        ensures { OnOk result (self.new ≡ opened arity place self.old) }
+    /// Enters a block, loop or if that takes so many parameters.
+    pub fn open(&mut self, arity: usize, params: usize, place: usize) -> Result<(), NoMemory>
+        ensures { OnOk result (self.new ≡ opened arity params place self.old) }
     {
         self.labels.push(Exit {
             arity,
             place,
-            height: self.stack.len(),
+            height: self.stack.len().saturating_sub(params),
         })
     }
 
@@ -181,44 +181,31 @@ impl Machine {
         self.labels.drop_top();
     }
 
-    /// Takes the values off down to that height, and keeps the topmost one unless the arity is 0.
-    fn slide(&mut self, height: usize, arity: usize) -> Result<(), NoMemory>
-        ensures { OnOk result (self.new ≡ slid height arity self.old) }
-    {
-        if arity == 0 {
-            self.stack.cut(height);
-            return Ok(());
-        }
-        let value = self.stack.top(0);
-        self.stack.cut(height);
-        self.stack.push(value)
-    }
-
     /// Branches to a label, which lies at that height.
-    pub fn branch_to(&mut self, exit: Exit, height: usize) -> Result<Progress, NoMemory>
-        ensures { Gives result self.new (running (to_label exit height self.old)) }
+    pub fn branch_to(&mut self, exit: Exit, height: usize) -> Progress
+        ensures { Becomes result self.new (running (to_label exit height self.old)) }
     {
         self.labels.cut(height);
-        self.slide(exit.height, exit.arity)?;
+        self.stack.keep(exit.height, exit.arity);
         self.go_to(exit.place);
-        Ok(Progress::Running)
+        Progress::Running
     }
 
     // ---- functions
 
     /// Returns from the function.
-    pub fn leave(&mut self) -> Result<Progress, NoMemory>
-        ensures { Gives result self.new (returned self.old) }
+    pub fn leave(&mut self) -> Progress
+        ensures { Becomes result self.new (returned self.old) }
     {
         self.locals.cut(self.current.locals);
         self.labels.cut(self.current.labels);
-        self.slide(self.current.values, self.current.arity)?;
-        Ok(self.resume())
+        self.stack.keep(self.current.values, self.current.arity);
+        self.resume()
     }
 
     /// Goes on in the innermost caller, where there is one.
     fn resume(&mut self) -> Progress
-        ensures { resumed self.old ≡ record { progress = result; machine = self.new } }
+        ensures { Becomes result self.new (resumed self.old) }
     {
         if self.callers.len() == 0 {
             return Progress::Returned;
@@ -250,14 +237,14 @@ impl Machine {
     pub fn enter(&mut self, number: u32, body: &Body) -> Result<Progress, NoMemory>
         ensures { Gives result self.new (entered number body.now self.old) }
     {
-        let locals = self.locals.len().saturating_sub(body.params);
+        let locals = self.locals.len().saturating_sub(body.counts.params);
         for _ in 0..body.zeros {
             self.locals.push(0)?;
         }
         self.current = Activation {
             function: number,
             place: 0,
-            arity: body.arity,
+            arity: body.counts.results,
             locals,
             labels: self.labels.len(),
             values: self.stack.len(),

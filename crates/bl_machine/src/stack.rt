@@ -121,6 +121,19 @@ impl<T: Copy + Drop> Stack<T> {
         self.cells.truncate(height);
     }
 
+    /// Leaves the topmost elements and the lowest ones of those below them, so many of each; those between them go.
+    pub fn keep(&mut self, height: usize, count: usize)
+        ensures { self.new ≡ take height (take (length self.old - count) self.old) ++ drop (length self.old - count) self.old }
+    {
+        let first = self.cells.len().saturating_sub(count);
+        if height >= first {
+            return;
+        }
+        let kept = self.cells.len() - first;
+        self.cells.copy_within(first.., height);
+        self.cells.truncate(height + kept);
+    }
+
     /// The elements from that height on.
     pub fn from(&self, height: usize) -> &[T]
         ensures { result.now ≡ drop height self.now }

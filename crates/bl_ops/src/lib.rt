@@ -10,6 +10,3 @@ mod rows;
 pub use access::{AccessKind, extend, narrow};
 pub use op::{Op, OpRow, OpTable};
 pub use rows::{by_code, by_image_code, eval, image_code, row, table, trap_of};
-
-#[cfg(test)]
-mod tests;

@@ -10,6 +10,3 @@ mod read;
 
 pub use error::StartError;
 pub use read::read_start;
-
-#[cfg(test)]
-mod tests;

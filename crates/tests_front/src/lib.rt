@@ -6,4 +6,14 @@ mod code;
 #[cfg(test)]
 mod decode;
 #[cfg(test)]
+mod leb;
+#[cfg(test)]
+mod link;
+#[cfg(test)]
+mod machine;
+#[cfg(test)]
+mod ops;
+#[cfg(test)]
+mod trace;
+#[cfg(test)]
 mod wasm;

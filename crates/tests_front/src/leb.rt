@@ -1,4 +1,5 @@
-use super::*;
+//! Integers in LEB128: rows of the standard's form, and numbers that are none.
+use bl_leb::{push_i32, push_u32, push_u64, read_i32, read_i64, read_s33, read_short, read_u32};
 use std::test::Fail;
 
 #[test]
@@ -36,6 +37,10 @@ fn signed_numbers_are_read(rt: HostRuntime) -> Result<(), Fail> {
     }
     let least = [0x80, 0x80, 0x80, 0x80, 0x80, 0x80, 0x80, 0x80, 0x80, 0x7F];
     assert_eq!(rt; read_i64(&least, 0), Some((i64::MIN, 10)));
+    let greatest = [0xFF, 0xFF, 0xFF, 0xFF, 0x0F];
+    assert_eq!(rt; read_s33(&greatest, 0), Some((4_294_967_295, 5)));
+    assert_eq!(rt; read_s33(&[0x81, 0x80, 0x80, 0x80, 0x00], 0), Some((1, 5)));
+    assert_eq!(rt; read_s33(&[0xC0, 0x7F], 0), Some((-64, 2)));
     Ok(())
 }
 

@@ -1,5 +1,6 @@
-use super::*;
+//! Start files.
 use bl_base::ValueType::{I32, I64};
+use bl_trace::{StartError, read_start};
 use std::test::Fail;
 
 /// One memory of a page, and one of none.

@@ -88,18 +88,18 @@ pub record IsEntry (tree : Tree) (m : Machine) (store : Store) (arguments : List
   pub callers_are : AreActivations tree callers (reverse m.callers) lower
 
 -- the machine stands for a configuration
-abbrev pub Matches : Tree → Progress → Machine → Config → Type 0
-Matches tree Running m (running state) = IsState tree m state
-Matches tree (Entering called) m (entering store number arguments callers) = (called ≡ number) × IsEntry tree m store arguments callers
-Matches tree progress m config = ⊥
+abbrev pub match_states : Tree → Progress → Machine → Config → Type 0
+match_states tree Running m (running state) = IsState tree m state
+match_states tree (Entering called) m (entering store number arguments callers) = (called ≡ number) × IsEntry tree m store arguments callers
+match_states tree progress m config = ⊥
 
 -- the machine has come where a step of the rules leads
 abbrev pub Leads : Tree → Progress → Machine → Next Config → Type 0
-Leads tree Running m (goes config) = Matches tree Running m config
-Leads tree (Entering number) m (goes config) = Matches tree (Entering number) m config
+Leads tree Running m (goes config) = match_states tree Running m config
+Leads tree (Entering number) m (goes config) = match_states tree (Entering number) m config
 Leads tree Returned m (ends outcome) = outcome ≡ returned m.stack []
 Leads tree (Trapped kind) m (ends outcome) = outcome ≡ trapped kind []
 Leads tree progress m next = ⊥
 
-abbrev pub Follows : Tree → Stepped → Next Config → Type 0
-Follows tree stepped next = Leads tree stepped.progress stepped.machine next
+abbrev pub simulates : Tree → Stepped → Next Config → Type 0
+simulates tree stepped next = Leads tree stepped.progress stepped.machine next

@@ -1,9 +1,11 @@
 //! Cases whose wanted numbers were computed outside of this program: a script wrote a WebAssembly module for each code,
 //! with one function that applies it to its parameters (or a memory of eight bytes for an access), ran it with node
 //! v20.20's WebAssembly on the operands below, and printed these tables. Where the module trapped, the number is that
-//! of the crate's own rule: 0 by zero, and the least number for the quotient that overflows.
-use super::*;
+//! of the operators' own rule: 0 by zero, and the least number for the quotient that overflows.
 use bl_base::Trap;
+use bl_ops::{
+    AccessKind, Op, by_code, by_image_code, eval, extend, image_code, narrow, row, table, trap_of,
+};
 use std::test::Fail;
 
 /// Operands of i32: least, greatest, 0, 1, -1, and shifts by less than the width, by the width and beyond.
@@ -22,7 +24,7 @@ const PAIRS_32: [(u64, u64); 11] = [
 ];
 
 /// Codes, and the numbers that they give at these pairs.
-const CASES_32: [(u8, [u64; 11]); 31] = [
+const CASES_32: [(u8, [u64; 11]); 33] = [
     (0x45, [1, 0, 0, 0, 0, 0, 0, 0, 0, 0, 0]),
     (0x46, [0, 1, 0, 0, 0, 0, 0, 0, 0, 0, 0]),
     (0x47, [1, 0, 1, 1, 1, 1, 1, 1, 1, 1, 1]),
@@ -285,6 +287,38 @@ const CASES_32: [(u8, [u64; 11]); 31] = [
             5,
         ],
     ),
+    (
+        0xC0,
+        [
+            0,
+            0xFFFF_FFFF,
+            0xFFFF_FFFF,
+            0,
+            0xFFFF_FFFF,
+            0,
+            0xFFFF_FFF9,
+            7,
+            0x78,
+            1,
+            5,
+        ],
+    ),
+    (
+        0xC1,
+        [
+            0,
+            0xFFFF_FFFF,
+            0xFFFF_FFFF,
+            0,
+            0xFFFF_FFFF,
+            0,
+            0xFFFF_FFF9,
+            7,
+            0x5678,
+            1,
+            5,
+        ],
+    ),
 ];
 
 /// Operands of i64.
@@ -303,7 +337,7 @@ const PAIRS_64: [(u64, u64); 11] = [
 ];
 
 /// Codes, and the numbers that they give at these pairs.
-const CASES_64: [(u8, [u64; 11]); 30] = [
+const CASES_64: [(u8, [u64; 11]); 33] = [
     (0x50, [1, 0, 0, 0, 0, 0, 0, 0, 0, 0, 0]),
     (0x51, [0, 1, 0, 0, 0, 0, 0, 0, 0, 0, 0]),
     (0x52, [1, 0, 1, 1, 1, 1, 1, 1, 1, 1, 1]),
@@ -570,6 +604,54 @@ const CASES_64: [(u8, [u64; 11]); 30] = [
             0xFFFF_FFF9,
             7,
             0x9ABC_DEF0,
+            1,
+            5,
+        ],
+    ),
+    (
+        0xC2,
+        [
+            0,
+            0xFFFF_FFFF_FFFF_FFFF,
+            0xFFFF_FFFF_FFFF_FFFF,
+            0,
+            0xFFFF_FFFF_FFFF_FFFF,
+            0,
+            0xFFFF_FFFF_FFFF_FFF9,
+            7,
+            0xFFFF_FFFF_FFFF_FFF0,
+            1,
+            5,
+        ],
+    ),
+    (
+        0xC3,
+        [
+            0,
+            0xFFFF_FFFF_FFFF_FFFF,
+            0xFFFF_FFFF_FFFF_FFFF,
+            0,
+            0xFFFF_FFFF_FFFF_FFFF,
+            0,
+            0xFFFF_FFFF_FFFF_FFF9,
+            7,
+            0xFFFF_FFFF_FFFF_DEF0,
+            1,
+            5,
+        ],
+    ),
+    (
+        0xC4,
+        [
+            0,
+            0xFFFF_FFFF_FFFF_FFFF,
+            0xFFFF_FFFF_FFFF_FFFF,
+            0,
+            0xFFFF_FFFF_FFFF_FFFF,
+            0,
+            0xFFFF_FFFF_FFFF_FFF9,
+            7,
+            0xFFFF_FFFF_9ABC_DEF0,
             1,
             5,
         ],

@@ -1,0 +1,227 @@
+//! Runs of function 0 of small modules. The results are those that node v20.20's WebAssembly gives; the steps are counted by hand:
+//! one for the entering of a function, for each item that is executed and for the return at its end.
+use crate::link::linked;
+use bl_base::{List, NoMemory, Run, Start, Trap, fits};
+use bl_machine::interp;
+use std::alloc::Global;
+use std::test::Fail;
+
+fn start_of(alloc: Global, args: &[u64]) -> Result<Start, NoMemory> {
+    let mut cells = Vec::new(alloc);
+    cells.extend_from_slice(args)?;
+    Ok(Start {
+        args: List::of(cells),
+        patches: List::new(alloc),
+    })
+}
+
+/// The outcome of function 0 of a module within so many steps; None where the module can't be linked or the arguments don't fit.
+fn run(alloc: Global, wasm: &[u8], args: &[u64], steps: u64) -> Result<Option<Run>, Fail> {
+    let Some(linked) = linked(alloc, wasm)? else {
+        return Ok(None);
+    };
+    let tree = linked.tree();
+    if !tree.memories.is_empty() || !tree.tables.is_empty() {
+        return Ok(None);
+    }
+    let Some(function) = tree.functions.as_slice().first() else {
+        return Ok(None);
+    };
+    let Some(kind) = tree.types.as_slice().get(function.type_index as usize) else {
+        return Ok(None);
+    };
+    let start = start_of(alloc, args)?;
+    if !fits(kind.params.as_slice(), &[], &start) {
+        return Ok(None);
+    }
+    Ok(Some(interp(alloc, &linked, 0, &start, steps)?))
+}
+
+/// Whether the function returns these values within so many steps.
+fn returns_in(
+    alloc: Global,
+    wasm: &[u8],
+    args: &[u64],
+    steps: u64,
+    wanted: &[u64],
+) -> Result<bool, Fail> {
+    match run(alloc, wasm, args, steps)? {
+        Some(Run::Returned { values, .. }) => Ok(values.as_slice() == wanted),
+        _ => Ok(false),
+    }
+}
+
+fn returns(alloc: Global, wasm: &[u8], args: &[u64], wanted: &[u64]) -> Result<bool, Fail> {
+    returns_in(alloc, wasm, args, 20_000, wanted)
+}
+
+/// Whether the function traps so within so many steps.
+fn traps_in(
+    alloc: Global,
+    wasm: &[u8],
+    args: &[u64],
+    steps: u64,
+    wanted: Trap,
+) -> Result<bool, Fail> {
+    match run(alloc, wasm, args, steps)? {
+        Some(Run::Trapped { kind, .. }) => Ok(kind == wanted),
+        _ => Ok(false),
+    }
+}
+
+fn is_spent(alloc: Global, wasm: &[u8], args: &[u64], steps: u64) -> Result<bool, Fail> {
+    Ok(matches!(run(alloc, wasm, args, steps)?, Some(Run::Spent)))
+}
+
+/// [i32] -> [i32]: local.get 0, i32.extend8_s.
+static EXTEND_8: &[u8] = b"\0asm\x01\0\0\0\x01\x06\x01`\x01\x7f\x01\x7f\x03\x02\x01\0\n\x07\x01\x05\0 \0\xc0\x0b";
+
+/// [i32] -> [i32]: local.get 0, i32.extend16_s.
+static EXTEND_16: &[u8] = b"\0asm\x01\0\0\0\x01\x06\x01`\x01\x7f\x01\x7f\x03\x02\x01\0\n\x07\x01\x05\0 \0\xc1\x0b";
+
+/// [i64] -> [i64]: local.get 0, i64.extend32_s.
+static EXTEND_32: &[u8] = b"\0asm\x01\0\0\0\x01\x06\x01`\x01~\x01~\x03\x02\x01\0\n\x07\x01\x05\0 \0\xc4\x0b";
+
+/// [i32 i32] -> [i32 i32]: local.get 1, local.get 0.
+static SWAP: &[u8] = b"\0asm\x01\0\0\0\x01\x08\x01`\x02\x7f\x7f\x02\x7f\x7f\x03\x02\x01\0\n\x08\x01\x06\0 \x01 \0\x0b";
+
+/// [i32] -> [i32], type 0: local.get 0, loop (type 0), i32.const -1, i32.add, local.tee 0, local.get 0, br_if 0, end.
+static COUNT_DOWN: &[u8] = b"\0asm\x01\0\0\0\x01\x06\x01`\x01\x7f\x01\x7f\x03\x02\x01\0\n\x12\x01\x10\0 \0\x03\0A\x7fj\"\0 \0\x0d\0\x0b\x0b";
+
+/// [i32] -> [i32], and type 1 is [i32 i32] -> [i32]: the numbers from the argument down are added up by a loop of type 1; the branch
+/// to it leaves a third value behind: i32.const 0, local.get 0, loop (type 1), local.set 0, local.set 1, i32.const 17, local.get 1,
+/// local.get 0, i32.add, local.get 0, i32.const -1, i32.add, local.tee 0, local.get 0, br_if 0, drop, local.set 1, drop,
+/// local.get 1, end.
+static SUM_BY_PARAMETERS: &[u8] = b"\0asm\x01\0\0\0\x01\x0c\x02`\x01\x7f\x01\x7f`\x02\x7f\x7f\x01\x7f\x03\x02\x01\0\n)\x01'\x01\x01\x7fA\0 \0\x03\x01!\0!\x01A\x11 \x01 \0j \0A\x7fj\"\0 \0\x0d\0\x1a!\x01\x1a \x01\x0b\x0b";
+
+/// [i32] -> [i32 i32], and type 1 is [] -> [i32 i32]: block (type 1), i32.const 5, block (type 1), i32.const 7, i32.const 8,
+/// i32.const 9, local.get 0, br_table 0 1 2, end, i32.add, end, i32.const 1, i32.add.
+static NESTED: &[u8] = b"\0asm\x01\0\0\0\x01\x0c\x02`\x01\x7f\x02\x7f\x7f`\0\x02\x7f\x7f\x03\x02\x01\0\n\x1d\x01\x1b\0\x02\x01A\x05\x02\x01A\x07A\x08A\x09 \0\x0e\x02\0\x01\x02\x0bj\x0bA\x01j\x0b";
+
+/// [i32 i32 i32] -> [i32], and type 1 is [i32 i32] -> [i32]: local.get 0, local.get 1, local.get 2, if (type 1), i32.sub, else, i32.add,
+/// end.
+static CHOOSE: &[u8] = b"\0asm\x01\0\0\0\x01\x0e\x02`\x03\x7f\x7f\x7f\x01\x7f`\x02\x7f\x7f\x01\x7f\x03\x02\x01\0\n\x10\x01\x0e\0 \0 \x01 \x02\x04\x01k\x05j\x0b\x0b";
+
+/// [i32 i32] -> [i32], and type 1 is [i32] -> [i32]: local.get 0, local.get 1, if (type 1), i32.const 5, i32.add, end.
+static THEN_ALONE: &[u8] = b"\0asm\x01\0\0\0\x01\x0c\x02`\x02\x7f\x7f\x01\x7f`\x01\x7f\x01\x7f\x03\x02\x01\0\n\x0e\x01\x0c\0 \0 \x01\x04\x01A\x05j\x0b\x0b";
+
+/// [i32 i32] -> [i32]: local.get 0, local.get 1, call 1, i32.sub; and function 1 is `SWAP`.
+static CALL: &[u8] = b"\0asm\x01\0\0\0\x01\x0e\x02`\x02\x7f\x7f\x01\x7f`\x02\x7f\x7f\x02\x7f\x7f\x03\x03\x02\0\x01\n\x12\x02\x09\0 \0 \x01\x10\x01k\x0b\x06\0 \x01 \0\x0b";
+
+/// [i32] -> [i32]: local.get 0, i32.const 1, i32.add.
+static ADD_ONE: &[u8] = b"\0asm\x01\0\0\0\x01\x06\x01`\x01\x7f\x01\x7f\x03\x02\x01\0\n\x09\x01\x07\0 \0A\x01j\x0b";
+
+/// [i32 i32] -> [i32]: local.get 0, local.get 1, i32.div_s.
+static QUOTIENT: &[u8] = b"\0asm\x01\0\0\0\x01\x07\x01`\x02\x7f\x7f\x01\x7f\x03\x02\x01\0\n\x09\x01\x07\0 \0 \x01m\x0b";
+
+/// [i32 i32] -> [i32]: local.get 0, local.get 1, i32.rem_s.
+static REMAINDER: &[u8] = b"\0asm\x01\0\0\0\x01\x07\x01`\x02\x7f\x7f\x01\x7f\x03\x02\x01\0\n\x09\x01\x07\0 \0 \x01o\x0b";
+
+/// [i32] -> [i32]: calls itself as often as the argument says, and gives 7.
+static DEEP: &[u8] = b"\0asm\x01\0\0\0\x01\x06\x01`\x01\x7f\x01\x7f\x03\x02\x01\0\n\x13\x01\x11\0 \0\x04@ \0A\x01k\x10\0\x1a\x0bA\x07\x0b";
+
+/// [i32] -> [i32] with a second local: adds up the numbers to the argument: block, loop, local.get 0, i32.eqz, br_if 1, local.get 1,
+/// local.get 0, i32.add, local.set 1, local.get 0, i32.const 1, i32.sub, local.set 0, br 0, end, end, local.get 1.
+static ADDING: &[u8] = b"\0asm\x01\0\0\0\x01\x06\x01`\x01\x7f\x01\x7f\x03\x02\x01\0\n#\x01!\x01\x01\x7f\x02@\x03@ \0E\x0d\x01 \x01 \0j!\x01 \0A\x01k!\0\x0c\0\x0b\x0b \x01\x0b";
+
+/// [i32] -> [i32]: branches out of as many blocks as the argument says and one more, at most out of three, with 40; behind their
+/// ends 1, 2 and 4 are added.
+static BRANCHING: &[u8] = b"\0asm\x01\0\0\0\x01\x06\x01`\x01\x7f\x01\x7f\x03\x02\x01\0\n \x01\x1e\0\x02\x7f\x02\x7f\x02\x7fA( \0\x0e\x02\0\x01\x02\0\x0bA\x01j\x0bA\x02j\x0bA\x04j\x0b";
+
+/// [i32] -> [i32]: 9 less a number of either part of an if, over a value that a branch leaves behind.
+static CHOOSING: &[u8] = b"\0asm\x01\0\0\0\x01\x06\x01`\x01\x7f\x01\x7f\x03\x02\x01\0\n\x1d\x01\x1b\0A\x09 \0\x04\x7f\x02@\x0bA\x03\x05\x02@A\x08A\x04\x0c\x01\x0bA\x05\x0bk\x0b";
+
+/// [] -> []: no items.
+static NOTHING: &[u8] = b"\0asm\x01\0\0\0\x01\x04\x01`\0\0\x03\x02\x01\0\n\x04\x01\x02\0\x0b";
+
+#[test]
+fn signs_are_extended(rt: HostRuntime) -> Result<(), Fail> {
+    let a = rt.alloc();
+    assert!(rt; returns(a, EXTEND_8, &[200], &[4_294_967_240])?);
+    assert!(rt; returns(a, EXTEND_16, &[32_768], &[4_294_934_528])?);
+    assert!(rt; returns(a, EXTEND_32, &[2_147_483_648], &[18_446_744_071_562_067_968])?);
+    Ok(())
+}
+
+#[test]
+fn results_are_in_order(rt: HostRuntime) -> Result<(), Fail> {
+    let a = rt.alloc();
+    assert!(rt; returns(a, SWAP, &[3, 4], &[4, 3])?);
+    assert!(rt; returns(a, CALL, &[3, 10], &[7])?);
+    Ok(())
+}
+
+#[test]
+fn a_branch_to_a_loop_keeps_its_parameters(rt: HostRuntime) -> Result<(), Fail> {
+    let a = rt.alloc();
+    assert!(rt; returns(a, COUNT_DOWN, &[3], &[0])?);
+    assert!(rt; returns(a, SUM_BY_PARAMETERS, &[10], &[55])?);
+    assert!(rt; returns(a, SUM_BY_PARAMETERS, &[1], &[1])?);
+    Ok(())
+}
+
+#[test]
+fn a_branch_carries_several_results(rt: HostRuntime) -> Result<(), Fail> {
+    let a = rt.alloc();
+    assert!(rt; returns(a, NESTED, &[0], &[5, 18])?);
+    assert!(rt; returns(a, NESTED, &[1], &[8, 10])?);
+    assert!(rt; returns(a, NESTED, &[2], &[8, 9])?);
+    assert!(rt; returns(a, NESTED, &[9], &[8, 9])?);
+    Ok(())
+}
+
+#[test]
+fn either_part_of_an_if_takes_the_parameters(rt: HostRuntime) -> Result<(), Fail> {
+    let a = rt.alloc();
+    assert!(rt; returns(a, CHOOSE, &[10, 3, 1], &[7])?);
+    assert!(rt; returns(a, CHOOSE, &[10, 3, 0], &[13])?);
+    assert!(rt; returns(a, THEN_ALONE, &[10, 1], &[15])?);
+    assert!(rt; returns(a, THEN_ALONE, &[10, 0], &[10])?);
+    assert!(rt; returns(a, CHOOSING, &[1], &[6])?);
+    assert!(rt; returns(a, CHOOSING, &[0], &[5])?);
+    Ok(())
+}
+
+#[test]
+fn each_step_is_counted(rt: HostRuntime) -> Result<(), Fail> {
+    let a = rt.alloc();
+    assert!(rt; is_spent(a, NOTHING, &[], 1)?);
+    assert!(rt; returns_in(a, NOTHING, &[], 2, &[])?);
+    assert!(rt; is_spent(a, ADD_ONE, &[4_294_967_295], 4)?);
+    assert!(rt; returns_in(a, ADD_ONE, &[4_294_967_295], 5, &[0])?);
+    assert!(rt; returns_in(a, ADD_ONE, &[6], 9, &[7])?);
+    assert!(rt; is_spent(a, ADDING, &[0], 7)?);
+    assert!(rt; returns_in(a, ADDING, &[0], 8, &[0])?);
+    assert!(rt; returns(a, ADDING, &[10], &[55])?);
+    Ok(())
+}
+
+#[test]
+fn quotients_trap(rt: HostRuntime) -> Result<(), Fail> {
+    let a = rt.alloc();
+    let least = [2_147_483_648, 4_294_967_295];
+    assert!(rt; traps_in(a, QUOTIENT, &least, 4, Trap::Overflow)?);
+    assert!(rt; traps_in(a, QUOTIENT, &[1, 0], 4, Trap::DivideByZero)?);
+    assert!(rt; is_spent(a, QUOTIENT, &[1, 0], 3)?);
+    assert!(rt; returns_in(a, REMAINDER, &least, 5, &[0])?);
+    Ok(())
+}
+
+#[test]
+fn calls_are_1024_deep_at_most(rt: HostRuntime) -> Result<(), Fail> {
+    let a = rt.alloc();
+    assert!(rt; returns(a, DEEP, &[0], &[7])?);
+    assert!(rt; returns(a, DEEP, &[1_023], &[7])?);
+    assert!(rt; traps_in(a, DEEP, &[1_024], 20_000, Trap::StackExhausted)?);
+    Ok(())
+}
+
+#[test]
+fn tables_choose_labels(rt: HostRuntime) -> Result<(), Fail> {
+    let a = rt.alloc();
+    assert!(rt; returns(a, BRANCHING, &[0], &[47])?);
+    assert!(rt; returns(a, BRANCHING, &[1], &[46])?);
+    assert!(rt; returns(a, BRANCHING, &[2], &[44])?);
+    assert!(rt; returns(a, BRANCHING, &[3], &[44])?);
+    Ok(())
+}
