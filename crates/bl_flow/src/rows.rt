@@ -40,9 +40,12 @@ impl Rows {
     /// The links from a part.
     pub fn row(&self, part: usize) -> &[usize]
         requires { part < length self.now }
-        ensures { result.now ≡ row_at self.now part }
+        ensures row { result.now ≡ row_at self.now part }
+        ensures small { (p : ℕ) → length (row_at self.now p) < 2 ^ 63 }
     {
-        &self.entries[self.offsets[part]..self.offsets[part + 1]]
+        let start = self.offsets[part];
+        let end = self.offsets[part + 1];
+        &self.entries[start..end]
     }
 
     /// The links from a part; none from the end, behind which no walk goes on.
@@ -57,7 +60,8 @@ impl Rows {
     /// The link at a place of a part's row.
     pub fn link_from(&self, part: usize, place: usize) -> Option<usize>
         requires { part < length self.now }
-        ensures { result ≡ slice_get (row_at self.now part) place }
+        ensures link { result ≡ slice_get (row_at self.now part) place }
+        ensures small { (p : ℕ) → length (row_at self.now p) < 2 ^ 63 }
     {
         self.row(part).get(place).copied()
     }
@@ -67,7 +71,8 @@ impl Rows {
     pub fn link_to(&self, half: usize, part: usize, place: usize) -> Option<usize>
         requires part { part < length self.now }
         requires half { half < 2 ^ 63 }
-        ensures { result ≡ slice_get (row_at (reversed half self.now) part) place }
+        ensures link { result ≡ slice_get (row_at (reversed half self.now) part) place }
+        ensures small { (p : ℕ) → length (row_at (reversed half self.now) p) < 2 ^ 63 }
     {
         let link = self.link_from(part, place)?;
         Some(reverse_of(half, link))
