@@ -1,6 +1,7 @@
 -- The way back through what is carried, whose circles are taken off.
 use Rattle.std.proofs.Common.{◌≡◌, ℕ, zero, suc, ◌+◌, ◌-◌, ◌*◌, ◌<◌, ◌≤◌, Bool, true, false, cond, List, [], ◌∷◌, ◌++◌, length, take, drop, set, refl, sym, ap, subst, ◌∙◌, arith, ◌⊎◌, inl, inr, slice_index, nat_eq, nat_lt, ◌&&◌, length-append, length-set, length-drop}
-use Rattle.std.specs.List.{Contains}
+use Rattle.std.specs.List.{Contains, count_by}
+use Rattle.std.proofs.Math.Nat.{mul-suc}
 use Rattle.std.proofs.Math.Seq.{drop-cons}
 use Rattle.std.proofs.lemmas.Bool.{cases_lt, cases_eq, cases_Bool, false≢true, lt-ltb, le-ltb, ltb-true, eqb-true, eq-eqb, ne_eqb, and_parts, and_from}
 use Rattle.std.proofs.lemmas.List.{get_or-take, get_or-drop, get_or_append_left, get_or_push, get_or-set_same, get_or-set_other, get_or_past, length-take-le, get_or_default, take-append-drop}
@@ -16,6 +17,7 @@ use Rattle.bl_flow.proofs.Sums.{sum_change, sum_term, sum_le, sum_tight}
 use Rattle.bl_flow.proofs.Amounts.{amount_in, amount_out}
 use Rattle.bl_flow.proofs.BothWays.{forward_at}
 use Rattle.bl_flow.proofs.Blocking.{leads_more}
+use Rattle.bl_flow.proofs.Ways.{once, count_cons}
 
 -- how many parts are not on the way
 abbrev pub absent : Bool → ℕ
@@ -306,3 +308,70 @@ sum_less m carries after le j lt less =
       | inl lower ↦ lower
       | inr past ↦ let same = sum_tight m (λ k. slice_index after k) (λ k. slice_index carries k) (λ k _. le k) past j lt in absurd (omega arith)
     ]
+
+-- one link back, in the words of the code
+pub steps_back : (links : List Link) (carries : List ℕ) (rows : List (List ℕ)) (end : ℕ) (places way : List ℕ) (part k len parts : ℕ) → AreRowsIn links rows → OnTrace links (length carries) carries places way end part
+    → on_way links way places part ≡ false → part < length places → part < parts → Contains (row_at rows part) k → 0 < slice_index carries k → len ≡ length way
+    → OnTrace links (length carries) carries (set places part len) (way ++ k ∷ []) end (link_at links k).from
+    × (k < length links)
+    × (off_way links (set places part len) (way ++ k ∷ []) parts < off_way links places way parts)
+steps_back links carries rows end places way part k len parts hold trace fresh inside lt there some e =
+    let entry : slice_index (row_at rows part) there.0 ≡ k = get_or_default (row_at rows part) there.0 0 k there.1 ∙ there.2 in
+    let sound = hold.sound part there.0 there.1 in
+    let within : k < length links = subst (λ j. j < length links) entry sound.0 in
+    let to : (link_at links k).to ≡ part = subst (λ j. (link_at links j).to ≡ part) entry sound.1 in
+    let more = trace_more links (length carries) carries end places way part trace fresh inside k to (link_carries carries rows k some) some in
+    let less = less_off links (length carries) carries end places way part trace fresh inside k to parts lt in
+    (subst (λ l. OnTrace links (length carries) carries (set places part l) (way ++ k ∷ []) end (link_at links k).from) (sym e) more,
+    within,
+    subst (λ l. off_way links (set places part l) (way ++ k ∷ []) parts < off_way links places way parts) (sym e) (omega arith))
+
+-- a circle is taken off what is carried
+pub record Dropped (n : Network) (links : List Link) (carries after places way : List ℕ) (end part left : ℕ) : Type 0 where
+  pub carried_ : IsCarried n after left
+  pub less : (k : ℕ) → slice_index after k ≤ slice_index carries k
+  pub lower : sum_below (link_count n) (λ k. slice_index after k) < sum_below (link_count n) (λ k. slice_index carries k)
+  pub trace : OnTrace links (link_count n) after places (take (slice_index places part) way) end part
+
+pub circle_dropped : (n : Network) (links : List Link) (carries after places way : List ℕ) (end part left : ℕ) → links ≡ both_ways (links_of n) → IsCarried n carries left → OnTrace links (link_count n) carries places way end part
+    → on_way links way places part ≡ true → (amount : ℕ) × (0 < amount) × IsTaken carries after (drop (slice_index places part) way) amount → Dropped n links carries after places way end part left
+circle_dropped n links carries after places way end part left both is trace on some = record {
+  carried_ = record {
+    places = taken.places ∙ is.places;
+    flow = carries_circle (links_of n) (link_count n) (λ k. slice_index carries k) (λ k. slice_index after k) (in_part (size n)) (out_part (size n)) left part amount is.flow
+        (taken.adds (links_of n) part part within (subst (λ l. LeadsBack l (drop at_ way) part part) both (circle_back links (link_count n) carries end places way part trace on)));
+  };
+  less = le;
+  lower = sum_less (link_count n) carries after le first (trace.within at_ found.0) here_;
+  trace = trace_cut links (link_count n) carries end places way part trace after amount on taken;
+}
+  where
+    amount : ℕ
+    amount = some.0
+
+    taken : IsTaken carries after (drop (slice_index places part) way) amount
+    taken = some.2
+
+    at_ : ℕ
+    at_ = slice_index places part
+
+    first : ℕ
+    first = slice_index way at_
+
+    found : (at_ < length way) × ((link_at links first).to ≡ part)
+    found = is_on links (link_count n) carries end places way part on
+
+    within : (place : ℕ) → place < length (drop at_ way) → slice_index (drop at_ way) place < link_count n
+    within place lt = let c = length-drop at_ way in subst (λ k. k < link_count n) (sym (get_or-drop at_ way place 0)) (trace.within (at_ + place) (omega arith))
+
+    le : (k : ℕ) → slice_index after k ≤ slice_index carries k
+    le k = let sum = taken.less k in omega arith
+
+    here_ : slice_index after first < slice_index carries first
+    here_ =
+        let sum = taken.less first in
+        let open_ : count_by (λ j. nat_eq j first) (drop at_ way) ≡ suc (count_by (λ j. nat_eq j first) (drop (suc at_) way)) =
+        ap (count_by (λ j. nat_eq j first)) (drop-cons way at_ 0 found.0) ∙ count_cons (λ j. nat_eq j first) first (drop (suc at_) way) ∙ ap (λ b. once b + count_by (λ j. nat_eq j first) (drop (suc at_) way)) (eq-eqb first first refl) ∙ omega arith in
+        let product = ap (λ c. amount * c) open_ ∙ mul-suc amount (count_by (λ j. nat_eq j first) (drop (suc at_) way)) in
+        let more = some.1 in
+        omega arith
