@@ -1,2 +1,4 @@
+pub mod Lists
 pub mod RunLemmas
 pub mod SetLemmas
+pub mod Sums

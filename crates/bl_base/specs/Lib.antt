@@ -1,4 +1,5 @@
 pub mod Fits
 pub mod Quantity
 pub mod Runs
+pub mod Sums
 pub mod Trap

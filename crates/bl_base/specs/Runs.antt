@@ -1,5 +1,8 @@
 -- Runs of a machine that steps from one configuration to the next, until it ends.
-use Rattle.std.specs.Prelude.{◌≡◌, ℕ, zero, suc, List}
+use Rattle.std.specs.Prelude.{◌≡◌, ◌≤◌, ℕ, zero, suc, List, map, Option, Some, None}
+use Rattle.bl_base.specs.declared.run.Pages.{Pages}
+use Rattle.bl_base.specs.declared.run.Run.{Run}
+use Rattle.bl_base.specs.declared.run.Run.TheVariants as run
 use Rattle.bl_base.specs.declared.trap.Trap.{Trap}
 
 -- a memory: its pages of 65,536 bytes, and its bytes
@@ -34,3 +37,24 @@ module _ {C : Type 0} (step : C → Next C) where
   pub data EndsAfter : ℕ → C → Outcome → Type 0 where
     last : (c : C) (o : Outcome) → step c ≡ ends o → EndsAfter 1 c o
     more : (n : ℕ) (c d : C) (o : Outcome) → step c ≡ goes d → EndsAfter n d o → EndsAfter (suc n) c o
+
+-- ---- what is told of a run that was given so many steps
+
+-- a memory as a run's end has it
+abbrev pub memory_of : Pages → MemoryState
+memory_of pages = record { pages = pages.pages; bytes = pages.bytes }
+
+-- the outcome that an answer tells; none where the steps were spent
+abbrev pub outcome_of : Run → Option Outcome
+outcome_of (run.Returned values memories) = Some (returned values (map memory_of memories))
+outcome_of (run.Trapped kind memories) = Some (trapped kind (map memory_of memories))
+outcome_of run.Spent = None
+
+-- of runs that end with an outcome after so many steps: one ends so within that many, or none does
+abbrev pub IsWithin : (ℕ → Outcome → Type 0) → ℕ → Option Outcome → Type 0
+IsWithin ends_with steps (Some outcome) = (n : ℕ) × ends_with n outcome × (n ≤ steps)
+IsWithin ends_with steps None = (n : ℕ) (outcome : Outcome) → ends_with n outcome → n ≤ steps → ⊥
+
+-- an answer that is true of these runs: the outcome within so many steps, and `Spent` exactly where there is none
+abbrev pub Tells : (ℕ → Outcome → Type 0) → ℕ → Run → Type 0
+Tells ends_with steps answer = IsWithin ends_with steps (outcome_of answer)

@@ -1,6 +1,6 @@
-//! What is limited, and the word by which a limit is printed.
+//! What is limited: the word by which a limit is printed, and its number.
 ghost use Rattle.std.specs.Prelude.{◌≡◌};
-ghost use Rattle.bl_base.specs.Quantity.{word_of};
+ghost use Rattle.bl_base.specs.Quantity.{limit_of, word_of};
 
 /// Something that has a limit.
 #[derive(Clone, Copy, Debug, PartialEq, Eq, PartialOrd, Ord)]
@@ -73,6 +73,34 @@ impl Quantity {
             Quantity::Interface => "interface",
             Quantity::Variables => "variables",
             Quantity::Weight => "weight",
+        }
+    }
+
+    /// The greatest number that is within the limit, in the quantity's own unit.
+    pub fn limit(self) -> u64
+        ensures { result ≡ limit_of self }
+    {
+        match self {
+            Quantity::Modules => 8,
+            Quantity::Module => 4_194_304,
+            Quantity::Functions => 10_000,
+            Quantity::Locals => 4_096,
+            Quantity::Nesting => 256,
+            Quantity::Targets => 1_024,
+            Quantity::Table => 1_024,
+            Quantity::Memory => 256,
+            Quantity::Reserve => 1_024,
+            Quantity::Commands => 1_048_576,
+            Quantity::Image => 134_217_728,
+            Quantity::Certificate => 268_435_456,
+            Quantity::Trace => 16_777_216,
+            Quantity::Start => 16_777_216,
+            Quantity::Directives => 1_000_000,
+            Quantity::Results => 1_024,
+            Quantity::Counts => 67_108_864,
+            Quantity::Interface => 1_048_576,
+            Quantity::Variables => 2_147_483_647,
+            Quantity::Weight => 9_223_372_036_854_775_807,
         }
     }
 }
