@@ -7,13 +7,14 @@ use Rattle.std.proofs.lemmas.Bool.{cases_lt, cases_eq, cases_Bool, false≢true,
 use Rattle.std.proofs.lemmas.List.{get_or-take, get_or-drop, get_or_append_left, get_or_push, get_or-set_same, get_or-set_other, get_or_past, length-take-le, get_or_default, take-append-drop}
 use Rattle.bl_flow.specs.declared.network.Network.{Network}
 use Rattle.bl_flow.specs.declared.split.Link.{Link}
-use Rattle.bl_flow.specs.Networks.{size, sum_below}
+use Rattle.bl_flow.specs.Networks.{size}
+use Rattle.bl_base.specs.Sums.{sum_below}
 use Rattle.bl_flow.specs.Split.{link_at, both_ways, links_of, in_part, out_part}
 use Rattle.bl_flow.specs.Flows.{amount_if, Adds, Carries, LeadsBack, IsTaken, IsCarried, link_count}
 use Rattle.bl_flow.specs.Searches.{row_at}
 use Rattle.bl_flow.specs.Levels.{AreRowsIn}
 use Rattle.bl_flow.specs.Traces.{ArePassedOver, Brings, OnTrace, on_way, AreFed, IsTraced}
-use Rattle.bl_flow.proofs.Sums.{sum_change, sum_term, sum_le, sum_tight}
+use Rattle.bl_base.proofs.Sums.{sum_change, sum_term, sum_le, sum_tight}
 use Rattle.bl_flow.proofs.Amounts.{amount_in, amount_out}
 use Rattle.bl_flow.proofs.BothWays.{forward_at}
 use Rattle.bl_flow.proofs.Blocking.{leads_more}
