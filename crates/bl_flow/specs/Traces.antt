@@ -1,0 +1,44 @@
+-- The way that is traced back through what a flow carries.
+use Rattle.std.specs.Prelude.{◌≡◌, ℕ, ◌<◌, ◌≤◌, ◌⊎◌, Bool, List, length, slice_index, nat_lt, nat_eq, ◌&&◌}
+use Rattle.bl_flow.specs.declared.split.Link.{Link}
+use Rattle.bl_flow.specs.Split.{link_at}
+use Rattle.bl_flow.specs.Flows.{LeadsBack}
+use Rattle.bl_flow.specs.Searches.{row_at}
+
+-- a link before its part's pointer carries nothing
+abbrev pub ArePassedOver : List ℕ → List (List ℕ) → List ℕ → Type 0
+ArePassedOver carries rows passed =
+    (part place : ℕ) → place < slice_index passed part → place < length (row_at rows part)
+    → slice_index carries (slice_index (row_at rows part) place) ≡ 0
+
+-- a link of a part's row that carries something
+pub record Brings (carries row : List ℕ) : Type 0 where
+  pub place : ℕ
+  pub within : place < length row
+  pub some : 0 < slice_index carries (slice_index row place)
+
+-- a way back from the end to a part by links that carry something; each part on it has its place on it
+pub record OnTrace (links : List Link) (count : ℕ) (carries places way : List ℕ) (end part : ℕ) : Type 0 where
+  pub back : LeadsBack links way part end
+  pub within : (place : ℕ) → place < length way → slice_index way place < count
+  pub some : (place : ℕ) → place < length way → 0 < slice_index carries (slice_index way place)
+  pub placed : (place : ℕ) → place < length way → slice_index places (link_at links (slice_index way place)).to ≡ place
+
+-- whether a part is on the way
+abbrev pub on_way : List Link → List ℕ → List ℕ → ℕ → Bool
+on_way links way places part =
+    nat_lt (slice_index places part) (length way) && nat_eq (link_at links (slice_index way (slice_index places part))).to part
+
+-- what comes to a part comes from somewhere: some link to it carries something
+abbrev pub AreFed : List Link → ℕ → List ℕ → ℕ → ℕ → Type 0
+AreFed links count carries root end =
+    (part : ℕ) → (part ≡ root → ⊥)
+    → (part ≡ end) ⊎ ((k : ℕ) × (k < count) × ((link_at links k).from ≡ part) × (0 < slice_index carries k))
+    → (k : ℕ) × (k < count) × ((link_at links k).to ≡ part) × (0 < slice_index carries k)
+
+-- a way back from the end to the root by links that carry something, none of them twice
+pub record IsTraced (links : List Link) (count : ℕ) (carries way : List ℕ) (root end : ℕ) : Type 0 where
+  pub back : LeadsBack links way root end
+  pub within : (place : ℕ) → place < length way → slice_index way place < count
+  pub some : (place : ℕ) → place < length way → 0 < slice_index carries (slice_index way place)
+  pub apart : (p q : ℕ) → p < q → q < length way → slice_index way p ≡ slice_index way q → ⊥
