@@ -8,6 +8,6 @@ pub mod Soundness
 pub mod VariableItems
 mod WorkedBlocks
 mod WorkedItems
-mod WorkedLinked
+pub mod WorkedLinked
 mod WorkedRows
-mod WorkedTrees
+pub mod WorkedTrees

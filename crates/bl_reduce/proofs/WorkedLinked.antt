@@ -28,13 +28,13 @@ use Rattle.bl_reduce.specs.Outcomes.{IsStart, opening}
 use Rattle.bl_reduce.specs.Steps.{source_step}
 use Rattle.bl_reduce.proofs.Soundness.{never_stuck}
 
-abbrev type : Signature
+abbrev pub type : Signature
 type = record { params = value.I32 ∷ []; results = value.I32 ∷ [] }
 
-abbrev items : List Instr
+abbrev pub items : List Instr
 items = LocalGet 0 ∷ Load access.I32Load (record { alignment = 2; offset = 0 }) ∷ Loop (Index 0) ∷ Call 0 ∷ End ∷ I32Const 0 ∷ CallIndirect 0 ∷ []
 
-abbrev function : Function
+abbrev pub function : Function
 function = record {
   type_index = 0;
   labels = label.Public ∷ [];
@@ -44,13 +44,13 @@ function = record {
   table = Some 0;
 }
 
-abbrev memory : Memory
+abbrev pub memory : Memory
 memory = record { pages = 0; reserve = 1; label = label.Public; bytes = [] }
 
-abbrev global : Global
+abbrev pub global : Global
 global = record { kind = value.I32; mutable = true; first = 5; label = label.Secret; demanded = false }
 
-abbrev tree : Tree
+abbrev pub tree : Tree
 tree = record { types = type ∷ []; functions = function ∷ []; globals = global ∷ []; memories = memory ∷ []; tables = (Some 0 ∷ None ∷ []) ∷ []; exports = [] }
 
 abbrev as_type : FuncType
@@ -105,7 +105,7 @@ is_function = record {
   table = omega arith;
 }
 
-is_linked : IsLinked tree
+pub is_linked : IsLinked tree
 is_linked = record {
   types = All-cons (λ type. length type.results ≤ 1024) type [] (omega arith) (All-nil (λ type. length type.results ≤ 1024));
   functions = All-cons (IsFunction tree) function [] is_function (All-nil (IsFunction tree));
@@ -122,10 +122,10 @@ is_linked = record {
   reserves = omega arith;
 }
 
-abbrev start : Start
+abbrev pub start : Start
 start = record { args = 3 ∷ []; patches = [] }
 
-is_start : IsStart tree 0 start
+pub is_start : IsStart tree 0 start
 is_start = record {
   function = function;
   exists = refl;

@@ -1,4 +1,5 @@
--- Control instructions but for calls (WebAssembly 1.0, sections 4.4.5 and 4.4.6).
+-- Control instructions but for calls (WebAssembly 1.0, sections 4.4.5 and 4.4.6; blocks with parameters and several results,
+-- version 2.0, sections 4.4.8 and 4.4.9).
 use Rattle.std.specs.Prelude.{ℕ, ◌+◌, ◌==◌, if◌then◌else◌, List, [], ◌∷◌, ◌++◌, length, take, drop, slice_get, Option, Some, None, unwrap_or}
 use Rattle.bl_base.specs.Runs.{Next, stuck}
 use Rattle.bl_wasm.specs.Nesting.{Construct, open_behind}

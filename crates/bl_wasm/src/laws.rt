@@ -1,7 +1,7 @@
 //! Laws of the grammar and of typings. Each function is its contract alone.
-ghost use Rattle.std.specs.Prelude.{◌≡◌, ◌↔◌, ◌++◌, ℕ, ◌≤◌, true, List, [], ◌∷◌, length, map, slice_get};
+ghost use Rattle.std.specs.Prelude.{◌≡◌, ◌↔◌, ◌++◌, ℕ, ◌≤◌, true, List, [], ◌∷◌, length, map, slice_get, Some};
 ghost use Rattle.bl_wasm.specs.Instructions.{Nests};
-ghost use Rattle.bl_wasm.specs.Nesting.{Closes, else_part, of_block, of_loop, then_part};
+ghost use Rattle.bl_wasm.specs.Nesting.{Closes, else_part, of_block, of_loop, open_through, then_part};
 ghost use Rattle.bl_wasm.specs.Reached.{is_reached};
 ghost use Rattle.bl_wasm.specs.Renaming.{NameAlike, Names, Spaces, placed, renamed};
 ghost use Rattle.bl_wasm.specs.Sequences.{IsConstruct, Sequence};
@@ -13,9 +13,11 @@ ghost use Rattle.bl_wasm.specs.declared.types.BlockType.{BlockType};
 ghost use Rattle.bl_wasm.specs.declared.types.WasmType.TheVariants as kind;
 ghost use Rattle.bl_wasm.specs.declared.types.WasmType.{WasmType};
 
-/// Items nest exactly where each may stand behind those before it, and where they close what they open.
+/// Items nest exactly where each may stand behind those before it, and where they close what they open: where nothing is open
+/// behind them.
 pub fn nesting_is_closing()
-    ensures { (items : List Instr) → Nests items ↔ Closes [] items }
+    ensures closing { (items : List Instr) → Nests items ↔ Closes [] items }
+    ensures through { (items : List Instr) → Nests items ↔ open_through items [] ≡ Some [] }
 {}
 
 /// A body with a typing nests.
