@@ -1,12 +1,5 @@
-pub mod Constructs
-pub mod Counts
-pub mod Groups
-pub mod Labels
-pub mod Moves
+pub mod ModuleRuleLemmas
 pub mod Names
-pub mod NestedLemmas
 pub mod Reasons
-pub mod Rows
 pub mod Spaces
-pub mod StandsLemmas
 pub mod Whole
