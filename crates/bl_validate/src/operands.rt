@@ -1,9 +1,9 @@
 //! What is known of the operands that stand in one construct (WebAssembly 1.0, appendix "Validation Algorithm").
-ghost use Rattle.std.specs.Prelude.{◌≡◌, ◌↔◌, ◌++◌, List, [], ◌∷◌, IsTrue, OnOk, MatchOption, Bool, Ok};
+ghost use Rattle.std.specs.Prelude.{◌≡◌, ◌↔◌, ◌++◌, List, [], ◌∷◌, IsTrue, OnOk, IfOk, MatchOption};
 ghost use Rattle.bl_wasm.specs.Typing.{Arrow};
 ghost use Rattle.bl_wasm.specs.declared.types.WasmType.{WasmType};
 ghost use Rattle.bl_wasm.specs.declared.types.WasmType.TheVariants as WasmType;
-ghost use Rattle.bl_validate.specs.HasEffect.{HasEffect};
+ghost use Rattle.bl_validate.specs.HasEffect.{HasEffect, inputs_of};
 ghost use Rattle.bl_validate.specs.MayStand.{MayStand, Fits, Pops, known};
 
 use crate::effects::Effect;
@@ -139,21 +139,39 @@ impl<'m> Operands<'m> {
         self.unreachable = true;
     }
 
+    /// Takes what an item of that effect takes; false where it can't stand there.
+    fn pop_inputs(&mut self, effect: Effect<'m>) -> bool
+        ensures { (s : List WasmType) → MayStand self.old (s ++ inputs_of effect.entry) ↔ (IsTrue result × MayStand self.new s) }
+    {
+        if !effect.indexed {
+            return self.pop(effect.inputs);
+        }
+        self.pop(I32) && self.pop(effect.inputs)
+    }
+
+    /// Puts operands of those types on top; None where nothing can be reached.
+    fn push_outputs(&mut self, outputs: Option<&'m [WasmType]>) -> Result<(), NoMemory>
+        ensures { OnOk result ((s : List WasmType) →
+            MayStand self.new s ↔ ((below : List WasmType) × MatchOption outputs.entry (Unit {0}) (λ types. s ≡ below ++ types.now) × MayStand self.old below)) }
+    {
+        match outputs {
+            Some(types) => self.push(types),
+            None => {
+                self.forget();
+                Ok(())
+            }
+        }
+    }
+
     /// Goes over an item of that effect; false where what it takes can't stand there.
     pub(crate) fn apply(&mut self, effect: Effect<'m>) -> Result<bool, NoMemory>
-        ensures { (ok : Bool) → result ≡ Ok ok → (to : List WasmType) →
-            (IsTrue ok × MayStand self.new to) ↔ ((from : List WasmType) × HasEffect effect.entry from to × MayStand self.old from) }
+        ensures { IfOk result (λ ok. (to : List WasmType) →
+            (IsTrue ok × MayStand self.new to) ↔ ((from : List WasmType) × HasEffect effect.entry from to × MayStand self.old from)) }
     {
-        if effect.indexed && !self.pop(I32) {
+        if !self.pop_inputs(effect) {
             return Ok(false);
         }
-        if !self.pop(effect.inputs) {
-            return Ok(false);
-        }
-        match effect.outputs {
-            Some(outputs) => self.push(outputs)?,
-            None => self.forget(),
-        }
+        self.push_outputs(effect.outputs)?;
         Ok(true)
     }
 
@@ -182,9 +200,9 @@ impl<'m> Operands<'m> {
     /// Takes a condition and two operands of one type, and puts one of that type in their place; false where they can't
     /// stand there.
     pub(crate) fn select(&mut self) -> Result<bool, NoMemory>
-        ensures { (ok : Bool) → result ≡ Ok ok → (to : List WasmType) →
+        ensures { IfOk result (λ ok. (to : List WasmType) →
             (IsTrue ok × MayStand self.new to)
-            ↔ ((from : List WasmType) × ((type : WasmType) × Arrow (type ∷ type ∷ WasmType.I32 ∷ []) (type ∷ []) from to) × MayStand self.old from) }
+            ↔ ((from : List WasmType) × ((type : WasmType) × Arrow (type ∷ type ∷ WasmType.I32 ∷ []) (type ∷ []) from to) × MayStand self.old from)) }
     {
         if !self.pop(I32) {
             return Ok(false);

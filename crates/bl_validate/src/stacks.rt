@@ -1,6 +1,6 @@
 //! What is known of the operands and the open constructs at a place of a body (WebAssembly 1.0, appendix "Validation
 //! Algorithm").
-ghost use Rattle.std.specs.Prelude.{◌≡◌, ◌↔◌, ◌++◌, List, [], ◌∷◌, IsTrue, OnOk, IfOk, MatchOption, Bool, Ok, slice_get, option_map};
+ghost use Rattle.std.specs.Prelude.{◌≡◌, ◌↔◌, ◌++◌, List, [], ◌∷◌, IsTrue, OnOk, IfOk, MatchOption, slice_get, option_map};
 ghost use Rattle.bl_wasm.specs.Nesting.{then_part};
 ghost use Rattle.bl_wasm.specs.Typing.{Context, Open, opened, taken_by};
 ghost use Rattle.bl_wasm.specs.declared.types.WasmType.{WasmType};
@@ -80,8 +80,8 @@ impl<'m> Stacks<'m> {
 
     /// Goes over an item of that effect; false where what it takes can't stand there.
     pub(crate) fn apply(&mut self, effect: Effect<'m>) -> Result<bool, NoMemory>
-        ensures { (ok : Bool) → result ≡ Ok ok → (open_ones : List Open) (to : List WasmType) →
-            (IsTrue ok × Represents self.new open_ones to) ↔ ((from : List WasmType) × HasEffect effect.entry from to × Represents self.old open_ones from) }
+        ensures { IfOk result (λ ok. (open_ones : List Open) (to : List WasmType) →
+            (IsTrue ok × Represents self.new open_ones to) ↔ ((from : List WasmType) × HasEffect effect.entry from to × Represents self.old open_ones from)) }
     {
         self.operands.apply(effect)
     }
@@ -119,9 +119,10 @@ impl<'m> Stacks<'m> {
         construct: Construct<'m>,
         above: &[WasmType],
     ) -> Result<bool, NoMemory>
-        ensures { (ok : Bool) → result ≡ Ok ok → (behind : List Open) (to : List WasmType) →
+        ensures { IfOk result (λ ok. (behind : List Open) (to : List WasmType) →
             (IsTrue ok × Represents self.new behind to) ↔ ((outer : List Open) × (lower : List WasmType) × (to ≡ construct.entry.params.now)
-            × (behind ≡ opened (kind_of construct.entry.kind) (type_of construct.entry) lower ∷ outer) × Represents self.old outer (lower ++ (construct.entry.params.now ++ above.now))) }
+            × (behind ≡ opened (kind_of construct.entry.kind) (type_of construct.entry) lower ∷ outer)
+            × Represents self.old outer (lower ++ (construct.entry.params.now ++ above.now)))) }
     {
         if !self.pop(above) || !self.pop(construct.params) {
             return Ok(false);
