@@ -1,4 +1,6 @@
+pub mod ConstructLemmas
 pub mod CoverLemmas
+pub mod LabelLemmas
 pub mod ModuleRuleLemmas
 pub mod Names
 pub mod OperandLemmas

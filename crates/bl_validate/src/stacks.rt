@@ -78,6 +78,14 @@ impl<'m> Stacks<'m> {
         self.operands.pop(wanted)
     }
 
+    /// Puts operands of those types on top.
+    fn push(&mut self, types: &'m [WasmType]) -> Result<(), NoMemory>
+        ensures { OnOk result ((open_ones : List Open) (s : List WasmType) →
+            Represents self.new open_ones s ↔ ((below : List WasmType) × (s ≡ below ++ types.now) × Represents self.old open_ones below)) }
+    {
+        self.operands.push(types)
+    }
+
     /// Goes over an item of that effect; false where what it takes can't stand there.
     pub(crate) fn apply(&mut self, effect: Effect<'m>) -> Result<bool, NoMemory>
         ensures { IfOk result (λ ok. (open_ones : List Open) (to : List WasmType) →
@@ -124,7 +132,10 @@ impl<'m> Stacks<'m> {
             × (behind ≡ opened (kind_of construct.entry.kind) (type_of construct.entry) lower ∷ outer)
             × Represents self.old outer (lower ++ (construct.entry.params.now ++ above.now)))) }
     {
-        if !self.pop(above) || !self.pop(construct.params) {
+        if !self.pop(above) {
+            return Ok(false);
+        }
+        if !self.pop(construct.params) {
             return Ok(false);
         }
         self.enter(alloc, construct)?;
@@ -140,7 +151,10 @@ impl<'m> Stacks<'m> {
         let Some(frame) = self.frames.pop() else {
             return None;
         };
-        if !self.operands.pop(frame.construct.results) || !self.operands.may_be_empty() {
+        if !self.operands.pop(frame.construct.results) {
+            return None;
+        }
+        if !self.operands.may_be_empty() {
             return None;
         }
         self.operands = frame.below;
@@ -177,7 +191,7 @@ impl<'m> Stacks<'m> {
         if !may_end(construct) {
             return Ok(false);
         }
-        self.operands.push(construct.results)?;
+        self.push(construct.results)?;
         Ok(true)
     }
 
