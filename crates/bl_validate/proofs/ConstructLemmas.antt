@@ -1,6 +1,7 @@
 -- Constructs are opened, parted and ended, and items stand in those that are open.
-use Rattle.std.proofs.Common.{◌≡◌, ◌↔◌, ◌++◌, List, [], ◌∷◌, length, reverse, Result, Ok, Err, IfOk, Bool, true, false, IsTrue, refl, sym, ap, ◌∙◌, subst, arith}
+use Rattle.std.proofs.Common.{◌≡◌, ◌↔◌, ◌++◌, List, [], ◌∷◌, length, reverse, Option, Some, None, Result, Ok, Err, IfOk, Bool, true, false, IsTrue, refl, sym, ap, ◌∙◌, subst, arith}
 use Rattle.std.proofs.lemmas.List.{reverse-append, length-reverse, append_assoc}
+use Rattle.bl_base.proofs.Lists.{some_same}
 use Rattle.bl_wasm.specs.Instructions.{IsPlain}
 use Rattle.bl_wasm.specs.Nesting.{then_part, else_part}
 use Rattle.bl_wasm.specs.Typing.{Open, opened, Context, labels, Plain, Begins, Parts, Ends, Stays, Rule, expanded}
@@ -10,6 +11,8 @@ use Rattle.bl_wasm.specs.declared.instruction.Instr.{Instr}
 use Rattle.bl_wasm.specs.declared.instruction.Instr.TheVariants.{Block, Loop, If, Else, End}
 use Rattle.bl_validate.specs.declared.stacks.Construct.{Construct}
 use Rattle.bl_validate.specs.declared.stacks.Frame.{Frame}
+use Rattle.bl_validate.specs.declared.effects.Effect.{Effect}
+use Rattle.bl_validate.specs.HasEffect.{HasEffect, Means}
 use Rattle.bl_validate.specs.MayStand.{MayStand}
 use Rattle.bl_validate.specs.Represents.{IsOpen, AreOpen, kind_of, type_of}
 
@@ -119,6 +122,21 @@ not_params S0 S1 S2 S3 k above a b isnt first second behind to = (
   λ x. absurd (cc x.0),
   λ p. let h = subst (S0 p.0) (sym (append_assoc p.1 k.params.now above)) p.4 in
       let q : IsTrue b = ((second p.0 p.1).0 ((first p.0 (p.1 ++ k.params.now)).0 h).1).0 in absurd (cc (isnt, q)),
+)
+
+-- a construct of a block type begins
+pub begins : (c : Context) (k : Construct) (immediate : BlockType) (above : List WasmType) (S0 S3 : Places) (ok : Bool)
+    → Some (type_of k) ≡ expanded c.types immediate → Opened k above S0 ok S3
+    → (behind : List Open) (to : List WasmType) → (IsTrue ok × S3 behind to)
+    ↔ ((open_ones : List Open) × (from : List WasmType) × Begins c (kind_of k.kind) immediate above open_ones from behind to × S0 open_ones from)
+begins c k immediate above S0 S3 ok is opens behind to = (
+  λ x. let p = (opens behind to).0 x in
+      (p.0, p.1 ++ (k.params.now ++ above), record { type = type_of k; lower = p.1; named = sym is; before = refl; inside = p.3; behind = p.2 }, p.4),
+  λ p. let same : p.2.type ≡ type_of k = some_same p.2.type (type_of k) (sym p.2.named ∙ sym is) in
+      (opens behind to).1 (
+        p.0, p.2.lower, p.2.behind ∙ ap (λ t. t.params) same, p.2.inside ∙ ap (λ t. opened (kind_of k.kind) t p.2.lower ∷ p.0) same,
+        subst (S0 p.0) (p.2.before ∙ ap (λ t. p.2.lower ++ (t.params ++ above)) same) p.3,
+      ),
 )
 
 -- ---- a construct is closed
@@ -240,3 +258,31 @@ no_ends c S0 S2 close behind to = (λ x. absurd (cc x.0), λ p. absurd (by_open 
 pub if_ok_from : {A E : Type 0} (r : Result A E) (P Q : A → Type 0) → ((x : A) → P x → Q x) → IfOk r P → IfOk r Q
 if_ok_from (Ok x) P Q f h = f x h
 if_ok_from (Err e) P Q f h = tt
+
+-- ---- an item of known effect
+
+pub follows : (c : Context) (ls : List (List WasmType)) (item : Instr) (e : Effect) (S0 S2 : Places) (ok : Bool) → IsPlain item
+    → ((open_ones : List Open) (s : List WasmType) → S0 open_ones s → labels c open_ones ≡ ls) → Means c ls item (Some e)
+    → ((open_ones : List Open) (to : List WasmType) → (IsTrue ok × S2 open_ones to) ↔ ((from : List WasmType) × HasEffect e from to × S0 open_ones from))
+    → Over c item S0 ok S2
+follows c ls item e S0 S2 ok plain same means does behind to = (
+  λ x. let p = staying.0 x in (p.0, p.1, (plain_rule c item p.0 behind p.1 to plain).1 p.2, p.3),
+  λ p. staying.1 (p.0, p.1, (plain_rule c item p.0 behind p.1 to plain).0 p.2, p.3),
+)
+  where
+    inside : (open_ones : List Open) (to : List WasmType) → (IsTrue ok × S2 open_ones to) ↔ ((from : List WasmType) × Plain c (labels c open_ones) item from to × S0 open_ones from)
+    inside open_ones to = (
+      λ x. let p = (does open_ones to).0 x in (p.0, subst (λ l. Plain c l item p.0 to) (sym (same open_ones p.0 p.2)) ((means p.0 to).1 p.1), p.2),
+      λ p. (does open_ones to).1 (p.0, (means p.0 to).0 (subst (λ l. Plain c l item p.0 to) (same open_ones p.0 p.2) p.1), p.2),
+    )
+
+    staying : (IsTrue ok × S2 behind to) ↔ ((open_ones : List Open) × (from : List WasmType) × Stays c item open_ones from behind to × S0 open_ones from)
+    staying = stays c item S0 S2 ok inside behind to
+
+pub not_follows : (c : Context) (ls : List (List WasmType)) (item : Instr) (S0 S2 : Places) → IsPlain item
+    → ((open_ones : List Open) (s : List WasmType) → S0 open_ones s → labels c open_ones ≡ ls) → Means c ls item None → Over c item S0 false S2
+not_follows c ls item S0 S2 plain same means behind to = (
+  λ x. absurd (cc x.0),
+  λ p. let rule = (plain_rule c item p.0 behind p.1 to plain).0 p.2 in
+      absurd ((means p.1 to).0 (subst (λ l. Plain c l item p.1 to) (same p.0 p.1 p.3) rule.rule)),
+)

@@ -1,7 +1,10 @@
 -- The labels of a place, by the frames of the constructs that are open.
-use Rattle.std.proofs.Common.{◌≡◌, ℕ, suc, zero, ◌-◌, ◌<◌, ◌++◌, List, [], ◌∷◌, length, reverse, map, get_or, slice_get, Some, None, refl, sym, ap, ◌∙◌, arith, length-append}
-use Rattle.std.proofs.lemmas.List.{length-reverse, length-map, get_or-reverse}
-use Rattle.std.proofs.lemmas.Option.{slice_get_past}
+use Rattle.std.proofs.Common.{◌≡◌, ◌↔◌, ℕ, suc, zero, ◌++◌, List, [], ◌∷◌, length, map, Option, Some, refl, sym, ap, ◌∙◌, subst, arith, length-append}
+use Rattle.std.specs.List.{All}
+use Rattle.std.proofs.lemmas.List.Elements.{All-append}
+use Rattle.std.proofs.Math.ListN.{get_or-append}
+use Rattle.std.proofs.Math.Seq.{get_or-append_seam}
+use Rattle.bl_base.proofs.Lists.{some_same}
 use Rattle.bl_wasm.specs.Typing.{Open, Context, labels, taken_by}
 use Rattle.bl_wasm.specs.declared.types.WasmType.{WasmType}
 use Rattle.bl_validate.specs.declared.stacks.Frame.{Frame}
@@ -19,24 +22,35 @@ labels_are c (frame ∷ frames) (one ∷ outer) a =
     let is : taken_by one.kind one.type ≡ taken frame = rw (a.0.kind, a.0.type) refl in
     ap (λ types. types ∷ labels c outer) is ∙ ap (λ rest. taken frame ∷ rest) (labels_are c frames outer a.2)
 
-get_end : {A : Type 0} (ys : List A) (r : A) (n : ℕ) → n ≡ length ys → slice_get (ys ++ r ∷ []) n ≡ Some r
-get_end [] r n e = rw e refl
-get_end (y ∷ ys) r n e = rw e (get_end ys r (length ys) refl)
+-- ---- labels of a table
 
-get_front : {A B : Type 0} (g : A → B) (xs : List A) (r : B) (n : ℕ) (d : A) → n < length xs → slice_get (map g xs ++ r ∷ []) n ≡ Some (g (get_or xs n d))
-get_front g [] r n d h = absurd (omega arith)
-get_front g (x ∷ xs) r zero d h = refl
-get_front g (x ∷ xs) r (suc n) d h = get_front g xs r n d (omega arith)
+-- the last of several
+last_of : {A : Type 0} (P : A → Type 0) (xs : List A) (d : A) → All P (xs ++ d ∷ []) → P d
+last_of P xs d h = subst P (get_or-append_seam xs d [] d) (h (length xs) d (omega (arith, length-append xs (d ∷ []))))
 
-pub outermost : (frames : List Frame) (results : List WasmType) (n : ℕ) → n ≡ length frames → slice_get (map taken (reverse frames) ++ results ∷ []) n ≡ Some results
-outermost frames results n e = get_end (map taken (reverse frames)) results n (omega (arith, length-map (reverse frames) taken, length-reverse frames))
+all_front : {A : Type 0} (P : A → Type 0) (xs : List A) (d : A) → All P (xs ++ d ∷ []) → All P xs
+all_front P xs d h k e n = subst P (get_or-append xs (d ∷ []) e k n) (h k e (omega (arith, length-append xs (d ∷ []))))
 
-pub beyond : (frames : List Frame) (results : List WasmType) (n : ℕ) → length frames < n → slice_get (map taken (reverse frames) ++ results ∷ []) n ≡ None
-beyond frames results n h =
-    slice_get_past (map taken (reverse frames) ++ results ∷ []) n (omega (arith, length-append (map taken (reverse frames)) (results ∷ []), length-map (reverse frames) taken, length-reverse frames))
+all_snoc : {A : Type 0} (P : A → Type 0) (xs : List A) (d : A) → All P xs → P d → All P (xs ++ d ∷ [])
+all_snoc P xs d h last = All-append P xs (d ∷ []) h (one P d last)
+  where
+    one : {A : Type 0} (P : A → Type 0) (d : A) → P d → All P (d ∷ [])
+    one P d h zero e n = h
+    one P d h (suc k) e n = absurd (omega arith)
 
-pub inner : (frames : List Frame) (results : List WasmType) (n : ℕ) (frame : Frame) → n < length frames → frame ≡ get_or frames (length frames - 1 - n) frame
-    → slice_get (map taken (reverse frames) ++ results ∷ []) n ≡ Some (taken frame)
-inner frames results n frame h e =
-    let is : get_or (reverse frames) n frame ≡ frame = get_or-reverse frames n frame h ∙ sym e in
-    get_front taken (reverse frames) results n frame (omega (arith, length-reverse frames)) ∙ ap (λ f. Some (taken f)) is
+-- all labels take the types that the default label takes
+pub all_same : {A : Type 0} (get : ℕ → Option A) (ls : List ℕ) (d : ℕ) (t : A) (Q : A → Type 0) → All (λ l. get l ≡ Some t) ls → Some t ≡ get d
+    → ((type : A) × All (λ l. get l ≡ Some type) (ls ++ d ∷ []) × Q type) ↔ Q t
+all_same get ls d t Q all is = (
+  λ p. subst Q (some_same p.0 t (sym (last_of (λ l. get l ≡ Some p.0) ls d p.1) ∙ sym is)) p.2,
+  λ q. (t, all_snoc (λ l. get l ≡ Some t) ls d all (sym is), q),
+)
+
+-- or not all
+pub not_all_same : {A : Type 0} (get : ℕ → Option A) (ls : List ℕ) (d : ℕ) (t : A) (Q : A → Type 0) → (All (λ l. get l ≡ Some t) ls → ⊥) → Some t ≡ get d
+    → ((type : A) × All (λ l. get l ≡ Some type) (ls ++ d ∷ []) × Q type) ↔ ⊥
+not_all_same get ls d t Q never is = (
+  λ p. let same : p.0 ≡ t = some_same p.0 t (sym (last_of (λ l. get l ≡ Some p.0) ls d p.1) ∙ sym is) in
+      never (subst (λ t. All (λ l. get l ≡ Some t) ls) same (all_front (λ l. get l ≡ Some p.0) ls d p.1)),
+  λ b. absurd b,
+)

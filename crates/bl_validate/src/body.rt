@@ -142,15 +142,15 @@ impl<'m> Body<'m> {
     ) -> Result<bool, NoMemory>
         ensures { IfOk result (λ ok. Opens (seen self.now) kind immediate above.now stacks.old ok stacks.new) }
     {
-        let Some(Sides { params, results }) = self.expanded(immediate) else {
+        let Some(sides) = self.expanded(immediate) else {
             return Ok(false);
         };
         stacks.begin(
             alloc,
             Construct {
                 kind,
-                params,
-                results,
+                params: sides.params,
+                results: sides.results,
             },
             above,
         )
