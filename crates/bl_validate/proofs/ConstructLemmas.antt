@@ -1,10 +1,10 @@
 -- Constructs are opened, parted and ended, and items stand in those that are open.
-use Rattle.std.proofs.Common.{◌≡◌, ◌↔◌, ◌++◌, List, [], ◌∷◌, length, reverse, Option, Some, None, Result, Ok, Err, IfOk, Bool, true, false, IsTrue, refl, sym, ap, ◌∙◌, subst, arith}
+use Rattle.std.proofs.Common.{◌≡◌, ◌↔◌, ◌++◌, List, [], ◌∷◌, length, reverse, Some, None, Result, Ok, Err, IfOk, Bool, true, false, IsTrue, refl, sym, ap, ◌∙◌, subst, arith}
 use Rattle.std.proofs.lemmas.List.{reverse-append, length-reverse, append_assoc}
 use Rattle.bl_base.proofs.Lists.{some_same}
 use Rattle.bl_wasm.specs.Instructions.{IsPlain}
 use Rattle.bl_wasm.specs.Nesting.{then_part, else_part}
-use Rattle.bl_wasm.specs.Typing.{Open, opened, Context, labels, Plain, Begins, Parts, Ends, Stays, Rule, expanded}
+use Rattle.bl_wasm.specs.Typing.{Open, opened, Context, labels, Plain, Begins, Stays, Rule, expanded}
 use Rattle.bl_wasm.specs.declared.types.BlockType.{BlockType}
 use Rattle.bl_wasm.specs.declared.types.WasmType.{WasmType}
 use Rattle.bl_wasm.specs.declared.instruction.Instr.{Instr}
@@ -58,7 +58,7 @@ stays c item S0 S2 ok h behind to = (
 -- the rule of an item that neither opens nor parts nor closes a construct
 pub plain_rule : (c : Context) (item : Instr) (outer inner : List Open) (from to : List WasmType) → IsPlain item → Rule c item outer from inner to ↔ Stays c item outer from inner to
 plain_rule c item outer inner from to = elim item as (λ i. IsPlain i → Rule c i outer from inner to ↔ Stays c i outer from inner to) [
-  Block type ↦ λ p. absurd p
+  | Block type ↦ λ p. absurd p
   | Loop type ↦ λ p. absurd p
   | If type ↦ λ p. absurd p
   | Else ↦ λ p. absurd p
@@ -99,16 +99,6 @@ Opened k above S0 ok S2 = (behind : List Open) (to : List WasmType) →
 abbrev Popped : Places → List WasmType → Bool → Places → Type 0
 Popped S0 types ok S1 = (open_ones : List Open) (s : List WasmType) → S0 open_ones (s ++ types) ↔ (IsTrue ok × S1 open_ones s)
 
-pub began : (S0 S1 S2 S3 : Places) (k : Construct) (above : List WasmType) (a b : Bool) → a ≡ true → b ≡ true
-    → Popped S0 above a S1 → Popped S1 k.params.now b S2 → Enters S2 k S3 → Opened k above S0 true S3
-began S0 S1 S2 S3 k above a b is also first second enter behind to = (
-  λ x. let p = (enter behind to).0 x.1 in
-      let h = (first p.0 (p.1 ++ k.params.now)).1 (is, (second p.0 p.1).1 (also, p.4)) in
-      (p.0, p.1, p.2, p.3, subst (S0 p.0) (append_assoc p.1 k.params.now above) h),
-  λ p. let h = subst (S0 p.0) (sym (append_assoc p.1 k.params.now above)) p.4 in
-      (refl, (enter behind to).1 (p.0, p.1, p.2, p.3, ((second p.0 p.1).0 ((first p.0 (p.1 ++ k.params.now)).0 h).1).1)),
-)
-
 pub not_above : (S0 S1 S3 : Places) (k : Construct) (above : List WasmType) (a : Bool) → a ≡ false → Popped S0 above a S1 → Opened k above S0 false S3
 not_above S0 S1 S3 k above a isnt first behind to = (
   λ x. absurd (cc x.0),
@@ -134,7 +124,10 @@ begins c k immediate above S0 S3 ok is opens behind to = (
       (p.0, p.1 ++ (k.params.now ++ above), record { type = type_of k; lower = p.1; named = sym is; before = refl; inside = p.3; behind = p.2 }, p.4),
   λ p. let same : p.2.type ≡ type_of k = some_same p.2.type (type_of k) (sym p.2.named ∙ sym is) in
       (opens behind to).1 (
-        p.0, p.2.lower, p.2.behind ∙ ap (λ t. t.params) same, p.2.inside ∙ ap (λ t. opened (kind_of k.kind) t p.2.lower ∷ p.0) same,
+        p.0,
+        p.2.lower,
+        p.2.behind ∙ ap (λ t. t.params) same,
+        p.2.inside ∙ ap (λ t. opened (kind_of k.kind) t p.2.lower ∷ p.0) same,
         subst (S0 p.0) (p.2.before ∙ ap (λ t. p.2.lower ++ (t.params ++ above)) same) p.3,
       ),
 )
@@ -204,22 +197,12 @@ parts c S0 S1 S2 k is close enter behind to = (forth, λ p. (refl, by_open p.0 p
     by_open (one ∷ outer) from rule s =
         let q = (close one outer).0 (subst (S0 (one ∷ outer)) rule.before s) in
         (enter behind to).1 (
-          outer, one.lower, rule.behind ∙ ap (λ t. t.params) q.0.type, rule.inside ∙ ap (λ t. opened else_part t one.lower ∷ outer) q.0.type, q.1,
+          outer,
+          one.lower,
+          rule.behind ∙ ap (λ t. t.params) q.0.type,
+          rule.inside ∙ ap (λ t. opened else_part t one.lower ∷ outer) q.0.type,
+          q.1,
         )
-
-pub not_parts : (c : Context) (S0 S1 S2 : Places) (k : Construct) → (kind_of k.kind ≡ then_part → ⊥) → Closes S0 S1 k → Over c Else S0 false S2
-not_parts c S0 S1 S2 k isnt close behind to = (λ x. absurd (cc x.0), λ p. absurd (by_open p.0 p.1 p.2 p.3))
-  where
-    by_open : (open_ones : List Open) (from : List WasmType) → Rule c Else open_ones from behind to → S0 open_ones from → ⊥
-    by_open [] from rule s = absurd rule
-    by_open (one ∷ outer) from rule s = let q = (close one outer).0 (subst (S0 (one ∷ outer)) rule.before s) in isnt (sym q.0.kind ∙ rule.first)
-
-pub no_parts : (c : Context) (S0 S2 : Places) → ((one : Open) (outer : List Open) → S0 (one ∷ outer) one.type.results ↔ ⊥) → Over c Else S0 false S2
-no_parts c S0 S2 close behind to = (λ x. absurd (cc x.0), λ p. absurd (by_open p.0 p.1 p.2 p.3))
-  where
-    by_open : (open_ones : List Open) (from : List WasmType) → Rule c Else open_ones from behind to → S0 open_ones from → ⊥
-    by_open [] from rule s = absurd rule
-    by_open (one ∷ outer) from rule s = (close one outer).0 (subst (S0 (one ∷ outer)) rule.before s)
 
 pub ends : (c : Context) (S0 S1 S2 : Places) (k : Construct) → (kind_of k.kind ≡ then_part → k.params.now ≡ k.results.now) → Closes S0 S1 k
     → ((open_ones : List Open) (s : List WasmType) → S2 open_ones s ↔ ((below : List WasmType) × (s ≡ below ++ k.results.now) × S1 open_ones below))
@@ -237,22 +220,6 @@ ends c S0 S1 S2 k whole close put behind to = (forth, λ p. (refl, by_open p.0 p
     by_open (one ∷ outer) from rule s =
         let q = (close one outer).0 (subst (S0 (one ∷ outer)) rule.before s) in
         (put behind to).1 (one.lower, rule.behind ∙ ap (λ t. one.lower ++ t.results) q.0.type, subst (λ o. S1 o one.lower) (sym rule.inside) q.1)
-
-pub not_ends : (c : Context) (S0 S1 S2 : Places) (k : Construct) → ((kind_of k.kind ≡ then_part → k.params.now ≡ k.results.now) → ⊥) → Closes S0 S1 k → Over c End S0 false S2
-not_ends c S0 S1 S2 k isnt close behind to = (λ x. absurd (cc x.0), λ p. absurd (by_open p.0 p.1 p.2 p.3))
-  where
-    by_open : (open_ones : List Open) (from : List WasmType) → Rule c End open_ones from behind to → S0 open_ones from → ⊥
-    by_open [] from rule s = absurd rule
-    by_open (one ∷ outer) from rule s =
-        let q = (close one outer).0 (subst (S0 (one ∷ outer)) rule.before s) in
-        isnt (λ e. let h = rule.missing (q.0.kind ∙ e) in sym (ap (λ t. t.params) q.0.type) ∙ h ∙ ap (λ t. t.results) q.0.type)
-
-pub no_ends : (c : Context) (S0 S2 : Places) → ((one : Open) (outer : List Open) → S0 (one ∷ outer) one.type.results ↔ ⊥) → Over c End S0 false S2
-no_ends c S0 S2 close behind to = (λ x. absurd (cc x.0), λ p. absurd (by_open p.0 p.1 p.2 p.3))
-  where
-    by_open : (open_ones : List Open) (from : List WasmType) → Rule c End open_ones from behind to → S0 open_ones from → ⊥
-    by_open [] from rule s = absurd rule
-    by_open (one ∷ outer) from rule s = (close one outer).0 (subst (S0 (one ∷ outer)) rule.before s)
 
 -- what holds of each Ok, from what holds of it
 pub if_ok_from : {A E : Type 0} (r : Result A E) (P Q : A → Type 0) → ((x : A) → P x → Q x) → IfOk r P → IfOk r Q

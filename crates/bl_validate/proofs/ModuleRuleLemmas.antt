@@ -20,10 +20,6 @@ all_from_cases P xs true h = (λ _ k d below. h k d (omega arith) below, λ _. r
 all_from_cases P [] false h = absurd (omega (arith, h.1))
 all_from_cases P (x ∷ xs) false h = (λ e. absurd (false≢true e), λ all. absurd (h.2 x (all h.0 x h.1)))
 
--- a size by another name
-pub below_same : {m n : ℕ} → m ≡ n → (indices : List ℕ) → All (λ index. index < m) indices → All (λ index. index < n) indices
-below_same same indices all k d below = rw (← same) (all k d below)
-
 -- the imports are the first of the globals
 pub imports_first : {tree : Module} {scope : Scope} → IsScope tree scope → take scope.imported scope.globals.items ≡ imported global_of tree
 imports_first {tree = tree} is = rw (is.imports, is.globals) (take-append_seam _ _)

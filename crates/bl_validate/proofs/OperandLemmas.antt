@@ -1,8 +1,7 @@
 -- What several operands taken or put one after another do, over the types that may stand before and behind.
-use Rattle.std.proofs.Common.{◌≡◌, ◌↔◌, ◌++◌, List, [], ◌∷◌, Option, Some, None, MatchOption, is_some, if◌then◌else◌, Bool, true, false, IsTrue, IsFalse, refl, sym, ap, ◌∙◌, subst, append-nil, reverse}
+use Rattle.std.proofs.Common.{◌≡◌, ◌↔◌, ◌++◌, List, [], ◌∷◌, Option, Some, None, MatchOption, is_some, Bool, true, false, IsTrue, IsFalse, refl, sym, ◌∙◌, subst, append-nil, reverse}
 use Rattle.std.proofs.lemmas.List.{append_assoc}
-use denote.Bor.{Bor}
-use Rattle.bl_wasm.specs.Typing.{Arrow, Leaves}
+use Rattle.bl_wasm.specs.Typing.{Arrow}
 use Rattle.bl_wasm.specs.declared.types.WasmType.{WasmType}
 use Rattle.bl_wasm.specs.declared.types.WasmType.TheVariants.{I32}
 use Rattle.bl_validate.specs.MayStand.{Fits, Covers}
@@ -21,17 +20,6 @@ pub pops_none : (u : Bool) (es : List (Option WasmType)) → es ≡ [] → (s : 
 pops_none u es is s = rw is (λ c. c, λ c. c)
 
 -- ---- a list of types
-
--- one operand more is taken
-pub pop_more : (S0 S1 S2 : Sets) (all xs : List WasmType) (k : WasmType) (e : Option WasmType) → Fits e k
-    → ((s : List WasmType) → S0 (s ++ all) ↔ S1 (s ++ (xs ++ k ∷ [])))
-    → ((s : List WasmType) (t : WasmType) → S1 (s ++ t ∷ []) ↔ (Fits e t × S2 s))
-    → (s : List WasmType) → S0 (s ++ all) ↔ S2 (s ++ xs)
-pop_more S0 S1 S2 all xs k e fit before one s =
-    let a : s ++ (xs ++ k ∷ []) ≡ (s ++ xs) ++ k ∷ [] = sym (append_assoc s xs (k ∷ [])) in (
-      λ h. ((one (s ++ xs) k).0 (subst S1 a ((before s).0 h))).1,
-      λ h. (before s).1 (subst S1 (sym a) ((one (s ++ xs) k).1 (fit, h))),
-    )
 
 -- an operand of another type stands there
 pub pop_other : (S0 S1 S2 : Sets) (all xs : List WasmType) (k : WasmType) (e : Option WasmType) (ok : Bool) → ok ≡ false → IsTrue ok ↔ Fits e k
@@ -58,17 +46,6 @@ pop_rest S0 S1 S2 all xs k false before none s = (
   λ h. absurd (cc h.0),
 )
 
--- two lists, one above the other
-pub both_popped : (S0 S1 S2 : Sets) (below above : List WasmType) (ok done : Bool) → ok ≡ true
-    → ((s : List WasmType) → S0 (s ++ above) ↔ (IsTrue ok × S1 s))
-    → ((s : List WasmType) → S1 (s ++ below) ↔ (IsTrue done × S2 s))
-    → (s : List WasmType) → S0 (s ++ (below ++ above)) ↔ (IsTrue done × S2 s)
-both_popped S0 S1 S2 below above ok done is first second s =
-    let a : (s ++ below) ++ above ≡ s ++ (below ++ above) = append_assoc s below above in (
-      λ h. (second s).0 ((first (s ++ below)).0 (subst S0 (sym a) h)).1,
-      λ h. subst S0 a ((first (s ++ below)).1 (is, (second s).1 h)),
-    )
-
 pub first_unpopped : (S0 S1 S2 : Sets) (below above : List WasmType) (ok done : Bool) → ok ≡ false → done ≡ false
     → ((s : List WasmType) → S0 (s ++ above) ↔ (IsTrue ok × S1 s))
     → (s : List WasmType) → S0 (s ++ (below ++ above)) ↔ (IsTrue done × S2 s)
@@ -77,33 +54,6 @@ first_unpopped S0 S1 S2 below above ok done isnt not first s =
       λ h. let b : IsTrue ok = ((first (s ++ below)).0 (subst S0 (sym a) h)).0 in absurd (cc (isnt, b)),
       λ h. let b : IsTrue done = h.0 in absurd (cc (not, b)),
     )
-
--- ---- an effect
-
--- what an item leaves in place of its inputs
-abbrev Goes : List WasmType → Option (Bor (List WasmType)) → List WasmType → List WasmType → Type 0
-Goes inputs outputs from to = MatchOption outputs (Leaves inputs from) (λ types. Arrow inputs types.now from to)
-
-pub applied : (S0 S1 S2 : Sets) (inputs : List WasmType) (outputs : Option (Bor (List WasmType))) (ok : Bool) → ok ≡ true
-    → ((s : List WasmType) → S0 (s ++ inputs) ↔ (IsTrue ok × S1 s))
-    → ((s : List WasmType) → S2 s ↔ ((below : List WasmType) × MatchOption outputs (Unit {0}) (λ types. s ≡ below ++ types.now) × S1 below))
-    → (to : List WasmType) → (IsTrue true × S2 to) ↔ ((from : List WasmType) × Goes inputs outputs from to × S0 from)
-applied S0 S1 S2 inputs None ok is takes puts to = (
-  λ h. let p = (puts to).0 h.1 in (p.0 ++ inputs, record { lower = p.0; before = refl }, (takes p.0).1 (is, p.2)),
-  λ p. (refl, (puts to).1 (p.1.lower, tt, ((takes p.1.lower).0 (subst S0 p.1.before p.2)).1)),
-)
-applied S0 S1 S2 inputs (Some types) ok is takes puts to = (
-  λ h. let p = (puts to).0 h.1 in (p.0 ++ inputs, record { lower = p.0; before = refl; behind = p.1 }, (takes p.0).1 (is, p.2)),
-  λ p. (refl, (puts to).1 (p.1.lower, p.1.behind, ((takes p.1.lower).0 (subst S0 p.1.before p.2)).1)),
-)
-
-pub not_applied : (S0 S1 S2 : Sets) (inputs : List WasmType) (outputs : Option (Bor (List WasmType))) (ok : Bool) → ok ≡ false
-    → ((s : List WasmType) → S0 (s ++ inputs) ↔ (IsTrue ok × S1 s))
-    → (to : List WasmType) → (IsTrue false × S2 to) ↔ ((from : List WasmType) × Goes inputs outputs from to × S0 from)
-not_applied S0 S1 S2 inputs None ok isnt takes to =
-    (λ h. absurd (cc h.0), λ p. let q = (takes p.1.lower).0 (subst S0 p.1.before p.2) in let b : IsTrue ok = q.0 in absurd (cc (isnt, b)))
-not_applied S0 S1 S2 inputs (Some types) ok isnt takes to =
-    (λ h. absurd (cc h.0), λ p. let q = (takes p.1.lower).0 (subst S0 p.1.before p.2) in let b : IsTrue ok = q.0 in absurd (cc (isnt, b)))
 
 -- ---- operands of any type
 
@@ -201,4 +151,3 @@ not_pair S0 S1 S3 ok one two to = (λ x. absurd (cc x.0), back)
         let g : S0 ((p.1.1.lower ++ p.1.0 ∷ p.1.0 ∷ []) ++ I32 ∷ [])
         = subst S0 (p.1.1.before ∙ sym (append_assoc p.1.1.lower (p.1.0 ∷ p.1.0 ∷ []) (I32 ∷ []))) p.2 in
         absurd ((two p.1.1.lower p.1.0).0 ((one (p.1.1.lower ++ p.1.0 ∷ p.1.0 ∷ [])).0 g).1)
-

@@ -1,5 +1,5 @@
 -- The types before and behind an item of an effect.
-use Rattle.std.specs.Prelude.{◌↔◌, ◌++◌, List, [], ◌∷◌, if◌then◌else◌, Option, Some, None, MatchOption}
+use Rattle.std.specs.Prelude.{◌↔◌, ◌++◌, List, [], ◌∷◌, if◌then◌else◌, Option, MatchOption}
 use Rattle.bl_wasm.specs.Typing.{Context, Plain, Arrow, Leaves}
 use Rattle.bl_wasm.specs.declared.instruction.Instr.{Instr}
 use Rattle.bl_wasm.specs.declared.types.WasmType.{WasmType}
@@ -12,7 +12,8 @@ inputs_of effect = if effect.indexed then effect.inputs.now ++ I32 ∷ [] else e
 
 -- the types are those before and behind an item of that effect
 abbrev pub HasEffect : Effect → List WasmType → List WasmType → Type 0
-HasEffect effect from to = MatchOption effect.outputs (Leaves (inputs_of effect) from) (λ outputs. Arrow (inputs_of effect) outputs.now from to)
+HasEffect effect from to =
+    MatchOption effect.outputs (Leaves (inputs_of effect) from) (λ outputs. Arrow (inputs_of effect) outputs.now from to)
 
 -- the rule of an item under labels is that effect, or it has none
 abbrev pub Means : Context → List (List WasmType) → Instr → Option Effect → Type 0

@@ -12,7 +12,8 @@ Fits (Some known) type = known ≡ type
 -- the types are those of the entries, the top first; where the place can't be reached, any types may stand below
 abbrev pub Covers : Bool → List (Option WasmType) → List WasmType → Type 0
 Covers unreachable [] s = IsFalse unreachable → s ≡ []
-Covers unreachable (entry ∷ entries) s = (below : List WasmType) × (type : WasmType) × (s ≡ below ++ type ∷ []) × Fits entry type × Covers unreachable entries below
+Covers unreachable (entry ∷ entries) s =
+    (below : List WasmType) × (type : WasmType) × (s ≡ below ++ type ∷ []) × Fits entry type × Covers unreachable entries below
 
 -- the entries of a run, the last one on top
 abbrev pub entries : Run → List (Option WasmType)
@@ -30,4 +31,5 @@ MayStand operands s = Covers operands.unreachable (reverse (known operands)) s
 abbrev pub Pops : Operands → Option (Option WasmType) → Operands → Type 0
 Pops old None new = (s : List WasmType) →
     (MayStand old s ↔ (IsFalse new.unreachable → s ≡ [])) × (MayStand new s ↔ (IsFalse new.unreachable → s ≡ []))
-Pops old (Some entry) new = (s : List WasmType) (type : WasmType) → MayStand old (s ++ type ∷ []) ↔ (Fits entry type × MayStand new s)
+Pops old (Some entry) new = (s : List WasmType) (type : WasmType) →
+    MayStand old (s ++ type ∷ []) ↔ (Fits entry type × MayStand new s)

@@ -48,10 +48,12 @@ labels_in results stacks =
 -- a step over an item: what is represented behind it is exactly what its rule gives of what is represented before it
 abbrev pub Steps : Context → Instr → Stacks → Bool → Stacks → Type 0
 Steps c item old ok new = (behind : List Open) (to : List WasmType) →
-    (IsTrue ok × Represents new behind to) ↔ ((open_ones : List Open) × (from : List WasmType) × Rule c item open_ones from behind to × Represents old open_ones from)
+    (IsTrue ok × Represents new behind to)
+    ↔ ((open_ones : List Open) × (from : List WasmType) × Rule c item open_ones from behind to × Represents old open_ones from)
 
 -- the same of a construct that begins below operands of the types `above`
 abbrev pub Opens : Context → Kind → BlockType → List WasmType → Stacks → Bool → Stacks → Type 0
 Opens c kind immediate above old ok new = (behind : List Open) (to : List WasmType) →
     (IsTrue ok × Represents new behind to)
-    ↔ ((open_ones : List Open) × (from : List WasmType) × Begins c (kind_of kind) immediate above open_ones from behind to × Represents old open_ones from)
+    ↔ ((open_ones : List Open) × (from : List WasmType)
+    × Begins c (kind_of kind) immediate above open_ones from behind to × Represents old open_ones from)

@@ -1,7 +1,8 @@
--- What a body stands in, and what a branch in it takes.
+-- What a body stands in.
 use Rattle.std.specs.Prelude.{◌≡◌, ◌++◌, List, length, filter_map}
 use Rattle.bl_wasm.specs.Typing.{Context}
-use Rattle.bl_wasm.specs.Validity.{functions_of, tables_of, memories_of, globals_of, imported, function_of, table_of, memory_of, global_of, locals_of}
+use Rattle.bl_wasm.specs.Validity.{functions_of, tables_of, memories_of, globals_of, locals_of}
+use Rattle.bl_wasm.specs.Validity.{imported, function_of, table_of, memory_of, global_of}
 use Rattle.bl_wasm.specs.declared.types.FuncType.{FuncType}
 use Rattle.bl_wasm.specs.declared.module.Code.{Code}
 use Rattle.bl_wasm.specs.declared.module.Import.{Import}

@@ -74,12 +74,7 @@ impl<'m> Body<'m> {
     }
 
     /// Goes over one item; false where nothing that may stand before it keeps its rule.
-    fn step(
-        &self,
-        alloc: Global,
-        stacks: &mut Stacks<'m>,
-        item: &Instr,
-    ) -> Result<bool, NoMemory>
+    fn step(&self, alloc: Global, stacks: &mut Stacks<'m>, item: &Instr) -> Result<bool, NoMemory>
         ensures { IfOk result (λ ok. Steps (seen self.now) (item.now) stacks.old ok stacks.new) }
     {
         match item {

@@ -13,4 +13,3 @@ mod verdict;
 
 pub use valid::ValidModule;
 pub use verdict::{Invalid, validate};
-

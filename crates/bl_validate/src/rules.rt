@@ -8,8 +8,8 @@ ghost use Rattle.bl_validate.specs.Scopes.{IsScope};
 use crate::scope::Scope;
 use bl_base::NoMemory;
 use bl_wasm::{
-    BlockType, Code, DataSegment, DefinedGlobal, ElementSegment, Export, ExportKind, FuncType, GlobalType,
-    Instr, Limits, Module, WasmType,
+    BlockType, Code, DataSegment, DefinedGlobal, ElementSegment, Export, ExportKind, FuncType,
+    GlobalType, Instr, Limits, Module, WasmType,
 };
 use std::alloc::Global;
 use std::collections::BTreeSet;

@@ -17,8 +17,9 @@ use bl_ops::{AccessKind, by_code};
 use bl_validate::{Invalid, validate};
 use bl_wasm::WasmType::{self, F32, F64, I32, I64};
 use bl_wasm::{
-    BlockType, Code, DataSegment, DefinedGlobal, ElementSegment, Export, ExportKind, FloatOp, FuncType,
-    GlobalType, Import, ImportKind, Instr, Limits, LocalRun, MemoryArgument, Module, Targets,
+    BlockType, Code, DataSegment, DefinedGlobal, ElementSegment, Export, ExportKind, FloatOp,
+    FuncType, GlobalType, Import, ImportKind, Instr, Limits, LocalRun, MemoryArgument, Module,
+    Targets,
 };
 use std::alloc::Global;
 use std::test::Fail;

@@ -1,4 +1,4 @@
-use Rattle.std.proofs.Common.{◌≡◌, ◌++◌, [], ◌∷◌, slice_get}
+use Rattle.std.proofs.Common.{◌++◌, [], ◌∷◌, slice_get}
 use Rattle.bl_wasm.specs.Typing.{Leaves}
 use Rattle.bl_wasm.specs.declared.types.WasmType.TheVariants.{I32}
 use Rattle.bl_validate.specs.Represents.{labels_in}

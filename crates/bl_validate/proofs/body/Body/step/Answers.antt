@@ -1,5 +1,3 @@
-use Rattle.bl_wasm.specs.declared.instruction.Instr.TheVariants as Instr
-use Rattle.bl_validate.specs.Represents.{Steps}
 use Rattle.bl_validate.specs.Scopes.{seen}
 use Rattle.bl_validate.proofs.ConstructLemmas.{if_ok_from}
 use Rattle.bl_validate.proofs.body.Body.step.Goals as goal

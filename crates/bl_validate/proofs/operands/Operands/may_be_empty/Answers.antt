@@ -1,4 +1,4 @@
-use Rattle.std.proofs.Common.{◌≡◌, [], arith, length, refl}
+use Rattle.std.proofs.Common.{◌≡◌, [], arith, refl}
 use Rattle.std.proofs.lemmas.List.{nil_from_length}
 use Rattle.bl_validate.specs.MayStand.{MayStand, known}
 use Rattle.bl_validate.proofs.CoverLemmas.{covers_none, none_known}

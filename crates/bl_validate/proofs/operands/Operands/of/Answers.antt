@@ -1,4 +1,3 @@
-use Rattle.std.proofs.Common.{map, Some}
 use Rattle.bl_validate.specs.MayStand.{MayStand}
 use Rattle.bl_validate.proofs.CoverLemmas.{covers_these}
 use Rattle.bl_validate.proofs.operands.Operands.of.Goals as goal

@@ -1,9 +1,8 @@
-use Rattle.std.proofs.Common.{◌≡◌, ◌↔◌, ◌++◌, ◌+◌, ◌-◌, List, [], ◌∷◌, arith, take, sym, ap, ◌∙◌, subst}
+use Rattle.std.proofs.Common.{◌≡◌, ◌++◌, ◌+◌, ◌-◌, [], ◌∷◌, arith, take, sym, ap, ◌∙◌}
 use Rattle.std.proofs.lemmas.List.{take_more}
-use Rattle.bl_wasm.specs.declared.types.WasmType.{WasmType}
 use Rattle.bl_wasm.specs.declared.types.WasmType.TheVariants.{I32}
 use Rattle.bl_validate.specs.MayStand.{MayStand}
-use Rattle.bl_validate.proofs.OperandLemmas.{pop_more, pop_other, pop_rest}
+use Rattle.bl_validate.proofs.OperandLemmas.{pop_other, pop_rest}
 use Rattle.bl_validate.proofs.operands.Operands.pop.Goals as goal
 
 pub returns-in_default : goal.returns-in_default

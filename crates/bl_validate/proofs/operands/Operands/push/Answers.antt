@@ -1,4 +1,4 @@
-use Rattle.std.proofs.Common.{◌≡◌, ◌++◌, [], map, Some, flat_map, append-nil, sym, ap, ◌∙◌}
+use Rattle.std.proofs.Common.{◌≡◌, ◌++◌, map, Some, flat_map, append-nil, sym, ap, ◌∙◌}
 use Rattle.bl_validate.specs.MayStand.{MayStand, entries, known}
 use Rattle.bl_validate.proofs.CoverLemmas.{covers_list}
 use Rattle.bl_validate.proofs.operands.Operands.push.Goals as goal

@@ -1,4 +1,4 @@
-use Rattle.std.proofs.Common.{◌≡◌, ◌++◌, [], ◌∷◌, Some, flat_map, reverse, append-nil, refl, ◌∙◌}
+use Rattle.std.proofs.Common.{◌≡◌, ◌++◌, [], ◌∷◌, flat_map, append-nil, ◌∙◌}
 use Rattle.bl_validate.specs.MayStand.{MayStand, entries, known}
 use Rattle.bl_validate.proofs.CoverLemmas.{covers_more, last_of_runs}
 use Rattle.bl_validate.proofs.operands.Operands.push_any.Goals as goal

@@ -1,4 +1,4 @@
-use Rattle.std.proofs.Common.{◌≡◌, ◌++◌, [], ◌∷◌, arith}
+use Rattle.std.proofs.Common.{arith}
 use Rattle.bl_validate.specs.MayStand.{MayStand}
 use Rattle.bl_validate.specs.Represents.{Represents}
 use Rattle.bl_validate.proofs.ConstructLemmas.{closed, not_taken, not_emptied, none_open}

@@ -1,4 +1,4 @@
-use Rattle.std.proofs.Common.{sym, subst, ◌↔◌, ◌≡◌}
+use Rattle.std.proofs.Common.{sym, subst, ◌↔◌}
 use Rattle.bl_validate.specs.MayStand.{MayStand}
 use Rattle.bl_validate.specs.Represents.{Represents}
 use Rattle.bl_validate.proofs.ConstructLemmas.{entered}
