@@ -16,4 +16,10 @@ mod ops;
 #[cfg(test)]
 mod trace;
 #[cfg(test)]
+mod validate;
+#[cfg(test)]
+mod validate_bodies;
+#[cfg(test)]
+mod validate_modules;
+#[cfg(test)]
 mod wasm;
