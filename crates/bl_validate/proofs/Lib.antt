@@ -1,12 +1,9 @@
-pub mod Constructs
-pub mod Counts
-pub mod Groups
-pub mod Labels
-pub mod Moves
+pub mod ConstructLemmas
+pub mod CoverLemmas
+pub mod LabelLemmas
+pub mod ModuleRuleLemmas
 pub mod Names
-pub mod NestedLemmas
+pub mod OperandLemmas
 pub mod Reasons
-pub mod Rows
 pub mod Spaces
-pub mod StandsLemmas
 pub mod Whole

@@ -1,6 +1,6 @@
-pub mod Few
-pub mod Groups
-pub mod Nested
+pub mod HasEffect
+pub mod MayStand
+pub mod ModuleRules
+pub mod Represents
 pub mod Scopes
-pub mod Stands
 pub mod Verdicts

@@ -1,16 +1,15 @@
--- What a body stands in, and what a branch in it takes.
+-- What a body stands in.
 use Rattle.std.specs.Prelude.{◌≡◌, ◌++◌, List, length, filter_map}
-use Rattle.bl_wasm.specs.Typing.{Context, of_result}
-use Rattle.bl_wasm.specs.declared.types.WasmType.{WasmType}
-use Rattle.bl_wasm.specs.Validity.{functions_of, tables_of, memories_of, globals_of, imported, function_of, table_of, memory_of, global_of, locals_of}
+use Rattle.bl_wasm.specs.Typing.{Context}
+use Rattle.bl_wasm.specs.Validity.{functions_of, tables_of, memories_of, globals_of, locals_of}
+use Rattle.bl_wasm.specs.Validity.{imported, function_of, table_of, memory_of, global_of}
 use Rattle.bl_wasm.specs.declared.types.FuncType.{FuncType}
 use Rattle.bl_wasm.specs.declared.module.Code.{Code}
 use Rattle.bl_wasm.specs.declared.module.Import.{Import}
 use Rattle.bl_wasm.specs.declared.module.Module.{Module}
 use Rattle.bl_validate.specs.declared.body.Body.{Body}
+use Rattle.bl_validate.specs.declared.body.Sides.{Sides}
 use Rattle.bl_validate.specs.declared.scope.Scope.{Scope}
-use Rattle.bl_validate.specs.declared.stacks.Target.{Target}
-use Rattle.bl_validate.specs.declared.stacks.Target.TheVariants.{Construct, Function}
 
 -- the context that a body stands in
 abbrev pub seen : Body → Context
@@ -24,10 +23,9 @@ seen body = record {
   results = body.results.now;
 }
 
--- the types that a branch takes
-abbrev pub takes : Context → Target → List WasmType
-takes c (Construct result) = of_result result
-takes c Function = c.results
+-- the parameters and results of a block type
+abbrev pub sides_of : Sides → FuncType
+sides_of sides = record { params = sides.params.now; results = sides.results.now }
 
 -- the context of a body of that type and code
 abbrev pub context_in : Scope → FuncType → Code → Context

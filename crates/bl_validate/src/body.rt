@@ -1,25 +1,26 @@
-//! Whether a body has a typing (WebAssembly 1.0, section 3.3).
-ghost use Rattle.std.specs.Prelude.{◌≡◌, ◌↔◌, ℕ, ◌≤◌, ◌^◌, List, [], ◌∷◌, IsTrue, IfOk, Option, Some, length, slice_get, replicate};
+//! Whether a body has a typing (WebAssembly 1.0, section 3.3; block types with parameters and several results, version
+//! 2.0, section 3.2.2).
+ghost use Rattle.std.specs.Prelude.{◌≡◌, ◌≢◌, ◌↔◌, ℕ, ◌≤◌, ◌^◌, List, [], ◌∷◌, IsTrue, IfOk, Option, Some, length, slice_get, replicate, option_map};
 ghost use Rattle.std.specs.List.{All};
-ghost use Rattle.bl_wasm.specs.Typing.{Context, HasType, IsTyping, Open, integer as wasm_integer, labels};
+ghost use Rattle.bl_wasm.specs.Instructions.{IsPlain};
+ghost use Rattle.bl_wasm.specs.Typing.{Context, IsTyping, integer as wasm_integer, expanded as expanded_type};
 ghost use Rattle.bl_wasm.specs.declared.instruction.Instr.TheVariants as Instr;
+ghost use Rattle.bl_wasm.specs.declared.types.FuncType.{FuncType};
 ghost use Rattle.bl_wasm.specs.declared.types.WasmType.{WasmType};
 ghost use Rattle.bl_wasm.specs.declared.types.WasmType.TheVariants as WasmType;
 ghost use Rattle.bl_ops.specs.Access.{width_of};
-ghost use Rattle.bl_validate.specs.Few.{are_few};
-ghost use Rattle.bl_validate.specs.Scopes.{context_in, seen, takes};
-ghost use Rattle.bl_validate.specs.Stands.{Stands, Steps};
+ghost use Rattle.bl_validate.specs.HasEffect.{Means};
+ghost use Rattle.bl_validate.specs.Represents.{Opens, Steps, labels_in};
+ghost use Rattle.bl_validate.specs.Scopes.{context_in, seen, sides_of};
 
-use crate::known::Stacks;
+use crate::effects::{Effect, arrow, leaves};
+use crate::operands::I32;
 use crate::scope::{Scope, at, locals_of};
-use crate::stacks::{Target, one};
+use crate::stacks::{Construct, Kind, Stacks, are_same};
 use bl_base::{NoMemory, ValueType};
 use bl_ops::{AccessKind, Op, OpRow};
-use bl_wasm::{Code, FuncType, Instr, MemoryArgument, WasmType};
+use bl_wasm::{BlockType, Code, FuncType, Instr, MemoryArgument, WasmType};
 use std::alloc::Global;
-
-/// An i32 alone.
-const I32: &[WasmType] = &[WasmType::I32];
 
 /// What a body stands in.
 #[derive(Debug, Drop)]
@@ -29,6 +30,15 @@ struct Body<'m> {
     /// The types of its locals, parameters first.
     locals: Vec<WasmType>,
     /// The results of the function.
+    results: &'m [WasmType],
+}
+
+/// The parameters and results of a block type.
+#[derive(Clone, Copy, Debug)]
+struct Sides<'m> {
+    /// The types of the parameters.
+    params: &'m [WasmType],
+    /// The types of the results.
     results: &'m [WasmType],
 }
 
@@ -49,14 +59,14 @@ pub(crate) fn has_typing(
     body.has_typing(alloc, code.items.as_slice())
 }
 
-impl Body<'_> {
+impl<'m> Body<'m> {
     /// Whether the items have a typing.
     fn has_typing(&self, alloc: Global, items: &[Instr]) -> Result<bool, NoMemory>
         ensures { IfOk result (λ ok. IsTrue ok ↔ ((places : List (List WasmType)) × IsTyping (seen self.now) items.now places)) }
     {
         let mut stacks = Stacks::new(alloc);
         for item in items {
-            if !self.step(&mut stacks, item)? {
+            if !self.step(alloc, &mut stacks, item)? {
                 return Ok(false);
             }
         }
@@ -64,208 +74,253 @@ impl Body<'_> {
     }
 
     /// Goes over one item; false where nothing that may stand before it keeps its rule.
-    fn step(&self, stacks: &mut Stacks, item: &Instr) -> Result<bool, NoMemory>
+    fn step(&self, alloc: Global, stacks: &mut Stacks<'m>, item: &Instr) -> Result<bool, NoMemory>
         ensures { IfOk result (λ ok. Steps (seen self.now) (item.now) stacks.old ok stacks.new) }
     {
         match item {
-            Instr::Unreachable => Ok(stacks.leave(&[])),
-            Instr::Nop => Ok(true),
-            Instr::Block(kind) => stacks.block(*kind),
-            Instr::Loop(kind) => stacks.repeat(*kind),
-            Instr::If(kind) => stacks.choose(*kind),
-            Instr::Else => stacks.part(),
+            Instr::Block(kind) => self.begin(alloc, stacks, Kind::Block, *kind, &[]),
+            Instr::Loop(kind) => self.begin(alloc, stacks, Kind::Loop, *kind, &[]),
+            Instr::If(kind) => self.begin(alloc, stacks, Kind::ThenPart, *kind, I32),
+            Instr::Else => stacks.part(alloc),
             Instr::End => stacks.end(),
-            Instr::Br(label) => Ok(self.branch(stacks, *label)),
-            Instr::BrIf(label) => self.branch_if(stacks, *label),
-            Instr::BrTable { default, targets } => {
-                Ok(self.branch_by(stacks, targets.as_slice(), *default))
-            }
-            Instr::Return => Ok(stacks.leave(self.results)),
-            Instr::Call(function) => self.call(stacks, *function),
-            Instr::CallIndirect(index) => self.call_indirect(stacks, *index),
             Instr::Drop => Ok(stacks.drop_one()),
             Instr::Select => stacks.select(),
-            Instr::LocalGet(x) => self.local_get(stacks, *x),
-            Instr::LocalSet(x) => self.local_set(stacks, *x),
-            Instr::LocalTee(x) => self.local_tee(stacks, *x),
-            Instr::GlobalGet(x) => self.global_get(stacks, *x),
-            Instr::GlobalSet(x) => self.global_set(stacks, *x),
-            Instr::Load { kind, argument } => self.load(stacks, *kind, *argument),
-            Instr::Store { kind, argument } => self.store(stacks, *kind, *argument),
-            Instr::MemorySize => self.memory_size(stacks),
-            Instr::MemoryGrow => self.memory_grow(stacks),
-            Instr::I32Const(_) => stacks.apply(&[], I32),
-            Instr::I64Const(_) => stacks.apply(&[], one(Some(WasmType::I64))),
-            Instr::Integer(op) => self.integer(stacks, *op),
-            _ => Ok(false),
+            _ => self.follow(stacks, item),
         }
     }
 
-    /// The types that a branch takes.
-    fn taken(&self, target: Target) -> &[WasmType]
-        ensures { result.now ≡ takes (seen self.now) target }
+    /// Goes over an item that neither opens nor parts nor closes a construct, and of which all types are known; false
+    /// where what it takes can't stand there.
+    fn follow(&self, stacks: &mut Stacks<'m>, item: &Instr) -> Result<bool, NoMemory>
+        requires plain { IsPlain item.now }
+        requires not_drop { item.now ≢ Instr.Drop }
+        requires not_select { item.now ≢ Instr.Select }
+        ensures { IfOk result (λ ok. Steps (seen self.now) (item.now) stacks.old ok stacks.new) }
     {
-        match target {
-            Target::Construct(kind) => one(kind),
-            Target::Function => self.results,
+        match self.effect(stacks, item) {
+            Some(effect) => stacks.apply(effect),
+            None => Ok(false),
+        }
+    }
+
+    /// The parameters and results of a block type; None where it names a type that doesn't exist.
+    fn expanded(&self, kind: BlockType) -> Option<Sides<'m>>
+        ensures { option_map sides_of result ≡ expanded_type self.now.scope.now.types.now kind }
+    {
+        Some(match kind {
+            BlockType::Empty => Sides {
+                params: &[],
+                results: &[],
+            },
+            BlockType::Value(kind) => Sides {
+                params: &[],
+                results: alone(kind),
+            },
+            BlockType::Index(index) => {
+                let kind = at(self.scope.types, index)?;
+                Sides {
+                    params: kind.params.as_slice(),
+                    results: kind.results.as_slice(),
+                }
+            }
+        })
+    }
+
+    /// Opens a construct of that block type, above whose parameters operands of the types `above` stand.
+    fn begin(
+        &self,
+        alloc: Global,
+        stacks: &mut Stacks<'m>,
+        kind: Kind,
+        immediate: BlockType,
+        above: &[WasmType],
+    ) -> Result<bool, NoMemory>
+        ensures { IfOk result (λ ok. Opens (seen self.now) kind immediate above.now stacks.old ok stacks.new) }
+    {
+        let Some(sides) = self.expanded(immediate) else {
+            return Ok(false);
+        };
+        stacks.begin(
+            alloc,
+            Construct {
+                kind,
+                params: sides.params,
+                results: sides.results,
+            },
+            above,
+        )
+    }
+
+    /// What an item does to the operands; None where no types before it keep its rule.
+    fn effect(&self, stacks: &Stacks<'m>, item: &Instr) -> Option<Effect<'m>>
+        requires plain { IsPlain item.now }
+        requires not_drop { item.now ≢ Instr.Drop }
+        requires not_select { item.now ≢ Instr.Select }
+        ensures { Means (seen self.now) (labels_in self.now.results.now stacks.now) item.now result }
+    {
+        match item {
+            Instr::Unreachable => Some(leaves(&[])),
+            Instr::Nop => Some(arrow(&[], &[])),
+            Instr::Br(label) => self.branch(stacks, *label),
+            Instr::BrIf(label) => self.branch_if(stacks, *label),
+            Instr::BrTable { default, targets } => {
+                self.branch_by(stacks, targets.as_slice(), *default)
+            }
+            Instr::Return => Some(leaves(self.results)),
+            Instr::Call(function) => self.call(*function),
+            Instr::CallIndirect(index) => self.call_indirect(*index),
+            Instr::LocalGet(x) => self.local_get(*x),
+            Instr::LocalSet(x) => self.local_set(*x),
+            Instr::LocalTee(x) => self.local_tee(*x),
+            Instr::GlobalGet(x) => self.global_get(*x),
+            Instr::GlobalSet(x) => self.global_set(*x),
+            Instr::Load { kind, argument } => self.load(*kind, *argument),
+            Instr::Store { kind, argument } => self.store(*kind, *argument),
+            Instr::MemorySize => self.memory_size(),
+            Instr::MemoryGrow => self.memory_grow(),
+            Instr::I32Const(_) => Some(arrow(&[], I32)),
+            Instr::I64Const(_) => Some(arrow(&[], alone(WasmType::I64))),
+            Instr::Integer(op) => integer(*op),
+            _ => None,
         }
     }
 
     /// `br`.
-    fn branch(&self, stacks: &mut Stacks, label: u32) -> bool
-        ensures { Steps (seen self.now) (Instr.Br label) stacks.old result stacks.new }
+    fn branch(&self, stacks: &Stacks<'m>, label: u32) -> Option<Effect<'m>>
+        ensures { Means (seen self.now) (labels_in self.now.results.now stacks.now) (Instr.Br label) result }
     {
-        match stacks.target(label) {
-            Some(target) => stacks.leave(self.taken(target)),
-            None => false,
-        }
+        let types = stacks.target(label, self.results)?;
+        Some(leaves(types))
     }
 
     /// `br_if`.
-    fn branch_if(&self, stacks: &mut Stacks, label: u32) -> Result<bool, NoMemory>
-        ensures { IfOk result (λ ok. Steps (seen self.now) (Instr.BrIf label) stacks.old ok stacks.new) }
+    fn branch_if(&self, stacks: &Stacks<'m>, label: u32) -> Option<Effect<'m>>
+        ensures { Means (seen self.now) (labels_in self.now.results.now stacks.now) (Instr.BrIf label) result }
     {
-        let Some(target) = stacks.target(label) else {
-            return Ok(false);
-        };
-        let types = self.taken(target);
-        stacks.apply_under(types, types)
+        let types = stacks.target(label, self.results)?;
+        Some(Effect {
+            inputs: types,
+            indexed: true,
+            outputs: Some(types),
+        })
     }
 
     /// `br_table`.
-    fn branch_by(&self, stacks: &mut Stacks, wanted: &[u32], default: u32) -> bool
-        ensures { Steps (seen self.now) (Instr.BrTable default wanted.now) stacks.old result stacks.new }
+    fn branch_by(&self, stacks: &Stacks<'m>, wanted: &[u32], default: u32) -> Option<Effect<'m>>
+        ensures { Means (seen self.now) (labels_in self.now.results.now stacks.now) (Instr.BrTable default wanted.now) result }
     {
-        let Some(target) = stacks.target(default) else {
-            return false;
-        };
-        let types = self.taken(target);
-        self.all_take(stacks, wanted, types) && stacks.leave_under(types)
+        let types = stacks.target(default, self.results)?;
+        if !self.all_take(stacks, wanted, types) {
+            return None;
+        }
+        Some(Effect {
+            inputs: types,
+            indexed: true,
+            outputs: None,
+        })
     }
 
     /// Whether branches to all of the labels take those types.
     fn all_take(&self, stacks: &Stacks, wanted: &[u32], types: &[WasmType]) -> bool
-        ensures { (open_ones : List Open) (s : List WasmType) → Stands stacks.now open_ones s
-            → IsTrue result ↔ All (λ l. slice_get (labels (seen self.now) open_ones) l ≡ Some types.now) wanted.now }
+        ensures { IsTrue result ↔ All (λ l. slice_get (labels_in self.now.results.now stacks.now) l ≡ Some types.now) wanted.now }
     {
         wanted.iter().all(|label| self.takes(stacks, *label, types))
     }
 
     /// Whether the label exists and a branch to it takes those types.
     fn takes(&self, stacks: &Stacks, label: u32, types: &[WasmType]) -> bool
-        ensures { (open_ones : List Open) (s : List WasmType) → Stands stacks.now open_ones s
-            → IsTrue result ↔ (slice_get (labels (seen self.now) open_ones) label ≡ Some types.now) }
+        ensures { IsTrue result ↔ (slice_get (labels_in self.now.results.now stacks.now) label ≡ Some types.now) }
     {
-        match stacks.target(label) {
-            Some(target) => are_same(self.taken(target), types),
+        match stacks.target(label, self.results) {
+            Some(taken) => are_same(taken, types),
             None => false,
         }
     }
 
     /// `call`.
-    fn call(&self, stacks: &mut Stacks, function: u32) -> Result<bool, NoMemory>
-        ensures { IfOk result (λ ok. Steps (seen self.now) (Instr.Call function) stacks.old ok stacks.new) }
+    fn call(&self, function: u32) -> Option<Effect<'m>>
+        ensures { (ls : List (List WasmType)) → Means (seen self.now) ls (Instr.Call function) result }
     {
-        match self.scope.function(function) {
-            Some(kind) => stacks.apply(kind.params.as_slice(), kind.results.as_slice()),
-            None => Ok(false),
-        }
+        let kind = self.scope.function(function)?;
+        Some(arrow(kind.params.as_slice(), kind.results.as_slice()))
     }
 
     /// `call_indirect`.
-    fn call_indirect(&self, stacks: &mut Stacks, index: u32) -> Result<bool, NoMemory>
-        ensures { IfOk result (λ ok. Steps (seen self.now) (Instr.CallIndirect index) stacks.old ok stacks.new) }
+    fn call_indirect(&self, index: u32) -> Option<Effect<'m>>
+        ensures { (ls : List (List WasmType)) → Means (seen self.now) ls (Instr.CallIndirect index) result }
     {
-        let Some(kind) = at(self.scope.types, index) else {
-            return Ok(false);
-        };
+        let kind = at(self.scope.types, index)?;
         if self.scope.tables.is_empty() {
-            return Ok(false);
+            return None;
         }
-        stacks.apply_under(kind.params.as_slice(), kind.results.as_slice())
+        Some(Effect {
+            inputs: kind.params.as_slice(),
+            indexed: true,
+            outputs: Some(kind.results.as_slice()),
+        })
     }
 
     /// `local.get`.
-    fn local_get(&self, stacks: &mut Stacks, x: u32) -> Result<bool, NoMemory>
-        ensures { IfOk result (λ ok. Steps (seen self.now) (Instr.LocalGet x) stacks.old ok stacks.new) }
+    fn local_get(&self, x: u32) -> Option<Effect<'m>>
+        ensures { (ls : List (List WasmType)) → Means (seen self.now) ls (Instr.LocalGet x) result }
     {
-        match at(&self.locals, x) {
-            Some(kind) => stacks.apply(&[], one(Some(*kind))),
-            None => Ok(false),
-        }
+        let kind = at(&self.locals, x)?;
+        Some(arrow(&[], alone(*kind)))
     }
 
     /// `local.set`.
-    fn local_set(&self, stacks: &mut Stacks, x: u32) -> Result<bool, NoMemory>
-        ensures { IfOk result (λ ok. Steps (seen self.now) (Instr.LocalSet x) stacks.old ok stacks.new) }
+    fn local_set(&self, x: u32) -> Option<Effect<'m>>
+        ensures { (ls : List (List WasmType)) → Means (seen self.now) ls (Instr.LocalSet x) result }
     {
-        match at(&self.locals, x) {
-            Some(kind) => stacks.apply(one(Some(*kind)), &[]),
-            None => Ok(false),
-        }
+        let kind = at(&self.locals, x)?;
+        Some(arrow(alone(*kind), &[]))
     }
 
     /// `local.tee`.
-    fn local_tee(&self, stacks: &mut Stacks, x: u32) -> Result<bool, NoMemory>
-        ensures { IfOk result (λ ok. Steps (seen self.now) (Instr.LocalTee x) stacks.old ok stacks.new) }
+    fn local_tee(&self, x: u32) -> Option<Effect<'m>>
+        ensures { (ls : List (List WasmType)) → Means (seen self.now) ls (Instr.LocalTee x) result }
     {
-        match at(&self.locals, x) {
-            Some(kind) => stacks.apply(one(Some(*kind)), one(Some(*kind))),
-            None => Ok(false),
-        }
+        let kind = at(&self.locals, x)?;
+        Some(arrow(alone(*kind), alone(*kind)))
     }
 
     /// `global.get`.
-    fn global_get(&self, stacks: &mut Stacks, x: u32) -> Result<bool, NoMemory>
-        ensures { IfOk result (λ ok. Steps (seen self.now) (Instr.GlobalGet x) stacks.old ok stacks.new) }
+    fn global_get(&self, x: u32) -> Option<Effect<'m>>
+        ensures { (ls : List (List WasmType)) → Means (seen self.now) ls (Instr.GlobalGet x) result }
     {
-        match at(&self.scope.globals, x) {
-            Some(global) => stacks.apply(&[], one(Some(global.kind))),
-            None => Ok(false),
-        }
+        let global = at(&self.scope.globals, x)?;
+        Some(arrow(&[], alone(global.kind)))
     }
 
     /// `global.set`.
-    fn global_set(&self, stacks: &mut Stacks, x: u32) -> Result<bool, NoMemory>
-        ensures { IfOk result (λ ok. Steps (seen self.now) (Instr.GlobalSet x) stacks.old ok stacks.new) }
+    fn global_set(&self, x: u32) -> Option<Effect<'m>>
+        ensures { (ls : List (List WasmType)) → Means (seen self.now) ls (Instr.GlobalSet x) result }
     {
-        let Some(global) = at(&self.scope.globals, x) else {
-            return Ok(false);
-        };
+        let global = at(&self.scope.globals, x)?;
         if !global.mutable {
-            return Ok(false);
+            return None;
         }
-        stacks.apply(one(Some(global.kind)), &[])
+        Some(arrow(alone(global.kind), &[]))
     }
 
     /// A load.
-    fn load(
-        &self,
-        stacks: &mut Stacks,
-        kind: AccessKind,
-        argument: MemoryArgument,
-    ) -> Result<bool, NoMemory>
-        ensures { IfOk result (λ ok. Steps (seen self.now) (Instr.Load kind argument) stacks.old ok stacks.new) }
+    fn load(&self, kind: AccessKind, argument: MemoryArgument) -> Option<Effect<'m>>
+        ensures { (ls : List (List WasmType)) → Means (seen self.now) ls (Instr.Load kind argument) result }
     {
         if !kind.is_load() || !self.has_access(kind, argument) {
-            return Ok(false);
+            return None;
         }
-        stacks.apply(I32, one(Some(wasm_type(kind.value_type()))))
+        Some(arrow(I32, alone(wasm_type(kind.value_type()))))
     }
 
     /// A store.
-    fn store(
-        &self,
-        stacks: &mut Stacks,
-        kind: AccessKind,
-        argument: MemoryArgument,
-    ) -> Result<bool, NoMemory>
-        ensures { IfOk result (λ ok. Steps (seen self.now) (Instr.Store kind argument) stacks.old ok stacks.new) }
+    fn store(&self, kind: AccessKind, argument: MemoryArgument) -> Option<Effect<'m>>
+        ensures { (ls : List (List WasmType)) → Means (seen self.now) ls (Instr.Store kind argument) result }
     {
         if kind.is_load() || !self.has_access(kind, argument) {
-            return Ok(false);
+            return None;
         }
-        stacks.apply(address_and(wasm_type(kind.value_type())), &[])
+        Some(arrow(address_and(wasm_type(kind.value_type())), &[]))
     }
 
     /// Whether there is a memory, and the access isn't aligned to more than its width.
@@ -276,53 +331,42 @@ impl Body<'_> {
     }
 
     /// `memory.size`.
-    fn memory_size(&self, stacks: &mut Stacks) -> Result<bool, NoMemory>
-        ensures { IfOk result (λ ok. Steps (seen self.now) (Instr.MemorySize) stacks.old ok stacks.new) }
+    fn memory_size(&self) -> Option<Effect<'m>>
+        ensures { (ls : List (List WasmType)) → Means (seen self.now) ls (Instr.MemorySize) result }
     {
         if self.scope.memories.is_empty() {
-            return Ok(false);
+            return None;
         }
-        stacks.apply(&[], I32)
+        Some(arrow(&[], I32))
     }
 
     /// `memory.grow`.
-    fn memory_grow(&self, stacks: &mut Stacks) -> Result<bool, NoMemory>
-        ensures { IfOk result (λ ok. Steps (seen self.now) (Instr.MemoryGrow) stacks.old ok stacks.new) }
+    fn memory_grow(&self) -> Option<Effect<'m>>
+        ensures { (ls : List (List WasmType)) → Means (seen self.now) ls (Instr.MemoryGrow) result }
     {
         if self.scope.memories.is_empty() {
-            return Ok(false);
+            return None;
         }
-        stacks.apply(I32, I32)
-    }
-
-    /// An operator on integers.
-    fn integer(&self, stacks: &mut Stacks, op: Op) -> Result<bool, NoMemory>
-        ensures { IfOk result (λ ok. Steps (seen self.now) (Instr.Integer op) stacks.old ok stacks.new) }
-    {
-        let Some(row) = bl_ops::row(op) else {
-            return Ok(false);
-        };
-        stacks.apply(operands_of(row), one(Some(wasm_type(row.to))))
+        Some(arrow(I32, I32))
     }
 }
 
-/// Whether the types are the same.
-fn are_same(some: &[WasmType], others: &[WasmType]) -> bool
-    ensures { IsTrue result ↔ (some.now ≡ others.now) }
+/// An operator on integers.
+fn integer(op: Op) -> Option<Effect<'static>>
+    ensures { (c : Context) (ls : List (List WasmType)) → Means c ls (Instr.Integer op) result }
 {
-    some == others
+    let row = bl_ops::row(op)?;
+    Some(arrow(operands_of(row), alone(wasm_type(row.to))))
 }
 
 /// The types of the operands of an operator's row, which are one or two.
 fn operands_of(row: OpRow) -> &'static [WasmType]
-    requires { IsTrue (are_few row) }
+    requires { row.operands ≤ 2 }
     ensures { result.now ≡ replicate row.operands (wasm_integer row.from) }
 {
-    let from = wasm_type(row.from);
-    if row.operands == 1 {
-        one(Some(from))
-    } else {
-        two(from)
+    match row.from {
+        ValueType::I32 => &[WasmType::I32, WasmType::I32][..usize::from(row.operands)],
+        ValueType::I64 => &[WasmType::I64, WasmType::I64][..usize::from(row.operands)],
     }
 }
 
@@ -333,15 +377,15 @@ fn is_aligned(width: u8, alignment: u32) -> bool
     alignment < 8 && (1u8 << alignment) <= width
 }
 
-/// Two of a type, as a list.
-fn two(kind: WasmType) -> &'static [WasmType]
-    ensures { result.now ≡ kind ∷ kind ∷ [] }
+/// A type alone, as a list.
+fn alone(kind: WasmType) -> &'static [WasmType]
+    ensures { result.now ≡ kind ∷ [] }
 {
     match kind {
-        WasmType::I32 => &[WasmType::I32, WasmType::I32],
-        WasmType::I64 => &[WasmType::I64, WasmType::I64],
-        WasmType::F32 => &[WasmType::F32, WasmType::F32],
-        WasmType::F64 => &[WasmType::F64, WasmType::F64],
+        WasmType::I32 => I32,
+        WasmType::I64 => &[WasmType::I64],
+        WasmType::F32 => &[WasmType::F32],
+        WasmType::F64 => &[WasmType::F64],
     }
 }
 

@@ -3,7 +3,8 @@
 #![tactic(auto)]
 
 mod body;
-mod known;
+mod effects;
+mod operands;
 mod rules;
 mod scope;
 mod stacks;
@@ -12,6 +13,3 @@ mod verdict;
 
 pub use valid::ValidModule;
 pub use verdict::{Invalid, validate};
-
-#[cfg(test)]
-mod tests;

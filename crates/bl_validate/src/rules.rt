@@ -1,15 +1,15 @@
 //! The rules on the parts of a module other than its bodies' typing (WebAssembly 1.0, section 3.4).
 ghost use Rattle.std.specs.Prelude.{◌≡◌, ◌<◌, ◌≤◌, ◌↔◌, length, vec_len, IsTrue, IfOk, slice_get, Some, false};
 ghost use Rattle.std.specs.List.{All};
-ghost use Rattle.bl_wasm.specs.Validity.{AreDistinct, HasIntegers, IsCode, IsFirst, IsFunctionType, IsInteger, IsLimits, IsMemory, IsOffset, IsValid};
-ghost use Rattle.bl_validate.specs.Groups.{AreExports, AreFunctions, AreGlobals, AreParts, AreStores, IsDataAt, IsElementAt, space_in};
+ghost use Rattle.bl_wasm.specs.Validity.{AreDistinct, HasIntegerType, HasIntegers, IsCode, IsFirst, IsFunctionType, IsInteger, IsLimits, IsMemory, IsOffset, IsValid};
+ghost use Rattle.bl_validate.specs.ModuleRules.{AreExports, AreFunctions, AreGlobals, AreParts, AreStores, IsDataAt, IsElementAt, space_in};
 ghost use Rattle.bl_validate.specs.Scopes.{IsScope};
 
 use crate::scope::Scope;
 use bl_base::NoMemory;
 use bl_wasm::{
-    Code, DataSegment, DefinedGlobal, ElementSegment, Export, ExportKind, FuncType, GlobalType,
-    Instr, Limits, Module, WasmType,
+    BlockType, Code, DataSegment, DefinedGlobal, ElementSegment, Export, ExportKind, FuncType,
+    GlobalType, Instr, Limits, Module, WasmType,
 };
 use std::alloc::Global;
 use std::collections::BTreeSet;
@@ -134,7 +134,7 @@ fn are_types(types: &[FuncType]) -> bool
     types.iter().all(|kind| is_function_type(kind))
 }
 
-/// Whether the types are integers, and the results at most one.
+/// Whether the types are integers.
 fn is_function_type(kind: &FuncType) -> bool
     ensures { IsTrue result ↔ IsFunctionType kind.now }
 {
@@ -143,7 +143,6 @@ fn is_function_type(kind: &FuncType) -> bool
         .iter()
         .all(|param| is_integer(*param))
         && kind.results.as_slice().iter().all(|kind| is_integer(*kind))
-        && kind.results.len() <= 1
 }
 
 /// Whether the locals and the types of blocks are integers.
@@ -164,15 +163,23 @@ fn are_codes(bodies: &[Code]) -> bool
     bodies.iter().all(|code| is_code(code))
 }
 
-/// Whether a block's type is none or one of integers.
+/// Whether a block's type is of this profile.
 fn has_integers(item: &Instr) -> bool
     ensures { IsTrue result ↔ HasIntegers item.now }
 {
     match item {
-        Instr::Block(Some(kind)) | Instr::Loop(Some(kind)) | Instr::If(Some(kind)) => {
-            is_integer(*kind)
-        }
+        Instr::Block(kind) | Instr::Loop(kind) | Instr::If(kind) => has_integer_type(*kind),
         _ => true,
+    }
+}
+
+/// Whether the value type that a block type is, where it is one, is of integers.
+fn has_integer_type(kind: BlockType) -> bool
+    ensures { IsTrue result ↔ HasIntegerType kind }
+{
+    match kind {
+        BlockType::Value(kind) => is_integer(kind),
+        BlockType::Empty | BlockType::Index(_) => true,
     }
 }
 

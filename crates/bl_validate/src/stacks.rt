@@ -1,378 +1,259 @@
-//! The operands and the open constructs at a place of a body, as far as they are known (WebAssembly 1.0, appendix
-//! "Validation Algorithm").
-ghost use Rattle.std.specs.Prelude.{◌≡◌, ◌↔◌, ◌++◌, List, [], ◌∷◌, length, reverse, IsTrue, OnOk, IfOk, MatchOption, Bool, Ok, None, slice_get, option_map};
-ghost use Rattle.bl_wasm.specs.Typing.{Context, Open, opened, results_of, of_result, Arrow, Leaves, labels};
+//! What is known of the operands and the open constructs at a place of a body (WebAssembly 1.0, appendix "Validation
+//! Algorithm").
+ghost use Rattle.std.specs.Prelude.{◌≡◌, ◌↔◌, ◌++◌, List, [], ◌∷◌, IsTrue, OnOk, IfOk, MatchOption, slice_get, option_map};
+ghost use Rattle.bl_wasm.specs.Nesting.{then_part};
+ghost use Rattle.bl_wasm.specs.Typing.{Context, Open, opened, taken_by};
 ghost use Rattle.bl_wasm.specs.declared.types.WasmType.{WasmType};
-ghost use Rattle.bl_wasm.specs.declared.types.WasmType.TheVariants as WasmType;
-ghost use Rattle.bl_validate.specs.declared.known.Kind.TheVariants as Kind;
 ghost use Rattle.bl_wasm.specs.declared.instruction.Instr.TheVariants as Instr;
-ghost use Rattle.bl_validate.specs.Scopes.{takes};
-ghost use Rattle.bl_validate.specs.Stands.{Stands, Steps, Fits, label_of};
+ghost use Rattle.bl_validate.specs.HasEffect.{HasEffect};
+ghost use Rattle.bl_validate.specs.Represents.{Represents, Steps, IsOpen, labels_in, type_of, kind_of};
 
-use crate::known::{Frame, Kind, Stacks};
+use crate::effects::Effect;
+use crate::operands::Operands;
 use bl_base::NoMemory;
 use bl_wasm::WasmType;
 use std::alloc::Global;
+use std::mem;
 
-impl Stacks {
+/// What an `end` closes.
+#[derive(Clone, Copy, Debug, PartialEq, Eq)]
+pub(crate) enum Kind {
+    /// A block.
+    Block,
+    /// A loop.
+    Loop,
+    /// An if up to its `else` or its end.
+    ThenPart,
+    /// An if behind its `else`.
+    ElsePart,
+}
+
+/// A construct by its kind, its parameters and its results.
+#[derive(Clone, Copy, Debug)]
+pub(crate) struct Construct<'m> {
+    /// Which construct.
+    pub(crate) kind: Kind,
+    /// The types that it takes.
+    pub(crate) params: &'m [WasmType],
+    /// The types that it leaves.
+    pub(crate) results: &'m [WasmType],
+}
+
+/// An open construct, and the operands below it.
+#[derive(Debug, Drop)]
+pub(crate) struct Frame<'m> {
+    /// The construct.
+    pub(crate) construct: Construct<'m>,
+    /// What is known of the operands in the construct round it, without its parameters.
+    pub(crate) below: Operands<'m>,
+}
+
+/// What is known at a place of a body. It represents the operands' types that a typing of the items before the place can
+/// have there.
+#[derive(Debug, Drop)]
+pub(crate) struct Stacks<'m> {
+    /// The operands in the innermost construct.
+    pub(crate) operands: Operands<'m>,
+    /// The open constructs, the innermost last.
+    pub(crate) frames: Vec<Frame<'m>>,
+}
+
+impl<'m> Stacks<'m> {
     /// What is known at the start of a body: nothing stands there. Takes no memory.
-    #[tactic(auto, unfolding(crate::specs::Stands::Stands))]
-    pub(crate) fn new(alloc: Global) -> Stacks
-        ensures { (open_ones : List Open) (s : List WasmType) → Stands result open_ones s ↔ ((open_ones ≡ []) × (s ≡ [])) }
+    #[tactic(auto, unfolding(crate::specs::Represents::Represents))]
+    pub(crate) fn new(alloc: Global) -> Stacks<'m>
+        ensures { (open_ones : List Open) (s : List WasmType) → Represents result open_ones s ↔ ((open_ones ≡ []) × (s ≡ [])) }
     {
         Stacks {
-            operands: Vec::new(alloc),
+            operands: Operands::of(alloc, &[]),
             frames: Vec::new(alloc),
-            floor: 0,
-            unreachable: false,
-        }
-    }
-
-    /// Takes the operand on top, whose type may be unknown; None where none stands there.
-    fn pop_any(&mut self) -> Option<Option<WasmType>>
-        ensures { (open_ones : List Open) (s : List WasmType) (type : WasmType) →
-            Stands self.old open_ones (s ++ type ∷ []) ↔ MatchOption result ⊥ (λ entry. Fits entry type × Stands self.new open_ones s) }
-    {
-        if self.operands.len() > self.floor {
-            self.operands.pop()
-        } else if self.unreachable {
-            Some(None)
-        } else {
-            None
-        }
-    }
-
-    /// Takes an operand of that type; false where none can stand there.
-    pub(crate) fn pop(&mut self, wanted: WasmType) -> bool
-        ensures { (open_ones : List Open) (s : List WasmType) →
-            Stands self.old open_ones (s ++ wanted ∷ []) ↔ (IsTrue result × Stands self.new open_ones s) }
-    {
-        match self.pop_any() {
-            None => false,
-            Some(None) => true,
-            Some(Some(kind)) => kind == wanted,
         }
     }
 
     /// Takes operands of those types, the last one from the top; false where they can't stand there.
-    pub(crate) fn pop_all(&mut self, wanted: &[WasmType]) -> bool
+    fn pop(&mut self, wanted: &[WasmType]) -> bool
         ensures { (open_ones : List Open) (s : List WasmType) →
-            Stands self.old open_ones (s ++ wanted.now) ↔ (IsTrue result × Stands self.new open_ones s) }
+            Represents self.old open_ones (s ++ wanted.now) ↔ (IsTrue result × Represents self.new open_ones s) }
     {
-        let mut left = wanted.len();
-        while left > 0 {
-            left -= 1;
-            if !self.pop(wanted[left]) {
-                return false;
-            }
-        }
-        true
-    }
-
-    /// Puts an operand on top, whose type may be unknown.
-    pub(crate) fn push(&mut self, entry: Option<WasmType>) -> Result<(), NoMemory>
-        ensures { OnOk result ((open_ones : List Open) (s : List WasmType) →
-            Stands self.new open_ones s ↔ ((below : List WasmType) × (type : WasmType) × (s ≡ below ++ type ∷ []) × Fits entry type × Stands self.old open_ones below)) }
-    {
-        self.operands.push(entry)?;
-        Ok(())
+        self.operands.pop(wanted)
     }
 
     /// Puts operands of those types on top.
-    pub(crate) fn push_all(&mut self, types: &[WasmType]) -> Result<(), NoMemory>
+    fn push(&mut self, types: &'m [WasmType]) -> Result<(), NoMemory>
         ensures { OnOk result ((open_ones : List Open) (s : List WasmType) →
-            Stands self.new open_ones s ↔ ((below : List WasmType) × (s ≡ below ++ types.now) × Stands self.old open_ones below)) }
+            Represents self.new open_ones s ↔ ((below : List WasmType) × (s ≡ below ++ types.now) × Represents self.old open_ones below)) }
     {
-        for kind in types {
-            self.push(Some(*kind))?;
-        }
+        self.operands.push(types)
+    }
+
+    /// Goes over an item of that effect; false where what it takes can't stand there.
+    pub(crate) fn apply(&mut self, effect: Effect<'m>) -> Result<bool, NoMemory>
+        ensures { IfOk result (λ ok. (open_ones : List Open) (to : List WasmType) →
+            (IsTrue ok × Represents self.new open_ones to) ↔ ((from : List WasmType) × HasEffect effect.entry from to × Represents self.old open_ones from)) }
+    {
+        self.operands.apply(effect)
+    }
+
+    /// `drop`.
+    pub(crate) fn drop_one(&mut self) -> bool
+        ensures { (c : Context) → Steps c Instr.Drop self.old result self.new }
+    {
+        self.operands.drop_one()
+    }
+
+    /// `select`.
+    pub(crate) fn select(&mut self) -> Result<bool, NoMemory>
+        ensures { IfOk result (λ ok. (c : Context) → Steps c Instr.Select self.old ok self.new) }
+    {
+        self.operands.select()
+    }
+
+    /// Opens a construct, in which its parameters stand; the operands that stand before are below it.
+    fn enter(&mut self, alloc: Global, construct: Construct<'m>) -> Result<(), NoMemory>
+        ensures { OnOk result ((open_ones : List Open) (s : List WasmType) →
+            Represents self.new open_ones s ↔ ((outer : List Open) × (lower : List WasmType) × (s ≡ construct.entry.params.now)
+            × (open_ones ≡ opened (kind_of construct.entry.kind) (type_of construct.entry) lower ∷ outer) × Represents self.old outer lower)) }
+    {
+        let below = mem::replace(&mut self.operands, Operands::of(alloc, construct.params));
+        self.frames.push(Frame { construct, below })?;
         Ok(())
     }
 
-    /// Takes operands of the types `inputs` and puts some of the types `outputs` in their place; false where the inputs
+    /// Takes operands of the types `above` and below these the parameters of a construct, and opens it; false where they
     /// can't stand there.
-    pub(crate) fn apply(
+    pub(crate) fn begin(
         &mut self,
-        inputs: &[WasmType],
-        outputs: &[WasmType],
+        alloc: Global,
+        construct: Construct<'m>,
+        above: &[WasmType],
     ) -> Result<bool, NoMemory>
-        ensures { (ok : Bool) → result ≡ Ok ok → (open_ones : List Open) (to : List WasmType) →
-            (IsTrue ok × Stands self.new open_ones to) ↔ ((from : List WasmType) × Arrow inputs.now outputs.now from to × Stands self.old open_ones from) }
+        ensures { IfOk result (λ ok. (behind : List Open) (to : List WasmType) →
+            (IsTrue ok × Represents self.new behind to) ↔ ((outer : List Open) × (lower : List WasmType) × (to ≡ construct.entry.params.now)
+            × (behind ≡ opened (kind_of construct.entry.kind) (type_of construct.entry) lower ∷ outer)
+            × Represents self.old outer (lower ++ (construct.entry.params.now ++ above.now)))) }
     {
-        if !self.pop_all(inputs) {
+        if !self.pop(above) {
             return Ok(false);
         }
-        self.push_all(outputs)?;
-        Ok(true)
-    }
-
-    /// Takes operands of the types `inputs`, behind which nothing can be reached; false where they can't stand there.
-    pub(crate) fn leave(&mut self, inputs: &[WasmType]) -> bool
-        ensures { (open_ones : List Open) (to : List WasmType) →
-            (IsTrue result × Stands self.new open_ones to) ↔ ((from : List WasmType) × Leaves inputs.now from × Stands self.old open_ones from) }
-    {
-        if !self.pop_all(inputs) {
-            return false;
-        }
-        self.operands.truncate(self.floor);
-        self.unreachable = true;
-        true
-    }
-
-    /// The same with a condition or an index, an i32, on top of the inputs.
-    pub(crate) fn apply_under(
-        &mut self,
-        inputs: &[WasmType],
-        outputs: &[WasmType],
-    ) -> Result<bool, NoMemory>
-        ensures { (ok : Bool) → result ≡ Ok ok → (open_ones : List Open) (to : List WasmType) →
-            (IsTrue ok × Stands self.new open_ones to)
-            ↔ ((from : List WasmType) × Arrow (inputs.now ++ WasmType.I32 ∷ []) outputs.now from to × Stands self.old open_ones from) }
-    {
-        if !self.pop(WasmType::I32) {
+        if !self.pop(construct.params) {
             return Ok(false);
         }
-        self.apply(inputs, outputs)
-    }
-
-    /// Takes an index, an i32, and operands of the types `inputs`, behind which nothing can be reached; false where they
-    /// can't stand there.
-    pub(crate) fn leave_under(&mut self, inputs: &[WasmType]) -> bool
-        ensures { (open_ones : List Open) (to : List WasmType) →
-            (IsTrue result × Stands self.new open_ones to)
-            ↔ ((from : List WasmType) × Leaves (inputs.now ++ WasmType.I32 ∷ []) from × Stands self.old open_ones from) }
-    {
-        self.pop(WasmType::I32) && self.leave(inputs)
-    }
-
-    /// Opens a construct: its operands begin above those that stand there.
-    #[tactic(auto, unfolding(crate::specs::Stands::Stands))]
-    pub(crate) fn enter(&mut self, kind: Kind, leaves: Option<WasmType>) -> Result<(), NoMemory>
-        ensures { OnOk result ((open_ones : List Open) (s : List WasmType) →
-            Stands self.new open_ones s ↔ ((outer : List Open) × (lower : List WasmType) × (s ≡ [])
-            × (open_ones ≡ opened (label_of kind leaves) lower ∷ outer) × Stands self.old outer lower)) }
-    {
-        self.frames.push(Frame {
-            kind,
-            result: leaves,
-            floor: self.floor,
-            unreachable: self.unreachable,
-        })?;
-        self.floor = self.operands.len();
-        self.unreachable = false;
-        Ok(())
-    }
-    /// Opens a block. Always true.
-    pub(crate) fn block(&mut self, leaves: Option<WasmType>) -> Result<bool, NoMemory>
-        ensures { IfOk result (λ ok. (c : Context) → Steps c (Instr.Block leaves) self.old ok self.new) }
-    {
-        self.enter(Kind::Block, leaves)?;
+        self.enter(alloc, construct)?;
         Ok(true)
-    }
-
-    /// Opens a loop. Always true.
-    pub(crate) fn repeat(&mut self, leaves: Option<WasmType>) -> Result<bool, NoMemory>
-        ensures { IfOk result (λ ok. (c : Context) → Steps c (Instr.Loop leaves) self.old ok self.new) }
-    {
-        self.enter(Kind::Loop, leaves)?;
-        Ok(true)
-    }
-
-    /// Takes a condition and opens the first part of an if; false where none can stand there.
-    pub(crate) fn choose(&mut self, leaves: Option<WasmType>) -> Result<bool, NoMemory>
-        ensures { IfOk result (λ ok. (c : Context) → Steps c (Instr.If leaves) self.old ok self.new) }
-    {
-        if !self.pop(WasmType::I32) {
-            return Ok(false);
-        }
-        self.enter(Kind::FirstPart, leaves)?;
-        Ok(true)
-    }
-
-    /// The innermost construct; None where none is open.
-    fn innermost(&self) -> Option<Frame>
-        ensures { (one : Open) (outer : List Open) (s : List WasmType) → Stands self.now (one ∷ outer) s
-            → MatchOption result ⊥ (λ frame. one.label ≡ label_of frame.kind frame.result) }
-    {
-        self.frames.last().copied()
-    }
-
-    /// Closes the innermost construct, in which no operand is left; None where none is open or an operand is left.
-    fn shut(&mut self) -> Option<Frame>
-        ensures { (one : Open) (outer : List Open) → Stands self.old (one ∷ outer) []
-            ↔ MatchOption result ⊥ (λ frame. (one.label ≡ label_of frame.kind frame.result) × Stands self.new outer one.lower) }
-    {
-        if self.operands.len() != self.floor {
-            return None;
-        }
-        let Some(frame) = self.frames.pop() else {
-            return None;
-        };
-        self.floor = frame.floor;
-        self.unreachable = frame.unreachable;
-        Some(frame)
     }
 
     /// Closes the innermost construct, where its results and nothing else stand in it; None where none is open or other
     /// operands stand there.
-    fn close(&mut self) -> Option<Frame>
-        ensures { (one : Open) (outer : List Open) → Stands self.old (one ∷ outer) (results_of one.label)
-            ↔ MatchOption result ⊥ (λ frame. (one.label ≡ label_of frame.kind frame.result) × Stands self.new outer one.lower) }
+    fn close(&mut self) -> Option<Construct<'m>>
+        ensures { (one : Open) (outer : List Open) → Represents self.old (one ∷ outer) one.type.results
+            ↔ MatchOption result ⊥ (λ construct. IsOpen construct one × Represents self.new outer one.lower) }
     {
-        let Some(frame) = self.innermost() else {
+        let Some(frame) = self.frames.pop() else {
             return None;
         };
-        if !self.pop_all(one(frame.result)) {
+        if !self.operands.pop(frame.construct.results) {
             return None;
         }
-        self.shut()
+        if !self.operands.may_be_empty() {
+            return None;
+        }
+        self.operands = frame.below;
+        Some(frame.construct)
     }
 
-    /// The first part of an if ends, and its second part begins; false where that can't stand there.
-    pub(crate) fn part(&mut self) -> Result<bool, NoMemory>
+    /// `else`.
+    pub(crate) fn part(&mut self, alloc: Global) -> Result<bool, NoMemory>
         ensures { IfOk result (λ ok. (c : Context) → Steps c Instr.Else self.old ok self.new) }
     {
-        let Some(frame) = self.close() else {
+        let Some(construct) = self.close() else {
             return Ok(false);
         };
-        if !is_first(frame.kind) {
+        if !is_then_part(construct.kind) {
             return Ok(false);
         }
-        self.enter(Kind::SecondPart, frame.result)?;
+        self.enter(
+            alloc,
+            Construct {
+                kind: Kind::ElsePart,
+                ..construct
+            },
+        )?;
         Ok(true)
     }
 
-    /// The innermost construct ends; false where that can't stand there.
+    /// `end` of a construct.
     pub(crate) fn end(&mut self) -> Result<bool, NoMemory>
         ensures { IfOk result (λ ok. (c : Context) → Steps c Instr.End self.old ok self.new) }
     {
-        let Some(frame) = self.close() else {
+        let Some(construct) = self.close() else {
             return Ok(false);
         };
-        if !may_end(frame.kind, frame.result) {
+        if !may_end(construct) {
             return Ok(false);
         }
-        self.push_all(one(frame.result))?;
+        self.push(construct.results)?;
         Ok(true)
     }
 
-    /// Takes an operand of any type; false where none can stand there.
-    pub(crate) fn drop_one(&mut self) -> bool
-        ensures { (c : Context) → Steps c Instr.Drop self.old result self.new }
-    {
-        self.pop_any().is_some()
-    }
-
-    /// Takes two operands of one type, which may be unknown; None where they can't stand there.
-    fn pop_pair(&mut self) -> Option<Option<WasmType>>
-        ensures { (open_ones : List Open) (s : List WasmType) (type : WasmType) → Stands self.old open_ones (s ++ type ∷ type ∷ [])
-            ↔ MatchOption result ⊥ (λ entry. Fits entry type × Stands self.new open_ones s) }
-    {
-        let Some(second) = self.pop_any() else {
-            return None;
-        };
-        let Some(first) = self.pop_any() else {
-            return None;
-        };
-        meet(first, second)
-    }
-
-    /// Takes a condition and two operands of one type, and puts one of that type in their place; false where they can't
-    /// stand there.
-    pub(crate) fn select(&mut self) -> Result<bool, NoMemory>
-        ensures { IfOk result (λ ok. (c : Context) → Steps c Instr.Select self.old ok self.new) }
-    {
-        if !self.pop(WasmType::I32) {
-            return Ok(false);
-        }
-        let Some(entry) = self.pop_pair() else {
-            return Ok(false);
-        };
-        self.push(entry)?;
-        Ok(true)
-    }
-
-    /// What a branch to a label takes; None where there is no such label.
-    pub(crate) fn target(&self, label: u32) -> Option<Target>
-        ensures { (c : Context) (open_ones : List Open) (s : List WasmType) → Stands self.now open_ones s
-            → slice_get (labels c open_ones) label ≡ option_map (takes c) result }
+    /// The types that a branch to a label takes; None where there is no such label. The outermost label takes `results`.
+    pub(crate) fn target(&self, label: u32, results: &'m [WasmType]) -> Option<&'m [WasmType]>
+        ensures { option_map (λ types. types.now) result ≡ slice_get (labels_in results.now self.now) label }
     {
         let label = label as usize;
         let depth = self.frames.len();
-        if label == depth {
-            return Some(Target::Function);
-        }
         if label > depth {
             return None;
         }
-        let frame = self.frames[depth - 1 - label];
-        match frame.kind {
-            Kind::Loop => Some(Target::Construct(None)),
-            _ => Some(Target::Construct(frame.result)),
+        if label == depth {
+            return Some(results);
         }
+        Some(self.frames[depth - 1 - label].construct.taken())
     }
 
     /// Whether a body may end here: no construct is open, and operands of those types and nothing else stand there.
     pub(crate) fn is_done(&mut self, results: &[WasmType]) -> bool
-        ensures { IsTrue result ↔ Stands self.old [] results.now }
+        ensures { IsTrue result ↔ Represents self.old [] results.now }
     {
-        self.pop_all(results) && self.is_bare()
+        self.pop(results) && self.is_bare()
     }
 
     /// Whether no construct is open and nothing stands there.
     fn is_bare(&self) -> bool
-        ensures { IsTrue result ↔ Stands self.now [] [] }
+        ensures { IsTrue result ↔ Represents self.now [] [] }
     {
-        self.frames.is_empty() && self.operands.len() == self.floor
+        self.frames.is_empty() && self.operands.may_be_empty()
     }
 }
 
-/// What a branch takes.
-#[derive(Clone, Copy, Debug, PartialEq, Eq)]
-pub(crate) enum Target {
-    /// The results of a block or an if, or nothing.
-    Construct(Option<WasmType>),
-    /// The results of the function.
-    Function,
+impl<'m> Construct<'m> {
+    /// The types that a branch to its label takes: to a loop its parameters, else its results.
+    fn taken(&self) -> &'m [WasmType]
+        ensures { result.now ≡ taken_by (kind_of self.now.kind) (type_of self.now) }
+    {
+        match self.kind {
+            Kind::Loop => self.params,
+            Kind::Block | Kind::ThenPart | Kind::ElsePart => self.results,
+        }
+    }
 }
 
 /// Whether it is an if up to its `else` or its end.
-fn is_first(kind: Kind) -> bool
-    ensures { IsTrue result ↔ (kind ≡ Kind.FirstPart) }
+fn is_then_part(kind: Kind) -> bool
+    ensures { IsTrue result ↔ (kind_of kind ≡ then_part) }
 {
-    matches!(kind, Kind::FirstPart)
+    matches!(kind, Kind::ThenPart)
 }
 
-/// Whether the construct may end: an if without `else` leaves nothing.
-fn may_end(kind: Kind, leaves: Option<WasmType>) -> bool
-    ensures { IsTrue result ↔ (kind ≡ Kind.FirstPart → leaves ≡ None) }
+/// Whether the construct may end: an if without `else` has equal parameters and results.
+fn may_end(construct: Construct) -> bool
+    ensures { IsTrue result ↔ (kind_of construct.entry.kind ≡ then_part → construct.entry.params.now ≡ construct.entry.results.now) }
 {
-    match (kind, leaves) {
-        (Kind::FirstPart, Some(_)) => false,
-        _ => true,
-    }
+    !is_then_part(construct.kind) || are_same(construct.params, construct.results)
 }
 
-/// What is known of a type of which both are known; None where no type is both.
-fn meet(first: Option<WasmType>, second: Option<WasmType>) -> Option<Option<WasmType>>
-    ensures { (type : WasmType) → (Fits first type × Fits second type) ↔ MatchOption result ⊥ (λ entry. Fits entry type) }
+/// Whether the types are the same.
+pub(crate) fn are_same(some: &[WasmType], others: &[WasmType]) -> bool
+    ensures { IsTrue result ↔ (some.now ≡ others.now) }
 {
-    match (first, second) {
-        (None, other) | (other, None) => Some(other),
-        (Some(one), Some(other)) if one == other => Some(first),
-        _ => None,
-    }
-}
-
-/// A result, where there is one, as a list.
-pub(crate) fn one(kind: Option<WasmType>) -> &'static [WasmType]
-    ensures { result.now ≡ of_result kind }
-{
-    match kind {
-        None => &[],
-        Some(WasmType::I32) => &[WasmType::I32],
-        Some(WasmType::I64) => &[WasmType::I64],
-        Some(WasmType::F32) => &[WasmType::F32],
-        Some(WasmType::F64) => &[WasmType::F64],
-    }
+    some == others
 }

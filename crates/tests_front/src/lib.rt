@@ -15,3 +15,9 @@ mod machine;
 mod ops;
 #[cfg(test)]
 mod trace;
+#[cfg(test)]
+mod validate;
+#[cfg(test)]
+mod validate_bodies;
+#[cfg(test)]
+mod validate_modules;

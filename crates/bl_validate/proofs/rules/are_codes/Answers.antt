@@ -1,7 +1,7 @@
 use Rattle.std.proofs.Common.{rules, tests}
 use Rattle.std.proofs.lemmas.Iterator.{cases_from_all, YieldsList-from_slice}
 use Rattle.bl_wasm.specs.Validity.{IsCode}
-use Rattle.bl_validate.proofs.Groups.{all_from_cases}
+use Rattle.bl_validate.proofs.ModuleRuleLemmas.{all_from_cases}
 use Rattle.bl_validate.proofs.rules.are_codes.Goals as goal
 
 pub returns : goal.returns

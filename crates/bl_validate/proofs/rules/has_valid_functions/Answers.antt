@@ -6,7 +6,7 @@ use Rattle.bl_validate.proofs.rules.has_valid_functions.Goals as goal
 pub returns-then-len : goal.returns-then-len
 returns-then-len c = (
   λ e. record {
-    all = search rules;
+    all = c.are_types.ensures.0 (search rules);
     indices = search rules;
     counts = search rules;
     codes = subst (All IsCode) c.as_slice.ensures (c.are_codes.ensures.0 e);

@@ -1,6 +1,6 @@
 use Rattle.std.proofs.Common.{sym, subst}
-use Rattle.bl_validate.specs.Groups.{AreExports}
-use Rattle.bl_validate.proofs.Groups.{valid_from, parts_from, exports_from}
+use Rattle.bl_validate.specs.ModuleRules.{AreExports}
+use Rattle.bl_validate.proofs.ModuleRuleLemmas.{valid_from, parts_from, exports_from}
 use Rattle.bl_validate.proofs.rules.is_valid.Goals as goal
 
 pub returns-in_ok-has_valid_exports : goal.returns-in_ok-has_valid_exports

@@ -1,0 +1,499 @@
+//! Cases that were judged outside of this program: `node cases.js src` writes each module below in the binary format, asks
+//! node v20.20's `WebAssembly.Module`, and writes the tables. Where node says that a function can't be compiled, the case
+//! names that function; where it refuses the module otherwise, a rule is broken.
+//!
+//! Node goes by a later version. This profile differs from it in these cases, which have the profile's answer: a float type
+//! of a parameter, a result, a local, a global or a block breaks a rule, and so do a second table and a start function; an
+//! item with floats, a function of a type that doesn't exist, a body that calls such a function and one without code have no
+//! typing; all labels of a table have the same types, also where it can't be reached; the offset of a segment may be any
+//! immutable global of i32, and not an imported one alone.
+ghost use Rattle.std.specs.Prelude.{◌<◌, ◌^◌, IsTrue, length};
+ghost use Rattle.bl_wasm.specs.Validity.{functions_of};
+
+use super::validate_bodies::{BODIES, SEVERAL};
+use super::validate_modules::{CODE, SEGMENTS, STORES, TYPES};
+use bl_base::{List, Text};
+use bl_ops::{AccessKind, by_code};
+use bl_validate::{Invalid, validate};
+use bl_wasm::WasmType::{self, F32, F64, I32, I64};
+use bl_wasm::{
+    BlockType, Code, DataSegment, DefinedGlobal, ElementSegment, Export, ExportKind, FloatOp,
+    FuncType, GlobalType, Import, ImportKind, Instr, Limits, LocalRun, MemoryArgument, Module,
+    Targets,
+};
+use std::alloc::Global;
+use std::test::Fail;
+
+/// The answer where another rule is broken.
+pub(crate) const RULE: Option<Invalid> = Some(Invalid::Module);
+
+/// An import of a function of type 1.
+pub(crate) const FUNCTION: ImportKind = ImportKind::Function(1);
+
+/// An import of an immutable i32.
+pub(crate) const CONSTANT: ImportKind = ImportKind::Global(GlobalType {
+    kind: I32,
+    mutable: false,
+});
+
+/// The parts of a module in short. Instructions are in the binary format, without an `end`.
+#[derive(Clone, Copy)]
+pub(crate) struct Parts {
+    /// Parameters and results.
+    types: &'static [(&'static [WasmType], &'static [WasmType])],
+    imports: &'static [ImportKind],
+    functions: &'static [u32],
+    /// Minimum and maximum.
+    tables: &'static [(u32, Option<u32>)],
+    memories: &'static [(u32, Option<u32>)],
+    /// Type, whether it can be set, and first value.
+    globals: &'static [(WasmType, bool, &'static [u8])],
+    exports: &'static [(&'static [u8], ExportKind, u32)],
+    start: Option<u32>,
+    /// Table, offset and functions.
+    elements: &'static [(u32, &'static [u8], &'static [u32])],
+    /// Memory and offset.
+    segments: &'static [(u32, &'static [u8])],
+    /// The locals of each function.
+    locals: &'static [(u32, WasmType)],
+    bodies: &'static [&'static [u8]],
+}
+
+/// A part that stands in the place of that of `AROUND`.
+#[derive(Clone, Copy)]
+pub(crate) enum Change {
+    Types(&'static [(&'static [WasmType], &'static [WasmType])]),
+    Imports(&'static [ImportKind]),
+    Functions(&'static [u32]),
+    Tables(&'static [(u32, Option<u32>)]),
+    Memories(&'static [(u32, Option<u32>)]),
+    Globals(&'static [(WasmType, bool, &'static [u8])]),
+    Exports(&'static [(&'static [u8], ExportKind, u32)]),
+    Start(u32),
+    Elements(&'static [(u32, &'static [u8], &'static [u32])]),
+    Segments(&'static [(u32, &'static [u8])]),
+    Locals(&'static [(u32, WasmType)]),
+    Bodies(&'static [&'static [u8]]),
+}
+
+/// The changes of `AROUND` that make a module, and why it isn't valid.
+pub(crate) type Case = (&'static [Change], Option<Invalid>);
+
+/// A module with one function: it takes an i32, has a local of i64 and gives an i32. Function 0 and global 0, an immutable
+/// i32, are imported; global 1 is a mutable i64; there is a table and a memory.
+const AROUND: Parts = Parts {
+    types: &[
+        (&[], &[]),
+        (&[I32], &[I32]),
+        (&[I32, I64], &[I64]),
+        (&[], &[I32]),
+        (&[I32, I64], &[I64, I32]),
+        (&[], &[I32, I64]),
+        (&[I32], &[]),
+    ],
+    imports: &[FUNCTION, CONSTANT],
+    functions: &[1],
+    tables: &[(1, None)],
+    memories: &[(1, None)],
+    globals: &[(I64, true, &[0x42, 0x00])],
+    exports: &[],
+    start: None,
+    elements: &[],
+    segments: &[],
+    locals: &[(1, I64)],
+    bodies: &[&[0x20, 0x00]],
+};
+
+/// The list of a few values.
+fn list<T: Copy + Drop>(alloc: Global, values: &[T]) -> Result<List<T>, Fail> {
+    Ok(List::of(values.to_vec(alloc)?))
+}
+
+/// The type of a block.
+fn block_type(byte: u8) -> BlockType {
+    match byte {
+        0x7F => BlockType::Value(I32),
+        0x7E => BlockType::Value(I64),
+        0x7D => BlockType::Value(F32),
+        0x7C => BlockType::Value(F64),
+        0x40 => BlockType::Empty,
+        index => BlockType::Index(u32::from(index)),
+    }
+}
+
+/// The item of a code, whose immediates are the bytes that follow, one byte each.
+fn item(alloc: Global, code: u8, rest: &[u8]) -> Result<Instr, Fail> {
+    let first = rest.first().map_or(0, |byte| *byte);
+    let x = u32::from(first);
+    Ok(match code {
+        0x00 => Instr::Unreachable,
+        0x01 => Instr::Nop,
+        0x02 => Instr::Block(block_type(first)),
+        0x03 => Instr::Loop(block_type(first)),
+        0x04 => Instr::If(block_type(first)),
+        0x05 => Instr::Else,
+        0x0B => Instr::End,
+        0x0C => Instr::Br(x),
+        0x0D => Instr::BrIf(x),
+        0x0E => table(alloc, rest)?,
+        0x0F => Instr::Return,
+        0x10 => Instr::Call(x),
+        0x11 => Instr::CallIndirect(x),
+        0x1A => Instr::Drop,
+        0x1B => Instr::Select,
+        0x20 => Instr::LocalGet(x),
+        0x21 => Instr::LocalSet(x),
+        0x22 => Instr::LocalTee(x),
+        0x23 => Instr::GlobalGet(x),
+        0x24 => Instr::GlobalSet(x),
+        0x3F => Instr::MemorySize,
+        0x40 => Instr::MemoryGrow,
+        0x41 => Instr::I32Const(x),
+        0x42 => Instr::I64Const(u64::from(x)),
+        0x43 => Instr::F32Const(x),
+        _ => numeric(code, x),
+    })
+}
+
+/// A `br_table`.
+fn table(alloc: Global, rest: &[u8]) -> Result<Instr, Fail> {
+    let (labels, default) = match rest {
+        [0, default, ..] => (List::new(alloc), *default),
+        [1, label, default, ..] => (list(alloc, &[u32::from(*label)])?, *default),
+        _ => (List::new(alloc), 0),
+    };
+    Ok(Instr::BrTable {
+        default: u32::from(default),
+        targets: Targets::of(alloc, labels)?,
+    })
+}
+
+/// An operator with floats.
+fn float(code: u8) -> Instr {
+    match FloatOp::by_code(code) {
+        Some(op) => Instr::Float(op),
+        None => Instr::Nop,
+    }
+}
+
+/// An access or an operator.
+fn numeric(code: u8, alignment: u32) -> Instr {
+    let argument = MemoryArgument {
+        alignment,
+        offset: 0,
+    };
+    match (AccessKind::by_code(code), by_code(code)) {
+        (Some(kind), _) if kind.is_load() => Instr::Load { kind, argument },
+        (Some(kind), _) => Instr::Store { kind, argument },
+        (None, Some(op)) => Instr::Integer(op),
+        (None, None) => float(code),
+    }
+}
+
+/// How many bytes stand behind a code.
+fn immediates(code: u8, rest: &[u8]) -> usize {
+    match code {
+        0x02..=0x04 | 0x0C | 0x0D | 0x10 | 0x20..=0x24 | 0x3F..=0x42 => 1,
+        0x11 | 0x28..=0x3E => 2,
+        0x43 => 4,
+        0x0E => 2 + rest.first().map_or(0, |count| usize::from(*count)),
+        _ => 0,
+    }
+}
+
+/// The items of a body.
+fn items(alloc: Global, body: &[u8]) -> Result<List<Instr>, Fail> {
+    let mut items = List::new(alloc);
+    let mut skipped = 0;
+    for (at, code) in body.iter().enumerate() {
+        if skipped > 0 {
+            skipped -= 1;
+            continue;
+        }
+        let rest = &body[at + 1..];
+        items.push(item(alloc, *code, rest)?)?;
+        skipped = immediates(*code, rest);
+    }
+    Ok(items)
+}
+
+/// A type of functions.
+fn function_type(
+    alloc: Global,
+    params: &[WasmType],
+    results: &[WasmType],
+) -> Result<FuncType, Fail> {
+    Ok(FuncType {
+        params: list(alloc, params)?,
+        results: list(alloc, results)?,
+    })
+}
+
+/// Limits.
+fn limits(parts: &[(u32, Option<u32>)], list: &mut List<Limits>) -> Result<(), Fail> {
+    for (min, max) in parts {
+        list.push(Limits {
+            min: *min,
+            max: *max,
+        })?;
+    }
+    Ok(())
+}
+
+/// The types, imports and functions.
+fn put_functions(alloc: Global, parts: &Parts, tree: &mut Module) -> Result<(), Fail> {
+    for (params, results) in parts.types {
+        tree.types.push(function_type(alloc, params, results)?)?;
+    }
+    for kind in parts.imports {
+        tree.imports.push(Import {
+            from: Text::copy_of(alloc, b"m")?,
+            name: Text::copy_of(alloc, b"x")?,
+            kind: *kind,
+        })?;
+    }
+    for index in parts.functions {
+        tree.functions.push(*index)?;
+    }
+    Ok(())
+}
+
+/// Locals.
+fn local_runs(alloc: Global, parts: &[(u32, WasmType)]) -> Result<List<LocalRun>, Fail> {
+    let mut locals = List::new(alloc);
+    for (count, kind) in parts {
+        locals.push(LocalRun {
+            count: *count,
+            kind: *kind,
+        })?;
+    }
+    Ok(locals)
+}
+
+/// The code of the functions.
+fn put_bodies(
+    alloc: Global,
+    locals: &[(u32, WasmType)],
+    bodies: &[&[u8]],
+    tree: &mut Module,
+) -> Result<(), Fail> {
+    for body in bodies {
+        tree.bodies.push(Code {
+            locals: local_runs(alloc, locals)?,
+            items: items(alloc, body)?,
+        })?;
+    }
+    Ok(())
+}
+
+/// The globals and exports.
+fn put_globals(alloc: Global, parts: &Parts, tree: &mut Module) -> Result<(), Fail> {
+    for (kind, mutable, first) in parts.globals {
+        tree.globals.push(DefinedGlobal {
+            kind: GlobalType {
+                kind: *kind,
+                mutable: *mutable,
+            },
+            first: items(alloc, first)?,
+        })?;
+    }
+    for (name, kind, index) in parts.exports {
+        tree.exports.push(Export {
+            name: Text::copy_of(alloc, name)?,
+            kind: *kind,
+            index: *index,
+        })?;
+    }
+    Ok(())
+}
+
+/// The segments.
+fn put_segments(alloc: Global, parts: &Parts, tree: &mut Module) -> Result<(), Fail> {
+    for (table, offset, functions) in parts.elements {
+        tree.elements.push(ElementSegment {
+            table: *table,
+            offset: items(alloc, offset)?,
+            functions: list(alloc, functions)?,
+        })?;
+    }
+    for (memory, offset) in parts.segments {
+        tree.segments.push(DataSegment {
+            memory: *memory,
+            offset: items(alloc, offset)?,
+            bytes: Text::copy_of(alloc, b"")?,
+        })?;
+    }
+    Ok(())
+}
+
+/// A module without parts.
+fn empty(alloc: Global, start: Option<u32>) -> Module {
+    Module {
+        types: List::new(alloc),
+        imports: List::new(alloc),
+        functions: List::new(alloc),
+        tables: List::new(alloc),
+        memories: List::new(alloc),
+        globals: List::new(alloc),
+        exports: List::new(alloc),
+        start,
+        elements: List::new(alloc),
+        bodies: List::new(alloc),
+        segments: List::new(alloc),
+        customs: List::new(alloc),
+    }
+}
+
+/// Puts the parts into a module.
+fn put(alloc: Global, parts: &Parts, tree: &mut Module) -> Result<(), Fail> {
+    put_functions(alloc, parts, tree)?;
+    limits(parts.tables, &mut tree.tables)?;
+    limits(parts.memories, &mut tree.memories)?;
+    put_globals(alloc, parts, tree)?;
+    put_segments(alloc, parts, tree)
+}
+
+/// The module of the parts with those bodies.
+fn module_of(alloc: Global, parts: &Parts, bodies: &[&[u8]]) -> Result<Module, Fail> {
+    let mut tree = empty(alloc, parts.start);
+    put(alloc, parts, &mut tree)?;
+    put_bodies(alloc, parts.locals, bodies, &mut tree)?;
+    Ok(tree)
+}
+
+/// The parts with one part changed.
+fn with_change(parts: Parts, change: Change) -> Parts {
+    match change {
+        Change::Types(types) => Parts { types, ..parts },
+        Change::Imports(imports) => Parts { imports, ..parts },
+        Change::Functions(functions) => Parts { functions, ..parts },
+        Change::Tables(tables) => Parts { tables, ..parts },
+        Change::Memories(memories) => Parts { memories, ..parts },
+        Change::Globals(globals) => Parts { globals, ..parts },
+        Change::Exports(exports) => Parts { exports, ..parts },
+        Change::Start(start) => Parts {
+            start: Some(start),
+            ..parts
+        },
+        Change::Elements(elements) => Parts { elements, ..parts },
+        Change::Segments(segments) => Parts { segments, ..parts },
+        Change::Locals(locals) => Parts { locals, ..parts },
+        Change::Bodies(bodies) => Parts { bodies, ..parts },
+    }
+}
+
+/// The parts of a case.
+fn changed(changes: &[Change]) -> Parts {
+    let mut parts = AROUND;
+    for part in changes {
+        parts = with_change(parts, *part);
+    }
+    parts
+}
+
+/// Whether the module has few functions.
+#[tactic(auto, using(crate::proofs::Counts::functions_at_most))]
+fn is_small(tree: &Module) -> bool
+    ensures { IsTrue result → length (functions_of tree.now) < 2 ^ 32 }
+{
+    tree.imports.len() < 100 && tree.functions.len() < 100
+}
+
+/// Why the module of the parts with those bodies isn't valid; None where it is.
+fn verdict(alloc: Global, parts: &Parts, bodies: &[&[u8]]) -> Result<Option<Invalid>, Fail> {
+    let tree = module_of(alloc, parts, bodies)?;
+    if !is_small(&tree) {
+        return Ok(Some(Invalid::Memory));
+    }
+    match validate(alloc, tree) {
+        Ok(_) => Ok(None),
+        Err((_, reason)) => Ok(Some(reason)),
+    }
+}
+
+/// The first of the bodies that is judged otherwise, and how.
+fn first_wrong_body(
+    alloc: Global,
+    cases: &[(&[u8], bool)],
+) -> Result<Option<(usize, Option<Invalid>)>, Fail> {
+    for (at, (body, valid)) in cases.iter().enumerate() {
+        let wanted = if *valid {
+            None
+        } else {
+            Some(Invalid::Function(1))
+        };
+        let found = verdict(alloc, &AROUND, &[*body])?;
+        if found != wanted {
+            return Ok(Some((at, found)));
+        }
+    }
+    Ok(None)
+}
+
+#[test]
+fn bodies_are_judged_as_elsewhere(rt: HostRuntime) -> Result<(), Fail> {
+    assert_eq!(rt; first_wrong_body(rt.alloc(), &BODIES)?, None);
+    Ok(())
+}
+
+#[test]
+fn blocks_of_several_types_are_judged_as_elsewhere(rt: HostRuntime) -> Result<(), Fail> {
+    assert_eq!(rt; first_wrong_body(rt.alloc(), &SEVERAL)?, None);
+    Ok(())
+}
+
+/// The first of the cases that is judged otherwise, and how.
+fn first_wrong(alloc: Global, cases: &[Case]) -> Result<Option<(usize, Option<Invalid>)>, Fail> {
+    for (at, (changes, wanted)) in cases.iter().enumerate() {
+        let parts = changed(changes);
+        let found = verdict(alloc, &parts, parts.bodies)?;
+        if found != *wanted {
+            return Ok(Some((at, found)));
+        }
+    }
+    Ok(None)
+}
+
+#[test]
+fn types_are_judged_as_elsewhere(rt: HostRuntime) -> Result<(), Fail> {
+    assert_eq!(rt; first_wrong(rt.alloc(), &TYPES)?, None);
+    Ok(())
+}
+
+#[test]
+fn code_is_judged_as_elsewhere(rt: HostRuntime) -> Result<(), Fail> {
+    assert_eq!(rt; first_wrong(rt.alloc(), &CODE)?, None);
+    Ok(())
+}
+
+#[test]
+fn stores_are_judged_as_elsewhere(rt: HostRuntime) -> Result<(), Fail> {
+    assert_eq!(rt; first_wrong(rt.alloc(), &STORES)?, None);
+    Ok(())
+}
+
+#[test]
+fn segments_are_judged_as_elsewhere(rt: HostRuntime) -> Result<(), Fail> {
+    assert_eq!(rt; first_wrong(rt.alloc(), &SEGMENTS)?, None);
+    Ok(())
+}
+
+#[test]
+fn a_refused_module_comes_back(rt: HostRuntime) -> Result<(), Fail> {
+    let alloc = rt.alloc();
+    let parts = Parts {
+        memories: &[(1, None), (2, Some(3))],
+        ..AROUND
+    };
+    let tree = module_of(alloc, &parts, parts.bodies)?;
+    assert!(rt; is_small(&tree));
+    let Err((tree, reason)) = validate(alloc, tree) else {
+        return Ok(());
+    };
+    assert_eq!(rt; reason, Invalid::Module);
+    assert_eq!(rt;
+        tree.memories.as_slice().get(1).map(|limits| limits.max),
+        Some(Some(3))
+    );
+    Ok(())
+}
