@@ -6,4 +6,8 @@ pub mod Places
 pub mod Ready
 pub mod Soundness
 pub mod VariableItems
+mod WorkedBlocks
+mod WorkedItems
+pub mod WorkedLinked
 mod WorkedRows
+pub mod WorkedTrees

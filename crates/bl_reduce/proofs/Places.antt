@@ -3,6 +3,7 @@ use Rattle.std.proofs.Common.{◌≡◌, ℕ, suc, ◌+◌, ◌≤◌, List, [],
 use Rattle.std.specs.Prelude.{unwrap_or}
 use Rattle.std.proofs.lemmas.List.{drop-drop}
 use Rattle.bl_wasm.specs.Nesting.{Kind, of_block, of_loop, then_part, else_part, Construct, construct, behind_else, open_behind}
+use Rattle.bl_wasm.specs.TypedPlaces.{IsOpenAs, AreOpenAs}
 use Rattle.bl_wasm.specs.Typing.{Context, Open, opened, taken_by, Begins, Parts, Ends, Rule, Types}
 use Rattle.bl_wasm.specs.declared.instruction.Instr.{Instr}
 use Rattle.bl_wasm.specs.declared.instruction.Instr.TheVariants.{Block, Loop, If, Else, End}
@@ -21,25 +22,19 @@ pub record Onward (c : Context) (open_ones : List Open) (items : List Instr) (in
   pub later : List (List WasmType)
   pub typing : Types c inner rest (stack ∷ later)
 
--- constructs and open ones of the same kinds
-abbrev AreAlike : List Construct → List Open → Type 0
-AreAlike [] [] = Unit {0}
-AreAlike (one ∷ constructs) (other ∷ inner) = (one.kind ≡ other.kind) × AreAlike constructs inner
-AreAlike constructs inner = ⊥
-
 -- an item behind which the constructs within one that is open are these
-record Moves (item : Instr) (constructs : List Construct) (one : Open) (outer behind : List Open) : Type 0 where
+record Moves (c : Context) (item : Instr) (constructs : List Construct) (one : Open) (outer behind : List Open) : Type 0 where
   next : List Construct
   within : List Open
   opens : open_behind item constructs ≡ Some next
-  alike : AreAlike next within
+  alike : AreOpenAs c next within
   are : behind ≡ within ++ one ∷ outer
 
 -- an item inside a construct: it moves what is open within, or is the construct's own `else` or its own `end`
-data Met (one : Open) (outer : List Open) (from : List WasmType) (behind : List Open) (to : List WasmType) : Instr → List Construct → List Open → Type 0 where
-  moved : (item : Instr) (constructs : List Construct) (inner : List Open) → Moves item constructs one outer behind → Met one outer from behind to item constructs inner
-  own_else : Parts one outer from behind to → Met one outer from behind to Else [] []
-  own_end : Ends one outer from behind to → Met one outer from behind to End [] []
+data Met (c : Context) (one : Open) (outer : List Open) (from : List WasmType) (behind : List Open) (to : List WasmType) : Instr → List Construct → List Open → Type 0 where
+  moved : (item : Instr) (constructs : List Construct) (inner : List Open) → Moves c item constructs one outer behind → Met c one outer from behind to item constructs inner
+  own_else : Parts one outer from behind to → Met c one outer from behind to Else [] []
+  own_end : Ends one outer from behind to → Met c one outer from behind to End [] []
 
 module _ (c : Context) where
   pub here : (open_ones : List Open) (items : List Instr) (stack : List WasmType) (later : List (List WasmType)) → Types c open_ones items (stack ∷ later)
@@ -73,30 +68,30 @@ module _ (c : Context) where
   -- ---- what is open within a construct
 
   begun : (item : Instr) (kind : Kind) (immediate : BlockType) (above : List WasmType) (constructs : List Construct) (inner : List Open) (one : Open) (outer : List Open)
-      (from : List WasmType) (behind : List Open) (to : List WasmType) → open_behind item constructs ≡ Some (construct kind immediate ∷ constructs) → AreAlike constructs inner
-      → Begins c kind immediate above (inner ++ one ∷ outer) from behind to → Met one outer from behind to item constructs inner
+      (from : List WasmType) (behind : List Open) (to : List WasmType) → open_behind item constructs ≡ Some (construct kind immediate ∷ constructs) → AreOpenAs c constructs inner
+      → Begins c kind immediate above (inner ++ one ∷ outer) from behind to → Met c one outer from behind to item constructs inner
   begun item kind immediate above constructs inner one outer from behind to e alike rule =
       moved item constructs inner (record {
         next = construct kind immediate ∷ constructs;
         within = opened kind rule.type rule.lower ∷ inner;
         opens = e;
-        alike = (refl, alike);
+        alike = (record { kind = refl; type = rule.named }, alike);
         are = rule.inside;
       })
 
-  parts_within : (kind : Kind) (immediate : BlockType) (constructs : List Construct) (o : Open) (inner : List Open) (one : Open) (outer : List Open)
-      (from : List WasmType) (behind : List Open) (to : List WasmType) → kind ≡ o.kind → AreAlike constructs inner
-      → Parts o (inner ++ one ∷ outer) from behind to → Moves Else (construct kind immediate ∷ constructs) one outer behind
-  parts_within kind immediate constructs o inner one outer from behind to e alike rule = record {
-    next = construct else_part immediate ∷ constructs;
+  parts_within : (x : Construct) (constructs : List Construct) (o : Open) (inner : List Open) (one : Open) (outer : List Open)
+      (from : List WasmType) (behind : List Open) (to : List WasmType) → IsOpenAs c x o → AreOpenAs c constructs inner
+      → Parts o (inner ++ one ∷ outer) from behind to → Moves c Else (x ∷ constructs) one outer behind
+  parts_within x constructs o inner one outer from behind to is alike rule = record {
+    next = construct else_part x.type ∷ constructs;
     within = opened else_part o.type o.lower ∷ inner;
-    opens = ap (λ kind. behind_else (construct kind immediate ∷ constructs)) (e ∙ rule.first);
-    alike = (refl, alike);
+    opens = ap (λ kind. behind_else (construct kind x.type ∷ constructs)) (is.kind ∙ rule.first);
+    alike = (record { kind = refl; type = is.type }, alike);
     are = rule.inside;
   }
 
   met : (item : Instr) (constructs : List Construct) (inner : List Open) (one : Open) (outer : List Open) (from : List WasmType) (behind : List Open) (to : List WasmType)
-      → AreAlike constructs inner → Rule c item (inner ++ one ∷ outer) from behind to → Met one outer from behind to item constructs inner
+      → AreOpenAs c constructs inner → Rule c item (inner ++ one ∷ outer) from behind to → Met c one outer from behind to item constructs inner
   met (Block immediate) constructs inner one outer from behind to alike rule = begun (Block immediate) of_block immediate [] constructs inner one outer from behind to refl alike rule
   met (Loop immediate) constructs inner one outer from behind to alike rule = begun (Loop immediate) of_loop immediate [] constructs inner one outer from behind to refl alike rule
   met (If immediate) constructs inner one outer from behind to alike rule = begun (If immediate) then_part immediate (I32 ∷ []) constructs inner one outer from behind to refl alike rule
@@ -104,7 +99,7 @@ module _ (c : Context) where
   met Else (x ∷ constructs) [] one outer from behind to alike rule = absurd alike
   met Else [] (o ∷ inner) one outer from behind to alike rule = absurd alike
   met Else (x ∷ constructs) (o ∷ inner) one outer from behind to alike rule =
-      moved Else (x ∷ constructs) (o ∷ inner) (parts_within x.kind x.type constructs o inner one outer from behind to alike.0 alike.1 rule)
+      moved Else (x ∷ constructs) (o ∷ inner) (parts_within x constructs o inner one outer from behind to alike.0 alike.1 rule)
   met End [] [] one outer from behind to alike rule = own_end rule
   met End (x ∷ constructs) [] one outer from behind to alike rule = absurd alike
   met End [] (o ∷ inner) one outer from behind to alike rule = absurd alike
@@ -128,12 +123,12 @@ module _ (c : Context) where
 
   -- the same of the items behind an item, whatever is open within
   abbrev EndedBehind : List Instr → List Open → Type 0
-  EndedBehind items outer = (constructs : List Construct) (inner : List Open) (one : Open) (from : List WasmType) (later : List (List WasmType)) → AreAlike constructs inner
+  EndedBehind items outer = (constructs : List Construct) (inner : List Open) (one : Open) (from : List WasmType) (later : List (List WasmType)) → AreOpenAs c constructs inner
       → Types c (inner ++ one ∷ outer) items (from ∷ later) → Ended constructs inner one outer items
 
   -- an item behind which other constructs are open within the one that ends, or within another one with the same end
   onto : (item : Instr) (items : List Instr) (outer inner within : List Open) (next : List Construct) (one other : Open) (from : List WasmType) → EndedBehind items outer
-      → (b : Behind item items (inner ++ one ∷ outer) from) → AreAlike next within → b.behind ≡ within ++ other ∷ outer → other.lower ++ other.type.results ≡ one.lower ++ one.type.results
+      → (b : Behind item items (inner ++ one ∷ outer) from) → AreOpenAs c next within → b.behind ≡ within ++ other ∷ outer → other.lower ++ other.type.results ≡ one.lower ++ one.type.results
       → Onward c (inner ++ one ∷ outer) (item ∷ items) outer (one.lower ++ one.type.results) (items_behind_end next items)
   onto item items outer inner within next one other from again b alike e same =
       past item items (inner ++ one ∷ outer) from b.behind b.to outer (one.lower ++ one.type.results) (items_behind_end next items) b.rule
@@ -148,7 +143,7 @@ module _ (c : Context) where
   end_moves item items (x ∷ constructs) next e = ap (λ o. items_behind_end (unwrap_or o (x ∷ constructs)) items) e
 
   ended_at : (item : Instr) (items : List Instr) (outer : List Open) (constructs : List Construct) (inner : List Open) (one : Open) (from : List WasmType) → EndedBehind items outer
-      → (b : Behind item items (inner ++ one ∷ outer) from) → Met one outer from b.behind b.to item constructs inner → Ended constructs inner one outer (item ∷ items)
+      → (b : Behind item items (inner ++ one ∷ outer) from) → Met c one outer from b.behind b.to item constructs inner → Ended constructs inner one outer (item ∷ items)
   ended_at item items outer constructs inner one from again b (moved _ _ _ m) =
       subst (λ rest. Onward c (inner ++ one ∷ outer) (item ∷ items) outer (one.lower ++ one.type.results) rest) (sym (end_moves item items constructs m.next m.opens))
       (onto item items outer inner m.within m.next one one from again b m.alike m.are refl)
@@ -162,7 +157,7 @@ module _ (c : Context) where
 
   -- from inside a construct to what stands behind its end
   pub ended : (items : List Instr) (outer : List Open) (constructs : List Construct) (inner : List Open) (one : Open) (from : List WasmType) (later : List (List WasmType))
-      → AreAlike constructs inner → Types c (inner ++ one ∷ outer) items (from ∷ later) → Ended constructs inner one outer items
+      → AreOpenAs c constructs inner → Types c (inner ++ one ∷ outer) items (from ∷ later) → Ended constructs inner one outer items
   ended [] outer constructs inner one from later alike h = absurd (unended inner one outer from later h)
   ended (item ∷ items) outer constructs inner one from later alike h =
       let b = behind_item item items (inner ++ one ∷ outer) from later h in
@@ -178,7 +173,7 @@ module _ (c : Context) where
     pub onward : Onward c (inner ++ opened then_part type lower ∷ outer) items (opened kind type lower ∷ outer) type.params (items_of_else constructs items)
 
   abbrev InElseBehind : FuncType → List WasmType → List Instr → List Open → Type 0
-  InElseBehind type lower items outer = (constructs : List Construct) (inner : List Open) (from : List WasmType) (later : List (List WasmType)) → AreAlike constructs inner
+  InElseBehind type lower items outer = (constructs : List Construct) (inner : List Open) (from : List WasmType) (later : List (List WasmType)) → AreOpenAs c constructs inner
       → Types c (inner ++ opened then_part type lower ∷ outer) items (from ∷ later) → InElse type lower outer constructs inner items
 
   else_moves : (item : Instr) (items : List Instr) (constructs next : List Construct) → open_behind item constructs ≡ Some next
@@ -194,7 +189,7 @@ module _ (c : Context) where
 
     parted_at : (item : Instr) (items : List Instr) (constructs : List Construct) (inner : List Open) (from : List WasmType) (later : List (List WasmType)) → InElseBehind type lower items outer
         → (b : Behind item items (Within inner) from) → Types c (Within inner) (item ∷ items) (from ∷ later)
-        → Met (opened then_part type lower) outer from b.behind b.to item constructs inner → InElse type lower outer constructs inner (item ∷ items)
+        → Met c (opened then_part type lower) outer from b.behind b.to item constructs inner → InElse type lower outer constructs inner (item ∷ items)
     parted_at item items constructs inner from later again b h (moved _ _ _ m) =
         let s = again m.next m.within b.to b.later m.alike (subst (λ o. Types c o items (b.to ∷ b.later)) m.are b.typing) in
         record {
@@ -224,7 +219,7 @@ module _ (c : Context) where
 
   -- from inside the then part of an if to its else part
   pub parted : (type : FuncType) (lower : List WasmType) (items : List Instr) (outer : List Open) (constructs : List Construct) (inner : List Open) (from : List WasmType) (later : List (List WasmType))
-      → AreAlike constructs inner → Types c (inner ++ opened then_part type lower ∷ outer) items (from ∷ later) → InElse type lower outer constructs inner items
+      → AreOpenAs c constructs inner → Types c (inner ++ opened then_part type lower ∷ outer) items (from ∷ later) → InElse type lower outer constructs inner items
   parted type lower [] outer constructs inner from later alike h = absurd (unended inner (opened then_part type lower) outer from later h)
   parted type lower (item ∷ items) outer constructs inner from later alike h =
       let b = behind_item item items (inner ++ opened then_part type lower ∷ outer) from later h in

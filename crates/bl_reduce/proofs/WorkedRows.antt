@@ -1,72 +1,16 @@
 -- Runs of small trees, by computation.
-use Rattle.std.proofs.Common.{◌≡◌, ℕ, zero, suc, length, List, [], ◌∷◌, Option, Some, None, refl}
-use Rattle.bl_base.specs.Runs.{Next, goes, ends, stuck, returned, trapped}
-use Rattle.bl_base.specs.declared.names.ValueType.{ValueType}
-use Rattle.bl_base.specs.declared.names.ValueType.TheVariants as value
+use Rattle.std.proofs.Common.{◌≡◌, ℕ, length, List, [], ◌∷◌, Some, None, refl}
+use Rattle.bl_base.specs.Runs.{Next, ends, returned, trapped}
 use Rattle.bl_base.specs.declared.names.Label.TheVariants.{Public}
 use Rattle.bl_base.specs.declared.trap.Trap.TheVariants as kind
 use Rattle.bl_ops.specs.declared.access.AccessKind.TheVariants as access
 use Rattle.bl_ops.specs.Numerics.{meaning, traps}
 use Rattle.bl_ops.specs.declared.op.Op.TheVariants.{I32Eqz, I32Add, I32DivS, I32RemS, I32Sub}
-use Rattle.bl_wasm.specs.declared.instruction.Instr.{Instr}
 use Rattle.bl_wasm.specs.declared.instruction.Instr.TheVariants.{Unreachable, Block, Loop, If, End, Br, BrIf, BrTable, Return, Call, CallIndirect, Drop, LocalGet, LocalSet, LocalTee, Load, Store, MemoryGrow, I32Const, Integer}
-use Rattle.bl_wasm.specs.declared.types.WasmType.TheVariants as type
 use Rattle.bl_wasm.specs.declared.types.BlockType.TheVariants.{Empty}
-use Rattle.bl_wasm.specs.declared.linked.Signature.{Signature}
-use Rattle.bl_wasm.specs.declared.linked.Function.{Function}
 use Rattle.bl_wasm.specs.declared.linked.Tree.{Tree}
 use Rattle.bl_reduce.specs.Configurations.{Config}
-use Rattle.bl_reduce.specs.Steps.{source_step}
-use Rattle.bl_reduce.specs.Outcomes.{opening}
-
--- what stands after so many further steps
-abbrev further : Tree → ℕ → Next Config → Next Config
-further tree zero next = next
-further tree (suc n) (goes c) = further tree n (source_step tree c)
-further tree (suc n) (ends o) = stuck
-further tree (suc n) stuck = stuck
-
--- what stands after so many steps of the entering of function 0 with those arguments
-abbrev run : Tree → ℕ → List ℕ → Next Config
-run tree n arguments = further tree n (goes (opening tree 0 (record { args = arguments; patches = [] })))
-
--- whether a run has not ended after so many steps
-abbrev Goes : Next Config → Type 0
-Goes (goes c) = Unit {0}
-Goes (ends o) = ⊥
-Goes stuck = ⊥
-
--- a function of that type with so many i32 locals and that body
-abbrev function : ℕ → ℕ → List Instr → Function
-function index locals items = record {
-  type_index = index;
-  labels = [];
-  demanded = [];
-  code = record { locals = record { count = locals; kind = type.I32 } ∷ []; items = items };
-  memory = None;
-  table = Some 0;
-}
-
--- i32 values
-abbrev i32s : ℕ → List ValueType
-i32s zero = []
-i32s (suc n) = value.I32 ∷ i32s n
-
-abbrev signature : ℕ → ℕ → Signature
-signature params results = record { params = i32s params; results = i32s results }
-
-abbrev tree_of : List Signature → List Function → List (Option ℕ) → Tree
-tree_of types functions table = record {
-  types = types;
-  functions = functions;
-  globals = [];
-  memories = [];
-  tables = table ∷ [];
-  exports = [];
-}
-
-abbrev one : ℕ → ℕ → ℕ → List Instr → Tree
-one params results locals items = tree_of (signature params results ∷ []) (function 0 locals items ∷ []) []
+use Rattle.bl_reduce.proofs.WorkedTrees.{run, Goes, function, signature, tree_of, one, over}
 
 -- local.get 0, i32.const 1, i32.add
 abbrev inc : Tree
@@ -160,20 +104,6 @@ out_of_all : run (one 1 1 0 (Block Empty ∷ I32Const 5 ∷ I32Const 6 ∷ Br 1 
 out_of_all = refl
 
 -- ---- a memory
-
--- a function with memory 0
-abbrev with_memory : List Instr → Function
-with_memory items = record (function 0 0 items) { memory = Some 0 }
-
-abbrev over : ℕ → ℕ → ℕ → List ℕ → List Instr → Tree
-over params pages reserve bytes items = record {
-  types = signature params 1 ∷ [];
-  functions = with_memory items ∷ [];
-  globals = [];
-  memories = record { pages = pages; reserve = reserve; label = Public; bytes = bytes } ∷ [];
-  tables = [];
-  exports = [];
-}
 
 -- an offset past the memory
 far_load : run (over 1 1 1 (1 ∷ 2 ∷ []) (LocalGet 0 ∷ Load access.I32Load (record { alignment = 2; offset = 4294967295 }) ∷ [])) 3 (1 ∷ [])

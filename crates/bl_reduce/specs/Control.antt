@@ -1,4 +1,5 @@
--- Control instructions but for calls (WebAssembly 1.0, sections 4.4.5 and 4.4.6).
+-- Control instructions but for calls (WebAssembly 1.0, sections 4.4.5 and 4.4.6; blocks with parameters and several results,
+-- version 2.0, sections 4.4.8 and 4.4.9).
 use Rattle.std.specs.Prelude.{ℕ, ◌+◌, ◌==◌, if◌then◌else◌, List, [], ◌∷◌, ◌++◌, length, take, drop, slice_get, Option, Some, None, unwrap_or}
 use Rattle.bl_base.specs.Runs.{Next, stuck}
 use Rattle.bl_wasm.specs.Nesting.{Construct, open_behind}
@@ -44,7 +45,8 @@ enter_block type inside state = enter_with (length type.results) (length type.pa
 
 -- loop: its parameters are taken along; after a branch to it, the loop again
 abbrev pub enter_loop : BlockType → FuncType → State → Next Config
-enter_loop immediate type state = enter_with (length type.params) (length type.params) (Loop immediate ∷ state.frame.rest) state.frame.rest state
+enter_loop immediate type state =
+    enter_with (length type.params) (length type.params) (Loop immediate ∷ state.frame.rest) state.frame.rest state
 
 -- if: a block of its then part where the condition isn't 0, else of its else part
 abbrev pub enter_if : FuncType → State → Next Config

@@ -59,7 +59,8 @@ load kind argument state = pop state (λ address state. with_memory state (load_
 -- a store of a value at an effective address
 abbrev pub store_at : AccessKind → ℕ → ℕ → State → ℕ → MemoryState → Next Config
 store_at kind value address state number memory =
-    within memory address (width_of kind) state (go (set_memory number (write memory address (bytes_of (width_of kind) (narrowed kind value))) state))
+    within memory address (width_of kind) state
+    (go (set_memory number (write memory address (bytes_of (width_of kind) (narrowed kind value))) state))
 
 -- t.store
 abbrev pub store : AccessKind → MemoryArgument → State → Next Config

@@ -20,4 +20,5 @@ apply op other state = stuck
 
 -- t.unop, t.binop, t.testop, t.relop, t.cvtop: the operands are taken off
 abbrev pub operate : Op → State → Next Config
-operate op state = known (row_of op) (λ row. apply op (take row.operands state.frame.values) (with_values (drop row.operands state.frame.values) state))
+operate op state =
+    known (row_of op) (λ row. apply op (take row.operands state.frame.values) (with_values (drop row.operands state.frame.values) state))

@@ -40,9 +40,12 @@ execute tree MemoryGrow state = memory_grow tree state
 -- control instructions (sections 4.4.5 and 4.4.6); the type that a block names exists
 execute tree Nop state = go state
 execute tree Unreachable state = trap trap_kind.Unreachable state
-execute tree (Block immediate) state = known (expanded (map function_type tree.types) immediate) (λ type. enter_block type state.frame.rest state)
-execute tree (Loop immediate) state = known (expanded (map function_type tree.types) immediate) (λ type. enter_loop immediate type state)
-execute tree (If immediate) state = known (expanded (map function_type tree.types) immediate) (λ type. enter_if type state)
+execute tree (Block immediate) state =
+    known (expanded (map function_type tree.types) immediate) (λ type. enter_block type state.frame.rest state)
+execute tree (Loop immediate) state =
+    known (expanded (map function_type tree.types) immediate) (λ type. enter_loop immediate type state)
+execute tree (If immediate) state =
+    known (expanded (map function_type tree.types) immediate) (λ type. enter_if type state)
 execute tree Else state = reach_else state
 execute tree End state = reach_end state
 execute tree (Br l) state = branch l state

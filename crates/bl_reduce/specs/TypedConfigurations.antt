@@ -94,12 +94,14 @@ pub record IsCaller (tree : Tree) (type : Signature) (awaited : List ValueType) 
 -- callers, innermost first: each awaits the results of the function within, and the outermost function's are the run's
 abbrev pub AreCallers : Tree → List ValueType → List ValueType → List Frame → Type 0
 AreCallers tree results awaited [] = awaited ≡ results
-AreCallers tree results awaited (frame ∷ callers) = (type : Signature) × IsCaller tree type awaited frame × AreCallers tree results type.results callers
+AreCallers tree results awaited (frame ∷ callers) =
+    (type : Signature) × IsCaller tree type awaited frame × AreCallers tree results type.results callers
 
 -- ---- configurations
 
 -- a function is about to be entered
-pub record IsEntering (tree : Tree) (results : List ValueType) (store : Store) (number : ℕ) (arguments : List ℕ) (callers : List Frame) : Type 0 where
+pub record IsEntering (tree : Tree) (results : List ValueType) (store : Store) (number : ℕ) (arguments : List ℕ)
+    (callers : List Frame) : Type 0 where
   pub store_is : IsStore tree store
   pub function : Function
   pub exists : slice_get tree.functions number ≡ Some function

@@ -1,3 +1,8 @@
-mod Rows
 pub mod ExportLemmas
+pub mod LeadingLemmas
 pub mod NestingLemmas
+pub mod ReachedLemmas
+pub mod RenamingLemmas
+mod Rows
+pub mod SequenceLemmas
+mod TypingRows

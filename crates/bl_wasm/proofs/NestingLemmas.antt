@@ -1,8 +1,9 @@
 -- Items nest exactly where they close what they open.
-use Rattle.std.proofs.Common.{append-nil, ◌≡◌, List, [], ◌∷◌, ◌++◌, Some, ◌⊎◌, inl, inr, refl, subst}
+use Rattle.std.proofs.Common.{append-nil, None, ◌≡◌, List, [], ◌∷◌, ◌++◌, Some, ◌⊎◌, inl, inr, refl, subst, ap, ◌∙◌, Option}
+use Rattle.std.specs.Prelude.{option_and_then}
 use Rattle.std.proofs.lemmas.List.{append_assoc}
 use Rattle.bl_wasm.specs.Instructions.{Nests, none, plain, block, loop, if_then, if_else, IsPlain}
-use Rattle.bl_wasm.specs.Nesting.{Kind, of_block, of_loop, then_part, else_part, Construct, construct, behind_else, open_behind, Closes}
+use Rattle.bl_wasm.specs.Nesting.{Kind, of_block, of_loop, then_part, else_part, Construct, construct, behind_else, open_behind, open_through, Closes}
 use Rattle.bl_wasm.specs.declared.types.BlockType.{BlockType}
 use Rattle.bl_wasm.specs.declared.instruction.Instr.{Instr}
 use Rattle.bl_wasm.specs.declared.instruction.Instr.TheVariants.{Block, Loop, If, Else, End}
@@ -166,3 +167,17 @@ parsed (item ∷ items) outer h = leads (item ∷ []) outer items (λ more n. pl
 
 pub nests : (items : List Instr) → Closes [] items → Nests items
 nests items h = parsed items [] h
+
+-- what is open behind items that close what is open: nothing
+pub through : (items : List Instr) (outer : List Construct) → Closes outer items → open_through items outer ≡ Some []
+through [] outer h = ap (λ (o : List Construct). Some o) h
+through (item ∷ items) outer h = ap (λ (o : Option (List Construct)). option_and_then (open_through items) o) h.1 ∙ through items h.0 h.2
+
+pub from_through : (items : List Instr) (outer : List Construct) → open_through items outer ≡ Some [] → Closes outer items
+from_through [] outer e = cc e
+from_through (item ∷ items) outer e = by_case (open_behind item outer) refl e (λ o k. from_through items o k)
+  where
+    by_case : (found : Option (List Construct)) → open_behind item outer ≡ found → option_and_then (open_through items) found ≡ Some []
+        → ((o : List Construct) → open_through items o ≡ Some [] → Closes o items) → Closes outer (item ∷ items)
+    by_case None is e again = absurd (cc e)
+    by_case (Some o) is e again = (o, is, again o e)

@@ -218,7 +218,7 @@ store = (refl, after _ (both (0x00 ∷ []) (0x04 ∷ []) (small 0 (omega arith))
 one : instruction (F32Const 0x3F800000) (0x43 ∷ 0x00 ∷ 0x00 ∷ 0x80 ∷ 0x3F ∷ [])
 one = after _ (refl, refl)
 
--- an if with two parts, the second one a loop
+-- an if with an else part, which is a loop
 nested : Nests (If Empty ∷ Nop ∷ Else ∷ Loop (Value I32) ∷ Br 0 ∷ End ∷ End ∷ [])
 nested = if_else Empty (Nop ∷ []) (Loop (Value I32) ∷ Br 0 ∷ End ∷ []) [] (plain Nop [] tt none)
     (loop (Value I32) (Br 0 ∷ []) [] (plain (Br 0) [] tt none) none) none

@@ -104,7 +104,8 @@ pub data Nests : List Instr → Type 0 where
   -- if bt in* end
   if_then : (type : BlockType) (inside rest : List Instr) → Nests inside → Nests rest → Nests (If type ∷ inside ++ End ∷ rest)
   -- if bt in* else in* end
-  if_else : (type : BlockType) (first second rest : List Instr) → Nests first → Nests second → Nests rest → Nests (If type ∷ first ++ Else ∷ second ++ End ∷ rest)
+  if_else : (type : BlockType) (first second rest : List Instr) → Nests first → Nests second → Nests rest
+      → Nests (If type ∷ first ++ Else ∷ second ++ End ∷ rest)
 
 -- expr: items that nest, and then an `end` (section 5.4.6)
 abbrev pub expression : List Instr → Spellings

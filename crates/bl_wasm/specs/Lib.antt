@@ -5,7 +5,11 @@ pub mod Limits
 pub mod Linked
 pub mod Modules
 pub mod Nesting
+pub mod Reached
+pub mod Renaming
 pub mod Sections
+pub mod Sequences
+pub mod TypedPlaces
 pub mod Types
 pub mod Typing
 pub mod Validity

@@ -160,7 +160,8 @@ pub record Ends (one : Open) (outer : List Open) (from : List WasmType) (inner :
   pub behind : to ≡ one.lower ++ one.type.results
 
 -- a plain item stands
-pub record Stays (c : Context) (item : Instr) (outer : List Open) (from : List WasmType) (inner : List Open) (to : List WasmType) : Type 0 where
+pub record Stays (c : Context) (item : Instr) (outer : List Open) (from : List WasmType) (inner : List Open)
+    (to : List WasmType) : Type 0 where
   pub inside : inner ≡ outer
   pub rule : Plain c (labels c outer) item from to
 

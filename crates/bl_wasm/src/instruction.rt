@@ -19,7 +19,7 @@ pub enum Instr {
     Loop(BlockType),
     /// `if` with its type.
     If(BlockType),
-    /// `else`: the first part of an if ends, and the second one begins.
+    /// `else`: the then part of an if ends, and its else part begins.
     Else,
     /// `end` of a block, a loop or an if.
     End,

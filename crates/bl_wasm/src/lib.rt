@@ -20,6 +20,3 @@ pub use module::{
 };
 pub use targets::Targets;
 pub use types::{BlockType, FuncType, GlobalType, Limits, WasmType};
-
-#[cfg(test)]
-mod tests;

@@ -21,3 +21,5 @@ mod validate;
 mod validate_bodies;
 #[cfg(test)]
 mod validate_modules;
+#[cfg(test)]
+mod wasm;

@@ -1,5 +1,5 @@
-use super::*;
 use bl_base::List;
+use bl_wasm::{Exports, Instr, Linked, Tree};
 use std::mem::size_of;
 use std::test::Fail;
 
