@@ -15,4 +15,3 @@ mod supported;
 
 pub use error::DecodeError;
 pub use module::decode;
-

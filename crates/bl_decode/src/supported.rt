@@ -4,8 +4,8 @@ ghost use Rattle.bl_wasm.specs.Validity.{IsInteger, HasIntegerType};
 ghost use Rattle.bl_decode.specs.Supported.{IsIntegerCode, IsIntegerFunction, IsIntegerImport, IsIntegerInstr, IsSupported};
 
 use bl_wasm::{
-    BlockType, Code, DataSegment, DefinedGlobal, ElementSegment, FuncType, Import, ImportKind, Instr,
-    LocalRun, Module, WasmType,
+    BlockType, Code, DataSegment, DefinedGlobal, ElementSegment, FuncType, Import, ImportKind,
+    Instr, LocalRun, Module, WasmType,
 };
 
 /// Whether the type is one of integers.

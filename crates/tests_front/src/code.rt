@@ -1,6 +1,6 @@
 use bl_code::{
-    CodeError, Index, read_block_type, read_expression, read_instr, read_limits, read_name,
-    read_sized, read_vec,
+    CodeError, Index, Malformed, read_block_type, read_expression, read_instr, read_limits,
+    read_name, read_sized, read_vec,
 };
 use bl_ops::{AccessKind, Op};
 use bl_wasm::{BlockType, Instr, Limits, MemoryArgument, WasmType};
@@ -42,7 +42,7 @@ static BLOCK_TYPES: [(&[u8], Option<(BlockType, usize)>); 21] = [
 #[test]
 fn a_block_type_is_nothing_a_value_type_or_an_index(rt: HostRuntime) -> Result<(), Fail> {
     for (bytes, found) in BLOCK_TYPES.iter() {
-        let expected = found.ok_or(CodeError::Malformed);
+        let expected = found.ok_or(Malformed);
         assert!(rt; read_block_type(bytes, 0) == expected);
     }
     let alloc = rt.alloc();
@@ -89,36 +89,38 @@ fn instructions_are_those_of_the_opcode_table(rt: HostRuntime) -> Result<(), Fai
     Ok(())
 }
 
+/// Bytes that begin no instruction.
+static NO_INSTRUCTIONS: [&[u8]; 19] = [
+    &[],
+    // immediates that end early
+    &[0x41],
+    &[0x42, 0x80],
+    &[0x0C],
+    &[0x20, 0x80],
+    &[0x28, 0x02],
+    &[0x2A, 0x02],
+    &[0x43, 0x00, 0x00, 0x00],
+    &[0x44, 0x00, 0x00, 0x00, 0x00, 0x00, 0x00, 0x00],
+    // reserved immediates that aren't zero
+    &[0x11, 0x00, 0x01],
+    &[0x3F, 0x01],
+    &[0x40, 0x80, 0x00],
+    // codes of no instruction
+    &[0x06],
+    &[0x12],
+    &[0xC5],
+    // no block type
+    &[0x02, 0x7B],
+    // labels that end early
+    &[0x0E, 0x01, 0x00],
+    &[0x0E, 0xFF, 0xFF, 0xFF, 0xFF, 0x0F, 0x00, 0x00],
+    // an index of more than 32 bits
+    &[0x10, 0x80, 0x80, 0x80, 0x80, 0x10],
+];
+
 #[test]
 fn what_begins_no_instruction_is_malformed(rt: HostRuntime) -> Result<(), Fail> {
-    let spellings: [&[u8]; 19] = [
-        &[],
-        // immediates that end early
-        &[0x41],
-        &[0x42, 0x80],
-        &[0x0C],
-        &[0x20, 0x80],
-        &[0x28, 0x02],
-        &[0x2A, 0x02],
-        &[0x43, 0x00, 0x00, 0x00],
-        &[0x44, 0x00, 0x00, 0x00, 0x00, 0x00, 0x00, 0x00],
-        // reserved immediates that aren't zero
-        &[0x11, 0x00, 0x01],
-        &[0x3F, 0x01],
-        &[0x40, 0x80, 0x00],
-        // codes of no instruction
-        &[0x06],
-        &[0x12],
-        &[0xC5],
-        // no block type
-        &[0x02, 0x7B],
-        // labels that end early
-        &[0x0E, 0x01, 0x00],
-        &[0x0E, 0xFF, 0xFF, 0xFF, 0xFF, 0x0F, 0x00, 0x00],
-        // an index of more than 32 bits
-        &[0x10, 0x80, 0x80, 0x80, 0x80, 0x10],
-    ];
-    for bytes in spellings {
+    for bytes in NO_INSTRUCTIONS.iter() {
         let found = read_instr(rt.alloc(), bytes, 0);
         assert!(rt; matches!(found, Err(CodeError::Malformed)));
     }
@@ -156,7 +158,7 @@ fn values_types_and_vectors_are_read(rt: HostRuntime) -> Result<(), Fail> {
         max: Some(128),
     };
     assert!(rt; read_limits(&[0x01, 0x01, 0x80, 0x01], 0) == Ok((limits, 4)));
-    assert!(rt; read_limits(&[0x02, 0x01], 0) == Err(CodeError::Malformed));
+    assert!(rt; read_limits(&[0x02, 0x01], 0) == Err(Malformed));
     let found = read_vec::<Index>(alloc, &[0x02, 0x07, 0x87, 0x00], 0);
     assert!(rt; matches!(&found, Ok((list, 4)) if list.as_slice() == [7, 7].as_slice()));
     assert!(rt; read_sized::<Index>(alloc, &[0x02, 0x87, 0x00], 0) == Ok((7, 3)));

@@ -80,7 +80,7 @@ fn a_size_of_five_bytes_gives_the_same_tree(rt: HostRuntime) -> Result<(), Fail>
 }
 
 /// Sections that break one rule of the grammar each.
-static MALFORMED: [&[u8]; 22] = [
+static MALFORMED: [&[u8]; 24] = [
     // an id of no section, and a section longer than the module
     &[0x0C, 0x01, 0x00],
     &[0x01, 0x05, 0x01, 0x60, 0x00, 0x00],
@@ -113,8 +113,12 @@ static MALFORMED: [&[u8]; 22] = [
     // an offset without its end, and fewer bytes than a segment counts
     &[0x09, 0x04, 0x01, 0x00, 0x41, 0x00],
     &[0x0B, 0x06, 0x01, 0x00, 0x41, 0x00, 0x0B, 0x01],
-    // code without a function
-    &CODE,
+    // code without a function, a section that stands twice, and 2^32 - 1 types
+    &[0x0A, 0x04, 0x01, 0x02, 0x00, 0x0B],
+    &[
+        0x01, 0x04, 0x01, 0x60, 0x00, 0x00, 0x01, 0x04, 0x01, 0x60, 0x00, 0x00,
+    ],
+    &[0x01, 0x05, 0xFF, 0xFF, 0xFF, 0xFF, 0x0F],
 ];
 
 #[test]
@@ -153,98 +157,80 @@ fn a_type_has_at_most_1024_results(rt: HostRuntime) -> Result<(), Fail> {
     Ok(())
 }
 
+/// Code of one function of the first type, each with something that isn't supported.
+static UNSUPPORTED: [&[u8]; 2] = [
+    // a constant float, and a block of a float
+    &[
+        0x0A, 0x09, 0x01, 0x07, 0x00, 0x43, 0x00, 0x00, 0x00, 0x00, 0x0B,
+    ],
+    &[0x0A, 0x07, 0x01, 0x05, 0x00, 0x02, 0x7C, 0x0B, 0x0B],
+];
+
 #[test]
-fn each_refusal_has_its_cause(rt: HostRuntime) -> Result<(), Fail> {
+fn floats_and_start_functions_are_unsupported(rt: HostRuntime) -> Result<(), Fail> {
+    let alloc = rt.alloc();
+    let unsupported = Some(DecodeError::Unsupported);
+    for code in UNSUPPORTED.iter() {
+        assert_eq!(rt; refusal(alloc, &[&TYPE, &FUNCTION, code])?, unsupported);
+    }
+    let float = [0x01, 0x05, 0x01, 0x60, 0x01, 0x7C, 0x00];
+    assert_eq!(rt; refusal(alloc, &[&float])?, unsupported);
+    let start = [0x08, 0x01, 0x00];
+    assert_eq!(rt;
+        refusal(alloc, &[&TYPE, &FUNCTION, &start, &CODE])?,
+        unsupported
+    );
+    // an extension by sign is supported
+    let extension = [0x0A, 0x05, 0x01, 0x03, 0x00, 0xC0, 0x0B];
+    assert_eq!(rt; refusal(alloc, &[&TYPE, &FUNCTION, &extension])?, None);
+    Ok(())
+}
+
+/// Code of one function of the first type that isn't in the grammar.
+static MALFORMED_CODE: [&[u8]; 5] = [
+    // shorter than its size
+    &[0x0A, 0x05, 0x01, 0x03, 0x00, 0x0B, 0x0B],
+    // 2^32 locals
+    &[
+        0x0A, 0x0C, 0x01, 0x0A, 0x02, 0xFF, 0xFF, 0xFF, 0xFF, 0x0F, 0x7F, 0x01, 0x7F, 0x0B,
+    ],
+    // a block type that is a negative number, an else in a block, and items without their end
+    &[0x0A, 0x08, 0x01, 0x06, 0x00, 0x02, 0xC0, 0x7F, 0x0B, 0x0B],
+    &[0x0A, 0x08, 0x01, 0x06, 0x00, 0x02, 0x40, 0x05, 0x0B, 0x0B],
+    &[0x0A, 0x05, 0x01, 0x03, 0x00, 0x01, 0x01],
+];
+
+#[test]
+fn sections_stand_in_their_order(rt: HostRuntime) -> Result<(), Fail> {
     let alloc = rt.alloc();
     let malformed = Some(DecodeError::Malformed);
     let custom = [0x00, 0x03, 0x01, 0x61, 0xFF];
-    let table: [(&[&[u8]], Option<DecodeError>); 16] = [
-        (&[&custom, &TYPE, &custom, &FUNCTION, &CODE, &custom], None),
-        // sections out of order, and of unequal counts
-        (&[&FUNCTION, &TYPE, &CODE], malformed),
-        (&[&TYPE, &FUNCTION], malformed),
-        (&[&TYPE, &TYPE], malformed),
-        // a name that isn't UTF-8
-        (&[&[0x00, 0x02, 0x01, 0xFF]], malformed),
-        // 2^32 - 1 types
-        (&[&[0x01, 0x05, 0xFF, 0xFF, 0xFF, 0xFF, 0x0F]], malformed),
-        // a section longer than its contents, and code shorter than its size
-        (&[&[0x01, 0x05, 0x01, 0x60, 0x00, 0x00, 0x00]], malformed),
-        (
-            &[
-                &TYPE,
-                &FUNCTION,
-                &[0x0A, 0x05, 0x01, 0x03, 0x00, 0x0B, 0x0B],
-            ],
-            malformed,
-        ),
-        // 2^32 locals
-        (
-            &[
-                &TYPE,
-                &FUNCTION,
-                &[
-                    0x0A, 0x0C, 0x01, 0x0A, 0x02, 0xFF, 0xFF, 0xFF, 0xFF, 0x0F, 0x7F, 0x01, 0x7F,
-                    0x0B,
-                ],
-            ],
-            malformed,
-        ),
-        // an extension by sign
-        (
-            &[
-                &TYPE,
-                &FUNCTION,
-                &[0x0A, 0x05, 0x01, 0x03, 0x00, 0xC0, 0x0B],
-            ],
-            None,
-        ),
-        // a type of floats, a start function, a constant float, a block of a float
-        (
-            &[&[0x01, 0x05, 0x01, 0x60, 0x01, 0x7C, 0x00]],
-            Some(DecodeError::Unsupported),
-        ),
-        (
-            &[&TYPE, &FUNCTION, &[0x08, 0x01, 0x00], &CODE],
-            Some(DecodeError::Unsupported),
-        ),
-        (
-            &[
-                &TYPE,
-                &FUNCTION,
-                &[
-                    0x0A, 0x09, 0x01, 0x07, 0x00, 0x43, 0x00, 0x00, 0x00, 0x00, 0x0B,
-                ],
-            ],
-            Some(DecodeError::Unsupported),
-        ),
-        (
-            &[
-                &TYPE,
-                &FUNCTION,
-                &[0x0A, 0x07, 0x01, 0x05, 0x00, 0x02, 0x7C, 0x0B, 0x0B],
-            ],
-            Some(DecodeError::Unsupported),
-        ),
-        // a table of 1,025 slots, and a memory of 257 pages
-        (
-            &[&[0x04, 0x05, 0x01, 0x70, 0x00, 0x81, 0x08]],
-            Some(DecodeError::Limit {
-                which: Quantity::Table,
-                value: 1025,
-            }),
-        ),
-        (
-            &[&[0x05, 0x04, 0x01, 0x00, 0x81, 0x02]],
-            Some(DecodeError::Limit {
-                which: Quantity::Memory,
-                value: 257,
-            }),
-        ),
-    ];
-    for (sections, cause) in table {
-        assert_eq!(rt; refusal(alloc, sections)?, cause);
+    let whole: [&[u8]; 6] = [&custom, &TYPE, &custom, &FUNCTION, &CODE, &custom];
+    assert_eq!(rt; refusal(alloc, &whole)?, None);
+    assert_eq!(rt; refusal(alloc, &[&FUNCTION, &TYPE, &CODE])?, malformed);
+    assert_eq!(rt; refusal(alloc, &[&TYPE, &FUNCTION])?, malformed);
+    assert_eq!(rt; refusal(alloc, &[&TYPE, &TYPE])?, malformed);
+    for code in MALFORMED_CODE.iter() {
+        assert_eq!(rt; refusal(alloc, &[&TYPE, &FUNCTION, code])?, malformed);
     }
+    Ok(())
+}
+
+#[test]
+fn a_table_and_a_memory_have_limits(rt: HostRuntime) -> Result<(), Fail> {
+    let alloc = rt.alloc();
+    let table = DecodeError::Limit {
+        which: Quantity::Table,
+        value: 1025,
+    };
+    let slots = [0x04, 0x05, 0x01, 0x70, 0x00, 0x81, 0x08];
+    assert_eq!(rt; refusal(alloc, &[&slots])?, Some(table));
+    let memory = DecodeError::Limit {
+        which: Quantity::Memory,
+        value: 257,
+    };
+    let pages = [0x05, 0x04, 0x01, 0x00, 0x81, 0x02];
+    assert_eq!(rt; refusal(alloc, &[&pages])?, Some(memory));
     Ok(())
 }
 
