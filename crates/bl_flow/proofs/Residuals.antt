@@ -1,8 +1,9 @@
 -- Walks of residual arcs are walks of links with room, behind one link to a start.
-use Rattle.std.proofs.Common.{◌≡◌, ℕ, zero, suc, ◌+◌, ◌-◌, ◌*◌, ◌^◌, ◌<◌, ◌≤◌, List, [], ◌++◌, length, map, Option, Some, None, unwrap_or, take, drop, refl, sym, ap, subst, ◌∙◌, arith, ◌⊎◌, inl, inr, slice_index}
+use Rattle.std.proofs.Common.{◌≡◌, ℕ, zero, suc, ◌+◌, ◌-◌, ◌*◌, ◌^◌, ◌<◌, ◌≤◌, List, [], ◌++◌, length, map, Option, Some, None, unwrap_or, take, drop, refl, sym, ap, subst, ◌∙◌, arith, ◌⊎◌, inl, inr, slice_index, replicate}
 use Rattle.std.specs.List.{All, Contains}
 use Rattle.std.proofs.lemmas.Bool.{cases_lt}
-use Rattle.std.proofs.lemmas.List.{get_or-take, get_or-drop, get_or_append_left, get_or-append-add, get_or-append_right, get_or-map, get_or_default, length-append, length-map}
+use Rattle.std.proofs.lemmas.Grind.{same_number_lists}
+use Rattle.std.proofs.lemmas.List.{length-take-le, length-drop, length-replicate, get_or-replicate, get_or-take, get_or-drop, get_or_append_left, get_or-append-add, get_or-append_right, get_or-map, get_or_default, length-append, length-map}
 use Rattle.std.proofs.lemmas.List.Elements.{All-append, All-map, All-weaker, All-contains, All-get_or, All-contains_itself}
 use Rattle.bl_flow.specs.declared.network.Arc.{Arc}
 use Rattle.bl_flow.specs.declared.network.Network.{Network}
@@ -11,12 +12,14 @@ use Rattle.bl_flow.specs.Networks.{size, weight_at, HasArc, InRange}
 use Rattle.bl_flow.specs.Split.{in_part, out_part, node_link, arc_link, start_link, end_link, links_of, both_ways, link_at, turned, capacity}
 use Rattle.bl_flow.specs.Flows.{link_count, carried_by, IsFlow}
 use Rattle.bl_flow.specs.Levels.{IsReached, here, onward, level_at, AreLevels}
+use Rattle.bl_flow.specs.Packed.{lowered}
+use Rattle.bl_flow.proofs.Levelling.{some_same, none_some, level_in}
 use Rattle.bl_flow.specs.Residuals.{Loaded, loaded_by, arc_at, IsResidualArc, through, back, along, against, ResidualWalk, at_start, go_on, AreLevelsOf}
 use Rattle.bl_flow.proofs.Links.{node_at, nodes_part, nodes_length, outer_part, count_of, unbounded_behind, arc_place, start_place}
 use Rattle.bl_flow.proofs.BothWays.{both_count, forward_at, turned_at, place_cases}
 
 module _ (n : Network) where
-  abbrev borders : List Link
+  abbrev pub borders : List Link
   borders = map (start_link (size n)) n.starts ++ map (end_link (size n)) n.ends
 
   -- a link along an arc
@@ -35,9 +38,9 @@ module _ (n : Network) where
       omega arith
 
   -- a link behind those
-  data IsBehind (link : Link) : Type 0 where
+  pub data IsBehind (link : Link) : Type 0 where
     to_start : (s : ℕ) → Contains n.starts s → link ≡ start_link (size n) s → IsBehind link
-    from_end : (e : ℕ) → link ≡ end_link (size n) e → IsBehind link
+    from_end : (e : ℕ) → Contains n.ends e → link ≡ end_link (size n) e → IsBehind link
 
   starts_behind : All IsBehind (map (start_link (size n)) n.starts)
   starts_behind =
@@ -50,10 +53,10 @@ module _ (n : Network) where
   ends_behind =
       let P : ℕ → Type 0 = λ v. Contains n.ends v in
       let Q : ℕ → Type 0 = λ v. IsBehind (end_link (size n) v) in
-      let each : (v : ℕ) → P v → Q v = λ v h. from_end v refl in
+      let each : (v : ℕ) → P v → Q v = λ v h. from_end v h refl in
       All-map IsBehind (end_link (size n)) n.ends (All-weaker P Q each n.ends (All-contains_itself n.ends))
 
-  behind_at : (k : ℕ) → size n + length n.arcs ≤ k → k < link_count n → IsBehind (link_at (links_of n) k)
+  pub behind_at : (k : ℕ) → size n + length n.arcs ≤ k → k < link_count n → IsBehind (link_at (links_of n) k)
   behind_at k above below =
       let front = nodes_length n in
       let count = count_of n in
@@ -65,12 +68,12 @@ module _ (n : Network) where
       (All-get_or IsBehind borders (k - size n - length n.arcs) (record { from = 0; to = 0; enters = None }) (omega arith) (All-append IsBehind (map (start_link (size n)) n.starts) (map (end_link (size n)) n.ends) starts_behind ends_behind))
 
   -- each link by its place
-  data KindAt (k : ℕ) (link : Link) : Type 0 where
+  pub data KindAt (k : ℕ) (link : Link) : Type 0 where
     is_node : k < size n → link ≡ node_link k → KindAt k link
     is_arc : (a : ℕ) → a < length n.arcs → k ≡ size n + a → link ≡ arc_link (arc_at n a) → KindAt k link
     is_behind : size n ≤ k → IsBehind link → KindAt k link
 
-  kind_at : (k : ℕ) → k < link_count n → KindAt k (link_at (links_of n) k)
+  pub kind_at : (k : ℕ) → k < link_count n → KindAt k (link_at (links_of n) k)
   kind_at k lt =
       elim (cases_lt k (size n)) as (λ _. KindAt k (link_at (links_of n) k)) [
         | inl low ↦ is_node low (node_at n k low)
@@ -102,7 +105,7 @@ module _ (n : Network) where
     pub carried_is : (a : ℕ) → a < length n.arcs → slice_index r.carried a ≡ carried_by n rooms (size n + a)
     carried_is a lt = get_or-take (length n.arcs) (drop (link_count n + size n) rooms) a 0 lt ∙ get_or-drop (link_count n + size n) rooms a 0 ∙ ap (slice_index rooms) (omega arith)
 
-    arc_ends : (a : ℕ) → a < length n.arcs → ((arc_at n a).from < size n) × ((arc_at n a).to < size n)
+    pub arc_ends : (a : ℕ) → a < length n.arcs → ((arc_at n a).from < size n) × ((arc_at n a).to < size n)
     arc_ends a lt = All-get_or (λ w. (w.from < size n) × (w.to < size n)) n.arcs a (record { from = 0; to = 0 }) lt range.arcs
 
     has_arc : (a : ℕ) → a < length n.arcs → HasArc n (arc_at n a).from (arc_at n a).to
@@ -142,7 +145,7 @@ module _ (n : Network) where
     forward steps part k link (is_behind high (to_start s start e)) room before to inside =
         let is : in_part s ≡ part = sym (ap (λ l. l.to) e) ∙ to in
         subst (Shorter (suc steps)) is (record { count = 0; less = omega arith; walk = at_start s start })
-    forward steps part k link (is_behind high (from_end s e)) room before to inside =
+    forward steps part k link (is_behind high (from_end s last e)) room before to inside =
         let is : out_part (size n) ≡ part = sym (ap (λ l. l.to) e) ∙ to in
         absurd (omega arith)
 
@@ -165,7 +168,7 @@ module _ (n : Network) where
     backward steps part k link (is_behind high (to_start s start e)) some before goes from inside =
         let is : in_part (size n) ≡ part = sym (ap (λ l. l.from) e) ∙ from in
         absurd (omega arith)
-    backward steps part k link (is_behind high (from_end s e)) some before goes from inside = absurd (goes (ap (λ l. l.to) e))
+    backward steps part k link (is_behind high (from_end s last e)) some before goes from inside = absurd (goes (ap (λ l. l.to) e))
 
     pub walk_out : (steps part : ℕ) → IsReached links rooms root end steps part → part < 2 * size n → Shorter steps part
     walk_out _ _ here inside = absurd (omega arith)
@@ -234,3 +237,61 @@ module _ (n : Network) where
         let place = start_place n s start in
         by_link 0 root (in_part s) place.0 (start_link (size n) s) place.1 place.3 (always_room place.0 place.1 (unbounded_behind n place.0 place.2)) refl refl (λ q. omega arith) here
     walk_in _ _ (go_on steps from to walk arc) = by_arc (suc steps) from to arc (walk_in steps from walk)
+
+    walk_inside : (steps place : ℕ) → ResidualWalk r steps place → place < 2 * size n
+    walk_inside _ _ (at_start s start) = let lt = All-contains (λ v. v < size n) n.starts s range.starts start in omega arith
+    walk_inside _ _ (go_on steps from _ walk (through v lt more)) = omega arith
+    walk_inside _ _ (go_on steps from _ walk (back v lt some)) = omega arith
+    walk_inside _ _ (go_on steps from _ walk (along u v arc)) =
+        let ends_ = All-contains (λ w. (w.from < size n) × (w.to < size n)) n.arcs (record { from = u; to = v }) range.arcs arc in
+        let low = ends_.1 in
+        omega arith
+    walk_inside _ _ (go_on steps from _ walk (against a lt some)) = let ends_ = arc_ends a lt in let low = ends_.0 in omega arith
+
+    lower_inverse : (o : Option ℕ) (d : ℕ) → lowered o ≡ Some d → (l : ℕ) × (o ≡ Some l) × (l - 1 ≡ d)
+    lower_inverse None d e = absurd (none_some e)
+    lower_inverse (Some l) d e = (l, refl, some_same e)
+
+    -- the levels of parts, counted from the starts' in places, are those of the residual network
+    pub levels_out : (levels shown : List (Option ℕ)) → AreLevels links rooms root end levels → length shown ≡ 2 * size n
+        → ((p : ℕ) → p < 2 * size n → level_at shown p ≡ lowered (level_at levels p)) → AreLevelsOf r shown
+    levels_out levels shown are count each = record {
+      places = count;
+      sound = λ place d is.
+          let inside = level_in shown place d is in
+          let l = lower_inverse (level_at levels place) d (sym (each place (omega arith)) ∙ is) in
+          let s = walk_out l.0 place (are.sound place l.0 l.1) (omega arith) in
+          let again = are.least place (suc s.count) (walk_in s.count place s.walk) in
+          let same = some_same (sym again.1 ∙ l.1) in
+          let less = s.less in let most = again.2 in let lower = l.2 in
+          subst (λ c. ResidualWalk r c place) (omega arith) s.walk;
+      least = λ place steps walk.
+          let l = are.least place (suc steps) (walk_in steps place walk) in
+          let most = l.2 in
+          (l.0 - 1, each place (walk_inside steps place walk) ∙ ap lowered l.1, omega arith);
+    }
+
+-- where nothing flows, nothing is carried and no node is loaded
+pub nothing_loaded : (n : Network) → InRange n → (rooms : List ℕ) → IsFlow n rooms 0
+    → ((loaded_by n rooms).loads ≡ replicate (size n) 0) × ((loaded_by n rooms).carried ≡ replicate (length n.arcs) 0)
+nothing_loaded n range rooms flow = (
+  same_number_lists (loaded_by n rooms).loads (replicate (size n) 0) (size_1 ∙ sym (length-replicate (size n) 0))
+  (λ k lt. let inside : k < size n = let s = size_1 in omega arith in let none = flow.most k (let c = count_of n in omega arith) in
+  load_is n range rooms 0 flow (omega arith) k inside ∙ le_zero none ∙ sym (get_or-replicate (size n) k 0 0 inside)),
+  same_number_lists (loaded_by n rooms).carried (replicate (length n.arcs) 0) (size_2 ∙ sym (length-replicate (length n.arcs) 0))
+  (λ k lt. let inside : k < length n.arcs = let s = size_2 in omega arith in let none = flow.most (size n + k) (arcs_within n k inside) in
+  carried_is n range rooms 0 flow (omega arith) k inside ∙ le_zero none ∙ sym (get_or-replicate (length n.arcs) k 0 0 inside)),
+)
+  where
+    le_zero : {x : ℕ} → x ≤ 0 → x ≡ 0
+    le_zero le = omega arith
+
+    size_1 : length (loaded_by n rooms).loads ≡ size n
+    size_1 = let c = count_of n in let p = flow.places in let d = length-drop (link_count n) rooms in length-take-le (size n) (drop (link_count n) rooms) (omega arith)
+
+    size_2 : length (loaded_by n rooms).carried ≡ length n.arcs
+    size_2 =
+        let c = count_of n in let p = flow.places in let d = length-drop (link_count n + size n) rooms in
+        let arcs = length-map n.arcs arc_link in
+        let all = length-append (map arc_link n.arcs) (borders n) in
+        length-take-le (length n.arcs) (drop (link_count n + size n) rooms) (omega arith)

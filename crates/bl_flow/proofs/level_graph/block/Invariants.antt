@@ -3,7 +3,7 @@ use Rattle.bl_flow.specs.Networks.{size, total_weight}
 use Rattle.bl_flow.specs.Levels.{height}
 use Rattle.bl_flow.specs.Rows.{reversed}
 use Rattle.bl_flow.proofs.Phases.{Phase}
-use Rattle.bl_flow.proofs.levels.block.Given as goal
+use Rattle.bl_flow.proofs.level_graph.block.Given as goal
 
 abbrev pub invariant-loop-count : goal.invariant-loop-count
 invariant-loop-count l = record {

@@ -6,8 +6,8 @@ use Rattle.bl_flow.proofs.Parts.{from_within, to_within}
 use Rattle.bl_flow.proofs.Filling.{at_most_total, halves_fit, rooms_of}
 use Rattle.bl_flow.proofs.Wiring.{rows_both, all_to}
 use Rattle.bl_flow.proofs.Phases.{Phase, IsBlocked, phase_begins, phase_more, phase_ends}
-use Rattle.bl_flow.proofs.levels.block.Goals as goal
-use Rattle.bl_flow.proofs.levels.block.Goals.{In_default, After-slice_known-in-loop-count-3-1}
+use Rattle.bl_flow.proofs.level_graph.block.Goals as goal
+use Rattle.bl_flow.proofs.level_graph.block.Goals.{In_default, After-slice_known-in-loop-count-3-1}
 
 pub loop-count-init : goal.loop-count-init
 loop-count-init c =
