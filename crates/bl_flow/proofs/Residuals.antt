@@ -187,10 +187,10 @@ module _ (n : Network) where
         ]
 
     -- a link without a bound always has room
-    always_room : (k : ℕ) → k < link_count n → capacity n k ≡ 2 ^ 63 → 0 < slice_index rooms k
+    pub always_room : (k : ℕ) → k < link_count n → capacity n k ≡ 2 ^ 63 → 0 < slice_index rooms k
     always_room k lt e = let fits = flow.fits k lt in let most = flow.most k lt in omega arith
 
-    by_link : (steps from to k : ℕ) (link : Link) → k < link_count n → link_at (links_of n) k ≡ link → 0 < slice_index rooms k → link.from ≡ from → link.to ≡ to → (from ≡ end → ⊥)
+    pub by_link : (steps from to k : ℕ) (link : Link) → k < link_count n → link_at (links_of n) k ≡ link → 0 < slice_index rooms k → link.from ≡ from → link.to ≡ to → (from ≡ end → ⊥)
         → IsReached links rooms root end steps from → IsReached links rooms root end (suc steps) to
     by_link steps from to k link lt is room f t goes before =
         let count = both_count (links_of n) in
