@@ -276,11 +276,11 @@ pub nothing_loaded : (n : Network) → InRange n → (rooms : List ℕ) → IsFl
     → ((loaded_by n rooms).loads ≡ replicate (size n) 0) × ((loaded_by n rooms).carried ≡ replicate (length n.arcs) 0)
 nothing_loaded n range rooms flow = (
   same_number_lists (loaded_by n rooms).loads (replicate (size n) 0) (size_1 ∙ sym (length-replicate (size n) 0))
-  (λ k lt. let inside : k < size n = let s = size_1 in omega arith in let none = flow.most k (let c = count_of n in omega arith) in
-  load_is n range rooms 0 flow (omega arith) k inside ∙ le_zero none ∙ sym (get_or-replicate (size n) k 0 0 inside)),
+      (λ k lt. let inside : k < size n = let s = size_1 in omega arith in let none = flow.most k (let c = count_of n in omega arith) in
+      load_is n range rooms 0 flow (omega arith) k inside ∙ le_zero none ∙ sym (get_or-replicate (size n) k 0 0 inside)),
   same_number_lists (loaded_by n rooms).carried (replicate (length n.arcs) 0) (size_2 ∙ sym (length-replicate (length n.arcs) 0))
-  (λ k lt. let inside : k < length n.arcs = let s = size_2 in omega arith in let none = flow.most (size n + k) (arcs_within n k inside) in
-  carried_is n range rooms 0 flow (omega arith) k inside ∙ le_zero none ∙ sym (get_or-replicate (length n.arcs) k 0 0 inside)),
+      (λ k lt. let inside : k < length n.arcs = let s = size_2 in omega arith in let none = flow.most (size n + k) (arcs_within n k inside) in
+      carried_is n range rooms 0 flow (omega arith) k inside ∙ le_zero none ∙ sym (get_or-replicate (length n.arcs) k 0 0 inside)),
 )
   where
     le_zero : {x : ℕ} → x ≤ 0 → x ≡ 0

@@ -112,7 +112,11 @@ pub fn levels(alloc: Global, r: &Residual) -> Result<List<Option<u64>>, NoMemory
 }
 
 /// The levels of the first so many parts, counted from the starts' in places.
-fn place_levels(alloc: Global, levels: &[Option<u64>], places: usize) -> Result<List<Option<u64>>, NoMemory>
+fn place_levels(
+    alloc: Global,
+    levels: &[Option<u64>],
+    places: usize,
+) -> Result<List<Option<u64>>, NoMemory>
     requires { places ≤ length levels.now }
     ensures places { IfOk result (λ list. length list ≡ places) }
     ensures each { IfOk result (λ list. (p : ℕ) → p < places → level_at list p ≡ lowered (level_at levels.now p)) }
