@@ -185,9 +185,9 @@ no_rows links = record {
   places = refl;
   rise = λ part lt. absurd (omega arith);
   within = λ part. elim (cases_lt part 1) as (λ _. slice_index (0 ∷ []) part ≤ 0) [
-      | inl low ↦ let e : part ≡ 0 = omega arith in let z : slice_index (0 ∷ []) part ≡ 0 = ap (slice_index (0 ∷ [])) e in omega arith
-      | inr high ↦ let z : slice_index (0 ∷ []) part ≡ 0 = get_or_past (0 ∷ []) part 0 high in omega arith
-    ];
+    | inl low ↦ let e : part ≡ 0 = omega arith in let z : slice_index (0 ∷ []) part ≡ 0 = ap (slice_index (0 ∷ [])) e in omega arith
+    | inr high ↦ let z : slice_index (0 ∷ []) part ≡ 0 = get_or_past (0 ∷ []) part 0 high in omega arith
+  ];
   last = refl;
   sound = λ part place lt. absurd (omega arith);
   full = λ part k lt. absurd (omega arith);
@@ -207,9 +207,9 @@ row_more links parts offsets entries after so_far row = record {
       elim (cases_lt part (parts + 1)) as (λ _. slice_index more part ≤ length after) [
         | inl low ↦ let a = old part low in let w = so_far.within part in omega arith
         | inr high ↦ elim (cases_eq part (parts + 1)) as (λ _. slice_index more part ≤ length after) [
-            | inl e ↦ let a = new part e in omega arith
-            | inr far ↦ let c = length-append offsets (length after ∷ []) in let p = so_far.places in let z = get_or_past more part 0 (omega arith) in omega arith
-          ]
+          | inl e ↦ let a = new part e in omega arith
+          | inr far ↦ let c = length-append offsets (length after ∷ []) in let p = so_far.places in let z = get_or_past more part 0 (omega arith) in omega arith
+        ]
       ];
   last = new (parts + 1) refl;
   sound = λ part place lt above below.

@@ -322,10 +322,11 @@ steps_back links carries rows end places way part k len parts hold trace fresh i
     let within : k < length links = subst (λ j. j < length links) entry sound.0 in
     let to : (link_at links k).to ≡ part = subst (λ j. (link_at links j).to ≡ part) entry sound.1 in
     let more = trace_more links (length carries) carries end places way part trace fresh inside k to (link_carries carries rows k some) some in
-    let less = less_off links (length carries) carries end places way part trace fresh inside k to parts lt in
-    (subst (λ l. OnTrace links (length carries) carries (set places part l) (way ++ k ∷ []) end (link_at links k).from) (sym e) more,
-    within,
-    subst (λ l. off_way links (set places part l) (way ++ k ∷ []) parts < off_way links places way parts) (sym e) (omega arith))
+    let less = less_off links (length carries) carries end places way part trace fresh inside k to parts lt in (
+      subst (λ l. OnTrace links (length carries) carries (set places part l) (way ++ k ∷ []) end (link_at links k).from) (sym e) more,
+      within,
+      subst (λ l. off_way links (set places part l) (way ++ k ∷ []) parts < off_way links places way parts) (sym e) (omega arith),
+    )
 
 -- a circle is taken off what is carried
 pub record Dropped (n : Network) (links : List Link) (carries after places way : List ℕ) (end part left : ℕ) : Type 0 where

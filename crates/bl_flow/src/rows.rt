@@ -95,7 +95,7 @@ pub fn rows_of(alloc: Global, links: &[Link], parts: usize) -> Result<Rows, NoMe
 {
     let chains = chains_of(alloc, links, parts)?;
     let mut offsets = Vec::new(alloc);
-    let mut entries = Vec::new(alloc);
+    let mut entries = Vec::with_capacity(alloc, links.len())?;
     offsets.push(0)?;
     for part in 0..parts {
         push_chain(&chains.before, chains.last[part], &mut entries)?;
@@ -110,7 +110,7 @@ fn chains_of(alloc: Global, links: &[Link], parts: usize) -> Result<Chains, NoMe
     ensures { IfOk result (λ chains. AreChained links.now parts (length links.now) chains.last.items chains.before.items) }
 {
     let mut last = no_links(alloc, parts)?;
-    let mut before = Vec::new(alloc);
+    let mut before = Vec::with_capacity(alloc, links.len())?;
     for (k, link) in links.iter().enumerate() {
         before.push(last[link.from])?;
         last[link.from] = Some(k);
@@ -122,7 +122,7 @@ fn chains_of(alloc: Global, links: &[Link], parts: usize) -> Result<Chains, NoMe
 fn no_links(alloc: Global, parts: usize) -> Result<Vec<Option<usize>>, NoMemory>
     ensures { IfOk result (λ last. last.items ≡ replicate parts None) }
 {
-    let mut last = Vec::new(alloc);
+    let mut last = Vec::with_capacity(alloc, parts)?;
     for _ in 0..parts {
         last.push(None)?;
     }

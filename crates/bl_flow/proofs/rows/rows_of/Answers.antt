@@ -7,7 +7,7 @@ use Rattle.bl_flow.proofs.rows.rows_of.Goals as goal
 pub loop-part-init : goal.loop-part-init
 loop-part-init c =
     let first : c.push.new.self.items ≡ 0 ∷ [] = c.in_ok-push.ensures.items ∙ ap (λ xs. xs ++ 0 ∷ []) c.new-offsets.ensures.items in
-    rw (first, c.new-entries.ensures.items) (no_rows c.args.links.now)
+    rw (first, c.in_ok-entries.ensures.items) (no_rows c.args.links.now)
 
 pub loop-part-preserved : goal.loop-part-preserved
 loop-part-preserved c =

@@ -1,0 +1,94 @@
+-- The level of the part behind all ends, and the levels of the ends' out places.
+use Rattle.std.proofs.Common.{◌≡◌, ℕ, zero, suc, ◌+◌, ◌-◌, ◌*◌, ◌^◌, ◌<◌, ◌≤◌, List, length, Option, Some, None, refl, sym, ap, subst, ◌∙◌, arith, inl, inr, slice_index}
+use Rattle.std.specs.List.{Contains}
+use Rattle.std.proofs.lemmas.List.Elements.{All-contains}
+use Rattle.bl_flow.specs.declared.network.Network.{Network}
+use Rattle.bl_flow.specs.declared.split.Link.{Link}
+use Rattle.bl_flow.specs.Networks.{size, InRange}
+use Rattle.bl_flow.specs.Split.{in_part, out_part, end_link, links_of, both_ways, link_at, turned}
+use Rattle.bl_flow.specs.Flows.{link_count, IsFlow}
+use Rattle.bl_flow.specs.Levels.{IsReached, here, onward, level_at, AreLevels, HasRisen}
+use Rattle.bl_flow.specs.Residuals.{Loaded, loaded_by, arc_at, ResidualWalk, AreLevelsOf, ReachesAnEnd, EndsHaveRisen}
+use Rattle.bl_flow.proofs.Links.{unbounded_behind, end_place}
+use Rattle.bl_flow.proofs.BothWays.{forward_at, turned_at, place_cases}
+use Rattle.bl_flow.proofs.Levelling.{some_same, none_some}
+use Rattle.bl_flow.proofs.Residuals.{IsBehind, to_start, from_end, KindAt, is_node, is_arc, is_behind, kind_at, arc_ends, walk_out, walk_in, by_link, always_room}
+
+-- a walk to the part behind all ends comes from the out place of an end
+pub record FromEnd (n : Network) (rooms : List ℕ) (steps : ℕ) : Type 0 where
+  pub end : ℕ
+  pub before : ℕ
+  pub is_end : Contains n.ends end
+  pub one : steps ≡ suc before
+  pub reached : IsReached (both_ways (links_of n)) rooms (in_part (size n)) (out_part (size n)) before (out_part end)
+
+module _ (n : Network) (range : InRange n) (rooms : List ℕ) (amount : ℕ) (flow : IsFlow n rooms amount) (small : amount < 2 ^ 63) where
+  abbrev root : ℕ
+  root = in_part (size n)
+
+  abbrev last : ℕ
+  last = out_part (size n)
+
+  abbrev links : List Link
+  links = both_ways (links_of n)
+
+  end_lt : (e : ℕ) → Contains n.ends e → e < size n
+  end_lt e is = All-contains (λ w. w < size n) n.ends e range.ends is
+
+  by_forward : (steps k : ℕ) (link : Link) → KindAt n k link → link.to ≡ last → IsReached links rooms root last steps link.from → FromEnd n rooms (suc steps)
+  by_forward steps k link (is_node lt e) to there = let f : out_part k ≡ last = sym (ap (λ l. l.to) e) ∙ to in absurd (omega arith)
+  by_forward steps k link (is_arc a lt place e) to there = let f : in_part (arc_at n a).to ≡ last = sym (ap (λ l. l.to) e) ∙ to in absurd (omega arith)
+  by_forward steps k link (is_behind high (to_start s start e)) to there = let f : in_part s ≡ last = sym (ap (λ l. l.to) e) ∙ to in absurd (omega arith)
+  by_forward steps k link (is_behind high (from_end s is e)) to there = record { end = s; before = steps; is_end = is; one = refl; reached = subst (IsReached links rooms root last steps) (ap (λ l. l.from) e) there }
+
+  not_back : (k : ℕ) (link : Link) → KindAt n k link → link.from ≡ last → ⊥
+  not_back k link (is_node lt e) from = let f : in_part k ≡ last = sym (ap (λ l. l.from) e) ∙ from in omega arith
+  not_back k link (is_arc a lt place e) from = let f : out_part (arc_at n a).from ≡ last = sym (ap (λ l. l.from) e) ∙ from in let low = (arc_ends n range rooms amount flow small a lt).0 in omega arith
+  not_back k link (is_behind high (to_start s start e)) from = let f : in_part (size n) ≡ last = sym (ap (λ l. l.from) e) ∙ from in omega arith
+  not_back k link (is_behind high (from_end s is e)) from = let f : out_part s ≡ last = sym (ap (λ l. l.from) e) ∙ from in let low = end_lt s is in omega arith
+
+  by_last : (steps part : ℕ) → IsReached links rooms root last steps part → part ≡ last → FromEnd n rooms steps
+  by_last _ _ here e = absurd (omega arith)
+  by_last _ _ (onward steps part k lt room there goes to) e =
+      elim (place_cases (links_of n) k lt) as (λ _. FromEnd n rooms (suc steps)) [
+        | inl low ↦
+            let same = forward_at (links_of n) k low in
+            by_forward steps k (link_at (links_of n) k) (kind_at n k low) (ap (λ l. l.to) (sym same) ∙ to ∙ e) (subst (λ l. IsReached links rooms root last steps l.from) same there)
+        | inr high ↦
+            let same : link_at links k ≡ turned (link_at (links_of n) high.0) = ap (link_at links) high.2 ∙ turned_at (links_of n) high.0 high.1 in
+            absurd (not_back high.0 (link_at (links_of n) high.0) (kind_at n high.0 high.1) (ap (λ l. l.to) (sym same) ∙ to ∙ e))
+      ]
+
+  to_last : (steps e : ℕ) → Contains n.ends e → ResidualWalk (loaded_by n rooms) steps (out_part e) → IsReached links rooms root last (suc (suc steps)) last
+  to_last steps e is walk =
+      let place = end_place n e is in
+      let lt = end_lt e is in
+      by_link n range rooms amount flow small (suc steps) (out_part e) last place.0 (end_link (size n) e) place.1 place.3
+      (always_room n range rooms amount flow small place.0 place.1 (unbounded_behind n place.0 place.2)) refl refl (λ q. omega arith) (walk_in n range rooms amount flow small steps (out_part e) walk)
+
+  module _ (levels all : List (Option ℕ)) (public_ : AreLevelsOf (loaded_by n rooms) levels) (are : AreLevels links rooms root last all) where
+    -- the least level that an end's out place has is two less
+    pub last_out : (d : ℕ) → level_at all last ≡ Some d → (e c : ℕ) × Contains n.ends e × (level_at levels (out_part e) ≡ Some c) × (c + 2 ≤ d)
+    last_out d is =
+        let from = by_last d last (are.sound last d is) refl in
+        let low = end_lt from.end from.is_end in
+        let s = walk_out n range rooms amount flow small from.before (out_part from.end) from.reached (omega arith) in
+        let c = public_.least (out_part from.end) s.count s.walk in
+        let a = s.less in let b = c.2 in let one = from.one in
+        (from.end, c.0, from.is_end, c.1, omega arith)
+
+    pub last_in : ReachesAnEnd n levels → (d : ℕ) × (level_at all last ≡ Some d)
+    last_in reaches =
+        let top = are.least last (suc (suc reaches.1)) (to_last reaches.1 reaches.0 reaches.2 (public_.sound (out_part reaches.0) reaches.1 reaches.3)) in
+        (top.0, top.1)
+
+pub ends_risen : (n : Network) (range : InRange n) (old new : List ℕ) (before after : ℕ) (flow : IsFlow n old before) (small : before < 2 ^ 63) → IsFlow n new after → after < 2 ^ 63
+    → (levels all : List (Option ℕ)) → AreLevelsOf (loaded_by n old) levels → AreLevels (both_ways (links_of n)) old (in_part (size n)) (out_part (size n)) all
+    → HasRisen (both_ways (links_of n)) new (in_part (size n)) all (out_part (size n)) → EndsHaveRisen (loaded_by n new) levels
+ends_risen n range old new before after flow small flow_now small_now levels all public_ are risen e steps is walk least other is_other level lowest =
+    let top = last_in n range old before flow small levels all public_ are (other, least, is_other, level) in
+    let out = last_out n range old before flow small levels all public_ are top.0 top.1 in
+    let low = lowest out.0 out.1 out.2 out.3 in
+    let up = risen top.0 (suc (suc steps)) top.1 (to_last n range new after flow_now small_now steps e is walk) in
+    let gap = out.4 in
+    omega arith

@@ -1,0 +1,24 @@
+-- How a residual network is packed.
+use Rattle.std.specs.Prelude.{◌≡◌, ℕ, ◌+◌, ◌-◌, ◌*◌, ◌^◌, ◌<◌, List, Option, Some, None, IsSome, length}
+use Rattle.bl_flow.specs.declared.network.Network.{Network}
+use Rattle.bl_flow.specs.declared.split.Link.{Link}
+use Rattle.bl_flow.specs.Networks.{size, weight_at, InRange, total_weight}
+use Rattle.bl_flow.specs.Cuts.{Meets}
+use Rattle.bl_flow.specs.Split.{links_of, both_ways}
+use Rattle.bl_flow.specs.Flows.{IsFlow}
+use Rattle.bl_flow.specs.Searches.{AreRows}
+
+-- the links both ways, row by row, with what each can still take in a flow of so much
+pub record IsPacked (n : Network) (links : List Link) (rows : List (List ℕ)) (rooms : List ℕ) (amount : ℕ) : Type 0 where
+  pub in_range : InRange n
+  pub bounded : Meets n (λ v. IsSome (weight_at n v))
+  pub total : total_weight n < 2 ^ 63
+  pub links_ : links ≡ both_ways (links_of n)
+  pub rows_ : AreRows links rows
+  pub parts : length rows ≡ 2 * size n + 2
+  pub flow : IsFlow n rooms amount
+
+-- a level counted from the starts' in places, where that of the part before them is 0
+abbrev pub lowered : Option ℕ → Option ℕ
+lowered None = None
+lowered (Some d) = Some (d - 1)

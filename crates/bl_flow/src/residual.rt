@@ -1,0 +1,139 @@
+//! Residual networks: where more can flow beside what flows.
+ghost use Rattle.std.specs.Prelude.{◌≡◌, ◌<◌, ◌≤◌, ◌^◌, ℕ, IsSome, length, replicate, IfOk};
+ghost use Rattle.bl_flow.specs.Networks.{InRange, weight_at, total_weight, size};
+ghost use Rattle.bl_flow.specs.Cuts.{Meets};
+ghost use Rattle.bl_flow.specs.Levels.{level_at};
+ghost use Rattle.bl_flow.specs.Packed.{lowered};
+ghost use Rattle.bl_flow.specs.Residuals.{IsLawful, amount_of, AreLevelsOf};
+
+use crate::level_graph::part_levels;
+use crate::network::Network;
+use crate::rows::{Rows, rows_of};
+use crate::split::{Link, empty_rooms, links_both_ways};
+use bl_base::{List, NoMemory};
+use std::alloc::Global;
+use std::marker::Model;
+
+/// The residual network of a lawful flow. Contracts see it as its network, the list of what each arc carries and the
+/// list of what each node is loaded with. Each node has an in place, twice its number, and an out place behind that.
+#[derive(Debug, Drop)]
+pub struct Residual {
+    network: Network,
+    /// The links both ways: the reverse of each of the first half stands as far on in the second one.
+    links: Vec<Link>,
+    rows: Rows,
+    /// What each link can still take.
+    rooms: Vec<u64>,
+    /// How much flows.
+    amount: u64,
+}
+
+impl Model for Residual {
+    ghost use Rattle.bl_flow.specs.Residuals.{Loaded, loaded_by};
+    ghost use Rattle.bl_flow.specs.Packed.{IsPacked};
+
+    ghost Value = { Loaded };
+
+    ghost view = { λ r. loaded_by r.network r.rooms.items };
+
+    ghost invariant = { λ r. IsPacked r.network r.links.items r.rows r.rooms.items r.amount };
+}
+
+impl Residual {
+    /// How much flows: the sum over all nodes of the load less what their arcs bring. Each flow is lawful: no node is
+    /// loaded over its weight, and its load is what its arcs bring, but at the starts, and what they take away, but at
+    /// the ends.
+    pub fn amount(&self) -> u64
+        ensures lawful { IsLawful self.now }
+        ensures amount { result ≡ amount_of self.now }
+    {
+        self.amount
+    }
+}
+
+/// The residual network in which nothing flows. The conditions are those of `max_flow`.
+pub fn pack(alloc: Global, n: &Network) -> Result<Residual, NoMemory>
+    requires in_range { InRange n.now }
+    requires bounded { Meets n.now (λ v. IsSome (weight_at n.now v)) }
+    requires total { total_weight n.now < 2 ^ 63 }
+    ensures network { IfOk result (λ r. r.network ≡ n.now) }
+    ensures carried { IfOk result (λ r. r.carried ≡ replicate (length n.now.arcs) 0) }
+    ensures loads { IfOk result (λ r. r.loads ≡ replicate (size n.now) 0) }
+{
+    let nodes = n.weights.as_slice().len();
+    let links = links_both_ways(alloc, n)?;
+    let rows = rows_of(alloc, &links, 2 * nodes + 2)?;
+    let rooms = empty_rooms(alloc, n, links.len() / 2)?;
+    let network = copy_of(alloc, n)?;
+    Ok(Residual {
+        network,
+        links,
+        rows,
+        rooms,
+        amount: 0,
+    })
+}
+
+/// The same network.
+fn copy_of(alloc: Global, n: &Network) -> Result<Network, NoMemory>
+    ensures { IfOk result (λ m. m ≡ n.now) }
+{
+    let weights = copied(alloc, n.weights.as_slice())?;
+    let arcs = copied(alloc, n.arcs.as_slice())?;
+    let starts = copied(alloc, n.starts.as_slice())?;
+    let ends = copied(alloc, n.ends.as_slice())?;
+    Ok(Network {
+        weights,
+        arcs,
+        starts,
+        ends,
+    })
+}
+
+/// The same values in the same order.
+fn copied<T: Copy + Drop>(alloc: Global, from: &[T]) -> Result<List<T>, NoMemory>
+    ensures { IfOk result (λ list. list ≡ from.now) }
+{
+    let mut list = List::new(alloc);
+    for x in from {
+        list.push(*x)?;
+    }
+    Ok(list)
+}
+
+/// For each place the least number of residual arcs from the in place of a start; None exactly where there is no walk.
+pub fn levels(alloc: Global, r: &Residual) -> Result<List<Option<u64>>, NoMemory>
+    ensures { IfOk result (λ levels. AreLevelsOf r.now levels) }
+{
+    let source = 2 * r.network.weights.as_slice().len();
+    let found = part_levels(alloc, &r.links, &r.rows, &r.rooms, source, source + 1)?;
+    let list = place_levels(alloc, &found, source)?;
+    Ok(list)
+}
+
+/// The levels of the first so many parts, counted from the starts' in places.
+fn place_levels(
+    alloc: Global,
+    levels: &[Option<u64>],
+    places: usize,
+) -> Result<List<Option<u64>>, NoMemory>
+    requires { places ≤ length levels.now }
+    ensures places { IfOk result (λ list. length list ≡ places) }
+    ensures each { IfOk result (λ list. (p : ℕ) → p < places → level_at list p ≡ lowered (level_at levels.now p)) }
+{
+    let mut list = Vec::new(alloc);
+    for p in 0..places {
+        list.push(lower(levels[p]))?;
+    }
+    Ok(List::of(list))
+}
+
+/// A level less by one.
+fn lower(level: Option<u64>) -> Option<u64>
+    ensures { result ≡ lowered level }
+{
+    match level {
+        Some(level) => Some(level.saturating_sub(1)),
+        None => None,
+    }
+}
