@@ -6,4 +6,3 @@ mod functions;
 mod parts;
 
 pub use alone::link_alone;
-

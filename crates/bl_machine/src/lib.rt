@@ -9,4 +9,3 @@ mod machine;
 mod stack;
 
 pub use interpreter::interp;
-

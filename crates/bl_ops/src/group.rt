@@ -320,10 +320,12 @@ impl Extension {
         ensures { result ≡ extension self 32 a }
     {
         match self {
-            Extension::Low8 => u64::from(i32::from(((a % 0x100) as u8).cast_signed()).cast_unsigned()),
-            Extension::Low16 => u64::from(
-                i32::from(((a % 0x1_0000) as u16).cast_signed()).cast_unsigned(),
-            ),
+            Extension::Low8 => u64::from(i32::from(
+                ((a % 0x100) as u8).cast_signed(),
+            ).cast_unsigned()),
+            Extension::Low16 => u64::from(i32::from(
+                ((a % 0x1_0000) as u16).cast_signed(),
+            ).cast_unsigned()),
             Extension::Low32 => u64::from(low(a)),
         }
     }

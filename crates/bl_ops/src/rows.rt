@@ -4,7 +4,9 @@ ghost use Rattle.bl_ops.specs.Numerics.{meaning, outside, select, traps};
 ghost use Rattle.bl_ops.specs.Table.{code_of, image_code_of, row_of, rows};
 ghost use Rattle.bl_ops.specs.declared.op.Op.{Op};
 
-use crate::group::{Arithmetic, Bitwise, Comparison, Conversion, Division, Extension, Shift, Unary, low};
+use crate::group::{
+    Arithmetic, Bitwise, Comparison, Conversion, Division, Extension, Shift, Unary, low,
+};
 use crate::op::{Op, OpRow, OpTable};
 use bl_base::{Trap, ValueType};
 

@@ -112,7 +112,8 @@ pub fn linked(alloc: Global, bytes: &[u8]) -> Result<Option<Linked>, Fail> {
 
 /// The types [i32] -> [i32] and [] -> [i32 i64]; a global i32 that is 7 at first; an exported function "f" that sets it and calls
 /// the first one, in which a block has the second type; and an export "g" of the global.
-static MODULE: &[u8] = b"\0asm\x01\0\0\0\x01\x0b\x02`\x01\x7f\x01\x7f`\0\x02\x7f~\x03\x03\x02\0\0\x06\x06\x01\x7f\x01A\x07\x0b\x07\x09\x02\x01f\0\x01\x01g\x03\0\n\x1a\x02\x0d\0\x02\x01A\x01B\x02\x0b\x1a\x1a \0\x0b\n\0 \0$\0#\0\x10\0\x0b";
+static MODULE: &[u8] =
+    b"\0asm\x01\0\0\0\x01\x0b\x02`\x01\x7f\x01\x7f`\0\x02\x7f~\x03\x03\x02\0\0\x06\x06\x01\x7f\x01A\x07\x0b\x07\x09\x02\x01f\0\x01\x01g\x03\0\n\x1a\x02\x0d\0\x02\x01A\x01B\x02\x0b\x1a\x1a \0\x0b\n\0 \0$\0#\0\x10\0\x0b";
 
 #[test]
 fn a_module_is_linked(rt: HostRuntime) -> Result<(), Fail> {

@@ -74,62 +74,79 @@ fn is_spent(alloc: Global, wasm: &[u8], args: &[u64], steps: u64) -> Result<bool
 }
 
 /// [i32] -> [i32]: local.get 0, i32.extend8_s.
-static EXTEND_8: &[u8] = b"\0asm\x01\0\0\0\x01\x06\x01`\x01\x7f\x01\x7f\x03\x02\x01\0\n\x07\x01\x05\0 \0\xc0\x0b";
+static EXTEND_8: &[u8] =
+    b"\0asm\x01\0\0\0\x01\x06\x01`\x01\x7f\x01\x7f\x03\x02\x01\0\n\x07\x01\x05\0 \0\xc0\x0b";
 
 /// [i32] -> [i32]: local.get 0, i32.extend16_s.
-static EXTEND_16: &[u8] = b"\0asm\x01\0\0\0\x01\x06\x01`\x01\x7f\x01\x7f\x03\x02\x01\0\n\x07\x01\x05\0 \0\xc1\x0b";
+static EXTEND_16: &[u8] =
+    b"\0asm\x01\0\0\0\x01\x06\x01`\x01\x7f\x01\x7f\x03\x02\x01\0\n\x07\x01\x05\0 \0\xc1\x0b";
 
 /// [i64] -> [i64]: local.get 0, i64.extend32_s.
-static EXTEND_32: &[u8] = b"\0asm\x01\0\0\0\x01\x06\x01`\x01~\x01~\x03\x02\x01\0\n\x07\x01\x05\0 \0\xc4\x0b";
+static EXTEND_32: &[u8] =
+    b"\0asm\x01\0\0\0\x01\x06\x01`\x01~\x01~\x03\x02\x01\0\n\x07\x01\x05\0 \0\xc4\x0b";
 
 /// [i32 i32] -> [i32 i32]: local.get 1, local.get 0.
-static SWAP: &[u8] = b"\0asm\x01\0\0\0\x01\x08\x01`\x02\x7f\x7f\x02\x7f\x7f\x03\x02\x01\0\n\x08\x01\x06\0 \x01 \0\x0b";
+static SWAP: &[u8] =
+    b"\0asm\x01\0\0\0\x01\x08\x01`\x02\x7f\x7f\x02\x7f\x7f\x03\x02\x01\0\n\x08\x01\x06\0 \x01 \0\x0b";
 
 /// [i32] -> [i32], type 0: local.get 0, loop (type 0), i32.const -1, i32.add, local.tee 0, local.get 0, br_if 0, end.
-static COUNT_DOWN: &[u8] = b"\0asm\x01\0\0\0\x01\x06\x01`\x01\x7f\x01\x7f\x03\x02\x01\0\n\x12\x01\x10\0 \0\x03\0A\x7fj\"\0 \0\x0d\0\x0b\x0b";
+static COUNT_DOWN: &[u8] =
+    b"\0asm\x01\0\0\0\x01\x06\x01`\x01\x7f\x01\x7f\x03\x02\x01\0\n\x12\x01\x10\0 \0\x03\0A\x7fj\"\0 \0\x0d\0\x0b\x0b";
 
 /// [i32] -> [i32], and type 1 is [i32 i32] -> [i32]: the numbers from the argument down are added up by a loop of type 1; the branch
 /// to it leaves a third value behind: i32.const 0, local.get 0, loop (type 1), local.set 0, local.set 1, i32.const 17, local.get 1,
 /// local.get 0, i32.add, local.get 0, i32.const -1, i32.add, local.tee 0, local.get 0, br_if 0, drop, local.set 1, drop,
 /// local.get 1, end.
-static SUM_BY_PARAMETERS: &[u8] = b"\0asm\x01\0\0\0\x01\x0c\x02`\x01\x7f\x01\x7f`\x02\x7f\x7f\x01\x7f\x03\x02\x01\0\n)\x01'\x01\x01\x7fA\0 \0\x03\x01!\0!\x01A\x11 \x01 \0j \0A\x7fj\"\0 \0\x0d\0\x1a!\x01\x1a \x01\x0b\x0b";
+static SUM_BY_PARAMETERS: &[u8] =
+    b"\0asm\x01\0\0\0\x01\x0c\x02`\x01\x7f\x01\x7f`\x02\x7f\x7f\x01\x7f\x03\x02\x01\0\n)\x01'\x01\x01\x7fA\0 \0\x03\x01!\0!\x01A\x11 \x01 \0j \0A\x7fj\"\0 \0\x0d\0\x1a!\x01\x1a \x01\x0b\x0b";
 
 /// [i32] -> [i32 i32], and type 1 is [] -> [i32 i32]: block (type 1), i32.const 5, block (type 1), i32.const 7, i32.const 8,
 /// i32.const 9, local.get 0, br_table 0 1 2, end, i32.add, end, i32.const 1, i32.add.
-static NESTED: &[u8] = b"\0asm\x01\0\0\0\x01\x0c\x02`\x01\x7f\x02\x7f\x7f`\0\x02\x7f\x7f\x03\x02\x01\0\n\x1d\x01\x1b\0\x02\x01A\x05\x02\x01A\x07A\x08A\x09 \0\x0e\x02\0\x01\x02\x0bj\x0bA\x01j\x0b";
+static NESTED: &[u8] =
+    b"\0asm\x01\0\0\0\x01\x0c\x02`\x01\x7f\x02\x7f\x7f`\0\x02\x7f\x7f\x03\x02\x01\0\n\x1d\x01\x1b\0\x02\x01A\x05\x02\x01A\x07A\x08A\x09 \0\x0e\x02\0\x01\x02\x0bj\x0bA\x01j\x0b";
 
 /// [i32 i32 i32] -> [i32], and type 1 is [i32 i32] -> [i32]: local.get 0, local.get 1, local.get 2, if (type 1), i32.sub, else, i32.add,
 /// end.
-static CHOOSE: &[u8] = b"\0asm\x01\0\0\0\x01\x0e\x02`\x03\x7f\x7f\x7f\x01\x7f`\x02\x7f\x7f\x01\x7f\x03\x02\x01\0\n\x10\x01\x0e\0 \0 \x01 \x02\x04\x01k\x05j\x0b\x0b";
+static CHOOSE: &[u8] =
+    b"\0asm\x01\0\0\0\x01\x0e\x02`\x03\x7f\x7f\x7f\x01\x7f`\x02\x7f\x7f\x01\x7f\x03\x02\x01\0\n\x10\x01\x0e\0 \0 \x01 \x02\x04\x01k\x05j\x0b\x0b";
 
 /// [i32 i32] -> [i32], and type 1 is [i32] -> [i32]: local.get 0, local.get 1, if (type 1), i32.const 5, i32.add, end.
-static THEN_ALONE: &[u8] = b"\0asm\x01\0\0\0\x01\x0c\x02`\x02\x7f\x7f\x01\x7f`\x01\x7f\x01\x7f\x03\x02\x01\0\n\x0e\x01\x0c\0 \0 \x01\x04\x01A\x05j\x0b\x0b";
+static THEN_ALONE: &[u8] =
+    b"\0asm\x01\0\0\0\x01\x0c\x02`\x02\x7f\x7f\x01\x7f`\x01\x7f\x01\x7f\x03\x02\x01\0\n\x0e\x01\x0c\0 \0 \x01\x04\x01A\x05j\x0b\x0b";
 
 /// [i32 i32] -> [i32]: local.get 0, local.get 1, call 1, i32.sub; and function 1 is `SWAP`.
-static CALL: &[u8] = b"\0asm\x01\0\0\0\x01\x0e\x02`\x02\x7f\x7f\x01\x7f`\x02\x7f\x7f\x02\x7f\x7f\x03\x03\x02\0\x01\n\x12\x02\x09\0 \0 \x01\x10\x01k\x0b\x06\0 \x01 \0\x0b";
+static CALL: &[u8] =
+    b"\0asm\x01\0\0\0\x01\x0e\x02`\x02\x7f\x7f\x01\x7f`\x02\x7f\x7f\x02\x7f\x7f\x03\x03\x02\0\x01\n\x12\x02\x09\0 \0 \x01\x10\x01k\x0b\x06\0 \x01 \0\x0b";
 
 /// [i32] -> [i32]: local.get 0, i32.const 1, i32.add.
-static ADD_ONE: &[u8] = b"\0asm\x01\0\0\0\x01\x06\x01`\x01\x7f\x01\x7f\x03\x02\x01\0\n\x09\x01\x07\0 \0A\x01j\x0b";
+static ADD_ONE: &[u8] =
+    b"\0asm\x01\0\0\0\x01\x06\x01`\x01\x7f\x01\x7f\x03\x02\x01\0\n\x09\x01\x07\0 \0A\x01j\x0b";
 
 /// [i32 i32] -> [i32]: local.get 0, local.get 1, i32.div_s.
-static QUOTIENT: &[u8] = b"\0asm\x01\0\0\0\x01\x07\x01`\x02\x7f\x7f\x01\x7f\x03\x02\x01\0\n\x09\x01\x07\0 \0 \x01m\x0b";
+static QUOTIENT: &[u8] =
+    b"\0asm\x01\0\0\0\x01\x07\x01`\x02\x7f\x7f\x01\x7f\x03\x02\x01\0\n\x09\x01\x07\0 \0 \x01m\x0b";
 
 /// [i32 i32] -> [i32]: local.get 0, local.get 1, i32.rem_s.
-static REMAINDER: &[u8] = b"\0asm\x01\0\0\0\x01\x07\x01`\x02\x7f\x7f\x01\x7f\x03\x02\x01\0\n\x09\x01\x07\0 \0 \x01o\x0b";
+static REMAINDER: &[u8] =
+    b"\0asm\x01\0\0\0\x01\x07\x01`\x02\x7f\x7f\x01\x7f\x03\x02\x01\0\n\x09\x01\x07\0 \0 \x01o\x0b";
 
 /// [i32] -> [i32]: calls itself as often as the argument says, and gives 7.
-static DEEP: &[u8] = b"\0asm\x01\0\0\0\x01\x06\x01`\x01\x7f\x01\x7f\x03\x02\x01\0\n\x13\x01\x11\0 \0\x04@ \0A\x01k\x10\0\x1a\x0bA\x07\x0b";
+static DEEP: &[u8] =
+    b"\0asm\x01\0\0\0\x01\x06\x01`\x01\x7f\x01\x7f\x03\x02\x01\0\n\x13\x01\x11\0 \0\x04@ \0A\x01k\x10\0\x1a\x0bA\x07\x0b";
 
 /// [i32] -> [i32] with a second local: adds up the numbers to the argument: block, loop, local.get 0, i32.eqz, br_if 1, local.get 1,
 /// local.get 0, i32.add, local.set 1, local.get 0, i32.const 1, i32.sub, local.set 0, br 0, end, end, local.get 1.
-static ADDING: &[u8] = b"\0asm\x01\0\0\0\x01\x06\x01`\x01\x7f\x01\x7f\x03\x02\x01\0\n#\x01!\x01\x01\x7f\x02@\x03@ \0E\x0d\x01 \x01 \0j!\x01 \0A\x01k!\0\x0c\0\x0b\x0b \x01\x0b";
+static ADDING: &[u8] =
+    b"\0asm\x01\0\0\0\x01\x06\x01`\x01\x7f\x01\x7f\x03\x02\x01\0\n#\x01!\x01\x01\x7f\x02@\x03@ \0E\x0d\x01 \x01 \0j!\x01 \0A\x01k!\0\x0c\0\x0b\x0b \x01\x0b";
 
 /// [i32] -> [i32]: branches out of as many blocks as the argument says and one more, at most out of three, with 40; behind their
 /// ends 1, 2 and 4 are added.
-static BRANCHING: &[u8] = b"\0asm\x01\0\0\0\x01\x06\x01`\x01\x7f\x01\x7f\x03\x02\x01\0\n \x01\x1e\0\x02\x7f\x02\x7f\x02\x7fA( \0\x0e\x02\0\x01\x02\0\x0bA\x01j\x0bA\x02j\x0bA\x04j\x0b";
+static BRANCHING: &[u8] =
+    b"\0asm\x01\0\0\0\x01\x06\x01`\x01\x7f\x01\x7f\x03\x02\x01\0\n \x01\x1e\0\x02\x7f\x02\x7f\x02\x7fA( \0\x0e\x02\0\x01\x02\0\x0bA\x01j\x0bA\x02j\x0bA\x04j\x0b";
 
 /// [i32] -> [i32]: 9 less a number of either part of an if, over a value that a branch leaves behind.
-static CHOOSING: &[u8] = b"\0asm\x01\0\0\0\x01\x06\x01`\x01\x7f\x01\x7f\x03\x02\x01\0\n\x1d\x01\x1b\0A\x09 \0\x04\x7f\x02@\x0bA\x03\x05\x02@A\x08A\x04\x0c\x01\x0bA\x05\x0bk\x0b";
+static CHOOSING: &[u8] =
+    b"\0asm\x01\0\0\0\x01\x06\x01`\x01\x7f\x01\x7f\x03\x02\x01\0\n\x1d\x01\x1b\0A\x09 \0\x04\x7f\x02@\x0bA\x03\x05\x02@A\x08A\x04\x0c\x01\x0bA\x05\x0bk\x0b";
 
 /// [] -> []: no items.
 static NOTHING: &[u8] = b"\0asm\x01\0\0\0\x01\x04\x01`\0\0\x03\x02\x01\0\n\x04\x01\x02\0\x0b";
@@ -139,7 +156,14 @@ fn signs_are_extended(rt: HostRuntime) -> Result<(), Fail> {
     let a = rt.alloc();
     assert!(rt; returns(a, EXTEND_8, &[200], &[4_294_967_240])?);
     assert!(rt; returns(a, EXTEND_16, &[32_768], &[4_294_934_528])?);
-    assert!(rt; returns(a, EXTEND_32, &[2_147_483_648], &[18_446_744_071_562_067_968])?);
+    assert!(rt;
+        returns(
+            a,
+            EXTEND_32,
+            &[2_147_483_648],
+            &[18_446_744_071_562_067_968]
+        )?
+    );
     Ok(())
 }
 
