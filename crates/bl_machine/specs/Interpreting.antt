@@ -49,5 +49,7 @@ run_of (Trapped kind) m = run.Trapped kind []
 abbrev pub Drives : Tree → ℕ → Start → ℕ → Progress → Machine → Type 0
 Drives tree function start steps Running m = (c : Config) × Comes (source_step tree) steps (opening tree function start) c
 Drives tree function start steps (Entering number) m = (c : Config) × Comes (source_step tree) steps (opening tree function start) c
-Drives tree function start steps Returned m = (n : ℕ) × EndsAfter (source_step tree) n (opening tree function start) (returned m.stack []) × (n ≤ steps)
-Drives tree function start steps (Trapped kind) m = (n : ℕ) × EndsAfter (source_step tree) n (opening tree function start) (trapped kind []) × (n ≤ steps)
+Drives tree function start steps Returned m =
+    (n : ℕ) × EndsAfter (source_step tree) n (opening tree function start) (returned m.stack []) × (n ≤ steps)
+Drives tree function start steps (Trapped kind) m =
+    (n : ℕ) × EndsAfter (source_step tree) n (opening tree function start) (trapped kind []) × (n ≤ steps)

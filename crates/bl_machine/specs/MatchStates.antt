@@ -66,7 +66,8 @@ pub record IsBare (pile : Pile) : Type 0 where
 -- the callers, innermost first
 abbrev pub AreActivations : Tree → List Frame → List Activation → Pile → Type 0
 AreActivations tree [] [] upper = IsBare upper
-AreActivations tree (frame ∷ frames) (a ∷ others) upper = (lower : Pile) × IsActivation tree frame a lower upper × AreActivations tree frames others lower
+AreActivations tree (frame ∷ frames) (a ∷ others) upper =
+    (lower : Pile) × IsActivation tree frame a lower upper × AreActivations tree frames others lower
 AreActivations tree frames others upper = ⊥
 
 -- a function executes
