@@ -1,6 +1,6 @@
 -- The nine rules of well-formed programs, and the first one that is broken.
 use Rattle.std.specs.Prelude.{◌≡◌, ◌≢◌, ◌⊎◌, ◌+◌, ◌*◌, ◌^◌, ◌<◌, ◌≤◌, ℕ, suc, true, IfSome, IsSomeAnd, List, [], ◌∷◌, length, Option, Some, None, slice_get}
-use Rattle.std.specs.List.{All, AllPairs, Contains}
+use Rattle.std.specs.List.{All, AllPairs}
 use Rattle.bl_base.specs.declared.names.Label.TheVariants.{Public}
 use Rattle.bl_base.specs.declared.names.ValueType.{ValueType}
 use Rattle.bl_base.specs.declared.names.ValueType.TheVariants.{I32, I64}
@@ -123,18 +123,18 @@ pub record Rule4 (program : Program) (function : ℕ) (command : Command) : Type
 
 -- ---- rule 5: targets
 
--- where a command may go but for the next position, calls and returns
-abbrev pub targets_of : Command → List ℕ
-targets_of (Set mark op to a b c) = []
-targets_of (Load mark kind memory to offset address) = []
-targets_of (Store kind memory offset address value) = []
-targets_of (Test cond one other) = one.0 ∷ other.0 ∷ []
-targets_of (Jump to) = to.0 ∷ []
-targets_of (Arg mark function index value) = []
-targets_of (Call function) = []
-targets_of (Out mark index value) = []
-targets_of Ret = []
-targets_of (Trap kind) = []
+-- the command may go to a position that it names
+abbrev pub GoesTo : Command → ℕ → Type 0
+GoesTo (Set mark op to a b c) position = ⊥
+GoesTo (Load mark kind memory to offset address) position = ⊥
+GoesTo (Store kind memory offset address value) position = ⊥
+GoesTo (Test cond one other) position = (one.0 ≡ position) ⊎ (other.0 ≡ position)
+GoesTo (Jump to) position = to.0 ≡ position
+GoesTo (Arg mark function index value) position = ⊥
+GoesTo (Call function) position = ⊥
+GoesTo (Out mark index value) position = ⊥
+GoesTo Ret position = ⊥
+GoesTo (Trap kind) position = ⊥
 
 -- the command never goes to the next position by itself
 abbrev pub Leaves : Command → Type 0
@@ -151,7 +151,7 @@ Leaves (Trap kind) = Unit {0}
 
 -- targets lie in the same function or are the traps 0 to 6; the last command of a function is a Test, Jump, Ret or Trap
 pub record Rule5 (program : Program) (function position : ℕ) (command : Command) : Type 0 where
-  pub targets : All (λ target. (target < 7) ⊎ Holds program function target) (targets_of command)
+  pub targets : (target : ℕ) → GoesTo command target → (target < 7) ⊎ Holds program function target
   pub last : suc position ≡ entry_of program (suc function) → Leaves command
 
 -- ---- rule 6: numbers in range
@@ -190,12 +190,12 @@ branch x one other = Some (Test (variable x) (record { 0 = one }) (record { 0 = 
 -- a position is no function's entry, and no command goes there but by going on to the next position
 pub record IsPassed (program : Program) (position : ℕ) : Type 0 where
   pub entries : (function : ℕ) → function < length program.functions → entry_of program function ≢ position
-  pub others : (from : ℕ) (command : Command) → command_at program from ≡ Some command → Contains (targets_of command) position → ⊥
+  pub others : (from : ℕ) (command : Command) → command_at program from ≡ Some command → GoesTo command position → ⊥
 
 -- a position is no function's entry, and only the Test before it goes there
 pub record IsGuarded (program : Program) (before position : ℕ) : Type 0 where
   pub entries : (function : ℕ) → function < length program.functions → entry_of program function ≢ position
-  pub others : (from : ℕ) (command : Command) → command_at program from ≡ Some command → Contains (targets_of command) position → from ≡ before
+  pub others : (from : ℕ) (command : Command) → command_at program from ≡ Some command → GoesTo command position → from ≡ before
 
 -- an access: its address, its memory, and how far behind the address it ends
 pub record Reach : Type 0 where

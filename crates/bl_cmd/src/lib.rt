@@ -4,7 +4,10 @@
 
 mod command;
 mod definitions;
+mod place;
 mod program;
+mod rules;
+mod tables;
 mod verdict;
 mod wellformed;
 
