@@ -1,3 +1,5 @@
+pub mod Commands
 pub mod Entering
 pub mod Layouts
+pub mod Names
 pub mod Tabled

@@ -11,7 +11,7 @@ use Rattle.bl_base.proofs.Lists.{some_same, within_get}
 use Rattle.bl_cmd.specs.Layout.{statics, first_of, entry_of, command_at, Holds}
 use Rattle.bl_cmd.specs.Rules.{Rule2, GoesTo, IsOwn, IsReadable, IsResult, IsPassed, IsGuarded}
 use Rattle.bl_cmd.specs.Entrants.{Goes, Spans, AreEntrants}
-use Rattle.bl_cmd.specs.Tables.{AreValues, AreTables, IsPlace}
+use Rattle.bl_cmd.specs.Tables.{AreValues, AreTables, IsPlace, ReadsOne}
 use Rattle.bl_cmd.specs.declared.command.Command.{Command}
 use Rattle.bl_cmd.specs.declared.definitions.ProgramParts.{ProgramParts as Program}
 use Rattle.bl_cmd.specs.declared.tables.Entrants.{Entrants}
@@ -178,11 +178,15 @@ unentered_is program tables function position back before good holds behind foun
 -- ---- tests
 
 -- the operand is the variable
-pub reads_variable : (program : Program) (function : ℕ) (operand : Operand) (x : Var) (answer : Bool) → operand ≡ named.Var x → IsTrue answer ↔ IsReadable program function x.0
-    → IsTrue answer ↔ ((y : ℕ) → Names operand y → IsReadable program function y)
-reads_variable program function operand x answer same is =
-    subst (λ o. IsTrue answer ↔ ((y : ℕ) → Names o y → IsReadable program function y)) (sym same)
-    (λ t y e. subst (IsReadable program function) e (is.0 t), λ h. is.1 (h x.0 refl))
+pub reads_variable : (place : Place) (operand : Operand) (x : Var) (answer : Bool) → operand ≡ named.Var x → IsTrue answer ↔ IsReadable place.parts.now place.function x.0
+    → IsTrue answer ↔ ReadsOne place operand
+reads_variable place operand x answer same is =
+    subst (λ o. IsTrue answer ↔ ReadsOne place o) (sym same)
+    (λ t. record { each = λ y e. subst (IsReadable place.parts.now place.function) e (is.0 t) }, λ h. is.1 (h.each x.0 refl))
+
+pub reads_constant : (place : Place) (operand : Operand) (number : ℕ) → operand ≡ named.Const number → IsTrue true ↔ ReadsOne place operand
+reads_constant place operand number same =
+    subst (λ o. IsTrue true ↔ ReadsOne place o) (sym same) (λ _. record { each = λ y e. absurd e }, λ _. refl)
 
 -- there is none
 pub none_test : {X : Type 0} (o : Option X) (answer : Bool) → is_some o ≡ not answer → IsTrue answer ↔ (o ≡ None)

@@ -1,10 +1,11 @@
 -- What `check` and its parts answer.
-use Rattle.std.specs.Prelude.{◌≡◌, ◌<◌, ℕ, length, Some}
+use Rattle.std.specs.Prelude.{◌≡◌, ◌<◌, ℕ, List, length, Some, slice_get}
 use Rattle.bl_cmd.specs.Layout.{command_at, Holds}
 use Rattle.bl_cmd.specs.Rules.{Rule1, Rule2, Rule3, Rule4, Rule5, Rule6, Rule7, Rule8, Rule9, IsFirstBroken}
 use Rattle.bl_cmd.specs.declared.command.Command.{Command}
 use Rattle.bl_cmd.specs.declared.verdict.CheckError.{CheckError}
 use Rattle.bl_cmd.specs.declared.verdict.CheckError.TheVariants.{Fault, Memory}
+use Rattle.bl_cmd.specs.declared.definitions.ExportDef.{ExportDef}
 use Rattle.bl_cmd.specs.declared.definitions.ProgramParts.{ProgramParts as Program}
 
 -- a fault is the first one; want of memory says nothing
@@ -19,6 +20,10 @@ pub record KeepsParts (program : Program) : Type 0 where
   pub rule2 : Rule2 program
   pub rule3 : Rule3 program
   pub rule9 : Rule9 program
+
+-- no two exports have one name
+abbrev pub AreDistinct : List ExportDef → Type 0
+AreDistinct exports = (i j : ℕ) (a b : ExportDef) → slice_get exports i ≡ Some a → slice_get exports j ≡ Some b → a.name ≡ b.name → i ≡ j
 
 -- the first of them that is broken
 pub data BreaksParts (program : Program) (rule : ℕ) : Type 0 where

@@ -4,11 +4,13 @@
 
 mod command;
 mod definitions;
+mod parts;
 mod place;
 mod program;
 mod rules;
 mod tables;
 mod verdict;
+mod weights;
 mod wellformed;
 
 pub use command::{Command, Mark, Operand};
@@ -18,4 +20,5 @@ pub use definitions::{
 };
 pub use program::Program;
 pub use verdict::{CheckError, check};
+pub use weights::{site_weight, weight};
 pub use wellformed::WellFormed;

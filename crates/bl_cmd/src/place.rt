@@ -2,8 +2,7 @@
 ghost use Rattle.std.specs.Prelude.{◌≡◌, ◌≤◌, ◌<◌, ◌+◌, ◌-◌, ◌↔◌, ◌⊎◌, ℕ, IsTrue, MatchOption, Some, length, option_map, suc, slice_get, slice_index};
 ghost use Rattle.bl_cmd.specs.Layout.{entry_of, first_of, params_of, results_of, size_of, statics, Holds};
 ghost use Rattle.bl_cmd.specs.Rules.{IsGuarded, IsLocal, IsOwn, IsPassed, IsReadable, IsResult, IsWritable, variable};
-ghost use Rattle.bl_cmd.specs.Sites.{Names};
-ghost use Rattle.bl_cmd.specs.Tables.{IsPlace};
+ghost use Rattle.bl_cmd.specs.Tables.{IsPlace, IsTarget, ReadsOne};
 
 use crate::command::{Command, Operand};
 use crate::definitions::{FunctionDef, ProgramParts};
@@ -138,7 +137,7 @@ impl<'p> Place<'p> {
     /// Whether the function's commands may have the operand.
     pub(crate) fn reads(&self, operand: Operand) -> bool
         requires { IsPlace self.now }
-        ensures { IsTrue result ↔ ((x : ℕ) → Names operand x → IsReadable self.now.parts.now self.now.function x) }
+        ensures { IsTrue result ↔ ReadsOne self.now operand }
     {
         match operand {
             Operand::Var(x) => self.is_readable(x.0),
@@ -199,7 +198,7 @@ impl<'p> Place<'p> {
     /// Whether the function's commands may go to the position.
     pub(crate) fn is_target(&self, to: Pos) -> bool
         requires { IsPlace self.now }
-        ensures { IsTrue result ↔ ((to.0 < 7) ⊎ Holds self.now.parts.now self.now.function to.0) }
+        ensures { IsTrue result ↔ IsTarget self.now to.0 }
     {
         to.0 < 7 || self.holds(to.0)
     }

@@ -1,13 +1,12 @@
 //! The rules on one command: which variables it may name, where it may go, whether the numbers that it names are in range, and
 //! what has to stand before an access and before a write of a size.
-ghost use Rattle.std.specs.Prelude.{◌≡◌, ◌≢◌, ◌<◌, ◌≤◌, ◌+◌, ◌↔◌, ℕ, suc, IsTrue, MatchOption, Some, length, slice_get};
-ghost use Rattle.bl_cmd.specs.Layout.{entry_of, size_of};
-ghost use Rattle.bl_cmd.specs.Rules.{IsGrowth, IsTested, Rule4, Rule5, Rule6, Rule7, Rule8, assign, branch, variable};
-ghost use Rattle.bl_cmd.specs.Tables.{IsApart, IsGrownAlone, IsPlace, IsTestedBy};
+ghost use Rattle.std.specs.Prelude.{◌≡◌, ◌≢◌, ◌<◌, ◌≤◌, ◌+◌, ◌↔◌, ℕ, suc, IfSome, IsTrue, MatchOption, Some, length};
+ghost use Rattle.bl_cmd.specs.Layout.{entry_of};
+ghost use Rattle.bl_cmd.specs.Rules.{GoesTo, IsGrowth, IsReadable, IsSum, IsTested, IsWritable, Leaves, Rule4, Rule5, Rule6, Rule7, Rule8, assign, assigned_by, branch, operands_of};
+ghost use Rattle.bl_cmd.specs.Sites.{Among};
+ghost use Rattle.bl_cmd.specs.Tables.{HasTargets, IsApart, IsGrownAlone, IsGrownBy, IsPlace, IsTarget, IsTestedBy, ReadsAll};
 ghost use Rattle.bl_cmd.specs.Verdicts.{BreaksRule, KeepsRules};
 ghost use Rattle.bl_cmd.specs.declared.command.Mark.{Mark};
-ghost use Rattle.bl_ops.specs.declared.op.Op.TheVariants as operator;
-ghost use Rattle.bl_cmd.specs.declared.command.Operand.TheVariants as operand_is;
 
 use crate::command::{Command, Mark, Operand};
 use crate::place::Place;
@@ -43,11 +42,25 @@ fn keeps_variables(place: &Place, command: Command) -> bool
     requires { IsPlace place.now }
     ensures { IsTrue result ↔ Rule4 place.now.parts.now place.now.function command }
 {
+    may_read(place, command) && may_write(place, command)
+}
+
+/// Whether the command reads only variables that it may.
+fn may_read(place: &Place, command: Command) -> bool
+    requires { IsPlace place.now }
+    ensures { IsTrue result ↔ ((x : ℕ) → Among (operands_of command) x → IsReadable place.now.parts.now place.now.function x) }
+{
+    reads_all(place, command)
+}
+
+/// Whether each operand of the command is a constant or a variable that it may read.
+fn reads_all(place: &Place, command: Command) -> bool
+    requires { IsPlace place.now }
+    ensures { IsTrue result ↔ ReadsAll place.now command }
+{
     match command {
-        Command::Set { to, a, b, c, .. } => {
-            place.is_writable(to) && place.reads(a) && place.reads(b) && place.reads(c)
-        }
-        Command::Load { to, address, .. } => place.is_writable(to) && place.reads(address),
+        Command::Set { a, b, c, .. } => place.reads(a) && place.reads(b) && place.reads(c),
+        Command::Load { address, .. } => place.reads(address),
         Command::Store { address, value, .. } => place.reads(address) && place.reads(value),
         Command::Test { cond, .. } => place.reads(cond),
         Command::Jump { .. } => true,
@@ -59,17 +72,71 @@ fn keeps_variables(place: &Place, command: Command) -> bool
     }
 }
 
+/// Whether the command, if it is a Set or a Load, writes a variable that it may.
+fn may_write(place: &Place, command: Command) -> bool
+    requires { IsPlace place.now }
+    ensures { IsTrue result ↔ IfSome (assigned_by command) (IsWritable place.now.parts.now place.now.function) }
+{
+    match command {
+        Command::Set { to, .. } => place.is_writable(to),
+        Command::Load { to, .. } => place.is_writable(to),
+        Command::Store { .. } => true,
+        Command::Test { .. } => true,
+        Command::Jump { .. } => true,
+        Command::Arg { .. } => true,
+        Command::Call { .. } => true,
+        Command::Out { .. } => true,
+        Command::Ret => true,
+        Command::Trap { .. } => true,
+    }
+}
+
 /// Whether the command's targets are ones, and whether it may be the last one if it is.
 fn keeps_targets(place: &Place, command: Command) -> bool
     requires { IsPlace place.now }
     ensures { IsTrue result ↔ Rule5 place.now.parts.now place.now.function place.now.position command }
 {
+    may_go(place, command) && may_end(place, command)
+}
+
+/// Whether the command goes only to positions that it may.
+fn may_go(place: &Place, command: Command) -> bool
+    requires { IsPlace place.now }
+    ensures { IsTrue result ↔ ((target : ℕ) → GoesTo command target → IsTarget place.now target) }
+{
+    has_targets(place, command)
+}
+
+/// Whether each target of the command is one.
+fn has_targets(place: &Place, command: Command) -> bool
+    requires { IsPlace place.now }
+    ensures { IsTrue result ↔ HasTargets place.now command }
+{
+    match command {
+        Command::Set { .. } => true,
+        Command::Load { .. } => true,
+        Command::Store { .. } => true,
+        Command::Test { yes, no, .. } => place.is_target(yes) && place.is_target(no),
+        Command::Jump { to } => place.is_target(to),
+        Command::Arg { .. } => true,
+        Command::Call { .. } => true,
+        Command::Out { .. } => true,
+        Command::Ret => true,
+        Command::Trap { .. } => true,
+    }
+}
+
+/// Whether the command, if it is the function's last one, may be that.
+fn may_end(place: &Place, command: Command) -> bool
+    requires { IsPlace place.now }
+    ensures { IsTrue result ↔ (suc place.now.position ≡ entry_of place.now.parts.now (suc place.now.function) → Leaves command) }
+{
     match command {
         Command::Set { .. } => !place.is_last(),
         Command::Load { .. } => !place.is_last(),
         Command::Store { .. } => !place.is_last(),
-        Command::Test { yes, no, .. } => place.is_target(yes) && place.is_target(no),
-        Command::Jump { to } => place.is_target(to),
+        Command::Test { .. } => true,
+        Command::Jump { .. } => true,
         Command::Arg { .. } => !place.is_last(),
         Command::Call { .. } => !place.is_last(),
         Command::Out { .. } => !place.is_last(),
@@ -193,7 +260,7 @@ fn keeps_growth(place: &Place, command: Command) -> bool
         Command::Set {
             op, to, a, b, c, ..
         } => match place.memory_of(to) {
-            Some(memory) => is_growth(place, memory, op, a, b, c),
+            Some(memory) => is_grown(place, memory, op, a, b, c),
             None => true,
         },
         Command::Load { to, .. } => place.memory_of(to).is_none(),
@@ -209,21 +276,37 @@ fn keeps_growth(place: &Place, command: Command) -> bool
 }
 
 /// Whether the Set at the place, of the memory's size to what the operator makes of the operands, is the last command of a growth.
-fn is_growth(place: &Place, memory: u32, op: Op, a: Operand, b: Operand, c: Operand) -> bool
+fn is_grown(place: &Place, memory: u32, op: Op, a: Operand, b: Operand, c: Operand) -> bool
     requires place { IsPlace place.now }
     requires exists { memory < length place.now.parts.now.memories }
-    ensures { IsTrue result ↔ IsGrowth place.now.parts.now place.now.function place.now.position memory op a b c }
+    ensures { IsTrue result ↔ IsSum place.now.parts.now memory op a c × IsGrowth place.now.parts.now place.now.function place.now.position memory b }
+{
+    is_sum(place, memory, op, a, c) && place.is_behind(4) && is_growth(place, memory, b)
+}
+
+/// Whether the operator adds something to the memory's size.
+fn is_sum(place: &Place, memory: u32, op: Op, a: Operand, c: Operand) -> bool
+    requires place { IsPlace place.now }
+    requires exists { memory < length place.now.parts.now.memories }
+    ensures { IsTrue result ↔ IsSum place.now.parts.now memory op a c }
+{
+    op == Op::I32Add && a == place.size_of(memory) && c == Operand::Const(0)
+}
+
+/// Whether the place is behind the first four commands of a growth of the memory by that delta.
+fn is_growth(place: &Place, memory: u32, delta: Operand) -> bool
+    requires place { IsPlace place.now }
+    requires exists { memory < length place.now.parts.now.memories }
+    requires behind { entry_of place.now.parts.now place.now.function + 4 ≤ place.now.position }
+    ensures { IsTrue result ↔ IsGrowth place.now.parts.now place.now.function place.now.position memory delta }
 {
     let size = place.size_of(memory);
     let zero = Operand::Const(0);
-    if op != Op::I32Add || a != size || c != zero || !place.is_behind(4) {
-        return false;
-    }
     let reserve = Operand::Const(place.reserve_of(memory));
     let Some(r) = assigned(place.before(4), Op::I32Sub, reserve, size, zero) else {
         return false;
     };
-    let Some(t) = assigned(place.before(3), Op::I32GtU, b, Operand::Var(r), zero) else {
+    let Some(t) = assigned(place.before(3), Op::I32GtU, delta, Operand::Var(r), zero) else {
         return false;
     };
     let Some(yes) = branched(place.before(2), t, place.position - 1) else {
@@ -232,7 +315,19 @@ fn is_growth(place: &Place, memory: u32, op: Op, a: Operand, b: Operand, c: Oper
     let Some(v) = assigned(place.before(1), Op::Move, size, zero, zero) else {
         return false;
     };
-    is_apart(place, b, r) && is_apart(place, b, t) && is_apart(place, b, v) && is_grown_alone(place, yes)
+    is_grown_by(place, delta, r, t, v, yes)
+}
+
+/// Whether the variables of a growth and the other ways to its commands are as they have to be.
+fn is_grown_by(place: &Place, delta: Operand, r: Var, t: Var, v: Var, yes: Pos) -> bool
+    requires place { IsPlace place.now }
+    requires behind { entry_of place.now.parts.now place.now.function + 4 ≤ place.now.position }
+    ensures { IsTrue result ↔ IsGrownBy place.now delta r.0 t.0 v.0 yes.0 }
+{
+    is_apart(place, delta, r)
+        && is_apart(place, delta, t)
+        && is_apart(place, delta, v)
+        && is_grown_alone(place, yes)
 }
 
 /// Whether the variable is one of the function's that isn't a result, and isn't the operand.
@@ -262,22 +357,26 @@ fn assigned(command: Command, op: Op, a: Operand, b: Operand, c: Operand) -> Opt
         (λ to. (mark : Mark) × (Some command ≡ assign mark op to.0 a b c)) }
 {
     match command {
-        Command::Set {
-            op: operator,
-            to,
-            a: first,
-            b: second,
-            c: third,
-            ..
-        } => {
-            if operator == op && first == a && second == b && third == c {
-                Some(to)
-            } else {
-                None
-            }
+        Command::Set { mark, to, .. } => {
+            let wanted = Command::Set {
+                mark,
+                op,
+                to,
+                a,
+                b,
+                c,
+            };
+            if is_same(command, wanted) { Some(to) } else { None }
         }
         _ => None,
     }
+}
+
+/// Whether two commands are equal.
+fn is_same(one: Command, other: Command) -> bool
+    ensures { IsTrue result ↔ (one ≡ other) }
+{
+    one == other
 }
 
 /// Where the command goes if the variable isn't 0, while it goes to that other position if it is; None where it does something

@@ -1,6 +1,7 @@
-use Rattle.std.proofs.Common.{◌≡◌, ◌∙◌, refl, sym, ap, length, length-replicate, slice_get, Some, get_or, arith}
+use Rattle.std.proofs.Common.{◌∙◌, sym, subst}
 use Rattle.std.proofs.lemmas.Option.{slice_get-get_or}
-use Rattle.bl_cmd.proofs.Entering.{entered_more, entered_length, entered_all, noted_none}
+use Rattle.bl_cmd.proofs.Entering.{entered_more, entered_length, entered_all}
+use Rattle.bl_cmd.specs.Entrants.{AreEntrants}
 use Rattle.bl_cmd.proofs.tables.entrants_of.Goals as goal
 
 pub loop-from-preserved : goal.loop-from-preserved
@@ -10,4 +11,4 @@ loop-from-preserved c = record {
 }
 
 pub returns : goal.returns
-returns c = ?
+returns c = subst (AreEntrants c.args.commands.now) (sym c.of.ensures) (entered_all c.args.commands.now _ _ c.loop-from-test.false c.loop-from.invariant.len c.loop-from.invariant.noted)
