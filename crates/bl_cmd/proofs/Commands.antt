@@ -305,3 +305,16 @@ growth_load place command mark kind memory to offset address found answer is siz
     by None false size test = absurd (cc)
     by (Some m) true size test = absurd (cc)
     by (Some m) false size test = (λ t. absurd (false≢true t), λ rule. absurd (rule m size.0 size.1))
+
+-- ---- a Set by its parts
+
+pub is_assigned : (command : Command) (mark : Mark) (op' : Op) (to : Var') (a' b' c' : Operand) (op : Op) (a b c : Operand) → command ≡ Set mark op' to a' b' c' → op' ≡ op → a' ≡ a → b' ≡ b → c' ≡ c
+    → Some command ≡ assign mark op to.0 a b c
+is_assigned command mark op' to a' b' c' op a b c e f g h i =
+    ap Some (e ∙ ap (λ o. Set mark o to a' b' c') f ∙ ap (λ x. Set mark op to x b' c') g ∙ ap (λ x. Set mark op to a x c') h ∙ ap (Set mark op to a b) i)
+
+pub not_assigned : (command : Command) (mark : Mark) (op' : Op) (to : Var') (a' b' c' : Operand) (op : Op) (a b c : Operand) (other : Mark) (t : ℕ) → command ≡ Set mark op' to a' b' c' → Some command ≡ assign other op t a b c
+    → (op' ≡ op) × (a' ≡ a) × (b' ≡ b) × (c' ≡ c)
+not_assigned command mark op' to a' b' c' op a b c other t e f =
+    let same : Set mark op' to a' b' c' ≡ Set other op (record { 0 = t }) a b c = sym e ∙ some_same _ _ f in
+    (cc, cc, cc, cc)

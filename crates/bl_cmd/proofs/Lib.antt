@@ -1,5 +1,8 @@
 pub mod Commands
 pub mod Entering
+pub mod Faults
 pub mod Layouts
 pub mod Names
+pub mod Rising
 pub mod Tabled
+pub mod Totals
