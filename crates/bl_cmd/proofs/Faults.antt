@@ -1,5 +1,5 @@
 -- The first rule that is broken.
-use Rattle.std.proofs.Common.{◌≡◌, ◌≢◌, ◌⊎◌, inl, inr, ℕ, zero, suc, ◌+◌, ◌<◌, ◌≤◌, length, Option, Some, None, slice_get, refl, sym, ap, ◌∙◌, subst, arith}
+use Rattle.std.proofs.Common.{◌≡◌, ◌≢◌, ◌⊎◌, inl, inr, ℕ, zero, suc, ◌+◌, ◌<◌, ◌≤◌, length, Option, Some, None, slice_get, MatchOption, refl, sym, ap, ◌∙◌, subst, arith}
 use Rattle.std.proofs.lemmas.Bool.{cases_lt}
 use Rattle.bl_base.proofs.Lists.{some_same}
 use Rattle.bl_cmd.specs.Layout.{entry_of, command_at, Holds}
@@ -8,6 +8,7 @@ use Rattle.bl_cmd.specs.Rules.{Rule4, Rule5, Rule6, Rule7, Rule8, Breaks, memori
 use Rattle.bl_cmd.specs.Verdicts as verdict
 use Rattle.bl_cmd.specs.Verdicts.{KeepsParts, BreaksParts, KeepsRules, BreaksRule, KeepsBelow, IsFaultIn, IsFault}
 use Rattle.bl_cmd.specs.declared.command.Command.{Command}
+use Rattle.bl_cmd.specs.declared.verdict.Fault.{Fault}
 use Rattle.bl_cmd.specs.declared.definitions.ProgramParts.{ProgramParts as Program}
 use Rattle.bl_cmd.proofs.Layouts.{holds_apart, holds_within, sum_up}
 
@@ -50,15 +51,15 @@ module _ (program : Program) where
 
   -- nothing is broken
   pub unbroken : (rule position : ℕ) → IsWellFormed program → Breaks rule position program → ⊥
-  unbroken rule position well (memories e f no) = no well.rule1
-  unbroken rule position well (functions e f no) = no well.rule2
-  unbroken rule position well (exports e f no) = no well.rule3
-  unbroken rule position well (variables e no) = no (well.rule4 position)
-  unbroken rule position well (targets e no) = no (well.rule5 position)
-  unbroken rule position well (ranges e no) = no (well.rule6 position)
-  unbroken rule position well (accesses e no) = no (well.rule7 position)
-  unbroken rule position well (growths e no) = no (well.rule8 position)
-  unbroken rule position well (demands e f no) = no well.rule9
+  unbroken rule position well (memories e f bad) = bad well.rule1
+  unbroken rule position well (functions e f bad) = bad well.rule2
+  unbroken rule position well (exports e f bad) = bad well.rule3
+  unbroken rule position well (variables e bad) = bad (well.rule4 position)
+  unbroken rule position well (targets e bad) = bad (well.rule5 position)
+  unbroken rule position well (ranges e bad) = bad (well.rule6 position)
+  unbroken rule position well (accesses e bad) = bad (well.rule7 position)
+  unbroken rule position well (growths e bad) = bad (well.rule8 position)
+  unbroken rule position well (demands e f bad) = bad well.rule9
 
   -- ---- a rule on the whole program
 
@@ -67,22 +68,22 @@ module _ (program : Program) where
 
   -- the rule's number is at most that of another one that is broken at position 0
   first_of_parts : (rule other : ℕ) → BreaksParts program rule → Breaks other 0 program → rule ≤ other
-  first_of_parts rule other (verdict.memories e no) (memories f g not) = omega arith
-  first_of_parts rule other (verdict.memories e no) (functions f g not) = omega arith
-  first_of_parts rule other (verdict.memories e no) (exports f g not) = omega arith
-  first_of_parts rule other (verdict.memories e no) (demands f g not) = omega arith
-  first_of_parts rule other (verdict.functions e one no) (memories f g not) = absurd (not one)
-  first_of_parts rule other (verdict.functions e one no) (functions f g not) = omega arith
-  first_of_parts rule other (verdict.functions e one no) (exports f g not) = omega arith
-  first_of_parts rule other (verdict.functions e one no) (demands f g not) = omega arith
-  first_of_parts rule other (verdict.exports e one two no) (memories f g not) = absurd (not one)
-  first_of_parts rule other (verdict.exports e one two no) (functions f g not) = absurd (not two)
-  first_of_parts rule other (verdict.exports e one two no) (exports f g not) = omega arith
-  first_of_parts rule other (verdict.exports e one two no) (demands f g not) = omega arith
-  first_of_parts rule other (verdict.demands e one two three no) (memories f g not) = absurd (not one)
-  first_of_parts rule other (verdict.demands e one two three no) (functions f g not) = absurd (not two)
-  first_of_parts rule other (verdict.demands e one two three no) (exports f g not) = absurd (not three)
-  first_of_parts rule other (verdict.demands e one two three no) (demands f g not) = omega arith
+  first_of_parts rule other (verdict.memories e bad) (memories f g not) = omega arith
+  first_of_parts rule other (verdict.memories e bad) (functions f g not) = omega arith
+  first_of_parts rule other (verdict.memories e bad) (exports f g not) = omega arith
+  first_of_parts rule other (verdict.memories e bad) (demands f g not) = omega arith
+  first_of_parts rule other (verdict.functions e one bad) (memories f g not) = absurd (not one)
+  first_of_parts rule other (verdict.functions e one bad) (functions f g not) = omega arith
+  first_of_parts rule other (verdict.functions e one bad) (exports f g not) = omega arith
+  first_of_parts rule other (verdict.functions e one bad) (demands f g not) = omega arith
+  first_of_parts rule other (verdict.exports e one two bad) (memories f g not) = absurd (not one)
+  first_of_parts rule other (verdict.exports e one two bad) (functions f g not) = absurd (not two)
+  first_of_parts rule other (verdict.exports e one two bad) (exports f g not) = omega arith
+  first_of_parts rule other (verdict.exports e one two bad) (demands f g not) = omega arith
+  first_of_parts rule other (verdict.demands e one two three bad) (memories f g not) = absurd (not one)
+  first_of_parts rule other (verdict.demands e one two three bad) (functions f g not) = absurd (not two)
+  first_of_parts rule other (verdict.demands e one two three bad) (exports f g not) = absurd (not three)
+  first_of_parts rule other (verdict.demands e one two three bad) (demands f g not) = omega arith
   first_of_parts rule other _ (variables f not) = absurd (not (λ function command holds stands. absurd (no_position function holds)))
   first_of_parts rule other _ (targets f not) = absurd (not (λ function command holds stands. absurd (no_position function holds)))
   first_of_parts rule other _ (ranges f not) = absurd (not (λ function command holds stands. absurd (no_position function holds)))
@@ -90,10 +91,10 @@ module _ (program : Program) where
   first_of_parts rule other _ (growths f not) = absurd (not (λ function command holds stands. absurd (no_position function holds)))
 
   broken_of : (rule : ℕ) → BreaksParts program rule → Breaks rule 0 program
-  broken_of rule (verdict.memories e no) = memories e refl no
-  broken_of rule (verdict.functions e one no) = functions e refl no
-  broken_of rule (verdict.exports e one two no) = exports e refl no
-  broken_of rule (verdict.demands e one two three no) = demands e refl no
+  broken_of rule (verdict.memories e bad) = memories e refl bad
+  broken_of rule (verdict.functions e one bad) = functions e refl bad
+  broken_of rule (verdict.exports e one two bad) = exports e refl bad
+  broken_of rule (verdict.demands e one two three bad) = demands e refl bad
 
   pub part_broken : (rule : ℕ) → BreaksParts program rule → IsFirstBroken rule 0 program
   part_broken rule breaks = record {
@@ -135,39 +136,39 @@ module _ (program : Program) where
     Rules = BreaksRule program Here position fault.fault.command rule
 
     fourth : Rules → (rule ≤ 4) ⊎ Rule4 program Here fault.fault.command
-    fourth (verdict.variables e no) = inl (omega arith)
-    fourth (verdict.targets e a no) = inr a
-    fourth (verdict.ranges e a b no) = inr a
-    fourth (verdict.accesses e a b c no) = inr a
-    fourth (verdict.growths e a b c d no) = inr a
+    fourth (verdict.variables e bad) = inl (omega arith)
+    fourth (verdict.targets e a bad) = inr a
+    fourth (verdict.ranges e a b bad) = inr a
+    fourth (verdict.accesses e a b c bad) = inr a
+    fourth (verdict.growths e a b c d bad) = inr a
 
     fifth : Rules → (rule ≤ 5) ⊎ Rule5 program Here position fault.fault.command
-    fifth (verdict.variables e no) = inl (omega arith)
-    fifth (verdict.targets e a no) = inl (omega arith)
-    fifth (verdict.ranges e a b no) = inr b
-    fifth (verdict.accesses e a b c no) = inr b
-    fifth (verdict.growths e a b c d no) = inr b
+    fifth (verdict.variables e bad) = inl (omega arith)
+    fifth (verdict.targets e a bad) = inl (omega arith)
+    fifth (verdict.ranges e a b bad) = inr b
+    fifth (verdict.accesses e a b c bad) = inr b
+    fifth (verdict.growths e a b c d bad) = inr b
 
     sixth : Rules → (rule ≤ 6) ⊎ Rule6 program Here fault.fault.command
-    sixth (verdict.variables e no) = inl (omega arith)
-    sixth (verdict.targets e a no) = inl (omega arith)
-    sixth (verdict.ranges e a b no) = inl (omega arith)
-    sixth (verdict.accesses e a b c no) = inr c
-    sixth (verdict.growths e a b c d no) = inr c
+    sixth (verdict.variables e bad) = inl (omega arith)
+    sixth (verdict.targets e a bad) = inl (omega arith)
+    sixth (verdict.ranges e a b bad) = inl (omega arith)
+    sixth (verdict.accesses e a b c bad) = inr c
+    sixth (verdict.growths e a b c d bad) = inr c
 
     seventh : Rules → (rule ≤ 7) ⊎ Rule7 program Here position fault.fault.command
-    seventh (verdict.variables e no) = inl (omega arith)
-    seventh (verdict.targets e a no) = inl (omega arith)
-    seventh (verdict.ranges e a b no) = inl (omega arith)
-    seventh (verdict.accesses e a b c no) = inl (omega arith)
-    seventh (verdict.growths e a b c d no) = inr d
+    seventh (verdict.variables e bad) = inl (omega arith)
+    seventh (verdict.targets e a bad) = inl (omega arith)
+    seventh (verdict.ranges e a b bad) = inl (omega arith)
+    seventh (verdict.accesses e a b c bad) = inl (omega arith)
+    seventh (verdict.growths e a b c d bad) = inr d
 
     eighth : Rules → rule ≤ 8
-    eighth (verdict.variables e no) = omega arith
-    eighth (verdict.targets e a no) = omega arith
-    eighth (verdict.ranges e a b no) = omega arith
-    eighth (verdict.accesses e a b c no) = omega arith
-    eighth (verdict.growths e a b c d no) = omega arith
+    eighth (verdict.variables e bad) = omega arith
+    eighth (verdict.targets e a bad) = omega arith
+    eighth (verdict.ranges e a b bad) = omega arith
+    eighth (verdict.accesses e a b c bad) = omega arith
+    eighth (verdict.growths e a b c d bad) = omega arith
 
     least_here : (other : ℕ) → Breaks other position program → rule ≤ other
     least_here other (memories f g not) = absurd (not parts.rule1)
@@ -193,11 +194,11 @@ module _ (program : Program) where
     least_there other from (demands f g not) lt = not parts.rule9
 
     broken_here : Rules → Breaks rule position program
-    broken_here (verdict.variables e no) = variables e (λ keeps. no (keeps Here fault.fault.command fault.fault.holds fault.fault.stands))
-    broken_here (verdict.targets e a no) = targets e (λ keeps. no (keeps Here fault.fault.command fault.fault.holds fault.fault.stands))
-    broken_here (verdict.ranges e a b no) = ranges e (λ keeps. no (keeps Here fault.fault.command fault.fault.holds fault.fault.stands))
-    broken_here (verdict.accesses e a b c no) = accesses e (λ keeps. no (keeps Here fault.fault.command fault.fault.holds fault.fault.stands))
-    broken_here (verdict.growths e a b c d no) = growths e (λ keeps. no (keeps Here fault.fault.command fault.fault.holds fault.fault.stands))
+    broken_here (verdict.variables e bad) = variables e (λ keeps. bad (keeps Here fault.fault.command fault.fault.holds fault.fault.stands))
+    broken_here (verdict.targets e a bad) = targets e (λ keeps. bad (keeps Here fault.fault.command fault.fault.holds fault.fault.stands))
+    broken_here (verdict.ranges e a b bad) = ranges e (λ keeps. bad (keeps Here fault.fault.command fault.fault.holds fault.fault.stands))
+    broken_here (verdict.accesses e a b c bad) = accesses e (λ keeps. bad (keeps Here fault.fault.command fault.fault.holds fault.fault.stands))
+    broken_here (verdict.growths e a b c d bad) = growths e (λ keeps. bad (keeps Here fault.fault.command fault.fault.holds fault.fault.stands))
 
     pub command_broken : IsFirstBroken rule position program
     command_broken = record {
@@ -205,3 +206,21 @@ module _ (program : Program) where
       least_position = λ other from breaks. elim (cases_lt from position) as (λ _. position ≤ from) [ inl less ↦ absurd (least_there other from breaks less) | inr more ↦ more ];
       least_rule = least_here;
     }
+
+  -- what the check found
+  pub verdict_is : IsProgram program → KeepsParts program → (found : Option Fault)
+      → MatchOption found ((function : ℕ) → function < length program.functions → KeepsBelow program function (length program.commands)) (λ fault. IsFault program fault.rule fault.position.0)
+      → verdict.IsVerdict program found
+  verdict_is facts parts None none = all_kept facts parts none
+  verdict_is facts parts (Some fault) is = command_broken facts parts fault.rule fault.position.0 is
+
+-- an answer by its case
+pub match_some : (K : Type 0) (B : ℕ → Type 0) (found : Option ℕ) (rule : ℕ) → MatchOption found K B → found ≡ Some rule → B rule
+match_some K B found rule h e = subst (λ o. MatchOption o K B) e h
+
+pub match_none : (K : Type 0) (B : ℕ → Type 0) (found : Option ℕ) → MatchOption found K B → found ≡ None → K
+match_none K B found h e = subst (λ o. MatchOption o K B) e h
+
+pub fault_of : (program parts : Program) (found : Option Fault) (fault : Fault) → parts ≡ program → verdict.IsVerdict parts found → found ≡ Some fault → IsFirstBroken fault.rule fault.position.0 program
+fault_of program parts found fault same is e =
+    subst (λ (p : Program). IsFirstBroken fault.rule fault.position.0 p) same (subst (verdict.IsVerdict parts) e is)

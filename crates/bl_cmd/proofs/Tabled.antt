@@ -194,3 +194,16 @@ none_test None true e = (λ _. refl, λ _. refl)
 none_test None false e = absurd (cc)
 none_test (Some x) true e = absurd (cc)
 none_test (Some x) false e = (λ t. absurd (false≢true t), λ n. absurd (none-some x (sym n)))
+
+-- the entries that stand in the table
+pub entry_value : (program : Program) (tables : Tables) (ys : List ℕ) (function i : ℕ) → AreTables program tables → ys ≡ tables.entries → i ≡ function → function ≤ length program.functions → get_or ys i 0 ≡ entry_of program function
+entry_value program tables ys function i good same index le =
+    ap (λ (l : List ℕ). get_or l i 0) same ∙ ap (λ (k : ℕ). get_or tables.entries k 0) index ∙ good.entries.each function le
+
+-- a position between a function's entry and its end
+pub holds_between : (program : Program) (tables : Tables) (first next : List ℕ) (function position : ℕ) → AreTables program tables → function < length program.functions → first ≡ tables.entries → next ≡ tables.entries
+    → get_or first function 0 ≤ position → position < get_or next (function + 1) 0 → Holds program function position
+holds_between program tables first next function position good exists one two from below =
+    let entry = entry_value program tables first function function good one refl (omega arith) in
+    let end = entry_value program tables next (suc function) (function + 1) good two (omega arith) (omega arith) in
+    record { exists = exists; from = omega arith; below = omega arith }

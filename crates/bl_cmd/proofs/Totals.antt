@@ -3,7 +3,7 @@ use Rattle.std.proofs.Common.{◌≡◌, ◌≢◌, ◌⊎◌, ◌↔◌, inl, i
 use Rattle.std.specs.Prelude.{find, option_map, ◌==◌, if◌then◌else◌, unwrap_or}
 use Rattle.std.specs.List.{AllPairs}
 use Rattle.std.proofs.Common.{eq-eqb}
-use Rattle.std.proofs.lemmas.Bool.{eqb-true, cases_lt}
+use Rattle.std.proofs.lemmas.Bool.{eqb-true, cases_lt, false≢true}
 use Rattle.std.proofs.lemmas.Option.{none-some, get_or_from_slice_get, slice_get-get_or, slice_get_within, slice_get_read}
 use Rattle.bl_base.proofs.Lists.{some_same}
 use Rattle.bl_base.specs.Sums.{sum_below}
@@ -100,8 +100,8 @@ module _ (weights : List SiteWeight) (m s : ℕ) (d : SiteWeight) (pairs : AllPa
   ]
 
   -- those from it on are behind the position
-  pub behind_more : s < (get_or weights m d).at.0 → (k : ℕ) (entry : SiteWeight) → m ≤ k → slice_get weights k ≡ Some entry → s < entry.at.0
-  behind_more is k entry le stands = elim (cases_lt m k) as (λ _. s < entry.at.0) [
+  pub behind_more : s ≤ (get_or weights m d).at.0 → ((get_or weights m d).at.0 ≡ s → ⊥) → (k : ℕ) (entry : SiteWeight) → m ≤ k → slice_get weights k ≡ Some entry → s < entry.at.0
+  behind_more over_or apart k entry le stands = let is : s < (get_or weights m d).at.0 = omega arith in elim (cases_lt m k) as (λ _. s < entry.at.0) [
     | inl under ↦ let above = rises_get Rises weights m k (get_or weights m d) entry pairs under at_m stands in omega arith
     | inr over ↦
         let same : k ≡ m = omega arith in
@@ -142,3 +142,14 @@ module _ (weight : ℕ → ℕ) (limit : ℕ) where
       let same : (n - i) + i ≡ n = omega arith in
       let up : sum_below i weight ≤ sum_below n weight = subst (λ (k : ℕ). sum_below i weight ≤ sum_below k weight) same (sum_rises (n - i) i) in
       omega arith
+
+  pub total_false : (i n total here : ℕ) → total ≡ sum_below i Cut → here ≡ Cut i → i < n → limit ≤ total + here → IsTrue false ↔ (sum_below n weight < limit)
+  total_false i n total here is one lt large =
+      let all : limit ≤ sum_below (suc i) Cut = omega arith in
+      let whole = total_large (suc i) n (omega arith) all in
+      (λ t. absurd (false≢true t), λ small. absurd (omega arith))
+
+  pub total_true : (i n total : ℕ) → total ≡ sum_below i Cut → total < limit → i ≡ n → IsTrue true ↔ (sum_below n weight < limit)
+  total_true i n total is lt end =
+      let same = total_small i (omega arith) in
+      (λ _. subst (λ (k : ℕ). sum_below k weight < limit) end (omega arith), λ _. refl)

@@ -30,7 +30,7 @@ loop-low-preserved c =
       within = omega arith;
       order = omega arith;
       before = c.loop-low.invariant.before;
-      behind = behind_more c.args.weights.now (c.loop-low.low + (c.loop-low.high - c.loop-low.low) / 2) c.args.at _ c.requires lt (omega arith);
+      behind = behind_more c.args.weights.now (c.loop-low.low + (c.loop-low.high - c.loop-low.low) / 2) c.args.at _ c.requires lt c.if-found-at-2.false c.if-found-at.false;
     }
 
 pub returns : goal.returns
