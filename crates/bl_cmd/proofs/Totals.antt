@@ -1,15 +1,20 @@
 -- Sums of sizes, demands and weights.
-use Rattle.std.proofs.Common.{◌≡◌, ◌≢◌, ◌⊎◌, ◌↔◌, inl, inr, ℕ, zero, suc, ◌+◌, ◌-◌, ◌<◌, ◌≤◌, List, [], ◌∷◌, length, get_or, min, Option, Some, None, slice_get, Bool, true, false, IsTrue, refl, sym, ap, ◌∙◌, subst, arith}
-use Rattle.std.specs.Prelude.{find, option_map, ◌==◌, if◌then◌else◌, unwrap_or}
+use Rattle.std.proofs.Common.{◌≡◌, ◌≢◌, ◌⊎◌, ◌↔◌, inl, inr, ℕ, zero, suc, ◌+◌, ◌-◌, ◌^◌, ◌<◌, ◌≤◌, List, [], ◌∷◌, length, get_or, min, Option, Some, None, slice_get, Bool, true, false, IsTrue, refl, sym, ap, ◌∙◌, subst, arith}
+use Rattle.std.specs.Prelude.{find, IsSome, option_and_then, option_map, ◌==◌, if◌then◌else◌, unwrap_or}
 use Rattle.std.specs.List.{AllPairs}
+use Rattle.std.proofs.Math.Nat.{pow-le-pow_right}
 use Rattle.std.proofs.Common.{eq-eqb}
 use Rattle.std.proofs.lemmas.Bool.{eqb-true, cases_lt, false≢true}
 use Rattle.std.proofs.lemmas.Option.{none-some, get_or_from_slice_get, slice_get-get_or, slice_get_within, slice_get_read}
-use Rattle.bl_base.proofs.Lists.{some_same}
+use Rattle.bl_base.proofs.Lists.{some_same, all_get}
+use Rattle.bl_base.proofs.Sums.{sum_le, sum_term}
 use Rattle.bl_base.specs.Sums.{sum_below}
-use Rattle.bl_cmd.specs.Layout.{sum_before}
-use Rattle.bl_cmd.specs.Rules.{Precedes}
-use Rattle.bl_cmd.specs.Sites.{listed}
+use Rattle.bl_cmd.specs.Layout.{sum_before, command_at}
+use Rattle.bl_cmd.specs.Rules.{Precedes, IsWeight, IsWellFormed}
+use Rattle.bl_cmd.specs.Sites.{listed, mark_of, mark_at, site_weight, IsSite}
+use Rattle.bl_cmd.specs.declared.command.Command.{Command}
+use Rattle.bl_cmd.specs.declared.command.Mark.{Mark}
+use Rattle.bl_cmd.specs.declared.definitions.ProgramParts.{ProgramParts as Program}
 use Rattle.bl_cmd.specs.declared.definitions.Demand.{Demand}
 use Rattle.bl_cmd.specs.declared.definitions.Demand.TheVariants.{Result, Global}
 use Rattle.bl_cmd.specs.declared.definitions.SiteWeight.{SiteWeight}
@@ -153,3 +158,87 @@ module _ (weight : ℕ → ℕ) (limit : ℕ) where
   total_true i n total is lt end =
       let same = total_small i (omega arith) in
       (λ _. subst (λ (k : ℕ). sum_below k weight < limit) end (omega arith), λ _. refl)
+
+-- ---- the sum over a set
+
+module _ (weight : ℕ → ℕ) (limit n : ℕ) (set : ℕ → Bool) (whole : sum_below n weight < limit) where
+  abbrev In : ℕ → ℕ
+  In s = if set s then weight s else 0
+
+  in_less : (s : ℕ) → In s ≤ weight s
+  in_less s = by (set s)
+    where
+      by : (b : Bool) → (if b then weight s else 0) ≤ weight s
+      by true = omega arith
+      by false = omega arith
+
+  -- one position more
+  pub set_next : (i total here : ℕ) → i < n → total ≡ sum_below i In → here ≡ min (In i) limit → (total + here ≡ sum_below (i + 1) In) × (total + here < limit)
+  set_next i total here lt is one =
+      let under = sum_le n In weight (λ k less. in_less k) in
+      let gap : (n - suc i) + suc i ≡ n = omega arith in
+      let up : sum_below (suc i) In ≤ sum_below n In = subst (λ (k : ℕ). sum_below (suc i) In ≤ sum_below k In) gap (sum_rises In limit (n - suc i) (suc i)) in
+      let next : i + 1 ≡ suc i = omega arith in
+      let both : (total + here ≡ sum_below (suc i) In) × (total + here < limit) = (omega arith, omega arith) in
+      (both.0 ∙ ap (λ (k : ℕ). sum_below k In) (sym next), both.1)
+
+-- ---- the weight of one site
+
+some_is : (o : Option ℕ) → IsSome o → (x : ℕ) × (o ≡ Some x)
+some_is None h = absurd (false≢true h)
+some_is (Some x) h = (x, refl)
+
+-- a command stands at a site
+within_site : (weights : Option ℕ) (o : Option Command) → IsSome (option_map (λ (mark : Mark). unwrap_or weights (10 ^ mark.depth)) (option_and_then mark_of o)) → (c : Command) × (o ≡ Some c)
+within_site weights None h = absurd (false≢true h)
+within_site weights (Some c) h = (c, refl)
+
+-- a weight that is listed
+listed_in : (weights : List SiteWeight) (s w : ℕ) → listed weights s ≡ Some w → (k : ℕ) × (entry : SiteWeight) × (slice_get weights k ≡ Some entry) × (entry.weight ≡ w)
+listed_in [] s w e = absurd (none-some w e)
+listed_in (x ∷ weights) s w e = by (x.at.0 == s) e (listed_in weights s w)
+  where
+    by : (b : Bool) → weight_by (if b then Some x else find (λ (e : SiteWeight). e.at.0 == s) weights) ≡ Some w
+        → (listed weights s ≡ Some w → (k : ℕ) × (entry : SiteWeight) × (slice_get weights k ≡ Some entry) × (entry.weight ≡ w))
+        → (k : ℕ) × (entry : SiteWeight) × (slice_get (x ∷ weights) k ≡ Some entry) × (entry.weight ≡ w)
+    by true e rest = (0, x, refl, some_same x.weight w e)
+    by false e rest = let got = rest e in (suc got.0, got.1, got.2, got.3)
+
+pow_positive : (n : ℕ) → 1 ≤ 10 ^ n
+pow_positive n = pow-le-pow_right {n = 10} (omega arith) {i = 0} {j = n} (omega arith)
+
+-- it is at least 1
+weight_positive : (program : Program) → IsWellFormed program → (o : Option Mark) (s w : ℕ) → option_map (λ (mark : Mark). unwrap_or (listed program.weights s) (10 ^ mark.depth)) o ≡ Some w → 1 ≤ w
+weight_positive program well None s w e = absurd (none-some w e)
+weight_positive program well (Some mark) s w e = by (listed program.weights s) refl (some_same _ w e)
+  where
+    by : (o : Option ℕ) → listed program.weights s ≡ o → unwrap_or o (10 ^ mark.depth) ≡ w → 1 ≤ w
+    by None e is = let positive : 1 ≤ 10 ^ mark.depth = pow_positive mark.depth in omega arith
+    by (Some x) e is =
+        let got = listed_in program.weights s x e in
+        let one = (all_get (IsWeight program) program.weights got.0 got.1 well.rule9.weights got.2).positive in
+        omega (arith, got.3)
+
+pub site_exact : (program parts : Program) (s r : ℕ) → parts ≡ program → IsWellFormed program → IsSite program s → r ≡ min (unwrap_or (site_weight parts s) 0) (2 ^ 63) → (site_weight program s ≡ Some r) × (1 ≤ r)
+site_exact program parts s r same well site is =
+    let got = some_is (site_weight program s) site in
+    let command = within_site (listed program.weights s) (command_at program s) site in
+    let lt = slice_get_within program.commands s command.0 command.1 in
+    let term = sum_term (length program.commands) (λ k. unwrap_or (site_weight program k) 0) s lt in
+    let value : unwrap_or (site_weight program s) 0 ≡ got.0 = ap (λ o. unwrap_or o 0) got.1 in
+    let here : r ≡ min (unwrap_or (site_weight program s) 0) (2 ^ 63) = subst (λ (p : Program). r ≡ min (unwrap_or (site_weight p s) 0) (2 ^ 63)) same is in
+    let exact : r ≡ got.0 = below (2 ^ 63) _ 0 _ r got.0 here value term well.rule9.total in
+    (got.1 ∙ ap Some (sym exact), subst (λ (k : ℕ). 1 ≤ k) (sym exact) (weight_positive program well (mark_at program s) s got.0 got.1))
+  where
+    below : (limit w sum all r x : ℕ) → r ≡ min w limit → w ≡ x → w ≤ all → all < limit → r ≡ x
+    below limit w sum all r x here value term total = omega arith
+
+-- the weight of a set, one position more
+pub weight_next : (program parts : Program) (set : ℕ → Bool) (i total here : ℕ) → parts ≡ program → IsWellFormed program → i < length parts.commands
+    → total ≡ sum_below i (λ s. if set s then unwrap_or (site_weight program s) 0 else 0)
+    → here ≡ min (if set i then unwrap_or (site_weight parts i) 0 else 0) (2 ^ 63)
+    → (total + here ≡ sum_below (i + 1) (λ s. if set s then unwrap_or (site_weight program s) 0 else 0)) × (total + here < 2 ^ 63)
+weight_next program parts set i total here same well lt is one =
+    set_next (λ s. unwrap_or (site_weight program s) 0) (2 ^ 63) (length program.commands) set well.rule9.total i total here
+    (subst (λ (p : Program). i < length p.commands) same lt) is
+    (subst (λ (p : Program). here ≡ min (if set i then unwrap_or (site_weight p i) 0 else 0) (2 ^ 63)) same one)
