@@ -1,10 +1,10 @@
 -- The first rule that is broken.
-use Rattle.std.proofs.Common.{◌≡◌, ◌≢◌, ◌⊎◌, inl, inr, ℕ, zero, suc, ◌+◌, ◌<◌, ◌≤◌, length, Option, Some, None, slice_get, MatchOption, refl, sym, ap, ◌∙◌, subst, arith}
+use Rattle.std.proofs.Common.{◌≡◌, ◌⊎◌, inl, inr, ℕ, suc, ◌+◌, ◌<◌, ◌≤◌, length, Option, Some, None, MatchOption, refl, sym, ap, ◌∙◌, subst, arith}
 use Rattle.std.proofs.lemmas.Bool.{cases_lt}
 use Rattle.bl_base.proofs.Lists.{some_same}
 use Rattle.bl_cmd.specs.Layout.{entry_of, command_at, Holds}
 use Rattle.bl_cmd.specs.Programs.{IsProgram}
-use Rattle.bl_cmd.specs.Rules.{Rule4, Rule5, Rule6, Rule7, Rule8, Breaks, memories, functions, exports, variables, targets, ranges, accesses, growths, demands, IsFirstBroken, IsWellFormed}
+use Rattle.bl_cmd.specs.Rules.{Rule4, Rule5, Rule6, Rule7, Breaks, memories, functions, exports, variables, targets, ranges, accesses, growths, demands, IsFirstBroken, IsWellFormed}
 use Rattle.bl_cmd.specs.Verdicts as verdict
 use Rattle.bl_cmd.specs.Verdicts.{KeepsParts, BreaksParts, KeepsRules, BreaksRule, KeepsBelow, IsFaultIn, IsFault}
 use Rattle.bl_cmd.specs.declared.command.Command.{Command}

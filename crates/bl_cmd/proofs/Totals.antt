@@ -1,5 +1,5 @@
 -- Sums of sizes, demands and weights.
-use Rattle.std.proofs.Common.{◌≡◌, ◌≢◌, ◌⊎◌, ◌↔◌, inl, inr, ℕ, zero, suc, ◌+◌, ◌-◌, ◌^◌, ◌<◌, ◌≤◌, List, [], ◌∷◌, length, get_or, min, Option, Some, None, slice_get, Bool, true, false, IsTrue, refl, sym, ap, ◌∙◌, subst, arith}
+use Rattle.std.proofs.Common.{◌≡◌, ◌↔◌, inl, inr, ℕ, zero, suc, ◌+◌, ◌-◌, ◌^◌, ◌<◌, ◌≤◌, List, [], ◌∷◌, length, get_or, min, Option, Some, None, slice_get, Bool, true, false, IsTrue, refl, sym, ap, ◌∙◌, subst, arith}
 use Rattle.std.specs.Prelude.{find, IsSome, option_and_then, option_map, ◌==◌, if◌then◌else◌, unwrap_or}
 use Rattle.std.specs.List.{AllPairs}
 use Rattle.std.proofs.Math.Nat.{pow-le-pow_right}

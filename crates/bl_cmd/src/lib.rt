@@ -4,6 +4,7 @@
 
 mod command;
 mod definitions;
+pub mod laws;
 mod parts;
 mod place;
 mod program;

@@ -140,7 +140,10 @@ fn are_few(parts: &ProgramParts) -> bool
     if globals > limit || memories > limit - globals {
         return false;
     }
-    have_few(parts.functions.as_slice(), (limit - globals - memories) as u32)
+    have_few(
+        parts.functions.as_slice(),
+        (limit - globals - memories) as u32,
+    )
 }
 
 /// Whether the functions' variables are at most so many.
@@ -161,7 +164,9 @@ fn have_few(functions: &[FunctionDef], most: u32) -> bool
 fn are_values(globals: &[GlobalDef]) -> bool
     ensures { IsTrue result ↔ All (λ global. IsValue global.kind global.first) globals.now }
 {
-    globals.iter().all(|global| is_value(global.kind, global.first))
+    globals
+        .iter()
+        .all(|global| is_value(global.kind, global.first))
 }
 
 /// Whether the number is a value of the type.

@@ -66,9 +66,13 @@ fn is_program(parts: &ProgramParts) -> bool
     ensures { IsTrue result ↔ IsProgram parts.now }
 {
     let commands = parts.commands.as_slice();
-    are_commands(commands)
-        && have_traps(commands)
-        && fill(parts.functions.as_slice(), commands.len())
+    if !are_commands(commands) {
+        return false;
+    }
+    if !have_traps(commands) {
+        return false;
+    }
+    fill(parts.functions.as_slice(), commands.len())
 }
 
 /// Whether each command's kind is one for it, and the operands of each Set are padded.

@@ -258,7 +258,12 @@ fn keeps_growth(place: &Place, command: Command) -> bool
 {
     match command {
         Command::Set {
-            op, to, a, b, c, ..
+            op,
+            to,
+            a,
+            b,
+            c,
+            ..
         } => match place.memory_of(to) {
             Some(memory) => is_grown(place, memory, op, a, b, c),
             None => true,
@@ -365,7 +370,11 @@ fn assigned(command: Command, op: Op, a: Operand, b: Operand, c: Operand) -> Opt
             c: third,
             ..
         } => {
-            if is_operator(operator, op) && is_same(first, a) && is_same(second, b) && is_same(third, c) {
+            if is_operator(operator, op)
+                && is_same(first, a)
+                && is_same(second, b)
+                && is_same(third, c)
+            {
                 Some(to)
             } else {
                 None

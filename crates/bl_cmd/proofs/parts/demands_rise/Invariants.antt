@@ -1,4 +1,3 @@
-use Rattle.std.proofs.Common.{◌<◌}
 use Rattle.std.specs.List.{AllAdjacentBelow}
 use Rattle.bl_cmd.specs.Rules.{Precedes}
 use Rattle.bl_cmd.proofs.parts.demands_rise.Given as goal

@@ -1,4 +1,4 @@
-use Rattle.std.proofs.Common.{◌<◌, refl, sym, ◌∙◌, arith}
+use Rattle.std.proofs.Common.{◌<◌, refl, arith}
 use Rattle.std.proofs.lemmas.Bool.{false≢true}
 use Rattle.bl_cmd.specs.declared.definitions.SiteWeight.{SiteWeight}
 use Rattle.bl_cmd.proofs.Rising.{adjacent_none, adjacent_next, pairs_all, not_pairs, not_below}

@@ -1,4 +1,4 @@
-use Rattle.std.proofs.Common.{◌≡◌, ℕ, inl, inr, sym, subst, length, arith}
+use Rattle.std.proofs.Common.{◌≡◌, ℕ, inl, inr, subst, length, arith}
 use Rattle.std.proofs.lemmas.Bool.{cases_lt}
 use Rattle.bl_cmd.specs.Verdicts.{KeepsBelow}
 use Rattle.bl_cmd.proofs.verdict.fault_among.Goals as goal

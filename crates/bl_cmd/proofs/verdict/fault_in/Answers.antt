@@ -1,6 +1,5 @@
-use Rattle.std.proofs.Common.{◌≡◌, ◌≤◌, ◌+◌, ◌∙◌, ℕ, suc, refl, sym, ap, subst, length, arith}
+use Rattle.std.proofs.Common.{◌+◌, suc, refl, sym, ap, subst, length, arith}
 use Rattle.bl_cmd.specs.declared.command.Command.{Command}
-use Rattle.bl_cmd.specs.Layout.{entry_of, Holds}
 use Rattle.bl_cmd.specs.Verdicts.{KeepsBelow}
 use Rattle.bl_cmd.proofs.Faults.{keeps_begin, keeps_next, keeps_end}
 use Rattle.bl_cmd.proofs.Layouts.{holds_within}
@@ -16,7 +15,7 @@ loop-position-init c =
 pub loop-position-preserved : goal.loop-position-preserved
 loop-position-preserved c =
     let holds = holds_between c.args.parts.now c.args.tables.now c.as_slice.result.now c.as_slice-2.result.now c.args.function c.loop-position.position c.requires.tables c.requires.exists
-        c.as_slice.ensures c.as_slice-2.ensures c.loop-position.auto.position c.loop-position-test.true in
+    c.as_slice.ensures c.as_slice-2.ensures c.loop-position.auto.position c.loop-position-test.true in
     let within = holds_within c.args.parts.now c.args.function c.loop-position.position c.requires.tables.facts holds in
     keeps_next c.args.parts.now c.args.function c.loop-position.position _ c.loop-position.invariant
     (reads_at c.args.parts.now.commands c.as_slice-in-loop-position.result.now c.loop-position.position _ c.as_slice-in-loop-position.ensures within) c.in_default.ensures
@@ -31,7 +30,7 @@ broken_rule-requires c = record {
 pub returns-in-Some : goal.returns-in-Some
 returns-in-Some c =
     let holds = holds_between c.args.parts.now c.args.tables.now c.as_slice.result.now c.as_slice-2.result.now c.args.function c.loop-position.position c.requires.tables c.requires.exists
-        c.as_slice.ensures c.as_slice-2.ensures c.loop-position.auto.position c.loop-position-test.true in
+    c.as_slice.ensures c.as_slice-2.ensures c.loop-position.auto.position c.loop-position-test.true in
     let within = holds_within c.args.parts.now c.args.function c.loop-position.position c.requires.tables.facts holds in
     record {
       command = _;
@@ -50,6 +49,6 @@ returns c =
 pub bounds-as_slice-position : goal.bounds-as_slice-position
 bounds-as_slice-position c =
     let holds = holds_between c.args.parts.now c.args.tables.now c.as_slice.result.now c.as_slice-2.result.now c.args.function c.loop-position.position c.requires.tables c.requires.exists
-        c.as_slice.ensures c.as_slice-2.ensures c.loop-position.auto.position c.loop-position-test.true in
+    c.as_slice.ensures c.as_slice-2.ensures c.loop-position.auto.position c.loop-position-test.true in
     let within = holds_within c.args.parts.now c.args.function c.loop-position.position c.requires.tables.facts holds in
     omega (arith, ap (length {A = Command}) c.as_slice-in-loop-position.ensures)

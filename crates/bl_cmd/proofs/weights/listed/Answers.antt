@@ -1,4 +1,4 @@
-use Rattle.std.proofs.Common.{◌<◌, ◌≤◌, ◌+◌, ◌-◌, ◌/◌, ℕ, length, arith}
+use Rattle.std.proofs.Common.{◌<◌, ◌+◌, ◌-◌, ◌/◌, length, arith}
 use Rattle.bl_cmd.proofs.Totals.{found_middle, before_more, behind_more, none_between}
 use Rattle.bl_cmd.proofs.weights.listed.Goals as goal
 
