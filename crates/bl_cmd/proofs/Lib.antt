@@ -4,5 +4,6 @@ pub mod Faults
 pub mod Layouts
 pub mod Names
 pub mod Rising
+mod Rows
 pub mod Tabled
 pub mod Totals
