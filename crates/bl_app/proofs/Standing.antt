@@ -13,7 +13,7 @@ use Rattle.bl_decode.specs.Limits.{Excess, above, first_excess, first_in, functi
 use Rattle.bl_link.specs.Alone.{IsAlone, count_of, locals_of}
 use Rattle.bl_link.proofs.Spelled.{alone_from}
 use Rattle.bl_app.specs.Form.{IsForm, StandsAlone}
-use Rattle.bl_app.specs.Refusals.{Accepted, most_bytes}
+use Rattle.bl_app.specs.Loading.{Accepted}
 
 -- ---- the limits
 
@@ -53,7 +53,7 @@ within_limits tree none =
 -- ---- modules that stand alone
 
 -- one that its bytes spell, within the limits, can be linked by itself
-pub alone_of : (bytes : List ℕ) (tree : Module) → length bytes ≤ most_bytes → Spells bytes tree → first_excess tree ≡ None → StandsAlone tree → IsAlone tree
+pub alone_of : (bytes : List ℕ) (tree : Module) → length bytes ≤ 4194304 → Spells bytes tree → first_excess tree ≡ None → StandsAlone tree → IsAlone tree
 alone_of bytes tree short spelled within alone =
     let limits = within_limits tree within in
     alone_from bytes tree spelled (omega (arith, short)) alone.imports alone.tables alone.memories limits.0 limits.1
@@ -63,8 +63,8 @@ pub form_alone : (tree : Module) → IsForm tree → StandsAlone tree
 form_alone tree form = form.bare.alone
 
 -- accepted modules can be linked by themselves
-pub accepted_alone : (bytes : List ℕ) (tree : Module) → Accepted StandsAlone bytes tree → IsAlone tree
-accepted_alone bytes tree a = alone_of bytes tree a.short a.spelled a.within a.form
+pub accepted_alone : (bytes : List ℕ) (tree : Module) → length bytes ≤ 4194304 → Accepted StandsAlone bytes tree → IsAlone tree
+accepted_alone bytes tree short a = alone_of bytes tree short a.spelled a.within a.form
 
-pub accepted_form_alone : (bytes : List ℕ) (tree : Module) → Accepted IsForm bytes tree → IsAlone tree
-accepted_form_alone bytes tree a = alone_of bytes tree a.short a.spelled a.within (form_alone tree a.form)
+pub accepted_form_alone : (bytes : List ℕ) (tree : Module) → length bytes ≤ 4194304 → Accepted IsForm bytes tree → IsAlone tree
+accepted_form_alone bytes tree short a = alone_of bytes tree short a.spelled a.within (form_alone tree a.form)
