@@ -190,8 +190,8 @@ const several = [
 const few = [[[], []], [["I32"], ["I32"]]];
 
 // ---- modules: the parts that differ from the module above, and the profile's answer where it isn't node's
-// ---- types, functions and code
-const code_cases = [
+// ---- types and functions
+const type_cases = [
   ["as it is", {}],
   // types; the profile has no floats
   ["an f32 parameter", { types: [...few, [["F32"], []]] }, "RULE"],
@@ -220,7 +220,10 @@ const code_cases = [
   ["two such bodies", { functions: [1, 1, 1], bodies: ["20 00", "6A", "6A"] }],
   ["that body and a second memory", { memories: [one, one], bodies: ["6A"] }, "Some(Invalid::Function(1))"],
   ["a type of two results beside that body", { types: [...few, [[], ["I32", "I32"]]], bodies: ["6A"] }],
-  // code; floats again
+];
+
+// ---- code; floats again
+const code_cases = [
   ["a local of f32", { locals: [[1, "F32"]] }, "RULE"],
   ["locals in several runs", { locals: [[2, "I32"], [0, "I64"], [1, "I64"]], bodies: ["20 03 A7 20 02 6A"] }],
   ["a block of f32", { bodies: ["02 7D 00 0B 1A 20 00"] }, "RULE"],
@@ -330,9 +333,6 @@ const module_table = (name, title, modules) => {
 
 writeFileSync(`${process.argv[2]}/validate_bodies.rt`, ["//! Bodies that were judged elsewhere.\n",
   body_table("BODIES", "Bodies", bodies), body_table("SEVERAL", "Bodies with blocks that have parameters or several results", several)].join("\n"));
-writeFileSync(`${process.argv[2]}/validate_modules.rt`, ["//! Modules that were judged elsewhere, by the parts that differ from those of a valid one.\nuse super::validate::{CONSTANT, Case, Change, FUNCTION, RULE};
-use bl_validate::Invalid;
-use bl_wasm::WasmType::{F32, F64, I32, I64};
-use bl_wasm::{ExportKind, GlobalType, ImportKind, Limits};\n",
-  module_table("CODE", "Types, functions and code", code_cases), module_table("STORES", "Tables, memories and globals", store_cases),
+writeFileSync(`${process.argv[2]}/validate_modules.rt`, ["//! Modules that were judged elsewhere, by the parts that differ from those of a valid one.\nuse super::validate::{CONSTANT, Case, Change, FUNCTION, RULE};\nuse bl_validate::Invalid;\nuse bl_wasm::WasmType::{F32, F64, I32, I64};\nuse bl_wasm::{ExportKind, GlobalType, ImportKind, Limits};\n",
+  module_table("TYPES", "Types and functions", type_cases), module_table("CODE", "Code", code_cases), module_table("STORES", "Tables, memories and globals", store_cases),
   module_table("SEGMENTS", "Segments, exports and the start function", segment_cases)].join("\n"));

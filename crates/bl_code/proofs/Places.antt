@@ -5,10 +5,11 @@ use Rattle.std.specs.Result.{IsErrAnd}
 use Rattle.std.proofs.lemmas.Result.{err_from_is_err_and}
 use Rattle.std.proofs.lemmas.List.Folds.{drop_split}
 use Rattle.bl_wasm.specs.Values.{Spellings, ◌⨾◌, byte, given}
-use Rattle.bl_code.specs.Reading.{IsAt, NoneAt, Refuses, Reads, behind}
+use Rattle.bl_code.specs.Reading.{IsAt, NoneAt, Refuses, Reads, Finds, behind}
 use Rattle.bl_code.specs.Unique.{Same, IsOne}
 use Rattle.bl_code.specs.declared.error.CodeError.{CodeError}
 use Rattle.bl_code.specs.declared.error.CodeError.TheVariants.{Malformed, Memory}
+use Rattle.bl_code.specs.declared.error.Malformed.{Malformed as NotSpelled}
 use Rattle.bl_code.proofs.Unique.{rest_same, byte_same}
 
 -- the bytes from a place to another are such a spelling
@@ -140,6 +141,10 @@ at_front bytes j s t inside spelled whole =
 pub passes : {A : Type 0} (B : A → Spellings) (bytes : List ℕ) (i : ℕ) (r : Result (A × ℕ) CodeError) (e : CodeError) → IsErrAnd r (λ y. y ≡ e) → Refuses B bytes i e → Reads B bytes i r
 passes B bytes i r e gives h = let p = err_from_is_err_and r gives in rw (p.1, p.2) h
 
+-- and where there is but one reason
+pub passes_none : {A : Type 0} (B : A → Spellings) (bytes : List ℕ) (i : ℕ) (r : Result (A × ℕ) NotSpelled) (e : NotSpelled) → IsErrAnd r (λ y. y ≡ e) → NoneAt B bytes i → Finds B bytes i r
+passes_none B bytes i r e gives none = let p = err_from_is_err_and r gives in rw p.1 none
+
 -- a first byte, and what is left behind it
 by_head : (S : Spellings) (f : List ℕ) → (S [] → ⊥) → S f → (m : ℕ) × (byte m ⨾ (λ t. S (m ∷ t))) f
 by_head S [] never s = absurd (never s)
@@ -182,3 +187,8 @@ reads_behind {A} B bytes i j n (Ok found) never first h =
     joined x t s = subst (B x) (sym (s.whole ∙ ap (λ f. f ++ s.rest) s.first)) s.second
 reads_behind B bytes i j n (Err Malformed) never first h = none_behind B bytes i j n never first h
 reads_behind B bytes i j n (Err Memory) never first h = tt
+
+-- a reader of what is left behind the first byte finds the whole
+pub finds_behind : {A : Type 0} (B : A → Spellings) (bytes : List ℕ) (i j n : ℕ) (r : Result (A × ℕ) NotSpelled) → ((x : A) → B x [] → ⊥) → IsAt byte bytes i j n → Finds (behind B n) bytes j r → Finds B bytes i r
+finds_behind B bytes i j n (Ok found) never first h = reads_behind B bytes i j n (Ok found) never first h
+finds_behind B bytes i j n (Err e) never first h = none_behind B bytes i j n never first h

@@ -5,12 +5,12 @@ ghost use Rattle.bl_wasm.specs.Codes.{float_access_code};
 ghost use Rattle.bl_wasm.specs.Types.{block_type};
 ghost use Rattle.bl_wasm.specs.Values.{u32};
 ghost use Rattle.bl_wasm.specs.Instructions.{instruction, memory_argument};
-ghost use Rattle.bl_code.specs.Reading.{Reads, behind};
+ghost use Rattle.bl_code.specs.Reading.{Finds, Reads, behind};
 ghost use Rattle.bl_code.specs.Shapes.{IsTypedCode, IsIndexedCode, IsAccessCode, IsZeroCode, IsOtherCode, IsNumericCode};
 ghost use Rattle.bl_wasm.specs.declared.instruction.Instr.{Instr};
 ghost use Rattle.bl_wasm.specs.declared.types.BlockType.{BlockType};
 
-use crate::error::CodeError;
+use crate::error::{CodeError, Malformed};
 use crate::format::{Format, read_vec};
 use crate::types::read_block_type;
 use crate::values::{read_byte, read_f32, read_f64, read_i32, read_i64, read_u32};
@@ -32,7 +32,7 @@ impl Format for Index {
     ghost one = { u32_one };
 
     fn read(_alloc: Global, bytes: &[u8], at: usize) -> Result<(u32, usize), CodeError> {
-        read_u32(bytes, at)
+        Ok(read_u32(bytes, at)?)
     }
 }
 
@@ -147,9 +147,9 @@ fn read_call_indirect(bytes: &[u8], at: usize) -> Result<(Instr, usize), CodeErr
 }
 
 /// Reads the immediate of a load or a store (section 5.4.4): two numbers.
-fn read_memory_argument(bytes: &[u8], at: usize) -> Result<(MemoryArgument, usize), CodeError>
+fn read_memory_argument(bytes: &[u8], at: usize) -> Result<(MemoryArgument, usize), Malformed>
     requires { at ≤ length bytes.now }
-    ensures { Reads memory_argument bytes.now at result }
+    ensures { Finds memory_argument bytes.now at result }
 {
     let (alignment, place) = read_u32(bytes, at)?;
     let (offset, place) = read_u32(bytes, place)?;

@@ -10,7 +10,7 @@ pub mod laws;
 mod types;
 mod values;
 
-pub use error::CodeError;
+pub use error::{CodeError, Malformed};
 pub use expression::read_expression;
 pub use format::{Format, read_sized, read_vec};
 pub use instruction::{Index, read_instr};

@@ -1,27 +1,27 @@
 //! Values (WebAssembly 1.0, section 5.2).
 ghost use Rattle.std.specs.Prelude.{◌≡◌, ◌+◌, ◌≤◌, ◌<◌, ℕ, length, slice_range, IfOk, IfErr};
 ghost use Rattle.bl_wasm.specs.Values.{byte, u32, int, f32, f64, given, exactly, byte_vec, name};
-ghost use Rattle.bl_code.specs.Reading.{Reads};
+ghost use Rattle.bl_code.specs.Reading.{Finds, Reads};
 
-use crate::error::CodeError;
+use crate::error::{CodeError, Malformed};
 use bl_base::Text;
 use std::alloc::Global;
 
 /// Reads one byte.
-pub fn read_byte(bytes: &[u8], at: usize) -> Result<(u8, usize), CodeError>
+pub fn read_byte(bytes: &[u8], at: usize) -> Result<(u8, usize), Malformed>
     requires { at ≤ length bytes.now }
-    ensures { Reads byte bytes.now at result }
+    ensures { Finds byte bytes.now at result }
 {
     match bytes.get(at) {
         Some(byte) => Ok((*byte, at + 1)),
-        None => Err(CodeError::Malformed),
+        None => Err(Malformed),
     }
 }
 
 /// Reads an unsigned number of 32 bits (section 5.2.2); each spelling of it is taken.
-pub fn read_u32(bytes: &[u8], at: usize) -> Result<(u32, usize), CodeError>
+pub fn read_u32(bytes: &[u8], at: usize) -> Result<(u32, usize), Malformed>
     requires { at ≤ length bytes.now }
-    ensures { Reads u32 bytes.now at result }
+    ensures { Finds u32 bytes.now at result }
 {
     match bytes.get(at) {
         Some(byte) if *byte < 0x80 => Ok((u32::from(*byte), at + 1)),
@@ -30,20 +30,20 @@ pub fn read_u32(bytes: &[u8], at: usize) -> Result<(u32, usize), CodeError>
 }
 
 /// Reads an unsigned number of 32 bits of any spelling.
-fn read_any_u32(bytes: &[u8], at: usize) -> Result<(u32, usize), CodeError>
+fn read_any_u32(bytes: &[u8], at: usize) -> Result<(u32, usize), Malformed>
     requires { at ≤ length bytes.now }
-    ensures { Reads u32 bytes.now at result }
+    ensures { Finds u32 bytes.now at result }
 {
     match bl_leb::read_u32(bytes, at) {
         Some(found) => Ok(found),
-        None => Err(CodeError::Malformed),
+        None => Err(Malformed),
     }
 }
 
 /// Reads a number of 32 bits that is spelled as a signed one (section 5.2.2); gives the unsigned one with its bits.
-pub fn read_i32(bytes: &[u8], at: usize) -> Result<(u32, usize), CodeError>
+pub fn read_i32(bytes: &[u8], at: usize) -> Result<(u32, usize), Malformed>
     requires { at ≤ length bytes.now }
-    ensures { Reads (int 32) bytes.now at result }
+    ensures { Finds (int 32) bytes.now at result }
 {
     match bytes.get(at) {
         Some(byte) if *byte < 0x40 => Ok((u32::from(*byte), at + 1)),
@@ -52,20 +52,20 @@ pub fn read_i32(bytes: &[u8], at: usize) -> Result<(u32, usize), CodeError>
 }
 
 /// Reads a number of 32 bits of any spelling as a signed one.
-fn read_any_i32(bytes: &[u8], at: usize) -> Result<(u32, usize), CodeError>
+fn read_any_i32(bytes: &[u8], at: usize) -> Result<(u32, usize), Malformed>
     requires { at ≤ length bytes.now }
-    ensures { Reads (int 32) bytes.now at result }
+    ensures { Finds (int 32) bytes.now at result }
 {
     match bl_leb::read_i32(bytes, at) {
         Some((number, place)) => Ok((number.cast_unsigned(), place)),
-        None => Err(CodeError::Malformed),
+        None => Err(Malformed),
     }
 }
 
 /// Reads a number of 64 bits that is spelled as a signed one (section 5.2.2); gives the unsigned one with its bits.
-pub fn read_i64(bytes: &[u8], at: usize) -> Result<(u64, usize), CodeError>
+pub fn read_i64(bytes: &[u8], at: usize) -> Result<(u64, usize), Malformed>
     requires { at ≤ length bytes.now }
-    ensures { Reads (int 64) bytes.now at result }
+    ensures { Finds (int 64) bytes.now at result }
 {
     match bytes.get(at) {
         Some(byte) if *byte < 0x40 => Ok((u64::from(*byte), at + 1)),
@@ -74,38 +74,38 @@ pub fn read_i64(bytes: &[u8], at: usize) -> Result<(u64, usize), CodeError>
 }
 
 /// Reads a number of 64 bits of any spelling as a signed one.
-fn read_any_i64(bytes: &[u8], at: usize) -> Result<(u64, usize), CodeError>
+fn read_any_i64(bytes: &[u8], at: usize) -> Result<(u64, usize), Malformed>
     requires { at ≤ length bytes.now }
-    ensures { Reads (int 64) bytes.now at result }
+    ensures { Finds (int 64) bytes.now at result }
 {
     match bl_leb::read_i64(bytes, at) {
         Some((number, place)) => Ok((number.cast_unsigned(), place)),
-        None => Err(CodeError::Malformed),
+        None => Err(Malformed),
     }
 }
 
 /// Reads a float of 32 bits (section 5.2.3); gives its bits.
-pub fn read_f32(bytes: &[u8], at: usize) -> Result<(u32, usize), CodeError>
+pub fn read_f32(bytes: &[u8], at: usize) -> Result<(u32, usize), Malformed>
     requires { at ≤ length bytes.now }
-    ensures { Reads f32 bytes.now at result }
+    ensures { Finds f32 bytes.now at result }
 {
     match &bytes[at..] {
         [a, b, c, d, ..] => Ok((u32::from_le_bytes([*a, *b, *c, *d]), at + 4)),
-        _ => Err(CodeError::Malformed),
+        _ => Err(Malformed),
     }
 }
 
 /// Reads a float of 64 bits (section 5.2.3); gives its bits.
-pub fn read_f64(bytes: &[u8], at: usize) -> Result<(u64, usize), CodeError>
+pub fn read_f64(bytes: &[u8], at: usize) -> Result<(u64, usize), Malformed>
     requires { at ≤ length bytes.now }
-    ensures { Reads f64 bytes.now at result }
+    ensures { Finds f64 bytes.now at result }
 {
     match &bytes[at..] {
         [a, b, c, d, e, f, g, h, ..] => Ok((
             u64::from_le_bytes([*a, *b, *c, *d, *e, *f, *g, *h]),
             at + 8,
         )),
-        _ => Err(CodeError::Malformed),
+        _ => Err(Malformed),
     }
 }
 

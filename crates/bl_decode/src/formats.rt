@@ -110,7 +110,7 @@ impl Format for ValueTypes {
     ghost one = { value_type_one };
 
     fn read(_alloc: Global, bytes: &[u8], at: usize) -> Result<(WasmType, usize), CodeError> {
-        read_value_type(bytes, at)
+        Ok(read_value_type(bytes, at)?)
     }
 }
 
@@ -125,7 +125,7 @@ impl Format for Memories {
     ghost one = { limits_one };
 
     fn read(_alloc: Global, bytes: &[u8], at: usize) -> Result<(Limits, usize), CodeError> {
-        read_limits(bytes, at)
+        Ok(read_limits(bytes, at)?)
     }
 }
 

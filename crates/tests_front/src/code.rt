@@ -1,6 +1,6 @@
 use bl_code::{
-    CodeError, Index, read_block_type, read_expression, read_instr, read_limits, read_name,
-    read_sized, read_vec,
+    CodeError, Index, Malformed, read_block_type, read_expression, read_instr, read_limits,
+    read_name, read_sized, read_vec,
 };
 use bl_ops::{AccessKind, Op};
 use bl_wasm::{BlockType, Instr, Limits, MemoryArgument, WasmType};
@@ -42,7 +42,7 @@ static BLOCK_TYPES: [(&[u8], Option<(BlockType, usize)>); 21] = [
 #[test]
 fn a_block_type_is_nothing_a_value_type_or_an_index(rt: HostRuntime) -> Result<(), Fail> {
     for (bytes, found) in BLOCK_TYPES.iter() {
-        let expected = found.ok_or(CodeError::Malformed);
+        let expected = found.ok_or(Malformed);
         assert!(rt; read_block_type(bytes, 0) == expected);
     }
     let alloc = rt.alloc();
@@ -158,7 +158,7 @@ fn values_types_and_vectors_are_read(rt: HostRuntime) -> Result<(), Fail> {
         max: Some(128),
     };
     assert!(rt; read_limits(&[0x01, 0x01, 0x80, 0x01], 0) == Ok((limits, 4)));
-    assert!(rt; read_limits(&[0x02, 0x01], 0) == Err(CodeError::Malformed));
+    assert!(rt; read_limits(&[0x02, 0x01], 0) == Err(Malformed));
     let found = read_vec::<Index>(alloc, &[0x02, 0x07, 0x87, 0x00], 0);
     assert!(rt; matches!(&found, Ok((list, 4)) if list.as_slice() == [7, 7].as_slice()));
     assert!(rt; read_sized::<Index>(alloc, &[0x02, 0x87, 0x00], 0) == Ok((7, 3)));

@@ -11,7 +11,7 @@ ghost use Rattle.std.specs.Prelude.{◌<◌, ◌^◌, IsTrue, length};
 ghost use Rattle.bl_wasm.specs.Validity.{functions_of};
 
 use super::validate_bodies::{BODIES, SEVERAL};
-use super::validate_modules::{CODE, SEGMENTS, STORES};
+use super::validate_modules::{CODE, SEGMENTS, STORES, TYPES};
 use bl_base::{List, Text};
 use bl_ops::{AccessKind, by_code};
 use bl_validate::{Invalid, validate};
@@ -452,6 +452,12 @@ fn first_wrong(alloc: Global, cases: &[Case]) -> Result<Option<(usize, Option<In
         }
     }
     Ok(None)
+}
+
+#[test]
+fn types_are_judged_as_elsewhere(rt: HostRuntime) -> Result<(), Fail> {
+    assert_eq!(rt; first_wrong(rt.alloc(), &TYPES)?, None);
+    Ok(())
 }
 
 #[test]

@@ -4,8 +4,8 @@ use bl_validate::Invalid;
 use bl_wasm::WasmType::{F32, F64, I32, I64};
 use bl_wasm::{ExportKind, GlobalType, ImportKind, Limits};
 
-/// Types, functions and code.
-pub(super) static CODE: [Case; 42] = [
+/// Types and functions.
+pub(super) static TYPES: [Case; 26] = [
     // as it is
     (&[], None),
     // an f32 parameter
@@ -225,6 +225,10 @@ pub(super) static CODE: [Case; 42] = [
         ],
         Some(Invalid::Function(1)),
     ),
+];
+
+/// Code.
+pub(super) static CODE: [Case; 16] = [
     // a local of f32
     (&[Change::Locals(&[(1, F32)])], RULE),
     // locals in several runs

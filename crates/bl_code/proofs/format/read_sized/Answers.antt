@@ -1,3 +1,4 @@
+use Rattle.bl_code.specs.declared.error.CodeError.TheVariants.{Malformed}
 use Rattle.std.proofs.Common.{◌+◌, ◌≤◌, ◌<◌, length, arith}
 use Rattle.bl_code.proofs.Places.{passes}
 use Rattle.bl_code.proofs.Sizes.{err_size, none_short, err_contents, none_elsewhere, sized_read}
@@ -6,7 +7,7 @@ use Rattle.bl_code.proofs.format.read_sized.Goals as goal
 pub returns-in_err-size : goal.returns-in_err-size
 returns-in_err-size g c =
     passes _ c.args.bytes.now c.args.at c.from_residual.result _ c.from_residual.ensures.1
-    (err_size g.F.Format.spellings c.args.bytes.now c.args.at _ c.in_err-size.ensures)
+    (err_size g.F.Format.spellings c.args.bytes.now c.args.at Malformed c.in_err-size.ensures)
 
 pub returns-in_err-tree : goal.returns-in_err-tree
 returns-in_err-tree g c =

@@ -1,3 +1,4 @@
+use Rattle.bl_code.specs.declared.error.CodeError.TheVariants.{Malformed}
 use Rattle.bl_code.proofs.Places.{passes}
 use Rattle.bl_code.proofs.Immediates.{err_access, none_access}
 use Rattle.bl_code.proofs.instruction.read_access.Goals as goal
@@ -5,7 +6,7 @@ use Rattle.bl_code.proofs.instruction.read_access.Goals as goal
 pub returns-in_err-argument : goal.returns-in_err-argument
 returns-in_err-argument c =
     passes _ c.args.bytes.now c.args.at c.from_residual.result _ c.from_residual.ensures.1
-    (err_access c.args.code c.args.bytes.now c.args.at _ c.requires.code c.in_err-argument.ensures)
+    (err_access c.args.code c.args.bytes.now c.args.at Malformed c.requires.code c.in_err-argument.ensures)
 
 pub returns-in-None : goal.returns-in-None
 returns-in-None c x end h =

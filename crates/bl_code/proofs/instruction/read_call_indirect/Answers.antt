@@ -12,12 +12,12 @@ use Rattle.bl_code.proofs.instruction.read_call_indirect.Goals as goal
 pub returns-in_err-index : goal.returns-in_err-index
 returns-in_err-index c =
     passes _ c.args.bytes.now c.args.at c.from_residual.result _ c.from_residual.ensures.1
-    (err_indirect 0x11 c.args.bytes.now c.args.at _ refl (err_first u32 (λ (s : Shape). u32 0) number_part c.args.bytes.now c.args.at _ c.in_err-index.ensures))
+    (err_indirect 0x11 c.args.bytes.now c.args.at Malformed refl (err_first u32 (λ (s : Shape). u32 0) number_part c.args.bytes.now c.args.at Malformed c.in_err-index.ensures))
 
 pub returns-in_err-zero : goal.returns-in_err-zero
 returns-in_err-zero c =
     passes _ c.args.bytes.now c.args.at c.from_residual-in_err-zero.result _ c.from_residual-in_err-zero.ensures.1
-    (err_indirect 0x11 c.args.bytes.now c.args.at _ refl (err_second u32 u32 number_part (λ _. 0) c.args.bytes.now c.args.at c.in_ok-index.place c.in_ok-index.index _ u32_one c.in_ok-index.ensures c.in_err-zero.ensures))
+    (err_indirect 0x11 c.args.bytes.now c.args.at Malformed refl (err_second u32 u32 number_part (λ _. 0) c.args.bytes.now c.args.at c.in_ok-index.place c.in_ok-index.index Malformed u32_one c.in_ok-index.ensures c.in_err-zero.ensures))
 
 pub returns-then-zero-ne0 : goal.returns-then-zero-ne0
 returns-then-zero-ne0 c =

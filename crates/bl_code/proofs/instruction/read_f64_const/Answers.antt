@@ -1,3 +1,4 @@
+use Rattle.bl_code.specs.declared.error.CodeError.TheVariants.{Malformed}
 use Rattle.std.proofs.Common.{refl}
 use Rattle.bl_code.proofs.Places.{passes}
 use Rattle.bl_code.proofs.Immediates.{err_float64}
@@ -6,4 +7,4 @@ use Rattle.bl_code.proofs.instruction.read_f64_const.Goals as goal
 pub returns-in_err-bits : goal.returns-in_err-bits
 returns-in_err-bits c =
     passes _ c.args.bytes.now c.args.at c.from_residual.result _ c.from_residual.ensures.1
-    (err_float64 0x44 c.args.bytes.now c.args.at _ refl c.in_err-bits.ensures)
+    (err_float64 0x44 c.args.bytes.now c.args.at Malformed refl c.in_err-bits.ensures)

@@ -8,7 +8,7 @@ use Rattle.bl_code.proofs.instruction.read_memory_size.Goals as goal
 pub returns-in_err-reserved : goal.returns-in_err-reserved
 returns-in_err-reserved c =
     passes _ c.args.bytes.now c.args.at c.from_residual.result _ c.from_residual.ensures.1
-    (err_zero c.args.code c.args.bytes.now c.args.at _ c.requires.code (err_along byte (λ (s : Shape). byte 0) (λ _. 0) c.args.bytes.now c.args.at _ (λ s t h. h) c.in_err-reserved.ensures))
+    (err_zero c.args.code c.args.bytes.now c.args.at Malformed c.requires.code (err_along byte (λ (s : Shape). byte 0) (λ _. 0) c.args.bytes.now c.args.at Malformed (λ s t h. h) c.in_err-reserved.ensures))
 
 pub returns-then-reserved-ne0 : goal.returns-then-reserved-ne0
 returns-then-reserved-ne0 c =

@@ -6,7 +6,7 @@ use Rattle.bl_code.proofs.types.read_type_index.Goals as goal
 
 pub returns-in-Err : goal.returns-in-Err
 returns-in-Err c x end h =
-    let same = index_same c.args.bytes.now c.args.at c.in_ok-number.place end x c.in_ok-number.number c.in_ok-number.ensures.found h in
+    let same = index_same c.args.bytes.now c.args.at c.in-Some.place end x c.in-Some.number c.in-Some.ensures.found h in
     let high = same.1.1 in
     let small : x < 2 ^ 32 = omega (arith, ints) in
     let wide : SFits w64 (pos x) = omega (arith, ints) in

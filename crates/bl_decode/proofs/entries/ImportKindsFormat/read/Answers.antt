@@ -4,6 +4,7 @@ use Rattle.bl_wasm.specs.Values.{byte, u32}
 use Rattle.bl_wasm.specs.Types.{limits, table_type, global_type}
 use Rattle.bl_wasm.specs.Sections.{import_kind}
 use Rattle.bl_wasm.specs.declared.module.ImportKind.TheVariants.{Function, Table, Memory, Global}
+use Rattle.bl_code.specs.declared.error.CodeError.TheVariants.{Malformed}
 use Rattle.bl_code.proofs.Places.{passes, err_byte}
 use Rattle.bl_decode.proofs.ImportForms.{kind_never_empty, err_function, err_table, err_memory, err_global, at_kind, none_kind}
 use Rattle.bl_decode.proofs.entries.ImportKindsFormat.read.Goals as goal
@@ -11,7 +12,7 @@ use Rattle.bl_decode.proofs.entries.ImportKindsFormat.read.Goals as goal
 pub returns-in_err-code : goal.returns-in_err-code
 returns-in_err-code c =
     passes import_kind c.args.bytes.now c.args.at c.from_residual.result _ c.from_residual.ensures.1
-    (err_byte import_kind c.args.bytes.now c.args.at _ kind_never_empty c.in_err-code.ensures)
+    (err_byte import_kind c.args.bytes.now c.args.at Malformed kind_never_empty c.in_err-code.ensures)
 
 pub returns-in_err-kind-in-0 : goal.returns-in_err-kind-in-0
 returns-in_err-kind-in-0 c =
