@@ -1,11 +1,12 @@
 -- The stages of modules keep the laws; and what they make of one module.
 use Rattle.std.proofs.Common.{◌≡◌, ℕ, ◌⊎◌, inl, inr, List, [], ◌∷◌, Option, Some, None, refl, ap, sym, ◌∙◌, subst}
+use Rattle.bl_base.proofs.Lists.{some_same}
 use Rattle.bl_base.specs.declared.quantity.Quantity.{Quantity}
 use Rattle.bl_wasm.specs.declared.linked.Tree.{Tree}
 use Rattle.bl_wasm.specs.declared.module.Module.{Module}
+use Rattle.bl_wasm.specs.Limits.{Excess, first_excess}
 use Rattle.bl_wasm.specs.Modules.{Spells}
 use Rattle.bl_wasm.specs.Validity.{Typed}
-use Rattle.bl_decode.specs.Limits.{Excess, first_excess}
 use Rattle.bl_decode.specs.Supported.{IsSupported}
 use Rattle.bl_decode.proofs.Trees.{one_spelled}
 use Rattle.bl_validate.specs.Verdicts.{IsReason}
@@ -20,9 +21,6 @@ use Rattle.bl_app.specs.Working.{of_module}
 use Rattle.bl_app.proofs.StageLemmas.{chain_lawful, each_lawful}
 
 -- ---- decoding
-
-some_same : (x y : Excess) → Some x ≡ Some y → x ≡ y
-some_same x y e = cc
 
 -- one excess is one limit
 one_limit : (found : Option Excess) (which other : Quantity) (value count : ℕ) → found ≡ Some (which, value) → found ≡ Some (other, count) → limit which value ≡ limit other count

@@ -1,9 +1,8 @@
 -- `interp`: its job, and what is said where it is done.
 use Rattle.std.specs.Prelude.{◌≡◌, ℕ, List, [], ◌∷◌, map, Option}
-use Rattle.bl_base.specs.Runs.{Outcome}
+use Rattle.bl_base.specs.Runs.{IsWithin, Outcome}
 use Rattle.bl_base.specs.declared.quantity.Quantity.TheVariants as quantity
-use Rattle.bl_machine.specs.Interpreting.{IsWithin}
-use Rattle.bl_reduce.specs.Outcomes.{first_store}
+use Rattle.bl_reduce.specs.Outcomes.{first_store, source}
 use Rattle.bl_app.specs.Form.{StandsAlone}
 use Rattle.bl_app.specs.Hardening.{module_read}
 use Rattle.bl_app.specs.Jobs.{AreRead, Job, Plan, Read, saying}
@@ -26,7 +25,7 @@ preparing request start = chain (loading StandsAlone) (opening request.export st
 
 -- the run of a function has that outcome within so many steps, or none within them
 abbrev pub HasOutcome : Opened → ℕ → Option Outcome → Type 0
-HasOutcome opened steps outcome = IsWithin opened.tree opened.function opened.start steps outcome
+HasOutcome opened steps outcome = IsWithin (source opened.tree opened.function opened.start) steps outcome
 
 -- the text of the outcome, by the types of the results and the memories at the start
 abbrev pub printed_of : Opened → ℕ → Option Outcome → List ℕ

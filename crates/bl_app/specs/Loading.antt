@@ -7,8 +7,8 @@ use Rattle.bl_wasm.specs.Modules.{Spells}
 use Rattle.bl_wasm.specs.Validity.{Typed}
 use Rattle.bl_wasm.specs.declared.linked.Tree.{Tree}
 use Rattle.bl_wasm.specs.declared.module.Module.{Module}
+use Rattle.bl_wasm.specs.Limits.{first_excess}
 use Rattle.bl_decode.specs.Supported.{IsSupported}
-use Rattle.bl_decode.specs.Limits.{first_excess}
 use Rattle.bl_validate.specs.Verdicts.{IsReason}
 use Rattle.bl_validate.specs.declared.verdict.Invalid.{Invalid}
 use Rattle.bl_validate.specs.declared.verdict.Invalid.TheVariants as reason

@@ -2,7 +2,8 @@
 ghost use Rattle.std.specs.Prelude.{◌≡◌, ◌++◌, [], IfOk, codes};
 ghost use Rattle.std.specs.Fmt.{decimal};
 ghost use Rattle.bl_base.specs.Trap.{text_of};
-ghost use Rattle.bl_machine.specs.Interpreting.{memories_in, outcome_of};
+ghost use Rattle.bl_base.specs.Runs.{outcome_of};
+ghost use Rattle.bl_machine.specs.Interpreting.{memories_in};
 ghost use Rattle.bl_app.specs.Outcomes.{outcome_status, outcome_text, type_word, value_text, values_text};
 ghost use Rattle.bl_app.specs.Texts.{line};
 

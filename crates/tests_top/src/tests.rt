@@ -1,3 +1,4 @@
+mod blocks;
 mod interp;
 mod words;
 

@@ -6,7 +6,7 @@ use std::alloc::Global;
 use std::test::Fail;
 
 /// Calls `blade` on a shelf with the module and the start file, of which the call of that number fails.
-fn call(
+pub(super) fn call(
     alloc: Global,
     words: &[&str],
     files: (&[u8], &[u8]),
@@ -29,7 +29,8 @@ fn call(
     Ok((status, out))
 }
 
-const RUN: [&str; 5] = ["blade", "interp", "m/f", "start", "m.wasm"];
+/// The words of a run of `m/f`.
+pub(super) const RUN: [&str; 5] = ["blade", "interp", "m/f", "start", "m.wasm"];
 
 /// The sections of a function of two parameters that applies that operator to them.
 const fn of_two(operator: u8) -> [u8; 31] {

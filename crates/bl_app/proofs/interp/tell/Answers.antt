@@ -1,5 +1,5 @@
 use Rattle.std.proofs.Common.{[], ap, ◌∙◌}
-use Rattle.bl_machine.specs.Interpreting.{outcome_of}
+use Rattle.bl_base.specs.Runs.{outcome_of}
 use Rattle.bl_app.specs.Outcomes.{outcome_text}
 use Rattle.bl_app.proofs.interp.tell.Goals as goal
 
