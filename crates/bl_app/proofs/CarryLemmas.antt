@@ -1,6 +1,6 @@
 -- How a request is carried out: by what was fetched, and what its work gave.
-use Rattle.std.proofs.Common.{◌≡◌, ℕ, List, Option, Some, refl, sym, ◌∙◌, subst}
-use Rattle.bl_outside.specs.Shelf.{ReadFails}
+use Rattle.std.proofs.Common.{◌≡◌, ℕ, List, Option, Some, None, refl, sym, ◌∙◌, subst}
+use Rattle.bl_outside.specs.Shelf.{Files}
 use Rattle.bl_app.specs.Ends.{Delivers, Ends, all_kept, as_planned, done, no_memory, not_read, refused}
 use Rattle.bl_app.specs.Jobs.{AreRead, FirstRefusal, Job, Plan, Read, against, saying, too_long}
 use Rattle.bl_app.specs.Refusals.{Refusal}
@@ -11,6 +11,7 @@ use Rattle.bl_app.specs.Worlds.{SaidIfRoom, Unchanged, World, is_said, no_memory
 use Rattle.bl_app.specs.declared.status.Status.{Status}
 use Rattle.bl_app.specs.declared.status.Status.TheVariants.{Memory}
 use Rattle.bl_app.proofs.FetchLemmas.{same_world}
+use Rattle.bl_app.proofs.JobLemmas.{lengths_fit}
 
 module _ {Request : Type 0} (job_of : Request → Job) (request : Request) (new : World) (status : Status) where
   -- an error is the first
@@ -42,3 +43,7 @@ module _ {Request : Type 0} (job_of : Request → Job) (request : Request) (new 
         → SaidIfRoom (refusal_text refusal) (status_of refusal) mid.sink new.sink status → Ends job_of (Some request) old new status
     against_ends refusal is files faults said =
         refused_ends old refusal (against contents is_read is) (files ∙ u.files) (faults ∙ u.faults) (subst (λ s. SaidIfRoom (refusal_text refusal) (status_of refusal) s new.sink status) u.sink said)
+
+-- what was read fits the reads of the job
+pub contents_fit : (job : Job) (files : Option Files) (reads : List Read) (contents : List (List ℕ)) → reads ≡ job.reads → AreRead files reads contents → AreRead None job.reads contents
+contents_fit job files reads contents same read = lengths_fit files job.reads contents (subst (λ r. AreRead files r contents) same read)

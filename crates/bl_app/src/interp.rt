@@ -74,7 +74,10 @@ pub fn interpret<'a>(
         Ok(opening) => opening,
         Err(error) => return Err(error),
     };
-    Ok(tell(alloc, &linked, &opening, words.steps)?)
+    match tell(alloc, &linked, &opening, words.steps) {
+        Ok(plan) => Ok(plan),
+        Err(NoMemory) => Err(WorkError::Memory),
+    }
 }
 
 /// Runs a function from its start: printing the outcome within so many steps. Linear in the tree and in the steps.

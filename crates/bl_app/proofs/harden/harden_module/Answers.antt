@@ -11,7 +11,7 @@ use Rattle.bl_app.proofs.WorkLemmas.{not_hardened}
 use Rattle.bl_app.proofs.harden.harden_module.Goals as goal
 
 pub returns-in-Err : goal.returns-in-Err
-returns-in-Err c = not_hardened _ _ c.in-Err.error c.in-Err.ensures
+returns-in-Err c = not_hardened _ (λ tree. record { name = c.args.name.now; tree = tree }) c.in-Err.error c.in-Err.ensures
 
 pub link_alone-requires : goal.link_alone-requires
 link_alone-requires c =
