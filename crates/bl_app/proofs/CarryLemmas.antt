@@ -47,3 +47,7 @@ module _ {Request : Type 0} (job_of : Request → Job) (request : Request) (new 
 -- what was read fits the reads of the job
 pub contents_fit : (job : Job) (files : Option Files) (reads : List Read) (contents : List (List ℕ)) → reads ≡ job.reads → AreRead files reads contents → AreRead None job.reads contents
 contents_fit job files reads contents same read = lengths_fit files job.reads contents (subst (λ r. AreRead files r contents) same read)
+
+-- an end of a call that is asked for what another one is
+pub ends_asked : {Request : Type 0} (job_of : Request → Job) (old new : World) (status : Status) (asked other : Option Request) → other ≡ asked → Ends job_of other old new status → Ends job_of asked old new status
+ends_asked job_of old new status asked other same ends = subst (λ a. Ends job_of a old new status) same ends

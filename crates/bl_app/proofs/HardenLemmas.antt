@@ -81,7 +81,7 @@ hardens words request old new status is d =
       kept = files;
       image = subst (λ f. FileIs f request.image (image_of (low tree))) (sym files) (kept_last certified request.image (image_of (low tree)));
       certificate = subst (λ f. FileIs f request.certificate empty_certificate) (sym files)
-      (kept_still certified request.image (image_of (low tree)) request.certificate empty_certificate (request_differs words request is) (kept_last old.files request.certificate empty_certificate));
+          (kept_still certified request.image (image_of (low tree)) request.certificate empty_certificate (request_differs words request is) (kept_last old.files request.certificate empty_certificate));
       printed = d.printed ∙ ap (λ plan. took old.sink.taken plan.text) does.is_plan;
       unprotected = in_low IsUnprotected unprotected_made tree;
       same_outcomes = keeps_outcomes tree request d.contents does.loaded;

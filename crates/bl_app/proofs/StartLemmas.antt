@@ -87,5 +87,5 @@ module _ (request : InterpRequest) (name : List ℕ) (start bytes : List ℕ) wh
       outcome = told.outcome;
       within = told.within;
       is_plan = told.is_plan ∙ ap (λ memories. saying (outcome_status told.outcome) (outcome_text opened.type.results memories request.steps told.outcome))
-      (sym (ap (λ t. (first_store t opened.start).memories) (here ∙ same) ∙ no_memories opened.start.patches));
+          (sym (ap (λ t. (first_store t opened.start).memories) (here ∙ same) ∙ no_memories opened.start.patches));
     }

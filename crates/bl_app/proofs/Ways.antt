@@ -28,8 +28,7 @@ kind_of_refusal (few_arguments count) = refl
 -- an entry's name is one of the names
 name_kept : (keeps : List (List ℕ × List ℕ)) (before : ℕ) (keep : List ℕ × List ℕ) → slice_get keeps before ≡ Some keep → Contains (map (λ each. each.0) keeps) keep.0
 name_kept keeps before keep e =
-    let within = slice_get_within keeps before keep e in
-    (
+    let within = slice_get_within keeps before keep e in (
       before,
       omega (arith, within, length-map keeps (λ (each : List ℕ × List ℕ). each.0)),
       get_or-map (λ (each : List ℕ × List ℕ). each.0) keeps before keep keep.0 within ∙ ap (λ each. each.0) (get_or_from_slice_get keeps before keep keep e),
@@ -74,7 +73,7 @@ module _ {Request : Type 0} (job_of : Request → Job) (laws : (request : Reques
         request = request;
         is_request = is;
         is_kept = subst (Contains (job_of request).keeps) (sym fails.last)
-        (subst (λ keeps. Contains keeps keep.0) ((laws request).keeps_named contents plan does) (name_kept plan.keeps before keep at_place));
+            (subst (λ keeps. Contains keeps keep.0) ((laws request).keeps_named contents plan does) (name_kept plan.keeps before keep at_place));
         fails = subst (WriteFails old.faults new.faults) (sym fails.last) fails;
         printed = said.taken ∙ ap (λ n. took old.sink.taken (write_fault_text n)) (sym fails.last);
       }) meant)

@@ -31,10 +31,7 @@ pub struct Hardened {
 }
 
 /// The files that `harden` reads.
-pub fn harden_reads<'a>(
-    alloc: Global,
-    words: &HardenWords<'a>,
-) -> Result<Vec<Read<'a>>, NoMemory>
+pub fn harden_reads<'a>(alloc: Global, words: &HardenWords<'a>) -> Result<Vec<Read<'a>>, NoMemory>
     ensures { IfOk result (λ reads. map read_in reads.items ≡ (harden_job (harden_in words.now)).reads) }
 {
     let mut reads = Vec::new(alloc);
@@ -60,11 +57,7 @@ pub fn harden<'a>(
 }
 
 /// The image and the report of a module's bytes, under the module's name; Refused exactly where the bytes are refused.
-fn harden_module<'a>(
-    alloc: Global,
-    name: &'a str,
-    bytes: &[u8],
-) -> Result<Hardened, WorkError<'a>>
+fn harden_module<'a>(alloc: Global, name: &'a str, bytes: &[u8]) -> Result<Hardened, WorkError<'a>>
     requires { length bytes.now ≤ 4194304 }
     ensures { IsHardened (record { name = name.now; bytes = bytes.now }) result }
 {
@@ -86,9 +79,10 @@ fn plan_of<'a>(
     hardened: Hardened,
 ) -> Result<Plan<'a>, NoMemory>
     ensures { IfOk result (λ plan. plan_in plan ≡ record {
-        status = Status.Done;
-        keeps = (words.now.certificate.now, empty_certificate) ∷ (words.now.image.now, hardened.image.items) ∷ [];
-        text = string_bytes hardened.report }) }
+      status = Status.Done;
+      keeps = (words.now.certificate.now, empty_certificate) ∷ (words.now.image.now, hardened.image.items) ∷ [];
+      text = string_bytes hardened.report;
+    }) }
 {
     let certificate = EMPTY_CERTIFICATE.to_vec(alloc)?;
     let mut keeps = Vec::new(alloc);

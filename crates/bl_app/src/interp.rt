@@ -35,10 +35,7 @@ pub struct Opening<'a> {
 }
 
 /// The files that `interp` reads: the start file, and then the module.
-pub fn interp_reads<'a>(
-    alloc: Global,
-    words: &InterpWords<'a>,
-) -> Result<Vec<Read<'a>>, NoMemory>
+pub fn interp_reads<'a>(alloc: Global, words: &InterpWords<'a>) -> Result<Vec<Read<'a>>, NoMemory>
     ensures { IfOk result (λ reads. map read_in reads.items ≡ (interp_job (interp_in words.now)).reads) }
 {
     let mut reads = Vec::new(alloc);

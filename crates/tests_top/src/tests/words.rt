@@ -10,10 +10,7 @@ static STEPS: [(&str, bool); 26] = [
     ("interp --steps=7 m/f s m.wasm", true),
     ("interp m/f --steps 7 s m.wasm", true),
     ("interp m/f s m.wasm --steps 0000000001", true),
-    (
-        "interp m/f s m.wasm --steps=4294967295",
-        true,
-    ),
+    ("interp m/f s m.wasm --steps=4294967295", true),
     ("interp m/f s m.wasm --steps=4294967296", false),
     ("interp m/f s m.wasm --steps 00000000001", false),
     ("interp m/f s m.wasm --steps 0", false),

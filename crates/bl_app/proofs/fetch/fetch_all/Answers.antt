@@ -17,5 +17,5 @@ pub returns : goal.returns
 returns g c = (
   c.loop-read.invariant.unchanged,
   subst (λ reads. AreRead (g.F.Shelf.files c.args.files.now) (map read_in reads) (contents_in c.loop-read.contents.items))
-  (take_all c.loop-read.read-index c.args.reads.now c.loop-read-test.false) c.loop-read.invariant.read,
+      (take_all c.loop-read.read-index c.args.reads.now c.loop-read-test.false) c.loop-read.invariant.read,
 )

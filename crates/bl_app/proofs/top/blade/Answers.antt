@@ -1,4 +1,4 @@
-use Rattle.std.proofs.Common.{◌∙◌, sym}
+use Rattle.std.proofs.Common.{◌∙◌, map, string_bytes, sym}
 use Rattle.bl_app.specs.Commands.{job_of}
 use Rattle.bl_app.proofs.CausesLemmas.{causes, was_done}
 use Rattle.bl_app.proofs.CommandLemmas.{done_by_zero, laws_of}
@@ -13,7 +13,7 @@ pub returns-clause-causes : goal.returns-clause-causes
 returns-clause-causes g c = record { status = c.run.result; is_code = c.code.ensures; holds = causes job_of laws_of _ _ _ _ c.run.ensures }
 
 pub returns-clause-hardens : goal.returns-clause-hardens
-returns-clause-hardens g c = λ request asks zero. hardens _ request _ _ c.run.result asks (was_done job_of laws_of _ _ _ _ c.run.ensures (done_by_zero c.run.result (sym c.code.ensures ∙ zero)))
+returns-clause-hardens g c = λ request asks zero. hardens (map string_bytes c.args.words.now) request _ _ c.run.result asks (was_done job_of laws_of _ _ _ _ c.run.ensures (done_by_zero c.run.result (sym c.code.ensures ∙ zero)))
 
 pub returns-clause-interprets : goal.returns-clause-interprets
 returns-clause-interprets g c = λ request asks. record {
