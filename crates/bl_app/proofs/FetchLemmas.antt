@@ -1,10 +1,13 @@
 -- Files that are fetched in order, and files that are kept in order.
-use Rattle.std.proofs.Common.{◌≡◌, ℕ, ◌+◌, ◌<◌, ◌≤◌, List, [], ◌∷◌, ◌++◌, length, take, drop, get_or, map, Option, Some, None, refl, inl, ap, sym, ◌∙◌, subst, arith, drop-cons, append_assoc, add-one}
+use Rattle.std.proofs.Common.{◌≡◌, ℕ, ◌+◌, ◌<◌, ◌≤◌, ◌^◌, lit<, List, [], ◌∷◌, ◌++◌, length, take, drop, get_or, map, Option, Some, None, refl, inl, ap, sym, ◌∙◌, subst, arith, drop-cons, append_assoc, add-one}
 use Rattle.std.specs.Prelude.{Ok, Err, Vec, slice_get, Result, false, if◌then◌else◌}
 use Rattle.std.specs.Result.{is_ok, is_err}
 use Rattle.std.specs.declared.alloc.Global.{Global}
 use Rattle.std.proofs.lemmas.List.{get_or-map, length-map, map-append, take_all, take_more, take-append-drop}
 use Rattle.std.proofs.lemmas.Option.{slice_get-get_or}
+use Rattle.bl_base.specs.Quantity.{limit_of}
+use Rattle.bl_base.specs.declared.quantity.Quantity.{Quantity}
+use Rattle.bl_base.specs.declared.quantity.Quantity.TheVariants.{Modules}
 use Rattle.bl_outside.specs.Shelf.{Files, Gives, KeepFaults, ReadFails, with_file}
 use Rattle.bl_outside.specs.declared.shelf.ShelfError.{ShelfError}
 use Rattle.bl_outside.specs.declared.shelf.ShelfError.TheVariants as shelf
@@ -25,17 +28,21 @@ use Rattle.bl_app.proofs.JobLemmas.{at_behind, read_behind}
 pub same_world : (old mid : World) → Unchanged old mid → mid ≡ old
 same_world old mid u = λ i. record { files = u.files i; faults = u.faults i; sink = u.sink i }
 
+-- no limit is the greatest number of 64 bits
+pub limit_small : (quantity : Quantity) → limit_of quantity < 2 ^ 63
+limit_small quantity = elim quantity as (λ q. limit_of q < 2 ^ 63) [ Modules ↦ lit< tt | _ ↦ lit< tt ]
+
 -- ---- one file
 
 module _ (read : Read) (old new : World) where
   -- bytes that are short enough
-  pub short_fetched : (bytes : List ℕ) → Unchanged old new → Gives old.files read.name read.most bytes → length bytes ≤ read.most → Unchanged old new × AreRead old.files (read ∷ []) (bytes ∷ [])
-  short_fetched bytes u gives short = (u, (record { file = fetched_whole old.files read.name read.most bytes gives short; short = short }, tt))
+  pub short_fetched : (bytes : List ℕ) → Unchanged old new → Gives old.files read.name (limit_of read.quantity) bytes → length bytes ≤ limit_of read.quantity → Unchanged old new × AreRead old.files (read ∷ []) (bytes ∷ [])
+  short_fetched bytes u gives short = (u, (record { file = fetched_whole old.files read.name (limit_of read.quantity) bytes gives short; short = short }, tt))
 
   -- bytes that are too many
-  pub long_refused : (bytes : List ℕ) (status : Status) → Gives old.files read.name read.most bytes → read.most < length bytes → SameShelf old new
-      → SaidIfRoom (refusal_text (limit read.quantity (read.most + 1))) Limit old.sink new.sink status → NotFetched (read ∷ []) old new status
-  long_refused bytes status gives long same said = refused (limit read.quantity (read.most + 1)) (inl (fetched_long old.files read bytes gives long, refl)) same said
+  pub long_refused : (bytes : List ℕ) (status : Status) → Gives old.files read.name (limit_of read.quantity) bytes → limit_of read.quantity < length bytes → SameShelf old new
+      → SaidIfRoom (refusal_text (limit read.quantity (limit_of read.quantity + 1))) Limit old.sink new.sink status → NotFetched (read ∷ []) old new status
+  long_refused bytes status gives long same said = refused (limit read.quantity (limit_of read.quantity + 1)) (inl (fetched_long old.files read bytes gives long, refl)) same said
 
   -- a file that could not be read
   pub not_read : (status : Status) → ReadFails old.faults new.faults read.name → new.files ≡ old.files → Said (read_fault_text read.name) ReadFault old.sink new.sink status
@@ -64,7 +71,7 @@ module _ (before : List Read) (read : Read) (old now new : World) (contents : Li
   moved : (after : List Read) (status : Status) → NotFetched (read ∷ []) old new status → NotFetched (before ++ read ∷ after) old new status
   moved after status (failed name p fails files said) = failed name (at_behind old.files (λ read. name ≡ read.name) before contents read after so.read p) fails files said
   moved after status (refused refusal p same said) =
-      refused refusal (at_behind old.files (λ read. IsTooLong old.files read × (refusal ≡ limit read.quantity (read.most + 1))) before contents read after so.read p) same said
+      refused refusal (at_behind old.files (λ read. IsTooLong old.files read × (refusal ≡ limit read.quantity (limit_of read.quantity + 1))) before contents read after so.read p) same said
   moved after status (no_memory_to_fetch u e) = no_memory_to_fetch u e
 
   pub fetched_less : (after : List Read) (status : Status) → NotFetched (read ∷ []) now new status → NotFetched (before ++ read ∷ after) old new status

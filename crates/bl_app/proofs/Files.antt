@@ -3,6 +3,7 @@ use Rattle.std.proofs.Common.{◌≡◌, ℕ, ◌+◌, ◌<◌, ◌≤◌, List,
 use Rattle.std.specs.Option.{option_map}
 use Rattle.std.specs.FinMap as fin
 use Rattle.std.proofs.lemmas.List.{take_all, length-take}
+use Rattle.bl_base.specs.Quantity.{limit_of}
 use Rattle.bl_outside.specs.Shelf.{Files, Gives}
 use Rattle.bl_app.specs.Jobs.{FileIs, IsTooLong, Read}
 
@@ -32,8 +33,8 @@ fetched_whole (Some files) word most fetched g short =
     f.1 ∙ ap Some (short_whole most f.0 fetched f.2 short)
 
 -- where too many bytes were fetched the file has too many
-pub fetched_long : (files : Option Files) (read : Read) (fetched : List ℕ) → Gives files read.name read.most fetched → read.most < length fetched → IsTooLong files read
+pub fetched_long : (files : Option Files) (read : Read) (fetched : List ℕ) → Gives files read.name (limit_of read.quantity) fetched → limit_of read.quantity < length fetched → IsTooLong files read
 fetched_long None read fetched g long = record { bytes = fetched; file = tt; long = long }
 fetched_long (Some files) read fetched g long =
-    let f = found read.most (fin.get files read.name) fetched g in
-    record { bytes = f.0; file = f.1; long = longer read.most f.0 fetched f.2 long }
+    let f = found (limit_of read.quantity) (fin.get files read.name) fetched g in
+    record { bytes = f.0; file = f.1; long = longer (limit_of read.quantity) f.0 fetched f.2 long }

@@ -3,6 +3,7 @@ use Rattle.std.proofs.Common.{◌≡◌, ℕ, List, [], ◌∷◌, Option, Some,
 use Rattle.std.specs.Prelude.{Result, Ok, Err}
 use Rattle.bl_base.specs.Runs.{Outcome, returned, trapped}
 use Rattle.bl_base.specs.declared.start.Start.{Start}
+use Rattle.bl_base.proofs.Lists.{some_same}
 use Rattle.bl_base.proofs.RunLemmas.{run_unique}
 use Rattle.bl_wasm.specs.Exports.{number_of}
 use Rattle.bl_wasm.specs.declared.linked.Signature.{Signature}
@@ -29,15 +30,12 @@ use Rattle.bl_app.specs.declared.status.Status.{Status}
 use Rattle.bl_app.proofs.LoadingLemmas.{loading_lawful}
 use Rattle.bl_app.proofs.StageLemmas.{chain_lawful}
 
-some_same : {X : Type 0} (o : Option X) (x y : X) → o ≡ Some x → o ≡ Some y → x ≡ y
-some_same o x y e f = cc
-
 module _ (export bytes : List ℕ) (tree : Tree) where
   -- an exported name has one type
   one_type : (f g : ℕ) (t u : Signature) → number_of export tree.exports ≡ Some f → number_of export tree.exports ≡ Some g → type_of tree f ≡ Some t → type_of tree g ≡ Some u → t ≡ u
   one_type f g t u is other typed typed' =
-      let same = some_same (number_of export tree.exports) f g is other in
-      some_same (type_of tree g) t u (subst (λ n. type_of tree n ≡ Some t) same typed) typed'
+      let same = some_same f g (sym is ∙ other) in
+      some_same t u (sym (subst (λ n. type_of tree n ≡ Some t) same typed) ∙ typed')
 
   -- and a start file one answer
   one_answer : (f g : ℕ) (t u : Signature) (a b : Result Start StartError) → number_of export tree.exports ≡ Some f → number_of export tree.exports ≡ Some g → type_of tree f ≡ Some t → type_of tree g ≡ Some u
@@ -47,7 +45,7 @@ module _ (export bytes : List ℕ) (tree : Tree) where
   one_opened : (a b : Opened) → Opens export bytes tree a → Opens export bytes tree b → a ≡ b
   one_opened a b o p =
       let trees = o.same_tree ∙ sym p.same_tree in
-      let functions = some_same (number_of export tree.exports) a.function b.function o.exported p.exported in
+      let functions = some_same a.function b.function (sym o.exported ∙ p.exported) in
       let types = one_type a.function b.function a.type b.type o.exported p.exported o.typed p.typed in
       let read : Ok a.start ≡ Ok b.start = one_answer a.function b.function a.type b.type (Ok a.start) (Ok b.start) o.exported p.exported o.typed p.typed o.read p.read in
       let starts : a.start ≡ b.start = cc in

@@ -64,7 +64,7 @@ few_functions tree none = omega (arith, (within_limits tree none).functions)
 -- ---- modules that stand alone
 
 -- one that its bytes spell, within the limits, can be linked by itself
-pub alone_of : (bytes : List ℕ) (tree : Module) → length bytes ≤ 4194304 → Spells bytes tree → first_excess tree ≡ None → StandsAlone tree → IsAlone tree
+pub alone_of : (bytes : List ℕ) (tree : Module) → length bytes ≤ limit_of quantity.Module → Spells bytes tree → first_excess tree ≡ None → StandsAlone tree → IsAlone tree
 alone_of bytes tree short spelled within alone =
     let limits = within_limits tree within in
     let defined : length tree.functions ≤ limit_of quantity.Functions = omega (arith, limits.functions, length-append (imported function_of tree) tree.functions) in
@@ -75,8 +75,8 @@ pub form_alone : (tree : Module) → IsForm tree → StandsAlone tree
 form_alone tree form = form.bare.alone
 
 -- accepted modules can be linked by themselves
-pub accepted_alone : (bytes : List ℕ) (tree : Module) → length bytes ≤ 4194304 → Accepted StandsAlone bytes tree → IsAlone tree
+pub accepted_alone : (bytes : List ℕ) (tree : Module) → length bytes ≤ limit_of quantity.Module → Accepted StandsAlone bytes tree → IsAlone tree
 accepted_alone bytes tree short a = alone_of bytes tree short a.spelled a.within a.form
 
-pub accepted_form_alone : (bytes : List ℕ) (tree : Module) → length bytes ≤ 4194304 → Accepted IsForm bytes tree → IsAlone tree
+pub accepted_form_alone : (bytes : List ℕ) (tree : Module) → length bytes ≤ limit_of quantity.Module → Accepted IsForm bytes tree → IsAlone tree
 accepted_form_alone bytes tree short a = alone_of bytes tree short a.spelled a.within (form_alone tree a.form)

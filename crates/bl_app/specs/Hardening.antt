@@ -19,7 +19,7 @@ use Rattle.bl_app.specs.declared.status.Status.TheVariants.{Done}
 
 -- the file of a module
 abbrev pub module_read : List ℕ → Read
-module_read word = record { name = word; most = 4194304; quantity = quantity.Module }
+module_read word = record { name = word; quantity = quantity.Module }
 
 -- keeping the certificate without paths and then the image of a program, and printing its report
 abbrev pub harden_plan : HardenRequest → Program → Plan

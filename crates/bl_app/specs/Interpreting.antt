@@ -17,7 +17,7 @@ use Rattle.bl_app.specs.declared.status.Status.{Status}
 
 -- a start file
 abbrev pub start_read : List ℕ → Read
-start_read word = record { name = word; most = 16777216; quantity = quantity.Start }
+start_read word = record { name = word; quantity = quantity.Start }
 
 -- from the bytes of modules and of a start file to the function that is run and its start
 abbrev pub preparing : InterpRequest → List ℕ → Stage (List Part) Opened

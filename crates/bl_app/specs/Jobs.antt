@@ -1,16 +1,16 @@
 -- A command as one record: the files that it reads and keeps, what is refused, and what is done.
 use Rattle.std.specs.Prelude.{◌≡◌, ℕ, ◌+◌, ◌<◌, ◌≤◌, ◌⊎◌, List, [], ◌∷◌, length, map, Option, Some, None}
 use Rattle.std.specs.FinMap as fin
+use Rattle.bl_base.specs.Quantity.{limit_of}
 use Rattle.bl_base.specs.declared.quantity.Quantity.{Quantity}
 use Rattle.bl_outside.specs.Shelf.{Files}
 use Rattle.bl_app.specs.Refusals.{Refusal, limit}
 use Rattle.bl_app.specs.Status.{kind_of, of_deed}
 use Rattle.bl_app.specs.declared.status.Status.{Status}
 
--- a file that is read: its name, its most bytes, and the quantity that a longer one exceeds
+-- a file that is read: its name, and the quantity that its length is within
 pub record Read : Type 0 where
   pub name : List ℕ
-  pub most : ℕ
   pub quantity : Quantity
 
 -- a status, the files that are kept, in order, by their names and bytes, and the text that is printed
@@ -53,13 +53,13 @@ FileIs (Some files) name bytes = fin.get files name ≡ Some bytes
 -- a file is there, and short enough
 pub record IsRead (files : Option Files) (read : Read) (bytes : List ℕ) : Type 0 where
   pub file : FileIs files read.name bytes
-  pub short : length bytes ≤ read.most
+  pub short : length bytes ≤ limit_of read.quantity
 
 -- a file is there, and longer than that
 pub record IsTooLong (files : Option Files) (read : Read) : Type 0 where
   pub bytes : List ℕ
   pub file : FileIs files read.name bytes
-  pub long : read.most < length bytes
+  pub long : limit_of read.quantity < length bytes
 
 -- all files are there, and short enough
 abbrev pub AreRead : Option Files → List Read → List (List ℕ) → Type 0
@@ -79,7 +79,7 @@ ReadsName files reads name = At files (λ read. name ≡ read.name) reads
 
 -- a file that is read is too long: its length is tested before the next file is read
 abbrev pub RefusesLength : Option Files → List Read → Refusal → Type 0
-RefusesLength files reads refusal = At files (λ read. IsTooLong files read × (refusal ≡ limit read.quantity (read.most + 1))) reads
+RefusesLength files reads refusal = At files (λ read. IsTooLong files read × (refusal ≡ limit read.quantity (limit_of read.quantity + 1))) reads
 
 -- the first error in the order of work, for files that are read without fault
 pub data FirstRefusal (job : Job) (files : Option Files) (refusal : Refusal) : Type 0 where

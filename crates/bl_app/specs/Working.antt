@@ -44,7 +44,7 @@ use Rattle.bl_app.specs.declared.status.Status.TheVariants.{Memory, ReadFault, W
 -- ---- values of the code as those of the definitions
 
 abbrev pub read_in : ReadAsked → Read
-read_in read = record { name = read.name.now; most = read.most; quantity = read.quantity }
+read_in read = record { name = read.name.now; quantity = read.quantity }
 
 abbrev pub keep_in : Keep → List ℕ × List ℕ
 keep_in keep = (keep.name.now, keep.bytes.items)

@@ -45,7 +45,7 @@ fn fetch<F: Shelf, O: Sink>(
     ensures { Fetched (read_in read.now)
         (world F.files F.faults O.taken O.faults files.old out.old) (world F.files F.faults O.taken O.faults files.new out.new) result }
 {
-    let most = u64::from(read.most);
+    let most = read.quantity.limit();
     let bytes = match files.fetch(read.name, most) {
         Ok(bytes) => bytes,
         Err(ShelfError::Failed) => {

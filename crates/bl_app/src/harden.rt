@@ -1,5 +1,7 @@
 //! `harden`: from modules' bytes to an image and a report.
 ghost use Rattle.std.specs.Prelude.{◌≡◌, ◌≤◌, ◌∷◌, [], None, IfOk, length, map, string_bytes};
+ghost use Rattle.bl_base.specs.Quantity.{limit_of};
+ghost use Rattle.bl_base.specs.declared.quantity.Quantity.TheVariants as quantity;
 ghost use Rattle.bl_app.specs.Hardening.{harden_job};
 ghost use Rattle.bl_app.specs.Jobs.{AreRead};
 ghost use Rattle.bl_app.specs.Texts.{empty_certificate};
@@ -58,7 +60,7 @@ pub fn harden<'a>(
 
 /// The image and the report of a module's bytes, under the module's name; Refused exactly where the bytes are refused.
 fn harden_module<'a>(alloc: Global, name: &'a str, bytes: &[u8]) -> Result<Hardened, WorkError<'a>>
-    requires { length bytes.now ≤ 4194304 }
+    requires { length bytes.now ≤ limit_of quantity.Module }
     ensures { IsHardened (record { name = name.now; bytes = bytes.now }) result }
 {
     let wasm = match read_module(alloc, Form::Additions, name, bytes) {

@@ -20,9 +20,6 @@ use bl_trace::{StartError, read_start};
 use bl_wasm::{Linked, Signature, Tree};
 use std::alloc::Global;
 
-/// The most bytes of a start file.
-const START_LIMIT: u32 = 16_777_216;
-
 /// A function that was found, its type, and the start of it.
 #[derive(Drop)]
 pub struct Opening<'a> {
@@ -41,7 +38,6 @@ pub fn interp_reads<'a>(alloc: Global, words: &InterpWords<'a>) -> Result<Vec<Re
     let mut reads = Vec::new(alloc);
     reads.push(Read {
         name: words.start,
-        most: START_LIMIT,
         quantity: Quantity::Start,
     })?;
     reads.push(module_read(words.wasm))?;

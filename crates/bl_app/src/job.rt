@@ -7,9 +7,7 @@ use bl_base::Quantity;
 pub struct Read<'a> {
     /// Its name.
     pub name: &'a str,
-    /// Its most bytes.
-    pub most: u32,
-    /// The quantity that a longer one exceeds.
+    /// The quantity that its length is within.
     pub quantity: Quantity,
 }
 

@@ -1,5 +1,6 @@
 //! From a module's bytes to the valid module.
 ghost use Rattle.std.specs.Prelude.{◌≡◌, ◌↔◌, ◌≤◌, IsTrue, length};
+ghost use Rattle.bl_base.specs.Quantity.{limit_of};
 ghost use Rattle.bl_app.specs.Hardening.{module_read as read_of};
 ghost use Rattle.bl_app.specs.Working.{IsStaged, decoding_error, is_of, of_module, read_in, validation_error};
 
@@ -11,9 +12,6 @@ use bl_decode::{DecodeError, decode};
 use bl_validate::{Invalid, ValidModule, validate};
 use bl_wasm::Module;
 use std::alloc::Global;
-
-/// The most bytes of a module's file.
-const MODULE_LIMIT: u32 = 4_194_304;
 
 /// The modules that a command takes.
 #[derive(Clone, Copy, Debug, PartialEq, Eq)]
@@ -42,7 +40,6 @@ pub fn module_read(word: &str) -> Read<'_>
 {
     Read {
         name: word,
-        most: MODULE_LIMIT,
         quantity: Quantity::Module,
     }
 }
@@ -55,7 +52,7 @@ pub fn read_module<'a>(
     name: &'a str,
     bytes: &[u8],
 ) -> Result<ValidModule, WorkError<'a>>
-    requires { length bytes.now ≤ 4194304 }
+    requires { length bytes.now ≤ limit_of Quantity.Module }
     ensures { IsStaged (of_module (is_of form)) (λ tree. record { name = name.now; tree = tree }) (record { name = name.now; bytes = bytes.now }) result }
 {
     let tree = match decode(alloc, bytes) {
