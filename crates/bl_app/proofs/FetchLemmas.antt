@@ -1,13 +1,11 @@
 -- Files that are fetched in order, and files that are kept in order.
-use Rattle.std.proofs.Common.{◌≡◌, ℕ, ◌+◌, ◌<◌, ◌≤◌, ◌^◌, lit<, List, [], ◌∷◌, ◌++◌, length, take, drop, get_or, map, Option, Some, None, refl, inl, ap, sym, ◌∙◌, subst, arith, drop-cons, append_assoc, add-one}
+use Rattle.std.proofs.Common.{◌≡◌, ℕ, ◌+◌, ◌<◌, ◌≤◌, List, [], ◌∷◌, ◌++◌, length, take, drop, get_or, map, Option, Some, None, refl, inl, ap, sym, ◌∙◌, subst, arith, drop-cons, append_assoc, add-one}
 use Rattle.std.specs.Prelude.{Ok, Err, Vec, slice_get, Result, false, if◌then◌else◌}
 use Rattle.std.specs.Result.{is_ok, is_err}
 use Rattle.std.specs.declared.alloc.Global.{Global}
 use Rattle.std.proofs.lemmas.List.{get_or-map, length-map, map-append, take_all, take_more, take-append-drop}
 use Rattle.std.proofs.lemmas.Option.{slice_get-get_or}
 use Rattle.bl_base.specs.Quantity.{limit_of}
-use Rattle.bl_base.specs.declared.quantity.Quantity.{Quantity}
-use Rattle.bl_base.specs.declared.quantity.Quantity.TheVariants.{Modules}
 use Rattle.bl_outside.specs.Shelf.{Files, Gives, KeepFaults, ReadFails, with_file}
 use Rattle.bl_outside.specs.declared.shelf.ShelfError.{ShelfError}
 use Rattle.bl_outside.specs.declared.shelf.ShelfError.TheVariants as shelf
@@ -27,10 +25,6 @@ use Rattle.bl_app.proofs.JobLemmas.{at_behind, read_behind}
 -- worlds between which nothing changed are one
 pub same_world : (old mid : World) → Unchanged old mid → mid ≡ old
 same_world old mid u = λ i. record { files = u.files i; faults = u.faults i; sink = u.sink i }
-
--- no limit is the greatest number of 64 bits
-pub limit_small : (quantity : Quantity) → limit_of quantity < 2 ^ 63
-limit_small quantity = elim quantity as (λ q. limit_of q < 2 ^ 63) [ Modules ↦ lit< tt | _ ↦ lit< tt ]
 
 -- ---- one file
 
