@@ -130,7 +130,7 @@ const LOADS: [u8; 46] = [
 ];
 
 #[test]
-fn fronts_of_a_module_are_malformed_but_for_two_that_are_modules_without_functions(
+fn prefixes_of_a_module_are_malformed_but_for_two_that_are_modules_without_functions(
     rt: HostRuntime,
 ) -> Result<(), Fail> {
     for length in 0..LOADS.len() {
