@@ -1,130 +1,164 @@
--- The outcome within so many steps is one, and at most one refusal stands against a run.
-use Rattle.std.proofs.Common.{◌≡◌, ℕ, List, Option, Some, None, refl, ap, sym, ◌∙◌, subst}
+-- An exported function, its start and the outcome of its run are one; the job of `interp` keeps the laws.
+use Rattle.std.proofs.Common.{◌≡◌, ℕ, List, [], ◌∷◌, Option, Some, None, refl, ap, sym, ◌∙◌, subst, map}
 use Rattle.std.specs.Prelude.{Result, Ok, Err}
-use Rattle.bl_base.specs.Runs.{Outcome}
+use Rattle.bl_base.specs.Runs.{Outcome, returned, trapped}
 use Rattle.bl_base.specs.declared.start.Start.{Start}
+use Rattle.bl_base.proofs.Lists.{some_same}
 use Rattle.bl_base.proofs.RunLemmas.{run_unique}
 use Rattle.bl_wasm.specs.Exports.{number_of}
 use Rattle.bl_wasm.specs.declared.linked.Signature.{Signature}
 use Rattle.bl_wasm.specs.declared.linked.Tree.{Tree}
-use Rattle.bl_wasm.specs.declared.module.Module.{Module}
-use Rattle.bl_decode.proofs.Trees.{one_spelled}
-use Rattle.bl_link.specs.Alone.{alone}
-use Rattle.bl_machine.specs.Interpreting.{IsWithin}
-use Rattle.bl_reduce.specs.Outcomes.{first_store, opening}
+use Rattle.bl_reduce.specs.Outcomes.{opening as opening_of}
 use Rattle.bl_reduce.specs.Steps.{source_step}
 use Rattle.bl_trace.specs.Answers.{answer_of}
 use Rattle.bl_trace.specs.declared.error.StartError.{StartError}
 use Rattle.bl_trace.specs.declared.error.StartError.TheVariants.{Line, Count}
+use Rattle.bl_app.specs.Causes.{IsDone}
+use Rattle.bl_app.specs.Commands.{job_of}
 use Rattle.bl_app.specs.Form.{StandsAlone}
-use Rattle.bl_app.specs.Outcomes.{outcome_status, outcome_text}
-use Rattle.bl_app.specs.Refusals.{Accepted}
-use Rattle.bl_app.specs.Running.{AgainstStart, no_export, bad_line, few_arguments, Opens, Runnable, NotRunnable, of_module, of_start, HasOutcome, HasRun, printed_of, sizes_of, type_of}
-use Rattle.bl_app.specs.declared.refusal.Refusal.{Refusal}
-use Rattle.bl_app.specs.declared.refusal.Refusal.TheVariants.{BadLine, FewArguments}
-use Rattle.bl_app.proofs.RefusalLemmas.{refused_one, accepted_refused}
+use Rattle.bl_app.specs.Interpreting.{HasOutcome, HasRun, InterpDoes, InterpRefuses, Interprets, interp_job, preparing, printed_of}
+use Rattle.bl_app.specs.Jobs.{AreRead, IsLawful, Plan, saying}
+use Rattle.bl_app.specs.Loading.{loading, parts_of}
+use Rattle.bl_app.specs.Outcomes.{outcome_status}
+use Rattle.bl_app.specs.Refusals.{Refusal, bad_line, few_arguments}
+use Rattle.bl_app.specs.Requests.{InterpRequest, Request, interp}
+use Rattle.bl_app.specs.Running.{Opened, OpeningRefuses, Opens, line_is_bad, not_exported, opening, sizes_of, too_few, type_of}
+use Rattle.bl_app.specs.Stages.{IsLawfulStage}
+use Rattle.bl_app.specs.Status.{kind_of, of_deed}
+use Rattle.bl_app.specs.Worlds.{World, took, with_files}
+use Rattle.bl_app.specs.declared.status.Status.{Status}
+use Rattle.bl_app.proofs.LoadingLemmas.{loading_lawful}
+use Rattle.bl_app.proofs.StageLemmas.{chain_lawful}
 
--- ---- one outcome
-
-within_one : (tree : Tree) (function : ℕ) (start : Start) (steps : ℕ) (a b : Option Outcome) → IsWithin tree function start steps a → IsWithin tree function start steps b → a ≡ b
-within_one tree function start steps (Some o) (Some p) h i = ap Some (run_unique (source_step tree) h.0 i.0 (opening tree function start) o p h.1.run i.1.run).1
-within_one tree function start steps (Some o) None h i = absurd (i h.0 o h.1 h.2)
-within_one tree function start steps None (Some p) h i = absurd (h i.0 p i.1 i.2)
-within_one tree function start steps None None h i = refl
-
-some_same : {X : Type 0} (o : Option X) (x y : X) → o ≡ Some x → o ≡ Some y → x ≡ y
-some_same o x y e f = cc
-
-module _ (tree : Tree) (export bytes : List ℕ) where
+module _ (export bytes : List ℕ) (tree : Tree) where
   -- an exported name has one type
   one_type : (f g : ℕ) (t u : Signature) → number_of export tree.exports ≡ Some f → number_of export tree.exports ≡ Some g → type_of tree f ≡ Some t → type_of tree g ≡ Some u → t ≡ u
   one_type f g t u is other typed typed' =
-      let same = some_same (number_of export tree.exports) f g is other in
-      some_same (type_of tree g) t u (subst (λ n. type_of tree n ≡ Some t) same typed) typed'
+      let same = some_same f g (sym is ∙ other) in
+      some_same t u (sym (subst (λ n. type_of tree n ≡ Some t) same typed) ∙ typed')
 
   -- and a start file one answer
   one_answer : (f g : ℕ) (t u : Signature) (a b : Result Start StartError) → number_of export tree.exports ≡ Some f → number_of export tree.exports ≡ Some g → type_of tree f ≡ Some t → type_of tree g ≡ Some u
       → answer_of t.params (sizes_of tree) bytes ≡ a → answer_of u.params (sizes_of tree) bytes ≡ b → a ≡ b
   one_answer f g t u a b is other typed typed' e e' = sym e ∙ (ap (λ t. answer_of t.params (sizes_of tree) bytes) (one_type f g t u is other typed typed') ∙ e')
 
-  one_function : (f g : ℕ) (t u : Signature) (s r : Start) → Opens tree export bytes f t s → Opens tree export bytes g u r → f ≡ g
-  one_function f g t u s r o p = some_same (number_of export tree.exports) f g o.exported p.exported
+  one_opened : (a b : Opened) → Opens export bytes tree a → Opens export bytes tree b → a ≡ b
+  one_opened a b o p =
+      let trees = o.same_tree ∙ sym p.same_tree in
+      let functions = some_same a.function b.function (sym o.exported ∙ p.exported) in
+      let types = one_type a.function b.function a.type b.type o.exported p.exported o.typed p.typed in
+      let read : Ok a.start ≡ Ok b.start = one_answer a.function b.function a.type b.type (Ok a.start) (Ok b.start) o.exported p.exported o.typed p.typed o.read p.read in
+      let starts : a.start ≡ b.start = cc in
+      λ i. record { tree = trees i; function = functions i; type = types i; start = starts i }
 
-  type_same : (f g : ℕ) (t u : Signature) (s r : Start) → Opens tree export bytes f t s → Opens tree export bytes g u r → t ≡ u
-  type_same f g t u s r o p = one_type f g t u o.exported p.exported o.typed p.typed
+  -- what opens is not refused
+  opens_against : (a : Opened) (refusal : Refusal) → Opens export bytes tree a → OpeningRefuses export bytes tree refusal → ⊥
+  opens_against a refusal o (not_exported none e) = let is = o.exported in cc
+  opens_against a refusal o (line_is_bad g line u is typed read e) =
+      let no : Ok a.start ≡ Err (Line line) = one_answer a.function g a.type u (Ok a.start) (Err (Line line)) o.exported is o.typed typed o.read read in cc
+  opens_against a refusal o (too_few g count u is typed read e) =
+      let no : Ok a.start ≡ Err (Count count) = one_answer a.function g a.type u (Ok a.start) (Err (Count count)) o.exported is o.typed typed o.read read in cc
 
-  one_start : (f g : ℕ) (t u : Signature) (s r : Start) → Opens tree export bytes f t s → Opens tree export bytes g u r → s ≡ r
-  one_start f g t u s r o p =
-      let ok : Ok s ≡ Ok r = one_answer f g t u (Ok s) (Ok r) o.exported p.exported o.typed p.typed o.read p.read in cc
-
-  opened_outcome : (f g : ℕ) (t u : Signature) (s r : Start) (steps : ℕ) (a b : Option Outcome) → Opens tree export bytes f t s → Opens tree export bytes g u r
-      → IsWithin tree f s steps a → IsWithin tree g r steps b → a ≡ b
-  opened_outcome f g t u s r steps a b o p h i =
-      within_one tree g r steps a b
-      (subst (λ n. IsWithin tree n r steps a) (one_function f g t u s r o p) (subst (λ s. IsWithin tree f s steps a) (one_start f g t u s r o p) h)) i
-
-  -- nothing stands against what opens
-  opens_against : (f : ℕ) (t : Signature) (s : Start) (refusal : Refusal) → Opens tree export bytes f t s → AgainstStart tree export bytes refusal → ⊥
-  opens_against f t s refusal o (no_export none e) = let is = o.exported in cc
-  opens_against f t s refusal o (bad_line g line u is typed read e) =
-      let no : Ok s ≡ Err (Line line) = one_answer f g t u (Ok s) (Err (Line line)) o.exported is o.typed typed o.read read in cc
-  opens_against f t s refusal o (few_arguments g count u is typed read e) =
-      let no : Ok s ≡ Err (Count count) = one_answer f g t u (Ok s) (Err (Count count)) o.exported is o.typed typed o.read read in cc
-
-  start_one : (a b : Refusal) → AgainstStart tree export bytes a → AgainstStart tree export bytes b → a ≡ b
-  start_one a b (no_export none e) (no_export none' e') = e ∙ sym e'
-  start_one a b (no_export none e) (bad_line g line u is typed read e') = cc
-  start_one a b (no_export none e) (few_arguments g count u is typed read e') = cc
-  start_one a b (bad_line f line t is typed read e) (no_export none e') = cc
-  start_one a b (bad_line f line t is typed read e) (bad_line g other u is' typed' read' e') =
+  start_one : (a b : Refusal) → OpeningRefuses export bytes tree a → OpeningRefuses export bytes tree b → a ≡ b
+  start_one a b (not_exported none e) (not_exported none' e') = e ∙ sym e'
+  start_one a b (not_exported none e) (line_is_bad g line u is typed read e') = cc
+  start_one a b (not_exported none e) (too_few g count u is typed read e') = cc
+  start_one a b (line_is_bad f line t is typed read e) (not_exported none e') = cc
+  start_one a b (line_is_bad f line t is typed read e) (line_is_bad g other u is' typed' read' e') =
       let same : Err (Line line) ≡ Err (Line other) = one_answer f g t u (Err (Line line)) (Err (Line other)) is is' typed typed' read read' in
       let number : line ≡ other = cc in
-      e ∙ (ap BadLine number ∙ sym e')
-  start_one a b (bad_line f line t is typed read e) (few_arguments g count u is' typed' read' e') =
+      e ∙ (ap bad_line number ∙ sym e')
+  start_one a b (line_is_bad f line t is typed read e) (too_few g count u is' typed' read' e') =
       let same : Err (Line line) ≡ Err (Count count) = one_answer f g t u (Err (Line line)) (Err (Count count)) is is' typed typed' read read' in cc
-  start_one a b (few_arguments f count t is typed read e) (no_export none e') = cc
-  start_one a b (few_arguments f count t is typed read e) (bad_line g line u is' typed' read' e') =
+  start_one a b (too_few f count t is typed read e) (not_exported none e') = cc
+  start_one a b (too_few f count t is typed read e) (line_is_bad g line u is' typed' read' e') =
       let same : Err (Count count) ≡ Err (Line line) = one_answer f g t u (Err (Count count)) (Err (Line line)) is is' typed typed' read read' in cc
-  start_one a b (few_arguments f count t is typed read e) (few_arguments g other u is' typed' read' e') =
+  start_one a b (too_few f count t is typed read e) (too_few g other u is' typed' read' e') =
       let same : Err (Count count) ≡ Err (Count other) = one_answer f g t u (Err (Count count)) (Err (Count other)) is is' typed typed' read read' in
       let number : count ≡ other = cc in
-      e ∙ (ap FewArguments number ∙ sym e')
+      e ∙ (ap few_arguments number ∙ sym e')
 
--- ---- of bytes
+opening_lawful : (export bytes : List ℕ) → IsLawfulStage (opening export bytes)
+opening_lawful export bytes = record {
+  one_result = one_opened export bytes;
+  one_refusal = start_one export bytes;
+  not_both = opens_against export bytes;
+}
 
-module _ (name export start bytes : List ℕ) where
-  -- the bytes spell one tree
-  other_tree : (P : Tree → Type 0) (tree other : Module) → Accepted StandsAlone bytes tree → Accepted StandsAlone bytes other → P (alone name other) → P (alone name tree)
-  other_tree P tree other a b p = subst (λ t. P (alone name t)) (sym (one_spelled bytes tree other a.spelled b.spelled)) p
+preparing_lawful : (request : InterpRequest) (start : List ℕ) → IsLawfulStage (preparing request start)
+preparing_lawful request start = chain_lawful (loading StandsAlone) (opening request.export start) (loading_lawful StandsAlone) (opening_lawful request.export start)
 
-  pub one_run : (r s : Runnable name export start bytes) (steps : ℕ) (a b : Option Outcome) → HasOutcome r steps a → HasOutcome s steps b → a ≡ b
-  one_run r s steps a b h i =
-      opened_outcome (alone name r.wasm) export start r.function s.function r.type s.type r.start s.start steps a b r.opens
-      (other_tree (λ tree. Opens tree export start s.function s.type s.start) r.wasm s.wasm r.accepted s.accepted s.opens) h
-      (other_tree (λ tree. IsWithin tree s.function s.start steps b) r.wasm s.wasm r.accepted s.accepted i)
+-- the outcome within so many steps is one
+one_outcome : (opened : Opened) (steps : ℕ) (a b : Option Outcome) → HasOutcome opened steps a → HasOutcome opened steps b → a ≡ b
+one_outcome opened steps (Some o) (Some p) h i =
+    ap Some (run_unique (source_step opened.tree) h.0 i.0 (opening_of opened.tree opened.function opened.start) o p h.1.run i.1.run).1
+one_outcome opened steps (Some o) None h i = absurd (i h.0 o h.1 h.2)
+one_outcome opened steps None (Some p) h i = absurd (h i.0 p i.1 i.2)
+one_outcome opened steps None None h i = refl
 
-  pub runnable_refused : (refusal : Refusal) → Runnable name export start bytes → NotRunnable name export start bytes refusal → ⊥
-  runnable_refused refusal r (of_module refused) = accepted_refused StandsAlone bytes r.wasm refusal r.accepted refused
-  runnable_refused refusal r (of_start tree accepted against) =
-      opens_against (alone name r.wasm) export start r.function r.type r.start refusal r.opens
-      (other_tree (λ tree. AgainstStart tree export start refusal) r.wasm tree r.accepted accepted against)
+deed_of_run : (outcome : Option Outcome) → kind_of (outcome_status outcome) ≡ of_deed
+deed_of_run (Some (returned values memories)) = refl
+deed_of_run (Some (trapped kind memories)) = refl
+deed_of_run None = refl
 
-  pub not_runnable_one : (a b : Refusal) → NotRunnable name export start bytes a → NotRunnable name export start bytes b → a ≡ b
-  not_runnable_one a b (of_module refused) (of_module refused') = refused_one StandsAlone bytes a b refused refused'
-  not_runnable_one a b (of_module refused) (of_start tree accepted against) = absurd (accepted_refused StandsAlone bytes tree a accepted refused)
-  not_runnable_one a b (of_start tree accepted against) (of_module refused) = absurd (accepted_refused StandsAlone bytes tree b accepted refused)
-  not_runnable_one a b (of_start tree accepted against) (of_start other accepted' against') =
-      start_one (alone name tree) export start a b against (other_tree (λ tree. AgainstStart tree export start b) tree other accepted accepted' against')
+module _ (request : InterpRequest) where
+  -- a run has one plan
+  run_once : (start : List ℕ) (contents : List (List ℕ)) (p q : Plan) → HasRun request start contents p → HasRun request start contents q → p ≡ q
+  run_once start contents p q h k =
+      let opened = (preparing_lawful request start).one_result (parts_of request.modules contents) h.opened k.opened h.prepared k.prepared in
+      let outcome = one_outcome k.opened request.steps h.outcome k.outcome (subst (λ o. HasOutcome o request.steps h.outcome) opened h.within) k.within in
+      let plans : saying (outcome_status h.outcome) (printed_of h.opened request.steps h.outcome) ≡ saying (outcome_status k.outcome) (printed_of k.opened request.steps k.outcome)
+      = λ i. saying (outcome_status (outcome i)) (printed_of (opened i) request.steps (outcome i)) in
+      h.is_plan ∙ (plans ∙ sym k.is_plan)
 
-  -- a run has one text and one status
-  pub one_answer_told : (steps : ℕ) (a b : List ℕ) (s t : ℕ) → HasRun name export start bytes steps a s → HasRun name export start bytes steps b t → (a ≡ b) × (s ≡ t)
-  one_answer_told steps a b s t h i =
-      let r = h.runnable in
-      let q = i.runnable in
-      let trees = one_spelled bytes r.wasm q.wasm r.accepted.spelled q.accepted.spelled in
-      let opens = other_tree (λ tree. Opens tree export start q.function q.type q.start) r.wasm q.wasm r.accepted q.accepted q.opens in
-      let types = type_same (alone name r.wasm) export start r.function q.function r.type q.type r.start q.start r.opens opens in
-      let starts = one_start (alone name r.wasm) export start r.function q.function r.type q.type r.start q.start r.opens opens in
-      let outcomes = one_run r q steps h.outcome i.outcome h.within i.within in
-      let texts : printed_of r steps h.outcome ≡ printed_of q steps i.outcome = λ j. outcome_text (types j).results (first_store (alone name (trees j)) (starts j)).memories steps (outcomes j) in
-      (h.is_text ∙ (texts ∙ sym i.is_text), h.is_status ∙ (ap outcome_status outcomes ∙ sym i.is_status))
+  pub one_run : (contents : List (List ℕ)) (p q : Plan) → InterpDoes request contents p → InterpDoes request contents q → p ≡ q
+  one_run [] p q h k = absurd h
+  one_run (start ∷ contents) p q h k = run_once start contents p q h k
+
+  interp_refusal : (contents : List (List ℕ)) (a b : Refusal) → InterpRefuses request contents a → InterpRefuses request contents b → a ≡ b
+  interp_refusal [] a b h k = absurd h
+  interp_refusal (start ∷ contents) a b h k = (preparing_lawful request start).one_refusal (parts_of request.modules contents) a b h k
+
+  none_beside : (contents : List (List ℕ)) (refusal : Refusal) (plan : Plan) → InterpRefuses request contents refusal → InterpDoes request contents plan → ⊥
+  none_beside [] refusal plan h k = h
+  none_beside (start ∷ contents) refusal plan h k = (preparing_lawful request start).not_both (parts_of request.modules contents) k.opened refusal k.prepared h
+
+  status_of_run : (contents : List (List ℕ)) (plan : Plan) → InterpDoes request contents plan → kind_of plan.status ≡ of_deed
+  status_of_run [] plan h = absurd h
+  status_of_run (start ∷ contents) plan h = ap (λ p. kind_of p.status) h.is_plan ∙ deed_of_run h.outcome
+
+  keeps_nothing : (contents : List (List ℕ)) (plan : Plan) → InterpDoes request contents plan → plan.keeps ≡ []
+  keeps_nothing [] plan h = absurd h
+  keeps_nothing (start ∷ contents) plan h = ap (λ p. p.keeps) h.is_plan
+
+  pub interp_lawful : IsLawful (interp_job request)
+  interp_lawful = record {
+    one_refusal = interp_refusal;
+    none_beside_a_deed = none_beside;
+    one_status = λ contents p q h k. ap (λ plan. plan.status) (one_run contents p q h k);
+    status_of_deed = status_of_run;
+    keeps_named = λ contents plan h. ap (map (λ keep. keep.0)) (keeps_nothing contents plan h);
+  }
+
+  -- what is said where the job was done
+  interpreted : (old new : World) (status : Status) (contents : List (List ℕ)) (plan : Plan) → AreRead old.files (interp_job request).reads contents → InterpDoes request contents plan
+      → status ≡ plan.status → new.files ≡ with_files old.files plan.keeps → new.sink.taken ≡ took old.sink.taken plan.text → Interprets request old new status
+  interpreted old new status [] plan read does meant kept printed = absurd read
+  interpreted old new status (start ∷ contents) plan read h meant kept printed = record {
+    start = start;
+    contents = contents;
+    read = read;
+    opened = h.opened;
+    prepared = h.prepared;
+    outcome = h.outcome;
+    within = h.within;
+    meant = meant ∙ ap (λ p. p.status) h.is_plan;
+    printed = printed ∙ ap (λ p. took old.sink.taken p.text) h.is_plan;
+    unchanged = kept ∙ ap (λ p. with_files old.files p.keeps) h.is_plan;
+  }
+
+  pub interprets : (asked : Option Request) (old new : World) (status : Status) → asked ≡ Some (interp request) → IsDone job_of asked old new status → Interprets request old new status
+  interprets asked old new status is d =
+      let same : d.request ≡ interp request = let theirs = d.is_request in cc in
+      interpreted old new status d.contents d.plan (subst (λ r. AreRead old.files (job_of r).reads d.contents) same d.read) (subst (λ r. (job_of r).Does d.contents d.plan) same d.does)
+      d.meant d.kept d.printed

@@ -7,6 +7,7 @@ use Rattle.bl_base.specs.declared.names.ValueType.TheVariants.{I32, I64}
 use Rattle.bl_base.specs.declared.trap.Trap.TheVariants.{Overflow}
 use Rattle.bl_app.specs.Outcomes.{outcome_status, outcome_text}
 use Rattle.bl_app.specs.Texts.{line}
+use Rattle.bl_app.specs.declared.status.Status.TheVariants.{Done, Trapped, Spent}
 
 -- 16 bytes of 0, as a memory whose pages are shorter than any
 abbrev small : MemoryState
@@ -57,5 +58,5 @@ hexadecimal : outcome_text [] (grown ∷ []) 9 (Some (returned [] (marked ∷ []
 unfolding digits
 hexadecimal = refl
 
-statuses : (outcome_status (Some (returned [] [])) ≡ 0) × (outcome_status (Some (trapped Overflow [])) ≡ 16) × (outcome_status None ≡ 17)
+statuses : (outcome_status (Some (returned [] [])) ≡ Done) × (outcome_status (Some (trapped Overflow [])) ≡ Trapped) × (outcome_status None ≡ Spent)
 statuses = (refl, refl, refl)

@@ -13,23 +13,22 @@ use Rattle.bl_wasm.specs.declared.linked.Signature.{Signature}
 use Rattle.bl_wasm.specs.declared.linked.Tree.{Tree}
 use Rattle.bl_wasm.specs.declared.module.Module.{Module}
 use Rattle.bl_link.specs.Alone.{alone}
-use Rattle.bl_machine.specs.Interpreting.{IsWithin}
-use Rattle.bl_reduce.specs.Outcomes.{IsStart, patched}
+use Rattle.bl_reduce.specs.Outcomes.{IsStart, first_store, patched}
 use Rattle.bl_trace.specs.Answers.{answer_of, IsAnswer}
 use Rattle.bl_trace.specs.declared.error.StartError.{StartError}
 use Rattle.bl_trace.specs.declared.error.StartError.TheVariants.{Line, Count, Memory}
 use Rattle.bl_app.specs.Form.{StandsAlone}
-use Rattle.bl_app.specs.Interpreting.{IsInterpreted, IsOpened, IsTold, start_error}
-use Rattle.bl_app.specs.Outcomes.{outcome_text}
-use Rattle.bl_app.specs.Reading.{Reads}
-use Rattle.bl_app.specs.Refusals.{Accepted}
-use Rattle.bl_app.specs.Requests.{InterpRequest, module_name}
-use Rattle.bl_app.specs.Running.{AgainstStart, HasRun, Opens, bad_line, few_arguments, of_module, of_start, sizes_of, type_of}
-use Rattle.bl_app.specs.Status.{code_of}
-use Rattle.bl_app.specs.declared.interp.Opening.{Opening}
-use Rattle.bl_app.specs.declared.interp.Printed.{Printed}
-use Rattle.bl_app.specs.declared.module.WorkError.{WorkError}
-use Rattle.bl_app.specs.declared.module.WorkError.TheVariants as work
+use Rattle.bl_app.specs.Interpreting.{HasRun, preparing}
+use Rattle.bl_app.specs.Jobs.{saying}
+use Rattle.bl_app.specs.Loading.{Part, parts_of}
+use Rattle.bl_app.specs.Outcomes.{outcome_status, outcome_text}
+use Rattle.bl_app.specs.Refusals.{Refusal}
+use Rattle.bl_app.specs.Requests.{InterpRequest}
+use Rattle.bl_app.specs.Running.{Opened, line_is_bad, opening, sizes_of, too_few, type_of}
+use Rattle.bl_app.specs.Stages.{at_first, at_second}
+use Rattle.bl_app.specs.Working.{IsStaged, IsTold, of_module, plan_in, start_error}
+use Rattle.bl_app.specs.declared.job.Plan.{Plan as PlanMade}
+use Rattle.bl_app.proofs.LoadingLemmas.{one_loaded, one_refused}
 
 -- the number under a name is one of those that are listed
 pub exported_exists : (count : ℕ) (name : List ℕ) (pairs : Pairs) (function : ℕ) → All (λ pair. pair.1 < count) pairs → number_of name pairs ≡ Some function → function < count
@@ -43,14 +42,14 @@ exported_exists count name (pair ∷ pairs) function all e =
         subst (λ n. n < count) same (All-head (λ pair. pair.1 < count) pair pairs all)
     of_test false behind e = behind e
 
--- an error of reading a start file is what stands against it
-pub start_refused : (tree : Tree) (export bytes : List ℕ) (function : ℕ) (type : Signature) (error : StartError) → number_of export tree.exports ≡ Some function → type_of tree function ≡ Some type
-    → sizes_of tree ≡ [] → IsAnswer (answer_of type.params [] bytes) (Err error) → IsOpened tree export bytes (Err (start_error error))
-start_refused tree export bytes function type (Line number) is typed none answer =
-    bad_line function number type is typed (ap (λ sizes. answer_of type.params sizes bytes) none ∙ sym answer) refl
-start_refused tree export bytes function type (Count count) is typed none answer =
-    few_arguments function count type is typed (ap (λ sizes. answer_of type.params sizes bytes) none ∙ sym answer) refl
-start_refused tree export bytes function type Memory is typed none answer = tt
+-- an error of reading a start file is why it is refused
+pub start_refused : {X : Type 0} (value : X → Opened) (tree : Tree) (export bytes : List ℕ) (function : ℕ) (type : Signature) (error : StartError) → number_of export tree.exports ≡ Some function → type_of tree function ≡ Some type
+    → sizes_of tree ≡ [] → IsAnswer (answer_of type.params [] bytes) (Err error) → IsStaged (opening export bytes) value tree (Err (start_error error))
+start_refused value tree export bytes function type (Line number) is typed none answer =
+    line_is_bad function number type is typed (ap (λ sizes. answer_of type.params sizes bytes) none ∙ sym answer) refl
+start_refused value tree export bytes function type (Count count) is typed none answer =
+    too_few function count type is typed (ap (λ sizes. answer_of type.params sizes bytes) none ∙ sym answer) refl
+start_refused value tree export bytes function type Memory is typed none answer = tt
 
 -- a start that fits a function's type is a start of the function
 pub start_of_type : (tree : Tree) (function : ℕ) (type : Signature) (start : Start) → type_of tree function ≡ Some type → Fits type.params (sizes_of tree) start → IsStart tree function start
@@ -65,31 +64,28 @@ no_memories : (patches : List Patch) → fold patched [] patches ≡ []
 no_memories [] = refl
 no_memories (patch ∷ patches) = no_memories patches
 
--- what was run
-pub has_run : (name export start bytes : List ℕ) (steps : ℕ) (wasm : Module) (linked : Tree) (opening : Opening) (printed : Printed) → Accepted StandsAlone bytes wasm → linked ≡ alone name wasm
-    → IsOpened linked export start (Ok opening) → IsTold linked opening steps printed → HasRun name export start bytes steps printed.text.items (code_of printed.status)
-has_run name export start bytes steps wasm linked opening printed accepted same opens tells = record {
-  runnable = record {
-    wasm = wasm;
-    accepted = accepted;
-    function = opening.function;
-    type = opening.kind.now;
-    start = opening.start;
-    opens = subst (λ tree. Opens tree export start opening.function opening.kind.now opening.start) same opens;
-  };
-  outcome = tells.outcome;
-  within = subst (λ tree. IsWithin tree opening.function opening.start steps tells.outcome) same tells.within;
-  is_text = tells.is_text ∙ ap (λ memories. outcome_text opening.kind.now.results memories steps tells.outcome) (sym (no_memories opening.start.patches));
-  is_status = tells.is_status;
-}
+-- the work of `interp`, by its stages
+module _ (request : InterpRequest) (name : List ℕ) (start bytes : List ℕ) where
+  abbrev part : Part
+  part = record { name = name; bytes = bytes }
 
--- what stands against a module's bytes stands against the run
-pub module_refused : (request : InterpRequest) (start bytes : List ℕ) (error : WorkError) → Reads StandsAlone bytes (Err error) → IsInterpreted request start bytes (Err error)
-module_refused request start bytes (work.Refused refusal) h = of_module h
-module_refused request start bytes work.Memory h = tt
+  -- a module that is refused
+  pub module_refused : (refusal : Refusal) → (of_module StandsAlone).Refuses part refusal → (preparing request start).Refuses (part ∷ []) refusal
+  module_refused refusal r = at_first (one_refused StandsAlone part refusal r)
 
--- and so does what stands against its start
-pub start_not_run : (request : InterpRequest) (start bytes : List ℕ) (wasm : Module) (linked : Tree) (error : WorkError) → Accepted StandsAlone bytes wasm → linked ≡ alone (module_name request.wasm) wasm
-    → IsOpened linked request.export start (Err error) → IsInterpreted request start bytes (Err error)
-start_not_run request start bytes wasm linked (work.Refused refusal) accepted same h = of_start wasm accepted (subst (λ tree. AgainstStart tree request.export start refusal) same h)
-start_not_run request start bytes wasm linked work.Memory accepted same h = tt
+  module _ (wasm : Module) (tree : Tree) (passed : (of_module StandsAlone).Passes part (record { name = name; tree = wasm })) (same : tree ≡ alone name wasm) where
+    -- an export or a start that is refused
+    pub start_not_opened : (refusal : Refusal) → (opening request.export start).Refuses tree refusal → (preparing request start).Refuses (part ∷ []) refusal
+    start_not_opened refusal r = at_second tree (one_loaded StandsAlone part (record { name = name; tree = wasm }) tree passed same) r
+
+    -- what was run
+    pub has_run : (contents : List (List ℕ)) (opened : Opened) (plan : PlanMade) → parts_of request.modules contents ≡ part ∷ [] → opened.tree ≡ tree → (opening request.export start).Passes tree opened
+        → IsTold opened request.steps plan → HasRun request start contents (plan_in plan)
+    has_run contents opened plan parts here opens told = record {
+      opened = opened;
+      prepared = subst (λ parts. (preparing request start).Passes parts opened) (sym parts) (tree, one_loaded StandsAlone part (record { name = name; tree = wasm }) tree passed same, opens);
+      outcome = told.outcome;
+      within = told.within;
+      is_plan = told.is_plan ∙ ap (λ memories. saying (outcome_status told.outcome) (outcome_text opened.type.results memories request.steps told.outcome))
+          (sym (ap (λ t. (first_store t opened.start).memories) (here ∙ same) ∙ no_memories opened.start.patches));
+    }

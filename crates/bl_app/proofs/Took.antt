@@ -6,7 +6,7 @@ use Rattle.bl_outside.specs.Faults.{Rose}
 use Rattle.std.specs.Prelude.{Result, Ok, Err, IsErr}
 use Rattle.bl_outside.specs.declared.sink.SinkFault.{SinkFault}
 use Rattle.bl_outside.specs.Sink.{after_push}
-use Rattle.bl_app.specs.Answers.{took, Stream, Whole, Cut, Pushes}
+use Rattle.bl_app.specs.Worlds.{took, Stream, Whole, Cut, Pushes}
 
 append_nothing : (xs : List ℕ) → xs ++ [] ≡ xs
 append_nothing [] = refl

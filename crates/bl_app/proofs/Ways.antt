@@ -1,83 +1,119 @@
--- The ways in which a call ends, by their statuses.
-use Rattle.std.proofs.Common.{◌≡◌, ℕ, zero, suc, List, Option, Some, ap, sym, ◌∙◌, subst, inl, inr}
-use Rattle.std.specs.Prelude.{slice_get}
+-- The ways in which a call ends, by the kinds of their statuses.
+use Rattle.std.proofs.Common.{◌≡◌, ◌<◌, ℕ, List, [], ◌∷◌, Option, Some, None, refl, ap, sym, ◌∙◌, subst, inl, inr, map, arith}
+use Rattle.std.specs.Prelude.{slice_get, Contains, ◌⊎◌}
+use Rattle.std.proofs.lemmas.List.{get_or-map, length-map}
+use Rattle.std.proofs.lemmas.Option.{get_or_from_slice_get, slice_get_within}
 use Rattle.bl_outside.specs.Faults.{Rose}
-use Rattle.bl_outside.specs.Shelf.{Files, ReadFails, WriteFails}
-use Rattle.bl_app.specs.Image.{image_of}
-use Rattle.bl_app.specs.Requests.{Request, HardenRequest, harden, request_of, module_name}
-use Rattle.bl_app.specs.Requested.{IsRead, IsKept}
-use Rattle.bl_app.specs.Texts.{report_text, read_fault_text, write_fault_text}
-use Rattle.bl_app.specs.Answers.{Plan, PlanFor, usage, refused, hardened, interpreted, plan_of, World, with_files, took, Whole, Said, whole, cut, Delivers, all_kept, not_kept, no_memory_to_keep, Ends, as_planned, not_read, no_memory, program_of}
-use Rattle.bl_app.specs.Causes.{IsReadFault, IsKeepFault}
+use Rattle.bl_outside.specs.Shelf.{ReadFails, WriteFails}
+use Rattle.bl_app.specs.Causes.{IsDone, IsKeepFault, IsReadFault, IsRefused, NoFault}
+use Rattle.bl_app.specs.Ends.{Delivers, Ends, PlanFor, all_kept, as_planned, done, no_memory, no_memory_to_keep, not_kept, not_read, refused, usage}
+use Rattle.bl_app.specs.Jobs.{IsLawful, Job, Plan, ReadsName, saying}
+use Rattle.bl_app.specs.Refusals.{Refusal, malformed, invalid_function, invalid_module, unsupported, limit, no_export, bad_line, few_arguments}
+use Rattle.bl_app.specs.Status.{Kind, kind_of, of_deed, of_memory, of_read_fault, of_refusal, of_usage, of_write_fault, status_of}
+use Rattle.bl_app.specs.Texts.{read_fault_text, refusal_text, usage_text, write_fault_text}
+use Rattle.bl_app.specs.Worlds.{Said, Whole, World, cut, took, whole, with_files}
+use Rattle.bl_app.specs.declared.status.Status.{Status}
+use Rattle.bl_app.specs.declared.status.Status.TheVariants.{Memory, ReadFault, Usage, WriteFault}
 
--- a plan was carried out with no fault
-pub record Done (plan : Plan) (old new : World) (status : ℕ) : Type 0 where
-  pub files : new.files ≡ with_files old.files plan.keeps
-  pub faults : new.faults ≡ old.faults
-  pub said : Whole plan.text old.sink new.sink
-  pub meant : status ≡ plan.status
+pub kind_of_refusal : (refusal : Refusal) → kind_of (status_of refusal) ≡ of_refusal
+kind_of_refusal (malformed name) = refl
+kind_of_refusal (invalid_function name index) = refl
+kind_of_refusal (invalid_module name) = refl
+kind_of_refusal (unsupported name) = refl
+kind_of_refusal (limit which value) = refl
+kind_of_refusal no_export = refl
+kind_of_refusal (bad_line number) = refl
+kind_of_refusal (few_arguments count) = refl
 
--- the ways in which a call can end, by their statuses
-pub data Way (words : List (List ℕ)) (old new : World) (status : ℕ) : Type 0 where
-  settled : (plan : Plan) → PlanFor words old.files plan → Done plan old new status → Way words old new status
-  faulty_read : IsReadFault words old new → status ≡ 3 → Way words old new status
-  faulty_keep : IsKeepFault words old new → status ≡ 4 → Way words old new status
-  faulty_sink : Rose old.sink.faults new.sink.faults → status ≡ 4 → Way words old new status
-  full : status ≡ 11 → Way words old new status
+-- an entry's name is one of the names
+name_kept : (keeps : List (List ℕ × List ℕ)) (before : ℕ) (keep : List ℕ × List ℕ) → slice_get keeps before ≡ Some keep → Contains (map (λ each. each.0) keeps) keep.0
+name_kept keeps before keep e =
+    let within = slice_get_within keeps before keep e in (
+      before,
+      omega (arith, within, length-map keeps (λ (each : List ℕ × List ℕ). each.0)),
+      get_or-map (λ (each : List ℕ × List ℕ). each.0) keeps before keep keep.0 within ∙ ap (λ each. each.0) (get_or_from_slice_get keeps before keep keep e),
+    )
 
--- a file that a plan keeps is one that the words name
-KeepOf : List (List ℕ) → List ℕ → Type 0
-KeepOf words name = (request : Request) × (request_of words ≡ Some request) × IsKept request name
+-- a plan that was carried out with no fault
+record Carried (plan : Plan) (old new : World) (status : Status) : Type 0 where
+  files : new.files ≡ with_files old.files plan.keeps
+  no_fault : NoFault old new
+  printed : new.sink.taken ≡ took old.sink.taken plan.text
+  meant : status ≡ plan.status
 
-keep_named : (request : HardenRequest) (image report : List ℕ) (before : ℕ) (keep : List ℕ × List ℕ) → slice_get (plan_of request image report).keeps before ≡ Some keep → IsKept (harden request) keep.0
-keep_named request image report zero keep e = inl cc
-keep_named request image report (suc zero) keep e = inr cc
-keep_named request image report (suc (suc before)) keep e = cc
+module _ {Request : Type 0} (job_of : Request → Job) (laws : (request : Request) → IsLawful (job_of request)) (asked : Option Request) (old new : World) (status : Status) where
+  pub data Way : Type 0 where
+    no_request : asked ≡ None → status ≡ Usage → NoFault old new → Way
+    is_refused : IsRefused job_of asked old new status → NoFault old new → Way
+    is_done : IsDone job_of asked old new status → NoFault old new → Way
+    faulty_read : IsReadFault job_of asked old new → status ≡ ReadFault → Way
+    faulty_keep : IsKeepFault job_of asked old new → status ≡ WriteFault → Way
+    faulty_sink : Rose old.sink.faults new.sink.faults → status ≡ WriteFault → Way
+    full : status ≡ Memory → Way
 
-keep_of : (words : List (List ℕ)) (files : Option Files) (plan : Plan) (before : ℕ) (keep : List ℕ × List ℕ) → PlanFor words files plan → slice_get plan.keeps before ≡ Some keep → KeepOf words keep.0
-unfolding KeepOf
-keep_of words files plan before keep (usage none) e = cc
-keep_of words files plan before keep (refused request refusal is first) e = cc
-keep_of words files plan before keep (hardened request ready is) e =
-    (harden request, is, keep_named request (image_of (program_of (module_name request.wasm) ready.wasm)) (report_text (program_of (module_name request.wasm) ready.wasm)) before keep e)
-keep_of words files plan before keep (interpreted request ready outcome is within) e = cc
+  -- a plan was carried out, or a file that it keeps was not kept
+  delivered : (plan : Plan) → Delivers plan old new status → (Carried plan old new status → Way)
+      → ((before : ℕ) (keep : List ℕ × List ℕ) → slice_get plan.keeps before ≡ Some keep → WriteFails old.faults new.faults keep.0 → Whole (write_fault_text keep.0) old.sink new.sink → status ≡ WriteFault → Way) → Way
+  delivered plan (all_kept files faults (whole said meant)) carried fault = carried (record { files = files; no_fault = record { shelf = faults; sink = said.faults }; printed = said.taken; meant = meant })
+  delivered plan (all_kept files faults (cut said meant)) carried fault = faulty_sink said.rose meant
+  delivered plan (not_kept before keep is fails files (whole said meant)) carried fault = fault before keep is fails said meant
+  delivered plan (not_kept before keep is fails files (cut said meant)) carried fault = faulty_sink said.rose meant
+  delivered plan (no_memory_to_keep before keep is files faults sink meant) carried fault = full meant
 
-keep_fault : (words : List (List ℕ)) (old new : World) (name : List ℕ) → KeepOf words name → WriteFails old.faults new.faults name → Whole (write_fault_text name) old.sink new.sink → IsKeepFault words old new
-unfolding KeepOf
-keep_fault words old new name k fails said = record {
-  request = k.0;
-  is_request = k.1;
-  is_kept = subst (IsKept k.0) (sym fails.last) k.2;
-  fails = subst (WriteFails old.faults new.faults) (sym fails.last) fails;
-  printed = said.taken ∙ ap (λ n. took old.sink.taken (write_fault_text n)) (sym fails.last);
-}
+  planned : (plan : Plan) → PlanFor job_of asked old.files plan → Delivers plan old new status → Way
+  planned _ (usage none) d = delivered _ d (λ c. no_request none c.meant c.no_fault) (λ before keep is. absurd cc)
+  planned _ (refused request refusal is first) d =
+      delivered _ d
+      (λ c. is_refused (record { request = request; refusal = refusal; is_request = is; first = first; meant = c.meant; printed = c.printed; unchanged = c.files }) c.no_fault)
+      (λ before keep is. absurd cc)
+  planned _ (done request contents plan is read does) d =
+      delivered _ d
+      (λ c. is_done (record { request = request; contents = contents; plan = plan; is_request = is; read = read; does = does; meant = c.meant; kept = c.files; printed = c.printed }) c.no_fault)
+      (λ before keep at_place fails said meant. faulty_keep (record {
+        request = request;
+        is_request = is;
+        is_kept = subst (Contains (job_of request).keeps) (sym fails.last)
+            (subst (λ keeps. Contains keeps keep.0) ((laws request).keeps_named contents plan does) (name_kept plan.keeps before keep at_place));
+        fails = subst (WriteFails old.faults new.faults) (sym fails.last) fails;
+        printed = said.taken ∙ ap (λ n. took old.sink.taken (write_fault_text n)) (sym fails.last);
+      }) meant)
 
-said_planned : (words : List (List ℕ)) (old new : World) (status : ℕ) (plan : Plan) → PlanFor words old.files plan → new.files ≡ with_files old.files plan.keeps → new.faults ≡ old.faults → Said plan.text plan.status old.sink new.sink status → Way words old new status
-said_planned words old new status plan p files faults (whole said meant) = settled plan p (record { files = files; faults = faults; said = said; meant = meant })
-said_planned words old new status plan p files faults (cut c e) = faulty_sink c.rose e
+  read_failed : (request : Request) (name : List ℕ) → asked ≡ Some request → ReadsName old.files (job_of request).reads name → ReadFails old.faults new.faults name → Said (read_fault_text name) ReadFault old.sink new.sink status → Way
+  read_failed request name is read fails (whole said meant) = faulty_read (record {
+    request = request;
+    is_request = is;
+    is_read = subst (ReadsName old.files (job_of request).reads) (sym fails.last) read;
+    fails = subst (ReadFails old.faults new.faults) (sym fails.last) fails;
+    printed = said.taken ∙ ap (λ n. took old.sink.taken (read_fault_text n)) (sym fails.last);
+  }) meant
+  read_failed request name is read fails (cut said meant) = faulty_sink said.rose meant
 
-said_keep : (words : List (List ℕ)) (old new : World) (status : ℕ) (name : List ℕ) → KeepOf words name → WriteFails old.faults new.faults name → Said (write_fault_text name) 4 old.sink new.sink status → Way words old new status
-said_keep words old new status name k fails (whole said meant) = faulty_keep (keep_fault words old new name k fails said) meant
-said_keep words old new status name k fails (cut c e) = faulty_sink c.rose e
+  pub way : Ends job_of asked old new status → Way
+  way (as_planned plan p d) = planned plan p d
+  way (not_read request name is read fails files said) = read_failed request name is read fails said
+  way (no_memory unchanged e) = full e
 
-said_read : (words : List (List ℕ)) (old new : World) (status : ℕ) (request : Request) (name : List ℕ) → request_of words ≡ Some request → IsRead old.files request name → ReadFails old.faults new.faults name → Said (read_fault_text name) 3 old.sink new.sink status → Way words old new status
-said_read words old new status request name is read fails (whole said meant) =
-    faulty_read (record {
-      request = request;
-      is_request = is;
-      is_read = subst (IsRead old.files request) (sym fails.last) read;
-      fails = subst (ReadFails old.faults new.faults) (sym fails.last) fails;
-      printed = said.taken ∙ ap (λ n. took old.sink.taken (read_fault_text n)) (sym fails.last);
-    }) meant
-said_read words old new status request name is read fails (cut c e) = faulty_sink c.rose e
+  -- what a status of a kind says
+  abbrev Says : Kind → Type 0
+  Says of_deed = IsDone job_of asked old new status
+  Says of_usage = asked ≡ None
+  Says of_refusal = IsRefused job_of asked old new status
+  Says of_read_fault = IsReadFault job_of asked old new
+  Says of_write_fault = Rose old.sink.faults new.sink.faults ⊎ IsKeepFault job_of asked old new
+  Says of_memory = Unit {0}
 
-delivered : (words : List (List ℕ)) (old new : World) (status : ℕ) (plan : Plan) → PlanFor words old.files plan → Delivers plan old new status → Way words old new status
-delivered words old new status plan p (all_kept files faults said) = said_planned words old new status plan p files faults said
-delivered words old new status plan p (not_kept before keep is fails files said) =
-    said_keep words old new status keep.0 (keep_of words old.files plan before keep p is) fails said
-delivered words old new status plan p (no_memory_to_keep before keep is files faults sink e) = full e
+  says : (kind : Kind) → kind_of status ≡ kind → Says kind → Says (kind_of status)
+  says kind e said = subst Says (sym e) said
 
-pub way : (words : List (List ℕ)) (old new : World) (status : ℕ) → Ends words old new status → Way words old new status
-way words old new status (as_planned plan p d) = delivered words old new status plan p d
-way words old new status (not_read request name is read fails files said) = said_read words old new status request name is read fails said
-way words old new status (no_memory unchanged e) = full e
+  pub says_of_kind : Way → Says (kind_of status)
+  says_of_kind (no_request none e quiet) = says of_usage (ap kind_of e) none
+  says_of_kind (is_refused r quiet) = says of_refusal (ap kind_of r.meant ∙ kind_of_refusal r.refusal) r
+  says_of_kind (is_done d quiet) = says of_deed (ap kind_of d.meant ∙ (laws d.request).status_of_deed d.contents d.plan d.does) d
+  says_of_kind (faulty_read f e) = says of_read_fault (ap kind_of e) f
+  says_of_kind (faulty_keep f e) = says of_write_fault (ap kind_of e) (inr f)
+  says_of_kind (faulty_sink rose e) = says of_write_fault (ap kind_of e) (inl rose)
+  says_of_kind (full e) = says of_memory (ap kind_of e) tt
+
+  -- so a status of a kind says that
+  pub said_by : Way → (kind : Kind) → kind_of status ≡ kind → Says kind
+  said_by w kind e = subst Says e (says_of_kind w)

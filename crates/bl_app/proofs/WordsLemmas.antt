@@ -111,7 +111,7 @@ some_request false r s e = (refl, cc)
 
 two_files : (arguments values : List (List ℕ)) (request : HardenRequest) → harden_of arguments values ≡ Some (harden request) → bytes_eq request.image request.certificate ≡ false
 two_files (image ∷ certificate ∷ wasm ∷ []) [] request e =
-    let made : HardenRequest = record { image = image; certificate = certificate; wasm = wasm } in
+    let made : HardenRequest = record { image = image; certificate = certificate; modules = wasm ∷ [] } in
     let passed = some_request (bytes_eq image certificate) made request e in
     subst (λ r. bytes_eq r.image r.certificate ≡ false) passed.1 passed.0
 two_files _ _ request e = cc
@@ -123,7 +123,7 @@ of_steps made (Some steps) request e = cc
 
 no_files : (arguments values : List (List ℕ)) (request : HardenRequest) → interp_of arguments values ≡ Some (harden request) → ⊥
 no_files (export ∷ start ∷ wasm ∷ []) values request e =
-    of_steps (λ n. record { export = export; start = start; wasm = wasm; steps = n }) (steps_of values) request e
+    of_steps (λ n. record { export = export; start = start; modules = wasm ∷ []; steps = n }) (steps_of values) request e
 no_files _ values request e = cc
 
 of_harden : (found : Option Parts) (request : HardenRequest) → option_and_then harden_request found ≡ Some (harden request) → bytes_eq request.image request.certificate ≡ false

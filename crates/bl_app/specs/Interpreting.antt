@@ -1,42 +1,71 @@
--- What the functions of `interp` answer.
-use Rattle.std.specs.Prelude.{◌≡◌, ℕ, List, [], Option, Result, Ok, Err}
-use Rattle.bl_base.specs.Runs.{Outcome}
-use Rattle.bl_machine.specs.Interpreting.{IsWithin}
-use Rattle.bl_trace.specs.declared.error.StartError.{StartError}
-use Rattle.bl_trace.specs.declared.error.StartError.TheVariants.{Line, Count, Memory}
-use Rattle.bl_wasm.specs.declared.linked.Tree.{Tree}
+-- `interp`: its job, and what is said where it is done.
+use Rattle.std.specs.Prelude.{◌≡◌, ℕ, List, [], ◌∷◌, map, Option}
+use Rattle.bl_base.specs.Runs.{IsWithin, Outcome}
+use Rattle.bl_base.specs.declared.quantity.Quantity.TheVariants as quantity
+use Rattle.bl_reduce.specs.Outcomes.{first_store, source}
+use Rattle.bl_app.specs.Form.{StandsAlone}
+use Rattle.bl_app.specs.Hardening.{module_read}
+use Rattle.bl_app.specs.Jobs.{AreRead, Job, Plan, Read, saying}
+use Rattle.bl_app.specs.Loading.{Part, loading, parts_of}
 use Rattle.bl_app.specs.Outcomes.{outcome_status, outcome_text}
-use Rattle.bl_app.specs.Requests.{InterpRequest, module_name}
-use Rattle.bl_app.specs.Running.{AgainstStart, HasRun, NotRunnable, Opens}
-use Rattle.bl_app.specs.Status.{code_of}
-use Rattle.bl_app.specs.declared.interp.Opening.{Opening}
-use Rattle.bl_app.specs.declared.interp.Printed.{Printed}
-use Rattle.bl_app.specs.declared.module.WorkError.{WorkError}
-use Rattle.bl_app.specs.declared.module.WorkError.TheVariants as error
-use Rattle.bl_app.specs.declared.refusal.Refusal.TheVariants.{BadLine, FewArguments}
+use Rattle.bl_app.specs.Refusals.{Refusal}
+use Rattle.bl_app.specs.Requests.{InterpRequest}
+use Rattle.bl_app.specs.Running.{Opened, opening}
+use Rattle.bl_app.specs.Stages.{Stage, chain}
+use Rattle.bl_app.specs.Worlds.{World, took}
+use Rattle.bl_app.specs.declared.status.Status.{Status}
 
--- an error of reading a start file
-abbrev pub start_error : StartError → WorkError
-start_error (Line number) = error.Refused (BadLine number)
-start_error (Count count) = error.Refused (FewArguments count)
-start_error Memory = error.Memory
+-- a start file
+abbrev pub start_read : List ℕ → Read
+start_read word = record { name = word; quantity = quantity.Start }
 
--- the function and its start, or what stands against them
-abbrev pub IsOpened : Tree → List ℕ → List ℕ → Result Opening WorkError → Type 0
-IsOpened tree export start_bytes (Ok opening) = Opens tree export start_bytes opening.function opening.kind.now opening.start
-IsOpened tree export start_bytes (Err (error.Refused refusal)) = AgainstStart tree export start_bytes refusal
-IsOpened tree export start_bytes (Err error.Memory) = Unit {0}
+-- from the bytes of modules and of a start file to the function that is run and its start
+abbrev pub preparing : InterpRequest → List ℕ → Stage (List Part) Opened
+preparing request start = chain (loading StandsAlone) (opening request.export start)
 
--- the text and the status of the outcome of a function's run from a start
-pub record IsTold (tree : Tree) (opening : Opening) (steps : ℕ) (printed : Printed) : Type 0 where
+-- the run of a function has that outcome within so many steps, or none within them
+abbrev pub HasOutcome : Opened → ℕ → Option Outcome → Type 0
+HasOutcome opened steps outcome = IsWithin (source opened.tree opened.function opened.start) steps outcome
+
+-- the text of the outcome, by the types of the results and the memories at the start
+abbrev pub printed_of : Opened → ℕ → Option Outcome → List ℕ
+printed_of opened steps outcome = outcome_text opened.type.results (first_store opened.tree opened.start).memories steps outcome
+
+-- nothing is refused, and the plan is to print the outcome of the run within the steps
+pub record HasRun (request : InterpRequest) (start : List ℕ) (contents : List (List ℕ)) (plan : Plan) : Type 0 where
+  pub opened : Opened
+  pub prepared : (preparing request start).Passes (parts_of request.modules contents) opened
   pub outcome : Option Outcome
-  pub within : IsWithin tree opening.function opening.start steps outcome
-  pub is_text : printed.text.items ≡ outcome_text opening.kind.now.results [] steps outcome
-  pub is_status : code_of printed.status ≡ outcome_status outcome
+  pub within : HasOutcome opened request.steps outcome
+  pub is_plan : plan ≡ saying (outcome_status outcome) (printed_of opened request.steps outcome)
 
--- the text and the status of the run, or what stands against it
-abbrev pub IsInterpreted : InterpRequest → List ℕ → List ℕ → Result Printed WorkError → Type 0
-IsInterpreted request start_bytes bytes (Ok printed) =
-    HasRun (module_name request.wasm) request.export start_bytes bytes request.steps printed.text.items (code_of printed.status)
-IsInterpreted request start_bytes bytes (Err (error.Refused refusal)) = NotRunnable (module_name request.wasm) request.export start_bytes bytes refusal
-IsInterpreted request start_bytes bytes (Err error.Memory) = Unit {0}
+-- the first of the contents are those of the start file
+abbrev pub InterpRefuses : InterpRequest → List (List ℕ) → Refusal → Type 0
+InterpRefuses request [] refusal = ⊥
+InterpRefuses request (start ∷ contents) refusal = (preparing request start).Refuses (parts_of request.modules contents) refusal
+
+abbrev pub InterpDoes : InterpRequest → List (List ℕ) → Plan → Type 0
+InterpDoes request [] plan = ⊥
+InterpDoes request (start ∷ contents) plan = HasRun request start contents plan
+
+abbrev pub interp_job : InterpRequest → Job
+interp_job request = record {
+  reads = start_read request.start ∷ map module_read request.modules;
+  keeps = [];
+  Against = InterpRefuses request;
+  Does = InterpDoes request;
+}
+
+-- the modules' bytes and the start file's can be run; the text of the outcome within the steps is printed, and the status says which
+-- it is; no file is changed
+pub record Interprets (request : InterpRequest) (old new : World) (status : Status) : Type 0 where
+  pub start : List ℕ
+  pub contents : List (List ℕ)
+  pub read : AreRead old.files (interp_job request).reads (start ∷ contents)
+  pub opened : Opened
+  pub prepared : (preparing request start).Passes (parts_of request.modules contents) opened
+  pub outcome : Option Outcome
+  pub within : HasOutcome opened request.steps outcome
+  pub meant : status ≡ outcome_status outcome
+  pub printed : new.sink.taken ≡ took old.sink.taken (printed_of opened request.steps outcome)
+  pub unchanged : new.files ≡ old.files

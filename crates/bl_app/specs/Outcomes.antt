@@ -9,6 +9,8 @@ use Rattle.bl_base.specs.Trap.{text_of}
 use Rattle.bl_base.specs.declared.names.ValueType.{ValueType}
 use Rattle.bl_base.specs.declared.names.ValueType.TheVariants.{I32, I64}
 use Rattle.bl_app.specs.Texts.{line}
+use Rattle.bl_app.specs.declared.status.Status.{Status}
+use Rattle.bl_app.specs.declared.status.Status.TheVariants.{Done, Trapped, Spent}
 
 abbrev pub type_word : ValueType → List ℕ
 type_word I32 = codes "i32"
@@ -58,7 +60,7 @@ outcome_text kinds opening steps (Some (trapped kind memories)) = line (codes "t
 outcome_text kinds opening steps None = line (codes "spent " ++ decimal steps)
 
 -- the exit status
-abbrev pub outcome_status : Option Outcome → ℕ
-outcome_status (Some (returned values memories)) = 0
-outcome_status (Some (trapped kind memories)) = 16
-outcome_status None = 17
+abbrev pub outcome_status : Option Outcome → Status
+outcome_status (Some (returned values memories)) = Done
+outcome_status (Some (trapped kind memories)) = Trapped
+outcome_status None = Spent

@@ -5,17 +5,17 @@ use Rattle.std.specs.Option.{option_map}
 use Rattle.std.specs.Str.{bytes_eq}
 use Rattle.bl_trace.specs.Digits.{decimal_below}
 
--- `harden`: the files that are written, and the module that is read
+-- `harden`: the files that are written, and the modules that are read
 pub record HardenRequest : Type 0 where
   pub image : List ℕ
   pub certificate : List ℕ
-  pub wasm : List ℕ
+  pub modules : List (List ℕ)
 
--- `interp`: the name of an exported function, the start file and the module that are read, and the most steps
+-- `interp`: the name of an exported function, the start file and the modules that are read, and the most steps
 pub record InterpRequest : Type 0 where
   pub export : List ℕ
   pub start : List ℕ
-  pub wasm : List ℕ
+  pub modules : List (List ℕ)
   pub steps : ℕ
 
 -- what a call is asked for
@@ -104,19 +104,19 @@ steps_of [] = Some 1000000
 steps_of (value ∷ []) = number_of_steps value
 steps_of values = None
 
--- what `harden` asks for: an image, a certificate that is another file, and a module
+-- what `harden` asks for: an image, a certificate that is another file, and one module
 abbrev pub harden_of : List (List ℕ) → List (List ℕ) → Option Request
 harden_of (image ∷ certificate ∷ wasm ∷ []) [] =
-    (if bytes_eq image certificate then None else Some (harden (record { image = image; certificate = certificate; wasm = wasm })))
+    (if bytes_eq image certificate then None else Some (harden (record { image = image; certificate = certificate; modules = wasm ∷ [] })))
 harden_of arguments values = None
 
 abbrev pub harden_request : Parts → Option Request
 harden_request parts = harden_of parts.arguments parts.steps_values
 
--- what `interp` asks for: an export, a start file and a module, and the most steps
+-- what `interp` asks for: an export, a start file and one module, and the most steps
 abbrev pub interp_of : List (List ℕ) → List (List ℕ) → Option Request
 interp_of (export ∷ start ∷ wasm ∷ []) values =
-    option_map (λ steps. interp (record { export = export; start = start; wasm = wasm; steps = steps })) (steps_of values)
+    option_map (λ steps. interp (record { export = export; start = start; modules = wasm ∷ []; steps = steps })) (steps_of values)
 interp_of arguments values = None
 
 abbrev pub interp_request : Parts → Option Request

@@ -1,7 +1,6 @@
--- The numbers of the exit statuses.
-use Rattle.std.specs.Prelude.{ℕ}
-use Rattle.bl_app.specs.declared.refusal.Refusal.{Refusal}
-use Rattle.bl_app.specs.declared.refusal.Refusal.TheVariants as refusal
+-- The exit statuses: their numbers, and what each says of a call.
+use Rattle.std.specs.Prelude.{◌≡◌, ℕ}
+use Rattle.bl_app.specs.Refusals.{Refusal, malformed, invalid_function, invalid_module, unsupported, limit, no_export, bad_line, few_arguments}
 use Rattle.bl_app.specs.declared.status.Status.{Status}
 use Rattle.bl_app.specs.declared.status.Status.TheVariants.{Done, Usage, ReadFault, WriteFault, Malformed, Invalid, Unsupported, Limit, Memory, Start, Trapped, Spent}
 
@@ -20,12 +19,42 @@ code_of Trapped = 16
 code_of Spent = 17
 
 -- the status of a refusal
-abbrev pub status_of : Refusal → ℕ
-status_of refusal.Malformed = 5
-status_of (refusal.InvalidFunction index) = 6
-status_of refusal.InvalidModule = 6
-status_of refusal.Unsupported = 7
-status_of (refusal.Limit which value) = 8
-status_of refusal.NoExport = 15
-status_of (refusal.BadLine number) = 15
-status_of (refusal.FewArguments count) = 15
+abbrev pub status_of : Refusal → Status
+status_of (malformed name) = Malformed
+status_of (invalid_function name index) = Invalid
+status_of (invalid_module name) = Invalid
+status_of (unsupported name) = Unsupported
+status_of (limit which value) = Limit
+status_of no_export = Start
+status_of (bad_line number) = Start
+status_of (few_arguments count) = Start
+
+-- what a status says of a call: the work was done, the words were no request, the request was refused, a file could not be
+-- read, a file or the sink could not be written, or memory ran out
+pub data Kind : Type 0 where
+  of_deed : Kind
+  of_usage : Kind
+  of_refusal : Kind
+  of_read_fault : Kind
+  of_write_fault : Kind
+  of_memory : Kind
+
+abbrev pub kind_of : Status → Kind
+kind_of Done = of_deed
+kind_of Usage = of_usage
+kind_of ReadFault = of_read_fault
+kind_of WriteFault = of_write_fault
+kind_of Malformed = of_refusal
+kind_of Invalid = of_refusal
+kind_of Unsupported = of_refusal
+kind_of Limit = of_refusal
+kind_of Memory = of_memory
+kind_of Start = of_refusal
+kind_of Trapped = of_deed
+kind_of Spent = of_deed
+
+-- the number is that of a status with that property
+pub record IsStatus (code : ℕ) (P : Status → Type 0) : Type 0 where
+  pub status : Status
+  pub is_code : code ≡ code_of status
+  pub holds : P status

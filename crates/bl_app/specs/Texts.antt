@@ -2,8 +2,7 @@
 use Rattle.std.specs.Prelude.{ℕ, Bool, true, false, List, [], ◌∷◌, ◌++◌, length, codes, count_by}
 use Rattle.std.specs.Fmt.{decimal}
 use Rattle.bl_base.specs.Quantity.{word_of}
-use Rattle.bl_app.specs.declared.refusal.Refusal.{Refusal}
-use Rattle.bl_app.specs.declared.refusal.Refusal.TheVariants.{Malformed, InvalidFunction, InvalidModule, Unsupported, Limit, NoExport, BadLine, FewArguments}
+use Rattle.bl_app.specs.Refusals.{Refusal, malformed, invalid_function, invalid_module, unsupported, limit, no_export, bad_line, few_arguments}
 use Rattle.bl_app.specs.declared.program.Command.{Command}
 use Rattle.bl_app.specs.declared.program.Command.TheVariants.{Set, Jump, Out, Ret, Trap}
 use Rattle.bl_app.specs.declared.program.Program.{Program}
@@ -39,16 +38,16 @@ empty_certificate = codes "{\"paths\":[],\"weight\":0}"
 abbrev pub usage_text : List ℕ
 usage_text = line (codes "usage: blade COMMAND ARGUMENTS")
 
--- why a request is refused whose module has that name
-abbrev pub refusal_text : List ℕ → Refusal → List ℕ
-refusal_text name Malformed = line (codes "malformed: " ++ name)
-refusal_text name (InvalidFunction index) = line (codes "invalid: " ++ name ++ (codes " function " ++ decimal index))
-refusal_text name InvalidModule = line (codes "invalid: " ++ name ++ codes " module")
-refusal_text name Unsupported = line (codes "unsupported: " ++ name)
-refusal_text name (Limit which value) = line (codes "limit: " ++ word_of which ++ codes " " ++ decimal value)
-refusal_text name NoExport = line (codes "start: export")
-refusal_text name (BadLine number) = line (codes "start: line " ++ decimal number)
-refusal_text name (FewArguments count) = line (codes "start: arguments " ++ decimal count)
+-- why a request is refused
+abbrev pub refusal_text : Refusal → List ℕ
+refusal_text (malformed name) = line (codes "malformed: " ++ name)
+refusal_text (invalid_function name index) = line (codes "invalid: " ++ name ++ (codes " function " ++ decimal index))
+refusal_text (invalid_module name) = line (codes "invalid: " ++ name ++ codes " module")
+refusal_text (unsupported name) = line (codes "unsupported: " ++ name)
+refusal_text (limit which value) = line (codes "limit: " ++ word_of which ++ codes " " ++ decimal value)
+refusal_text no_export = line (codes "start: export")
+refusal_text (bad_line number) = line (codes "start: line " ++ decimal number)
+refusal_text (few_arguments count) = line (codes "start: arguments " ++ decimal count)
 
 abbrev pub read_fault_text : List ℕ → List ℕ
 read_fault_text word = line (codes "read fault: " ++ word)

@@ -1,5 +1,5 @@
 -- The words of a call as the code keeps them.
-use Rattle.std.specs.Prelude.{map}
+use Rattle.std.specs.Prelude.{map, [], ◌∷◌}
 use Rattle.bl_app.specs.Requests.{Request, HardenRequest, InterpRequest, Parts as PartsOf, harden, interp}
 use Rattle.bl_app.specs.declared.words.HardenWords.{HardenWords}
 use Rattle.bl_app.specs.declared.words.InterpWords.{InterpWords}
@@ -13,10 +13,10 @@ parts_in parts = record { arguments = map (λ word. word.now) parts.arguments.it
 
 -- the request that borrowed words are
 abbrev pub harden_in : HardenWords → HardenRequest
-harden_in words = record { image = words.image.now; certificate = words.certificate.now; wasm = words.wasm.now }
+harden_in words = record { image = words.image.now; certificate = words.certificate.now; modules = words.wasm.now ∷ [] }
 
 abbrev pub interp_in : InterpWords → InterpRequest
-interp_in words = record { export = words.export.now; start = words.start.now; wasm = words.wasm.now; steps = words.steps }
+interp_in words = record { export = words.export.now; start = words.start.now; modules = words.wasm.now ∷ []; steps = words.steps }
 
 abbrev pub request_in : RequestWords → Request
 request_in (Harden words) = harden (harden_in words)

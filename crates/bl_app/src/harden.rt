@@ -1,30 +1,29 @@
-//! `harden`: from a module's bytes to its image and report.
-ghost use Rattle.std.specs.Prelude.{◌≡◌, ℕ, List as Listed, Some, IfOk, Err, string_bytes};
-ghost use Rattle.bl_app.specs.Answers.{Delivers, Ends, IsHardened, NotKept, plan_of};
-ghost use Rattle.bl_app.specs.Form.{IsForm};
-ghost use Rattle.bl_app.specs.Refusals.{Refused};
-ghost use Rattle.bl_app.specs.Requests.{harden as hardening, request_of};
-ghost use Rattle.bl_app.specs.Status.{code_of};
-ghost use Rattle.bl_app.specs.Texts.{write_fault_text};
+//! `harden`: from modules' bytes to an image and a report.
+ghost use Rattle.std.specs.Prelude.{◌≡◌, ◌≤◌, ◌∷◌, [], None, IfOk, length, map, string_bytes};
+ghost use Rattle.bl_base.specs.Quantity.{limit_of};
+ghost use Rattle.bl_base.specs.declared.quantity.Quantity.TheVariants as quantity;
+ghost use Rattle.bl_app.specs.Hardening.{harden_job};
+ghost use Rattle.bl_app.specs.Jobs.{AreRead};
+ghost use Rattle.bl_app.specs.Texts.{empty_certificate};
 ghost use Rattle.bl_app.specs.Words.{harden_in};
-ghost use Rattle.bl_app.specs.declared.module.WorkError.TheVariants as error;
+ghost use Rattle.bl_app.specs.Working.{IsHardened, IsWork, contents_in, plan_in, read_in};
 
 use crate::image::encode;
+use crate::job::{Keep, Plan, Read};
 use crate::lower::lower;
-use crate::module::{Form, MODULE_LIMIT, WorkError, read_module};
-use crate::output::{fetch, refuse, say, say_line};
-use crate::refusal::Refusal;
+use crate::module::{Form, module_read, read_module};
+use crate::refusal::WorkError;
 use crate::report::report;
 use crate::status::Status;
 use crate::words::{HardenWords, module_name};
+use bl_base::NoMemory;
 use bl_link::link_alone;
-use bl_outside::{Shelf, ShelfError, Sink};
 use std::alloc::Global;
 
 /// The text of the certificate without paths.
 const EMPTY_CERTIFICATE: &[u8] = b"{\"paths\":[],\"weight\":0}";
 
-/// What is written of a module.
+/// What is written of modules.
 #[derive(Drop)]
 pub struct Hardened {
     /// The image's bytes.
@@ -33,37 +32,38 @@ pub struct Hardened {
     pub report: String,
 }
 
-/// Fetches the module, hardens it, and delivers what is written of it.
-pub fn run_harden<F: Shelf, O: Sink>(
-    alloc: Global,
-    words: &HardenWords<'_>,
-    files: &mut F,
-    out: &mut O,
-) -> Status
-    ensures { (all : Listed (Listed ℕ)) → request_of all ≡ Some (hardening (harden_in words.now)) → Ends all
-        (record { files = F.files files.old; faults = F.faults files.old; sink = record { taken = O.taken out.old; faults = O.faults out.old } })
-        (record { files = F.files files.new; faults = F.faults files.new; sink = record { taken = O.taken out.new; faults = O.faults out.new } })
-        (code_of result) }
+/// The files that `harden` reads.
+pub fn harden_reads<'a>(alloc: Global, words: &HardenWords<'a>) -> Result<Vec<Read<'a>>, NoMemory>
+    ensures { IfOk result (λ reads. map read_in reads.items ≡ (harden_job (harden_in words.now)).reads) }
 {
-    let bytes = match fetch(words.wasm, MODULE_LIMIT, files, out) {
-        Ok(bytes) => bytes,
-        Err(status) => return status,
-    };
-    let name = module_name(words.wasm);
-    match harden(alloc, name, &bytes) {
-        Ok(hardened) => deliver(words, &hardened, files, out),
-        Err(WorkError::Refused(refusal)) => refuse(alloc, name, refusal, out),
-        Err(WorkError::Memory) => Status::Memory,
+    let mut reads = Vec::new(alloc);
+    reads.push(module_read(words.wasm))?;
+    Ok(reads)
+}
+
+/// Keeping the certificate and then the image of a module's bytes, and printing the report; Refused exactly where the bytes are
+/// refused. Linear in the bytes.
+pub fn harden<'a>(
+    alloc: Global,
+    words: &HardenWords<'a>,
+    contents: &[Vec<u8>],
+) -> Result<Plan<'a>, WorkError<'a>>
+    requires { AreRead None (harden_job (harden_in words.now)).reads (contents_in contents.now) }
+    ensures { IsWork (harden_job (harden_in words.now)) (contents_in contents.now) result }
+{
+    let [bytes] = contents else { unreachable!() };
+    match harden_module(alloc, module_name(words.wasm), bytes) {
+        Ok(hardened) => Ok(plan_of(alloc, words, hardened)?),
+        Err(error) => Err(error),
     }
 }
 
-/// The image and the report of a module's bytes, under the module's name; Refused exactly where something stands against
-/// the bytes. Linear in the bytes.
-fn harden(alloc: Global, name: &str, bytes: &[u8]) -> Result<Hardened, WorkError>
-    ensures ok { IfOk result (λ hardened. IsHardened name.now bytes.now hardened.image.items (string_bytes hardened.report)) }
-    ensures refused { (refusal : Refusal) → result ≡ Err (error.Refused refusal) → Refused IsForm bytes.now refusal }
+/// The image and the report of a module's bytes, under the module's name; Refused exactly where the bytes are refused.
+fn harden_module<'a>(alloc: Global, name: &'a str, bytes: &[u8]) -> Result<Hardened, WorkError<'a>>
+    requires { length bytes.now ≤ limit_of quantity.Module }
+    ensures { IsHardened (record { name = name.now; bytes = bytes.now }) result }
 {
-    let wasm = match read_module(alloc, Form::Additions, bytes) {
+    let wasm = match read_module(alloc, Form::Additions, name, bytes) {
         Ok(wasm) => wasm,
         Err(error) => return Err(error),
     };
@@ -74,36 +74,31 @@ fn harden(alloc: Global, name: &str, bytes: &[u8]) -> Result<Hardened, WorkError
     Ok(Hardened { image, report })
 }
 
-/// Keeps the certificate and the image, in this order, and prints the report.
-fn deliver<F: Shelf, O: Sink>(
-    words: &HardenWords<'_>,
-    hardened: &Hardened,
-    files: &mut F,
-    out: &mut O,
-) -> Status
-    ensures { Delivers (plan_of (harden_in words.now) hardened.now.image.items (string_bytes hardened.now.report))
-        (record { files = F.files files.old; faults = F.faults files.old; sink = record { taken = O.taken out.old; faults = O.faults out.old } })
-        (record { files = F.files files.new; faults = F.faults files.new; sink = record { taken = O.taken out.new; faults = O.faults out.new } })
-        (code_of result) }
+/// The plan of an image and a report.
+fn plan_of<'a>(
+    alloc: Global,
+    words: &HardenWords<'a>,
+    hardened: Hardened,
+) -> Result<Plan<'a>, NoMemory>
+    ensures { IfOk result (λ plan. plan_in plan ≡ record {
+      status = Status.Done;
+      keeps = (words.now.certificate.now, empty_certificate) ∷ (words.now.image.now, hardened.image.items) ∷ [];
+      text = string_bytes hardened.report;
+    }) }
 {
-    if let Err(error) = files.keep(words.certificate, EMPTY_CERTIFICATE) {
-        return not_kept(out, words.certificate, error);
-    }
-    if let Err(error) = files.keep(words.image, &hardened.image) {
-        return not_kept(out, words.image, error);
-    }
-    say(out, hardened.report.as_bytes(), Status::Done)
-}
-
-/// What follows where a file could not be kept.
-fn not_kept<O: Sink>(out: &mut O, word: &str, error: ShelfError) -> Status
-    ensures { NotKept error (write_fault_text word.now)
-        (record { taken = O.taken out.old; faults = O.faults out.old })
-        (record { taken = O.taken out.new; faults = O.faults out.new })
-        (code_of result) }
-{
-    match error {
-        ShelfError::Failed => say_line(out, "write fault: ", word.as_bytes(), Status::WriteFault),
-        ShelfError::Memory => Status::Memory,
-    }
+    let certificate = EMPTY_CERTIFICATE.to_vec(alloc)?;
+    let mut keeps = Vec::new(alloc);
+    keeps.push(Keep {
+        name: words.certificate,
+        bytes: certificate,
+    })?;
+    keeps.push(Keep {
+        name: words.image,
+        bytes: hardened.image,
+    })?;
+    Ok(Plan {
+        status: Status::Done,
+        keeps,
+        text: hardened.report.into_bytes(),
+    })
 }

@@ -1,29 +1,46 @@
 //! Laws of the definitions. Each function is its contract alone.
-ghost use Rattle.std.specs.Prelude.{◌≡◌, ◌↔◌, ℕ, ◌^◌, ◌<◌, List as Listed, Some};
+ghost use Rattle.std.specs.Prelude.{◌≡◌, ◌↔◌, ◌⊎◌, ℕ, ◌^◌, ◌<◌, List as Listed, None, Some};
 ghost use Rattle.bl_outside.specs.Shelf.{Files};
 ghost use Rattle.bl_leb.specs.Numbers.{IsUnsigned};
 ghost use Rattle.bl_leb.specs.Spellings.{IsShortest};
+ghost use Rattle.bl_app.specs.Causes.{Causes, NoneRose};
+ghost use Rattle.bl_app.specs.Commands.{job_of};
 ghost use Rattle.bl_app.specs.Image.{leb};
-ghost use Rattle.bl_app.specs.Requested.{FirstRefusal, HardenReady, InterpReady};
-ghost use Rattle.bl_app.specs.Requests.{Request, HardenRequest, InterpRequest, IsTakenApart, harden, interp, parts_of};
-ghost use Rattle.bl_app.specs.Running.{HasRun};
-ghost use Rattle.bl_app.specs.declared.refusal.Refusal.{Refusal};
+ghost use Rattle.bl_app.specs.Interpreting.{InterpDoes};
+ghost use Rattle.bl_app.specs.Jobs.{AreRead, FirstRefusal, IsLawful, Plan};
+ghost use Rattle.bl_app.specs.Refusals.{Refusal};
+ghost use Rattle.bl_app.specs.Requests.{InterpRequest, IsTakenApart, Request, parts_of};
+ghost use Rattle.bl_app.specs.Worlds.{World};
+ghost use Rattle.bl_app.specs.declared.status.Status.{Status};
+ghost use Rattle.bl_app.specs.declared.status.Status.TheVariants as status;
 
-/// At most one refusal is the first that stands against a request.
-pub fn one_refusal()
-    ensures { (files : Files) (request : Request) (a b : Refusal) → FirstRefusal (Some files) request a → FirstRefusal (Some files) request b → a ≡ b }
+/// The job of each request: its contents have at most one refusal, and nothing is done where one stands; all that may be done has
+/// one status, and keeps the files that are named.
+pub fn jobs_are_lawful()
+    ensures { (request : Request) → IsLawful (job_of request) }
 {}
 
-/// No refusal stands against a request that can be carried out.
-pub fn what_is_ready_is_not_refused()
-    ensures harden { (files : Files) (request : HardenRequest) (refusal : Refusal) → HardenReady (Some files) request → FirstRefusal (Some files) (harden request) refusal → ⊥ }
-    ensures interp { (files : Files) (request : InterpRequest) (refusal : Refusal) → InterpReady (Some files) request → FirstRefusal (Some files) (interp request) refusal → ⊥ }
+/// At most one refusal of a request is the first.
+pub fn one_refusal()
+    ensures { (files : Files) (request : Request) (a b : Refusal) → FirstRefusal (job_of request) (Some files) a → FirstRefusal (job_of request) (Some files) b → a ≡ b }
+{}
+
+/// A request that can be carried out is not refused.
+pub fn what_can_be_done_is_not_refused()
+    ensures { (files : Files) (request : Request) (refusal : Refusal) (contents : Listed (Listed ℕ)) (plan : Plan)
+        → AreRead (Some files) (job_of request).reads contents → (job_of request).Does contents plan → FirstRefusal (job_of request) (Some files) refusal → ⊥ }
 {}
 
 /// A run has one text and one status.
 pub fn one_run()
-    ensures { (name export start_bytes bytes : Listed ℕ) (steps : ℕ) (a b : Listed ℕ) (s t : ℕ)
-        → HasRun name export start_bytes bytes steps a s → HasRun name export start_bytes bytes steps b t → (a ≡ b) × (s ≡ t) }
+    ensures { (request : InterpRequest) (contents : Listed (Listed ℕ)) (p q : Plan) → InterpDoes request contents p → InterpDoes request contents q → p ≡ q }
+{}
+
+/// No status but that of want of memory can be the answer to all calls: where no count of faults rises, words that are no
+/// request are answered by no other status, and a request never is by theirs.
+pub fn no_status_answers_all()
+    ensures without_request { (old new : World) (answer : Status) → Causes job_of None old new answer → NoneRose old new → (answer ≡ status.Usage) ⊎ (answer ≡ status.Memory) }
+    ensures with_request { (request : Request) (old new : World) → Causes job_of (Some request) old new status.Usage → ⊥ }
 {}
 
 /// An image spells each number by its shortest spelling in LEB128.

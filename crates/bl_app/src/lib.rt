@@ -1,10 +1,14 @@
 //! The program behind `blade`: from words, files and a stream to an exit status.
 #![tactic(auto)]
 
+mod command;
+mod deliver;
+mod fetch;
 mod form;
 mod harden;
 mod image;
 mod interp;
+mod job;
 pub mod laws;
 mod lists;
 mod lower;
@@ -20,6 +24,3 @@ mod words;
 
 pub use program::{Command, ExportDef, FunctionDef, Mark, Operand, Operator, ParamDef, Program};
 pub use top::blade;
-
-#[cfg(test)]
-mod tests;

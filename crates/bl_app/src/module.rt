@@ -1,38 +1,17 @@
 //! From a module's bytes to the valid module.
-ghost use Rattle.std.specs.Prelude.{◌≡◌, ◌↔◌, IsTrue};
-ghost use Rattle.bl_app.specs.Reading.{Reads, decoding_error, is_of, validation_error};
-ghost use Rattle.bl_app.specs.declared.module.WorkError.TheVariants as error;
+ghost use Rattle.std.specs.Prelude.{◌≡◌, ◌↔◌, ◌≤◌, IsTrue, length};
+ghost use Rattle.bl_base.specs.Quantity.{limit_of};
+ghost use Rattle.bl_app.specs.Hardening.{module_read as read_of};
+ghost use Rattle.bl_app.specs.Working.{IsStaged, decoding_error, is_of, of_module, read_in, validation_error};
 
 use crate::form::{is_form, stands_alone};
-use crate::refusal::Refusal;
-use bl_base::{NoMemory, Quantity};
+use crate::job::Read;
+use crate::refusal::{Refusal, WorkError};
+use bl_base::Quantity;
 use bl_decode::{DecodeError, decode};
 use bl_validate::{Invalid, ValidModule, validate};
 use bl_wasm::Module;
 use std::alloc::Global;
-use thiserror::Error;
-
-/// The most bytes of a module's file.
-pub const MODULE_LIMIT: u64 = 4_194_304;
-
-/// Why the work isn't done, or that memory ran out.
-#[derive(Clone, Copy, Debug, PartialEq, Eq, Error)]
-pub enum WorkError {
-    /// Something stands against the request.
-    #[error("the request is refused")]
-    Refused(Refusal),
-    /// Memory ran out.
-    #[error("out of memory")]
-    Memory,
-}
-
-impl From<NoMemory> for WorkError {
-    ghost from_gives = { λ _ e. e ≡ error.Memory };
-
-    fn from(_e: NoMemory) -> WorkError {
-        WorkError::Memory
-    }
-}
 
 /// The modules that a command takes.
 #[derive(Clone, Copy, Debug, PartialEq, Eq)]
@@ -55,51 +34,61 @@ impl Form {
     }
 }
 
-/// The valid module of the form that the bytes spell; Refused exactly where something stands against the bytes: they are more
-/// than 4,194,304, they spell no module, or the module isn't supported, exceeds a limit, isn't valid or is of another form.
-pub fn read_module(alloc: Global, form: Form, bytes: &[u8]) -> Result<ValidModule, WorkError>
-    ensures { Reads (is_of form) bytes.now result }
+/// The file of a module, of at most 4,194,304 bytes.
+pub fn module_read(word: &str) -> Read<'_>
+    ensures { read_in result ≡ read_of word.now }
 {
-    if bytes.len() as u64 > MODULE_LIMIT {
-        return Err(WorkError::Refused(Refusal::Limit {
-            which: Quantity::Module,
-            value: MODULE_LIMIT + 1,
-        }));
+    Read {
+        name: word,
+        quantity: Quantity::Module,
     }
+}
+
+/// The valid module of the form that the bytes spell; Refused exactly where the bytes are refused: they spell no module, or
+/// the module isn't supported, exceeds a limit, isn't valid or is of another form.
+pub fn read_module<'a>(
+    alloc: Global,
+    form: Form,
+    name: &'a str,
+    bytes: &[u8],
+) -> Result<ValidModule, WorkError<'a>>
+    requires { length bytes.now ≤ limit_of Quantity.Module }
+    ensures { IsStaged (of_module (is_of form)) (λ tree. record { name = name.now; tree = tree }) (record { name = name.now; bytes = bytes.now }) result }
+{
     let tree = match decode(alloc, bytes) {
         Ok(tree) => tree,
-        Err(error) => return Err(of_decoding(error)),
+        Err(error) => return Err(of_decoding(name, error)),
     };
     let wasm = match validate(alloc, tree) {
         Ok(wasm) => wasm,
-        Err((_, reason)) => return Err(of_validation(reason)),
+        Err((_, reason)) => return Err(of_validation(name, reason)),
     };
     if form.holds(wasm.module()) {
         Ok(wasm)
     } else {
-        Err(WorkError::Refused(Refusal::Unsupported))
+        Err(WorkError::Refused(Refusal::Unsupported(name)))
     }
 }
 
-/// Why bytes are refused that aren't decoded.
-fn of_decoding(error: DecodeError) -> WorkError
-    ensures { result ≡ decoding_error error }
+/// Why the bytes of a module of that name are refused that aren't decoded.
+fn of_decoding(name: &str, error: DecodeError) -> WorkError<'_>
+    ensures { result ≡ decoding_error name.entry error }
 {
     match error {
-        DecodeError::Malformed => WorkError::Refused(Refusal::Malformed),
-        DecodeError::Unsupported => WorkError::Refused(Refusal::Unsupported),
+        DecodeError::Malformed => WorkError::Refused(Refusal::Malformed(name)),
+        DecodeError::Unsupported => WorkError::Refused(Refusal::Unsupported(name)),
         DecodeError::Limit { which, value } => WorkError::Refused(Refusal::Limit { which, value }),
         DecodeError::Memory => WorkError::Memory,
     }
 }
 
-/// Why a module is refused that isn't valid.
-fn of_validation(reason: Invalid) -> WorkError
-    ensures { result ≡ validation_error reason }
+/// Why a module of that name is refused that isn't valid.
+fn of_validation(name: &str, reason: Invalid) -> WorkError<'_>
+    ensures { result ≡ validation_error name.entry reason }
 {
     match reason {
-        Invalid::Function(index) => WorkError::Refused(Refusal::InvalidFunction(index)),
-        Invalid::Module => WorkError::Refused(Refusal::InvalidModule),
+        Invalid::Function(index) => WorkError::Refused(Refusal::InvalidFunction(name, index)),
+        Invalid::Module => WorkError::Refused(Refusal::InvalidModule(name)),
         Invalid::Memory => WorkError::Memory,
     }
 }

@@ -2,9 +2,9 @@
 ghost use Rattle.std.specs.Prelude.{◌≡◌, ◌++◌, [], IfOk, codes};
 ghost use Rattle.std.specs.Fmt.{decimal};
 ghost use Rattle.bl_base.specs.Trap.{text_of};
-ghost use Rattle.bl_machine.specs.Interpreting.{memories_in, outcome_of};
+ghost use Rattle.bl_base.specs.Runs.{outcome_of};
+ghost use Rattle.bl_machine.specs.Interpreting.{memories_in};
 ghost use Rattle.bl_app.specs.Outcomes.{outcome_status, outcome_text, type_word, value_text, values_text};
-ghost use Rattle.bl_app.specs.Status.{code_of};
 ghost use Rattle.bl_app.specs.Texts.{line};
 
 use crate::status::Status;
@@ -31,7 +31,7 @@ pub fn outcome_text(
 
 /// The exit status of a run's end.
 pub fn outcome_status(run: &Run) -> Status
-    ensures { code_of result ≡ outcome_status (outcome_of run.now) }
+    ensures { result ≡ outcome_status (outcome_of run.now) }
 {
     match run {
         Run::Returned { .. } => Status::Done,

@@ -2,25 +2,28 @@
 ghost use Rattle.std.specs.Prelude.{◌≡◌, ◌++◌, IfOk, codes};
 ghost use Rattle.std.specs.Fmt.{decimal};
 ghost use Rattle.bl_base.specs.Quantity.{word_of};
-ghost use Rattle.bl_app.specs.Status.{code_of, status_of};
+ghost use Rattle.bl_app.specs.Status.{status_of};
 ghost use Rattle.bl_app.specs.Texts.{line, refusal_text};
+ghost use Rattle.bl_app.specs.Working.{refusal_in};
+ghost use Rattle.bl_app.specs.declared.refusal.WorkError.TheVariants as error;
 
 use crate::status::Status;
 use bl_base::{NoMemory, Quantity};
 use std::alloc::Global;
+use thiserror::Error;
 
-/// Why a request is refused: the first cause in the order of work.
-#[derive(Clone, Copy, Debug, PartialEq, Eq)]
-pub enum Refusal {
-    /// The module's bytes spell none.
-    Malformed,
-    /// A function has no typing: the least one's index, imports first.
-    InvalidFunction(u32),
-    /// Each function has a typing, and the module breaks another rule.
-    InvalidModule,
-    /// The module has something that isn't supported, or it is outside the form.
-    Unsupported,
-    /// A file or the module is too large.
+/// Why a request is refused: the first error in the order of work, with the name of its module.
+#[derive(Clone, Copy, Debug)]
+pub enum Refusal<'a> {
+    /// A module's bytes spell none.
+    Malformed(&'a str),
+    /// A function of a module has no typing: the first one's index, imports first.
+    InvalidFunction(&'a str, u32),
+    /// Each function of a module has a typing, and the module breaks another rule.
+    InvalidModule(&'a str),
+    /// A module has something that isn't supported, or it is outside the form.
+    Unsupported(&'a str),
+    /// A file or a module is too large.
     Limit {
         /// The first quantity that is above its number.
         which: Quantity,
@@ -35,29 +38,48 @@ pub enum Refusal {
     FewArguments(u64),
 }
 
-impl Refusal {
+/// Why the work isn't done, or that memory ran out.
+#[derive(Clone, Copy, Debug, Error)]
+pub enum WorkError<'a> {
+    /// The request is refused.
+    #[error("the request is refused")]
+    Refused(Refusal<'a>),
+    /// Memory ran out.
+    #[error("out of memory")]
+    Memory,
+}
+
+impl<'a> From<NoMemory> for WorkError<'a> {
+    ghost from_gives = { λ _ e. e ≡ error.Memory };
+
+    fn from(_e: NoMemory) -> WorkError<'a> {
+        WorkError::Memory
+    }
+}
+
+impl<'a> Refusal<'a> {
     /// The exit status.
     pub fn status(self) -> Status
-        ensures { code_of result ≡ status_of self }
+        ensures { result ≡ status_of (refusal_in self.entry) }
     {
         match self {
-            Refusal::Malformed => Status::Malformed,
-            Refusal::InvalidFunction(_) | Refusal::InvalidModule => Status::Invalid,
-            Refusal::Unsupported => Status::Unsupported,
+            Refusal::Malformed(_) => Status::Malformed,
+            Refusal::InvalidFunction(_, _) | Refusal::InvalidModule(_) => Status::Invalid,
+            Refusal::Unsupported(_) => Status::Unsupported,
             Refusal::Limit { .. } => Status::Limit,
             Refusal::NoExport | Refusal::BadLine(_) | Refusal::FewArguments(_) => Status::Start,
         }
     }
 
-    /// The line that is printed, of a module under that name.
-    pub fn text(self, alloc: Global, name: &[u8]) -> Result<Vec<u8>, NoMemory>
-        ensures { IfOk result (λ text. text.items ≡ refusal_text name.now self) }
+    /// The line that is printed.
+    pub fn text(self, alloc: Global) -> Result<Vec<u8>, NoMemory>
+        ensures { IfOk result (λ text. text.items ≡ refusal_text (refusal_in self.entry)) }
     {
         match self {
-            Refusal::Malformed => named_line(alloc, "malformed: ", name, ""),
-            Refusal::InvalidFunction(index) => function_line(alloc, name, index),
-            Refusal::InvalidModule => named_line(alloc, "invalid: ", name, " module"),
-            Refusal::Unsupported => named_line(alloc, "unsupported: ", name, ""),
+            Refusal::Malformed(name) => named_line(alloc, "malformed: ", name, ""),
+            Refusal::InvalidFunction(name, index) => function_line(alloc, name, index),
+            Refusal::InvalidModule(name) => named_line(alloc, "invalid: ", name, " module"),
+            Refusal::Unsupported(name) => named_line(alloc, "unsupported: ", name, ""),
             Refusal::Limit { which, value } => limit_line(alloc, which, value),
             Refusal::NoExport => Ok(b"start: export\n".to_vec(alloc)?),
             Refusal::BadLine(number) => Ok(format!(in alloc;
@@ -71,18 +93,18 @@ impl Refusal {
 }
 
 /// A line of a head, a name and a tail.
-fn named_line(alloc: Global, head: &str, name: &[u8], tail: &str) -> Result<Vec<u8>, NoMemory>
+fn named_line(alloc: Global, head: &str, name: &str, tail: &str) -> Result<Vec<u8>, NoMemory>
     ensures { IfOk result (λ text. text.items ≡ line (head.now ++ name.now ++ tail.now)) }
 {
     let mut text = head.as_bytes().to_vec(alloc)?;
-    text.extend_from_slice(name)?;
+    text.extend_from_slice(name.as_bytes())?;
     text.extend_from_slice(tail.as_bytes())?;
     text.push(b'\n')?;
     Ok(text)
 }
 
 /// The line of a function without a typing.
-fn function_line(alloc: Global, name: &[u8], index: u32) -> Result<Vec<u8>, NoMemory>
+fn function_line(alloc: Global, name: &str, index: u32) -> Result<Vec<u8>, NoMemory>
     ensures { IfOk result (λ text. text.items ≡ line (codes "invalid: " ++ name.now ++ (codes " function " ++ decimal index))) }
 {
     let tail = format!(in alloc; " function {index}")?;

@@ -1,13 +1,20 @@
 //! The top call.
-ghost use Rattle.std.specs.Prelude.{◌≡◌, map, string_bytes, Some};
-ghost use Rattle.bl_app.specs.Answers.{Ends};
-ghost use Rattle.bl_app.specs.Causes.{Causes, Hardens, Interprets, IsOfRun};
+ghost use Rattle.std.specs.Prelude.{◌≡◌, Some, map, string_bytes};
+ghost use Rattle.bl_app.specs.Causes.{Causes};
+ghost use Rattle.bl_app.specs.Commands.{job_of};
+ghost use Rattle.bl_app.specs.Ends.{Ends};
+ghost use Rattle.bl_app.specs.Hardening.{Hardens};
+ghost use Rattle.bl_app.specs.Interpreting.{Interprets};
 ghost use Rattle.bl_app.specs.Requests.{HardenRequest, InterpRequest, harden, interp, request_of};
-ghost use Rattle.bl_app.specs.Status.{code_of};
+ghost use Rattle.bl_app.specs.Status.{IsStatus, kind_of, of_deed};
+ghost use Rattle.bl_app.specs.Words.{request_in};
+ghost use Rattle.bl_app.specs.Worlds.{world};
 
-use crate::harden::run_harden;
-use crate::interp::run_interp;
-use crate::output::say_line;
+use crate::command::{reads_of, work};
+use crate::deliver::deliver;
+use crate::fetch::fetch_all;
+use crate::output::{refuse, say_line};
+use crate::refusal::WorkError;
 use crate::status::Status;
 use crate::words::{Request, read_words};
 use bl_base::NoMemory;
@@ -21,42 +28,56 @@ use std::alloc::Global;
 /// steps were spent. All text goes to the sink.
 pub fn blade<F: Shelf, O: Sink>(alloc: Global, words: &[String], files: &mut F, out: &mut O) -> u8
     // How the call ends, whatever fails.
-    ensures ends { Ends (map string_bytes words.now)
-        (record { files = F.files files.old; faults = F.faults files.old; sink = record { taken = O.taken out.old; faults = O.faults out.old } })
-        (record { files = F.files files.new; faults = F.faults files.new; sink = record { taken = O.taken out.new; faults = O.faults out.new } })
-        result }
+    ensures ends { IsStatus result (Ends job_of (request_of (map string_bytes words.now))
+        (world F.files F.faults O.taken O.faults files.old out.old) (world F.files F.faults O.taken O.faults files.new out.new)) }
 
-    // What each other status says, and when it comes.
-    ensures causes { Causes (map string_bytes words.now)
-        (record { files = F.files files.old; faults = F.faults files.old; sink = record { taken = O.taken out.old; faults = O.faults out.old } })
-        (record { files = F.files files.new; faults = F.faults files.new; sink = record { taken = O.taken out.new; faults = O.faults out.new } })
-        result }
+    // What each status says, and when it comes.
+    ensures causes { IsStatus result (Causes job_of (request_of (map string_bytes words.now))
+        (world F.files F.faults O.taken O.faults files.old out.old) (world F.files F.faults O.taken O.faults files.new out.new)) }
 
-    // What status 0 says of `harden`: the image means what the module means.
+    // What status 0 says of `harden`: the image means what the modules mean.
     ensures hardens { (request : HardenRequest) → request_of (map string_bytes words.now) ≡ Some (harden request) → result ≡ 0 → Hardens request
-        (record { files = F.files files.old; faults = F.faults files.old; sink = record { taken = O.taken out.old; faults = O.faults out.old } })
-        (record { files = F.files files.new; faults = F.faults files.new; sink = record { taken = O.taken out.new; faults = O.faults out.new } }) }
+        (world F.files F.faults O.taken O.faults files.old out.old) (world F.files F.faults O.taken O.faults files.new out.new) }
 
-    // What statuses 0, 16 and 17 say of `interp`: the text is that of the module's outcome within the steps.
-    ensures interprets { (request : InterpRequest) → request_of (map string_bytes words.now) ≡ Some (interp request) → IsOfRun result → Interprets request
-        (record { files = F.files files.old; faults = F.faults files.old; sink = record { taken = O.taken out.old; faults = O.faults out.old } })
-        (record { files = F.files files.new; faults = F.faults files.new; sink = record { taken = O.taken out.new; faults = O.faults out.new } })
-        result }
+    // What statuses 0, 16 and 17 say of `interp`: the text is that of the modules' outcome within the steps.
+    ensures interprets { (request : InterpRequest) → request_of (map string_bytes words.now) ≡ Some (interp request) → IsStatus result (λ status. kind_of status ≡ of_deed → Interprets request
+        (world F.files F.faults O.taken O.faults files.old out.old) (world F.files F.faults O.taken O.faults files.new out.new) status) }
 {
     run(alloc, words, files, out).code()
 }
 
 /// Does what the words ask for.
 fn run<F: Shelf, O: Sink>(alloc: Global, words: &[String], files: &mut F, out: &mut O) -> Status
-    ensures { Ends (map string_bytes words.now)
-        (record { files = F.files files.old; faults = F.faults files.old; sink = record { taken = O.taken out.old; faults = O.faults out.old } })
-        (record { files = F.files files.new; faults = F.faults files.new; sink = record { taken = O.taken out.new; faults = O.faults out.new } })
-        (code_of result) }
+    ensures { Ends job_of (request_of (map string_bytes words.now))
+        (world F.files F.faults O.taken O.faults files.old out.old) (world F.files F.faults O.taken O.faults files.new out.new) result }
 {
     match read_words(alloc, words) {
-        Ok(Some(Request::Harden(words))) => run_harden(alloc, &words, files, out),
-        Ok(Some(Request::Interp(words))) => run_interp(alloc, &words, files, out),
+        Ok(Some(request)) => carry_out(alloc, &request, files, out),
         Ok(None) => say_line(out, "usage: blade COMMAND ARGUMENTS", b"", Status::Usage),
         Err(NoMemory) => Status::Memory,
+    }
+}
+
+/// Reads the files of a request, does its work on their contents, and delivers what is to be done.
+fn carry_out<F: Shelf, O: Sink>(
+    alloc: Global,
+    request: &Request<'_>,
+    files: &mut F,
+    out: &mut O,
+) -> Status
+    ensures { Ends job_of (Some (request_in request.now))
+        (world F.files F.faults O.taken O.faults files.old out.old) (world F.files F.faults O.taken O.faults files.new out.new) result }
+{
+    let Ok(reads) = reads_of(alloc, request) else {
+        return Status::Memory;
+    };
+    let contents = match fetch_all(alloc, reads.as_slice(), files, out) {
+        Ok(contents) => contents,
+        Err(status) => return status,
+    };
+    match work(alloc, request, contents.as_slice()) {
+        Ok(plan) => deliver(&plan, files, out),
+        Err(WorkError::Refused(refusal)) => refuse(alloc, refusal, out),
+        Err(WorkError::Memory) => Status::Memory,
     }
 }

@@ -2,7 +2,8 @@ use Rattle.std.proofs.Common.{sym, ap, subst, map, []}
 use Rattle.std.specs.Prelude.{Err}
 use Rattle.bl_base.specs.Fits.{Fits}
 use Rattle.bl_trace.specs.Answers.{answer_of, IsAnswer}
-use Rattle.bl_app.specs.Interpreting.{IsOpened}
+use Rattle.bl_app.specs.Running.{opening}
+use Rattle.bl_app.specs.Working.{IsStaged, opened_in}
 use Rattle.bl_app.proofs.StartLemmas.{exported_exists, start_of_type, start_refused}
 use Rattle.bl_app.proofs.interp.prepare.Goals as goal
 
@@ -15,8 +16,8 @@ returns-in-Err-clause-opened c =
     let bytes = c.args.bytes.now in
     let answer = subst (λ params. IsAnswer (answer_of params [] bytes) (Err c.in-Err.error)) c.as_slice.ensures c.in-Err.ensures.answer in
     let none = ap (map (λ memory. memory.pages)) c.requires.memories in
-    let refused = start_refused tree c.args.export.now bytes c.in-Some.function c.signature-kind.result.now c.in-Err.error (sym c.in-Some.ensures) c.signature-kind.ensures none answer in
-    subst (λ error. IsOpened tree c.args.export.now bytes (Err error)) (sym c.of_start.ensures) refused
+    let refused = start_refused (opened_in tree) tree c.args.export.now bytes c.in-Some.function c.signature-kind.result.now c.in-Err.error (sym c.in-Some.ensures) c.signature-kind.ensures none answer in
+    subst (λ error. IsStaged (opening c.args.export.now bytes) (opened_in tree) tree (Err error)) (sym c.of_start.ensures) refused
 
 pub returns-in-Ok-clause-fits : goal.returns-in-Ok-clause-fits
 returns-in-Ok-clause-fits c =

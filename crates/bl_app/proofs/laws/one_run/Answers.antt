@@ -1,5 +1,5 @@
-use Rattle.bl_app.proofs.InterpLemmas.{one_answer_told}
+use Rattle.bl_app.proofs.InterpLemmas.{one_run}
 use Rattle.bl_app.proofs.laws.one_run.Goals as goal
 
 pub returns : goal.returns
-returns c = one_answer_told
+returns c = one_run

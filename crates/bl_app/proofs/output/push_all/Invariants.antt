@@ -1,5 +1,5 @@
 use Rattle.std.proofs.Common.{◌≡◌, ◌≤◌, ◌-◌, length, take}
-use Rattle.bl_app.specs.Answers.{took}
+use Rattle.bl_app.specs.Worlds.{took}
 use Rattle.bl_app.proofs.output.push_all.Given as goal
 
 -- so much of the text was taken, and nothing failed

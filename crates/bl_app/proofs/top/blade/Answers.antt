@@ -1,16 +1,23 @@
-use Rattle.std.proofs.Common.{◌∙◌, sym, subst}
-use Rattle.bl_app.specs.Causes.{IsOfRun}
-use Rattle.bl_app.proofs.CausesLemmas.{causes, hardens, interprets}
+use Rattle.std.proofs.Common.{◌∙◌, map, string_bytes, sym}
+use Rattle.bl_app.specs.Commands.{job_of}
+use Rattle.bl_app.proofs.CausesLemmas.{causes, was_done}
+use Rattle.bl_app.proofs.CommandLemmas.{done_by_zero, laws_of}
+use Rattle.bl_app.proofs.HardenLemmas.{hardens}
+use Rattle.bl_app.proofs.InterpLemmas.{interprets}
 use Rattle.bl_app.proofs.top.blade.Goals as goal
 
 pub returns-clause-ends : goal.returns-clause-ends
-returns-clause-ends g c = rw c.code.ensures c.run.ensures
+returns-clause-ends g c = record { status = c.run.result; is_code = c.code.ensures; holds = c.run.ensures }
 
 pub returns-clause-causes : goal.returns-clause-causes
-returns-clause-causes g c = rw c.code.ensures (causes _ _ _ _ c.run.ensures)
+returns-clause-causes g c = record { status = c.run.result; is_code = c.code.ensures; holds = causes job_of laws_of _ _ _ _ c.run.ensures }
 
 pub returns-clause-hardens : goal.returns-clause-hardens
-returns-clause-hardens g c = λ request asks done. hardens _ _ _ _ c.run.ensures request asks (sym c.code.ensures ∙ done)
+returns-clause-hardens g c = λ request asks zero. hardens (map string_bytes c.args.words.now) request _ _ c.run.result asks (was_done job_of laws_of _ _ _ _ c.run.ensures (done_by_zero c.run.result (sym c.code.ensures ∙ zero)))
 
 pub returns-clause-interprets : goal.returns-clause-interprets
-returns-clause-interprets g c = λ request asks ran. rw c.code.ensures (interprets _ _ _ _ c.run.ensures request asks (subst IsOfRun c.code.ensures ran))
+returns-clause-interprets g c = λ request asks. record {
+  status = c.run.result;
+  is_code = c.code.ensures;
+  holds = λ deed. interprets request _ _ _ c.run.result asks (was_done job_of laws_of _ _ _ _ c.run.ensures deed);
+}

@@ -1,0 +1,74 @@
+-- The jobs of all commands keep the laws; no status answers all calls.
+use Rattle.std.proofs.Common.{◌≡◌, ℕ, List, Some, None, refl, inl, inr, arith}
+use Rattle.std.specs.Prelude.{◌⊎◌}
+use Rattle.bl_outside.specs.Shelf.{Files}
+use Rattle.bl_app.specs.Causes.{Causes, NoneRose}
+use Rattle.bl_app.specs.Commands.{job_of}
+use Rattle.bl_app.specs.Jobs.{AreRead, FirstRefusal, IsLawful, Plan}
+use Rattle.bl_app.specs.Refusals.{Refusal}
+use Rattle.bl_app.specs.Requests.{Request, harden, interp}
+use Rattle.bl_app.specs.Worlds.{World}
+use Rattle.bl_app.specs.Status.{code_of, kind_of, of_deed, of_refusal}
+use Rattle.bl_app.specs.declared.status.Status.{Status}
+use Rattle.bl_app.specs.declared.status.Status.TheVariants as status
+use Rattle.bl_app.proofs.HardenLemmas.{harden_lawful}
+use Rattle.bl_app.proofs.InterpLemmas.{interp_lawful}
+use Rattle.bl_app.proofs.JobLemmas.{done_not_refused, one_first}
+
+pub laws_of : (request : Request) → IsLawful (job_of request)
+laws_of (harden request) = harden_lawful request
+laws_of (interp request) = interp_lawful request
+
+pub one_refusal : (files : Files) (request : Request) (a b : Refusal) → FirstRefusal (job_of request) (Some files) a → FirstRefusal (job_of request) (Some files) b → a ≡ b
+one_refusal files request = one_first files (job_of request) (laws_of request)
+
+pub not_refused : (files : Files) (request : Request) (refusal : Refusal) (contents : List (List ℕ)) (plan : Plan) → AreRead (Some files) (job_of request).reads contents → (job_of request).Does contents plan
+    → FirstRefusal (job_of request) (Some files) refusal → ⊥
+not_refused files request = done_not_refused files (job_of request) (laws_of request)
+
+-- ---- words that are no request
+
+no_request : {request : Request} → None ≡ Some request → ⊥
+no_request e = cc
+
+module _ (old new : World) (none_rose : NoneRose old new) where
+  not_refused_words : (s : Status) → Causes job_of None old new s → kind_of s ≡ of_refusal → ⊥
+  not_refused_words s c e = no_request (c.refused_only e).is_request
+
+  not_done_words : (s : Status) → Causes job_of None old new s → kind_of s ≡ of_deed → ⊥
+  not_done_words s c e = no_request (c.done_only e).is_request
+
+  not_written : (s : Status) → Causes job_of None old new s → s ≡ status.WriteFault → ⊥
+  not_written s c e = elim (c.write_fault e) [ inl rose ↦ none_rose.sink rose | inr fault ↦ no_request fault.is_request ]
+
+  pub without_request : (s : Status) → Causes job_of None old new s → (s ≡ status.Usage) ⊎ (s ≡ status.Memory)
+  without_request status.Done c = absurd (not_done_words status.Done c refl)
+  without_request status.Usage c = inl refl
+  without_request status.ReadFault c = absurd (no_request (c.read_fault refl).is_request)
+  without_request status.WriteFault c = absurd (not_written status.WriteFault c refl)
+  without_request status.Malformed c = absurd (not_refused_words status.Malformed c refl)
+  without_request status.Invalid c = absurd (not_refused_words status.Invalid c refl)
+  without_request status.Unsupported c = absurd (not_refused_words status.Unsupported c refl)
+  without_request status.Limit c = absurd (not_refused_words status.Limit c refl)
+  without_request status.Memory c = inr refl
+  without_request status.Start c = absurd (not_refused_words status.Start c refl)
+  without_request status.Trapped c = absurd (not_done_words status.Trapped c refl)
+  without_request status.Spent c = absurd (not_done_words status.Spent c refl)
+
+pub with_request : (request : Request) (old new : World) → Causes job_of (Some request) old new status.Usage → ⊥
+with_request request old new c = let none = c.usage_only refl in cc
+
+-- the number 0 says that the work was done
+pub done_by_zero : (s : Status) → code_of s ≡ 0 → kind_of s ≡ of_deed
+done_by_zero status.Done e = refl
+done_by_zero status.Usage e = absurd (omega (arith, e))
+done_by_zero status.ReadFault e = absurd (omega (arith, e))
+done_by_zero status.WriteFault e = absurd (omega (arith, e))
+done_by_zero status.Malformed e = absurd (omega (arith, e))
+done_by_zero status.Invalid e = absurd (omega (arith, e))
+done_by_zero status.Unsupported e = absurd (omega (arith, e))
+done_by_zero status.Limit e = absurd (omega (arith, e))
+done_by_zero status.Memory e = absurd (omega (arith, e))
+done_by_zero status.Start e = absurd (omega (arith, e))
+done_by_zero status.Trapped e = refl
+done_by_zero status.Spent e = refl

@@ -1,0 +1,9 @@
+-- The jobs of all commands.
+use Rattle.bl_app.specs.Hardening.{harden_job}
+use Rattle.bl_app.specs.Interpreting.{interp_job}
+use Rattle.bl_app.specs.Jobs.{Job}
+use Rattle.bl_app.specs.Requests.{Request, harden, interp}
+
+abbrev pub job_of : Request → Job
+job_of (harden request) = harden_job request
+job_of (interp request) = interp_job request

@@ -1,0 +1,157 @@
+-- What the functions of the work answer.
+use Rattle.std.specs.Prelude.{◌≡◌, ℕ, List, [], ◌∷◌, map, Option, Result, Ok, Err, Vec, string_bytes}
+use Rattle.std.proofs.Common.{Bor}
+use Rattle.std.specs.declared.alloc.Global.{Global}
+use Rattle.bl_base.specs.Runs.{Outcome}
+use Rattle.bl_outside.specs.Shelf.{ReadFails}
+use Rattle.bl_outside.specs.declared.shelf.ShelfError.{ShelfError}
+use Rattle.bl_outside.specs.declared.shelf.ShelfError.TheVariants as shelf
+use Rattle.bl_decode.specs.declared.error.DecodeError.{DecodeError}
+use Rattle.bl_decode.specs.declared.error.DecodeError.TheVariants as decode
+use Rattle.bl_validate.specs.declared.verdict.Invalid.{Invalid}
+use Rattle.bl_validate.specs.declared.verdict.Invalid.TheVariants as invalid
+use Rattle.bl_trace.specs.declared.error.StartError.{StartError}
+use Rattle.bl_trace.specs.declared.error.StartError.TheVariants as start
+use Rattle.bl_wasm.specs.declared.linked.Tree.{Tree}
+use Rattle.bl_wasm.specs.declared.module.Module.{Module}
+use Rattle.bl_app.specs.Form.{IsForm, StandsAlone}
+use Rattle.bl_app.specs.Image.{image_of}
+use Rattle.bl_app.specs.Interpreting.{HasOutcome}
+use Rattle.bl_app.specs.Jobs.{AreRead, Job, Plan, Read, ReadsName, RefusesLength, saying}
+use Rattle.bl_app.specs.Loading.{Named, Part, decoding, loading, of_form, validation}
+use Rattle.bl_app.specs.Lowering.{low}
+use Rattle.bl_app.specs.Outcomes.{outcome_status, outcome_text}
+use Rattle.bl_app.specs.Refusals.{Refusal, malformed, invalid_function, invalid_module, unsupported, limit, no_export, bad_line, few_arguments}
+use Rattle.bl_app.specs.Running.{Opened}
+use Rattle.bl_app.specs.Stages.{Stage, chain}
+use Rattle.bl_app.specs.Status.{status_of}
+use Rattle.bl_app.specs.Texts.{read_fault_text, refusal_text, report_text}
+use Rattle.bl_app.specs.Worlds.{Said, SaidIfRoom, SameShelf, Stream, Unchanged, World}
+use Rattle.bl_app.specs.declared.harden.Hardened.{Hardened}
+use Rattle.bl_app.specs.declared.interp.Opening.{Opening}
+use Rattle.bl_app.specs.declared.job.Keep.{Keep}
+use Rattle.bl_app.specs.declared.job.Plan.{Plan as PlanMade}
+use Rattle.bl_app.specs.declared.job.Read.{Read as ReadAsked}
+use Rattle.bl_app.specs.declared.module.Form.{Form}
+use Rattle.bl_app.specs.declared.module.Form.TheVariants.{Additions, Alone}
+use Rattle.bl_app.specs.declared.refusal.Refusal.{Refusal as RefusalTold}
+use Rattle.bl_app.specs.declared.refusal.Refusal.TheVariants as told
+use Rattle.bl_app.specs.declared.refusal.WorkError.{WorkError}
+use Rattle.bl_app.specs.declared.refusal.WorkError.TheVariants as error
+use Rattle.bl_app.specs.declared.status.Status.{Status}
+use Rattle.bl_app.specs.declared.status.Status.TheVariants.{Memory, ReadFault, WriteFault}
+
+-- ---- values of the code as those of the definitions
+
+abbrev pub read_in : ReadAsked → Read
+read_in read = record { name = read.name.now; quantity = read.quantity }
+
+abbrev pub keep_in : Keep → List ℕ × List ℕ
+keep_in keep = (keep.name.now, keep.bytes.items)
+
+abbrev pub plan_in : PlanMade → Plan
+plan_in plan = record { status = plan.status; keeps = map keep_in plan.keeps.items; text = plan.text.items }
+
+abbrev pub contents_in : List (Vec ℕ Global) → List (List ℕ)
+contents_in contents = map (λ bytes. bytes.items) contents
+
+abbrev pub refusal_in : RefusalTold → Refusal
+refusal_in (told.Malformed name) = malformed name.now
+refusal_in (told.InvalidFunction name index) = invalid_function name.now index
+refusal_in (told.InvalidModule name) = invalid_module name.now
+refusal_in (told.Unsupported name) = unsupported name.now
+refusal_in (told.Limit which value) = limit which value
+refusal_in told.NoExport = no_export
+refusal_in (told.BadLine number) = bad_line number
+refusal_in (told.FewArguments count) = few_arguments count
+
+-- ---- files
+
+-- a file is not fetched of those that are read in order: its line is printed, or there was no memory
+pub data NotFetched (reads : List Read) (old new : World) (status : Status) : Type 0 where
+  -- it could not be read
+  failed : (name : List ℕ) → ReadsName old.files reads name → ReadFails old.faults new.faults name → new.files ≡ old.files
+      → Said (read_fault_text name) ReadFault old.sink new.sink status → NotFetched reads old new status
+  -- it is too long
+  refused : (refusal : Refusal) → RefusesLength old.files reads refusal → SameShelf old new
+      → SaidIfRoom (refusal_text refusal) (status_of refusal) old.sink new.sink status → NotFetched reads old new status
+  no_memory_to_fetch : Unchanged old new → status ≡ Memory → NotFetched reads old new status
+
+-- what fetching one file leaves, with the status where it is not fetched
+abbrev pub Fetched : Read → World → World → Result (Vec ℕ Global) Status → Type 0
+Fetched read old new (Ok bytes) = Unchanged old new × AreRead old.files (read ∷ []) (bytes.items ∷ [])
+Fetched read old new (Err status) = NotFetched (read ∷ []) old new status
+
+-- what fetching files in order leaves
+abbrev pub AllFetched : List Read → World → World → Result (Vec (Vec ℕ Global) Global) Status → Type 0
+AllFetched reads old new (Ok contents) = Unchanged old new × AreRead old.files reads (contents_in contents.items)
+AllFetched reads old new (Err status) = NotFetched reads old new status
+
+-- what follows where a file could not be kept: the text, or nothing where there was no memory
+abbrev pub NotKept : ShelfError → List ℕ → Stream → Stream → Status → Type 0
+NotKept shelf.Failed text old new status = Said text WriteFault old new status
+NotKept shelf.Memory text old new status = (new ≡ old) × (status ≡ Memory)
+
+-- ---- stages and the work
+
+-- what a stage gives, or the refusal; nothing is said where there was no memory
+abbrev pub IsStaged : {A B X : Type 0} → Stage A B → (X → B) → A → Result X WorkError → Type 0
+IsStaged stage value a (Ok x) = stage.Passes a (value x)
+IsStaged stage value a (Err (error.Refused refusal)) = stage.Refuses a (refusal_in refusal)
+IsStaged stage value a (Err error.Memory) = Unit {0}
+
+-- the work of a job on the contents of its reads: what is done, or the refusal
+abbrev pub IsWork : Job → List (List ℕ) → Result PlanMade WorkError → Type 0
+IsWork job contents (Ok plan) = job.Does contents (plan_in plan)
+IsWork job contents (Err (error.Refused refusal)) = job.Against contents (refusal_in refusal)
+IsWork job contents (Err error.Memory) = Unit {0}
+
+-- the modules of a form
+abbrev pub is_of : Form → Module → Type 0
+is_of Additions = IsForm
+is_of Alone = StandsAlone
+
+-- the stages of one module by itself
+abbrev pub of_module : (Module → Type 0) → Stage Part Named
+of_module Form = chain decoding (chain validation (of_form Form))
+
+-- an error of decoding a module of that name
+abbrev pub decoding_error : Bor (List ℕ) → DecodeError → WorkError
+decoding_error name decode.Malformed = error.Refused (told.Malformed name)
+decoding_error name decode.Unsupported = error.Refused (told.Unsupported name)
+decoding_error name (decode.Limit which value) = error.Refused (told.Limit which value)
+decoding_error name decode.Memory = error.Memory
+
+-- a reason of validation of a module of that name
+abbrev pub validation_error : Bor (List ℕ) → Invalid → WorkError
+validation_error name (invalid.Function index) = error.Refused (told.InvalidFunction name index)
+validation_error name invalid.Module = error.Refused (told.InvalidModule name)
+validation_error name invalid.Memory = error.Memory
+
+-- an error of reading a start file
+abbrev pub start_error : StartError → WorkError
+start_error (start.Line number) = error.Refused (told.BadLine number)
+start_error (start.Count count) = error.Refused (told.FewArguments count)
+start_error start.Memory = error.Memory
+
+-- a function of a tree, its type and its start
+abbrev pub opened_in : Tree → Opening → Opened
+opened_in tree opening = record { tree = tree; function = opening.function; type = opening.kind.now; start = opening.start }
+
+-- printing the outcome of a function's run from a start
+pub record IsTold (opened : Opened) (steps : ℕ) (plan : PlanMade) : Type 0 where
+  pub outcome : Option Outcome
+  pub within : HasOutcome opened steps outcome
+  pub is_plan : plan_in plan ≡ saying (outcome_status outcome) (outcome_text opened.type.results [] steps outcome)
+
+-- the image and the report of the program of a module of the form
+pub record IsProgram (part : Part) (hardened : Hardened) : Type 0 where
+  pub tree : Tree
+  pub loaded : (loading IsForm).Passes (part ∷ []) tree
+  pub is_image : hardened.image.items ≡ image_of (low tree)
+  pub is_report : string_bytes hardened.report ≡ report_text (low tree)
+
+abbrev pub IsHardened : Part → Result Hardened WorkError → Type 0
+IsHardened part (Ok hardened) = IsProgram part hardened
+IsHardened part (Err (error.Refused refusal)) = (loading IsForm).Refuses (part ∷ []) (refusal_in refusal)
+IsHardened part (Err error.Memory) = Unit {0}

@@ -1,0 +1,39 @@
+//! The jobs of all commands.
+ghost use Rattle.std.specs.Prelude.{◌≡◌, IfOk, None, map};
+ghost use Rattle.bl_app.specs.Commands.{job_of};
+ghost use Rattle.bl_app.specs.Jobs.{AreRead};
+ghost use Rattle.bl_app.specs.Words.{request_in};
+ghost use Rattle.bl_app.specs.Working.{IsWork, contents_in, read_in};
+
+use crate::harden::{harden, harden_reads};
+use crate::interp::{interp_reads, interpret};
+use crate::job::{Plan, Read};
+use crate::refusal::WorkError;
+use crate::words::Request;
+use bl_base::NoMemory;
+use std::alloc::Global;
+
+/// The files that a request reads, in the order of its words.
+pub fn reads_of<'a>(alloc: Global, request: &Request<'a>) -> Result<Vec<Read<'a>>, NoMemory>
+    ensures { IfOk result (λ reads. map read_in reads.items ≡ (job_of (request_in request.now)).reads) }
+{
+    match request {
+        Request::Harden(words) => harden_reads(alloc, words),
+        Request::Interp(words) => interp_reads(alloc, words),
+    }
+}
+
+/// What a request does, by the contents of all files that it reads; Refused exactly where these are refused.
+pub fn work<'a>(
+    alloc: Global,
+    request: &Request<'a>,
+    contents: &[Vec<u8>],
+) -> Result<Plan<'a>, WorkError<'a>>
+    requires { AreRead None (job_of (request_in request.now)).reads (contents_in contents.now) }
+    ensures { IsWork (job_of (request_in request.now)) (contents_in contents.now) result }
+{
+    match request {
+        Request::Harden(words) => harden(alloc, words, contents),
+        Request::Interp(words) => interpret(alloc, words, contents),
+    }
+}
