@@ -38,10 +38,22 @@ const LONG_INDEX: [u8; 41] = [
 fn extensions_by_sign_several_results_and_blocks_of_a_type(rt: HostRuntime) -> Result<(), Fail> {
     let alloc = rt.alloc();
     let cases: [(&[u8], &str, &str); 8] = [
-        (&of_one(0x7F, 0xC0), "arg 200\n", "returned i32 4294967240\n"),
-        (&of_one(0x7F, 0xC1), "arg 32768\n", "returned i32 4294934528\n"),
+        (
+            &of_one(0x7F, 0xC0),
+            "arg 200\n",
+            "returned i32 4294967240\n",
+        ),
+        (
+            &of_one(0x7F, 0xC1),
+            "arg 32768\n",
+            "returned i32 4294934528\n",
+        ),
         (&of_one(0x7E, 0xC2), "arg 383\n", "returned i64 127\n"),
-        (&of_one(0x7E, 0xC3), "arg 65535\n", "returned i64 18446744073709551615\n"),
+        (
+            &of_one(0x7E, 0xC3),
+            "arg 65535\n",
+            "returned i64 18446744073709551615\n",
+        ),
         (
             &of_one(0x7E, 0xC4),
             "arg 2147483648\n",
