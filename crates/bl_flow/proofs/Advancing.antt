@@ -140,9 +140,12 @@ module _ (n : Network) (links : List Link) (rows : List (List ℕ)) (old new : L
         packed = packed_after;
         lawful_ = now.0;
         amount_ = omega arith;
-        some = (known.1, λ reaches.
-            let top = last_in n is.in_range old before is.flow small_before levels more.levels_ public_ more.least reaches in
-            let lt = more.some top.0 top.1 in omega arith);
+        some = (
+          known.1,
+          λ reaches.
+              let top = last_in n is.in_range old before is.flow small_before levels more.levels_ public_ more.least reaches in
+              let lt = more.some top.0 top.1 in omega arith,
+        );
         risen = ends_risen n is.in_range old new before after is.flow small_before more.flow (packed_small n links rows new after packed_after) levels more.levels_ public_ more.least more.risen;
       }
 
