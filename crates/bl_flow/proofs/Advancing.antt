@@ -1,5 +1,5 @@
 -- The level of the part behind all ends, and the levels of the ends' out places.
-use Rattle.std.proofs.Common.{◌≡◌, ℕ, zero, suc, ◌+◌, ◌-◌, ◌*◌, ◌^◌, ◌<◌, ◌≤◌, List, length, Option, Some, None, refl, sym, ap, subst, ◌∙◌, arith, inl, inr, slice_index}
+use Rattle.std.proofs.Common.{◌≡◌, ◌↔◌, ◌++◌, take, drop, ℕ, zero, suc, ◌+◌, ◌-◌, ◌*◌, ◌^◌, ◌<◌, ◌≤◌, List, length, Option, Some, None, refl, sym, ap, subst, ◌∙◌, arith, inl, inr, slice_index}
 use Rattle.std.specs.List.{Contains}
 use Rattle.std.proofs.lemmas.List.Elements.{All-contains}
 use Rattle.bl_flow.specs.declared.network.Network.{Network}
@@ -8,7 +8,11 @@ use Rattle.bl_flow.specs.Networks.{size, InRange}
 use Rattle.bl_flow.specs.Split.{in_part, out_part, end_link, links_of, both_ways, link_at, turned}
 use Rattle.bl_flow.specs.Flows.{link_count, IsFlow}
 use Rattle.bl_flow.specs.Levels.{IsReached, here, onward, level_at, AreLevels, HasRisen}
-use Rattle.bl_flow.specs.Residuals.{Loaded, loaded_by, arc_at, ResidualWalk, AreLevelsOf, ReachesAnEnd, EndsHaveRisen}
+use Rattle.bl_flow.specs.Packed.{IsPacked, IsAdvanced}
+use Rattle.bl_flow.specs.Residuals.{Loaded, loaded_by, arc_at, ResidualWalk, AreLevelsOf, ReachesAnEnd, EndsHaveRisen, IsLawful, amount_of}
+use Rattle.bl_flow.proofs.Filling.{at_most_total}
+use Rattle.bl_flow.proofs.Lawful.{lawful, amount_is}
+use Rattle.bl_flow.proofs.Wiring.{given_back}
 use Rattle.bl_flow.proofs.Links.{unbounded_behind, end_place}
 use Rattle.bl_flow.proofs.BothWays.{forward_at, turned_at, place_cases}
 use Rattle.bl_flow.proofs.Levelling.{some_same, none_some}
@@ -36,10 +40,10 @@ module _ (n : Network) (range : InRange n) (rooms : List ℕ) (amount : ℕ) (fl
   end_lt e is = All-contains (λ w. w < size n) n.ends e range.ends is
 
   by_forward : (steps k : ℕ) (link : Link) → KindAt n k link → link.to ≡ last → IsReached links rooms root last steps link.from → FromEnd n rooms (suc steps)
-  by_forward steps k link (is_node lt e) to there = let f : out_part k ≡ last = sym (ap (λ l. l.to) e) ∙ to in absurd (omega arith)
-  by_forward steps k link (is_arc a lt place e) to there = let f : in_part (arc_at n a).to ≡ last = sym (ap (λ l. l.to) e) ∙ to in absurd (omega arith)
-  by_forward steps k link (is_behind high (to_start s start e)) to there = let f : in_part s ≡ last = sym (ap (λ l. l.to) e) ∙ to in absurd (omega arith)
-  by_forward steps k link (is_behind high (from_end s is e)) to there = record { end = s; before = steps; is_end = is; one = refl; reached = subst (IsReached links rooms root last steps) (ap (λ l. l.from) e) there }
+  by_forward steps k link (is_node lt e) to way = let f : out_part k ≡ last = sym (ap (λ l. l.to) e) ∙ to in absurd (omega arith)
+  by_forward steps k link (is_arc a lt place e) to way = let f : in_part (arc_at n a).to ≡ last = sym (ap (λ l. l.to) e) ∙ to in absurd (omega arith)
+  by_forward steps k link (is_behind high (to_start s start e)) to way = let f : in_part s ≡ last = sym (ap (λ l. l.to) e) ∙ to in absurd (omega arith)
+  by_forward steps k link (is_behind high (from_end s is e)) to way = record { end = s; before = steps; is_end = is; one = refl; reached = subst (IsReached links rooms root last steps) (ap (λ l. l.from) e) way }
 
   not_back : (k : ℕ) (link : Link) → KindAt n k link → link.from ≡ last → ⊥
   not_back k link (is_node lt e) from = let f : in_part k ≡ last = sym (ap (λ l. l.from) e) ∙ from in omega arith
@@ -49,11 +53,11 @@ module _ (n : Network) (range : InRange n) (rooms : List ℕ) (amount : ℕ) (fl
 
   by_last : (steps part : ℕ) → IsReached links rooms root last steps part → part ≡ last → FromEnd n rooms steps
   by_last _ _ here e = absurd (omega arith)
-  by_last _ _ (onward steps part k lt room there goes to) e =
+  by_last _ _ (onward steps part k lt room way goes to) e =
       elim (place_cases (links_of n) k lt) as (λ _. FromEnd n rooms (suc steps)) [
         | inl low ↦
             let same = forward_at (links_of n) k low in
-            by_forward steps k (link_at (links_of n) k) (kind_at n k low) (ap (λ l. l.to) (sym same) ∙ to ∙ e) (subst (λ l. IsReached links rooms root last steps l.from) same there)
+            by_forward steps k (link_at (links_of n) k) (kind_at n k low) (ap (λ l. l.to) (sym same) ∙ to ∙ e) (subst (λ l. IsReached links rooms root last steps l.from) same way)
         | inr high ↦
             let same : link_at links k ≡ turned (link_at (links_of n) high.0) = ap (link_at links) high.2 ∙ turned_at (links_of n) high.0 high.1 in
             absurd (not_back high.0 (link_at (links_of n) high.0) (kind_at n high.0 high.1) (ap (λ l. l.to) (sym same) ∙ to ∙ e))
@@ -92,3 +96,63 @@ ends_risen n range old new before after flow small flow_now small_now levels all
     let up = risen top.0 (suc (suc steps)) top.1 (to_last n range new after flow_now small_now steps e is walk) in
     let gap = out.4 in
     omega arith
+
+pub packed_small : (n : Network) (links : List Link) (rows : List (List ℕ)) (rooms : List ℕ) (amount : ℕ) → IsPacked n links rows rooms amount → amount < 2 ^ 63
+packed_small n links rows rooms amount is = let most = at_most_total n rooms amount is.flow is.in_range is.bounded in let total = is.total in omega arith
+
+pub packed_lawful : (r : Loaded) (n : Network) (links : List Link) (rows : List (List ℕ)) (rooms : List ℕ) (amount : ℕ) → loaded_by n rooms ≡ r
+    → IsPacked n links rows rooms amount → IsLawful r × (amount_of r ≡ amount)
+packed_lawful r n links rows rooms amount view is =
+    let small = packed_small n links rows rooms amount is in
+    subst (λ x. IsLawful x × (amount_of x ≡ amount)) view (lawful n is.in_range rooms amount is.flow small, amount_is n is.in_range rooms amount is.flow small)
+
+-- what an advance of a residual network comes to
+pub record Advance (r : Loaded) (n : Network) (links : List Link) (rows : List (List ℕ)) (rooms : List ℕ) (before after : ℕ) (levels : List (Option ℕ)) : Type 0 where
+  pub packed : IsPacked n links rows rooms after
+  pub lawful_ : IsLawful (loaded_by n rooms)
+  pub amount_ : amount_of (loaded_by n rooms) ≡ amount_of r + (after - before)
+  pub some : (0 < after - before) ↔ ReachesAnEnd r.network levels
+  pub risen : EndsHaveRisen (loaded_by n rooms) levels
+
+module _ (n : Network) (links : List Link) (rows : List (List ℕ)) (old new : List ℕ) (before after : ℕ) (levels : List (Option ℕ))
+    (is : IsPacked n links rows old before) (more : IsAdvanced n old new before after) (public_ : AreLevelsOf (loaded_by n old) levels) where
+  small_before : before < 2 ^ 63
+  small_before = packed_small n links rows old before is
+
+  packed_after : IsPacked n links rows new after
+  packed_after = record { in_range = is.in_range; bounded = is.bounded; total = is.total; links_ = is.links_; rows_ = is.rows_; parts = is.parts; flow = more.flow }
+
+  by_level : (o : Option ℕ) → level_at more.levels_ (out_part (size n)) ≡ o → (before ≤ after) × (0 < after - before → ReachesAnEnd n levels)
+  by_level None e = let same = more.none e in (omega arith, λ lt. absurd (omega arith))
+  by_level (Some d) e =
+      let up = more.some d e in
+      let out = last_out n is.in_range old before is.flow small_before levels more.levels_ public_ more.least d e in
+      (omega arith, λ _. (out.0, out.1, out.2, out.3))
+
+  advance_plain : Advance (loaded_by n old) n links rows new before after levels
+  advance_plain =
+      let known = by_level (level_at more.levels_ (out_part (size n))) refl in
+      let up = known.0 in
+      let was = packed_lawful (loaded_by n old) n links rows old before refl is in
+      let now = packed_lawful (loaded_by n new) n links rows new after refl packed_after in
+      let was_amount = was.1 in let now_amount = now.1 in
+      record {
+        packed = packed_after;
+        lawful_ = now.0;
+        amount_ = omega arith;
+        some = (
+          known.1,
+          λ reaches.
+              let top = last_in n is.in_range old before is.flow small_before levels more.levels_ public_ more.least reaches in
+              let lt = more.some top.0 top.1 in omega arith,
+        );
+        risen = ends_risen n is.in_range old new before after is.flow small_before more.flow (packed_small n links rows new after packed_after) levels more.levels_ public_ more.least more.risen;
+      }
+
+pub advance_is : (r : Loaded) (n : Network) (links : List Link) (rows : List (List ℕ)) (old lent new : List ℕ) (len before after : ℕ) (levels : List (Option ℕ))
+    → loaded_by n old ≡ r → lent ≡ old → len ≡ length new → IsPacked n links rows old before → IsAdvanced n lent new before after → AreLevelsOf r levels
+    → Advance r n links rows (take len (new ++ drop (length new) old)) before after levels
+advance_is r n links rows old lent new len before after levels view given size_ is more public_ =
+    subst (λ x. Advance x n links rows (take len (new ++ drop (length new) old)) before after levels) view
+    (subst (λ x. Advance (loaded_by n old) n links rows x before after levels) (sym (given_back new (drop (length new) old) len size_))
+    (advance_plain n links rows old new before after levels is (subst (λ x. IsAdvanced n x new before after) given more) (subst (λ x. AreLevelsOf x levels) (sym view) public_)))

@@ -4,9 +4,10 @@ use Rattle.bl_flow.specs.declared.network.Network.{Network}
 use Rattle.bl_flow.specs.declared.split.Link.{Link}
 use Rattle.bl_flow.specs.Networks.{size, weight_at, InRange, total_weight}
 use Rattle.bl_flow.specs.Cuts.{Meets}
-use Rattle.bl_flow.specs.Split.{links_of, both_ways}
+use Rattle.bl_flow.specs.Split.{links_of, both_ways, in_part, out_part}
 use Rattle.bl_flow.specs.Flows.{IsFlow}
 use Rattle.bl_flow.specs.Searches.{AreRows}
+use Rattle.bl_flow.specs.Levels.{level_at, AreLevels, HasRisen}
 
 -- the links both ways, row by row, with what each can still take in a flow of so much
 pub record IsPacked (n : Network) (links : List Link) (rows : List (List ℕ)) (rooms : List ℕ) (amount : ℕ) : Type 0 where
@@ -22,3 +23,12 @@ pub record IsPacked (n : Network) (links : List Link) (rows : List (List ℕ)) (
 abbrev pub lowered : Option ℕ → Option ℕ
 lowered None = None
 lowered (Some d) = Some (d - 1)
+
+-- more flows, and each walk to the part behind all ends is longer than its level was
+pub record IsAdvanced (n : Network) (old new : List ℕ) (before after : ℕ) : Type 0 where
+  pub flow : IsFlow n new after
+  pub levels_ : List (Option ℕ)
+  pub least : AreLevels (both_ways (links_of n)) old (in_part (size n)) (out_part (size n)) levels_
+  pub some : (d : ℕ) → level_at levels_ (out_part (size n)) ≡ Some d → before < after
+  pub none : level_at levels_ (out_part (size n)) ≡ None → after ≡ before
+  pub risen : HasRisen (both_ways (links_of n)) new (in_part (size n)) levels_ (out_part (size n))

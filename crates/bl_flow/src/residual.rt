@@ -1,12 +1,12 @@
 //! Residual networks: where more can flow beside what flows.
-ghost use Rattle.std.specs.Prelude.{◌≡◌, ◌<◌, ◌≤◌, ◌^◌, ℕ, IsSome, length, replicate, IfOk};
+ghost use Rattle.std.specs.Prelude.{◌≡◌, ◌↔◌, ◌<◌, ◌≤◌, ◌+◌, ◌*◌, ◌^◌, ℕ, Any, IsSome, IsTrue, length, replicate, IfOk, IfErr, OnOk, OnErr};
 ghost use Rattle.bl_flow.specs.Networks.{InRange, weight_at, total_weight, size};
 ghost use Rattle.bl_flow.specs.Cuts.{Meets};
 ghost use Rattle.bl_flow.specs.Levels.{level_at};
-ghost use Rattle.bl_flow.specs.Packed.{lowered};
-ghost use Rattle.bl_flow.specs.Residuals.{IsLawful, amount_of, AreLevelsOf};
+ghost use Rattle.bl_flow.specs.Packed.{lowered, IsPacked, IsAdvanced};
+ghost use Rattle.bl_flow.specs.Residuals.{IsLawful, amount_of, AreLevelsOf, ReachesAnEnd, EndsHaveRisen};
 
-use crate::level_graph::part_levels;
+use crate::level_graph::{block_graph, part_levels};
 use crate::network::Network;
 use crate::rows::{Rows, rows_of};
 use crate::split::{Link, empty_rooms, links_both_ways};
@@ -136,4 +136,90 @@ fn lower(level: Option<u64>) -> Option<u64>
         Some(level) => Some(level.saturating_sub(1)),
         None => None,
     }
+}
+
+/// Lets more flow, by a blocking flow on the level graph; gives how much more, which is above 0 exactly where some end's
+/// out place has a level. The least level of such a place is greater afterwards, or there is none. The condition is that
+/// the levels are those of the residual network. Want of memory is the only error, and gives the network back as it was.
+pub fn advance(
+    alloc: Global,
+    r: Residual,
+    levels: &[Option<u64>],
+) -> Result<(Residual, u64), (Residual, NoMemory)>
+    requires { AreLevelsOf r levels.now }
+    ensures network { IfOk result (λ a. a.0.network ≡ r.network) }
+    ensures lawful { IfOk result (λ a. IsLawful a.0) }
+    ensures amount { IfOk result (λ a. amount_of a.0 ≡ amount_of r + a.1) }
+    ensures some { IfOk result (λ a. 0 < a.1 ↔ ReachesAnEnd r.network levels.now) }
+    ensures risen { IfOk result (λ a. EndsHaveRisen a.0 levels.now) }
+    ensures unchanged { IfErr result (λ e. e.0 ≡ r) }
+{
+    if !reaches_an_end(&r.network, levels) {
+        return Ok((r, 0));
+    }
+    let Residual {
+        network,
+        links,
+        rows,
+        mut rooms,
+        amount,
+    } = r;
+    match flow_on(alloc, &network, &links, &rows, &mut rooms, amount) {
+        Ok(now) => {
+            let r = Residual {
+                network,
+                links,
+                rows,
+                rooms,
+                amount: now,
+            };
+            Ok((r, now - amount))
+        }
+        Err(error) => {
+            let r = Residual {
+                network,
+                links,
+                rows,
+                rooms,
+                amount,
+            };
+            Err((r, error))
+        }
+    }
+}
+
+/// Whether the out place of an end has a level.
+fn reaches_an_end(n: &Network, levels: &[Option<u64>]) -> bool
+    ensures { IsTrue result ↔ Any (λ e. IsSome (level_at levels.now (2 * e + 1))) n.now.ends }
+{
+    n.ends.as_slice().iter().any(|e| has_level(levels, *e))
+}
+
+/// Whether the out place of a node has a level.
+fn has_level(levels: &[Option<u64>], v: u32) -> bool
+    ensures { IsTrue result ↔ IsSome (level_at levels.now (2 * v + 1)) }
+{
+    match levels.get(2 * v as usize + 1) {
+        Some(Some(_)) => true,
+        _ => false,
+    }
+}
+
+/// Lets more flow until each walk from the part before all starts to the part behind all ends is longer than before;
+/// gives how much flows then.
+fn flow_on(
+    alloc: Global,
+    n: &Network,
+    links: &[Link],
+    rows: &Rows,
+    rooms: &mut [u64],
+    amount: u64,
+) -> Result<u64, NoMemory>
+    requires { IsPacked n.now links.now rows.now rooms.old amount }
+    ensures advanced { IfOk result (IsAdvanced n.now rooms.old rooms.new amount) }
+    ensures unchanged { OnErr result (rooms.new ≡ rooms.old) }
+{
+    let source = 2 * n.weights.as_slice().len();
+    let levels = part_levels(alloc, links, rows, rooms, source, source + 1)?;
+    block_graph(alloc, n, links, rows, rooms, &levels, amount)
 }

@@ -4,7 +4,7 @@ use Rattle.bl_flow.specs.Split.{both_ways, links_of, in_part, out_part}
 use Rattle.bl_flow.specs.Levels.{level_at, AreLevels}
 use Rattle.bl_flow.specs.Packed.{lowered}
 use Rattle.bl_flow.specs.Residuals.{AreLevelsOf}
-use Rattle.bl_flow.proofs.Filling.{at_most_total}
+use Rattle.bl_flow.proofs.Advancing.{packed_small}
 use Rattle.bl_flow.proofs.Parts.{to_within}
 use Rattle.bl_flow.proofs.Residuals.{levels_out}
 use Rattle.bl_flow.proofs.residual.levels.Goals as goal
@@ -17,13 +17,12 @@ pub returns : goal.returns
 returns c =
     let n = c.r.inside.network in
     let len : length c.as_slice.result.now ≡ size c.r.inside.network = ap length c.as_slice.ensures in
-    let most = at_most_total c.r.inside.network c.r.inside.rooms.items c.r.inside.amount c.r.invariant.flow c.r.invariant.in_range c.r.invariant.bounded in
-    let total = c.r.invariant.total in
     let are : AreLevels (both_ways (links_of c.r.inside.network)) c.r.inside.rooms.items (in_part (size c.r.inside.network)) (out_part (size c.r.inside.network)) c.in_ok-found.found.items =
     subst (λ p. AreLevels (both_ways (links_of c.r.inside.network)) c.r.inside.rooms.items (2 * p) (2 * p + 1) c.in_ok-found.found.items) len
     (subst (λ rooms. AreLevels (both_ways (links_of c.r.inside.network)) rooms (2 * length c.as_slice.result.now) (2 * length c.as_slice.result.now + 1) c.in_ok-found.found.items) c.deref-2.ensures.value
     (subst (λ l. AreLevels l c.deref-2.result.now (2 * length c.as_slice.result.now) (2 * length c.as_slice.result.now + 1) c.in_ok-found.found.items) (c.deref.ensures.value ∙ c.r.invariant.links_) c.in_ok-found.ensures.least)) in
     subst (λ v. AreLevelsOf v c.in_ok-list.list) c.r.view_is
-    (levels_out c.r.inside.network c.r.invariant.in_range c.r.inside.rooms.items c.r.inside.amount c.r.invariant.flow (omega arith) c.in_ok-found.found.items c.in_ok-list.list are
+    (levels_out c.r.inside.network c.r.invariant.in_range c.r.inside.rooms.items c.r.inside.amount c.r.invariant.flow
+    (packed_small c.r.inside.network c.r.inside.links.items c.r.inside.rows c.r.inside.rooms.items c.r.inside.amount c.r.invariant) c.in_ok-found.found.items c.in_ok-list.list are
     (let count = c.in_ok-list.ensures.places in omega arith)
     (λ p lt. c.in_ok-list.ensures.each p (omega arith) ∙ ap (λ l. lowered (level_at l p)) c.deref-3.ensures.value))
