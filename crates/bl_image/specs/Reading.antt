@@ -1,0 +1,38 @@
+-- What a reader of a part of an image answers.
+use Rattle.std.specs.Prelude.{◌≡◌, ◌≤◌, ℕ, List, ◌++◌, length, drop, Result, Ok, Err}
+use Rattle.bl_cmd.specs.Rules.{IsFirstBroken}
+use Rattle.bl_cmd.specs.declared.definitions.ProgramParts.{ProgramParts as Program}
+use Rattle.bl_image.specs.Grammar.{Spellings}
+use Rattle.bl_image.specs.Image.{Image}
+use Rattle.bl_image.specs.declared.error.ReadError.{ReadError}
+use Rattle.bl_image.specs.declared.error.ReadError.TheVariants as read_error
+use Rattle.bl_image.specs.declared.error.ImageError.{ImageError}
+use Rattle.bl_image.specs.declared.error.ImageError.TheVariants.{NotAnImage, IllFormed, Memory}
+
+-- bytes begin with a spelling of one thing, behind which a rest stands, and of no other
+pub record Begins {A : Type 0} (B : A → Spellings) (bytes : List ℕ) (x : A) (rest : List ℕ) : Type 0 where
+  pub front : List ℕ
+  pub whole : bytes ≡ front ++ rest
+  pub spelled : B x front
+  pub only : (y : A) (other more : List ℕ) → B y other → bytes ≡ other ++ more → (y ≡ x) × (more ≡ rest)
+
+-- bytes begin with no spelling
+pub record NoneBegins {A : Type 0} (B : A → Spellings) (bytes : List ℕ) : Type 0 where
+  pub none : (y : A) (other more : List ℕ) → B y other → bytes ≡ other ++ more → ⊥
+
+-- why a reader gives nothing: no spelling begins at the place, or there was no memory
+abbrev pub Refuses : {A : Type 0} → (A → Spellings) → List ℕ → ℕ → ReadError → Type 0
+Refuses B bytes start read_error.NotAnImage = NoneBegins B (drop start bytes)
+Refuses B bytes start read_error.Memory = Unit {0}
+
+-- a reader gives the one thing that is spelled from the place on, and the place behind it; or it says why it gives nothing
+abbrev pub Reads : {A : Type 0} → (A → Spellings) → List ℕ → ℕ → Result (A × ℕ) ReadError → Type 0
+Reads B bytes start (Ok found) = (found.1 ≤ length bytes) × Begins B (drop start bytes) found.0 (drop found.1 bytes)
+Reads B bytes start (Err error) = Refuses B bytes start error
+
+-- why bytes give no well-formed program: no program has these bytes; or one has them, and that is the first rule that it
+-- breaks; or there was no memory
+abbrev pub IsReason : List ℕ → ImageError → Type 0
+IsReason bytes NotAnImage = (program : Program) → Image program bytes → ⊥
+IsReason bytes (IllFormed rule position) = (program : Program) × Image program bytes × IsFirstBroken rule position.0 program
+IsReason bytes Memory = Unit {0}

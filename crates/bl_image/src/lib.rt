@@ -1,0 +1,8 @@
+//! The image of a program: its bytes, written and read.
+#![tactic(auto)]
+
+mod error;
+mod read;
+mod value;
+
+pub use error::ImageError;
