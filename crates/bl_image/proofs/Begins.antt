@@ -62,15 +62,15 @@ none_after F f S s m a p q = record {
       q.none y h.rest more (first.0, h.second) (sym first.1);
 }
 
--- two parts
-pub begins_pair : {A C : Type 0} (F : A → Spellings) (G : C → Spellings) (s m r : List ℕ) (x : A) (y : C) → Begins F s x m → Begins G m y r → Begins (λ (both : A × C). F both.0 ⨾ G both.1) s (x, y) r
-begins_pair {A} {C} F G s m r x y p q =
-    begins_after F (λ (both : A × C). both.0) (λ both. G both.1) s m r x (x, y) p
-    (begins_via G (λ (both : A × C). given (both.0 ≡ x) (G both.1)) m r y (x, y) (λ t h. (refl, h)) (λ both t h. (both.1, h.1, λ e. ap₂ (λ a b. (a, b)) h.0 e)) q)
+-- two parts, of which the second may depend on the first
+pub begins_both : {A C : Type 0} (F : A → Spellings) (G : A → C → Spellings) (s m r : List ℕ) (x : A) (y : C) → Begins F s x m → Begins (G x) m y r → Begins (λ (both : A × C). F both.0 ⨾ G both.0 both.1) s (x, y) r
+begins_both {A} {C} F G s m r x y p q =
+    begins_after F (λ (both : A × C). both.0) (λ both. G both.0 both.1) s m r x (x, y) p
+    (begins_via (G x) (λ (both : A × C). given (both.0 ≡ x) (G both.0 both.1)) m r y (x, y) (λ t h. (refl, h)) (λ both t h. (both.1, subst (λ a. G a both.1 t) h.0 h.1, λ e. ap₂ (λ a b. (a, b)) h.0 e)) q)
 
-pub none_second : {A C : Type 0} (F : A → Spellings) (G : C → Spellings) (s m : List ℕ) (x : A) → Begins F s x m → NoneBegins G m → NoneBegins (λ (both : A × C). F both.0 ⨾ G both.1) s
+pub none_second : {A C : Type 0} (F : A → Spellings) (G : A → C → Spellings) (s m : List ℕ) (x : A) → Begins F s x m → NoneBegins (G x) m → NoneBegins (λ (both : A × C). F both.0 ⨾ G both.0 both.1) s
 none_second {A} {C} F G s m x p q =
-    none_after F (λ (both : A × C). both.0) (λ both. G both.1) s m x p (none_via G (λ (both : A × C). given (both.0 ≡ x) (G both.1)) m (λ both t h. (both.1, h.1)) q)
+    none_after F (λ (both : A × C). both.0) (λ both. G both.0 both.1) s m x p (none_via (G x) (λ (both : A × C). given (both.0 ≡ x) (G both.0 both.1)) m (λ both t h. (both.1, subst (λ a. G a both.1 t) h.0 h.1)) q)
 
 -- a case of several: all things of that code are made by `to`
 pub begins_case : {A X : Type 0} (code : X → ℕ) (S : X → Spellings) (to : A → X) (n : ℕ) (s r : List ℕ) (a : A) → code (to a) ≡ n → ((y : X) → code y ≡ n → (b : A) × (y ≡ to b)) → Begins (λ b. S (to b)) s a r → Begins (λ y. given (code y ≡ n) (S y)) s (to a) r
@@ -81,6 +81,10 @@ begins_case code S to n s r a is cover p =
 pub none_case : {A X : Type 0} (code : X → ℕ) (S : X → Spellings) (to : A → X) (n : ℕ) (s : List ℕ) → ((y : X) → code y ≡ n → (b : A) × (y ≡ to b)) → NoneBegins (λ b. S (to b)) s → NoneBegins (λ y. given (code y ≡ n) (S y)) s
 none_case code S to n s cover p =
     none_via (λ b. S (to b)) (λ y. given (code y ≡ n) (S y)) s (λ y t h. let back = cover y h.0 in (back.0, subst (λ z. S z t) back.1 h.1)) p
+
+-- the code of a case, and what goes with it
+pub begins_coded : {A X : Type 0} (code : X → ℕ) (S : X → Spellings) (to : A → X) (n : ℕ) (s m r : List ℕ) (a : A) → code (to a) ≡ n → ((y : X) → code y ≡ n → (b : A) × (y ≡ to b)) → Begins byte s n m → Begins (λ b. S (to b)) m a r → Begins (λ y. byte (code y) ⨾ S y) s (to a) r
+begins_coded code S to n s m r a is cover p q = begins_after byte code S s m r n (to a) p (begins_case code S to n m r a is cover q)
 
 -- nothing has that code
 pub none_coded : {X : Type 0} (code : X → ℕ) (S : X → Spellings) (n : ℕ) (s : List ℕ) → ((y : X) → code y ≡ n → ⊥) → NoneBegins (λ y. given (code y ≡ n) (S y)) s
