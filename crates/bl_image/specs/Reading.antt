@@ -1,9 +1,12 @@
 -- What a reader of a part of an image answers.
-use Rattle.std.specs.Prelude.{◌≡◌, ◌≤◌, ℕ, List, ◌++◌, length, drop, Result, Ok, Err}
+use Rattle.std.specs.Prelude.{◌≡◌, ◌≤◌, ◌<◌, ℕ, List, [], ◌∷◌, ◌++◌, length, take, drop, Result, Ok, Err}
+use Rattle.bl_cmd.specs.Programs.{IsCommand, IsZero}
 use Rattle.bl_cmd.specs.Rules.{IsFirstBroken}
+use Rattle.bl_cmd.specs.declared.command.Command.{Command}
+use Rattle.bl_cmd.specs.declared.command.Operand.{Operand}
 use Rattle.bl_cmd.specs.declared.definitions.ProgramParts.{ProgramParts as Program}
-use Rattle.bl_image.specs.Grammar.{Spellings}
-use Rattle.bl_image.specs.Image.{Image}
+use Rattle.bl_image.specs.Grammar.{Spellings, given, each}
+use Rattle.bl_image.specs.Image.{Image, command_code, fields, operand}
 use Rattle.bl_image.specs.declared.error.ReadError.{ReadError}
 use Rattle.bl_image.specs.declared.error.ReadError.TheVariants as read_error
 use Rattle.bl_image.specs.declared.error.ImageError.{ImageError}
@@ -29,6 +32,15 @@ Refuses B bytes start read_error.Memory = Unit {0}
 abbrev pub Reads : {A : Type 0} → (A → Spellings) → List ℕ → ℕ → Result (A × ℕ) ReadError → Type 0
 Reads B bytes start (Ok found) = (found.1 ≤ length bytes) × Begins B (drop start bytes) found.0 (drop found.1 bytes)
 Reads B bytes start (Err error) = Refuses B bytes start error
+
+-- what is spelled behind its code of a command of that code
+abbrev pub fields_behind : ℕ → Command → Spellings
+fields_behind code one = given (command_code one ≡ code) (given (IsCommand one) (fields one))
+
+-- so many of three operands, of which the others are 0
+abbrev pub operands_of : ℕ → Operand × (Operand × Operand) → Spellings
+operands_of count these =
+    given ((count < 2 → IsZero these.1.0) × (count < 3 → IsZero these.1.1)) (each operand (take count (these.0 ∷ these.1.0 ∷ these.1.1 ∷ [])))
 
 -- why bytes give no well-formed program: no program has these bytes; or one has them, and that is the first rule that it
 -- breaks; or there was no memory
