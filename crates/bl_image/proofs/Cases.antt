@@ -122,11 +122,13 @@ is_trap _ e = absurd (omega arith)
 abbrev pub SetParts : Type 0
 SetParts = Mark × (Op × Variable)
 
-pub record IsSet (y : Command) : Type 0 where
-  pub parts : SetParts
-  pub operands : Operand × Operand × Operand
-  pub is : y ≡ Set parts.0 parts.1.0 parts.1.1 operands.0 operands.1 operands.2
+-- a Set by its parts and its operands
+abbrev pub Operands : Type 0
+Operands = Operand × (Operand × Operand)
 
-pub is_set : (y : Command) → command_code y ≡ 0 → IsSet y
-is_set (Set m op to a b c) e = record { parts = (m, (op, to)); operands = (a, b, c); is = refl }
+abbrev pub to_set : SetParts × Operands → Command
+to_set p = Set p.0.0 p.0.1.0 p.0.1.1 p.1.0 p.1.1.0 p.1.1.1
+
+pub is_set : (y : Command) → command_code y ≡ 0 → (p : SetParts × Operands) × (y ≡ to_set p)
+is_set (Set m op to a b c) e = (((m, (op, to)), (a, (b, c))), refl)
 is_set _ e = absurd (omega arith)

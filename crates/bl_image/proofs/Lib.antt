@@ -2,3 +2,4 @@ pub mod Begins
 pub mod Cases
 pub mod Chains
 pub mod Numbers
+pub mod Operands
