@@ -1,7 +1,7 @@
 -- Things that are spelled one after another.
 use Rattle.std.proofs.Common.{◌≡◌, ℕ, zero, suc, ◌+◌, ◌<◌, ◌≤◌, List, [], ◌∷◌, ◌++◌, length, append_assoc, append-nil, length-append, ap, ap₂, sym, ◌∙◌, refl, subst, arith}
-use Rattle.bl_image.specs.Grammar.{Spellings, ◌⨾◌, nothing, given, each_after}
-use Rattle.bl_image.specs.Reading.{Begins, NoneBegins}
+use Rattle.bl_image.specs.Grammar.{Spellings, ◌⨾◌, nothing, given, each, each_after}
+use Rattle.bl_image.specs.Reading.{Begins, NoneBegins, Fills}
 
 -- the state behind things
 abbrev pub behind : {S A : Type 0} → (S → A → S) → S → List A → S
@@ -122,3 +122,72 @@ none_more next B state s m xs n p less q = record {
       let g = goes next B state s m xs ys other more p (omega (arith, h.0)) h.1 e in
       q.none g.here g.b (g.c ++ more) g.spelled g.rest;
 }
+
+-- ---- to the end of the bytes
+
+-- what was read behind `start`, where the rest of `s` is left
+pub record SoFar {A : Type 0} (B : A → Spellings) (start : List A) (s m : List ℕ) (all : List A) : Type 0 where
+  pub read : List A
+  pub list : all ≡ start ++ read
+  pub joins : (zs : List A) → each B zs m → each B (read ++ zs) s
+  pub splits : (ys : List A) → each B ys s → (zs : List A) × (ys ≡ read ++ zs) × each B zs m
+
+pub at_start : {A : Type 0} (B : A → Spellings) (start : List A) (s : List ℕ) → SoFar B start s s start
+at_start B start s = record { read = []; list = sym (append-nil start); joins = λ zs h. h; splits = λ ys h. (ys, refl, h) }
+
+-- what is left begins with a thing
+pub record First {A : Type 0} (B : A → Spellings) (zs : List A) (m : List ℕ) : Type 0 where
+  pub here : A
+  pub later : List A
+  pub front : List ℕ
+  pub rest : List ℕ
+  pub list : zs ≡ here ∷ later
+  pub whole : m ≡ front ++ rest
+  pub spelled : B here front
+  pub after : each B later rest
+
+first_of : {A : Type 0} (B : A → Spellings) (zs : List A) (m : List ℕ) → 0 < length m → each B zs m → First B zs m
+first_of B [] m some h = absurd (omega (arith, ap length h))
+first_of B (z ∷ zs) m some h = record { here = z; later = zs; front = h.front; rest = h.rest; list = refl; whole = h.whole; spelled = h.first; after = h.second }
+
+pub one_further : {A : Type 0} (B : A → Spellings) (start : List A) (s m r : List ℕ) (all : List A) (x : A) → 0 < length m → SoFar B start s m all → Begins B m x r → SoFar B start s r (all ++ x ∷ [])
+one_further {A} B start s m r all x some p q = record {
+  read = p.read ++ x ∷ [];
+  list = ap (λ l. l ++ x ∷ []) p.list ∙ append_assoc start p.read (x ∷ []);
+  joins = λ zs h.
+      subst (λ (l : List A). each B l s) (sym (append_assoc p.read (x ∷ []) zs)) (p.joins (x ∷ zs) (record { front = q.front; rest = r; whole = q.whole; first = q.spelled; second = h }));
+  splits = λ ys h.
+      let parts = p.splits ys h in
+      let f = first_of B parts.0 m some parts.2 in
+      let same = q.only f.here f.front f.rest f.spelled f.whole in (
+        f.later,
+        parts.1 ∙ ap (λ l. p.read ++ l) (f.list ∙ ap (λ y. y ∷ f.later) same.0) ∙ sym (append_assoc p.read (x ∷ []) f.later),
+        subst (λ (t : List ℕ). each B f.later t) same.1 f.after,
+      );
+}
+
+-- where nothing of a byte or more is left, nothing is
+pub at_end : {A : Type 0} (B : A → Spellings) (start : List A) (s m : List ℕ) (all : List A) → ((x : A) → B x [] → ⊥) → length m ≡ 0 → SoFar B start s m all → (xs : List A) × (all ≡ start ++ xs) × Fills B s xs
+at_end {A} B start s m all never none p = (
+  p.read,
+  p.list,
+  record {
+    spelled = subst (λ (l : List A). each B l s) (append-nil p.read) (p.joins [] (empty m none));
+    only = λ ys h. let parts = p.splits ys h in parts.1 ∙ ap (λ l. p.read ++ l) (no_more parts.0 m none parts.2) ∙ append-nil p.read;
+  },
+)
+  where
+    empty : (t : List ℕ) → length t ≡ 0 → t ≡ []
+    empty [] none = refl
+    empty (x ∷ t) none = absurd (omega arith)
+    no_more : (zs : List A) (t : List ℕ) → length t ≡ 0 → each B zs t → zs ≡ []
+    no_more [] t none h = refl
+    no_more (z ∷ zs) t none h =
+        let long = length-append h.front h.rest in
+        absurd (never z (subst (B z) (empty h.front (omega (arith, ap length h.whole, long))) h.first))
+
+pub no_rest : {A : Type 0} (B : A → Spellings) (start : List A) (s m : List ℕ) (all : List A) → 0 < length m → SoFar B start s m all → NoneBegins B m → (ys : List A) → each B ys s → ⊥
+no_rest B start s m all some p q ys h =
+    let parts = p.splits ys h in
+    let f = first_of B parts.0 m some parts.2 in
+    q.none f.here f.front f.rest f.spelled f.whole

@@ -184,12 +184,17 @@ additions [] [] = nothing
 additions [] (listed ∷ more) = vec demand [] ⨾ weights (listed ∷ more)
 additions (demanded ∷ more) listed = vec demand (demanded ∷ more) ⨾ weights listed
 
+-- the magic and the version
+abbrev pub header : ℕ → Spellings
+header number = exactly magic ⨾ byte number
+
+-- globals, memories, functions, exports
+abbrev pub definitions : Program → Spellings
+definitions one = vec global one.globals ⨾ vec memory one.memories ⨾ vec function one.functions ⨾ exports one.exports
+
 -- the parts of an image in their order; the commands are those of all functions, without positions 0 to 6
 abbrev pub image : Program → Spellings
-image one =
-    exactly magic ⨾ byte (version one.demands one.weights)
-    ⨾ vec global one.globals ⨾ vec memory one.memories ⨾ vec function one.functions ⨾ exports one.exports
-    ⨾ additions one.demands one.weights ⨾ each command (drop 7 one.commands)
+image one = header (version one.demands one.weights) ⨾ definitions one ⨾ additions one.demands one.weights ⨾ each command (drop 7 one.commands)
 
 -- the bytes are the image of a program
 pub record Image (program : Program) (bytes : List ℕ) : Type 0 where

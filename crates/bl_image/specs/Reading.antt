@@ -3,10 +3,14 @@ use Rattle.std.specs.Prelude.{◌≡◌, ◌≤◌, ◌<◌, ℕ, List, [], ◌�
 use Rattle.bl_cmd.specs.Programs.{IsCommand, IsZero}
 use Rattle.bl_cmd.specs.Rules.{IsFirstBroken}
 use Rattle.bl_cmd.specs.declared.command.Command.{Command}
+use Rattle.bl_cmd.specs.declared.command.Command.TheVariants.{Trap}
 use Rattle.bl_cmd.specs.declared.command.Operand.{Operand}
+use Rattle.bl_cmd.specs.declared.definitions.Demand.{Demand}
+use Rattle.bl_base.specs.declared.trap.Trap.TheVariants.{Unreachable, DivideByZero, Overflow, OutOfBounds, UndefinedElement, UninitializedElement, TypeMismatch}
+use Rattle.bl_image.specs.declared.rising.Weights.{Weights}
 use Rattle.bl_cmd.specs.declared.definitions.ProgramParts.{ProgramParts as Program}
 use Rattle.bl_image.specs.Grammar.{Spellings, given, each}
-use Rattle.bl_image.specs.Image.{Image, command_code, fields, operand}
+use Rattle.bl_image.specs.Image.{Image, image, additions, command_code, fields, operand, version}
 use Rattle.bl_image.specs.declared.error.ReadError.{ReadError}
 use Rattle.bl_image.specs.declared.error.ReadError.TheVariants as read_error
 use Rattle.bl_image.specs.declared.error.ImageError.{ImageError}
@@ -41,6 +45,41 @@ fields_behind code one = given (command_code one ≡ code) (given (IsCommand one
 abbrev pub operands_of : ℕ → Operand × (Operand × Operand) → Spellings
 operands_of count these =
     given ((count < 2 → IsZero these.1.0) × (count < 3 → IsZero these.1.1)) (each operand (take count (these.0 ∷ these.1.0 ∷ these.1.1 ∷ [])))
+
+-- demands and weights, of which the image has that version
+abbrev pub additions_of : ℕ → List Demand × Weights → Spellings
+additions_of number both = given (version both.0 both.1.0 ≡ number) (additions both.0 both.1.0)
+
+-- bytes are a spelling of things, one after another, and of no others
+pub record Fills {A : Type 0} (B : A → Spellings) (bytes : List ℕ) (xs : List A) : Type 0 where
+  pub spelled : each B xs bytes
+  pub only : (ys : List A) → each B ys bytes → ys ≡ xs
+
+-- why a reader of all that is left gives nothing
+abbrev pub RefusesAll : {A : Type 0} → (A → Spellings) → List ℕ → ReadError → Type 0
+RefusesAll {A} B bytes read_error.NotAnImage = (ys : List A) → each B ys bytes → ⊥
+RefusesAll B bytes read_error.Memory = Unit {0}
+
+-- a reader of all that is left gives what it spells, behind what it was given
+abbrev pub ReadsAll : {A : Type 0} → (A → Spellings) → List A → List ℕ → Result (List A) ReadError → Type 0
+ReadsAll {A} B start bytes (Ok all) = (xs : List A) × (all ≡ start ++ xs) × Fills B bytes xs
+ReadsAll B start bytes (Err error) = RefusesAll B bytes error
+
+-- the commands at positions 0 to 6
+abbrev pub traps : List Command
+traps =
+    Trap Unreachable ∷ Trap DivideByZero ∷ Trap Overflow ∷ Trap OutOfBounds ∷ Trap UndefinedElement ∷ Trap UninitializedElement ∷ Trap TypeMismatch ∷ []
+
+-- bytes are an image of the parts, if they are a program's, and of no other program
+pub record Spells (bytes : List ℕ) (parts : Program) : Type 0 where
+  pub spelled : image parts bytes
+  pub only : (program : Program) → Image program bytes → program ≡ parts
+
+-- a reader of a whole image gives the parts of the one program that it may be of
+abbrev pub ReadsProgram : List ℕ → Result Program ReadError → Type 0
+ReadsProgram bytes (Ok parts) = Spells bytes parts
+ReadsProgram bytes (Err read_error.NotAnImage) = (program : Program) → Image program bytes → ⊥
+ReadsProgram bytes (Err read_error.Memory) = Unit {0}
 
 -- why bytes give no well-formed program: no program has these bytes; or one has them, and that is the first rule that it
 -- breaks; or there was no memory

@@ -1,13 +1,11 @@
 //! Readers of the parts in front of the commands.
-ghost use Rattle.std.specs.Prelude.{◌≡◌, ◌≤◌, ◌<◌, ◌^◌, ◌+◌, ℕ, List as Listed, length};
-ghost use Rattle.bl_image.specs.Grammar.{◌⨾◌, given, gap, rising};
-ghost use Rattle.bl_image.specs.Image.{global, row, rows, memory, param, function, export, exports, demand, weight, weights};
-ghost use Rattle.bl_image.specs.Reading.{Reads};
+ghost use Rattle.bl_image.specs.Image.{global, memory, param, function, export, exports, demand};
 
 use crate::error::ReadError;
 use crate::read::{Read, read_byte, read_each, read_u32, read_u64};
-use bl_base::{Label, List, Pos, Text, ValueType};
-use bl_cmd::{Demand, ExportDef, FunctionDef, GlobalDef, MemRow, MemoryDef, ParamDef, SiteWeight};
+use crate::rising::Rows;
+use bl_base::{Label, List, Text, ValueType};
+use bl_cmd::{Demand, ExportDef, FunctionDef, GlobalDef, MemoryDef, ParamDef};
 use std::alloc::Global;
 
 impl Read for GlobalDef {
@@ -54,17 +52,34 @@ impl Read for ExportDef {
     }
 }
 
-/// Reads the exports, behind a count below 2^64.
-pub fn read_exports(
-    alloc: Global,
-    bytes: &[u8],
-    at: usize,
-) -> Result<(List<ExportDef>, usize), ReadError>
-    requires { at ≤ length bytes.now }
-    ensures { Reads exports bytes.now at result }
-{
-    let (count, place) = read_u64(bytes, at)?;
-    read_each::<ExportDef>(alloc, bytes, place, count)
+/// The exports of a program.
+#[derive(Drop)]
+pub struct Exports(pub List<ExportDef>);
+
+impl Read for Exports {
+    ghost spells = { λ these. exports these.0 };
+
+    fn read(alloc: Global, bytes: &[u8], at: usize) -> Result<(Exports, usize), ReadError> {
+        let (count, place) = read_u64(bytes, at)?;
+        let (these, end) = read_each::<ExportDef>(alloc, bytes, place, count)?;
+        Ok((Exports(these), end))
+    }
+}
+
+impl Read for MemoryDef {
+    ghost spells = { memory };
+
+    fn read(alloc: Global, bytes: &[u8], at: usize) -> Result<(MemoryDef, usize), ReadError> {
+        let ((pages, (reserve, (label, rows))), place) =
+            <(u32, (u32, (Label, Rows)))>::read(alloc, bytes, at)?;
+        let one = MemoryDef {
+            pages,
+            reserve,
+            label,
+            rows: rows.0,
+        };
+        Ok((one, place))
+    }
 }
 
 impl Read for Demand {
@@ -85,4 +100,3 @@ impl Read for Demand {
         }
     }
 }
-

@@ -2,10 +2,12 @@
 #![tactic(auto)]
 
 mod command;
+mod decode;
 mod definition;
 mod error;
 mod read;
 mod rising;
 mod value;
 
+pub use decode::decode_image;
 pub use error::ImageError;

@@ -1,13 +1,13 @@
 //! Readers of things whose numbers rise: the rows of memories, and weights.
 ghost use Rattle.std.specs.Prelude.{◌≡◌, ◌≤◌, ◌<◌, ◌^◌, ℕ, List as Listed, length};
 ghost use Rattle.bl_image.specs.Grammar.{◌⨾◌, exactly, given, gap, rising};
-ghost use Rattle.bl_image.specs.Image.{row, rows, memory, weight, weights};
+ghost use Rattle.bl_image.specs.Image.{row, rows, weight, weights};
 ghost use Rattle.bl_image.specs.Reading.{Reads};
 
 use crate::error::ReadError;
 use crate::read::{Read, read_u32, read_u64};
-use bl_base::{Label, List, Pos};
-use bl_cmd::{MemRow, MemoryDef, SiteWeight};
+use bl_base::{List, Pos};
+use bl_cmd::{MemRow, SiteWeight};
 use std::alloc::Global;
 
 /// What stands in an image behind a number that rises.
@@ -119,44 +119,30 @@ fn read_rising<T: Numbered>(
     Ok((things, place))
 }
 
-/// Reads the rows of a memory.
-fn read_rows(
-    alloc: Global,
-    bytes: &[u8],
-    at: usize,
-) -> Result<(List<MemRow>, usize), ReadError>
-    requires { at ≤ length bytes.now }
-    ensures { Reads rows bytes.now at result }
-{
-    let (count, place) = read_u32(bytes, at)?;
-    read_rising::<MemRow>(alloc, bytes, place, count)
+/// The rows of a memory.
+#[derive(Drop)]
+pub struct Rows(pub List<MemRow>);
+
+impl Read for Rows {
+    ghost spells = { λ these. rows these.0 };
+
+    fn read(alloc: Global, bytes: &[u8], at: usize) -> Result<(Rows, usize), ReadError> {
+        let (count, place) = read_u32(bytes, at)?;
+        let (these, end) = read_rising::<MemRow>(alloc, bytes, place, count)?;
+        Ok((Rows(these), end))
+    }
 }
 
-/// Reads the weights.
-pub fn read_weights(
-    alloc: Global,
-    bytes: &[u8],
-    at: usize,
-) -> Result<(List<SiteWeight>, usize), ReadError>
-    requires { at ≤ length bytes.now }
-    ensures { Reads weights bytes.now at result }
-{
-    let (count, place) = read_u32(bytes, at)?;
-    read_rising::<SiteWeight>(alloc, bytes, place, count)
-}
+/// The weights that a program lists.
+#[derive(Drop)]
+pub struct Weights(pub List<SiteWeight>);
 
-impl Read for MemoryDef {
-    ghost spells = { memory };
+impl Read for Weights {
+    ghost spells = { λ these. weights these.0 };
 
-    fn read(alloc: Global, bytes: &[u8], at: usize) -> Result<(MemoryDef, usize), ReadError> {
-        let ((pages, (reserve, label)), place) = <(u32, (u32, Label))>::read(alloc, bytes, at)?;
-        let (rows, end) = read_rows(alloc, bytes, place)?;
-        let one = MemoryDef {
-            pages,
-            reserve,
-            label,
-            rows,
-        };
-        Ok((one, end))
+    fn read(alloc: Global, bytes: &[u8], at: usize) -> Result<(Weights, usize), ReadError> {
+        let (count, place) = read_u32(bytes, at)?;
+        let (these, end) = read_rising::<SiteWeight>(alloc, bytes, place, count)?;
+        Ok((Weights(these), end))
     }
 }

@@ -1,8 +1,0 @@
-use Rattle.std.proofs.Common.{length}
-use Rattle.bl_image.specs.Grammar.{u64, each}
-use Rattle.bl_image.specs.Image.{export}
-use Rattle.bl_image.proofs.Begins.{reads_after}
-use Rattle.bl_image.proofs.definition.read_exports.Goals as goal
-
-pub returns : goal.returns
-returns c = reads_after u64 length (each export) c.args.bytes.now c.args.at c.in_ok-count.place c.in_ok-count.count _ c.in_ok-count.ensures.1 c.read_each.ensures
