@@ -78,8 +78,18 @@ begins_with (a ∷ front) (x ∷ xs) same =
     let tail = begins_with front xs (λ i b e. same (suc i) b e) in
     ap₂ (λ y ys. y ∷ ys) head tail
 
+trap_stands : (program : Program) → IsProgram program → (i : ℕ) (a : Command) → slice_get traps i ≡ Some a → slice_get program.commands i ≡ Some a
+trap_stands program is zero a e = let k = is.traps 0 (omega arith) in let stands = k.2 in let named = k.1 in cc
+trap_stands program is (suc zero) a e = let k = is.traps 1 (omega arith) in let stands = k.2 in let named = k.1 in cc
+trap_stands program is (suc (suc zero)) a e = let k = is.traps 2 (omega arith) in let stands = k.2 in let named = k.1 in cc
+trap_stands program is (suc (suc (suc zero))) a e = let k = is.traps 3 (omega arith) in let stands = k.2 in let named = k.1 in cc
+trap_stands program is (suc (suc (suc (suc zero)))) a e = let k = is.traps 4 (omega arith) in let stands = k.2 in let named = k.1 in cc
+trap_stands program is (suc (suc (suc (suc (suc zero))))) a e = let k = is.traps 5 (omega arith) in let stands = k.2 in let named = k.1 in cc
+trap_stands program is (suc (suc (suc (suc (suc (suc zero)))))) a e = let k = is.traps 6 (omega arith) in let stands = k.2 in let named = k.1 in cc
+trap_stands program is (suc (suc (suc (suc (suc (suc (suc i))))))) a e = absurd (cc)
+
 pub traps_first : (program : Program) → IsProgram program → program.commands ≡ traps ++ drop 7 program.commands
-traps_first program is = begins_with traps program.commands ?
+traps_first program is = begins_with traps program.commands (trap_stands program is)
 
 -- ---- the whole
 

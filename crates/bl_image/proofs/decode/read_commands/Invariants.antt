@@ -3,8 +3,8 @@ use Rattle.bl_image.specs.Image.{command}
 use Rattle.bl_image.proofs.Chains.{SoFar}
 use Rattle.bl_image.proofs.decode.read_commands.Given as goal
 
-abbrev pub measure-loop-place : goal.measure-loop-place
-measure-loop-place l = length l.bytes - l.place
+abbrev pub decreases-loop-place : goal.decreases-loop-place
+decreases-loop-place l = length l.bytes - l.place
 
 abbrev pub invariant-loop-place : goal.invariant-loop-place
 invariant-loop-place l = record {
