@@ -191,3 +191,11 @@ no_rest B start s m all some p q ys h =
     let parts = p.splits ys h in
     let f = first_of B parts.0 m some parts.2 in
     q.none f.here f.front f.rest f.spelled f.whole
+
+-- what is left behind a thing of a byte or more is shorter
+pub shorter : {A : Type 0} (B : A → Spellings) (m r : List ℕ) (x : A) → ((y : A) → B y [] → ⊥) → Begins B m x r → length r < length m
+shorter B m r x never p = by_front p.front p.spelled p.whole
+  where
+    by_front : (front : List ℕ) → B x front → m ≡ front ++ r → length r < length m
+    by_front [] h e = absurd (never x h)
+    by_front (b ∷ front) h e = omega (arith, ap length e, length-append (b ∷ front) r)

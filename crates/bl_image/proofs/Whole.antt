@@ -1,6 +1,7 @@
 -- The whole image, from its parts.
 use Rattle.std.proofs.Common.{◌≡◌, ℕ, ◌+◌, ◌<◌, ◌≤◌, zero, suc, List, [], ◌∷◌, ◌++◌, length, take, drop, slice_get, append_assoc, ap, ap₂, sym, ◌∙◌, refl, subst, arith, Option, Some, None, Result, Ok, Err, length-append, length-drop}
-use Rattle.std.proofs.lemmas.List.{take_at, drop_at}
+use Rattle.std.specs.Result.{IsErrAnd}
+use Rattle.std.proofs.lemmas.Result.{err_from_is_err_and}
 use Rattle.bl_base.specs.Trap.{trap_of}
 use Rattle.bl_cmd.specs.Programs.{IsProgram}
 use Rattle.bl_cmd.specs.declared.command.Command.{Command}
@@ -13,9 +14,10 @@ use Rattle.bl_cmd.specs.declared.definitions.SiteWeight.{SiteWeight}
 use Rattle.bl_image.specs.declared.definition.Exports.{Exports}
 use Rattle.bl_image.specs.declared.rising.Weights.{Weights}
 use Rattle.bl_image.specs.declared.error.ReadError.{ReadError}
+use Rattle.bl_image.specs.declared.error.ReadError.TheVariants.{NotAnImage, Memory}
 use Rattle.bl_image.specs.Grammar.{Spellings, ◌⨾◌, byte, given, exactly, each, vec}
 use Rattle.bl_image.specs.Image.{magic, header, version, definitions, additions, weights, demand, command, image, Image}
-use Rattle.bl_image.specs.Reading.{Begins, NoneBegins, Fills, Spells, Reads, additions_of, traps}
+use Rattle.bl_image.specs.Reading.{Begins, NoneBegins, Fills, Spells, Reads, ReadsAll, ReadsProgram, Refuses, RefusesAll, additions_of, traps}
 use Rattle.bl_image.proofs.Begins.{begins_via, none_via, begins_given, none_unless, reads_as}
 
 -- ---- the magic and the version
@@ -156,3 +158,31 @@ whole_found bytes m n o v d l xs first second third last = record {
       let commands = traps_first q h.is_program ∙ ap (λ t. traps ++ t) four in
       ap (λ e. program_with e (listed_of q) q.commands) two.0 ∙ ap (λ e. program_with d e q.commands) three.0 ∙ ap (λ e. program_with d l e) commands;
 }
+
+-- ---- where nothing is read
+
+-- a `?` hands on why a part of a program wasn't read
+pub program_refused : {A : Type 0} (F : A → Spellings) (bytes : List ℕ) (i : ℕ) (r : Result Program ReadError) (e : ReadError) → IsErrAnd r (λ y. y ≡ e) → (NoneBegins F (drop i bytes) → (program : Program) → Image program bytes → ⊥) → Refuses F bytes i e → ReadsProgram bytes r
+program_refused F bytes i r e gives along h = let p = err_from_is_err_and r gives in rw (p.1, p.2) (refused e h)
+  where
+    refused : (k : ReadError) → Refuses F bytes i k → ReadsProgram bytes (Err k)
+    refused NotAnImage h = along h
+    refused Memory h = tt
+
+pub commands_refused : (bytes s : List ℕ) (r : Result Program ReadError) (e : ReadError) → IsErrAnd r (λ y. y ≡ e) → (((xs : List Command) → each command xs s → ⊥) → (program : Program) → Image program bytes → ⊥) → RefusesAll command s e → ReadsProgram bytes r
+commands_refused bytes s r e gives along h = let p = err_from_is_err_and r gives in rw (p.1, p.2) (refused e h)
+  where
+    refused : (k : ReadError) → RefusesAll command s k → ReadsProgram bytes (Err k)
+    refused NotAnImage h = along h
+    refused Memory h = tt
+
+pub all_refused : (start : List Command) (s bytes : List ℕ) (i : ℕ) (r : Result (List Command) ReadError) (e : ReadError) → IsErrAnd r (λ y. y ≡ e) → (NoneBegins command (drop i bytes) → (xs : List Command) → each command xs s → ⊥) → Refuses command bytes i e → ReadsAll command start s r
+all_refused start s bytes i r e gives along h = let p = err_from_is_err_and r gives in rw (p.1, p.2) (refused e h)
+  where
+    refused : (k : ReadError) → Refuses command bytes i k → ReadsAll command start s (Err k)
+    refused NotAnImage h = along h
+    refused Memory h = tt
+
+-- a command has a byte
+pub never_empty : (x : Command) → command x [] → ⊥
+never_empty x h = omega (arith, ap length h.whole, length-append h.front h.rest, ap length h.first)

@@ -8,6 +8,7 @@ mod error;
 mod read;
 mod rising;
 mod value;
+mod write;
 
 pub use decode::decode_image;
 pub use error::ImageError;
