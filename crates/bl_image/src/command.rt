@@ -1,12 +1,15 @@
-//! Readers of commands.
-ghost use Rattle.std.specs.Prelude.{◌≡◌, ◌≤◌, ◌<◌, length};
+//! Commands.
+ghost use Rattle.std.specs.Prelude.{◌≡◌, ◌≤◌, [], ◌∷◌, take, length, OnOk};
 ghost use Rattle.bl_cmd.specs.Programs.{arity};
-ghost use Rattle.bl_image.specs.Image.{command};
+ghost use Rattle.bl_image.specs.Grammar.{each};
+ghost use Rattle.bl_image.specs.Image.{command, command_code, fields, operand};
 ghost use Rattle.bl_image.specs.Reading.{Reads, fields_behind, operands_of};
+ghost use Rattle.bl_image.specs.Writing.{Adds, CommandFits};
 
 use crate::error::ReadError;
 use crate::read::{Read, read_byte, read_u32};
-use bl_base::{Pos, Trap, Var};
+use crate::write::{Write, write_byte};
+use bl_base::{NoMemory, Pos, Trap, Var};
 use bl_cmd::{Command, Mark, Operand};
 use bl_ops::{AccessKind, Op, row};
 use std::alloc::Global;
@@ -192,5 +195,104 @@ impl Read for Command {
     fn read(alloc: Global, bytes: &[u8], at: usize) -> Result<(Command, usize), ReadError> {
         let (code, place) = read_byte(bytes, at)?;
         read_fields(code, alloc, bytes, place)
+    }
+}
+
+/// Appends the operands of a Set: as many as its operator takes.
+fn write_operands(
+    count: u8,
+    a: Operand,
+    b: Operand,
+    c: Operand,
+    to: &mut Vec<u8>,
+) -> Result<(), NoMemory>
+    requires some { 1 ≤ count }
+    requires most { count ≤ 3 }
+    ensures { OnOk result (Adds (each operand (take count (a ∷ b ∷ c ∷ []))) to.old.items to.new.items) }
+{
+    a.write(to)?;
+    if count > 1 {
+        b.write(to)?;
+    }
+    if count > 2 {
+        c.write(to)?;
+    }
+    Ok(())
+}
+
+/// Appends the fields of a command.
+fn write_fields(one: Command, to: &mut Vec<u8>) -> Result<(), NoMemory>
+    requires { CommandFits one }
+    ensures { OnOk result (Adds (fields one) to.old.items to.new.items) }
+{
+    match one {
+        Command::Set {
+            mark,
+            op,
+            to: variable,
+            a,
+            b,
+            c,
+        } => {
+            (mark, (op, variable)).write(to)?;
+            write_operands(arity_of(op), a, b, c, to)
+        }
+        Command::Load {
+            mark,
+            kind,
+            memory,
+            to: variable,
+            offset,
+            address,
+        } => (mark, (kind, (memory, (variable, (offset, address))))).write(to),
+        Command::Store {
+            kind,
+            memory,
+            offset,
+            address,
+            value,
+        } => (kind, (memory, (offset, (address, value)))).write(to),
+        Command::Test { cond, yes, no } => (cond, (yes, no)).write(to),
+        Command::Jump { to: position } => position.write(to),
+        Command::Arg {
+            mark,
+            function,
+            index,
+            value,
+        } => (mark, (function, (index, value))).write(to),
+        Command::Call { function } => function.write(to),
+        Command::Out { mark, index, value } => (mark, (index, value)).write(to),
+        Command::Ret => Ok(()),
+        Command::Trap { kind } => kind.write(to),
+    }
+}
+
+/// The code of a command.
+fn code_of(one: Command) -> u8
+    ensures { result ≡ command_code one }
+{
+    match one {
+        Command::Set { .. } => 0x00,
+        Command::Load { .. } => 0x01,
+        Command::Store { .. } => 0x02,
+        Command::Test { .. } => 0x03,
+        Command::Jump { .. } => 0x04,
+        Command::Arg { .. } => 0x05,
+        Command::Call { .. } => 0x06,
+        Command::Out { .. } => 0x07,
+        Command::Ret => 0x08,
+        Command::Trap { .. } => 0x09,
+    }
+}
+
+impl Write for Command {
+    ghost written = { command };
+
+    ghost fits = { CommandFits };
+
+    fn write(&self, to: &mut Vec<u8>) -> Result<(), NoMemory> {
+        write_byte(code_of(*self), to)?;
+        write_fields(*self, to)?;
+        Ok(())
     }
 }

@@ -1,10 +1,13 @@
-//! Readers of the parts in front of the commands.
+//! The parts in front of the commands.
+ghost use Rattle.std.specs.Prelude.{◌<◌, ◌^◌, length};
+ghost use Rattle.bl_image.specs.Writing.{Rises};
 ghost use Rattle.bl_image.specs.Image.{global, memory, param, function, export, exports, demand};
 
 use crate::error::ReadError;
 use crate::read::{Read, read_byte, read_each, read_u32, read_u64};
-use crate::rising::Rows;
-use bl_base::{Label, List, Text, ValueType};
+use crate::rising::{Rows, write_numbered};
+use crate::write::{Write, write_byte, write_u64};
+use bl_base::{Label, List, NoMemory, Text, ValueType};
 use bl_cmd::{Demand, ExportDef, FunctionDef, GlobalDef, MemoryDef, ParamDef};
 use std::alloc::Global;
 
@@ -98,5 +101,90 @@ impl Read for Demand {
             }
             _ => Err(ReadError::NotAnImage),
         }
+    }
+}
+
+impl Write for GlobalDef {
+    ghost written = { global };
+
+    ghost fits = { λ _. Unit {0} };
+
+    fn write(&self, to: &mut Vec<u8>) -> Result<(), NoMemory> {
+        self.kind.write(to)?;
+        self.label.write(to)?;
+        write_u64(self.first, to)?;
+        Ok(())
+    }
+}
+
+impl Write for ParamDef {
+    ghost written = { param };
+
+    ghost fits = { λ _. Unit {0} };
+
+    fn write(&self, to: &mut Vec<u8>) -> Result<(), NoMemory> {
+        self.kind.write(to)?;
+        self.label.write(to)?;
+        Ok(())
+    }
+}
+
+impl Write for FunctionDef {
+    ghost written = { function };
+
+    ghost fits = { λ one. (length one.params < 2 ^ 32) × (length one.results < 2 ^ 32) };
+
+    fn write(&self, to: &mut Vec<u8>) -> Result<(), NoMemory> {
+        self.params.write(to)?;
+        self.results.write(to)?;
+        self.vars.write(to)?;
+        self.length.write(to)?;
+        Ok(())
+    }
+}
+
+impl Write for ExportDef {
+    ghost written = { export };
+
+    ghost fits = { λ _. Unit {0} };
+
+    fn write(&self, to: &mut Vec<u8>) -> Result<(), NoMemory> {
+        self.name.write(to)?;
+        self.function.write(to)?;
+        Ok(())
+    }
+}
+
+impl Write for MemoryDef {
+    ghost written = { memory };
+
+    ghost fits = { λ one. (length one.rows < 2 ^ 32) × Rises (λ row. row.number) 0 one.rows };
+
+    fn write(&self, to: &mut Vec<u8>) -> Result<(), NoMemory> {
+        self.pages.write(to)?;
+        self.reserve.write(to)?;
+        self.label.write(to)?;
+        write_numbered(&self.rows, to)?;
+        Ok(())
+    }
+}
+
+impl Write for Demand {
+    ghost written = { demand };
+
+    ghost fits = { λ _. Unit {0} };
+
+    fn write(&self, to: &mut Vec<u8>) -> Result<(), NoMemory> {
+        match *self {
+            Demand::Result { function, index } => {
+                write_byte(0x00, to)?;
+                (function, index).write(to)?;
+            }
+            Demand::Global(global) => {
+                write_byte(0x01, to)?;
+                global.write(to)?;
+            }
+        }
+        Ok(())
     }
 }

@@ -1,12 +1,14 @@
-//! Readers of things whose numbers rise: the rows of memories, and weights.
-ghost use Rattle.std.specs.Prelude.{◌≡◌, ◌≤◌, ◌<◌, ◌^◌, ℕ, List as Listed, length};
-ghost use Rattle.bl_image.specs.Grammar.{◌⨾◌, exactly, given, gap, rising};
+//! Things whose numbers rise: the rows of memories, and weights.
+ghost use Rattle.std.specs.Prelude.{◌≡◌, ◌≤◌, ◌<◌, ◌^◌, ℕ, List as Listed, length, OnOk};
+ghost use Rattle.bl_image.specs.Grammar.{◌⨾◌, exactly, given, u32, gap, rising};
 ghost use Rattle.bl_image.specs.Image.{row, rows, weight, weights};
 ghost use Rattle.bl_image.specs.Reading.{Reads};
+ghost use Rattle.bl_image.specs.Writing.{Adds, Rises};
 
 use crate::error::ReadError;
 use crate::read::{Read, read_u32, read_u64};
-use bl_base::{List, Pos};
+use crate::write::write_u64;
+use bl_base::{List, NoMemory, Pos};
 use bl_cmd::{MemRow, SiteWeight};
 use std::alloc::Global;
 
@@ -26,6 +28,10 @@ pub trait Numbered: Drop {
     fn read_behind(number: u32, bytes: &[u8], at: usize) -> Result<(Self, usize), ReadError>
         requires { at ≤ length bytes.now }
         ensures { Reads (λ one. given (numbered one ≡ number) (behind one)) bytes.now at result };
+
+    /// Appends what stands behind its number.
+    fn write_behind(&self, to: &mut Vec<u8>) -> Result<(), NoMemory>
+        ensures { OnOk result (Adds (behind self.now) to.old.items to.new.items) };
 }
 
 /// Reads sixteen bytes as they stand.
@@ -52,6 +58,12 @@ impl Numbered for MemRow {
         let (bytes, place) = read_sixteen(bytes, at)?;
         Ok((MemRow { number, bytes }, place))
     }
+
+    fn write_behind(&self, to: &mut Vec<u8>) -> Result<(), NoMemory> {
+        let bytes = self.bytes;
+        to.extend_from_slice(&bytes)?;
+        Ok(())
+    }
 }
 
 impl Numbered for SiteWeight {
@@ -70,6 +82,10 @@ impl Numbered for SiteWeight {
             weight,
         };
         Ok((one, place))
+    }
+
+    fn write_behind(&self, to: &mut Vec<u8>) -> Result<(), NoMemory> {
+        write_u64(self.weight, to)
     }
 }
 
@@ -117,6 +133,32 @@ fn read_rising<T: Numbered>(
         place = after;
     }
     Ok((things, place))
+}
+
+/// Appends things, each behind its number.
+fn write_rising<T: Numbered>(things: &[T], to: &mut Vec<u8>) -> Result<(), NoMemory>
+    requires { Rises T.numbered 0 things.now }
+    ensures { OnOk result (Adds (rising T.numbered T.behind things.now) to.old.items to.new.items) }
+{
+    let mut least = 0;
+    for thing in things {
+        let number = u64::from(thing.number());
+        write_u64(number - least, to)?;
+        thing.write_behind(to)?;
+        least = number + 1;
+    }
+    Ok(())
+}
+
+/// Appends how many things there are, and each behind its number.
+pub fn write_numbered<T: Numbered>(things: &List<T>, to: &mut Vec<u8>) -> Result<(), NoMemory>
+    requires few { length things.now < 2 ^ 32 }
+    requires rise { Rises T.numbered 0 things.now }
+    ensures { OnOk result (Adds (u32 (length things.now) ⨾ rising T.numbered T.behind things.now) to.old.items to.new.items) }
+{
+    write_u64(things.len() as u64, to)?;
+    write_rising(things.as_slice(), to)?;
+    Ok(())
 }
 
 /// The rows of a memory.

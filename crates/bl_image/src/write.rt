@@ -1,8 +1,8 @@
 //! Writers of values that stand in images.
-ghost use Rattle.std.specs.Prelude.{◌≡◌, ◌≤◌, ◌<◌, ◌^◌, ◌+◌, ℕ, List as Listed, All, length, OnOk, if◌then◌else◌};
+ghost use Rattle.std.specs.Prelude.{◌≡◌, ◌+◌, ℕ, List as Listed, All, OnOk, if◌then◌else◌};
 ghost use Rattle.bl_cmd.specs.Rules.{IsMark};
 ghost use Rattle.bl_image.specs.Grammar.{◌⨾◌, each, vec, byte, u32, u64};
-ghost use Rattle.bl_image.specs.Image.{value_type, label, label_code, type_code, operand, mark, operator, access, trap_kind, text};
+ghost use Rattle.bl_image.specs.Image.{value_type, label, operand, mark, operator, access, trap_kind, text};
 ghost use Rattle.bl_image.specs.Writing.{Adds};
 
 use bl_base::{Label, List, NoMemory, Pos, Text, Trap, ValueType, Var};
@@ -171,18 +171,25 @@ impl Write for Operand {
     }
 }
 
+/// The byte of a mark: the depth, plus 8 where protected.
+fn mark_code(mark: Mark) -> u8
+    requires { IsMark mark }
+    ensures { result ≡ mark.depth + (if mark.protect then 8 else 0) }
+{
+    if mark.protect {
+        mark.depth + 8
+    } else {
+        mark.depth
+    }
+}
+
 impl Write for Mark {
     ghost written = { mark };
 
     ghost fits = { IsMark };
 
     fn write(&self, to: &mut Vec<u8>) -> Result<(), NoMemory> {
-        let code = if self.protect {
-            self.depth + 8
-        } else {
-            self.depth
-        };
-        write_byte(code, to)
+        write_byte(mark_code(*self), to)
     }
 }
 
