@@ -1,3 +1,4 @@
+pub mod Adds
 pub mod Begins
 pub mod Cases
 pub mod Chains

@@ -15,14 +15,14 @@ abbrev pub zero_operand : Operand
 zero_operand = Const 0
 
 -- a last part
-last : (B : Spellings) (t : List ℕ) → B t → (B ⨾ nothing) t
+pub last : (B : Spellings) (t : List ℕ) → B t → (B ⨾ nothing) t
 last B t h = record { front = t; rest = []; whole = sym (append-nil t); first = h; second = refl }
 
 only_part : (B : Spellings) (t : List ℕ) → (B ⨾ nothing) t → B t
 only_part B t h = subst B (sym (h.whole ∙ ap (λ r. h.front ++ r) h.second ∙ append-nil h.front)) h.first
 
 -- the second of two parts by another
-second_part : (A B C : Spellings) (t : List ℕ) → ((s : List ℕ) → B s → C s) → (A ⨾ B) t → (A ⨾ C) t
+pub second_part : (A B C : Spellings) (t : List ℕ) → ((s : List ℕ) → B s → C s) → (A ⨾ B) t → (A ⨾ C) t
 second_part A B C t along h = record { front = h.front; rest = h.rest; whole = h.whole; first = h.first; second = along h.rest h.second }
 
 -- one operand
@@ -52,7 +52,7 @@ no_two_operands s p = none_via two (operands_of 2) s (λ y t h. ((y.0, y.1.0), s
 abbrev pub three : Operands → Spellings
 three these = operand these.0 ⨾ operand these.1.0 ⨾ operand these.1.1
 
-three_last : (y : Operands) (t : List ℕ) → three y t → (operand y.0 ⨾ operand y.1.0 ⨾ operand y.1.1 ⨾ nothing) t
+pub three_last : (y : Operands) (t : List ℕ) → three y t → (operand y.0 ⨾ operand y.1.0 ⨾ operand y.1.1 ⨾ nothing) t
 three_last y t h = second_part (operand y.0) (operand y.1.0 ⨾ operand y.1.1) (operand y.1.0 ⨾ operand y.1.1 ⨾ nothing) t (λ u. second_part (operand y.1.0) (operand y.1.1) (operand y.1.1 ⨾ nothing) u (λ v. last (operand y.1.1) v)) h
 
 three_only : (y : Operands) (t : List ℕ) → (operand y.0 ⨾ operand y.1.0 ⨾ operand y.1.1 ⨾ nothing) t → three y t

@@ -210,14 +210,11 @@ fn write_operands(
     requires most { count ≤ 3 }
     ensures { OnOk result (Adds (each operand (take count (a ∷ b ∷ c ∷ []))) to.old.items to.new.items) }
 {
-    a.write(to)?;
-    if count > 1 {
-        b.write(to)?;
+    match count {
+        1 => a.write(to),
+        2 => (a, b).write(to),
+        _ => (a, (b, c)).write(to),
     }
-    if count > 2 {
-        c.write(to)?;
-    }
-    Ok(())
 }
 
 /// Appends the fields of a command.

@@ -1,6 +1,5 @@
 //! The parts in front of the commands.
-ghost use Rattle.std.specs.Prelude.{◌<◌, ◌^◌, length};
-ghost use Rattle.bl_image.specs.Writing.{Rises};
+ghost use Rattle.bl_image.specs.Writing.{FunctionFits, MemoryFits};
 ghost use Rattle.bl_image.specs.Image.{global, memory, param, function, export, exports, demand};
 
 use crate::error::ReadError;
@@ -132,7 +131,7 @@ impl Write for ParamDef {
 impl Write for FunctionDef {
     ghost written = { function };
 
-    ghost fits = { λ one. (length one.params < 2 ^ 32) × (length one.results < 2 ^ 32) };
+    ghost fits = { FunctionFits };
 
     fn write(&self, to: &mut Vec<u8>) -> Result<(), NoMemory> {
         self.params.write(to)?;
@@ -158,7 +157,7 @@ impl Write for ExportDef {
 impl Write for MemoryDef {
     ghost written = { memory };
 
-    ghost fits = { λ one. (length one.rows < 2 ^ 32) × Rises (λ row. row.number) 0 one.rows };
+    ghost fits = { MemoryFits };
 
     fn write(&self, to: &mut Vec<u8>) -> Result<(), NoMemory> {
         self.pages.write(to)?;

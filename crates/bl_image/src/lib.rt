@@ -5,6 +5,7 @@ mod command;
 mod decode;
 mod definition;
 mod error;
+mod image;
 mod read;
 mod rising;
 mod value;
@@ -12,3 +13,4 @@ mod write;
 
 pub use decode::decode_image;
 pub use error::ImageError;
+pub use image::encode;

@@ -6,7 +6,7 @@ use Rattle.bl_image.proofs.rising.write_rising.Given as goal
 
 abbrev pub invariant-loop-thing : goal.invariant-loop-thing
 invariant-loop-thing g l = record {
-  so_far : Adds (each_after (λ least x. suc (g.T.Numbered.numbered x)) (λ least x. gap least (g.T.Numbered.numbered x) ⨾ g.T.Numbered.behind x) 0 (take l.thing-index l.thing-items)) l.fn.to.items l.to.items;
-  next : l.least ≡ behind (λ least x. suc (g.T.Numbered.numbered x)) 0 (take l.thing-index l.thing-items);
-  left : Rises g.T.Numbered.numbered l.least (drop l.thing-index l.thing-items);
+  so_far : Adds (each_after (λ least x. suc (g.T.Numbered.numbered x)) (λ least x. gap least (g.T.Numbered.numbered x) ⨾ g.T.Numbered.behind x) 0 (take l.thing-index l.things)) l.fn.to.items l.to.items;
+  next : l.least ≡ behind (λ least x. suc (g.T.Numbered.numbered x)) 0 (take l.thing-index l.things);
+  left : Rises g.T.Numbered.numbered l.least (drop l.thing-index l.things);
 }
