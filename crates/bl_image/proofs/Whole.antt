@@ -55,6 +55,12 @@ to_additions [] [] is t h = absurd (omega arith)
 to_additions [] (w ∷ ws) is t h = h
 to_additions (d ∷ ds) ws is t h = h
 
+-- a version that isn't 1 is 2
+pub to_listed : (ds : List Demand) (ws : List SiteWeight) → (version ds ws ≡ 1 → ⊥) → (t : List ℕ) → (vec demand ds ⨾ weights ws) t → additions ds ws t
+to_listed [] [] never t h = absurd (never refl)
+to_listed [] (w ∷ ws) never t h = h
+to_listed (d ∷ ds) ws never t h = h
+
 from_additions : (ds : List Demand) (ws : List SiteWeight) → version ds ws ≡ 2 → (t : List ℕ) → additions ds ws t → (vec demand ds ⨾ weights ws) t
 from_additions [] [] is t h = absurd (omega arith)
 from_additions [] (w ∷ ws) is t h = h
