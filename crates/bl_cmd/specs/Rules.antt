@@ -1,6 +1,6 @@
 -- The nine rules of well-formed programs, and the first one that is broken.
-use Rattle.std.specs.Prelude.{◌≡◌, ◌≢◌, ◌⊎◌, ◌+◌, ◌*◌, ◌^◌, ◌<◌, ◌≤◌, ℕ, suc, true, IfSome, IsSomeAnd, List, [], ◌∷◌, length, Option, Some, None, slice_get}
-use Rattle.std.specs.List.{All, AllPairs, Contains}
+use Rattle.std.specs.Prelude.{◌≡◌, ◌≢◌, ◌⊎◌, ◌+◌, ◌*◌, ◌^◌, ◌<◌, ◌≤◌, ℕ, suc, true, IfSome, IsSomeAnd, option_map, List, [], ◌∷◌, length, Option, Some, None, slice_get}
+use Rattle.std.specs.List.{All, AllPairs}
 use Rattle.bl_base.specs.declared.names.Label.TheVariants.{Public}
 use Rattle.bl_base.specs.declared.names.ValueType.{ValueType}
 use Rattle.bl_base.specs.declared.names.ValueType.TheVariants.{I32, I64}
@@ -123,18 +123,18 @@ pub record Rule4 (program : Program) (function : ℕ) (command : Command) : Type
 
 -- ---- rule 5: targets
 
--- where a command may go but for the next position, calls and returns
-abbrev pub targets_of : Command → List ℕ
-targets_of (Set mark op to a b c) = []
-targets_of (Load mark kind memory to offset address) = []
-targets_of (Store kind memory offset address value) = []
-targets_of (Test cond one other) = one.0 ∷ other.0 ∷ []
-targets_of (Jump to) = to.0 ∷ []
-targets_of (Arg mark function index value) = []
-targets_of (Call function) = []
-targets_of (Out mark index value) = []
-targets_of Ret = []
-targets_of (Trap kind) = []
+-- the command may go to a position that it names
+abbrev pub GoesTo : Command → ℕ → Type 0
+GoesTo (Set mark op to a b c) position = ⊥
+GoesTo (Load mark kind memory to offset address) position = ⊥
+GoesTo (Store kind memory offset address value) position = ⊥
+GoesTo (Test cond one other) position = (one.0 ≡ position) ⊎ (other.0 ≡ position)
+GoesTo (Jump to) position = to.0 ≡ position
+GoesTo (Arg mark function index value) position = ⊥
+GoesTo (Call function) position = ⊥
+GoesTo (Out mark index value) position = ⊥
+GoesTo Ret position = ⊥
+GoesTo (Trap kind) position = ⊥
 
 -- the command never goes to the next position by itself
 abbrev pub Leaves : Command → Type 0
@@ -151,7 +151,7 @@ Leaves (Trap kind) = Unit {0}
 
 -- targets lie in the same function or are the traps 0 to 6; the last command of a function is a Test, Jump, Ret or Trap
 pub record Rule5 (program : Program) (function position : ℕ) (command : Command) : Type 0 where
-  pub targets : All (λ target. (target < 7) ⊎ Holds program function target) (targets_of command)
+  pub targets : (target : ℕ) → GoesTo command target → (target < 7) ⊎ Holds program function target
   pub last : suc position ≡ entry_of program (suc function) → Leaves command
 
 -- ---- rule 6: numbers in range
@@ -190,12 +190,12 @@ branch x one other = Some (Test (variable x) (record { 0 = one }) (record { 0 = 
 -- a position is no function's entry, and no command goes there but by going on to the next position
 pub record IsPassed (program : Program) (position : ℕ) : Type 0 where
   pub entries : (function : ℕ) → function < length program.functions → entry_of program function ≢ position
-  pub others : (from : ℕ) (command : Command) → command_at program from ≡ Some command → Contains (targets_of command) position → ⊥
+  pub others : (from : ℕ) (command : Command) → command_at program from ≡ Some command → GoesTo command position → ⊥
 
 -- a position is no function's entry, and only the Test before it goes there
 pub record IsGuarded (program : Program) (before position : ℕ) : Type 0 where
   pub entries : (function : ℕ) → function < length program.functions → entry_of program function ≢ position
-  pub others : (from : ℕ) (command : Command) → command_at program from ≡ Some command → Contains (targets_of command) position → from ≡ before
+  pub others : (from : ℕ) (command : Command) → command_at program from ≡ Some command → GoesTo command position → from ≡ before
 
 -- an access: its address, its memory, and how far behind the address it ends
 pub record Reach : Type 0 where
@@ -238,11 +238,17 @@ pub record IsTested (program : Program) (function position : ℕ) (access : Reac
 abbrev pub Rule7 : Program → ℕ → ℕ → Command → Type 0
 Rule7 program function position command = IfSome (reach_of command) (IsTested program function position)
 
--- a Set of a memory's size at a position stands behind the four commands of a growth from `first` on and is its fifth: r is
+-- a Set of a memory's size adds the delta to it
+pub record IsSum (program : Program) (memory : ℕ) (op : Op) (a c : Operand) : Type 0 where
+  pub sum : op ≡ I32Add
+  pub from_size : a ≡ variable (size_of program memory)
+  pub no_third : c ≡ Const 0
+
+-- a Set of a memory's size at a position stands behind the first four commands of a growth by that delta, from `first` on: r is
 -- what the reserve leaves of the size, t whether the delta exceeds it, and `yes` is taken if so; v is the old size. r, t and
 -- v are variables of the function that aren't results and aren't the delta; `yes` is none of the last four positions, and
 -- nothing else comes to them but by going on
-pub record IsGrowth (program : Program) (function position memory : ℕ) (op : Op) (a b c : Operand) : Type 0 where
+pub record IsGrowth (program : Program) (function position memory : ℕ) (delta : Operand) : Type 0 where
   pub first : ℕ
   pub mark_r : Mark
   pub mark_t : Mark
@@ -251,22 +257,19 @@ pub record IsGrowth (program : Program) (function position memory : ℕ) (op : O
   pub t : ℕ
   pub v : ℕ
   pub yes : ℕ
-  pub defined : MemoryDef
+  pub reserve : ℕ
   pub place : position ≡ suc (suc (suc (suc first)))
-  pub exists : slice_get program.memories memory ≡ Some defined
-  pub room : command_at program first ≡ assign mark_r I32Sub r (Const defined.reserve) (variable (size_of program memory)) (Const 0)
-  pub exceeds : command_at program (suc first) ≡ assign mark_t I32GtU t b (variable r) (Const 0)
+  pub reserved : option_map (λ defined. defined.reserve) (slice_get program.memories memory) ≡ Some reserve
+  pub room : command_at program first ≡ assign mark_r I32Sub r (Const reserve) (variable (size_of program memory)) (Const 0)
+  pub exceeds : command_at program (suc first) ≡ assign mark_t I32GtU t delta (variable r) (Const 0)
   pub test : command_at program (suc (suc first)) ≡ branch t yes (suc (suc (suc first)))
   pub old : command_at program (suc (suc (suc first))) ≡ assign mark_v Move v (variable (size_of program memory)) (Const 0) (Const 0)
-  pub sum : op ≡ I32Add
-  pub from_size : a ≡ variable (size_of program memory)
-  pub no_third : c ≡ Const 0
   pub own_r : IsLocal program function r
   pub own_t : IsLocal program function t
   pub own_v : IsLocal program function v
-  pub apart_r : b ≢ variable r
-  pub apart_t : b ≢ variable t
-  pub apart_v : b ≢ variable v
+  pub apart_r : delta ≢ variable r
+  pub apart_t : delta ≢ variable t
+  pub apart_v : delta ≢ variable v
   pub away : yes ≢ suc (suc (suc first))
   pub passed_t : IsPassed program (suc first)
   pub passed_test : IsPassed program (suc (suc first))
@@ -275,7 +278,8 @@ pub record IsGrowth (program : Program) (function position memory : ℕ) (op : O
 
 -- rule 8: only the fifth command of a growth writes a size
 abbrev pub Rule8 : Program → ℕ → ℕ → Command → Type 0
-Rule8 program function position (Set mark op to a b c) = (memory : ℕ) → memory < length program.memories → to.0 ≡ size_of program memory → IsGrowth program function position memory op a b c
+Rule8 program function position (Set mark op to a b c) = (memory : ℕ) → memory < length program.memories → to.0 ≡ size_of program memory
+    → IsSum program memory op a c × IsGrowth program function position memory b
 Rule8 program function position (Load mark kind memory to offset address) = (any : ℕ) → any < length program.memories → to.0 ≡ size_of program any → ⊥
 Rule8 program function position (Store kind memory offset address value) = Unit {0}
 Rule8 program function position (Test cond one other) = Unit {0}

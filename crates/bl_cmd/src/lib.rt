@@ -4,8 +4,14 @@
 
 mod command;
 mod definitions;
+pub mod laws;
+mod parts;
+mod place;
 mod program;
+mod rules;
+mod tables;
 mod verdict;
+mod weights;
 mod wellformed;
 
 pub use command::{Command, Mark, Operand};
@@ -13,6 +19,7 @@ pub use definitions::{
     Demand, ExportDef, FunctionDef, GlobalDef, MemRow, MemoryDef, ParamDef, ProgramParts,
     SiteWeight,
 };
-pub use program::Program;
+pub use program::{Program, arity};
 pub use verdict::{CheckError, check};
+pub use weights::{site_weight, weight};
 pub use wellformed::WellFormed;

@@ -1,0 +1,94 @@
+-- The tables with which a program's commands are checked.
+use Rattle.bl_cmd.specs.Sites.{Names}
+use Rattle.std.specs.Prelude.{◌≡◌, ◌≢◌, ◌⊎◌, ◌<◌, ◌≤◌, ℕ, suc, ◌-◌, List, length, slice_index}
+use Rattle.bl_cmd.specs.Layout.{first_of, entry_of, Holds}
+use Rattle.bl_cmd.specs.Programs.{IsProgram}
+use Rattle.bl_cmd.specs.Rules.{Rule2, IsLocal, IsReadable, IsPassed, IsGuarded, variable}
+use Rattle.bl_cmd.specs.declared.command.Command.{Command}
+use Rattle.bl_cmd.specs.declared.command.Command.TheVariants.{Set, Load, Store, Test, Jump, Arg, Call, Out, Ret, Trap}
+use Rattle.bl_cmd.specs.declared.command.Operand.{Operand}
+use Rattle.bl_cmd.specs.declared.definitions.ProgramParts.{ProgramParts as Program}
+use Rattle.bl_cmd.specs.Entrants.{AreEntrants}
+use Rattle.bl_cmd.specs.declared.tables.Tables.{Tables}
+use Rattle.bl_cmd.specs.declared.place.Place.{Place}
+
+-- the numbers from the front to the end of a list are the values of a function
+pub record AreValues (f : ℕ → ℕ) (count : ℕ) (numbers : List ℕ) : Type 0 where
+  pub len : length numbers ≡ suc count
+  pub each : (i : ℕ) → i ≤ count → slice_index numbers i ≡ f i
+
+-- the tables are those of the program, which keeps rule 2
+pub record AreTables (program : Program) (tables : Tables) : Type 0 where
+  pub facts : IsProgram program
+  pub rule : Rule2 program
+  pub firsts : AreValues (first_of program) (length program.functions) tables.firsts
+  pub entries : AreValues (entry_of program) (length program.functions) tables.entries
+  pub entrants : AreEntrants program.commands tables.entrants
+
+-- a position of a function of a program, with the program's tables
+pub record IsPlace (place : Place) : Type 0 where
+  pub tables : AreTables place.parts.now place.tables.now
+  pub holds : Holds place.parts.now place.function place.position
+
+-- a position is one that the function's commands may go to
+abbrev pub IsTarget : Place → ℕ → Type 0
+IsTarget place target = (target < 7) ⊎ Holds place.parts.now place.function target
+
+-- each target that the command names is one
+abbrev pub HasTargets : Place → Command → Type 0
+HasTargets place (Set mark op to a b c) = Unit {0}
+HasTargets place (Load mark kind memory to offset address) = Unit {0}
+HasTargets place (Store kind memory offset address value) = Unit {0}
+HasTargets place (Test cond one other) = IsTarget place one.0 × IsTarget place other.0
+HasTargets place (Jump to) = IsTarget place to.0
+HasTargets place (Arg mark function index value) = Unit {0}
+HasTargets place (Call function) = Unit {0}
+HasTargets place (Out mark index value) = Unit {0}
+HasTargets place Ret = Unit {0}
+HasTargets place (Trap kind) = Unit {0}
+
+-- the function's commands may read what the operand names
+pub record ReadsOne (place : Place) (operand : Operand) : Type 0 where
+  pub each : (x : ℕ) → Names operand x → IsReadable place.parts.now place.function x
+
+-- they may read what each operand of the command names
+abbrev pub ReadsAll : Place → Command → Type 0
+ReadsAll place (Set mark op to a b c) = ReadsOne place a × ReadsOne place b × ReadsOne place c
+ReadsAll place (Load mark kind memory to offset address) = ReadsOne place address
+ReadsAll place (Store kind memory offset address value) = ReadsOne place address × ReadsOne place value
+ReadsAll place (Test cond one other) = ReadsOne place cond
+ReadsAll place (Jump to) = Unit {0}
+ReadsAll place (Arg mark function index value) = ReadsOne place value
+ReadsAll place (Call function) = Unit {0}
+ReadsAll place (Out mark index value) = ReadsOne place value
+ReadsAll place Ret = Unit {0}
+ReadsAll place (Trap kind) = Unit {0}
+
+-- the test of an access: t is a variable of the function that isn't a result and isn't the address, `yes` isn't
+-- the access, and nothing else comes to the test and the access but by going on
+pub record IsTestedBy (place : Place) (address : Operand) (t yes : ℕ) : Type 0 where
+  pub own : IsLocal place.parts.now place.function t
+  pub apart : address ≢ variable t
+  pub away : yes ≢ place.position
+  pub test_passed : IsPassed place.parts.now (place.position - 1)
+  pub guarded : IsGuarded place.parts.now (place.position - 0 - 1) (place.position - 0)
+
+-- a variable of the function isn't a result and isn't the operand
+pub record IsApart (place : Place) (operand : Operand) (x : ℕ) : Type 0 where
+  pub own : IsLocal place.parts.now place.function x
+  pub apart : operand ≢ variable x
+
+-- nothing comes to the last four commands of a growth but by going on, and by its Test
+pub record IsGrownAlone (place : Place) (yes : ℕ) : Type 0 where
+  pub away : yes ≢ place.position - 1
+  pub passed_t : IsPassed place.parts.now (place.position - 3)
+  pub passed_test : IsPassed place.parts.now (place.position - 2)
+  pub guarded : IsGuarded place.parts.now (place.position - 1 - 1) (place.position - 1)
+  pub passed_size : IsPassed place.parts.now (place.position - 0)
+
+-- the variables of a growth and the other ways to its commands are as they have to be
+pub record IsGrownBy (place : Place) (delta : Operand) (r t v yes : ℕ) : Type 0 where
+  pub first : IsApart place delta r
+  pub second : IsApart place delta t
+  pub third : IsApart place delta v
+  pub alone : IsGrownAlone place yes
