@@ -1,6 +1,6 @@
-use Rattle.std.proofs.Common.{◌+◌, suc, refl, sym, ap, subst, length, arith}
+use Rattle.std.proofs.Common.{rules, ◌+◌, suc, refl, sym, ap, subst, length, arith}
 use Rattle.bl_cmd.specs.declared.command.Command.{Command}
-use Rattle.bl_cmd.specs.Verdicts.{KeepsBelow}
+use Rattle.bl_cmd.specs.Verdicts.{KeepsBelow, IsFaultIn}
 use Rattle.bl_cmd.proofs.Faults.{keeps_begin, keeps_next, keeps_end}
 use Rattle.bl_cmd.proofs.Layouts.{holds_within}
 use Rattle.bl_cmd.proofs.Tabled.{entry_value, holds_between, reads_at}
@@ -32,13 +32,14 @@ returns-in-Some c =
     let holds = holds_between c.args.parts.now c.args.tables.now c.as_slice.result.now c.as_slice-2.result.now c.args.function c.loop-position.position c.requires.tables c.requires.exists
     c.as_slice.ensures c.as_slice-2.ensures c.loop-position.auto.position c.loop-position-test.true in
     let within = holds_within c.args.parts.now c.args.function c.loop-position.position c.requires.tables.facts holds in
-    record {
+    let fault : IsFaultIn c.args.parts.now c.args.function c.in-Some.rule c.loop-position.position = record {
       command = _;
       holds = holds;
       stands = reads_at c.args.parts.now.commands c.as_slice-in-loop-position.result.now c.loop-position.position _ c.as_slice-in-loop-position.ensures within;
       before = c.loop-position.invariant;
       broken = c.in-Some.ensures;
-    }
+    } in
+    search rules
 
 pub returns : goal.returns
 returns c =
