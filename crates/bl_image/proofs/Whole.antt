@@ -2,9 +2,13 @@
 use Rattle.std.proofs.Common.{◌≡◌, ℕ, ◌+◌, ◌<◌, ◌≤◌, zero, suc, List, [], ◌∷◌, ◌++◌, length, take, drop, slice_get, append_assoc, ap, ap₂, sym, ◌∙◌, refl, subst, arith, Option, Some, None, Result, Ok, Err, length-append, length-drop}
 use Rattle.std.specs.Result.{IsErrAnd}
 use Rattle.std.proofs.lemmas.Result.{err_from_is_err_and}
-use Rattle.bl_base.specs.Trap.{trap_of}
+use Rattle.std.proofs.lemmas.Option.{slice_get_within}
+use Rattle.bl_base.specs.Trap.{code_of}
+use Rattle.bl_base.specs.declared.trap.Trap.{Trap as TrapKind}
+use Rattle.bl_base.specs.declared.trap.Trap.TheVariants.{Unreachable, DivideByZero, Overflow, OutOfBounds, UndefinedElement, UninitializedElement, TypeMismatch, StackExhausted}
 use Rattle.bl_cmd.specs.Programs.{IsProgram}
 use Rattle.bl_cmd.specs.declared.command.Command.{Command}
+use Rattle.bl_cmd.specs.declared.command.Command.TheVariants.{Trap}
 use Rattle.bl_cmd.specs.declared.definitions.Demand.{Demand}
 use Rattle.bl_cmd.specs.declared.definitions.FunctionDef.{FunctionDef}
 use Rattle.bl_cmd.specs.declared.definitions.GlobalDef.{GlobalDef}
@@ -86,15 +90,23 @@ begins_with (a ∷ front) (x ∷ xs) same =
     let tail = begins_with front xs (λ i b e. same (suc i) b e) in
     ap₂ (λ y ys. y ∷ ys) head tail
 
+-- the trap of a kind stands at its number
+trap_at : (kind : TrapKind) → code_of kind < 7 → slice_get traps (code_of kind) ≡ Some (Trap kind)
+trap_at Unreachable less = refl
+trap_at DivideByZero less = refl
+trap_at Overflow less = refl
+trap_at OutOfBounds less = refl
+trap_at UndefinedElement less = refl
+trap_at UninitializedElement less = refl
+trap_at TypeMismatch less = refl
+trap_at StackExhausted less = absurd (omega arith)
+
 trap_stands : (program : Program) → IsProgram program → (i : ℕ) (a : Command) → slice_get traps i ≡ Some a → slice_get program.commands i ≡ Some a
-trap_stands program is zero a e = let k = is.traps 0 (omega arith) in let stands = k.2 in let named = k.1 in cc
-trap_stands program is (suc zero) a e = let k = is.traps 1 (omega arith) in let stands = k.2 in let named = k.1 in cc
-trap_stands program is (suc (suc zero)) a e = let k = is.traps 2 (omega arith) in let stands = k.2 in let named = k.1 in cc
-trap_stands program is (suc (suc (suc zero))) a e = let k = is.traps 3 (omega arith) in let stands = k.2 in let named = k.1 in cc
-trap_stands program is (suc (suc (suc (suc zero)))) a e = let k = is.traps 4 (omega arith) in let stands = k.2 in let named = k.1 in cc
-trap_stands program is (suc (suc (suc (suc (suc zero))))) a e = let k = is.traps 5 (omega arith) in let stands = k.2 in let named = k.1 in cc
-trap_stands program is (suc (suc (suc (suc (suc (suc zero)))))) a e = let k = is.traps 6 (omega arith) in let stands = k.2 in let named = k.1 in cc
-trap_stands program is (suc (suc (suc (suc (suc (suc (suc i))))))) a e = absurd (cc)
+trap_stands program is i a e =
+    let less : i < 7 = slice_get_within traps i a e in
+    let k = is.traps i less in
+    let here = trap_at k.0 (subst (λ (j : ℕ). j < 7) (sym k.1) less) in
+    k.2 ∙ sym (subst (λ (j : ℕ). slice_get traps j ≡ Some (Trap k.0)) k.1 here) ∙ e
 
 pub traps_first : (program : Program) → IsProgram program → program.commands ≡ traps ++ drop 7 program.commands
 traps_first program is = begins_with traps program.commands (trap_stands program is)
