@@ -3,6 +3,9 @@ pub mod Begins
 pub mod Cases
 pub mod Chains
 pub mod Fits
+pub mod Images
 pub mod Numbers
 pub mod Operands
+pub mod Prefixes
+pub mod Unique
 pub mod Whole

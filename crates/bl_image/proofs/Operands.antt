@@ -18,7 +18,7 @@ zero_operand = Const 0
 pub last : (B : Spellings) (t : List ℕ) → B t → (B ⨾ nothing) t
 last B t h = record { front = t; rest = []; whole = sym (append-nil t); first = h; second = refl }
 
-only_part : (B : Spellings) (t : List ℕ) → (B ⨾ nothing) t → B t
+pub only_part : (B : Spellings) (t : List ℕ) → (B ⨾ nothing) t → B t
 only_part B t h = subst B (sym (h.whole ∙ ap (λ r. h.front ++ r) h.second ∙ append-nil h.front)) h.first
 
 -- the second of two parts by another
@@ -55,7 +55,7 @@ three these = operand these.0 ⨾ operand these.1.0 ⨾ operand these.1.1
 pub three_last : (y : Operands) (t : List ℕ) → three y t → (operand y.0 ⨾ operand y.1.0 ⨾ operand y.1.1 ⨾ nothing) t
 three_last y t h = second_part (operand y.0) (operand y.1.0 ⨾ operand y.1.1) (operand y.1.0 ⨾ operand y.1.1 ⨾ nothing) t (λ u. second_part (operand y.1.0) (operand y.1.1) (operand y.1.1 ⨾ nothing) u (λ v. last (operand y.1.1) v)) h
 
-three_only : (y : Operands) (t : List ℕ) → (operand y.0 ⨾ operand y.1.0 ⨾ operand y.1.1 ⨾ nothing) t → three y t
+pub three_only : (y : Operands) (t : List ℕ) → (operand y.0 ⨾ operand y.1.0 ⨾ operand y.1.1 ⨾ nothing) t → three y t
 three_only y t h = second_part (operand y.0) (operand y.1.0 ⨾ operand y.1.1 ⨾ nothing) (operand y.1.0 ⨾ operand y.1.1) t (λ u. second_part (operand y.1.0) (operand y.1.1 ⨾ nothing) (operand y.1.1) u (λ v. only_part (operand y.1.1) v)) h
 
 pub three_operands : (s r : List ℕ) (y : Operands) → Begins three s y r → Begins (operands_of 3) s y r
@@ -68,13 +68,13 @@ no_three_operands s p = none_via three (operands_of 3) s (λ z t h. (z, three_on
 abbrev pub set_parts : SetParts → Spellings
 set_parts p = mark p.0 ⨾ operator p.1.0 ⨾ u32 p.1.1.0
 
-abbrev set_spelled : SetParts × Operands → Spellings
+abbrev pub set_spelled : SetParts × Operands → Spellings
 set_spelled p = set_parts p.0 ⨾ operands_of (arity p.0.1.0) p.1
 
 set_to : (p : SetParts × Operands) (t : List ℕ) → set_spelled p t → given (IsCommand (to_set p)) (fields (to_set p)) t
 set_to p t h = (h.second.0, record { front = h.front; rest = h.rest; whole = h.whole; first = h.first; second = h.second.1 })
 
-set_from : (p : SetParts × Operands) (t : List ℕ) → given (IsCommand (to_set p)) (fields (to_set p)) t → set_spelled p t
+pub set_from : (p : SetParts × Operands) (t : List ℕ) → given (IsCommand (to_set p)) (fields (to_set p)) t → set_spelled p t
 set_from p t h = record { front = h.1.front; rest = h.1.rest; whole = h.1.whole; first = h.1.first; second = (h.0, h.1.second) }
 
 pub set_found : (s m r : List ℕ) (p : SetParts) (these : Operands) → Begins set_parts s p m → Begins (operands_of (arity p.1.0)) m these r → Begins (fields_behind 0) s (to_set (p, these)) r

@@ -6,6 +6,7 @@ mod decode;
 mod definition;
 mod error;
 mod image;
+pub mod laws;
 mod read;
 mod rising;
 mod value;
