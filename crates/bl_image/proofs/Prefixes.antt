@@ -1,18 +1,14 @@
 -- No image begins another one, and an image is one program's.
-use Rattle.std.proofs.Common.{◌≡◌, ℕ, ◌+◌, List, [], ◌∷◌, ◌++◌, length, drop, ap, ap₂, sym, ◌∙◌, refl, subst, arith, length-drop, append-nil}
+use Rattle.std.proofs.Common.{◌≡◌, ℕ, ◌+◌, List, [], ◌∷◌, ◌++◌, length, drop, ap, ap₂, sym, ◌∙◌, refl, arith, length-drop, append-nil}
 use Rattle.bl_cmd.specs.Layout.{sum_before}
-use Rattle.bl_cmd.specs.Rules.{IsWellFormed}
 use Rattle.bl_cmd.specs.declared.command.Command.{Command}
 use Rattle.bl_cmd.specs.declared.definitions.Demand.{Demand}
 use Rattle.bl_cmd.specs.declared.definitions.FunctionDef.{FunctionDef}
 use Rattle.bl_cmd.specs.declared.definitions.ProgramParts.{ProgramParts as Program}
 use Rattle.bl_cmd.specs.declared.definitions.SiteWeight.{SiteWeight}
-use Rattle.bl_cmd.proofs.Faults.{unbroken}
 use Rattle.bl_image.specs.Grammar.{exactly, given}
 use Rattle.bl_image.specs.Image.{magic, header, version, additions, command, Image}
-use Rattle.bl_image.specs.Reading.{IsReason, traps}
-use Rattle.bl_image.specs.declared.error.ImageError.{ImageError}
-use Rattle.bl_image.specs.declared.error.ImageError.TheVariants.{NotAnImage, IllFormed, Memory}
+use Rattle.bl_image.specs.Reading.{traps}
 use Rattle.bl_image.proofs.Images.{Defined, defined_parts, definitions_one, listed_parts, listed_one, command_one}
 use Rattle.bl_image.proofs.Unique.{IsUnique, parted, unique_via, unique_from, unique_pair, unique_byte, unique_exactly, each_thing, each_bytes}
 use Rattle.bl_image.proofs.Whole.{traps_first}
@@ -93,11 +89,3 @@ one_image p a b one other =
     let third = j.whole ∙ ap₂ (λ s t. s ++ t) (additions_bytes p.demands p.weights j.front m.front j.first m.first) last ∙ sym m.whole in
     let second = i.whole ∙ ap₂ (λ s t. s ++ t) (definitions_one.bytes (defined_of p) i.front l.front i.first l.first) third ∙ sym l.whole in
     h.whole ∙ ap₂ (λ s t. s ++ t) (header_one.bytes (version p.demands p.weights) h.front k.front h.first k.first) second ∙ sym k.whole
-
--- ---- why nothing is read
-
--- of a well-formed program nothing but want of memory
-pub memory_only : (bytes : List ℕ) (error : ImageError) → IsReason bytes error → (program : Program) → Image program bytes → IsWellFormed program → error ≡ Memory
-memory_only bytes NotAnImage reason program image well = absurd (reason program image)
-memory_only bytes (IllFormed rule position) reason program image well = absurd (unbroken reason.0 rule position.0 (subst IsWellFormed (one_program program reason.0 bytes image reason.1) well) reason.2.broken)
-memory_only bytes Memory reason program image well = refl
