@@ -180,6 +180,7 @@ at_end {A} B start s m all never none p = (
     empty : (t : List ℕ) → length t ≡ 0 → t ≡ []
     empty [] none = refl
     empty (x ∷ t) none = absurd (omega arith)
+
     no_more : (zs : List A) (t : List ℕ) → length t ≡ 0 → each B zs t → zs ≡ []
     no_more [] t none h = refl
     no_more (z ∷ zs) t none h =

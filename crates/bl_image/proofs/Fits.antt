@@ -35,7 +35,7 @@ rises number [] least pairs from = tt
 rises {X} number (x ∷ xs) least pairs from = (
   from 0 x (omega arith),
   rises number xs (suc (number x)) (λ i j d p q. pairs (suc i) (suc j) d (omega arith) (omega arith))
-  (λ j d less. let later : number x < number (slice_index_or xs j d) = pairs 0 (suc j) d (omega arith) (omega arith) in omega arith),
+      (λ j d less. let later : number x < number (slice_index_or xs j d) = pairs 0 (suc j) d (omega arith) (omega arith) in omega arith),
 )
 
 -- and so there are few of them, where their numbers are small

@@ -62,12 +62,12 @@ whole_same p q a b u v one other e =
     let m = l.second in
     let third = additions_thing p.demands p.weights q.demands q.weights j.front m.front (j.rest ++ u) (m.rest ++ v) first.0 j.first m.first (parted i.rest l.rest u v j.front j.rest m.front m.rest second.1 j.whole m.whole) in
     let ends : length p.commands ≡ length q.commands =
-        one.is_program.lengths ∙ ap (λ (d : Defined). 7 + sum_before (λ (f : FunctionDef). f.length) d.1.1.0 (length d.1.1.0)) second.0 ∙ sym other.is_program.lengths in
+    one.is_program.lengths ∙ ap (λ (d : Defined). 7 + sum_before (λ (f : FunctionDef). f.length) d.1.1.0 (length d.1.1.0)) second.0 ∙ sym other.is_program.lengths in
     let long : length (drop 7 p.commands) ≡ length (drop 7 q.commands) = omega (arith, length-drop 7 p.commands, length-drop 7 q.commands) in
     let last = each_thing (λ state x. state) (λ state. command) (λ state. command_one) (tt {0}) (drop 7 p.commands) (drop 7 q.commands) j.rest m.rest u v long j.second m.second third.2 in
     let commands = traps_first p one.is_program ∙ ap (λ cs. traps ++ cs) last.0 ∙ sym (traps_first q other.is_program) in (
       ap (λ d. made_of d p.demands p.weights p.commands) second.0 ∙ ap (λ ds. made_of (defined_of q) ds p.weights p.commands) third.0
-      ∙ ap (λ ws. made_of (defined_of q) q.demands ws p.commands) third.1 ∙ ap (λ cs. made_of (defined_of q) q.demands q.weights cs) commands,
+          ∙ ap (λ ws. made_of (defined_of q) q.demands ws p.commands) third.1 ∙ ap (λ cs. made_of (defined_of q) q.demands q.weights cs) commands,
       last.1,
     )
 

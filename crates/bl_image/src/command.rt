@@ -74,8 +74,10 @@ fn read_load(alloc: Global, bytes: &[u8], at: usize) -> Result<(Command, usize),
     requires { at ≤ length bytes.now }
     ensures { Reads (fields_behind 1) bytes.now at result }
 {
-    let ((mark, (kind, (memory, (to, (offset, address))))), place) =
-        <(Mark, (AccessKind, (u32, (Var, (u32, Operand)))))>::read(alloc, bytes, at)?;
+    let ((mark, (kind, (memory, (to, (offset, address))))), place) = <(
+        Mark,
+        (AccessKind, (u32, (Var, (u32, Operand)))),
+    )>::read(alloc, bytes, at)?;
     if !kind.is_load() {
         return Err(ReadError::NotAnImage);
     }
@@ -94,8 +96,10 @@ fn read_store(alloc: Global, bytes: &[u8], at: usize) -> Result<(Command, usize)
     requires { at ≤ length bytes.now }
     ensures { Reads (fields_behind 2) bytes.now at result }
 {
-    let ((kind, (memory, (offset, (address, value)))), place) =
-        <(AccessKind, (u32, (u32, (Operand, Operand))))>::read(alloc, bytes, at)?;
+    let ((kind, (memory, (offset, (address, value)))), place) = <(
+        AccessKind,
+        (u32, (u32, (Operand, Operand))),
+    )>::read(alloc, bytes, at)?;
     if kind.is_load() {
         return Err(ReadError::NotAnImage);
     }
@@ -129,8 +133,9 @@ fn read_arg(alloc: Global, bytes: &[u8], at: usize) -> Result<(Command, usize), 
     requires { at ≤ length bytes.now }
     ensures { Reads (fields_behind 5) bytes.now at result }
 {
-    let ((mark, (function, (index, value))), place) =
-        <(Mark, (u32, (u32, Operand)))>::read(alloc, bytes, at)?;
+    let ((mark, (function, (index, value))), place) = <(Mark, (u32, (u32, Operand)))>::read(
+        alloc, bytes, at,
+    )?;
     let one = Command::Arg {
         mark,
         function,

@@ -14,8 +14,7 @@ impl Read for GlobalDef {
     ghost spells = { global };
 
     fn read(alloc: Global, bytes: &[u8], at: usize) -> Result<(GlobalDef, usize), ReadError> {
-        let ((kind, (label, first)), place) =
-            <(ValueType, (Label, u64))>::read(alloc, bytes, at)?;
+        let ((kind, (label, first)), place) = <(ValueType, (Label, u64))>::read(alloc, bytes, at)?;
         Ok((GlobalDef { kind, label, first }, place))
     }
 }
@@ -33,8 +32,10 @@ impl Read for FunctionDef {
     ghost spells = { function };
 
     fn read(alloc: Global, bytes: &[u8], at: usize) -> Result<(FunctionDef, usize), ReadError> {
-        let ((params, (results, (vars, length))), place) =
-            <(List<ParamDef>, (List<ValueType>, (u32, u32)))>::read(alloc, bytes, at)?;
+        let ((params, (results, (vars, length))), place) = <(
+            List<ParamDef>,
+            (List<ValueType>, (u32, u32)),
+        )>::read(alloc, bytes, at)?;
         let one = FunctionDef {
             params,
             results,
@@ -72,8 +73,9 @@ impl Read for MemoryDef {
     ghost spells = { memory };
 
     fn read(alloc: Global, bytes: &[u8], at: usize) -> Result<(MemoryDef, usize), ReadError> {
-        let ((pages, (reserve, (label, rows))), place) =
-            <(u32, (u32, (Label, Rows)))>::read(alloc, bytes, at)?;
+        let ((pages, (reserve, (label, rows))), place) = <(u32, (u32, (Label, Rows)))>::read(
+            alloc, bytes, at,
+        )?;
         let one = MemoryDef {
             pages,
             reserve,
