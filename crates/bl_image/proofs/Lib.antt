@@ -1,0 +1,11 @@
+pub mod Adds
+pub mod Begins
+pub mod Cases
+pub mod Chains
+pub mod Fits
+pub mod Images
+pub mod Numbers
+pub mod Operands
+pub mod Prefixes
+pub mod Unique
+pub mod Whole

@@ -1,0 +1,4 @@
+pub mod Grammar
+pub mod Image
+pub mod Reading
+pub mod Writing

@@ -1,0 +1,89 @@
+-- What a reader of a part of an image answers.
+use Rattle.std.specs.Prelude.{◌≡◌, ◌≤◌, ◌<◌, ℕ, List, [], ◌∷◌, ◌++◌, length, take, drop, Result, Ok, Err}
+use Rattle.bl_cmd.specs.Programs.{IsCommand, IsZero}
+use Rattle.bl_cmd.specs.Rules.{IsFirstBroken}
+use Rattle.bl_cmd.specs.declared.command.Command.{Command}
+use Rattle.bl_cmd.specs.declared.command.Command.TheVariants.{Trap}
+use Rattle.bl_cmd.specs.declared.command.Operand.{Operand}
+use Rattle.bl_cmd.specs.declared.definitions.Demand.{Demand}
+use Rattle.bl_base.specs.declared.trap.Trap.TheVariants.{Unreachable, DivideByZero, Overflow, OutOfBounds, UndefinedElement, UninitializedElement, TypeMismatch}
+use Rattle.bl_image.specs.declared.rising.Weights.{Weights}
+use Rattle.bl_cmd.specs.declared.definitions.ProgramParts.{ProgramParts as Program}
+use Rattle.bl_image.specs.Grammar.{Spellings, given, each}
+use Rattle.bl_image.specs.Image.{Image, image, additions, command_code, fields, operand, version}
+use Rattle.bl_image.specs.declared.error.ReadError.{ReadError}
+use Rattle.bl_image.specs.declared.error.ReadError.TheVariants as read_error
+use Rattle.bl_image.specs.declared.error.ImageError.{ImageError}
+use Rattle.bl_image.specs.declared.error.ImageError.TheVariants.{NotAnImage, IllFormed, Memory}
+
+-- bytes begin with a spelling of one thing, behind which a rest stands, and of no other
+pub record Begins {A : Type 0} (B : A → Spellings) (bytes : List ℕ) (x : A) (rest : List ℕ) : Type 0 where
+  pub front : List ℕ
+  pub whole : bytes ≡ front ++ rest
+  pub spelled : B x front
+  pub only : (y : A) (other more : List ℕ) → B y other → bytes ≡ other ++ more → (y ≡ x) × (more ≡ rest)
+
+-- bytes begin with no spelling
+pub record NoneBegins {A : Type 0} (B : A → Spellings) (bytes : List ℕ) : Type 0 where
+  pub none : (y : A) (other more : List ℕ) → B y other → bytes ≡ other ++ more → ⊥
+
+-- why a reader gives nothing: no spelling begins at the place, or there was no memory
+abbrev pub Refuses : {A : Type 0} → (A → Spellings) → List ℕ → ℕ → ReadError → Type 0
+Refuses B bytes start read_error.NotAnImage = NoneBegins B (drop start bytes)
+Refuses B bytes start read_error.Memory = Unit {0}
+
+-- a reader gives the one thing that is spelled from the place on, and the place behind it; or it says why it gives nothing
+abbrev pub Reads : {A : Type 0} → (A → Spellings) → List ℕ → ℕ → Result (A × ℕ) ReadError → Type 0
+Reads B bytes start (Ok found) = (found.1 ≤ length bytes) × Begins B (drop start bytes) found.0 (drop found.1 bytes)
+Reads B bytes start (Err error) = Refuses B bytes start error
+
+-- what is spelled behind its code of a command of that code
+abbrev pub fields_behind : ℕ → Command → Spellings
+fields_behind code one = given (command_code one ≡ code) (given (IsCommand one) (fields one))
+
+-- so many of three operands, of which the others are 0
+abbrev pub operands_of : ℕ → Operand × (Operand × Operand) → Spellings
+operands_of count these =
+    given ((count < 2 → IsZero these.1.0) × (count < 3 → IsZero these.1.1)) (each operand (take count (these.0 ∷ these.1.0 ∷ these.1.1 ∷ [])))
+
+-- demands and weights, of which the image has that version
+abbrev pub additions_of : ℕ → List Demand × Weights → Spellings
+additions_of number both = given (version both.0 both.1.0 ≡ number) (additions both.0 both.1.0)
+
+-- bytes are a spelling of things, one after another, and of no others
+pub record Fills {A : Type 0} (B : A → Spellings) (bytes : List ℕ) (xs : List A) : Type 0 where
+  pub spelled : each B xs bytes
+  pub only : (ys : List A) → each B ys bytes → ys ≡ xs
+
+-- why a reader of all that is left gives nothing
+abbrev pub RefusesAll : {A : Type 0} → (A → Spellings) → List ℕ → ReadError → Type 0
+RefusesAll {A} B bytes read_error.NotAnImage = (ys : List A) → each B ys bytes → ⊥
+RefusesAll B bytes read_error.Memory = Unit {0}
+
+-- a reader of all that is left gives what it spells, behind what it was given
+abbrev pub ReadsAll : {A : Type 0} → (A → Spellings) → List A → List ℕ → Result (List A) ReadError → Type 0
+ReadsAll {A} B start bytes (Ok all) = (xs : List A) × (all ≡ start ++ xs) × Fills B bytes xs
+ReadsAll B start bytes (Err error) = RefusesAll B bytes error
+
+-- the commands at positions 0 to 6
+abbrev pub traps : List Command
+traps =
+    Trap Unreachable ∷ Trap DivideByZero ∷ Trap Overflow ∷ Trap OutOfBounds ∷ Trap UndefinedElement ∷ Trap UninitializedElement ∷ Trap TypeMismatch ∷ []
+
+-- bytes are an image of the parts, if they are a program's, and of no other program
+pub record Spells (bytes : List ℕ) (parts : Program) : Type 0 where
+  pub spelled : image parts bytes
+  pub only : (program : Program) → Image program bytes → program ≡ parts
+
+-- a reader of a whole image gives the parts of the one program that it may be of
+abbrev pub ReadsProgram : List ℕ → Result Program ReadError → Type 0
+ReadsProgram bytes (Ok parts) = Spells bytes parts
+ReadsProgram bytes (Err read_error.NotAnImage) = (program : Program) → Image program bytes → ⊥
+ReadsProgram bytes (Err read_error.Memory) = Unit {0}
+
+-- why bytes give no well-formed program: no program has these bytes; or one has them, and that is the first rule that it
+-- breaks; or there was no memory
+abbrev pub IsReason : List ℕ → ImageError → Type 0
+IsReason bytes NotAnImage = (program : Program) → Image program bytes → ⊥
+IsReason bytes (IllFormed rule position) = (program : Program) × Image program bytes × IsFirstBroken rule position.0 program
+IsReason bytes Memory = Unit {0}

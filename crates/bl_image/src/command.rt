@@ -1,0 +1,300 @@
+//! Commands.
+ghost use Rattle.std.specs.Prelude.{◌≡◌, ◌≤◌, [], ◌∷◌, take, length, OnOk};
+ghost use Rattle.bl_cmd.specs.Programs.{arity};
+ghost use Rattle.bl_image.specs.Grammar.{each};
+ghost use Rattle.bl_image.specs.Image.{command, command_code, fields, operand};
+ghost use Rattle.bl_image.specs.Reading.{Reads, fields_behind, operands_of};
+ghost use Rattle.bl_image.specs.Writing.{Adds, CommandFits};
+
+use crate::error::ReadError;
+use crate::read::{Read, read_byte, read_u32};
+use crate::write::{Write, write_byte};
+use bl_base::{NoMemory, Pos, Trap, Var};
+use bl_cmd::{Command, Mark, Operand};
+use bl_ops::{AccessKind, Op, row};
+use std::alloc::Global;
+
+/// What stands for an operand that an operator doesn't take.
+const ZERO: Operand = Operand::Const(0);
+
+/// How many operands an operator takes: 1 to 3.
+fn arity_of(op: Op) -> u8
+    ensures { result ≡ arity op }
+{
+    match row(op) {
+        Some(row) => row.operands,
+        None if op == Op::Move => 1,
+        None => 3,
+    }
+}
+
+/// Reads so many operands; the others are 0. NotAnImage for another count than 1 to 3.
+fn read_operands(
+    count: u8,
+    alloc: Global,
+    bytes: &[u8],
+    at: usize,
+) -> Result<((Operand, (Operand, Operand)), usize), ReadError>
+    requires place { at ≤ length bytes.now }
+    requires some { 1 ≤ count }
+    requires most { count ≤ 3 }
+    ensures { Reads (operands_of count) bytes.now at result }
+{
+    match count {
+        1 => {
+            let (a, place) = Operand::read(alloc, bytes, at)?;
+            Ok(((a, (ZERO, ZERO)), place))
+        }
+        2 => {
+            let ((a, b), place) = <(Operand, Operand)>::read(alloc, bytes, at)?;
+            Ok(((a, (b, ZERO)), place))
+        }
+        _ => <(Operand, (Operand, Operand))>::read(alloc, bytes, at),
+    }
+}
+
+fn read_set(alloc: Global, bytes: &[u8], at: usize) -> Result<(Command, usize), ReadError>
+    requires { at ≤ length bytes.now }
+    ensures { Reads (fields_behind 0) bytes.now at result }
+{
+    let ((mark, (op, to)), place) = <(Mark, (Op, Var))>::read(alloc, bytes, at)?;
+    let ((a, (b, c)), end) = read_operands(arity_of(op), alloc, bytes, place)?;
+    let one = Command::Set {
+        mark,
+        op,
+        to,
+        a,
+        b,
+        c,
+    };
+    Ok((one, end))
+}
+
+fn read_load(alloc: Global, bytes: &[u8], at: usize) -> Result<(Command, usize), ReadError>
+    requires { at ≤ length bytes.now }
+    ensures { Reads (fields_behind 1) bytes.now at result }
+{
+    let ((mark, (kind, (memory, (to, (offset, address))))), place) = <(
+        Mark,
+        (AccessKind, (u32, (Var, (u32, Operand)))),
+    )>::read(alloc, bytes, at)?;
+    if !kind.is_load() {
+        return Err(ReadError::NotAnImage);
+    }
+    let one = Command::Load {
+        mark,
+        kind,
+        memory,
+        to,
+        offset,
+        address,
+    };
+    Ok((one, place))
+}
+
+fn read_store(alloc: Global, bytes: &[u8], at: usize) -> Result<(Command, usize), ReadError>
+    requires { at ≤ length bytes.now }
+    ensures { Reads (fields_behind 2) bytes.now at result }
+{
+    let ((kind, (memory, (offset, (address, value)))), place) = <(
+        AccessKind,
+        (u32, (u32, (Operand, Operand))),
+    )>::read(alloc, bytes, at)?;
+    if kind.is_load() {
+        return Err(ReadError::NotAnImage);
+    }
+    let one = Command::Store {
+        kind,
+        memory,
+        offset,
+        address,
+        value,
+    };
+    Ok((one, place))
+}
+
+fn read_test(alloc: Global, bytes: &[u8], at: usize) -> Result<(Command, usize), ReadError>
+    requires { at ≤ length bytes.now }
+    ensures { Reads (fields_behind 3) bytes.now at result }
+{
+    let ((cond, (yes, no)), place) = <(Operand, (Pos, Pos))>::read(alloc, bytes, at)?;
+    Ok((Command::Test { cond, yes, no }, place))
+}
+
+fn read_jump(alloc: Global, bytes: &[u8], at: usize) -> Result<(Command, usize), ReadError>
+    requires { at ≤ length bytes.now }
+    ensures { Reads (fields_behind 4) bytes.now at result }
+{
+    let (to, place) = Pos::read(alloc, bytes, at)?;
+    Ok((Command::Jump { to }, place))
+}
+
+fn read_arg(alloc: Global, bytes: &[u8], at: usize) -> Result<(Command, usize), ReadError>
+    requires { at ≤ length bytes.now }
+    ensures { Reads (fields_behind 5) bytes.now at result }
+{
+    let ((mark, (function, (index, value))), place) = <(Mark, (u32, (u32, Operand)))>::read(
+        alloc, bytes, at,
+    )?;
+    let one = Command::Arg {
+        mark,
+        function,
+        index,
+        value,
+    };
+    Ok((one, place))
+}
+
+fn read_call(bytes: &[u8], at: usize) -> Result<(Command, usize), ReadError>
+    requires { at ≤ length bytes.now }
+    ensures { Reads (fields_behind 6) bytes.now at result }
+{
+    let (function, place) = read_u32(bytes, at)?;
+    Ok((Command::Call { function }, place))
+}
+
+fn read_out(alloc: Global, bytes: &[u8], at: usize) -> Result<(Command, usize), ReadError>
+    requires { at ≤ length bytes.now }
+    ensures { Reads (fields_behind 7) bytes.now at result }
+{
+    let ((mark, (index, value)), place) = <(Mark, (u32, Operand))>::read(alloc, bytes, at)?;
+    Ok((Command::Out { mark, index, value }, place))
+}
+
+fn read_trap(alloc: Global, bytes: &[u8], at: usize) -> Result<(Command, usize), ReadError>
+    requires { at ≤ length bytes.now }
+    ensures { Reads (fields_behind 9) bytes.now at result }
+{
+    let (kind, place) = Trap::read(alloc, bytes, at)?;
+    Ok((Command::Trap { kind }, place))
+}
+
+/// Reads the fields of a command of that code.
+fn read_fields(
+    code: u8,
+    alloc: Global,
+    bytes: &[u8],
+    at: usize,
+) -> Result<(Command, usize), ReadError>
+    requires { at ≤ length bytes.now }
+    ensures { Reads (fields_behind code) bytes.now at result }
+{
+    match code {
+        0x00 => read_set(alloc, bytes, at),
+        0x01 => read_load(alloc, bytes, at),
+        0x02 => read_store(alloc, bytes, at),
+        0x03 => read_test(alloc, bytes, at),
+        0x04 => read_jump(alloc, bytes, at),
+        0x05 => read_arg(alloc, bytes, at),
+        0x06 => read_call(bytes, at),
+        0x07 => read_out(alloc, bytes, at),
+        0x08 => Ok((Command::Ret, at)),
+        0x09 => read_trap(alloc, bytes, at),
+        _ => Err(ReadError::NotAnImage),
+    }
+}
+
+impl Read for Command {
+    ghost spells = { command };
+
+    fn read(alloc: Global, bytes: &[u8], at: usize) -> Result<(Command, usize), ReadError> {
+        let (code, place) = read_byte(bytes, at)?;
+        read_fields(code, alloc, bytes, place)
+    }
+}
+
+/// Appends the operands of a Set: as many as its operator takes.
+fn write_operands(
+    count: u8,
+    a: Operand,
+    b: Operand,
+    c: Operand,
+    to: &mut Vec<u8>,
+) -> Result<(), NoMemory>
+    requires some { 1 ≤ count }
+    requires most { count ≤ 3 }
+    ensures { OnOk result (Adds (each operand (take count (a ∷ b ∷ c ∷ []))) to.old.items to.new.items) }
+{
+    match count {
+        1 => a.write(to),
+        2 => (a, b).write(to),
+        _ => (a, (b, c)).write(to),
+    }
+}
+
+/// Appends the fields of a command.
+fn write_fields(one: Command, to: &mut Vec<u8>) -> Result<(), NoMemory>
+    requires { CommandFits one }
+    ensures { OnOk result (Adds (fields one) to.old.items to.new.items) }
+{
+    match one {
+        Command::Set {
+            mark,
+            op,
+            to: variable,
+            a,
+            b,
+            c,
+        } => {
+            (mark, (op, variable)).write(to)?;
+            write_operands(arity_of(op), a, b, c, to)
+        }
+        Command::Load {
+            mark,
+            kind,
+            memory,
+            to: variable,
+            offset,
+            address,
+        } => (mark, (kind, (memory, (variable, (offset, address))))).write(to),
+        Command::Store {
+            kind,
+            memory,
+            offset,
+            address,
+            value,
+        } => (kind, (memory, (offset, (address, value)))).write(to),
+        Command::Test { cond, yes, no } => (cond, (yes, no)).write(to),
+        Command::Jump { to: position } => position.write(to),
+        Command::Arg {
+            mark,
+            function,
+            index,
+            value,
+        } => (mark, (function, (index, value))).write(to),
+        Command::Call { function } => function.write(to),
+        Command::Out { mark, index, value } => (mark, (index, value)).write(to),
+        Command::Ret => Ok(()),
+        Command::Trap { kind } => kind.write(to),
+    }
+}
+
+/// The code of a command.
+fn code_of(one: Command) -> u8
+    ensures { result ≡ command_code one }
+{
+    match one {
+        Command::Set { .. } => 0x00,
+        Command::Load { .. } => 0x01,
+        Command::Store { .. } => 0x02,
+        Command::Test { .. } => 0x03,
+        Command::Jump { .. } => 0x04,
+        Command::Arg { .. } => 0x05,
+        Command::Call { .. } => 0x06,
+        Command::Out { .. } => 0x07,
+        Command::Ret => 0x08,
+        Command::Trap { .. } => 0x09,
+    }
+}
+
+impl Write for Command {
+    ghost written = { command };
+
+    ghost fits = { CommandFits };
+
+    fn write(&self, to: &mut Vec<u8>) -> Result<(), NoMemory> {
+        write_byte(code_of(*self), to)?;
+        write_fields(*self, to)?;
+        Ok(())
+    }
+}

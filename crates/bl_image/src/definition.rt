@@ -1,0 +1,191 @@
+//! The parts in front of the commands.
+ghost use Rattle.bl_image.specs.Writing.{FunctionFits, MemoryFits};
+ghost use Rattle.bl_image.specs.Image.{global, memory, param, function, export, exports, demand};
+
+use crate::error::ReadError;
+use crate::read::{Read, read_byte, read_each, read_u32, read_u64};
+use crate::rising::{Rows, write_numbered};
+use crate::write::{Write, write_byte, write_u64};
+use bl_base::{Label, List, NoMemory, Text, ValueType};
+use bl_cmd::{Demand, ExportDef, FunctionDef, GlobalDef, MemoryDef, ParamDef};
+use std::alloc::Global;
+
+impl Read for GlobalDef {
+    ghost spells = { global };
+
+    fn read(alloc: Global, bytes: &[u8], at: usize) -> Result<(GlobalDef, usize), ReadError> {
+        let ((kind, (label, first)), place) = <(ValueType, (Label, u64))>::read(alloc, bytes, at)?;
+        Ok((GlobalDef { kind, label, first }, place))
+    }
+}
+
+impl Read for ParamDef {
+    ghost spells = { param };
+
+    fn read(alloc: Global, bytes: &[u8], at: usize) -> Result<(ParamDef, usize), ReadError> {
+        let ((kind, label), place) = <(ValueType, Label)>::read(alloc, bytes, at)?;
+        Ok((ParamDef { kind, label }, place))
+    }
+}
+
+impl Read for FunctionDef {
+    ghost spells = { function };
+
+    fn read(alloc: Global, bytes: &[u8], at: usize) -> Result<(FunctionDef, usize), ReadError> {
+        let ((params, (results, (vars, length))), place) = <(
+            List<ParamDef>,
+            (List<ValueType>, (u32, u32)),
+        )>::read(alloc, bytes, at)?;
+        let one = FunctionDef {
+            params,
+            results,
+            vars,
+            length,
+        };
+        Ok((one, place))
+    }
+}
+
+impl Read for ExportDef {
+    ghost spells = { export };
+
+    fn read(alloc: Global, bytes: &[u8], at: usize) -> Result<(ExportDef, usize), ReadError> {
+        let ((name, function), place) = <(Text, u32)>::read(alloc, bytes, at)?;
+        Ok((ExportDef { name, function }, place))
+    }
+}
+
+/// The exports of a program.
+#[derive(Drop)]
+pub struct Exports(pub List<ExportDef>);
+
+impl Read for Exports {
+    ghost spells = { λ these. exports these.0 };
+
+    fn read(alloc: Global, bytes: &[u8], at: usize) -> Result<(Exports, usize), ReadError> {
+        let (count, place) = read_u64(bytes, at)?;
+        let (these, end) = read_each::<ExportDef>(alloc, bytes, place, count)?;
+        Ok((Exports(these), end))
+    }
+}
+
+impl Read for MemoryDef {
+    ghost spells = { memory };
+
+    fn read(alloc: Global, bytes: &[u8], at: usize) -> Result<(MemoryDef, usize), ReadError> {
+        let ((pages, (reserve, (label, rows))), place) = <(u32, (u32, (Label, Rows)))>::read(
+            alloc, bytes, at,
+        )?;
+        let one = MemoryDef {
+            pages,
+            reserve,
+            label,
+            rows: rows.0,
+        };
+        Ok((one, place))
+    }
+}
+
+impl Read for Demand {
+    ghost spells = { demand };
+
+    fn read(alloc: Global, bytes: &[u8], at: usize) -> Result<(Demand, usize), ReadError> {
+        let (code, place) = read_byte(bytes, at)?;
+        match code {
+            0x00 => {
+                let ((function, index), end) = <(u32, u32)>::read(alloc, bytes, place)?;
+                Ok((Demand::Result { function, index }, end))
+            }
+            0x01 => {
+                let (global, end) = read_u32(bytes, place)?;
+                Ok((Demand::Global(global), end))
+            }
+            _ => Err(ReadError::NotAnImage),
+        }
+    }
+}
+
+impl Write for GlobalDef {
+    ghost written = { global };
+
+    ghost fits = { λ _. Unit {0} };
+
+    fn write(&self, to: &mut Vec<u8>) -> Result<(), NoMemory> {
+        self.kind.write(to)?;
+        self.label.write(to)?;
+        write_u64(self.first, to)?;
+        Ok(())
+    }
+}
+
+impl Write for ParamDef {
+    ghost written = { param };
+
+    ghost fits = { λ _. Unit {0} };
+
+    fn write(&self, to: &mut Vec<u8>) -> Result<(), NoMemory> {
+        self.kind.write(to)?;
+        self.label.write(to)?;
+        Ok(())
+    }
+}
+
+impl Write for FunctionDef {
+    ghost written = { function };
+
+    ghost fits = { FunctionFits };
+
+    fn write(&self, to: &mut Vec<u8>) -> Result<(), NoMemory> {
+        self.params.write(to)?;
+        self.results.write(to)?;
+        self.vars.write(to)?;
+        self.length.write(to)?;
+        Ok(())
+    }
+}
+
+impl Write for ExportDef {
+    ghost written = { export };
+
+    ghost fits = { λ _. Unit {0} };
+
+    fn write(&self, to: &mut Vec<u8>) -> Result<(), NoMemory> {
+        self.name.write(to)?;
+        self.function.write(to)?;
+        Ok(())
+    }
+}
+
+impl Write for MemoryDef {
+    ghost written = { memory };
+
+    ghost fits = { MemoryFits };
+
+    fn write(&self, to: &mut Vec<u8>) -> Result<(), NoMemory> {
+        self.pages.write(to)?;
+        self.reserve.write(to)?;
+        self.label.write(to)?;
+        write_numbered(&self.rows, to)?;
+        Ok(())
+    }
+}
+
+impl Write for Demand {
+    ghost written = { demand };
+
+    ghost fits = { λ _. Unit {0} };
+
+    fn write(&self, to: &mut Vec<u8>) -> Result<(), NoMemory> {
+        match *self {
+            Demand::Result { function, index } => {
+                write_byte(0x00, to)?;
+                (function, index).write(to)?;
+            }
+            Demand::Global(global) => {
+                write_byte(0x01, to)?;
+                global.write(to)?;
+            }
+        }
+        Ok(())
+    }
+}
