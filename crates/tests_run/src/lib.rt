@@ -1,0 +1,7 @@
+//! Tests of linking and running by the public calls, from the bytes of a module on.
+#![tactic(auto)]
+
+#[cfg(test)]
+mod link;
+#[cfg(test)]
+mod machine;
