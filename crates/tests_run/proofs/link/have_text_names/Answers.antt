@@ -4,7 +4,7 @@ use Rattle.std.specs.Str.{IsUtf8}
 use Rattle.std.proofs.lemmas.List.{take_all}
 use Rattle.std.proofs.lemmas.List.Elements.{All-more}
 use Rattle.bl_wasm.specs.declared.module.Export.{Export}
-use Rattle.tests_front.proofs.link.have_text_names.Goals as goal
+use Rattle.tests_run.proofs.link.have_text_names.Goals as goal
 
 abbrev HasText : Export → Type 0
 HasText entry = IsUtf8 entry.name

@@ -11,7 +11,7 @@ use Rattle.bl_wasm.specs.declared.module.Code.{Code}
 use Rattle.bl_wasm.specs.declared.module.Export.{Export}
 use Rattle.bl_wasm.specs.declared.module.LocalRun.{LocalRun}
 use Rattle.bl_link.proofs.Contexts.{none_imported}
-use Rattle.tests_front.proofs.link.is_alone.Goals as goal
+use Rattle.tests_run.proofs.link.is_alone.Goals as goal
 
 few_params : (types : List FuncType) (index : ℕ) → All (λ type. length type.params ≤ 100) types → param_count (slice_get types index) ≤ 100
 few_params types index short = from (slice_get types index) (λ type found. all_get (λ (t : FuncType). length t.params ≤ 100) types index type short found)
