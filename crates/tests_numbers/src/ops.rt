@@ -803,7 +803,11 @@ fn operators_of_an_image(rt: HostRuntime) -> Result<(), Fail> {
     assert_eq!(rt; eval(Op::Outside, 65_533, 1, 4), 1);
     assert_eq!(rt; eval(Op::Outside, 0xFFFF_FFFF, 65_536, 0x1_0000_0008), 1);
     for one in table().rows {
-        assert_eq!(rt; by_code(one.code).and_then(row), Some(one));
+        let found = match by_code(one.code) {
+            Some(op) => row(op),
+            None => None,
+        };
+        assert_eq!(rt; found, Some(one));
     }
     Ok(())
 }
