@@ -1,0 +1,136 @@
+//! The machine before the first step.
+ghost use Rattle.std.specs.Prelude.{◌≡◌, ◌≤◌, ◌++◌, ◌∷◌, [], IfOk, OnOk, length, map, Some, slice_get};
+ghost use Rattle.std.specs.List.{All};
+ghost use Rattle.bl_base.specs.Bytes.{patched};
+ghost use Rattle.bl_cmd.specs.Outcomes.{IsStart, first_memories, first_memory, first_registers, opening, padded, space_of};
+ghost use Rattle.bl_cmd.specs.Rules.{IsMemory};
+ghost use Rattle.bl_seq.specs.Layouts.{IsLayout};
+ghost use Rattle.bl_seq.specs.Machines.{shown};
+
+use crate::chain::Chain;
+use crate::layout::Layout;
+use crate::machine::Machine;
+use crate::registers::Registers;
+use crate::space::Space;
+use bl_base::{NoMemory, Patch, Start};
+use bl_cmd::{MemoryDef, ProgramParts};
+use std::alloc::Global;
+use std::marker::Model;
+
+/// A memory's first contents. Contracts see them as a memory's state.
+#[derive(Debug, Drop)]
+struct Contents {
+    pages: u32,
+    space: Space,
+}
+
+impl Model for Contents {
+    ghost use Rattle.bl_base.specs.Runs.{MemoryState};
+
+    ghost Value = { MemoryState };
+
+    ghost view = { λ contents. record { pages = contents.pages; bytes = contents.space } };
+}
+
+/// The machine at a function's entry with the arguments of the start.
+pub fn begin(
+    alloc: Global,
+    layout: &Layout,
+    function: u32,
+    start: &Start,
+) -> Result<Machine, NoMemory>
+    requires layout { IsLayout layout.now }
+    requires start { IsStart layout.now.parts.now function start.now }
+    ensures { IfOk result (λ machine. shown machine ≡ opening layout.now.parts.now function start.now) }
+{
+    let frame = layout.frame(function);
+    let parts = layout.parts;
+    let mut registers = Registers::new(alloc);
+    registers.write_all(alloc, 0, 0, &first_statics(alloc, parts)?)?;
+    registers.write_all(alloc, 1, frame.first, start.args.as_slice())?;
+    let memories = first_memories(alloc, parts, start)?;
+    Ok(Machine {
+        position: frame.entry,
+        chain: Chain::new(alloc),
+        registers,
+        space: space_of(alloc, parts.memories.as_slice(), &memories)?,
+    })
+}
+
+/// The first values of the globals and the first sizes.
+fn first_statics(alloc: Global, parts: &ProgramParts) -> Result<Vec<u64>, NoMemory>
+    ensures { IfOk result (λ numbers. numbers.items ≡ map (λ global. global.first) parts.now.globals ++ map (λ memory. memory.pages) parts.now.memories) }
+{
+    let mut numbers = Vec::new(alloc);
+    for global in parts.globals.as_slice() {
+        numbers.push(global.first)?;
+    }
+    for memory in parts.memories.as_slice() {
+        numbers.push(u64::from(memory.pages))?;
+    }
+    Ok(numbers)
+}
+
+/// The first contents of the memories, with the patches of the start.
+fn first_memories(
+    alloc: Global,
+    parts: &ProgramParts,
+    start: &Start,
+) -> Result<Vec<Contents>, NoMemory>
+    requires { All IsMemory parts.now.memories }
+    ensures { IfOk result (λ memories. memories.items ≡ first_memories parts.now start.now) }
+{
+    let mut memories = Vec::new(alloc);
+    for memory in parts.memories.as_slice() {
+        memories.push(first_memory(alloc, memory)?)?;
+    }
+    for patch in start.patches.as_slice() {
+        patch_memory(&mut memories, patch);
+    }
+    Ok(memories)
+}
+
+/// A memory before the patches.
+fn first_memory(alloc: Global, memory: &MemoryDef) -> Result<Contents, NoMemory>
+    requires { IsMemory memory.now }
+    ensures { IfOk result (λ contents. contents ≡ first_memory memory.now) }
+{
+    let mut space = Space::new(alloc);
+    space.push_zeros(memory.pages as usize * 65_536)?;
+    for row in memory.rows.as_slice() {
+        space.overlay(row.number as usize * 16, &row.bytes);
+    }
+    Ok(Contents {
+        pages: memory.pages,
+        space,
+    })
+}
+
+/// Writes a patch over the memory that it names.
+fn patch_memory(memories: &mut Vec<Contents>, patch: &Patch)
+    ensures { memories.new.items ≡ patched memories.old.items patch.now }
+{
+    let number = patch.memory as usize;
+    if number < memories.len() {
+        memories[number]
+            .space
+            .overlay(patch.offset as usize, patch.bytes.as_slice());
+    }
+}
+
+/// The memories one after another, each with room for its reserve.
+fn space_of(
+    alloc: Global,
+    memories: &[MemoryDef],
+    contents: &[Contents],
+) -> Result<Space, NoMemory>
+    ensures { IfOk result (λ space. space ≡ space_of memories.now contents.now) }
+{
+    let mut space = Space::new(alloc);
+    for (memory, contents) in memories.iter().zip(contents) {
+        let room = memory.reserve as usize * 65_536;
+        space.push_all(contents.space.as_slice())?;
+        space.push_zeros(room.saturating_sub(contents.space.len()))?;
+    }
+    Ok(space)
+}
