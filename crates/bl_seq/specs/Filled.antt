@@ -1,9 +1,10 @@
 -- Registers as lists of lists that are filled as far as they were written.
-use Rattle.std.specs.Prelude.{ℕ, suc, ◌+◌, ◌-◌, ◌*◌, ◌/◌, ◌%◌, ◌==◌, ◌&&◌, nat_le, nat_lt, if◌then◌else◌, List, [], ◌∷◌, ◌++◌, length, replicate, set, slice_index, slice_index_or}
+use Rattle.std.specs.Prelude.{ℕ, suc, ◌+◌, ◌-◌, ◌/◌, ◌%◌, List, [], ◌∷◌, ◌++◌, length, replicate, set, slice_index, slice_index_or}
+use Rattle.bl_cmd.specs.Steps.{written}
 
 -- a list with an item put at a place; what it lacked before that place is blank
 abbrev pub put : {A : Type 0} → A → List A → ℕ → A → List A
-put blank list place item = set (list ++ replicate (suc place - length list) blank) place item
+put blank list place item = set (list ++ replicate (place + 1 - length list) blank) place item
 
 -- the numbers of a depth: by a variable's number divided by 2^20, by the next ten bits of it, and by the last ten
 abbrev pub Tree : Type 0
@@ -23,7 +24,7 @@ abbrev pub in_tree : Tree → ℕ → ℕ
 in_tree tree x = slice_index (slice_index_or (slice_index_or tree (branch_of x) []) (leaf_of x) []) (cell_of x)
 
 -- the numbers with another one of a variable
-abbrev pub put_in : Tree → ℕ → ℕ → Tree
+unfoldable pub put_in : Tree → ℕ → ℕ → Tree
 put_in tree x value =
     let branch = slice_index_or tree (branch_of x) [] in
     let leaf = slice_index_or branch (leaf_of x) [] in
@@ -35,5 +36,5 @@ register_at file depth x = in_tree (slice_index_or file depth []) x
 
 -- the registers with numbers written at a depth from a variable on
 abbrev pub filled : (ℕ → ℕ → ℕ) → ℕ → ℕ → List ℕ → ℕ → ℕ → ℕ
-filled registers depth from values d v =
-    if d == depth && (nat_le from v && nat_lt v (from + length values)) then slice_index values (v - from) else registers d v
+filled registers depth from [] = registers
+filled registers depth from (number ∷ numbers) = filled (written registers depth from number) depth (suc from) numbers

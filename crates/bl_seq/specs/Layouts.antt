@@ -1,6 +1,6 @@
 -- What is known of a program before a run.
-use Rattle.std.specs.Prelude.{◌≡◌, ℕ, suc, ◌+◌, ◌-◌, ◌*◌, ◌<◌, ◌≤◌, List, length, slice_get, slice_index, Some}
-use Rattle.bl_cmd.specs.Layout.{statics, sum_before, holding, first_of, entry_of, params_of, results_of}
+use Rattle.std.specs.Prelude.{◌≡◌, ℕ, zero, suc, ◌+◌, ◌*◌, List, [], ◌∷◌, ◌++◌, length, replicate}
+use Rattle.bl_cmd.specs.Layout.{statics, first_of, entry_of, params_of, results_of}
 use Rattle.bl_cmd.specs.Programs.{IsProgram}
 use Rattle.bl_cmd.specs.Rules.{IsWellFormed}
 use Rattle.bl_cmd.specs.declared.definitions.FunctionDef.{FunctionDef}
@@ -9,7 +9,7 @@ use Rattle.bl_cmd.specs.declared.definitions.ProgramParts.{ProgramParts as Progr
 use Rattle.bl_seq.specs.declared.layout.Frame.{Frame}
 use Rattle.bl_seq.specs.declared.layout.Layout.{Layout}
 
--- what stands of a function
+-- what is known of a function
 abbrev pub frame_of : Program → ℕ → Frame
 frame_of program function = record {
   entry = entry_of program function;
@@ -18,26 +18,28 @@ frame_of program function = record {
   results = results_of program function;
 }
 
--- the functions by their numbers, and one behind them
-pub record AreFrames (program : Program) (frames : List Frame) : Type 0 where
-  pub len : length frames ≡ suc (length program.functions)
-  pub each : (function : ℕ) → function ≤ length program.functions → slice_get frames function ≡ Some (frame_of program function)
+-- functions whose commands and variables begin there, and behind them one that has none
+abbrev pub frames_from : ℕ → ℕ → List FunctionDef → List Frame
+frames_from entry first [] = record { entry = entry; first = first; params = 0; results = 0 } ∷ []
+frames_from entry first (function ∷ functions) =
+    record { entry = entry; first = first; params = length function.params; results = length function.results }
+    ∷ frames_from (entry + function.length) (first + function.vars) functions
 
--- the function that holds each position that is a trap's or a function's
-pub record AreOwners (functions : List FunctionDef) (owners : List ℕ) : Type 0 where
-  pub len : length owners ≡ 7 + sum_before (λ f. f.length) functions (length functions)
-  pub each : (position : ℕ) → position < length owners → slice_index owners position ≡ holding (λ f. f.length) functions (position - 7)
+-- for each position of functions the number of the one that holds it, where the first one has that number
+abbrev pub owners_from : ℕ → List FunctionDef → List ℕ
+owners_from number [] = []
+owners_from number (function ∷ functions) = replicate function.length number ++ owners_from (number + 1) functions
 
--- where each memory begins, and the end of all
-pub record AreBases (memories : List MemoryDef) (bases : List ℕ) : Type 0 where
-  pub len : length bases ≡ suc (length memories)
-  pub each : (memory : ℕ) → memory ≤ length memories → slice_index bases memory ≡ sum_before (λ m. m.reserve * 65536) memories memory
+-- where memories end that begin there
+abbrev pub ends_from : ℕ → List MemoryDef → List ℕ
+ends_from base [] = []
+ends_from base (memory ∷ memories) = (base + memory.reserve * 65536) ∷ ends_from (base + memory.reserve * 65536) memories
 
 -- the layout is its program's, which is well-formed
 pub record IsLayout (layout : Layout) : Type 0 where
   pub facts : IsProgram layout.parts.now
   pub rules : IsWellFormed layout.parts.now
   pub statics_are : layout.statics ≡ statics layout.parts.now
-  pub frames : AreFrames layout.parts.now layout.frames.items
-  pub owners : AreOwners layout.parts.now.functions layout.owners.items
-  pub bases : AreBases layout.parts.now.memories layout.bases.items
+  pub frames : layout.frames.items ≡ frames_from 7 (statics layout.parts.now) layout.parts.now.functions
+  pub owners : layout.owners.items ≡ replicate 7 0 ++ owners_from 0 layout.parts.now.functions
+  pub bases : layout.bases.items ≡ 0 ∷ ends_from 0 layout.parts.now.memories

@@ -7,9 +7,9 @@ use Rattle.bl_cmd.specs.Layout.{results_of, result, running}
 use Rattle.bl_cmd.specs.Steps.{Plain, values_from, states, plain_step}
 use Rattle.bl_cmd.specs.declared.definitions.ProgramParts.{ProgramParts as Program}
 use Rattle.bl_seq.specs.Filled.{register_at}
-use Rattle.bl_seq.specs.declared.machine.Machine.{Machine}
-use Rattle.bl_seq.specs.declared.machine.Progress.{Progress}
-use Rattle.bl_seq.specs.declared.machine.Progress.TheVariants.{Running, Returned, Trapped, Stuck}
+use Rattle.bl_seq.specs.declared.state.Machine.{Machine}
+use Rattle.bl_seq.specs.declared.state.Progress.{Progress}
+use Rattle.bl_seq.specs.declared.state.Progress.TheVariants.{Running, Returned, Trapped, Stuck}
 
 -- the state that a machine stands for
 abbrev pub shown : Machine → Plain

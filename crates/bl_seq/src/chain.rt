@@ -1,5 +1,5 @@
 //! The positions to which the open calls return.
-ghost use Rattle.std.specs.Prelude.{◌≡◌, [], ◌∷◌, length, OnOk};
+ghost use Rattle.std.specs.Prelude.{◌≡◌, [], ◌∷◌, length, OnErr, OnOk};
 ghost use Rattle.bl_seq.specs.Taken.{Taken};
 
 use bl_base::NoMemory;
@@ -37,9 +37,10 @@ impl Chain {
         self.positions.len()
     }
 
-    /// Opens a call that will return to the position.
+    /// Opens a call that will return to the position. A refusal leaves the chain as it was.
     pub fn open(&mut self, position: usize) -> Result<(), NoMemory>
-        ensures { OnOk result (self.new ≡ position ∷ self.old) }
+        ensures ok { OnOk result (self.new ≡ position ∷ self.old) }
+        ensures err { OnErr result (self.new ≡ self.old) }
     {
         self.positions.push(position)?;
         Ok(())

@@ -1,10 +1,10 @@
 //! What is known of a program before a run.
-ghost use Rattle.std.specs.Prelude.{◌≡◌, ◌≤◌, ◌<◌, ◌+◌, ◌*◌, ◌^◌, ◌++◌, IfOk, OnOk, length, map, replicate, slice_index};
+ghost use Rattle.std.specs.Prelude.{◌≡◌, ◌≤◌, ◌+◌, ◌*◌, ◌^◌, ◌<◌, ◌∷◌, ◌++◌, IfOk, OnOk, length, replicate};
 ghost use Rattle.bl_cmd.specs.Layout.{base, entry_of, first_of, params_of, result as variable_of_result, results_of, running, statics, sum_before};
 ghost use Rattle.bl_cmd.specs.Rules.{IsWellFormed};
 ghost use Rattle.bl_cmd.specs.Programs.{IsProgram};
 ghost use Rattle.bl_cmd.specs.Steps.{held};
-ghost use Rattle.bl_seq.specs.Layouts.{AreBases, AreFrames, AreOwners, IsLayout, frame_of};
+ghost use Rattle.bl_seq.specs.Layouts.{IsLayout, ends_from, frame_of, frames_from, owners_from};
 
 use bl_base::NoMemory;
 use bl_cmd::{FunctionDef, MemoryDef, ProgramParts};
@@ -49,7 +49,7 @@ impl<'p> Layout<'p> {
         Ok(Layout {
             parts,
             statics,
-            frames: frames_of(alloc, parts, statics)?,
+            frames: frames_of(alloc, parts.functions.as_slice(), statics)?,
             owners: owners_of(alloc, parts.functions.as_slice())?,
             bases: bases_of(alloc, parts.memories.as_slice())?,
         })
@@ -58,7 +58,8 @@ impl<'p> Layout<'p> {
     /// The function of that number.
     pub fn frame(&self, function: u32) -> Frame
         requires { IsLayout self.now }
-        ensures { result ≡ frame_of self.now.parts.now function }
+        ensures is { result ≡ frame_of self.now.parts.now function }
+        ensures small { (result.first < 2 ^ 31) × (result.params + result.results < 2 ^ 31) }
     {
         let last = self.frames.len() - 1;
         self.frames[last.min(function as usize)]
@@ -69,9 +70,10 @@ impl<'p> Layout<'p> {
         requires { IsLayout self.now }
         ensures { result ≡ running self.now.parts.now position }
     {
-        match self.owners.get(position) {
-            Some(owner) => *owner,
-            None => self.parts.functions.len() as u32,
+        if position < self.owners.len() {
+            self.owners[position]
+        } else {
+            self.parts.functions.len() as u32
         }
     }
 
@@ -106,18 +108,17 @@ impl<'p> Layout<'p> {
 /// The functions.
 fn frames_of(
     alloc: Global,
-    parts: &ProgramParts,
+    functions: &[FunctionDef],
     statics: usize,
 ) -> Result<Vec<Frame>, NoMemory>
-    requires facts { IsProgram parts.now }
-    requires rules { IsWellFormed parts.now }
-    requires statics { statics ≡ statics parts.now }
-    ensures { IfOk result (λ frames. AreFrames parts.now frames.items) }
+    requires functions { length functions.now ≤ 80000 }
+    requires statics { statics < 2 ^ 31 }
+    ensures { IfOk result (λ frames. frames.items ≡ frames_from 7 statics functions.now) }
 {
     let mut frames = Vec::new(alloc);
     let mut entry = 7;
     let mut first = statics;
-    for function in parts.functions.as_slice() {
+    for function in functions {
         frames.push(Frame {
             entry,
             first,
@@ -139,7 +140,7 @@ fn frames_of(
 /// The function that holds each position; the traps are the first one's.
 fn owners_of(alloc: Global, functions: &[FunctionDef]) -> Result<Vec<u32>, NoMemory>
     requires { length functions.now ≤ 80000 }
-    ensures { IfOk result (λ owners. AreOwners functions.now owners.items) }
+    ensures { IfOk result (λ owners. owners.items ≡ replicate 7 0 ++ owners_from 0 functions.now) }
 {
     let mut owners = Vec::new(alloc);
     push_owner(&mut owners, 0, 7)?;
@@ -162,7 +163,7 @@ fn push_owner(owners: &mut Vec<u32>, number: u32, count: u32) -> Result<(), NoMe
 /// Where each memory begins.
 fn bases_of(alloc: Global, memories: &[MemoryDef]) -> Result<Vec<usize>, NoMemory>
     requires { sum_before (λ memory. memory.reserve) memories.now (length memories.now) ≤ 1024 }
-    ensures { IfOk result (λ bases. AreBases memories.now bases.items) }
+    ensures { IfOk result (λ bases. bases.items ≡ 0 ∷ ends_from 0 memories.now) }
 {
     let mut bases = Vec::new(alloc);
     let mut base = 0;

@@ -6,7 +6,8 @@ mod layout;
 mod machine;
 mod opening;
 mod registers;
-mod run;
+mod runs;
 mod space;
+mod state;
 
-pub use run::run;
+pub use runs::run;

@@ -1,17 +1,16 @@
 //! The machine of plain runs, which executes a command a step.
-ghost use Rattle.std.specs.Prelude.{◌≡◌, ◌≤◌, ◌+◌, ◌%◌, ◌^◌, ◌<◌, ◌==◌, if◌then◌else◌, suc, IfOk, Some, length};
+ghost use Rattle.std.specs.Prelude.{◌≡◌, ◌≤◌, ◌+◌, ◌%◌, ◌^◌, ◌<◌, ◌==◌, if◌then◌else◌, suc, IfOk, OnOk, Some, length};
 ghost use Rattle.bl_ops.specs.Numerics.{meaning};
 ghost use Rattle.bl_cmd.specs.declared.definitions.ProgramParts.{ProgramParts};
+ghost use Rattle.bl_cmd.specs.Layout.{param, result as variable_of_result, running};
 ghost use Rattle.bl_cmd.specs.Programs.{IsCommand};
 ghost use Rattle.bl_cmd.specs.Steps.{call, depth, effective, on, perform, place, plain_step, ret, stored, to, value_of, written};
 ghost use Rattle.bl_base.specs.Runs.{goes};
 ghost use Rattle.bl_seq.specs.Layouts.{IsLayout};
 ghost use Rattle.bl_seq.specs.Machines.{Leads, next_of, shown};
 
-use crate::chain::Chain;
 use crate::layout::Layout;
-use crate::registers::Registers;
-use crate::space::Space;
+use crate::state::{Machine, Progress};
 use bl_base::{NoMemory, Pos, Trap, Var};
 use bl_cmd::{Command, Operand};
 use bl_ops::{AccessKind, Op, eval};
@@ -19,33 +18,6 @@ use std::alloc::Global;
 
 /// The most calls that are open at once, the run's own function included.
 const MOST_CALLS: usize = 1_024;
-
-/// What a step has come to.
-#[derive(Clone, Copy, Debug)]
-pub enum Progress {
-    /// The run goes on.
-    Running,
-    /// The run's function has returned.
-    Returned,
-    /// The run has trapped.
-    Trapped(Trap),
-    /// There is no command at the position.
-    Stuck,
-}
-
-/// A run between two steps.
-#[derive(Debug, Drop)]
-pub struct Machine {
-    /// The position of the next command.
-    pub position: usize,
-    /// The positions to which the open calls return.
-    pub chain: Chain,
-    /// The registers.
-    pub registers: Registers,
-    /// The bytes of all memories.
-    pub space: Space,
-    pub ghost few: { length chain < 1024 },
-}
 
 impl Machine {
     /// The number of open calls, the run's own function included.
@@ -77,14 +49,14 @@ impl Machine {
         depth: usize,
         x: usize,
         number: u64,
-    ) -> Result<Progress, NoMemory>
+    ) -> Result<(), NoMemory>
         requires position { self.old.position + 1 < 2 ^ 64 }
         requires depth { depth < 2 ^ 63 }
-        ensures { IfOk result (λ progress. (p : ProgramParts) → on (shown self.old) (written (shown self.old).registers depth x number) ≡ next_of p progress (shown self.new)) }
+        ensures { OnOk result (on (shown self.old) (written (shown self.old).registers depth x number) ≡ goes (shown self.new)) }
     {
         self.registers.write(alloc, depth, x, number)?;
         self.position += 1;
-        Ok(Progress::Running)
+        Ok(())
     }
 
     /// Goes on at the next position with a number written to a variable as the running frame finds it.
@@ -94,11 +66,10 @@ impl Machine {
         layout: &Layout,
         to: Var,
         number: u64,
-    ) -> Result<Progress, NoMemory>
+    ) -> Result<(), NoMemory>
         requires layout { IsLayout layout.now }
         requires position { self.old.position + 1 < 2 ^ 64 }
-        ensures { IfOk result (λ progress. on (shown self.old) (written (shown self.old).registers (place layout.now.parts.now to.0 (shown self.old)) to.0 number)
-            ≡ next_of layout.now.parts.now progress (shown self.new)) }
+        ensures { OnOk result (on (shown self.old) (written (shown self.old).registers (place layout.now.parts.now to.0 (shown self.old)) to.0 number) ≡ goes (shown self.new)) }
     {
         let x = to.0 as usize;
         let depth = layout.held(self.depth(), x);
@@ -109,18 +80,10 @@ impl Machine {
     fn effective(&self, layout: &Layout, memory: u32, offset: u32, address: Operand) -> usize
         requires { IsLayout layout.now }
         ensures place { result ≡ effective layout.now.parts.now memory offset (value_of layout.now.parts.now address (shown self.now)) }
-        ensures small { result < 2 ^ 62 }
+        ensures small { result < 2 ^ 61 }
     {
         let address = self.value(layout, address) % 0x1_0000_0000;
         layout.base(memory) + (address as usize + offset as usize)
-    }
-
-    /// Goes on at a position.
-    fn go(&mut self, to: usize) -> Progress
-        ensures { (p : ProgramParts) → to to (shown self.old) ≡ next_of p result (shown self.new) }
-    {
-        self.position = to;
-        Progress::Running
     }
 
     /// A step.
@@ -146,10 +109,13 @@ impl Machine {
         requires within { self.old.position < length layout.now.parts.now.commands }
         ensures { IfOk result (λ progress. perform layout.now.parts.now (Some command.now) (shown self.old) ≡ next_of layout.now.parts.now progress (shown self.new)) }
     {
-        match command {
+        match *command {
             Command::Set {
                 op, to, a, b, c, ..
-            } => self.set(alloc, layout, *op, *to, *a, *b, *c),
+            } => {
+                self.set(alloc, layout, op, to, a, b, c)?;
+                Ok(Progress::Running)
+            }
             Command::Load {
                 kind,
                 memory,
@@ -158,9 +124,10 @@ impl Machine {
                 address,
                 ..
             } => {
-                let from = self.effective(layout, *memory, *offset, *address);
-                let number = self.space.load(*kind, from);
-                self.assign(alloc, layout, *to, number)
+                let from = self.effective(layout, memory, offset, address);
+                let number = self.space.load(kind, from);
+                self.assign(alloc, layout, to, number)?;
+                Ok(Progress::Running)
             }
             Command::Store {
                 kind,
@@ -169,30 +136,35 @@ impl Machine {
                 address,
                 value,
             } => {
-                let from = self.effective(layout, *memory, *offset, *address);
-                let value = self.value(layout, *value);
-                Ok(self.store(*kind, from, value))
+                let from = self.effective(layout, memory, offset, address);
+                let value = self.value(layout, value);
+                self.store(kind, from, value);
+                Ok(Progress::Running)
             }
-            Command::Test { cond, yes, no } => Ok(self.test(layout, *cond, *yes, *no)),
-            Command::Jump { to } => Ok(self.go(to.0 as usize)),
+            Command::Test { cond, yes, no } => {
+                self.test(layout, cond, yes, no);
+                Ok(Progress::Running)
+            }
+            Command::Jump { to } => {
+                self.position = to.0 as usize;
+                Ok(Progress::Running)
+            }
             Command::Arg {
                 function,
                 index,
                 value,
                 ..
             } => {
-                let number = self.value(layout, *value);
-                let x = layout.frame(*function).first + *index as usize;
-                self.write(alloc, self.depth() + 1, x, number)
+                self.pass(alloc, layout, function, index, value)?;
+                Ok(Progress::Running)
             }
-            Command::Call { function } => self.call(layout, *function),
+            Command::Call { function } => self.call(layout, function),
             Command::Out { index, value, .. } => {
-                let number = self.value(layout, *value);
-                let x = layout.result(self.position, *index);
-                self.write(alloc, self.chain.len(), x, number)
+                self.hand_out(alloc, layout, index, value)?;
+                Ok(Progress::Running)
             }
             Command::Ret => Ok(self.leave()),
-            Command::Trap { kind } => Ok(Progress::Trapped(*kind)),
+            Command::Trap { kind } => Ok(Progress::Trapped(kind)),
         }
     }
 
@@ -206,14 +178,12 @@ impl Machine {
         a: Operand,
         b: Operand,
         c: Operand,
-    ) -> Result<Progress, NoMemory>
+    ) -> Result<(), NoMemory>
         requires layout { IsLayout layout.now }
         requires position { self.old.position + 1 < 2 ^ 64 }
-        ensures { IfOk result (λ progress.
-            let p = layout.now.parts.now in
-            let s = shown self.old in
-            on s (written s.registers (place p to.0 s) to.0 (meaning op (value_of p a s) (value_of p b s) (value_of p c s)))
-            ≡ next_of p progress (shown self.new)) }
+        ensures { OnOk result (on (shown self.old) (written (shown self.old).registers (place layout.now.parts.now to.0 (shown self.old)) to.0
+            (meaning op (value_of layout.now.parts.now a (shown self.old)) (value_of layout.now.parts.now b (shown self.old)) (value_of layout.now.parts.now c (shown self.old))))
+            ≡ goes (shown self.new)) }
     {
         let a = self.value(layout, a);
         let b = self.value(layout, b);
@@ -222,31 +192,61 @@ impl Machine {
     }
 
     /// Executes a Store.
-    fn store(&mut self, kind: AccessKind, from: usize, value: u64) -> Progress
-        requires place { from < 2 ^ 62 }
+    fn store(&mut self, kind: AccessKind, from: usize, value: u64)
+        requires place { from < 2 ^ 61 }
         requires position { self.old.position + 1 < 2 ^ 64 }
-        ensures { (p : ProgramParts) → goes (record (shown self.old) { position = suc self.old.position; space = stored kind from value self.old.space })
-            ≡ next_of p result (shown self.new) }
+        ensures { shown self.new ≡ record (shown self.old) { position = suc self.old.position; space = stored kind from value self.old.space } }
     {
         self.space.store(kind, from, value);
         self.position += 1;
-        Progress::Running
     }
 
     /// Executes a Test.
-    fn test(&mut self, layout: &Layout, cond: Operand, yes: Pos, no: Pos) -> Progress
+    fn test(&mut self, layout: &Layout, cond: Operand, yes: Pos, no: Pos)
         requires { IsLayout layout.now }
-        ensures {
-            let p = layout.now.parts.now in
-            let s = shown self.old in
-            (if value_of p cond s % 2 ^ 32 == 0 then to no.0 s else to yes.0 s) ≡ next_of p result (shown self.new) }
+        ensures { (if value_of layout.now.parts.now cond (shown self.old) % 2 ^ 32 == 0 then to no.0 (shown self.old) else to yes.0 (shown self.old)) ≡ goes (shown self.new) }
     {
         let cond = self.value(layout, cond);
-        if cond % 0x1_0000_0000 == 0 {
-            self.go(no.0 as usize)
-        } else {
-            self.go(yes.0 as usize)
-        }
+        let to = if cond % 0x1_0000_0000 == 0 { no } else { yes };
+        self.position = to.0 as usize;
+    }
+
+    /// Executes an Arg.
+    fn pass(
+        &mut self,
+        alloc: Global,
+        layout: &Layout,
+        function: u32,
+        index: u32,
+        value: Operand,
+    ) -> Result<(), NoMemory>
+        requires layout { IsLayout layout.now }
+        requires position { self.old.position + 1 < 2 ^ 64 }
+        ensures { OnOk result (on (shown self.old) (written (shown self.old).registers (suc (depth (shown self.old))) (param layout.now.parts.now function index)
+            (value_of layout.now.parts.now value (shown self.old))) ≡ goes (shown self.new)) }
+    {
+        let number = self.value(layout, value);
+        let x = layout.frame(function).first + index as usize;
+        self.write(alloc, self.depth() + 1, x, number)
+    }
+
+    /// Executes an Out.
+    fn hand_out(
+        &mut self,
+        alloc: Global,
+        layout: &Layout,
+        index: u32,
+        value: Operand,
+    ) -> Result<(), NoMemory>
+        requires layout { IsLayout layout.now }
+        requires position { self.old.position + 1 < 2 ^ 64 }
+        ensures { OnOk result (on (shown self.old) (written (shown self.old).registers (length self.old.chain)
+            (variable_of_result layout.now.parts.now (running layout.now.parts.now self.old.position) index)
+            (value_of layout.now.parts.now value (shown self.old))) ≡ goes (shown self.new)) }
+    {
+        let number = self.value(layout, value);
+        let x = layout.result(self.position, index);
+        self.write(alloc, self.depth() - 1, x, number)
     }
 
     /// Executes a Call.
@@ -268,7 +268,10 @@ impl Machine {
         ensures { (p : ProgramParts) → ret p self.old.chain (shown self.old) ≡ next_of p result (shown self.new) }
     {
         match self.chain.close() {
-            Some(back) => self.go(back),
+            Some(back) => {
+                self.position = back;
+                Progress::Running
+            }
             None => Progress::Returned,
         }
     }
@@ -284,9 +287,11 @@ impl Machine {
         ensures { IfOk result (λ progress. Leads layout.now.parts.now (shown self.old) steps (next_of layout.now.parts.now progress (shown self.new))) }
     {
         for _ in 0..steps {
-            let progress = self.step(alloc, layout)?;
-            if !matches!(progress, Progress::Running) {
-                return Ok(progress);
+            match self.step(alloc, layout)? {
+                Progress::Running => {}
+                Progress::Returned => return Ok(Progress::Returned),
+                Progress::Trapped(kind) => return Ok(Progress::Trapped(kind)),
+                Progress::Stuck => return Ok(Progress::Stuck),
             }
         }
         Ok(Progress::Running)

@@ -9,7 +9,7 @@ ghost use Rattle.bl_seq.specs.Machines.{shown};
 
 use crate::chain::Chain;
 use crate::layout::Layout;
-use crate::machine::Machine;
+use crate::state::Machine;
 use crate::registers::Registers;
 use crate::space::Space;
 use bl_base::{NoMemory, Patch, Start};

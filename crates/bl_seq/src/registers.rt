@@ -43,9 +43,10 @@ impl Leaf {
     /// Makes the place one of the leaf's.
     fn reach(&mut self, place: usize) -> Result<(), NoMemory>
         requires { place < 2 ^ 63 }
-        ensures { OnOk result (self.new ≡ self.old ++ replicate (suc place - length self.old) 0) }
+        ensures { OnOk result (self.new ≡ self.old ++ replicate (place + 1 - length self.old) 0) }
     {
-        for _ in self.cells.len()..place + 1 {
+        let missing = (place + 1).saturating_sub(self.cells.len());
+        for _ in 0..missing {
             self.cells.push(0)?;
         }
         Ok(())
@@ -98,9 +99,10 @@ impl Branch {
     /// Makes the leaf one of the branch's.
     fn reach(&mut self, alloc: Global, leaf: usize) -> Result<(), NoMemory>
         requires { leaf < 2 ^ 63 }
-        ensures { OnOk result (self.new ≡ self.old ++ replicate (suc leaf - length self.old) []) }
+        ensures { OnOk result (self.new ≡ self.old ++ replicate (leaf + 1 - length self.old) []) }
     {
-        for _ in self.leaves.len()..leaf + 1 {
+        let missing = (leaf + 1).saturating_sub(self.leaves.len());
+        for _ in 0..missing {
             self.leaves.push(Leaf::new(alloc))?;
         }
         Ok(())
@@ -159,15 +161,17 @@ impl Tree {
     /// Makes the branch one of the tree's.
     fn reach(&mut self, alloc: Global, branch: usize) -> Result<(), NoMemory>
         requires { branch < 2 ^ 63 }
-        ensures { OnOk result (self.new ≡ self.old ++ replicate (suc branch - length self.old) []) }
+        ensures { OnOk result (self.new ≡ self.old ++ replicate (branch + 1 - length self.old) []) }
     {
-        for _ in self.branches.len()..branch + 1 {
+        let missing = (branch + 1).saturating_sub(self.branches.len());
+        for _ in 0..missing {
             self.branches.push(Branch::new(alloc))?;
         }
         Ok(())
     }
 
     /// Writes a variable.
+    #[tactic(auto, unfolding(crate::specs::Filled::put_in))]
     fn put(&mut self, alloc: Global, x: usize, number: u64) -> Result<(), NoMemory>
         ensures { OnOk result (self.new ≡ put_in self.old x number) }
     {
@@ -215,9 +219,10 @@ impl Registers {
     /// Makes the depth one of the registers'.
     fn reach(&mut self, alloc: Global, depth: usize) -> Result<(), NoMemory>
         requires { depth < 2 ^ 63 }
-        ensures { OnOk result (self.new ≡ self.old ++ replicate (suc depth - length self.old) []) }
+        ensures { OnOk result (self.new ≡ self.old ++ replicate (depth + 1 - length self.old) []) }
     {
-        for _ in self.depths.len()..depth + 1 {
+        let missing = (depth + 1).saturating_sub(self.depths.len());
+        for _ in 0..missing {
             self.depths.push(Tree::new(alloc))?;
         }
         Ok(())
@@ -232,7 +237,7 @@ impl Registers {
         number: u64,
     ) -> Result<(), NoMemory>
         requires { depth < 2 ^ 63 }
-        ensures { OnOk result ((λ d v. register_at self.new d v) ≡ written (λ d v. register_at self.old d v) depth x number) }
+        ensures { OnOk result ((d v : ℕ) → register_at self.new d v ≡ written (λ d v. register_at self.old d v) depth x number d v) }
     {
         self.put(alloc, depth, x, number)
     }

@@ -106,6 +106,7 @@ impl Space {
     }
 
     /// Two bytes from a place on, as a number.
+    #[tactic(auto, using(crate::proofs::Spaces::two_is))]
     fn two(&self, from: usize) -> u64
         requires { from < 2 ^ 63 }
         ensures value { result ≡ number_of (take 2 (drop from self.now)) }
@@ -115,8 +116,9 @@ impl Space {
     }
 
     /// Four bytes from a place on, as a number.
+    #[tactic(auto, using(crate::proofs::Spaces::four_is))]
     fn four(&self, from: usize) -> u64
-        requires { from < 2 ^ 63 }
+        requires { from < 2 ^ 62 }
         ensures value { result ≡ number_of (take 4 (drop from self.now)) }
         ensures small { result < 2 ^ 32 }
     {
@@ -124,8 +126,9 @@ impl Space {
     }
 
     /// Eight bytes from a place on, as a number.
+    #[tactic(auto, using(crate::proofs::Spaces::eight_is))]
     fn eight(&self, from: usize) -> u64
-        requires { from < 2 ^ 62 }
+        requires { from < 2 ^ 61 }
         ensures { result ≡ number_of (take 8 (drop from self.now)) }
     {
         self.four(from) + 0x1_0000_0000 * self.four(from + 4)
@@ -133,7 +136,7 @@ impl Space {
 
     /// So many bytes from a place on, as a number, where an access of that kind has that width.
     fn number(&self, kind: AccessKind, from: usize) -> u64
-        requires { from < 2 ^ 62 }
+        requires { from < 2 ^ 61 }
         ensures value { result ≡ number_of (take (width_of kind) (drop from self.now)) }
         ensures small { result < 2 ^ (8 * width_of kind) }
     {
@@ -147,7 +150,7 @@ impl Space {
 
     /// What a load takes from a place on (WebAssembly 1.0, section 4.4.4).
     pub fn load(&self, kind: AccessKind, from: usize) -> u64
-        requires place { from < 2 ^ 62 }
+        requires place { from < 2 ^ 61 }
         requires load { IsTrue (is_load kind) }
         ensures { result ≡ loaded kind self.now from }
     {
@@ -158,7 +161,7 @@ impl Space {
 
     /// Stores a value from a place on (WebAssembly 1.0, section 4.4.4).
     pub fn store(&mut self, kind: AccessKind, from: usize, value: u64)
-        requires { from < 2 ^ 62 }
+        requires { from < 2 ^ 61 }
         ensures { self.new ≡ stored kind from value self.old }
     {
         let mut rest = narrow(kind, value);

@@ -7,7 +7,7 @@ ghost use Rattle.bl_seq.specs.Layouts.{IsLayout};
 ghost use Rattle.bl_seq.specs.Machines.{next_of, results_in, shown, told};
 
 use crate::layout::Layout;
-use crate::machine::{Machine, Progress};
+use crate::state::{Machine, Progress};
 use crate::opening::begin;
 use bl_base::{List, NoMemory, Pages, Run, Start, Text};
 use bl_cmd::WellFormed;
