@@ -2,3 +2,4 @@ pub mod Driving
 pub mod Filling
 pub mod Laying
 pub mod Spaces
+pub mod Starting

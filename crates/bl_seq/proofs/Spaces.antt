@@ -91,3 +91,14 @@ eight_is zero (a ∷ b ∷ c ∷ []) = omega arith
 eight_is zero (a ∷ b ∷ c ∷ d ∷ space) = omega arith
 eight_is (suc from) [] = let next : suc from + 4 ≡ suc (from + 4) = omega arith in rw next refl
 eight_is (suc from) (a ∷ space) = let next : suc from + 4 ≡ suc (from + 4) = omega arith in rw next (eight_is from space)
+
+-- ---- lengths
+
+length_over : (from : ℕ) (new space : List ℕ) → length (over from new space) ≡ length space
+length_over from new [] = refl
+length_over (suc from) new (s ∷ space) = ap suc (length_over from new space)
+length_over zero [] (s ∷ space) = refl
+length_over zero (n ∷ new) (s ∷ space) = ap suc (length_over zero new space)
+
+pub overlay_length : (from : ℕ) (new space : List ℕ) → length (overlay from new space) ≡ length space
+overlay_length from new space = ap length (overlay_is from new space) ∙ length_over from new space

@@ -1,9 +1,10 @@
 //! The machine before the first step.
-ghost use Rattle.std.specs.Prelude.{◌≡◌, ◌≤◌, ◌++◌, ◌∷◌, [], IfOk, OnOk, length, map, Some, slice_get};
+ghost use Rattle.std.specs.Prelude.{◌≡◌, ◌-◌, ◌*◌, ◌++◌, IfOk, OnOk, length, map, replicate};
 ghost use Rattle.std.specs.List.{All};
 ghost use Rattle.bl_base.specs.Bytes.{patched};
-ghost use Rattle.bl_cmd.specs.Outcomes.{IsStart, first_memories, first_memory, first_registers, opening, padded, space_of};
-ghost use Rattle.bl_cmd.specs.Rules.{IsMemory};
+ghost use Rattle.bl_cmd.specs.Outcomes.{IsStart, first_memories, first_memory, opening, space_of};
+ghost use Rattle.bl_base.specs.Fits.{PatchFits};
+ghost use Rattle.bl_seq.specs.Openings.{AreSized, LiesInside};
 ghost use Rattle.bl_seq.specs.Layouts.{IsLayout};
 ghost use Rattle.bl_seq.specs.Machines.{shown};
 
@@ -77,22 +78,30 @@ fn first_memories(
     parts: &ProgramParts,
     start: &Start,
 ) -> Result<Vec<Contents>, NoMemory>
-    requires { All IsMemory parts.now.memories }
-    ensures { IfOk result (λ memories. memories.items ≡ first_memories parts.now start.now) }
+    requires { All (PatchFits (map (λ memory. memory.pages) parts.now.memories)) start.now.patches }
+    ensures is { IfOk result (λ memories. memories.items ≡ first_memories parts.now start.now) }
+    ensures sized { IfOk result (λ memories. AreSized parts.now.memories memories.items) }
 {
-    let mut memories = Vec::new(alloc);
-    for memory in parts.memories.as_slice() {
-        memories.push(first_memory(alloc, memory)?)?;
-    }
+    let mut memories = before_patches(alloc, parts.memories.as_slice())?;
     for patch in start.patches.as_slice() {
         patch_memory(&mut memories, patch);
     }
     Ok(memories)
 }
 
+/// The contents of the memories before the patches.
+fn before_patches(alloc: Global, memories: &[MemoryDef]) -> Result<Vec<Contents>, NoMemory>
+    ensures { IfOk result (λ contents. contents.items ≡ map first_memory memories.now) }
+{
+    let mut contents = Vec::new(alloc);
+    for memory in memories {
+        contents.push(first_memory(alloc, memory)?)?;
+    }
+    Ok(contents)
+}
+
 /// A memory before the patches.
 fn first_memory(alloc: Global, memory: &MemoryDef) -> Result<Contents, NoMemory>
-    requires { IsMemory memory.now }
     ensures { IfOk result (λ contents. contents ≡ first_memory memory.now) }
 {
     let mut space = Space::new(alloc);
@@ -108,6 +117,7 @@ fn first_memory(alloc: Global, memory: &MemoryDef) -> Result<Contents, NoMemory>
 
 /// Writes a patch over the memory that it names.
 fn patch_memory(memories: &mut Vec<Contents>, patch: &Patch)
+    requires { LiesInside patch.now memories.old.items }
     ensures { memories.new.items ≡ patched memories.old.items patch.now }
 {
     let number = patch.memory as usize;
@@ -124,13 +134,22 @@ fn space_of(
     memories: &[MemoryDef],
     contents: &[Contents],
 ) -> Result<Space, NoMemory>
+    requires { length memories.now ≡ length contents.now }
     ensures { IfOk result (λ space. space ≡ space_of memories.now contents.now) }
 {
     let mut space = Space::new(alloc);
-    for (memory, contents) in memories.iter().zip(contents) {
-        let room = memory.reserve as usize * 65_536;
-        space.push_all(contents.space.as_slice())?;
-        space.push_zeros(room.saturating_sub(contents.space.len()))?;
+    for i in 0..memories.len() {
+        push_padded(&mut space, memories[i].reserve, &contents[i])?;
     }
     Ok(space)
+}
+
+/// Appends a memory's bytes, and zeros up to so many pages.
+fn push_padded(space: &mut Space, reserve: u32, contents: &Contents) -> Result<(), NoMemory>
+    ensures { OnOk result (space.new ≡ space.old ++ (contents.now.bytes ++ replicate (reserve * 65536 - length contents.now.bytes) 0)) }
+{
+    let room = reserve as usize * 65_536;
+    space.push_all(contents.space.as_slice())?;
+    space.push_zeros(room.saturating_sub(contents.space.len()))?;
+    Ok(())
 }
