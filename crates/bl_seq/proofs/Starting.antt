@@ -1,8 +1,9 @@
 -- The machine before the first step.
 use Rattle.std.proofs.Common.{◌≡◌, ◌≢◌, ◌⊎◌, inl, inr, ℕ, zero, suc, ◌+◌, ◌-◌, ◌*◌, ◌<◌, ◌≤◌, Bool, true, false, List, [], ◌∷◌, ◌++◌, length, map, take, drop, set, replicate, get_or, Option, Some, None, slice_get, refl, sym, ap, ◌∙◌, subst, arith}
 use Rattle.std.specs.Prelude.{nat_lt, if◌then◌else◌}
-use Rattle.std.specs.List.{fold, AllZip}
-use Rattle.std.proofs.Math.Path.{fun_ext}
+use Rattle.std.specs.List.{All, fold, AllZip}
+use Rattle.std.proofs.lemmas.List.Elements.{All-get_or}
+use Rattle.std.proofs.Math.Seq.{drop-cons}
 use Rattle.std.proofs.lemmas.Bool.{cases_lt, ltb-true, ltb-false}
 use Rattle.std.proofs.lemmas.List.{get_or_past, length-append, length-drop, length-take, length-replicate, take_all}
 use Rattle.std.proofs.lemmas.Option.{none-some}
@@ -66,27 +67,37 @@ sized_patched memories states patch sized inside = by (slice_get states patch.me
         zip_set IsSized memories states patch.memory got.0 (write state patch.offset patch.bytes) sized got.1
           (record { len = length_write state patch.offset patch.bytes (inside.within state e) ∙ got.2.len })
 
+-- one patch of those that are written in order
+pub inside_at : (memories : List MemoryDef) (states : List MemoryState) (patches : List Patch) (i : ℕ) (patch : Patch) → AreSized memories states
+    → All (PatchFits (map (λ memory. memory.pages) memories)) patches → i < length patches → patch ≡ get_or patches i patch → LiesInside patch states
+inside_at memories states patches i patch sized fits lt is =
+    lies_inside memories states patch sized
+      (subst (PatchFits (map (λ memory. memory.pages) memories)) (sym is) (All-get_or (PatchFits (map (λ memory. memory.pages) memories)) patches i patch lt fits))
+
+pub patch_next : (states : List MemoryState) (patches : List Patch) (i : ℕ) (patch : Patch) → i < length patches → patch ≡ get_or patches i patch
+    → fold patched (patched states patch) (drop (i + 1) patches) ≡ fold patched states (drop i patches)
+patch_next states patches i patch lt is =
+    let next : i + 1 ≡ suc i = omega arith in
+    rw (next, drop-cons patches i patch lt) (ap (λ p. fold patched (patched states p) (drop (suc i) patches)) is)
+
 -- bytes over others that have room for them
 pub overlay_inside : (state : MemoryState) (from : ℕ) (new : List ℕ) → from + length new ≤ length state.bytes → overlay from new state.bytes ≡ (write state from new).bytes
 overlay_inside state from new le = take_all (length state.bytes) (write state from new).bytes (let same = length_write state from new le in omega arith)
 
 -- ---- registers
 
-none_at : (d v : ℕ) → register_at [] d v ≡ 0
-none_at d v = refl
-
 module _ (program : Program) (function : ℕ) (start : Start) (one two : List Tree) (statics : List ℕ)
     (are : statics ≡ map (λ global. global.first) program.globals ++ map (λ memory. memory.pages) program.memories)
-    (first : (d v : ℕ) → register_at one d v ≡ filled (λ d v. register_at [] d v) 0 0 statics d v)
+    (first : (d v : ℕ) → register_at one d v ≡ filled (λ d v. 0) 0 0 statics d v)
     (second : (d v : ℕ) → register_at two d v ≡ filled (λ d v. register_at one d v) 1 (first_of program function) start.args d v) where
   beside : (d v : ℕ) → d ≢ 0 → register_at one d v ≡ 0
-  beside d v ne = first d v ∙ fill_apart (λ d v. register_at [] d v) 0 0 statics d v ne ∙ none_at d v
+  beside d v ne = first d v ∙ fill_apart (λ d v. 0) 0 0 statics d v ne
 
-  registers_at : (d v : ℕ) → register_at two d v ≡ first_registers program function start d v
+  pub registers_at : (d v : ℕ) → register_at two d v ≡ first_registers program function start d v
   registers_at zero v =
       let same : v - 0 ≡ v = omega arith in
       second 0 v ∙ fill_apart (λ d v. register_at one d v) 1 (first_of program function) start.args 0 v (λ e. omega arith) ∙ first 0 v
-      ∙ fill_behind (λ d v. register_at [] d v) 0 0 statics v (omega arith) (λ w le. none_at 0 w) ∙ ap (λ k. get_or statics k 0) same ∙ ap (λ l. get_or l v 0) are
+      ∙ fill_behind (λ d v. 0) 0 0 statics v (omega arith) (λ w le. refl) ∙ ap (λ k. get_or statics k 0) same ∙ ap (λ l. get_or l v 0) are
   registers_at (suc zero) v = by (nat_lt v (first_of program function)) refl
     where
       by : (b : Bool) → nat_lt v (first_of program function) ≡ b → register_at two 1 v ≡ (if b then 0 else get_or start.args (v - first_of program function) 0)
@@ -94,6 +105,3 @@ module _ (program : Program) (function : ℕ) (start : Start) (one two : List Tr
       by false e = second 1 v ∙ fill_behind (λ d v. register_at one d v) 1 (first_of program function) start.args v (ltb-false v (first_of program function) e) (λ w le. beside 1 w (λ e. omega arith))
   registers_at (suc (suc d)) v =
       second (suc (suc d)) v ∙ fill_apart (λ d v. register_at one d v) 1 (first_of program function) start.args (suc (suc d)) v (λ e. omega arith) ∙ beside (suc (suc d)) v (λ e. omega arith)
-
-  pub registers_are : (λ d v. register_at two d v) ≡ first_registers program function start
-  registers_are = fun_ext (λ d. fun_ext (λ v. registers_at d v))

@@ -1,10 +1,11 @@
 //! The machine before the first step.
-ghost use Rattle.std.specs.Prelude.{◌≡◌, ◌-◌, ◌*◌, ◌++◌, IfOk, OnOk, length, map, replicate};
+ghost use Rattle.std.specs.Prelude.{◌≡◌, ℕ, ◌-◌, ◌*◌, ◌++◌, IfOk, OnOk, length, map, replicate};
 ghost use Rattle.std.specs.List.{All};
 ghost use Rattle.bl_base.specs.Bytes.{patched};
-ghost use Rattle.bl_cmd.specs.Outcomes.{IsStart, first_memories, first_memory, opening, space_of};
+ghost use Rattle.bl_cmd.specs.Outcomes.{IsStart, first_memories, first_memory, first_registers, opening, space_of};
 ghost use Rattle.bl_base.specs.Fits.{PatchFits};
-ghost use Rattle.bl_seq.specs.Openings.{AreSized, LiesInside};
+ghost use Rattle.bl_seq.specs.Openings.{LiesInside};
+ghost use Rattle.bl_seq.specs.Filled.{filled, register_at};
 ghost use Rattle.bl_seq.specs.Layouts.{IsLayout};
 ghost use Rattle.bl_seq.specs.Machines.{shown};
 
@@ -44,18 +45,55 @@ pub fn begin(
     requires start { IsStart layout.now.parts.now function start.now }
     ensures { IfOk result (λ machine. shown machine ≡ opening layout.now.parts.now function start.now) }
 {
-    let frame = layout.frame(function);
-    let parts = layout.parts;
-    let mut registers = Registers::new(alloc);
-    registers.write_all(alloc, 0, 0, &first_statics(alloc, parts)?)?;
-    registers.write_all(alloc, 1, frame.first, start.args.as_slice())?;
-    let memories = first_memories(alloc, parts, start)?;
+    let entry = layout.frame(function).entry;
+    let registers = first_registers(alloc, layout, function, start)?;
+    let space = first_space(alloc, layout.parts, start)?;
     Ok(Machine {
-        position: frame.entry,
+        position: entry,
         chain: Chain::new(alloc),
         registers,
-        space: space_of(alloc, parts.memories.as_slice(), &memories)?,
+        space,
     })
+}
+
+/// The globals and the sizes at depth 0, the arguments at depth 1.
+fn first_registers(
+    alloc: Global,
+    layout: &Layout,
+    function: u32,
+    start: &Start,
+) -> Result<Registers, NoMemory>
+    requires { IsLayout layout.now }
+    ensures { IfOk result (λ registers. (d v : ℕ) → register_at registers d v ≡ first_registers layout.now.parts.now function start.now d v) }
+{
+    let mut registers = statics_only(alloc, layout.parts)?;
+    registers.write_all(
+        alloc,
+        1,
+        layout.frame(function).first,
+        start.args.as_slice(),
+    )?;
+    Ok(registers)
+}
+
+/// The globals and the sizes at depth 0.
+fn statics_only(alloc: Global, parts: &ProgramParts) -> Result<Registers, NoMemory>
+    ensures { IfOk result (λ registers. (d v : ℕ) → register_at registers d v
+        ≡ filled (λ d v. 0) 0 0 (map (λ global. global.first) parts.now.globals ++ map (λ memory. memory.pages) parts.now.memories) d v) }
+{
+    let numbers = first_statics(alloc, parts)?;
+    let mut registers = Registers::new(alloc);
+    registers.write_all(alloc, 0, 0, &numbers)?;
+    Ok(registers)
+}
+
+/// The bytes of all memories.
+fn first_space(alloc: Global, parts: &ProgramParts, start: &Start) -> Result<Space, NoMemory>
+    requires { All (PatchFits (map (λ memory. memory.pages) parts.now.memories)) start.now.patches }
+    ensures { IfOk result (λ space. space ≡ space_of parts.now.memories (first_memories parts.now start.now)) }
+{
+    let memories = first_memories(alloc, parts, start)?;
+    space_of(alloc, parts.memories.as_slice(), &memories)
 }
 
 /// The first values of the globals and the first sizes.
@@ -80,7 +118,7 @@ fn first_memories(
 ) -> Result<Vec<Contents>, NoMemory>
     requires { All (PatchFits (map (λ memory. memory.pages) parts.now.memories)) start.now.patches }
     ensures is { IfOk result (λ memories. memories.items ≡ first_memories parts.now start.now) }
-    ensures sized { IfOk result (λ memories. AreSized parts.now.memories memories.items) }
+    ensures count { IfOk result (λ memories. length parts.now.memories ≡ length memories.items) }
 {
     let mut memories = before_patches(alloc, parts.memories.as_slice())?;
     for patch in start.patches.as_slice() {
