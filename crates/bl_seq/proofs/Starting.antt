@@ -13,9 +13,10 @@ use Rattle.bl_base.specs.Runs.{MemoryState}
 use Rattle.bl_base.specs.declared.start.Patch.{Patch}
 use Rattle.bl_base.specs.declared.start.Start.{Start}
 use Rattle.bl_base.proofs.Lists.{zip_got, zip_set}
-use Rattle.bl_cmd.specs.Layout.{first_of}
-use Rattle.bl_cmd.specs.Outcomes.{first_memory, first_registers, with_row}
-use Rattle.bl_cmd.specs.Steps.{overlay}
+use Rattle.std.proofs.Math.Path.{fun_ext}
+use Rattle.bl_cmd.specs.Layout.{entry_of, first_of}
+use Rattle.bl_cmd.specs.Outcomes.{first_memories, first_memory, first_registers, opening, space_of, with_row}
+use Rattle.bl_cmd.specs.Steps.{overlay, Plain}
 use Rattle.bl_cmd.specs.declared.definitions.MemRow.{MemRow}
 use Rattle.bl_cmd.specs.declared.definitions.MemoryDef.{MemoryDef}
 use Rattle.bl_cmd.specs.declared.definitions.ProgramParts.{ProgramParts as Program}
@@ -105,3 +106,14 @@ module _ (program : Program) (function : ℕ) (start : Start) (one two : List Tr
       by false e = second 1 v ∙ fill_behind (λ d v. register_at one d v) 1 (first_of program function) start.args v (ltb-false v (first_of program function) e) (λ w le. beside 1 w (λ e. omega arith))
   registers_at (suc (suc d)) v =
       second (suc (suc d)) v ∙ fill_apart (λ d v. register_at one d v) 1 (first_of program function) start.args (suc (suc d)) v (λ e. omega arith) ∙ beside (suc (suc d)) v (λ e. omega arith)
+
+pub opens : (program : Program) (function : ℕ) (start : Start) (position : ℕ) (chain : List ℕ) (file : List Tree) (space : List ℕ)
+    → position ≡ entry_of program function → chain ≡ [] → ((d v : ℕ) → register_at file d v ≡ first_registers program function start d v)
+    → space ≡ space_of program.memories (first_memories program start)
+    → (let s : Plain = record { position = position; chain = chain; registers = λ d v. register_at file d v; space = space } in s) ≡ opening program function start
+opens program function start position chain file space p c r s =
+    let same : (λ d v. register_at file d v) ≡ first_registers program function start = fun_ext (λ d. fun_ext (λ v. r d v)) in
+    ap (λ x. let s : Plain = record { position = x; chain = chain; registers = λ d v. register_at file d v; space = space } in s) p
+    ∙ ap (λ x. let s : Plain = record { position = entry_of program function; chain = x; registers = λ d v. register_at file d v; space = space } in s) c
+    ∙ ap (λ x. let s : Plain = record { position = entry_of program function; chain = []; registers = x; space = space } in s) same
+    ∙ ap (λ x. let s : Plain = record { position = entry_of program function; chain = []; registers = first_registers program function start; space = x } in s) s

@@ -1,5 +1,5 @@
 //! The machine before the first step.
-ghost use Rattle.std.specs.Prelude.{◌≡◌, ℕ, ◌-◌, ◌*◌, ◌++◌, IfOk, OnOk, length, map, replicate};
+ghost use Rattle.std.specs.Prelude.{◌≡◌, ℕ, ◌^◌, ◌<◌, ◌-◌, ◌*◌, ◌++◌, IfOk, OnOk, length, map, replicate};
 ghost use Rattle.std.specs.List.{All};
 ghost use Rattle.bl_base.specs.Bytes.{patched};
 ghost use Rattle.bl_cmd.specs.Outcomes.{IsStart, first_memories, first_memory, first_registers, opening, space_of};
@@ -66,13 +66,22 @@ fn first_registers(
     requires { IsLayout layout.now }
     ensures { IfOk result (λ registers. (d v : ℕ) → register_at registers d v ≡ first_registers layout.now.parts.now function start.now d v) }
 {
-    let mut registers = statics_only(alloc, layout.parts)?;
-    registers.write_all(
-        alloc,
-        1,
-        layout.frame(function).first,
-        start.args.as_slice(),
-    )?;
+    let first = layout.frame(function).first;
+    let registers = statics_only(alloc, layout.parts)?;
+    with_arguments(alloc, registers, first, start.args.as_slice())
+}
+
+/// The registers with the arguments at depth 1, from a variable on.
+fn with_arguments(
+    alloc: Global,
+    mut registers: Registers,
+    first: usize,
+    arguments: &[u64],
+) -> Result<Registers, NoMemory>
+    requires { first < 2 ^ 31 }
+    ensures { IfOk result (λ after. (d v : ℕ) → register_at after d v ≡ filled (λ d v. register_at registers d v) 1 first arguments.now d v) }
+{
+    registers.write_all(alloc, 1, first, arguments)?;
     Ok(registers)
 }
 

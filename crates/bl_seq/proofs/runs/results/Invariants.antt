@@ -4,4 +4,4 @@ use Rattle.bl_seq.specs.Machines.{shown}
 use Rattle.bl_seq.proofs.runs.results.Given as goal
 
 abbrev pub invariant-loop-i : goal.invariant-loop-i
-invariant-loop-i l = l.values ++ values_from (shown l.machine).registers 0 (l.first + l.i) (l.frame.results - l.i) ≡ values_from (shown l.machine).registers 0 l.first l.frame.results
+invariant-loop-i l = l.values ++ values_from (shown l.machine).registers 0 (l.first + l.i) (l.i-end - l.i) ≡ values_from (shown l.machine).registers 0 l.first l.i-end
