@@ -1,24 +1,21 @@
 -- What the rules on a command ask, piece by piece.
-use Rattle.std.proofs.Common.{◌≡◌, ◌≢◌, ◌⊎◌, ◌↔◌, inl, inr, ℕ, zero, suc, ◌+◌, ◌-◌, ◌<◌, ◌≤◌, List, [], ◌∷◌, length, get_or, Option, Some, None, slice_get, Bool, true, false, IsTrue, refl, sym, ap, ◌∙◌, subst, arith}
+use Rattle.std.proofs.Common.{◌≡◌, ◌≢◌, ◌↔◌, inl, inr, ℕ, suc, ◌+◌, ◌-◌, ◌<◌, ◌≤◌, List, [], ◌∷◌, length, Option, Some, None, slice_get, Bool, true, false, IsTrue, refl, sym, ap, ◌∙◌, subst, arith}
 use Rattle.std.specs.Prelude.{option_map, is_some, not, MatchOption}
 use Rattle.bl_base.specs.declared.number.Var.{Var as Var'}
 use Rattle.bl_ops.specs.declared.access.AccessKind.{AccessKind}
-use Rattle.std.specs.List.{All}
-use Rattle.std.proofs.lemmas.Bool.{cases_lt, false≢true}
-use Rattle.std.proofs.lemmas.List.Elements.{All-drop, All-get_or}
-use Rattle.std.proofs.lemmas.Option.{none-some}
-use Rattle.bl_base.proofs.Lists.{some_same, within_get}
+use Rattle.std.proofs.lemmas.Bool.{false≢true}
+use Rattle.bl_base.proofs.Lists.{some_same}
 use Rattle.bl_ops.specs.declared.op.Op.{Op}
-use Rattle.bl_ops.specs.declared.op.Op.TheVariants.{I32Add, I32Sub, I32GtU, Move, Outside}
-use Rattle.bl_cmd.specs.Layout.{size_of, entry_of, command_at, Holds}
+use Rattle.bl_ops.specs.declared.op.Op.TheVariants.{I32Sub, I32GtU, Move, Outside}
+use Rattle.bl_cmd.specs.Layout.{size_of, entry_of, command_at}
 use Rattle.bl_cmd.specs.Rules.{GoesTo, IsGrowth, IsGuarded, IsLocal, IsPassed, IsReadable, IsSum, IsTested, Rule8, assign, branch, operands_of, variable}
-use Rattle.bl_cmd.specs.Sites.{Among, Names}
-use Rattle.bl_cmd.specs.Tables.{HasTargets, IsApart, IsGrownAlone, IsGrownBy, IsPlace, IsTarget, IsTestedBy, ReadsAll, ReadsOne}
+use Rattle.bl_cmd.specs.Sites.{Among}
+use Rattle.bl_cmd.specs.Tables.{HasTargets, IsApart, IsGrownBy, IsPlace, IsTarget, IsTestedBy, ReadsAll, ReadsOne}
 use Rattle.bl_cmd.specs.declared.command.Command.{Command}
 use Rattle.bl_cmd.specs.declared.command.Command.TheVariants.{Set, Load, Store, Test, Jump, Arg, Call, Out, Ret, Trap}
 use Rattle.bl_cmd.specs.declared.command.Mark.{Mark}
 use Rattle.bl_cmd.specs.declared.command.Operand.{Operand}
-use Rattle.bl_cmd.specs.declared.command.Operand.TheVariants.{Var, Const}
+use Rattle.bl_cmd.specs.declared.command.Operand.TheVariants.{Const}
 use Rattle.bl_cmd.specs.declared.definitions.MemoryDef.{MemoryDef}
 use Rattle.bl_cmd.specs.declared.place.Place.{Place}
 
@@ -104,8 +101,7 @@ tested_is place address memory bytes set test t way answer good behind at_set at
     let none : place.position - 0 ≡ place.position = omega arith in
     let back : place.position - 0 - 1 ≡ suc first = omega arith in
     let holds = good.holds in
-    let holds_from = holds.from in let holds_below = holds.below in
-    (
+    let holds_from = holds.from in let holds_below = holds.below in (
       λ ok. let by = is.0 ok in record {
         first = first;
         mark = sets.0;
@@ -208,8 +204,7 @@ module _ (place : Place) (memory : ℕ) (delta : Operand) (behind : entry_of pla
           let second : place.position - 2 ≡ suc (suc first) = omega arith in
           let third : place.position - 1 ≡ suc (suc (suc first)) = omega arith in
           let none : place.position - 0 ≡ place.position = omega arith in
-          let back : place.position - 1 - 1 ≡ suc (suc first) = omega arith in
-          (
+          let back : place.position - 1 - 1 ≡ suc (suc first) = omega arith in (
             λ ok. let by = is.0 ok in record {
               first = first;
               mark_r = room.0;
@@ -274,8 +269,7 @@ pub growth_some : (place : Place) (command : Command) (mark : Mark) (op : Op) (t
     → IsTrue answer ↔ (IsSum place.parts.now memory op a c × IsGrowth place.parts.now place.function place.position memory b)
     → IsTrue answer ↔ Rule8 place.parts.now place.function place.position command
 growth_some place command mark op to a b c memory answer is size grown =
-    subst (λ k. IsTrue answer ↔ Rule8 place.parts.now place.function place.position k) (sym is)
-    (
+    subst (λ k. IsTrue answer ↔ Rule8 place.parts.now place.function place.position k) (sym is) (
       λ t other exists at. subst (λ (m : ℕ). IsSum place.parts.now m op a c × IsGrowth place.parts.now place.function place.position m b) (size_one place to.0 memory other size.1 at) (grown.0 t),
       λ rule. grown.1 (rule memory size.0 size.1),
     )
@@ -290,7 +284,7 @@ growth_none place command mark op to a b c is none =
 -- a Load
 pub growth_load : (place : Place) (command : Command) (mark : Mark) (kind : AccessKind) (memory : ℕ) (to : Var') (offset : ℕ) (address : Operand) (found : Option ℕ) (answer : Bool) → command ≡ Load mark kind memory to offset address
     → MatchOption found ((memory : ℕ) → memory < length place.parts.now.memories → to.0 ≡ size_of place.parts.now memory → ⊥)
-        (λ memory. (memory < length place.parts.now.memories) × (to.0 ≡ size_of place.parts.now memory))
+    (λ memory. (memory < length place.parts.now.memories) × (to.0 ≡ size_of place.parts.now memory))
     → is_some found ≡ not answer
     → IsTrue answer ↔ Rule8 place.parts.now place.function place.position command
 growth_load place command mark kind memory to offset address found answer is size test =
@@ -298,10 +292,23 @@ growth_load place command mark kind memory to offset address found answer is siz
   where
     by : (found : Option ℕ) (answer : Bool)
         → MatchOption found ((memory : ℕ) → memory < length place.parts.now.memories → to.0 ≡ size_of place.parts.now memory → ⊥)
-            (λ memory. (memory < length place.parts.now.memories) × (to.0 ≡ size_of place.parts.now memory))
+        (λ memory. (memory < length place.parts.now.memories) × (to.0 ≡ size_of place.parts.now memory))
         → is_some found ≡ not answer
         → IsTrue answer ↔ Rule8 place.parts.now place.function place.position (Load mark kind memory to offset address)
     by None true size test = (λ _. size, λ _. refl)
     by None false size test = absurd (cc)
     by (Some m) true size test = absurd (cc)
     by (Some m) false size test = (λ t. absurd (false≢true t), λ rule. absurd (rule m size.0 size.1))
+
+-- ---- a Set by its parts
+
+pub is_assigned : (command : Command) (mark : Mark) (op' : Op) (to : Var') (a' b' c' : Operand) (op : Op) (a b c : Operand) → command ≡ Set mark op' to a' b' c' → op' ≡ op → a' ≡ a → b' ≡ b → c' ≡ c
+    → Some command ≡ assign mark op to.0 a b c
+is_assigned command mark op' to a' b' c' op a b c e f g h i =
+    ap Some (e ∙ ap (λ o. Set mark o to a' b' c') f ∙ ap (λ x. Set mark op to x b' c') g ∙ ap (λ x. Set mark op to a x c') h ∙ ap (Set mark op to a b) i)
+
+pub not_assigned : (command : Command) (mark : Mark) (op' : Op) (to : Var') (a' b' c' : Operand) (op : Op) (a b c : Operand) (other : Mark) (t : ℕ) → command ≡ Set mark op' to a' b' c' → Some command ≡ assign other op t a b c
+    → (op' ≡ op) × (a' ≡ a) × (b' ≡ b) × (c' ≡ c)
+not_assigned command mark op' to a' b' c' op a b c other t e f =
+    let same : Set mark op' to a' b' c' ≡ Set other op (record { 0 = t }) a b c = sym e ∙ some_same _ _ f in
+    (cc, cc, cc, cc)

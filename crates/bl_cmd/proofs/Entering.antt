@@ -1,5 +1,5 @@
 -- Who goes to each position, noted command by command.
-use Rattle.std.proofs.Common.{◌≡◌, ◌≢◌, ◌⊎◌, ◌↔◌, inl, inr, ℕ, zero, suc, ◌+◌, ◌<◌, ◌≤◌, List, [], ◌∷◌, ◌++◌, length, set, replicate, get_or, Option, Some, None, slice_get, refl, sym, ap, ◌∙◌, subst, arith}
+use Rattle.std.proofs.Common.{◌≡◌, ◌⊎◌, ◌↔◌, inl, inr, ℕ, zero, suc, ◌+◌, ◌<◌, ◌≤◌, List, [], ◌∷◌, length, set, replicate, get_or, Option, Some, None, slice_get, refl, sym, ap, ◌∙◌, subst, arith}
 use Rattle.std.specs.Prelude.{unwrap_or}
 use Rattle.std.proofs.lemmas.Bool.{cases_lt}
 use Rattle.std.proofs.lemmas.Option.{none-some, slice_get_within, slice_get-get_or}
@@ -64,10 +64,14 @@ module _ (G : ℕ → ℕ → Type 0) (from to : ℕ) where
 
       near : (old : Option Entrants) → Spans (λ f. G f to) old → Spans (λ f. More f to) (Some (joined old from))
       near None spans = (inr (refl, refl), inr (refl, refl), λ f goes. elim goes as (λ _. (from ≤ f) × (f ≤ from)) [ inl old ↦ absurd (spans f old) | inr new ↦ (omega (arith, new.0), omega (arith, new.0)) ])
-      near (Some e) spans = (inl spans.0, inr (refl, refl), λ f goes. elim goes as (λ _. (e.least ≤ f) × (f ≤ from)) [
-        | inl old ↦ ((spans.2 f old).0, behind f to old)
-        | inr new ↦ (let least = behind e.least to spans.0 in omega (arith, new.0), omega (arith, new.0))
-      ])
+      near (Some e) spans = (
+        inl spans.0,
+        inr (refl, refl),
+        λ f goes. elim goes as (λ _. (e.least ≤ f) × (f ≤ from)) [
+          | inl old ↦ ((spans.2 f old).0, behind f to old)
+          | inr new ↦ (let least = behind e.least to spans.0 in omega (arith, new.0), omega (arith, new.0))
+        ],
+      )
 
       here : t ≡ to → Spans (λ f. More f t) entry
       here same =

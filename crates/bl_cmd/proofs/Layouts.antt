@@ -1,10 +1,10 @@
 -- Where functions, their variables and their commands stand.
-use Rattle.std.proofs.Common.{◌≡◌, ◌≢◌, ◌⊎◌, inl, inr, ℕ, zero, suc, ◌+◌, ◌-◌, ◌<◌, ◌≤◌, List, [], ◌∷◌, length, Option, Some, None, slice_get, true, false, Bool, refl, sym, ap, ◌∙◌, subst, arith}
+use Rattle.std.proofs.Common.{◌≡◌, ◌≢◌, inl, inr, ℕ, zero, suc, ◌+◌, ◌-◌, ◌<◌, ◌≤◌, List, [], ◌∷◌, length, Some, slice_get, true, false, Bool, refl, ap, subst, arith}
 use Rattle.std.specs.Prelude.{nat_lt, if◌then◌else◌, option_map, unwrap_or}
 use Rattle.std.proofs.lemmas.Bool.{cases_lt, ltb-true, ltb-false}
 use Rattle.std.proofs.lemmas.Option.{none-some}
 use Rattle.bl_base.proofs.Lists.{some_same, all_get, within_get}
-use Rattle.bl_cmd.specs.Layout.{sum_before, number_at, holding, statics, first_of, params_of, results_of, result, entry_of, running, command_at, Holds}
+use Rattle.bl_cmd.specs.Layout.{sum_before, number_at, holding, statics, first_of, params_of, results_of, entry_of, running, Holds}
 use Rattle.bl_cmd.specs.Programs.{IsProgram}
 use Rattle.bl_cmd.specs.Rules.{Rule2, IsFunction, IsOwn, IsResult}
 use Rattle.bl_cmd.specs.declared.definitions.FunctionDef.{FunctionDef}

@@ -1,5 +1,9 @@
 pub mod Commands
 pub mod Entering
+pub mod Faults
 pub mod Layouts
 pub mod Names
+pub mod Rising
+mod Rows
 pub mod Tabled
+pub mod Totals

@@ -1,18 +1,15 @@
 -- What the tables of a program tell of its positions and variables.
-use Rattle.std.proofs.Common.{◌≡◌, ◌≢◌, ◌⊎◌, ◌↔◌, inl, inr, ℕ, zero, suc, ◌+◌, ◌-◌, ◌<◌, ◌≤◌, List, [], ◌∷◌, ◌++◌, length, get_or, Option, Some, None, slice_get, true, false, Bool, IsTrue, MatchOption, refl, sym, ap, ◌∙◌, subst, arith}
+use Rattle.std.proofs.Common.{◌≡◌, ◌⊎◌, ◌↔◌, inl, inr, ℕ, zero, suc, ◌+◌, ◌-◌, ◌<◌, ◌≤◌, List, [], ◌∷◌, ◌++◌, length, get_or, Option, Some, None, slice_get, true, false, Bool, IsTrue, MatchOption, refl, sym, ap, ◌∙◌, subst, arith}
 use Rattle.std.specs.Prelude.{IsSomeAnd, is_some, not}
 use Rattle.bl_base.specs.declared.number.Var.{Var}
-use Rattle.bl_cmd.specs.Sites.{Names}
 use Rattle.bl_cmd.specs.declared.command.Operand.{Operand}
 use Rattle.bl_cmd.specs.declared.command.Operand.TheVariants as named
 use Rattle.std.proofs.lemmas.Bool.{cases_lt, false≢true}
-use Rattle.std.proofs.lemmas.Option.{none-some, slice_get-get_or, slice_get_read, slice_get_within}
-use Rattle.bl_base.proofs.Lists.{some_same, within_get}
-use Rattle.bl_cmd.specs.Layout.{statics, first_of, entry_of, command_at, Holds}
+use Rattle.std.proofs.lemmas.Option.{none-some, slice_get-get_or, slice_get_read}
+use Rattle.bl_cmd.specs.Layout.{first_of, entry_of, Holds}
 use Rattle.bl_cmd.specs.Rules.{Rule2, GoesTo, IsOwn, IsReadable, IsResult, IsPassed, IsGuarded}
-use Rattle.bl_cmd.specs.Entrants.{Goes, Spans, AreEntrants}
+use Rattle.bl_cmd.specs.Entrants.{Goes, Spans}
 use Rattle.bl_cmd.specs.Tables.{AreValues, AreTables, IsPlace, ReadsOne}
-use Rattle.bl_cmd.specs.declared.command.Command.{Command}
 use Rattle.bl_cmd.specs.declared.definitions.ProgramParts.{ProgramParts as Program}
 use Rattle.bl_cmd.specs.declared.tables.Entrants.{Entrants}
 use Rattle.bl_cmd.specs.declared.tables.Tables.{Tables}
@@ -77,7 +74,7 @@ some_and P o x e h = subst (λ o. IsSomeAnd o P) (sym e) h
 -- the function that a search found
 pub owner_is : (program : Program) (tables : Tables) (firsts : List ℕ) (x : ℕ) (owner : Option ℕ) → AreTables program tables → firsts ≡ tables.firsts
     → MatchOption owner ((x < get_or firsts 0 0) ⊎ (get_or firsts (length firsts - 1) 0 ≤ x))
-        (λ owner. (owner + 1 < length firsts) × (get_or firsts owner 0 ≤ x) × (x < get_or firsts (owner + 1) 0))
+    (λ owner. (owner + 1 < length firsts) × (get_or firsts owner 0 ≤ x) × (x < get_or firsts (owner + 1) 0))
     → MatchOption owner ((any : ℕ) → IsOwn program any x → ⊥) (λ owner. (owner < length program.functions) × IsOwn program owner x)
 owner_is program tables firsts x (Some owner) good same h =
     let values = subst (AreValues (first_of program) (length program.functions)) (sym same) good.firsts in
@@ -153,8 +150,7 @@ pub guarded_is : (program : Program) (tables : Tables) (function position back :
     → entry_of program function + back < position → slice_get tables.entrants (position - back) ≡ Some (Some entry)
     → ((entry.least ≡ position - back - 1) × (entry.greatest ≡ position - back - 1)) ↔ IsGuarded program (position - back - 1) (position - back)
 guarded_is program tables function position back entry good holds behind found =
-    let spans = good.entrants.each (position - back) (Some entry) found in
-    (
+    let spans = good.entrants.each (position - back) (Some entry) found in (
       λ both. record {
         entries = λ other exists. no_entry program function (position - back) other (back_holds program function position back holds behind) (omega arith);
         others = λ from command at_from goes.
@@ -194,3 +190,16 @@ none_test None true e = (λ _. refl, λ _. refl)
 none_test None false e = absurd (cc)
 none_test (Some x) true e = absurd (cc)
 none_test (Some x) false e = (λ t. absurd (false≢true t), λ n. absurd (none-some x (sym n)))
+
+-- the entries that stand in the table
+pub entry_value : (program : Program) (tables : Tables) (ys : List ℕ) (function i : ℕ) → AreTables program tables → ys ≡ tables.entries → i ≡ function → function ≤ length program.functions → get_or ys i 0 ≡ entry_of program function
+entry_value program tables ys function i good same index le =
+    ap (λ (l : List ℕ). get_or l i 0) same ∙ ap (λ (k : ℕ). get_or tables.entries k 0) index ∙ good.entries.each function le
+
+-- a position between a function's entry and its end
+pub holds_between : (program : Program) (tables : Tables) (first next : List ℕ) (function position : ℕ) → AreTables program tables → function < length program.functions → first ≡ tables.entries → next ≡ tables.entries
+    → get_or first function 0 ≤ position → position < get_or next (function + 1) 0 → Holds program function position
+holds_between program tables first next function position good exists one two from below =
+    let entry = entry_value program tables first function function good one refl (omega arith) in
+    let end = entry_value program tables next (suc function) (function + 1) good two (omega arith) (omega arith) in
+    record { exists = exists; from = omega arith; below = omega arith }

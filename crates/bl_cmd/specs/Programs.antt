@@ -1,12 +1,13 @@
 -- What holds of every program.
-use Rattle.std.specs.Prelude.{◌≡◌, ◌<◌, ℕ, IsTrue, not, length, All, Option, Some, None}
-use Rattle.bl_base.specs.Trap.{trap_of}
+use Rattle.std.specs.Prelude.{◌≡◌, ◌<◌, ℕ, IsTrue, not, List, length, All, Option, Some, None, slice_get}
+use Rattle.bl_base.specs.Trap.{code_of}
+use Rattle.bl_base.specs.declared.trap.Trap.{Trap as TrapKind}
 use Rattle.bl_ops.specs.Access.{is_load}
 use Rattle.bl_ops.specs.Table.{row_of}
 use Rattle.bl_ops.specs.declared.op.Op.{Op}
 use Rattle.bl_ops.specs.declared.op.Op.TheVariants.{Move}
 use Rattle.bl_ops.specs.declared.op.OpRow.{OpRow}
-use Rattle.bl_cmd.specs.Layout.{entry_of, command_at}
+use Rattle.bl_cmd.specs.Layout.{entry_of}
 use Rattle.bl_cmd.specs.declared.command.Operand.{Operand}
 use Rattle.bl_cmd.specs.declared.command.Operand.TheVariants as operand
 use Rattle.bl_cmd.specs.declared.command.Command.{Command}
@@ -44,10 +45,14 @@ IsCommand (Out mark index value) = Unit {0}
 IsCommand Ret = Unit {0}
 IsCommand (Trap kind) = Unit {0}
 
+-- the command at a position is the trap of that kind
+abbrev pub IsTrapAt : List Command → ℕ → Type 0
+IsTrapAt commands position = (kind : TrapKind) × (code_of kind ≡ position) × (slice_get commands position ≡ Some (Trap kind))
+
 -- the parts are those of a program
 pub record IsProgram (program : Program) : Type 0 where
   pub commands : All IsCommand program.commands
   -- positions 0 to 6 are the traps of kinds 0 to 6
-  pub traps : (position : ℕ) → position < 7 → (kind : _) × (trap_of position ≡ Some kind) × (command_at program position ≡ Some (Trap kind))
+  pub traps : (position : ℕ) → position < 7 → IsTrapAt program.commands position
   -- the functions' lengths add up to the commands behind the traps
   pub lengths : length program.commands ≡ entry_of program (length program.functions)

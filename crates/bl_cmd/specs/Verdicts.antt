@@ -1,17 +1,18 @@
 -- What `check` and its parts answer.
-use Rattle.std.specs.Prelude.{◌≡◌, ◌<◌, ℕ, List, length, Some, slice_get}
+use Rattle.std.specs.Prelude.{◌≡◌, ◌<◌, ℕ, List, length, Option, Some, None, slice_get}
 use Rattle.bl_cmd.specs.Layout.{command_at, Holds}
-use Rattle.bl_cmd.specs.Rules.{Rule1, Rule2, Rule3, Rule4, Rule5, Rule6, Rule7, Rule8, Rule9, IsFirstBroken}
+use Rattle.bl_cmd.specs.Rules.{Rule1, Rule2, Rule3, Rule4, Rule5, Rule6, Rule7, Rule8, Rule9, IsFirstBroken, IsWellFormed}
 use Rattle.bl_cmd.specs.declared.command.Command.{Command}
 use Rattle.bl_cmd.specs.declared.verdict.CheckError.{CheckError}
-use Rattle.bl_cmd.specs.declared.verdict.CheckError.TheVariants.{Fault, Memory}
+use Rattle.bl_cmd.specs.declared.verdict.CheckError.TheVariants as error
+use Rattle.bl_cmd.specs.declared.verdict.Fault.{Fault}
 use Rattle.bl_cmd.specs.declared.definitions.ExportDef.{ExportDef}
 use Rattle.bl_cmd.specs.declared.definitions.ProgramParts.{ProgramParts as Program}
 
 -- a fault is the first one; want of memory says nothing
 abbrev pub IsReason : Program → CheckError → Type 0
-IsReason program (Fault rule position) = IsFirstBroken rule position.0 program
-IsReason program Memory = Unit {0}
+IsReason program (error.Fault rule position) = IsFirstBroken rule position.0 program
+IsReason program error.Memory = Unit {0}
 
 -- ---- the rules on the whole program
 
@@ -69,3 +70,8 @@ pub record IsFault (program : Program) (rule position : ℕ) : Type 0 where
   pub function : ℕ
   pub fault : IsFaultIn program function rule position
   pub before : (other : ℕ) → other < function → KeepsBelow program other (length program.commands)
+
+-- what the check finds: nothing where all rules are kept, else the first fault
+abbrev pub IsVerdict : Program → Option Fault → Type 0
+IsVerdict program None = IsWellFormed program
+IsVerdict program (Some fault) = IsFirstBroken fault.rule fault.position.0 program

@@ -4,6 +4,7 @@
 
 mod command;
 mod definitions;
+pub mod laws;
 mod parts;
 mod place;
 mod program;
@@ -18,7 +19,7 @@ pub use definitions::{
     Demand, ExportDef, FunctionDef, GlobalDef, MemRow, MemoryDef, ParamDef, ProgramParts,
     SiteWeight,
 };
-pub use program::Program;
+pub use program::{Program, arity};
 pub use verdict::{CheckError, check};
 pub use weights::{site_weight, weight};
 pub use wellformed::WellFormed;

@@ -74,7 +74,12 @@ fn is_memory(memory: &MemoryDef) -> bool
 fn rows_rise(rows: &[MemRow]) -> bool
     ensures { IsTrue result ↔ AllPairs (λ row next. row.number < next.number) rows.now }
 {
-    rows.is_sorted_by(|row, next| row.number < next.number)
+    for i in 1..rows.len() {
+        if rows[i - 1].number >= rows[i].number {
+            return false;
+        }
+    }
+    true
 }
 
 /// Whether each is a row of so many pages.
@@ -135,7 +140,10 @@ fn are_few(parts: &ProgramParts) -> bool
     if globals > limit || memories > limit - globals {
         return false;
     }
-    have_few(parts.functions.as_slice(), (limit - globals - memories) as u32)
+    have_few(
+        parts.functions.as_slice(),
+        (limit - globals - memories) as u32,
+    )
 }
 
 /// Whether the functions' variables are at most so many.
@@ -156,7 +164,9 @@ fn have_few(functions: &[FunctionDef], most: u32) -> bool
 fn are_values(globals: &[GlobalDef]) -> bool
     ensures { IsTrue result ↔ All (λ global. IsValue global.kind global.first) globals.now }
 {
-    globals.iter().all(|global| is_value(global.kind, global.first))
+    globals
+        .iter()
+        .all(|global| is_value(global.kind, global.first))
 }
 
 /// Whether the number is a value of the type.
@@ -217,7 +227,12 @@ fn keeps_demands(parts: &ProgramParts) -> bool
 fn demands_rise(demands: &[Demand]) -> bool
     ensures { IsTrue result ↔ AllPairs Precedes demands.now }
 {
-    demands.is_sorted_by(|demand, next| precedes(*demand, *next))
+    for i in 1..demands.len() {
+        if !precedes(demands[i - 1], demands[i]) {
+            return false;
+        }
+    }
+    true
 }
 
 /// Whether the one demand stands before the other.
@@ -283,7 +298,12 @@ fn is_public(parts: &ProgramParts, x: u32) -> bool
 fn weights_rise(weights: &[SiteWeight]) -> bool
     ensures { IsTrue result ↔ AllPairs (λ entry next. entry.at.0 < next.at.0) weights.now }
 {
-    weights.is_sorted_by(|entry, next| entry.at.0 < next.at.0)
+    for i in 1..weights.len() {
+        if weights[i - 1].at.0 >= weights[i].at.0 {
+            return false;
+        }
+    }
+    true
 }
 
 /// Whether each weight is one of a site, and at least 1.

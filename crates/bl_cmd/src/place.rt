@@ -87,7 +87,11 @@ impl<'p> Place<'p> {
         ensures { IsTrue result ↔ IsResult self.now.parts.now function x }
     {
         let first = self.first_of(function);
-        first <= x && is_result(&self.parts.functions.as_slice()[function], (x - first) as usize)
+        first <= x
+            && is_result(
+                &self.parts.functions.as_slice()[function],
+                (x - first) as usize,
+            )
     }
 
     /// The function whose variable that is; None where it is no function's.

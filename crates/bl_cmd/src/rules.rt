@@ -258,7 +258,12 @@ fn keeps_growth(place: &Place, command: Command) -> bool
 {
     match command {
         Command::Set {
-            op, to, a, b, c, ..
+            op,
+            to,
+            a,
+            b,
+            c,
+            ..
         } => match place.memory_of(to) {
             Some(memory) => is_grown(place, memory, op, a, b, c),
             None => true,
@@ -357,23 +362,37 @@ fn assigned(command: Command, op: Op, a: Operand, b: Operand, c: Operand) -> Opt
         (λ to. (mark : Mark) × (Some command ≡ assign mark op to.0 a b c)) }
 {
     match command {
-        Command::Set { mark, to, .. } => {
-            let wanted = Command::Set {
-                mark,
-                op,
-                to,
-                a,
-                b,
-                c,
-            };
-            if is_same(command, wanted) { Some(to) } else { None }
+        Command::Set {
+            op: operator,
+            to,
+            a: first,
+            b: second,
+            c: third,
+            ..
+        } => {
+            if is_operator(operator, op)
+                && is_same(first, a)
+                && is_same(second, b)
+                && is_same(third, c)
+            {
+                Some(to)
+            } else {
+                None
+            }
         }
         _ => None,
     }
 }
 
-/// Whether two commands are equal.
-fn is_same(one: Command, other: Command) -> bool
+/// Whether two operators are equal.
+fn is_operator(one: Op, other: Op) -> bool
+    ensures { IsTrue result ↔ (one ≡ other) }
+{
+    one == other
+}
+
+/// Whether two operands are equal.
+fn is_same(one: Operand, other: Operand) -> bool
     ensures { IsTrue result ↔ (one ≡ other) }
 {
     one == other

@@ -1,5 +1,5 @@
 //! What a protect at a site costs.
-ghost use Rattle.std.specs.Prelude.{◌≡◌, ◌≤◌, ◌<◌, ◌^◌, ◌↔◌, IsTrue, Some, min, true, unwrap_or};
+ghost use Rattle.std.specs.Prelude.{◌≡◌, ◌≤◌, ◌<◌, ◌^◌, ◌↔◌, IsTrue, Some, if◌then◌else◌, min, true, unwrap_or};
 ghost use Rattle.std.specs.List.{AllPairs};
 ghost use Rattle.std.specs.FinSet as fin;
 ghost use Rattle.bl_cmd.specs.Sites.{IsSite, listed, mark_at, mark_of, site_weight, weight_of};
@@ -127,9 +127,20 @@ pub fn weight(program: &WellFormed, protects: &SiteSet) -> u64
     let parts = program.program().parts();
     let mut total: u64 = 0;
     for at in 0..parts.commands.len() {
-        if protects.contains(Pos(at as u32)) {
-            total += weight_at(parts, at);
-        }
+        total += weight_within(parts, protects, at);
     }
     total
+}
+
+/// The weight of the site at a position, or 2^63 where it is greater; 0 where no site of the set stands there.
+fn weight_within(parts: &ProgramParts, protects: &SiteSet, at: usize) -> u64
+    requires rise { AllPairs (λ entry next. entry.at.0 < next.at.0) parts.now.weights }
+    requires few { at < 2 ^ 32 }
+    ensures { result ≡ min (if fin.contains protects.now at then unwrap_or (site_weight parts.now at) 0 else 0) (2 ^ 63) }
+{
+    if protects.contains(Pos(at as u32)) {
+        weight_at(parts, at)
+    } else {
+        0
+    }
 }

@@ -1,4 +1,4 @@
-use Rattle.std.proofs.Common.{◌≤◌, ◌<◌, ◌-◌, ◌+◌, length, get_or}
+use Rattle.std.proofs.Common.{◌≤◌, ◌<◌, ◌-◌, length, get_or}
 use Rattle.bl_cmd.proofs.place.owner_among.Given as goal
 
 abbrev pub decreases-loop-high : goal.decreases-loop-high

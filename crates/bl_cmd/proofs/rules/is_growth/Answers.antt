@@ -1,5 +1,5 @@
-use Rattle.std.proofs.Common.{◌≡◌, ◌∙◌, true, refl, sym, ap, Some}
-use Rattle.bl_ops.specs.declared.op.Op.TheVariants.{I32GtU, I32Sub, Move}
+use Rattle.std.proofs.Common.{◌∙◌, true, ap}
+use Rattle.bl_ops.specs.declared.op.Op.TheVariants.{I32Sub, Move}
 use Rattle.bl_cmd.specs.Rules.{assign}
 use Rattle.bl_cmd.specs.declared.command.Operand.{Operand}
 use Rattle.bl_cmd.specs.declared.command.Operand.TheVariants.{Const}

@@ -1,4 +1,4 @@
-use Rattle.std.proofs.Common.{◌≡◌, ◌∙◌, refl, sym, ap, Some}
+use Rattle.std.proofs.Common.{◌∙◌, ap}
 use Rattle.bl_ops.specs.declared.op.Op.TheVariants.{Outside}
 use Rattle.bl_cmd.specs.Rules.{assign}
 use Rattle.bl_cmd.specs.declared.command.Operand.{Operand}

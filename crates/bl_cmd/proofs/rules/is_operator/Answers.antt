@@ -1,0 +1,7 @@
+use Rattle.std.proofs.Common.{rules, sym, ◌∙◌}
+use denote.Enum.Bare.{same_true, true_same}
+use Rattle.bl_ops.specs.contracts.op.Op.{the_type}
+use Rattle.bl_cmd.proofs.rules.is_operator.Goals as goal
+
+pub returns : goal.returns
+returns c = (λ t. same_true the_type (search rules) _ _ (sym c.eq.ensures ∙ t), λ e. c.eq.ensures ∙ true_same the_type _ _ e)
