@@ -1,6 +1,6 @@
 -- Steps of the machine, and runs of them.
 use Rattle.std.proofs.Common.{◌≡◌, ℕ, suc, ◌+◌, ◌≤◌, ◌<◌, List, refl, sym, ap, ◌∙◌, subst, arith}
-use Rattle.std.specs.Prelude.{OnOk, Result, Ok, Err}
+use Rattle.std.specs.Prelude.{IfOk, OnOk, Result, Ok, Err}
 use Rattle.std.proofs.Math.Path.{fun_ext}
 use Rattle.bl_base.specs.Runs.{Outcome, Next, goes, ends, stuck, Comes, EndsAfter, last, more, IsWithin, Tells, outcome_of}
 use Rattle.bl_base.specs.declared.run.Run.{Run}
@@ -10,7 +10,8 @@ use Rattle.bl_cmd.specs.Outcomes.{IsStart, opening, plain}
 use Rattle.bl_cmd.specs.Steps.{Plain, on, plain_step, written}
 use Rattle.bl_cmd.specs.declared.definitions.ProgramParts.{ProgramParts as Program}
 use Rattle.bl_seq.specs.Filled.{Tree, register_at}
-use Rattle.bl_seq.specs.Machines.{Leads, told}
+use Rattle.bl_seq.specs.Machines.{Leads, next_of, told}
+use Rattle.bl_seq.specs.declared.state.Progress.{Progress}
 
 -- on behind a write
 pub on_written : {E : Type 0} (r : Result (Unit {0}) E) (s : Plain) (position depth x number : ℕ) (file : List Tree) → position ≡ s.position + 1
@@ -52,3 +53,15 @@ module _ (program : Program) (function : ℕ) (start : Start) (steps : ℕ) (fit
 
   pub answered : (next : Next Plain) (run : Run) → Leads program (opening program function start) steps next → outcome_of run ≡ told next → Tells (plain program function start) steps run
   answered next run leads e = subst (λ o. IsWithin (plain program function start) steps o) (sym e) (within next leads)
+
+-- the answer on a run, where the parts that were run are the program's
+pub told_run : (program : Program) (function : ℕ) (start : Start) (steps : ℕ) (fits : IsStart program function start) {E : Type 0} (r : Result Run E)
+    (parts : Program) (opened ended : Plain) (progress : Progress) → parts ≡ program → opened ≡ opening parts function start
+    → Leads parts opened steps (next_of parts progress ended) → IfOk r (λ run. outcome_of run ≡ told (next_of parts progress ended))
+    → IfOk r (λ run. Tells (plain program function start) steps run)
+told_run program function start steps fits (Ok run) parts opened ended progress same at_start leads e =
+    let led : Leads program (opening program function start) steps (next_of parts progress ended) =
+      subst (λ p. Leads p (opening p function start) steps (next_of parts progress ended)) same
+        (subst (λ o. Leads parts o steps (next_of parts progress ended)) at_start leads) in
+    answered program function start steps fits (next_of parts progress ended) run led e
+told_run program function start steps fits (Err y) parts opened ended progress same at_start leads e = tt

@@ -3,3 +3,4 @@ pub mod Filling
 pub mod Laying
 pub mod Spaces
 pub mod Starting
+pub mod Telling

@@ -1,6 +1,6 @@
 -- The machine before the first step.
 use Rattle.std.proofs.Common.{◌≡◌, ◌≢◌, ◌⊎◌, inl, inr, ℕ, zero, suc, ◌+◌, ◌-◌, ◌*◌, ◌<◌, ◌≤◌, Bool, true, false, List, [], ◌∷◌, ◌++◌, length, map, take, drop, set, replicate, get_or, Option, Some, None, slice_get, refl, sym, ap, ◌∙◌, subst, arith}
-use Rattle.std.specs.Prelude.{nat_lt, if◌then◌else◌}
+use Rattle.std.specs.Prelude.{nat_lt, if◌then◌else◌, IfOk, Result, Ok, Err}
 use Rattle.std.specs.List.{All, fold, AllZip}
 use Rattle.std.proofs.lemmas.List.Elements.{All-get_or}
 use Rattle.std.proofs.Math.Seq.{drop-cons}
@@ -106,6 +106,16 @@ module _ (program : Program) (function : ℕ) (start : Start) (one two : List Tr
       by false e = second 1 v ∙ fill_behind (λ d v. register_at one d v) 1 (first_of program function) start.args v (ltb-false v (first_of program function) e) (λ w le. beside 1 w (λ e. omega arith))
   registers_at (suc (suc d)) v =
       second (suc (suc d)) v ∙ fill_apart (λ d v. register_at one d v) 1 (first_of program function) start.args (suc (suc d)) v (λ e. omega arith) ∙ beside (suc (suc d)) v (λ e. omega arith)
+
+pub registers_of : (program : Program) (function : ℕ) (start : Start) {E : Type 0} (r : Result (List Tree) E) (one : List Tree) (first : ℕ) (arguments : List ℕ)
+    → first ≡ first_of program function → arguments ≡ start.args
+    → ((d v : ℕ) → register_at one d v ≡ filled (λ d v. 0) 0 0 (map (λ global. global.first) program.globals ++ map (λ memory. memory.pages) program.memories) d v)
+    → IfOk r (λ two. (d v : ℕ) → register_at two d v ≡ filled (λ d v. register_at one d v) 1 first arguments d v)
+    → IfOk r (λ two. (d v : ℕ) → register_at two d v ≡ first_registers program function start d v)
+registers_of program function start (Ok two) one first arguments is are begun e =
+    registers_at program function start one two _ refl begun
+      (λ d v. e d v ∙ ap (λ n. filled (λ d v. register_at one d v) 1 n arguments d v) is ∙ ap (λ l. filled (λ d v. register_at one d v) 1 (first_of program function) l d v) are)
+registers_of program function start (Err y) one first arguments is are begun e = tt
 
 pub opens : (program : Program) (function : ℕ) (start : Start) (position : ℕ) (chain : List ℕ) (file : List Tree) (space : List ℕ)
     → position ≡ entry_of program function → chain ≡ [] → ((d v : ℕ) → register_at file d v ≡ first_registers program function start d v)

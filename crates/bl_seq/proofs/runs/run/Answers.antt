@@ -1,0 +1,4 @@
+use Rattle.bl_seq.proofs.runs.run.Goals as goal
+
+pub returns : goal.returns
+returns c = ?
