@@ -31,18 +31,22 @@ module _ (registers : ℕ → ℕ → ℕ) (depth : ℕ) where
 
 -- ---- memories
 
+-- a memory of so many pages whose bytes begin there
+abbrev pub pages_at : List ℕ → ℕ → ℕ → MemoryState
+pages_at space from pages = record { pages = pages; bytes = take (pages * 65536) (drop from space) }
+
 module _ (registers : ℕ → ℕ → ℕ) (space : List ℕ) (memories : List MemoryDef) where
   -- one more memory of those in a row
   pub states_next : (old new : List Pages) (x : Pages) (size from i : ℕ) (memory d : MemoryDef) → i < length memories → memory ≡ get_or memories i d
       → new ≡ old ++ x ∷ []
-      → memory_of x ≡ record { pages = registers 0 (size + i); bytes = take (registers 0 (size + i) * 65536) (drop from space) }
+      → memory_of x ≡ pages_at space from (registers 0 (size + i))
       → map memory_of new ++ states_from registers space (size + (i + 1)) (from + memory.reserve * 65536) (drop (i + 1) memories)
         ≡ map memory_of old ++ states_from registers space (size + i) from (drop i memories)
   states_next old new x size from i memory d lt is more state =
       let place : size + (i + 1) ≡ suc (size + i) = omega arith in
       let next : i + 1 ≡ suc i = omega arith in
       let rest = states_from registers space (size + (i + 1)) (from + memory.reserve * 65536) (drop (i + 1) memories) in
-      let one : MemoryState = record { pages = registers 0 (size + i); bytes = take (registers 0 (size + i) * 65536) (drop from space) } in
+      let one : MemoryState = pages_at space from (registers 0 (size + i)) in
       ap (λ l. map memory_of l ++ rest) more
       ∙ ap (λ l. l ++ rest) (map-append memory_of old (x ∷ []))
       ∙ append_assoc (map memory_of old) (memory_of x ∷ []) rest
