@@ -61,7 +61,7 @@ pub told_run : (program : Program) (function : ℕ) (start : Start) (steps : ℕ
     → IfOk r (λ run. Tells (plain program function start) steps run)
 told_run program function start steps fits (Ok run) parts opened ended progress same at_start leads e =
     let led : Leads program (opening program function start) steps (next_of parts progress ended) =
-      subst (λ p. Leads p (opening p function start) steps (next_of parts progress ended)) same
-        (subst (λ o. Leads parts o steps (next_of parts progress ended)) at_start leads) in
+    subst (λ p. Leads p (opening p function start) steps (next_of parts progress ended)) same
+    (subst (λ o. Leads parts o steps (next_of parts progress ended)) at_start leads) in
     answered program function start steps fits (next_of parts progress ended) run led e
 told_run program function start steps fits (Err y) parts opened ended progress same at_start leads e = tt

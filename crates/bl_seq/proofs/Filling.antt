@@ -52,17 +52,17 @@ in_other tree x v value ne =
     elim (eqb_tells (branch_of v) (branch_of x)) as (λ _. in_tree (put_in tree x value) v ≡ in_tree tree v) [
       | inr other ↦ ap (λ t. get_or (get_or t (leaf_of v) []) (cell_of v) 0) (got_other [] tree (branch_of x) (branch_of v) new_branch other.1)
       | inl same ↦
-        ap (λ t. get_or (get_or t (leaf_of v) []) (cell_of v) 0) (got_put [] tree (branch_of x) (branch_of v) new_branch same.1)
-        ∙ elim (eqb_tells (leaf_of v) (leaf_of x)) as (λ _. get_or (get_or new_branch (leaf_of v) []) (cell_of v) 0 ≡ in_tree tree v) [
-          | inr other ↦
-            ap (λ t. get_or t (cell_of v) 0) (got_other [] branch (leaf_of x) (leaf_of v) new other.1)
-            ∙ ap (λ b. get_or (get_or (get_or tree b []) (leaf_of v) []) (cell_of v) 0) (sym same.1)
-          | inl also ↦
-            ap (λ t. get_or t (cell_of v) 0) (got_put [] branch (leaf_of x) (leaf_of v) new also.1)
-            ∙ got_other 0 leaf (cell_of x) (cell_of v) value (λ cell. ne (whole v x same.1 also.1 cell))
-            ∙ ap (λ l. get_or (get_or branch l []) (cell_of v) 0) (sym also.1)
-            ∙ ap (λ b. get_or (get_or (get_or tree b []) (leaf_of v) []) (cell_of v) 0) (sym same.1)
-        ]
+          ap (λ t. get_or (get_or t (leaf_of v) []) (cell_of v) 0) (got_put [] tree (branch_of x) (branch_of v) new_branch same.1)
+          ∙ elim (eqb_tells (leaf_of v) (leaf_of x)) as (λ _. get_or (get_or new_branch (leaf_of v) []) (cell_of v) 0 ≡ in_tree tree v) [
+            | inr other ↦
+                ap (λ t. get_or t (cell_of v) 0) (got_other [] branch (leaf_of x) (leaf_of v) new other.1)
+                ∙ ap (λ b. get_or (get_or (get_or tree b []) (leaf_of v) []) (cell_of v) 0) (sym same.1)
+            | inl also ↦
+                ap (λ t. get_or t (cell_of v) 0) (got_put [] branch (leaf_of x) (leaf_of v) new also.1)
+                ∙ got_other 0 leaf (cell_of x) (cell_of v) value (λ cell. ne (whole v x same.1 also.1 cell))
+                ∙ ap (λ l. get_or (get_or branch l []) (cell_of v) 0) (sym also.1)
+                ∙ ap (λ b. get_or (get_or (get_or tree b []) (leaf_of v) []) (cell_of v) 0) (sym same.1)
+          ]
     ]
   where
     whole : (v x : ℕ) → branch_of v ≡ branch_of x → leaf_of v ≡ leaf_of x → cell_of v ≡ cell_of x → v ≡ x
@@ -80,10 +80,10 @@ pub register_put : (file : List Tree) (depth x value d v : ℕ)
 register_put file depth x value d v =
     let tree = put_in (get_or file depth []) x value in
     by_tests (nat_eq d depth) (nat_eq v x) (register_at (put [] file depth tree) d v) value (register_at file d v)
-      (λ e f. ap (λ t. in_tree t v) (got_put [] file depth d tree (eqb-true d depth e)) ∙ in_put (get_or file depth []) x v value (eqb-true v x f))
-      (λ e. ap (λ t. in_tree t v) (got_other [] file depth d tree (eqb-false d depth e)))
-      (λ e f. ap (λ t. in_tree t v) (got_put [] file depth d tree (eqb-true d depth e)) ∙ in_other (get_or file depth []) x v value (eqb-false v x f)
-        ∙ ap (λ k. in_tree (get_or file k []) v) (sym (eqb-true d depth e)))
+    (λ e f. ap (λ t. in_tree t v) (got_put [] file depth d tree (eqb-true d depth e)) ∙ in_put (get_or file depth []) x v value (eqb-true v x f))
+    (λ e. ap (λ t. in_tree t v) (got_other [] file depth d tree (eqb-false d depth e)))
+    (λ e f. ap (λ t. in_tree t v) (got_put [] file depth d tree (eqb-true d depth e)) ∙ in_other (get_or file depth []) x v value (eqb-false v x f)
+    ∙ ap (λ k. in_tree (get_or file k []) v) (sym (eqb-true d depth e)))
 
 -- ---- variables in a row
 
@@ -121,13 +121,13 @@ fill_behind registers depth from [] v le zeros = zeros v le
 fill_behind registers depth from (number ∷ numbers) v le zeros =
     elim (eqb_tells v from) as (λ _. filled (written registers depth from number) depth (suc from) numbers depth v ≡ get_or (number ∷ numbers) (v - from) 0) [
       | inl same ↦
-        fill_before (written registers depth from number) depth (suc from) numbers depth v (omega (arith, same.1)) ∙ written_here registers depth from number v same.1
-        ∙ (let none : v - from ≡ 0 = omega (arith, same.1) in rw none)
+          fill_before (written registers depth from number) depth (suc from) numbers depth v (omega (arith, same.1)) ∙ written_here registers depth from number v same.1
+          ∙ (let none : v - from ≡ 0 = omega (arith, same.1) in rw none)
       | inr other ↦
-        let behind : suc from ≤ v = above v from le other.1 in
-        fill_behind (written registers depth from number) depth (suc from) numbers v behind
+          let behind : suc from ≤ v = above v from le other.1 in
+          fill_behind (written registers depth from number) depth (suc from) numbers v behind
           (λ w low. written_beside registers depth from number depth w (λ e. omega arith) ∙ zeros w (omega arith))
-        ∙ (let next : v - from ≡ suc (v - suc from) = omega arith in rw next)
+          ∙ (let next : v - from ≡ suc (v - suc from) = omega arith in rw next)
     ]
   where
     above : (v from : ℕ) → from ≤ v → v ≢ from → suc from ≤ v
@@ -141,7 +141,7 @@ fill_next old new depth from i numbers number lt is e =
     let place : from + (i + 1) ≡ suc (from + i) = omega arith in
     let split = drop_more numbers i lt in
     rw (place, split) (ap (λ r. filled r depth (suc (from + i)) (drop (i + 1) numbers))
-      (fun_ext (λ d. fun_ext (λ v. e d v)) ∙ ap (λ n. written old depth (from + i) n) is))
+    (fun_ext (λ d. fun_ext (λ v. e d v)) ∙ ap (λ n. written old depth (from + i) n) is))
   where
     drop_more : (xs : List ℕ) (k : ℕ) → k < length xs → drop k xs ≡ get_or xs k 0 ∷ drop (k + 1) xs
     drop_more [] k lt = absurd (omega arith)

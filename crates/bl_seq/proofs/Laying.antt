@@ -40,7 +40,7 @@ frames_at entry first (f ∷ functions) zero blank =
 frames_at entry first (f ∷ functions) (suc function) blank =
     let next : min (length (f ∷ functions)) (suc function) ≡ suc (min (length functions) function) = omega arith in
     rw next (frames_at (entry + f.length) (first + f.vars) functions function blank
-      ∙ same_frame _ _ _ _ _ _ _ _ (omega arith) (omega arith) refl refl)
+    ∙ same_frame _ _ _ _ _ _ _ _ (omega arith) (omega arith) refl refl)
 
 pub frame_is : (program : Program) (frames : List Frame) (function place : ℕ) (blank : Frame) → frames ≡ frames_from 7 (statics program) program.functions
     → place ≡ min (length program.functions) function → get_or frames place blank ≡ frame_of program function
@@ -91,16 +91,16 @@ owner_got : (program : Program) (position : ℕ) → All IsFunction program.func
     → get_or (replicate 7 0 ++ owners_from 0 program.functions) position (length program.functions) ≡ holding (λ f. f.length) program.functions (position - 7)
 owner_got program position each =
     elim (cases_lt position 7) as (λ _. get_or (replicate 7 0 ++ owners_from 0 program.functions) position (length program.functions)
-        ≡ holding (λ f. f.length) program.functions (position - 7)) [
+    ≡ holding (λ f. f.length) program.functions (position - 7)) [
       | inl less ↦
-        let none : position - 7 ≡ 0 = omega arith in
-        got_front 7 position 0 (length program.functions) (owners_from 0 program.functions) less ∙ sym (first_holds program.functions each)
-        ∙ ap (λ x. holding (λ f. f.length) program.functions x) (sym none)
+          let none : position - 7 ≡ 0 = omega arith in
+          got_front 7 position 0 (length program.functions) (owners_from 0 program.functions) less ∙ sym (first_holds program.functions each)
+          ∙ ap (λ x. holding (λ f. f.length) program.functions x) (sym none)
       | inr more ↦
-        let all : length program.functions ≡ 0 + length program.functions = omega arith in
-        got_behind 7 position 0 (length program.functions) (owners_from 0 program.functions) more
-        ∙ ap (λ d. get_or (owners_from 0 program.functions) (position - 7) d) all
-        ∙ owner_at 0 program.functions (position - 7) ∙ omega arith
+          let all : length program.functions ≡ 0 + length program.functions = omega arith in
+          got_behind 7 position 0 (length program.functions) (owners_from 0 program.functions) more
+          ∙ ap (λ d. get_or (owners_from 0 program.functions) (position - 7) d) all
+          ∙ owner_at 0 program.functions (position - 7) ∙ omega arith
     ]
 
 pub owner_is : (program : Program) (owners : List ℕ) (position d : ℕ) → All IsFunction program.functions → owners ≡ replicate 7 0 ++ owners_from 0 program.functions
@@ -138,7 +138,7 @@ small_first program rule function = let most = rule.variables in let up = any_su
 
 pub small_params : (program : Program) → Rule2 program → (function : ℕ) → params_of program function + results_of program function < 2 ^ 31
 small_params program rule function = elim (cases_lt function (length program.functions)) as (λ _. params_of program function + results_of program function < 2 ^ 31) [
-    | inl less ↦
+  | inl less ↦
       let got = within_get program.functions function less in
       let params : params_of program function ≡ length got.0.params = number_is (λ (f : FunctionDef). length f.params) program.functions function got.0 got.1 in
       let results : results_of program function ≡ length got.0.results = number_is (λ (f : FunctionDef). length f.results) program.functions function got.0 got.1 in
@@ -146,11 +146,11 @@ small_params program rule function = elim (cases_lt function (length program.fun
       let room = (all_get IsFunction program.functions function got.0 rule.each got.1).variables in
       let most = small_first program rule (suc function) in
       omega arith
-    | inr more ↦
+  | inr more ↦
       let params : params_of program function ≡ 0 = past_number (λ (f : FunctionDef). length f.params) program.functions function more in
       let results : results_of program function ≡ 0 = past_number (λ (f : FunctionDef). length f.results) program.functions function more in
       omega arith
-  ]
+]
 
 pub small_frame : (program : Program) (frame : Frame) (function : ℕ) → Rule2 program → frame ≡ frame_of program function
     → (frame.first < 2 ^ 31) × (frame.params + frame.results < 2 ^ 31)

@@ -51,11 +51,11 @@ pub lies_inside : (memories : List MemoryDef) (states : List MemoryState) (patch
     → LiesInside patch states
 lies_inside memories states patch sized fits = record {
   within = λ state e.
-    let got = zip_got IsSized memories states patch.memory state sized e in
-    let room : patch.offset + length patch.bytes ≤ got.0.pages * 65536 =
-        subst (λ o. LiesIn patch.offset (length patch.bytes) o) (got_mapped (λ (memory : MemoryDef). memory.pages) memories patch.memory got.0 got.1) fits.0 in
-    let len = got.2.len in
-    omega arith;
+      let got = zip_got IsSized memories states patch.memory state sized e in
+      let room : patch.offset + length patch.bytes ≤ got.0.pages * 65536 =
+      subst (λ o. LiesIn patch.offset (length patch.bytes) o) (got_mapped (λ (memory : MemoryDef). memory.pages) memories patch.memory got.0 got.1) fits.0 in
+      let len = got.2.len in
+      omega arith;
 }
 
 pub sized_patched : (memories : List MemoryDef) (states : List MemoryState) (patch : Patch) → AreSized memories states → LiesInside patch states → AreSized memories (patched states patch)
@@ -66,14 +66,14 @@ sized_patched memories states patch sized inside = by (slice_get states patch.me
     by (Some state) e =
         let got = zip_got IsSized memories states patch.memory state sized e in
         zip_set IsSized memories states patch.memory got.0 (write state patch.offset patch.bytes) sized got.1
-          (record { len = length_write state patch.offset patch.bytes (inside.within state e) ∙ got.2.len })
+        (record { len = length_write state patch.offset patch.bytes (inside.within state e) ∙ got.2.len })
 
 -- one patch of those that are written in order
 pub inside_at : (memories : List MemoryDef) (states : List MemoryState) (patches : List Patch) (i : ℕ) (patch : Patch) → AreSized memories states
     → All (PatchFits (map (λ memory. memory.pages) memories)) patches → i < length patches → patch ≡ get_or patches i patch → LiesInside patch states
 inside_at memories states patches i patch sized fits lt is =
     lies_inside memories states patch sized
-      (subst (PatchFits (map (λ memory. memory.pages) memories)) (sym is) (All-get_or (PatchFits (map (λ memory. memory.pages) memories)) patches i patch lt fits))
+    (subst (PatchFits (map (λ memory. memory.pages) memories)) (sym is) (All-get_or (PatchFits (map (λ memory. memory.pages) memories)) patches i patch lt fits))
 
 pub patch_next : (states : List MemoryState) (patches : List Patch) (i : ℕ) (patch : Patch) → i < length patches → patch ≡ get_or patches i patch
     → fold patched (patched states patch) (drop (i + 1) patches) ≡ fold patched states (drop i patches)
@@ -114,7 +114,7 @@ pub registers_of : (program : Program) (function : ℕ) (start : Start) {E : Typ
     → IfOk r (λ two. (d v : ℕ) → register_at two d v ≡ first_registers program function start d v)
 registers_of program function start (Ok two) one first arguments is are begun e =
     registers_at program function start one two _ refl begun
-      (λ d v. e d v ∙ ap (λ n. filled (λ d v. register_at one d v) 1 n arguments d v) is ∙ ap (λ l. filled (λ d v. register_at one d v) 1 (first_of program function) l d v) are)
+    (λ d v. e d v ∙ ap (λ n. filled (λ d v. register_at one d v) 1 n arguments d v) is ∙ ap (λ l. filled (λ d v. register_at one d v) 1 (first_of program function) l d v) are)
 registers_of program function start (Err y) one first arguments is are begun e = tt
 
 pub opens : (program : Program) (function : ℕ) (start : Start) (position : ℕ) (chain : List ℕ) (file : List Tree) (space : List ℕ)

@@ -41,7 +41,7 @@ module _ (registers : ℕ → ℕ → ℕ) (space : List ℕ) (memories : List M
       → new ≡ old ++ x ∷ []
       → memory_of x ≡ pages_at space from (registers 0 (size + i))
       → map memory_of new ++ states_from registers space (size + (i + 1)) (from + memory.reserve * 65536) (drop (i + 1) memories)
-        ≡ map memory_of old ++ states_from registers space (size + i) from (drop i memories)
+      ≡ map memory_of old ++ states_from registers space (size + i) from (drop i memories)
   states_next old new x size from i memory d lt is more state =
       let place : size + (i + 1) ≡ suc (size + i) = omega arith in
       let next : i + 1 ≡ suc i = omega arith in

@@ -43,13 +43,7 @@ impl Machine {
     }
 
     /// Goes on at the next position with a number written at a depth.
-    fn write(
-        &mut self,
-        alloc: Global,
-        depth: usize,
-        x: usize,
-        number: u64,
-    ) -> Result<(), NoMemory>
+    fn write(&mut self, alloc: Global, depth: usize, x: usize, number: u64) -> Result<(), NoMemory>
         requires position { self.old.position + 1 < 2 ^ 64 }
         requires depth { depth < 2 ^ 63 }
         ensures { OnOk result (on (shown self.old) (written (shown self.old).registers depth x number) ≡ goes (shown self.new)) }
@@ -111,7 +105,12 @@ impl Machine {
     {
         match *command {
             Command::Set {
-                op, to, a, b, c, ..
+                op,
+                to,
+                a,
+                b,
+                c,
+                ..
             } => {
                 self.set(alloc, layout, op, to, a, b, c)?;
                 Ok(Progress::Running)

@@ -11,9 +11,9 @@ ghost use Rattle.bl_seq.specs.Machines.{shown};
 
 use crate::chain::Chain;
 use crate::layout::Layout;
-use crate::state::Machine;
 use crate::registers::Registers;
 use crate::space::Space;
+use crate::state::Machine;
 use bl_base::{NoMemory, Patch, Start};
 use bl_cmd::{MemoryDef, ProgramParts};
 use std::alloc::Global;
@@ -176,11 +176,7 @@ fn patch_memory(memories: &mut Vec<Contents>, patch: &Patch)
 }
 
 /// The memories one after another, each with room for its reserve.
-fn space_of(
-    alloc: Global,
-    memories: &[MemoryDef],
-    contents: &[Contents],
-) -> Result<Space, NoMemory>
+fn space_of(alloc: Global, memories: &[MemoryDef], contents: &[Contents]) -> Result<Space, NoMemory>
     requires { length memories.now ≡ length contents.now }
     ensures { IfOk result (λ space. space ≡ space_of memories.now contents.now) }
 {

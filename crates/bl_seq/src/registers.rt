@@ -109,13 +109,7 @@ impl Branch {
     }
 
     /// Puts a number at a place of the leaf of that number.
-    fn put(
-        &mut self,
-        alloc: Global,
-        leaf: usize,
-        place: usize,
-        number: u64,
-    ) -> Result<(), NoMemory>
+    fn put(&mut self, alloc: Global, leaf: usize, place: usize, number: u64) -> Result<(), NoMemory>
         requires leaf { leaf < 2 ^ 63 }
         requires place { place < 2 ^ 63 }
         ensures { OnOk result (self.new ≡ put [] self.old leaf (put 0 (slice_index_or self.old leaf []) place number)) }
@@ -243,13 +237,7 @@ impl Registers {
     }
 
     /// Puts a number at its place.
-    fn put(
-        &mut self,
-        alloc: Global,
-        depth: usize,
-        x: usize,
-        number: u64,
-    ) -> Result<(), NoMemory>
+    fn put(&mut self, alloc: Global, depth: usize, x: usize, number: u64) -> Result<(), NoMemory>
         requires { depth < 2 ^ 63 }
         ensures { OnOk result (self.new ≡ put [] self.old depth (put_in (slice_index_or self.old depth []) x number)) }
     {

@@ -7,8 +7,8 @@ ghost use Rattle.bl_seq.specs.Layouts.{IsLayout};
 ghost use Rattle.bl_seq.specs.Machines.{next_of, results_in, shown, told};
 
 use crate::layout::Layout;
-use crate::state::{Machine, Progress};
 use crate::opening::begin;
+use crate::state::{Machine, Progress};
 use bl_base::{List, NoMemory, Pages, Run, Start, Text};
 use bl_cmd::WellFormed;
 use std::alloc::Global;
@@ -85,12 +85,7 @@ fn memories(alloc: Global, layout: &Layout, machine: &Machine) -> Result<List<Pa
 }
 
 /// So many pages from a place on.
-fn copied(
-    alloc: Global,
-    machine: &Machine,
-    pages: u64,
-    from: usize,
-) -> Result<Pages, NoMemory>
+fn copied(alloc: Global, machine: &Machine, pages: u64, from: usize) -> Result<Pages, NoMemory>
     ensures { IfOk result (λ memory. memory_of memory ≡ record { pages = pages; bytes = take (pages * 65536) (drop from machine.now.space) }) }
 {
     let Ok(pages) = u32::try_from(pages) else {

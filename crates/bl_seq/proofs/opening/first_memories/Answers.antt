@@ -20,7 +20,7 @@ patch_memory-requires c =
     let is : c.patch-item.result ≡ get_or c.args.start.now.patches c.loop-patch.patch-index c.patch-item.result = cc in
     let lt : c.loop-patch.patch-index < length c.args.start.now.patches = omega (arith, ap length c.as_slice-patch-items.ensures) in
     inside_at c.args.parts.now.memories c.loop-patch.memories.items c.args.start.now.patches c.loop-patch.patch-index c.patch-item.result
-      c.loop-patch.invariant.sized c.requires lt is
+    c.loop-patch.invariant.sized c.requires lt is
 
 pub loop-patch-preserved : goal.loop-patch-preserved
 loop-patch-preserved c =
@@ -28,11 +28,11 @@ loop-patch-preserved c =
     let lt : c.loop-patch.patch-index < length c.args.start.now.patches = omega (arith, ap length c.as_slice-patch-items.ensures) in
     record {
       all = ap (λ states. fold patched states (drop (c.loop-patch.patch-index + 1) c.args.start.now.patches)) c.patch_memory.ensures
-        ∙ patch_next c.loop-patch.memories.items c.args.start.now.patches c.loop-patch.patch-index c.patch-item.result lt is ∙ c.loop-patch.invariant.all;
+          ∙ patch_next c.loop-patch.memories.items c.args.start.now.patches c.loop-patch.patch-index c.patch-item.result lt is ∙ c.loop-patch.invariant.all;
       sized = subst (AreSized c.args.parts.now.memories) (sym c.patch_memory.ensures)
-        (sized_patched c.args.parts.now.memories c.loop-patch.memories.items c.patch-item.result c.loop-patch.invariant.sized
+          (sized_patched c.args.parts.now.memories c.loop-patch.memories.items c.patch-item.result c.loop-patch.invariant.sized
           (inside_at c.args.parts.now.memories c.loop-patch.memories.items c.args.start.now.patches c.loop-patch.patch-index c.patch-item.result
-            c.loop-patch.invariant.sized c.requires lt is));
+          c.loop-patch.invariant.sized c.requires lt is));
     }
 
 pub returns-clause-count : goal.returns-clause-count

@@ -33,7 +33,7 @@ loop-number-preserved c =
       all = states_next (shown c.args.machine.now).registers c.args.machine.now.space memories c.loop-number.memories c.push.new.self c.in_ok-copied.field-0
           c.len-globals.result c.loop-number.from c.loop-number.number c.memory-item.result c.memory-item.result lt is c.in_ok-push.ensures.ok
           (state ∙ ap (λ n. pages_at c.args.machine.now.space c.loop-number.from n) c.at-pages.ensures)
-        ∙ c.loop-number.invariant.all;
+          ∙ c.loop-number.invariant.all;
       from = omega arith;
     }
 
@@ -41,4 +41,4 @@ pub returns : goal.returns
 returns c =
     let le : length c.args.layout.now.parts.now.memories ≤ c.loop-number.number = omega (arith, ap length c.as_slice-memory-items.ensures) in
     states_all (shown c.args.machine.now).registers c.args.machine.now.space c.args.layout.now.parts.now.memories c.loop-number.memories c.len-globals.result
-      c.loop-number.from c.loop-number.number _ le c.loop-number.invariant.all
+    c.loop-number.from c.loop-number.number _ le c.loop-number.invariant.all

@@ -9,6 +9,6 @@ use Rattle.bl_seq.proofs.runs.memories.Given as goal
 abbrev pub invariant-loop-number : goal.invariant-loop-number
 invariant-loop-number l = record {
   all : map memory_of l.memories ++ states_from (shown l.machine).registers l.machine.space (l.globals + l.number) l.from (drop l.number l.layout.parts.now.memories)
-    ≡ states l.layout.parts.now (shown l.machine);
+      ≡ states l.layout.parts.now (shown l.machine);
   from : l.from ≡ 65536 * sum_before (λ (m : MemoryDef). m.reserve) l.layout.parts.now.memories l.number;
 }

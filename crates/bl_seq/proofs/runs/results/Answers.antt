@@ -22,4 +22,4 @@ returns c =
     let first = ap (λ (f : Frame). f.first) is in
     let params = ap (λ (f : Frame). f.params) is in
     values_all (shown c.args.machine.now).registers 0 (c.frame-frame.result.first + c.frame-frame.result.params) c.loop-i.i c.frame-frame.result.results _ _
-      c.loop-i.values (omega arith) (omega arith) (ap (λ (f : Frame). f.results) is) c.loop-i.invariant
+    c.loop-i.values (omega arith) (omega arith) (ap (λ (f : Frame). f.results) is) c.loop-i.invariant

@@ -8,5 +8,5 @@ pub returns : goal.returns
 returns c =
     let both : (c.in_ok-layout.layout.parts.now ≡ c.parts.result.now) × IsLayout c.in_ok-layout.layout = c.in_ok-layout.ensures in
     told_run c.args.program.now c.args.function c.args.start.now c.args.steps c.requires c.finish.result c.in_ok-layout.layout.parts.now
-      (shown c.in_ok-machine.machine) (shown c.drive.new.self) c.in_ok-progress.progress (both.0 ∙ c.parts.ensures.same ∙ c.program.ensures.same)
-      c.in_ok-machine.ensures c.in_ok-progress.ensures c.finish.ensures
+    (shown c.in_ok-machine.machine) (shown c.drive.new.self) c.in_ok-progress.progress (both.0 ∙ c.parts.ensures.same ∙ c.program.ensures.same)
+    c.in_ok-machine.ensures c.in_ok-progress.ensures c.finish.ensures
