@@ -1,0 +1,5 @@
+pub mod Filled
+pub mod Layouts
+pub mod Machines
+pub mod Openings
+pub mod Taken

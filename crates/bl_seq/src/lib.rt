@@ -1,0 +1,13 @@
+//! Plain runs of well-formed programs.
+#![tactic(auto)]
+
+mod chain;
+mod layout;
+mod machine;
+mod opening;
+mod registers;
+mod runs;
+mod space;
+mod state;
+
+pub use runs::run;

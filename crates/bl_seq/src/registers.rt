@@ -1,0 +1,265 @@
+//! Registers, which take room as they are written.
+ghost use Rattle.std.specs.Prelude.{◌≡◌, ◌+◌, ◌^◌, ◌<◌, ◌++◌, ℕ, [], suc, ◌-◌, OnOk, length, replicate, slice_index, slice_index_or};
+ghost use Rattle.bl_cmd.specs.Steps.{written};
+ghost use Rattle.bl_seq.specs.Filled.{filled, in_tree, put, put_in, register_at};
+
+use bl_base::NoMemory;
+use std::alloc::Global;
+use std::marker::Model;
+
+/// The numbers of up to 1,024 variables, as far as they were written.
+#[derive(Debug, Drop)]
+struct Leaf {
+    cells: Vec<u64>,
+}
+
+impl Model for Leaf {
+    ghost use Rattle.std.specs.Prelude.{ℕ, List};
+
+    ghost Value = { List ℕ };
+
+    ghost view = { λ leaf. leaf.cells.items };
+}
+
+impl Leaf {
+    fn new(alloc: Global) -> Leaf
+        ensures { result ≡ [] }
+    {
+        Leaf {
+            cells: Vec::new(alloc),
+        }
+    }
+
+    /// The number at a place; 0 where none was put.
+    fn at(&self, place: usize) -> u64
+        ensures { result ≡ slice_index self.now place }
+    {
+        match self.cells.get(place) {
+            Some(number) => *number,
+            None => 0,
+        }
+    }
+
+    /// Makes the place one of the leaf's.
+    fn reach(&mut self, place: usize) -> Result<(), NoMemory>
+        requires { place < 2 ^ 63 }
+        ensures { OnOk result (self.new ≡ self.old ++ replicate (place + 1 - length self.old) 0) }
+    {
+        let missing = (place + 1).saturating_sub(self.cells.len());
+        for _ in 0..missing {
+            self.cells.push(0)?;
+        }
+        Ok(())
+    }
+
+    /// Puts a number at a place.
+    fn put(&mut self, place: usize, number: u64) -> Result<(), NoMemory>
+        requires { place < 2 ^ 63 }
+        ensures { OnOk result (self.new ≡ put 0 self.old place number) }
+    {
+        self.reach(place)?;
+        self.cells[place] = number;
+        Ok(())
+    }
+}
+
+/// Up to 1,024 leaves, as far as they were written.
+#[derive(Debug, Drop)]
+struct Branch {
+    leaves: Vec<Leaf>,
+}
+
+impl Model for Branch {
+    ghost use Rattle.std.specs.Prelude.{ℕ, List};
+
+    ghost Value = { List (List ℕ) };
+
+    ghost view = { λ branch. branch.leaves.items };
+}
+
+impl Branch {
+    fn new(alloc: Global) -> Branch
+        ensures { result ≡ [] }
+    {
+        Branch {
+            leaves: Vec::new(alloc),
+        }
+    }
+
+    /// The number at a place of the leaf of that number; 0 where none was put.
+    fn at(&self, leaf: usize, place: usize) -> u64
+        ensures { result ≡ slice_index (slice_index_or self.now leaf []) place }
+    {
+        match self.leaves.get(leaf) {
+            Some(leaf) => leaf.at(place),
+            None => 0,
+        }
+    }
+
+    /// Makes the leaf one of the branch's.
+    fn reach(&mut self, alloc: Global, leaf: usize) -> Result<(), NoMemory>
+        requires { leaf < 2 ^ 63 }
+        ensures { OnOk result (self.new ≡ self.old ++ replicate (leaf + 1 - length self.old) []) }
+    {
+        let missing = (leaf + 1).saturating_sub(self.leaves.len());
+        for _ in 0..missing {
+            self.leaves.push(Leaf::new(alloc))?;
+        }
+        Ok(())
+    }
+
+    /// Puts a number at a place of the leaf of that number.
+    fn put(&mut self, alloc: Global, leaf: usize, place: usize, number: u64) -> Result<(), NoMemory>
+        requires leaf { leaf < 2 ^ 63 }
+        requires place { place < 2 ^ 63 }
+        ensures { OnOk result (self.new ≡ put [] self.old leaf (put 0 (slice_index_or self.old leaf []) place number)) }
+    {
+        self.reach(alloc, leaf)?;
+        self.leaves[leaf].put(place, number)
+    }
+}
+
+/// The numbers of the variables at a depth, as far as they were written.
+#[derive(Debug, Drop)]
+struct Tree {
+    branches: Vec<Branch>,
+}
+
+impl Model for Tree {
+    ghost use Rattle.std.specs.Prelude.{ℕ, List};
+
+    ghost Value = { List (List (List ℕ)) };
+
+    ghost view = { λ tree. tree.branches.items };
+}
+
+impl Tree {
+    fn new(alloc: Global) -> Tree
+        ensures { result ≡ [] }
+    {
+        Tree {
+            branches: Vec::new(alloc),
+        }
+    }
+
+    /// The number of a variable; 0 where none was written.
+    fn at(&self, x: usize) -> u64
+        ensures { result ≡ in_tree self.now x }
+    {
+        match self.branches.get(x / 1_048_576) {
+            Some(branch) => branch.at(x / 1024 % 1024, x % 1024),
+            None => 0,
+        }
+    }
+
+    /// Makes the branch one of the tree's.
+    fn reach(&mut self, alloc: Global, branch: usize) -> Result<(), NoMemory>
+        requires { branch < 2 ^ 63 }
+        ensures { OnOk result (self.new ≡ self.old ++ replicate (branch + 1 - length self.old) []) }
+    {
+        let missing = (branch + 1).saturating_sub(self.branches.len());
+        for _ in 0..missing {
+            self.branches.push(Branch::new(alloc))?;
+        }
+        Ok(())
+    }
+
+    /// Writes a variable.
+    #[tactic(auto, unfolding(crate::specs::Filled::put_in))]
+    fn put(&mut self, alloc: Global, x: usize, number: u64) -> Result<(), NoMemory>
+        ensures { OnOk result (self.new ≡ put_in self.old x number) }
+    {
+        let branch = x / 1_048_576;
+        self.reach(alloc, branch)?;
+        self.branches[branch].put(alloc, x / 1024 % 1024, x % 1024, number)
+    }
+}
+
+/// The registers: a number for each depth and each variable, 0 where none was written. Room is taken as they are written:
+/// for a variable at most 8 KB, once for 1,024 variables in a row, and 24 KB, once for 2^20.
+#[derive(Debug, Drop)]
+pub struct Registers {
+    depths: Vec<Tree>,
+}
+
+impl Model for Registers {
+    ghost use Rattle.std.specs.Prelude.{ℕ, List};
+
+    ghost Value = { List (List (List (List ℕ))) };
+
+    ghost view = { λ registers. registers.depths.items };
+}
+
+impl Registers {
+    /// Registers of which none was written; takes no memory.
+    pub fn new(alloc: Global) -> Registers
+        ensures { result ≡ [] }
+    {
+        Registers {
+            depths: Vec::new(alloc),
+        }
+    }
+
+    /// The number of a variable at a depth.
+    pub fn at(&self, depth: usize, x: usize) -> u64
+        ensures { result ≡ register_at self.now depth x }
+    {
+        match self.depths.get(depth) {
+            Some(tree) => tree.at(x),
+            None => 0,
+        }
+    }
+
+    /// Makes the depth one of the registers'.
+    fn reach(&mut self, alloc: Global, depth: usize) -> Result<(), NoMemory>
+        requires { depth < 2 ^ 63 }
+        ensures { OnOk result (self.new ≡ self.old ++ replicate (depth + 1 - length self.old) []) }
+    {
+        let missing = (depth + 1).saturating_sub(self.depths.len());
+        for _ in 0..missing {
+            self.depths.push(Tree::new(alloc))?;
+        }
+        Ok(())
+    }
+
+    /// Writes a variable at a depth.
+    pub fn write(
+        &mut self,
+        alloc: Global,
+        depth: usize,
+        x: usize,
+        number: u64,
+    ) -> Result<(), NoMemory>
+        requires { depth < 2 ^ 63 }
+        ensures { OnOk result ((d v : ℕ) → register_at self.new d v ≡ written (λ d v. register_at self.old d v) depth x number d v) }
+    {
+        self.put(alloc, depth, x, number)
+    }
+
+    /// Puts a number at its place.
+    fn put(&mut self, alloc: Global, depth: usize, x: usize, number: u64) -> Result<(), NoMemory>
+        requires { depth < 2 ^ 63 }
+        ensures { OnOk result (self.new ≡ put [] self.old depth (put_in (slice_index_or self.old depth []) x number)) }
+    {
+        self.reach(alloc, depth)?;
+        self.depths[depth].put(alloc, x, number)
+    }
+
+    /// Writes variables in a row at a depth.
+    pub fn write_all(
+        &mut self,
+        alloc: Global,
+        depth: usize,
+        from: usize,
+        numbers: &[u64],
+    ) -> Result<(), NoMemory>
+        requires depth { depth < 2 ^ 63 }
+        requires room { from + length numbers.now < 2 ^ 64 }
+        ensures { OnOk result ((d v : ℕ) → register_at self.new d v ≡ filled (λ d v. register_at self.old d v) depth from numbers.now d v) }
+    {
+        for (i, number) in numbers.iter().enumerate() {
+            self.write(alloc, depth, from + i, *number)?;
+        }
+        Ok(())
+    }
+}

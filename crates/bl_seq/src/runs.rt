@@ -1,0 +1,103 @@
+//! Plain runs.
+ghost use Rattle.std.specs.Prelude.{◌≡◌, ◌*◌, IfOk, drop, map, take};
+ghost use Rattle.bl_base.specs.Runs.{Tells, memory_of, outcome_of};
+ghost use Rattle.bl_cmd.specs.Outcomes.{IsStart, plain};
+ghost use Rattle.bl_cmd.specs.Steps.{states};
+ghost use Rattle.bl_seq.specs.Layouts.{IsLayout};
+ghost use Rattle.bl_seq.specs.Machines.{next_of, results_in, shown, told};
+
+use crate::layout::Layout;
+use crate::opening::begin;
+use crate::state::{Machine, Progress};
+use bl_base::{List, NoMemory, Pages, Run, Start, Text};
+use bl_cmd::WellFormed;
+use std::alloc::Global;
+
+/// The outcome of a function's plain run from a start within so many steps, a command each; Spent where there is none.
+/// Linear in the program, the start and the steps. Registers take memory as they are written, not as they are declared.
+pub fn run(
+    alloc: Global,
+    program: &WellFormed,
+    function: u32,
+    start: &Start,
+    steps: u64,
+) -> Result<Run, NoMemory>
+    requires { IsStart program.now function start.now }
+    ensures { IfOk result (λ run. Tells (plain program.now function start.now) steps run) }
+{
+    let layout = Layout::of(alloc, program.program().parts())?;
+    let mut machine = begin(alloc, &layout, function, start)?;
+    let progress = machine.drive(alloc, &layout, steps)?;
+    finish(alloc, &layout, &machine, progress)
+}
+
+/// The outcome of a machine that has come so far.
+fn finish(
+    alloc: Global,
+    layout: &Layout,
+    machine: &Machine,
+    progress: Progress,
+) -> Result<Run, NoMemory>
+    requires { IsLayout layout.now }
+    ensures { IfOk result (λ run. outcome_of run ≡ told (next_of layout.now.parts.now progress (shown machine.now))) }
+{
+    match progress {
+        Progress::Returned => Ok(Run::Returned {
+            values: results(alloc, layout, machine)?,
+            memories: memories(alloc, layout, machine)?,
+        }),
+        Progress::Trapped(kind) => Ok(Run::Trapped {
+            kind,
+            memories: memories(alloc, layout, machine)?,
+        }),
+        Progress::Running | Progress::Stuck => Ok(Run::Spent),
+    }
+}
+
+/// The results of the function that runs.
+fn results(alloc: Global, layout: &Layout, machine: &Machine) -> Result<List<u64>, NoMemory>
+    requires { IsLayout layout.now }
+    ensures { IfOk result (λ values. values ≡ results_in layout.now.parts.now (shown machine.now)) }
+{
+    let frame = layout.frame(layout.running(machine.position));
+    let first = frame.first + frame.params;
+    let mut values = List::new(alloc);
+    for i in 0..frame.results {
+        values.push(machine.registers.at(0, first + i))?;
+    }
+    Ok(values)
+}
+
+/// The memories.
+fn memories(alloc: Global, layout: &Layout, machine: &Machine) -> Result<List<Pages>, NoMemory>
+    requires { IsLayout layout.now }
+    ensures { IfOk result (λ memories. map memory_of memories ≡ states layout.now.parts.now (shown machine.now)) }
+{
+    let globals = layout.parts.globals.len();
+    let mut memories = List::new(alloc);
+    let mut from = 0;
+    for (number, memory) in layout.parts.memories.as_slice().iter().enumerate() {
+        let pages = machine.registers.at(0, globals + number);
+        memories.push(copied(alloc, machine, pages, from)?)?;
+        from += memory.reserve as usize * 65_536;
+    }
+    Ok(memories)
+}
+
+/// So many pages from a place on.
+fn copied(alloc: Global, machine: &Machine, pages: u64, from: usize) -> Result<Pages, NoMemory>
+    ensures { IfOk result (λ memory. memory_of memory ≡ record { pages = pages; bytes = take (pages * 65536) (drop from machine.now.space) }) }
+{
+    let Ok(pages) = u32::try_from(pages) else {
+        return Err(NoMemory);
+    };
+    let bytes = machine.space.as_slice();
+    let count = pages as usize * 65_536;
+    if from > bytes.len() || count > bytes.len() - from {
+        return Err(NoMemory);
+    }
+    Ok(Pages {
+        pages,
+        bytes: Text::of(bytes[from..from + count].to_vec(alloc)?),
+    })
+}
