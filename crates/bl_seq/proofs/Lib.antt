@@ -1,0 +1,4 @@
+pub mod OwnAccesses
+pub mod OwnSizes
+pub mod OwnSteps
+pub mod OwnWrites

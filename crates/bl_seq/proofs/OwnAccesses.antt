@@ -1,0 +1,90 @@
+-- Each access lies in its own memory.
+use Rattle.std.proofs.Common.{◌≡◌, ◌≢◌, inl, inr, ℕ, zero, suc, ◌+◌, ◌*◌, ◌%◌, ◌^◌, ◌<◌, ◌≤◌, length, Option, Some, None, slice_get, refl, sym, ap, ◌∙◌, subst, arith, lit≤}
+use Rattle.std.specs.Prelude.{IfSome}
+use Rattle.bl_base.proofs.Lists.{some_same, all_get, within_get}
+use Rattle.bl_ops.specs.Access.{width_of}
+use Rattle.bl_ops.specs.Numerics.{meaning}
+use Rattle.bl_ops.specs.declared.access.AccessKind.{AccessKind}
+use Rattle.bl_ops.specs.declared.access.AccessKind.TheVariants.{I32Load, I64Load, I32Load8S, I32Load8U, I32Load16S, I32Load16U, I64Load8S, I64Load8U, I64Load16S, I64Load16U, I64Load32S, I64Load32U, I32Store, I64Store, I32Store8, I32Store16, I64Store8, I64Store16, I64Store32}
+use Rattle.bl_ops.specs.declared.op.Op.TheVariants.{Outside}
+use Rattle.bl_cmd.proofs.Layouts.{sum_more}
+use Rattle.bl_cmd.specs.Layout.{size_of, base, command_at, Holds}
+use Rattle.bl_cmd.specs.Programs.{IsProgram, IsCommand}
+use Rattle.bl_cmd.specs.Rules.{IsWellFormed, IsGuarded, IsTested, Reach, reach_of, variable}
+use Rattle.bl_cmd.specs.Steps.{Plain, value_of}
+use Rattle.bl_cmd.specs.declared.command.Command.{Command}
+use Rattle.bl_cmd.specs.declared.command.Command.TheVariants.{Set, Load, Store, Test, Jump, Arg, Call, Out, Ret, Trap}
+use Rattle.bl_cmd.specs.declared.command.Operand.{Operand}
+use Rattle.bl_cmd.specs.declared.command.Operand.TheVariants.{Const}
+use Rattle.bl_cmd.specs.declared.definitions.MemoryDef.{MemoryDef}
+use Rattle.bl_cmd.specs.declared.definitions.ProgramParts.{ProgramParts as Program}
+use Rattle.bl_seq.specs.OwnMemory.{IsInside}
+use Rattle.bl_seq.proofs.OwnSizes.{sized}
+use Rattle.bl_seq.proofs.OwnSteps.{Reached, Stands, stands, Came, came, passed}
+use Rattle.bl_seq.proofs.OwnWrites.{outside_law, size_value, size_apart, set_result, set_other, test_zero}
+
+width_few : (kind : AccessKind) → width_of kind ≤ 8
+width_few kind = elim kind as (λ k. width_of k ≤ 8) [ I32Load ↦ lit≤ tt | _ ↦ lit≤ tt ]
+
+module _ (program : Program) (facts : IsProgram program) (rules : IsWellFormed program) where
+  -- an access behind its test
+  cleared : (f position : ℕ) (access : Reach) → IsTested program f position access → access.memory < length program.memories → access.bytes < 2 ^ 34
+      → (s : Plain) → Reached program s → s.position ≡ position → value_of program access.address s % 2 ^ 32 + access.bytes ≤ s.registers 0 (size_of program access.memory) * 65536
+  cleared f position access tested exists few s r is =
+      let size : Operand = variable (size_of program access.memory) in
+      let c1 : Came program (suc tested.first) (Test (variable tested.t) (record { 0 = tested.yes }) (record { 0 = position })) s =
+      came program facts rules (suc tested.first) _ tested.test (λ _ h. cc) (subst (IsGuarded program (suc tested.first)) tested.place tested.guarded) s r (is ∙ tested.place) in
+      let c0 : Came program tested.first (Set tested.mark Outside (record { 0 = tested.t }) access.address size (Const access.bytes)) c1.before =
+      came program facts rules tested.first _ tested.set (λ _ h. cc) (passed program _ _ tested.test_passed) c1.before c1.reached c1.place in
+      let untaken = test_zero program c1.before s (variable tested.t) tested.yes position tested.away is c1.step in
+      let outside_is : value_of program (variable tested.t) c1.before ≡ meaning Outside (value_of program access.address c0.before) (value_of program size c0.before) access.bytes =
+      set_result program c0.before c1.before _ _ tested.t _ _ _ c0.step in
+      let address_is : value_of program access.address s ≡ value_of program access.address c0.before =
+      untaken.1 access.address ∙ set_other program c0.before c1.before access.address _ _ tested.t _ _ _ tested.apart c0.step in
+      let size_is : s.registers 0 (size_of program access.memory) ≡ value_of program size c0.before =
+      sym (size_value program access.memory s exists) ∙ untaken.1 size
+      ∙ set_other program c0.before c1.before size _ _ tested.t _ _ _ (size_apart program f access.memory tested.t exists tested.own) c0.step in
+      let law = outside_law (value_of program access.address c0.before) (value_of program size c0.before) access.bytes few (ap (λ n. n % 2 ^ 32) (sym outside_is) ∙ untaken.0) in
+      subst (λ a. a % 2 ^ 32 + access.bytes ≤ s.registers 0 (size_of program access.memory) * 65536) (sym address_is)
+      (subst (λ p. value_of program access.address c0.before % 2 ^ 32 + access.bytes ≤ p * 65536) (sym size_is) law)
+
+  module _ (s : Plain) (r : Reached program s) (f : ℕ) (holds : Holds program f s.position) where
+    in_own : (access : Reach) → IsTested program f s.position access → access.memory < length program.memories → access.bytes < 2 ^ 34 → IsInside program s access
+    in_own access tested exists few =
+        let got = within_get program.memories access.memory exists in
+        let next = sum_more (λ (m : MemoryDef). m.reserve * 65536) program.memories access.memory got.0 got.1 in
+        let le = sized program facts rules s r access.memory got.0 got.1 in
+        let clear = cleared f s.position access tested exists few s r refl in
+        record { pages = clear; space = omega arith }
+
+    inside_by : (k : Command) → command_at program s.position ≡ Some k → IfSome (reach_of k) (IsInside program s)
+    inside_by (Set m op x a b c) e = tt
+    inside_by (Load m kind memory x offset a) e =
+        let k : Command = Load m kind memory x offset a in
+        let small = (all_get IsCommand program.commands s.position k facts.commands e).1 in
+        let width = width_few kind in
+        in_own (record { address = a; memory = memory; bytes = offset + width_of kind }) (rules.rule7 s.position f k holds e) (rules.rule6 s.position f k holds e).1 (omega arith)
+    inside_by (Store kind memory offset a b) e =
+        let k : Command = Store kind memory offset a b in
+        let small = (all_get IsCommand program.commands s.position k facts.commands e).1 in
+        let width = width_few kind in
+        in_own (record { address = a; memory = memory; bytes = offset + width_of kind }) (rules.rule7 s.position f k holds e) (rules.rule6 s.position f k holds e) (omega arith)
+    inside_by (Test cond one other) e = tt
+    inside_by (Jump p) e = tt
+    inside_by (Arg m callee i a) e = tt
+    inside_by (Call callee) e = tt
+    inside_by (Out m i a) e = tt
+    inside_by Ret e = tt
+    inside_by (Trap kind) e = tt
+
+  -- no trap accesses a memory
+  trap_inside : (s : Plain) (k : Command) → s.position < 7 → command_at program s.position ≡ Some k → IfSome (reach_of k) (IsInside program s)
+  trap_inside s k lt e =
+      let trap = facts.traps s.position lt in
+      subst (λ (k : Command). IfSome (reach_of k) (IsInside program s)) (some_same (Trap trap.0) k (sym trap.2 ∙ e)) tt
+
+  pub inside : (s : Plain) → Reached program s → (k : Command) → command_at program s.position ≡ Some k → IfSome (reach_of k) (IsInside program s)
+  inside s r k e = elim (stands program facts rules s r).position as (λ _. IfSome (reach_of k) (IsInside program s)) [
+    | inl lt ↦ trap_inside s k lt e
+    | inr own ↦ inside_by s r own.0 own.1 k e
+  ]

@@ -1,0 +1,4 @@
+//! Plain runs of well-formed programs.
+#![tactic(auto)]
+
+pub mod laws;
