@@ -1,14 +1,14 @@
 -- Each access lies in its own memory.
-use Rattle.std.proofs.Common.{◌≡◌, ◌≢◌, inl, inr, ℕ, zero, suc, ◌+◌, ◌*◌, ◌%◌, ◌^◌, ◌<◌, ◌≤◌, length, Option, Some, None, slice_get, refl, sym, ap, ◌∙◌, subst, arith, lit≤}
+use Rattle.std.proofs.Common.{◌≡◌, inl, inr, ℕ, suc, ◌+◌, ◌*◌, ◌%◌, ◌^◌, ◌<◌, ◌≤◌, length, Some, refl, sym, ◌∙◌, subst, arith, lit≤}
 use Rattle.std.specs.Prelude.{IfSome}
 use Rattle.bl_base.proofs.Lists.{some_same, all_get, within_get}
 use Rattle.bl_ops.specs.Access.{width_of}
 use Rattle.bl_ops.specs.Numerics.{meaning}
 use Rattle.bl_ops.specs.declared.access.AccessKind.{AccessKind}
-use Rattle.bl_ops.specs.declared.access.AccessKind.TheVariants.{I32Load, I64Load, I32Load8S, I32Load8U, I32Load16S, I32Load16U, I64Load8S, I64Load8U, I64Load16S, I64Load16U, I64Load32S, I64Load32U, I32Store, I64Store, I32Store8, I32Store16, I64Store8, I64Store16, I64Store32}
+use Rattle.bl_ops.specs.declared.access.AccessKind.TheVariants.{I32Load}
 use Rattle.bl_ops.specs.declared.op.Op.TheVariants.{Outside}
 use Rattle.bl_cmd.proofs.Layouts.{sum_more}
-use Rattle.bl_cmd.specs.Layout.{size_of, base, command_at, Holds}
+use Rattle.bl_cmd.specs.Layout.{size_of, command_at, Holds}
 use Rattle.bl_cmd.specs.Programs.{IsProgram, IsCommand}
 use Rattle.bl_cmd.specs.Rules.{IsWellFormed, IsGuarded, IsTested, Reach, reach_of, variable}
 use Rattle.bl_cmd.specs.Steps.{Plain, value_of}
@@ -20,8 +20,8 @@ use Rattle.bl_cmd.specs.declared.definitions.MemoryDef.{MemoryDef}
 use Rattle.bl_cmd.specs.declared.definitions.ProgramParts.{ProgramParts as Program}
 use Rattle.bl_seq.specs.OwnMemory.{IsInside}
 use Rattle.bl_seq.proofs.OwnSizes.{sized}
-use Rattle.bl_seq.proofs.OwnSteps.{Reached, Stands, stands, Came, came, passed}
-use Rattle.bl_seq.proofs.OwnWrites.{outside_law, size_value, size_apart, set_result, set_other, test_zero}
+use Rattle.bl_seq.proofs.OwnSteps.{Reached, stands, Came, came, passed}
+use Rattle.bl_seq.proofs.OwnWrites.{outside_then, size_value, size_apart, set_result, set_other, test_zero}
 
 width_few : (kind : AccessKind) → width_of kind ≤ 8
 width_few kind = elim kind as (λ k. width_of k ≤ 8) [ I32Load ↦ lit≤ tt | _ ↦ lit≤ tt ]
@@ -36,17 +36,13 @@ module _ (program : Program) (facts : IsProgram program) (rules : IsWellFormed p
       came program facts rules (suc tested.first) _ tested.test (λ _ h. cc) (subst (IsGuarded program (suc tested.first)) tested.place tested.guarded) s r (is ∙ tested.place) in
       let c0 : Came program tested.first (Set tested.mark Outside (record { 0 = tested.t }) access.address size (Const access.bytes)) c1.before =
       came program facts rules tested.first _ tested.set (λ _ h. cc) (passed program _ _ tested.test_passed) c1.before c1.reached c1.place in
-      let untaken = test_zero program c1.before s (variable tested.t) tested.yes position tested.away is c1.step in
-      let outside_is : value_of program (variable tested.t) c1.before ≡ meaning Outside (value_of program access.address c0.before) (value_of program size c0.before) access.bytes =
-      set_result program c0.before c1.before _ _ tested.t _ _ _ c0.step in
-      let address_is : value_of program access.address s ≡ value_of program access.address c0.before =
-      untaken.1 access.address ∙ set_other program c0.before c1.before access.address _ _ tested.t _ _ _ tested.apart c0.step in
+      let untaken = test_zero program c1 tested.away is in
+      let outside_is : value_of program (variable tested.t) c1.before ≡ meaning Outside (value_of program access.address c0.before) (value_of program size c0.before) access.bytes = set_result program c0 in
+      let address_is : value_of program access.address s ≡ value_of program access.address c0.before = untaken.1 access.address ∙ set_other program c0 access.address tested.apart in
       let size_is : s.registers 0 (size_of program access.memory) ≡ value_of program size c0.before =
-      sym (size_value program access.memory s exists) ∙ untaken.1 size
-      ∙ set_other program c0.before c1.before size _ _ tested.t _ _ _ (size_apart program f access.memory tested.t exists tested.own) c0.step in
-      let law = outside_law (value_of program access.address c0.before) (value_of program size c0.before) access.bytes few (ap (λ n. n % 2 ^ 32) (sym outside_is) ∙ untaken.0) in
-      subst (λ a. a % 2 ^ 32 + access.bytes ≤ s.registers 0 (size_of program access.memory) * 65536) (sym address_is)
-      (subst (λ p. value_of program access.address c0.before % 2 ^ 32 + access.bytes ≤ p * 65536) (sym size_is) law)
+      sym (size_value program access.memory s exists) ∙ untaken.1 size ∙ set_other program c0 size (size_apart program f access.memory tested.t exists tested.own) in
+      outside_then (value_of program access.address s) (s.registers 0 (size_of program access.memory)) access.bytes (value_of program access.address c0.before) (value_of program size c0.before)
+      (value_of program (variable tested.t) c1.before) few address_is size_is outside_is untaken.0
 
   module _ (s : Plain) (r : Reached program s) (f : ℕ) (holds : Holds program f s.position) where
     in_own : (access : Reach) → IsTested program f s.position access → access.memory < length program.memories → access.bytes < 2 ^ 34 → IsInside program s access

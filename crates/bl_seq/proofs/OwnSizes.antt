@@ -14,7 +14,7 @@ use Rattle.bl_cmd.specs.Layout.{size_of, result, running, entry_of, command_at, 
 use Rattle.bl_cmd.specs.Outcomes.{first_registers}
 use Rattle.bl_cmd.specs.Programs.{IsProgram}
 use Rattle.bl_cmd.specs.Rules.{IsWellFormed, IsMemory, IsLocal, IsPassed, IsSum, IsGrowth, variable}
-use Rattle.bl_cmd.specs.Steps.{Registers, Plain, depth, place, written, held, value_of, states, to, ret, perform, plain_step}
+use Rattle.bl_cmd.specs.Steps.{Plain, depth, place, written, value_of, states, to, ret, perform}
 use Rattle.bl_cmd.specs.declared.command.Command.{Command}
 use Rattle.bl_cmd.specs.declared.command.Command.TheVariants.{Set, Load, Store, Test, Jump, Arg, Call, Out, Ret, Trap}
 use Rattle.bl_cmd.specs.declared.command.Operand.{Operand}
@@ -24,7 +24,7 @@ use Rattle.bl_cmd.specs.declared.definitions.MemoryDef.{MemoryDef}
 use Rattle.bl_cmd.specs.declared.definitions.ProgramParts.{ProgramParts as Program}
 use Rattle.bl_seq.specs.OwnMemory.{IsReached, HasSizes}
 use Rattle.bl_seq.proofs.OwnSteps.{Reached, opens, steps, reached_by, Stands, stands, trap_ends, Came, came, passed}
-use Rattle.bl_seq.proofs.OwnWrites.{other_written, deep_written, growth_law, size_value, size_apart, set_result, set_other, test_zero}
+use Rattle.bl_seq.proofs.OwnWrites.{other_written, deep_written, growth_then, size_value, size_apart, set_result, set_other, test_zero}
 
 -- ---- at the start
 
@@ -71,20 +71,14 @@ module _ (program : Program) (facts : IsProgram program) (rules : IsWellFormed p
         let c0 : Came program g.first (Set g.mark_r I32Sub (record { 0 = g.r }) (Const g.reserve) size (Const 0)) c1.before =
         came program facts rules g.first _ g.room (λ _ h. cc) (passed program _ _ g.passed_t) c1.before c1.reached c1.place in
         let apart : (x : ℕ) → IsLocal program f x → size ≢ variable x = λ x own. size_apart program f memory x exists own in
-        let untaken = test_zero program c2.before c3.before (variable g.t) g.yes (suc (suc (suc g.first))) g.away c3.place c2.step in
-        let room : value_of program (variable g.r) c1.before ≡ meaning I32Sub g.reserve (value_of program size c0.before) 0 = set_result program c0.before c1.before _ _ g.r _ _ _ c0.step in
-        let more : value_of program (variable g.t) c2.before ≡ meaning I32GtU (value_of program delta c1.before) (value_of program (variable g.r) c1.before) 0 = set_result program c1.before c2.before _ _ g.t _ _ _ c1.step in
+        let untaken = test_zero program c2 g.away c3.place in
+        let room : value_of program (variable g.r) c1.before ≡ meaning I32Sub g.reserve (value_of program size c0.before) 0 = set_result program c0 in
+        let more : value_of program (variable g.t) c2.before ≡ meaning I32GtU (value_of program delta c1.before) (value_of program (variable g.r) c1.before) 0 = set_result program c1 in
         let size_is : value_of program size s ≡ value_of program size c0.before =
-        set_other program c3.before s size _ _ g.v _ _ _ (apart g.v g.own_v) c3.step ∙ untaken.1 size
-        ∙ set_other program c1.before c2.before size _ _ g.t _ _ _ (apart g.t g.own_t) c1.step ∙ set_other program c0.before c1.before size _ _ g.r _ _ _ (apart g.r g.own_r) c0.step in
-        let delta_is : value_of program delta s ≡ value_of program delta c1.before =
-        set_other program c3.before s delta _ _ g.v _ _ _ g.apart_v c3.step ∙ untaken.1 delta ∙ set_other program c1.before c2.before delta _ _ g.t _ _ _ g.apart_t c1.step in
-        let fits : meaning I32GtU (value_of program delta s) (meaning I32Sub g.reserve (value_of program size s) 0) 0 % 2 ^ 32 ≡ 0 =
-        ap (λ n. meaning I32GtU n (meaning I32Sub g.reserve (value_of program size s) 0) 0 % 2 ^ 32) delta_is
-        ∙ ap (λ n. meaning I32GtU (value_of program delta c1.before) (meaning I32Sub g.reserve n 0) 0 % 2 ^ 32) size_is
-        ∙ ap (λ n. meaning I32GtU (value_of program delta c1.before) n 0 % 2 ^ 32) (sym room)
-        ∙ ap (λ n. n % 2 ^ 32) (sym more) ∙ untaken.0 in
-        growth_law (value_of program delta s) (value_of program size s) g.reserve le few fits
+        set_other program c3 size (apart g.v g.own_v) ∙ untaken.1 size ∙ set_other program c1 size (apart g.t g.own_t) ∙ set_other program c0 size (apart g.r g.own_r) in
+        let delta_is : value_of program delta s ≡ value_of program delta c1.before = set_other program c3 delta g.apart_v ∙ untaken.1 delta ∙ set_other program c1 delta g.apart_t in
+        growth_then (value_of program delta s) (value_of program size s) g.reserve (value_of program delta c1.before) (value_of program size c0.before)
+        (value_of program (variable g.r) c1.before) (value_of program (variable g.t) c2.before) le few delta_is size_is room more untaken.0
 
   -- ---- a step
 

@@ -1,16 +1,16 @@
 -- The states that runs of a well-formed program come to, and the step by which they came to a position.
-use Rattle.std.proofs.Common.{◌≡◌, ◌⊎◌, inl, inr, ℕ, zero, suc, ◌+◌, ◌%◌, ◌^◌, ◌<◌, ◌≤◌, List, [], ◌∷◌, length, Option, Some, None, slice_get, true, false, Bool, refl, sym, ap, ◌∙◌, subst, arith}
+use Rattle.std.proofs.Common.{◌≡◌, ◌⊎◌, inl, inr, ℕ, zero, suc, ◌%◌, ◌^◌, ◌<◌, List, [], ◌∷◌, length, Option, Some, None, true, false, Bool, refl, sym, ap, ◌∙◌, subst, arith}
 use Rattle.std.specs.Prelude.{nat_lt, ◌==◌, if◌then◌else◌}
 use Rattle.std.proofs.lemmas.Bool.{cases_lt}
 use Rattle.bl_base.proofs.Lists.{some_same, all_get, within_get}
 use Rattle.bl_base.proofs.RunLemmas.{IsNext}
-use Rattle.bl_base.specs.Runs.{Outcome, Next, goes, ends, trapped, Comes, HasStep}
+use Rattle.bl_base.specs.Runs.{Outcome, goes, ends, trapped, Comes, HasStep}
 use Rattle.bl_base.specs.declared.trap.Trap.TheVariants as trap_kind
 use Rattle.bl_cmd.proofs.Layouts.{next_entry, holds_within}
 use Rattle.bl_cmd.specs.Layout.{entry_of, command_at, Holds}
 use Rattle.bl_cmd.specs.Programs.{IsProgram}
-use Rattle.bl_cmd.specs.Rules.{IsWellFormed, IsFunction, IsPassed, IsGuarded, GoesTo, Leaves}
-use Rattle.bl_cmd.specs.Steps.{Plain, depth, value_of, states, to, ret, call, perform, plain_step}
+use Rattle.bl_cmd.specs.Rules.{IsWellFormed, IsFunction, IsPassed, IsGuarded, Leaves}
+use Rattle.bl_cmd.specs.Steps.{Plain, depth, value_of, states, to, ret, perform, plain_step}
 use Rattle.bl_cmd.specs.declared.command.Command.{Command}
 use Rattle.bl_cmd.specs.declared.command.Command.TheVariants.{Set, Load, Store, Test, Jump, Arg, Call, Out, Ret, Trap}
 use Rattle.bl_cmd.specs.declared.definitions.ProgramParts.{ProgramParts as Program}
