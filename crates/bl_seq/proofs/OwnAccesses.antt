@@ -3,7 +3,6 @@ use Rattle.std.proofs.Common.{◌≡◌, inl, inr, ℕ, suc, ◌+◌, ◌*◌, �
 use Rattle.std.specs.Prelude.{IfSome}
 use Rattle.bl_base.proofs.Lists.{some_same, all_get, within_get}
 use Rattle.bl_ops.specs.Access.{width_of}
-use Rattle.bl_ops.specs.Numerics.{meaning}
 use Rattle.bl_ops.specs.declared.access.AccessKind.{AccessKind}
 use Rattle.bl_ops.specs.declared.access.AccessKind.TheVariants.{I32Load}
 use Rattle.bl_ops.specs.declared.op.Op.TheVariants.{Outside}
@@ -28,21 +27,32 @@ width_few kind = elim kind as (λ k. width_of k ≤ 8) [ I32Load ↦ lit≤ tt |
 
 module _ (program : Program) (facts : IsProgram program) (rules : IsWellFormed program) where
   -- an access behind its test
-  cleared : (f position : ℕ) (access : Reach) → IsTested program f position access → access.memory < length program.memories → access.bytes < 2 ^ 34
-      → (s : Plain) → Reached program s → s.position ≡ position → value_of program access.address s % 2 ^ 32 + access.bytes ≤ s.registers 0 (size_of program access.memory) * 65536
-  cleared f position access tested exists few s r is =
-      let size : Operand = variable (size_of program access.memory) in
-      let c1 : Came program (suc tested.first) (Test (variable tested.t) (record { 0 = tested.yes }) (record { 0 = position })) s =
-      came program facts rules (suc tested.first) _ tested.test (λ _ h. cc) (subst (IsGuarded program (suc tested.first)) tested.place tested.guarded) s r (is ∙ tested.place) in
-      let c0 : Came program tested.first (Set tested.mark Outside (record { 0 = tested.t }) access.address size (Const access.bytes)) c1.before =
-      came program facts rules tested.first _ tested.set (λ _ h. cc) (passed program _ _ tested.test_passed) c1.before c1.reached c1.place in
-      let untaken = test_zero program c1 tested.away is in
-      let outside_is : value_of program (variable tested.t) c1.before ≡ meaning Outside (value_of program access.address c0.before) (value_of program size c0.before) access.bytes = set_result program c0 in
-      let address_is : value_of program access.address s ≡ value_of program access.address c0.before = untaken.1 access.address ∙ set_other program c0 access.address tested.apart in
-      let size_is : s.registers 0 (size_of program access.memory) ≡ value_of program size c0.before =
-      sym (size_value program access.memory s exists) ∙ untaken.1 size ∙ set_other program c0 size (size_apart program f access.memory tested.t exists tested.own) in
-      outside_then (value_of program access.address s) (s.registers 0 (size_of program access.memory)) access.bytes (value_of program access.address c0.before) (value_of program size c0.before)
-      (value_of program (variable tested.t) c1.before) few address_is size_is outside_is untaken.0
+  module _ (f position : ℕ) (access : Reach) (tested : IsTested program f position access) (exists : access.memory < length program.memories) (few : access.bytes < 2 ^ 34) where
+    abbrev size : Operand
+    size = variable (size_of program access.memory)
+
+    abbrev First : Command
+    First = Set tested.mark Outside (record { 0 = tested.t }) access.address size (Const access.bytes)
+
+    abbrev Second : Command
+    Second = Test (variable tested.t) (record { 0 = tested.yes }) (record { 0 = position })
+
+    -- where the two commands before it were performed
+    cleared_by : (s : Plain) (c1 : Came program (suc tested.first) Second s) (c0 : Came program tested.first First c1.before) → s.position ≡ position
+        → value_of program access.address s % 2 ^ 32 + access.bytes ≤ s.registers 0 (size_of program access.memory) * 65536
+    cleared_by s c1 c0 is =
+        let untaken : (value_of program (variable tested.t) c1.before % 2 ^ 32 ≡ 0) × ((y : Operand) → value_of program y s ≡ value_of program y c1.before) = test_zero program c1 tested.away is in
+        outside_then (value_of program access.address s) (s.registers 0 (size_of program access.memory)) access.bytes (value_of program access.address c0.before) (value_of program size c0.before)
+        (value_of program (variable tested.t) c1.before) few
+        (untaken.1 access.address ∙ set_other program c0 access.address tested.apart)
+        (sym (size_value program access.memory s exists) ∙ untaken.1 size ∙ set_other program c0 size (size_apart program f access.memory tested.t exists tested.own))
+        (set_result program c0) untaken.0
+
+    cleared : (s : Plain) → Reached program s → s.position ≡ position → value_of program access.address s % 2 ^ 32 + access.bytes ≤ s.registers 0 (size_of program access.memory) * 65536
+    cleared s r is = first (came program facts rules (suc tested.first) Second tested.test (λ _ h. cc) (subst (IsGuarded program (suc tested.first)) tested.place tested.guarded) s r (is ∙ tested.place))
+      where
+        first : Came program (suc tested.first) Second s → value_of program access.address s % 2 ^ 32 + access.bytes ≤ s.registers 0 (size_of program access.memory) * 65536
+        first c1 = cleared_by s c1 (came program facts rules tested.first First tested.set (λ _ h. cc) (passed program _ _ tested.test_passed) c1.before c1.reached c1.place) is
 
   module _ (s : Plain) (r : Reached program s) (f : ℕ) (holds : Holds program f s.position) where
     in_own : (access : Reach) → IsTested program f s.position access → access.memory < length program.memories → access.bytes < 2 ^ 34 → IsInside program s access

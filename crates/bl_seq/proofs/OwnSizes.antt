@@ -59,26 +59,47 @@ module _ (program : Program) (facts : IsProgram program) (rules : IsWellFormed p
     abbrev size : Operand
     size = variable (size_of program memory)
 
+    abbrev First : Command
+    First = Set g.mark_r I32Sub (record { 0 = g.r }) (Const g.reserve) size (Const 0)
+
+    abbrev Second : Command
+    Second = Set g.mark_t I32GtU (record { 0 = g.t }) delta (variable g.r) (Const 0)
+
+    abbrev Third : Command
+    Third = Test (variable g.t) (record { 0 = g.yes }) (record { 0 = suc (suc (suc g.first)) })
+
+    abbrev Fourth : Command
+    Fourth = Set g.mark_v Move (record { 0 = g.v }) size (Const 0) (Const 0)
+
+    -- where the four commands before it were performed
+    grown_by : (s : Plain) (c3 : Came program (suc (suc (suc g.first))) Fourth s) (c2 : Came program (suc (suc g.first)) Third c3.before) (c1 : Came program (suc g.first) Second c2.before)
+        (c0 : Came program g.first First c1.before) → value_of program size s ≤ g.reserve → g.reserve ≤ 256 → meaning I32Add (value_of program size s) (value_of program delta s) 0 ≤ g.reserve
+    grown_by s c3 c2 c1 c0 le few =
+        let untaken : (value_of program (variable g.t) c2.before % 2 ^ 32 ≡ 0) × ((y : Operand) → value_of program y c3.before ≡ value_of program y c2.before) = test_zero program c2 g.away c3.place in
+        growth_then (value_of program delta s) (value_of program size s) g.reserve (value_of program delta c1.before) (value_of program size c0.before)
+        (value_of program (variable g.r) c1.before) (value_of program (variable g.t) c2.before) le few
+        (set_other program c3 delta g.apart_v ∙ untaken.1 delta ∙ set_other program c1 delta g.apart_t)
+        (set_other program c3 size (apart g.v g.own_v) ∙ untaken.1 size ∙ set_other program c1 size (apart g.t g.own_t) ∙ set_other program c0 size (apart g.r g.own_r))
+        (set_result program c0) (set_result program c1) untaken.0
+      where
+        apart : (x : ℕ) → IsLocal program f x → size ≢ variable x
+        apart x own = size_apart program f memory x exists own
+
     grown : (s : Plain) → Reached program s → s.position ≡ position → value_of program size s ≤ g.reserve → g.reserve ≤ 256
         → meaning I32Add (value_of program size s) (value_of program delta s) 0 ≤ g.reserve
-    grown s r is le few =
-        let c3 : Came program (suc (suc (suc g.first))) (Set g.mark_v Move (record { 0 = g.v }) size (Const 0) (Const 0)) s =
-        came program facts rules (suc (suc (suc g.first))) _ g.old (λ _ h. cc) (passed program _ _ (subst (λ p. IsPassed program p) g.place g.passed_size)) s r (is ∙ g.place) in
-        let c2 : Came program (suc (suc g.first)) (Test (variable g.t) (record { 0 = g.yes }) (record { 0 = suc (suc (suc g.first)) })) c3.before =
-        came program facts rules (suc (suc g.first)) _ g.test (λ _ h. cc) g.guarded c3.before c3.reached c3.place in
-        let c1 : Came program (suc g.first) (Set g.mark_t I32GtU (record { 0 = g.t }) delta (variable g.r) (Const 0)) c2.before =
-        came program facts rules (suc g.first) _ g.exceeds (λ _ h. cc) (passed program _ _ g.passed_test) c2.before c2.reached c2.place in
-        let c0 : Came program g.first (Set g.mark_r I32Sub (record { 0 = g.r }) (Const g.reserve) size (Const 0)) c1.before =
-        came program facts rules g.first _ g.room (λ _ h. cc) (passed program _ _ g.passed_t) c1.before c1.reached c1.place in
-        let apart : (x : ℕ) → IsLocal program f x → size ≢ variable x = λ x own. size_apart program f memory x exists own in
-        let untaken = test_zero program c2 g.away c3.place in
-        let room : value_of program (variable g.r) c1.before ≡ meaning I32Sub g.reserve (value_of program size c0.before) 0 = set_result program c0 in
-        let more : value_of program (variable g.t) c2.before ≡ meaning I32GtU (value_of program delta c1.before) (value_of program (variable g.r) c1.before) 0 = set_result program c1 in
-        let size_is : value_of program size s ≡ value_of program size c0.before =
-        set_other program c3 size (apart g.v g.own_v) ∙ untaken.1 size ∙ set_other program c1 size (apart g.t g.own_t) ∙ set_other program c0 size (apart g.r g.own_r) in
-        let delta_is : value_of program delta s ≡ value_of program delta c1.before = set_other program c3 delta g.apart_v ∙ untaken.1 delta ∙ set_other program c1 delta g.apart_t in
-        growth_then (value_of program delta s) (value_of program size s) g.reserve (value_of program delta c1.before) (value_of program size c0.before)
-        (value_of program (variable g.r) c1.before) (value_of program (variable g.t) c2.before) le few delta_is size_is room more untaken.0
+    grown s r is = third (came program facts rules (suc (suc (suc g.first))) Fourth g.old (λ _ h. cc) (passed program _ _ (subst (λ p. IsPassed program p) g.place g.passed_size)) s r (is ∙ g.place))
+      where
+        first : (c3 : Came program (suc (suc (suc g.first))) Fourth s) (c2 : Came program (suc (suc g.first)) Third c3.before) (c1 : Came program (suc g.first) Second c2.before)
+            → value_of program size s ≤ g.reserve → g.reserve ≤ 256 → meaning I32Add (value_of program size s) (value_of program delta s) 0 ≤ g.reserve
+        first c3 c2 c1 = grown_by s c3 c2 c1 (came program facts rules g.first First g.room (λ _ h. cc) (passed program _ _ g.passed_t) c1.before c1.reached c1.place)
+
+        second : (c3 : Came program (suc (suc (suc g.first))) Fourth s) (c2 : Came program (suc (suc g.first)) Third c3.before)
+            → value_of program size s ≤ g.reserve → g.reserve ≤ 256 → meaning I32Add (value_of program size s) (value_of program delta s) 0 ≤ g.reserve
+        second c3 c2 = first c3 c2 (came program facts rules (suc g.first) Second g.exceeds (λ _ h. cc) (passed program _ _ g.passed_test) c2.before c2.reached c2.place)
+
+        third : (c3 : Came program (suc (suc (suc g.first))) Fourth s)
+            → value_of program size s ≤ g.reserve → g.reserve ≤ 256 → meaning I32Add (value_of program size s) (value_of program delta s) 0 ≤ g.reserve
+        third c3 = second c3 (came program facts rules (suc (suc g.first)) Third g.test (λ _ h. cc) g.guarded c3.before c3.reached c3.place)
 
   -- ---- a step
 

@@ -1,0 +1,5 @@
+//! Tests over programs and images.
+#![tactic(auto)]
+
+#[cfg(test)]
+mod cmd;
