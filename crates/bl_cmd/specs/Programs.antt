@@ -1,5 +1,5 @@
 -- What holds of every program.
-use Rattle.std.specs.Prelude.{◌≡◌, ◌<◌, ℕ, IsTrue, not, List, length, All, Option, Some, None, slice_get}
+use Rattle.std.specs.Prelude.{◌≡◌, ◌<◌, ◌^◌, ℕ, IsTrue, not, List, length, All, Option, Some, None, slice_get}
 use Rattle.bl_base.specs.Trap.{code_of}
 use Rattle.bl_base.specs.declared.trap.Trap.{Trap as TrapKind}
 use Rattle.bl_ops.specs.Access.{is_load}
@@ -32,11 +32,12 @@ IsZero value = value ≡ operand.Const 0
 abbrev pub ArePadded : Op → Operand → Operand → Type 0
 ArePadded op b c = (arity op < 2 → IsZero b) × (arity op < 3 → IsZero c)
 
--- each load has the kind of a load and each store that of a store, and the operands of each Set are padded
+-- each load has the kind of a load and each store that of a store, their offsets are numbers of 32 bits, since a number of a
+-- definition has no bound of its own, and the operands of each Set are padded
 abbrev pub IsCommand : Command → Type 0
 IsCommand (Set mark op to a b c) = ArePadded op b c
-IsCommand (Load mark kind memory to offset address) = IsTrue (is_load kind)
-IsCommand (Store kind memory offset address value) = IsTrue (not (is_load kind))
+IsCommand (Load mark kind memory to offset address) = IsTrue (is_load kind) × (offset < 2 ^ 32)
+IsCommand (Store kind memory offset address value) = IsTrue (not (is_load kind)) × (offset < 2 ^ 32)
 IsCommand (Test cond one other) = Unit {0}
 IsCommand (Jump to) = Unit {0}
 IsCommand (Arg mark function index value) = Unit {0}

@@ -88,8 +88,16 @@ fn is_command(command: Command) -> bool
 {
     match command {
         Command::Set { op, b, c, .. } => is_padded(op, b, c),
-        Command::Load { kind, .. } => kind.is_load(),
-        Command::Store { kind, .. } => !kind.is_load(),
+        Command::Load {
+            kind,
+            offset: _offset,
+            ..
+        } => kind.is_load(),
+        Command::Store {
+            kind,
+            offset: _offset,
+            ..
+        } => !kind.is_load(),
         Command::Test { .. } => true,
         Command::Jump { .. } => true,
         Command::Arg { .. } => true,

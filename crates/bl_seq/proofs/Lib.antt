@@ -1,6 +1,10 @@
 pub mod Driving
 pub mod Filling
 pub mod Laying
+pub mod OwnAccesses
+pub mod OwnSizes
+pub mod OwnSteps
+pub mod OwnWrites
 pub mod Spaces
 pub mod Starting
 pub mod Telling

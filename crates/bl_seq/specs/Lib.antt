@@ -2,4 +2,5 @@ pub mod Filled
 pub mod Layouts
 pub mod Machines
 pub mod Openings
+pub mod OwnMemory
 pub mod Taken

@@ -2,6 +2,7 @@
 #![tactic(auto)]
 
 mod chain;
+pub mod laws;
 mod layout;
 mod machine;
 mod opening;
