@@ -4,3 +4,4 @@ pub mod HexBytes
 pub mod Operands
 pub mod Parts
 pub mod Saying
+pub mod Telling

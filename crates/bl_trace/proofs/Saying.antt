@@ -31,7 +31,7 @@ arguments_more start (Argument value) = sym (length_push start.args value)
 arguments_more start (Contents patch) = omega arith
 
 -- what a line and those behind it say, by what the line says
-abbrev by_entry : List ValueType → List ℕ → ℕ → List (List ℕ) → Option Entry → Result Start ℕ
+abbrev pub by_entry : List ValueType → List ℕ → ℕ → List (List ℕ) → Option Entry → Result Start ℕ
 by_entry params sizes arguments lines (Some entry) = said_before entry (said params sizes (arguments + arguments_in entry) lines)
 by_entry params sizes arguments lines None = Err 1
 

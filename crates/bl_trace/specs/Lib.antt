@@ -2,3 +2,4 @@ pub mod Answers
 pub mod Digits
 pub mod Lines
 pub mod Reading
+pub mod Told

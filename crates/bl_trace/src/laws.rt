@@ -1,11 +1,21 @@
-//! A law of the definitions. The function is its contract alone.
-ghost use Rattle.std.specs.Prelude.{◌≡◌, ℕ, List as Listed, Ok};
+//! Laws of the definitions. Each function is its contract alone.
+ghost use Rattle.std.specs.Prelude.{◌≡◌, ◌↔◌, ℕ, List as Listed, Result as Either, Ok};
 ghost use Rattle.bl_base.specs.Fits.{Fits};
 ghost use Rattle.bl_base.specs.declared.names.ValueType.{ValueType};
 ghost use Rattle.bl_base.specs.declared.start.Start.{Start};
+ghost use Rattle.bl_trace.specs.declared.error.StartError.{StartError};
 ghost use Rattle.bl_trace.specs.Answers.{answer_of};
+ghost use Rattle.bl_trace.specs.Lines.{lines_of};
+ghost use Rattle.bl_trace.specs.Told.{Tells};
 
 /// A start that a file asks for fits the function.
 pub fn what_is_asked_for_fits()
     ensures { (params : Listed ValueType) (sizes bytes : Listed ℕ) (start : Start) → answer_of params sizes bytes ≡ Ok start → Fits params sizes start }
+{}
+
+/// A file is answered by what its lines tell: the start of its entries, where each line is one and no parameter lacks its argument; the number
+/// of a line that is no entry, where each line before it is one; or how many arguments there are, where there are too few.
+pub fn what_lines_tell()
+    ensures { (params : Listed ValueType) (sizes bytes : Listed ℕ) (answer : Either Start StartError) →
+        answer_of params sizes bytes ≡ answer ↔ Tells params sizes (lines_of bytes) answer }
 {}

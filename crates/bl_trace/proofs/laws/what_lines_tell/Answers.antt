@@ -1,0 +1,5 @@
+use Rattle.bl_trace.proofs.Telling.{answer_tells}
+use Rattle.bl_trace.proofs.laws.what_lines_tell.Goals as goal
+
+pub returns : goal.returns
+returns c = answer_tells
