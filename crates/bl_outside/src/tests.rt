@@ -47,6 +47,23 @@ fn a_file_shelf_gives_back_what_it_kept(rt: HostRuntime) -> Result<(), Fail> {
 }
 
 #[test]
+fn a_file_shelf_reads_a_file_whole_that_takes_several_reads(rt: HostRuntime) -> Result<(), Fail> {
+    let mut shelf = FileShelf::new(rt.alloc(), &rt);
+    let mut bytes = Vec::new(rt.alloc());
+    for number in 0..20_000u64 {
+        bytes.push(u8::try_from(number % 251).unwrap_or(0))?;
+    }
+    shelf.keep("bl_outside_long", bytes.as_slice())?;
+    let whole = shelf.fetch("bl_outside_long", 20_000)?;
+    let front = shelf.fetch("bl_outside_long", 14_999)?;
+    std::fs::remove_file(&rt, "bl_outside_long")?;
+    assert!(rt; whole.as_slice() == bytes.as_slice());
+    assert_eq!(rt; front.len(), 15_000);
+    assert!(rt; bytes.as_slice().starts_with(front.as_slice()));
+    Ok(())
+}
+
+#[test]
 fn a_standard_sink_takes_a_short_piece(rt: HostRuntime) -> Result<(), Fail> {
     let mut sink = StdSink::new(&rt);
     assert_eq!(rt; sink.push(b"\n"), Ok(1));

@@ -1,4 +1,5 @@
 mod blocks;
+mod greatest;
 mod interp;
 mod words;
 

@@ -1,0 +1,44 @@
+//! Runs near the greatest inputs, where want of memory could hide.
+use super::ADD_ONE;
+use super::interp::call;
+use std::alloc::Global;
+use std::test::Fail;
+
+/// The module that adds 1 with a custom section behind it, 4,194,304 bytes in all.
+fn longest_module(alloc: Global) -> Result<Vec<u8>, Fail> {
+    let mut bytes = ADD_ONE.to_vec(alloc)?;
+    bytes.extend_from_slice(&[0x00, 0xD3, 0xFF, 0xFF, 0x01, 0x01, 0x78])?;
+    let rest: Vec<u8> = vec![in alloc; 0; 4_194_257]?;
+    bytes.extend_from_slice(rest.as_slice())?;
+    Ok(bytes)
+}
+
+/// A start file of the argument 41 behind zeros, 16,777,216 bytes in all.
+fn longest_start(alloc: Global) -> Result<Vec<u8>, Fail> {
+    let mut bytes = b"arg ".to_vec(alloc)?;
+    let zeros: Vec<u8> = vec![in alloc; 0x30; 16_777_210]?;
+    bytes.extend_from_slice(zeros.as_slice())?;
+    bytes.extend_from_slice(b"41")?;
+    Ok(bytes)
+}
+
+#[test]
+fn the_longest_module_and_start_run_with_the_most_steps(rt: HostRuntime) -> Result<(), Fail> {
+    let alloc = rt.alloc();
+    let module = longest_module(alloc)?;
+    let start = longest_start(alloc)?;
+    assert_eq!(rt; (module.len(), start.len()), (4_194_304, 16_777_216));
+    let words = [
+        "blade",
+        "interp",
+        "m/inc",
+        "start",
+        "m.wasm",
+        "--steps",
+        "4294967295",
+    ];
+    let (status, out) = call(alloc, &words, (module.as_slice(), start.as_slice()), None)?;
+    assert_eq!(rt; out.bytes(), b"returned i32 42\n".as_slice());
+    assert_eq!(rt; status, 0);
+    Ok(())
+}
