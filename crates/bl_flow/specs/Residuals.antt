@@ -74,8 +74,8 @@ EndsHaveRisen r levels =
 
 -- what links both ways carry, as loads and what arcs carry: the links through the nodes come first, and then those along the arcs
 abbrev pub loaded_by : Network → List ℕ → Loaded
-loaded_by n rooms = record {
+loaded_by n capacities = record {
   network = n;
-  carried = take (length n.arcs) (drop (link_count n + size n) rooms);
-  loads = take (size n) (drop (link_count n) rooms);
+  carried = take (length n.arcs) (drop (link_count n + size n) capacities);
+  loads = take (size n) (drop (link_count n) capacities);
 }

@@ -7,8 +7,8 @@ use Rattle.bl_flow.proofs.level_graph.block.Given as goal
 
 abbrev pub invariant-loop-count : goal.invariant-loop-count
 invariant-loop-count l = record {
-  phase : Phase l.n l.links (reversed (length l.links / 2) l.rows) l.levels l.source (l.source + 1) (length l.rows) l.fn.amount l.fn.rooms l.rooms l.total l.passed;
-  long : height l.levels (l.source + 1) ≤ length l.way;
+  phase : Phase l.n l.links (reversed (length l.links / 2) l.rows) l.levels l.source (l.source + 1) (length l.rows) l.fn.amount l.fn.capacities l.capacities l.total l.passed;
+  long : height l.levels (l.source + 1) ≤ length l.trail;
 }
 
 abbrev pub decreases-loop-count : goal.decreases-loop-count
