@@ -62,10 +62,10 @@ module _ (n : Network) where
       let count = count_of n in
       let arcs = length-map n.arcs arc_link in
       let all = length-append (map arc_link n.arcs) borders in
-      let first = get_or-append_right (nodes_part n) (outer_part n) (size n) k (record { from = 0; to = 0; enters = None }) front (omega arith) in
-      let second = get_or-append_right (map arc_link n.arcs) borders (length n.arcs) (k - size n) (record { from = 0; to = 0; enters = None }) arcs (omega arith) in
+      let first = get_or-append_right (nodes_part n) (outer_part n) (size n) k (record { from = 0; to = 0 }) front (omega arith) in
+      let second = get_or-append_right (map arc_link n.arcs) borders (length n.arcs) (k - size n) (record { from = 0; to = 0 }) arcs (omega arith) in
       subst IsBehind (sym (first ∙ second))
-      (All-get_or IsBehind borders (k - size n - length n.arcs) (record { from = 0; to = 0; enters = None }) (omega arith) (All-append IsBehind (map (start_link (size n)) n.starts) (map (end_link (size n)) n.ends) starts_behind ends_behind))
+      (All-get_or IsBehind borders (k - size n - length n.arcs) (record { from = 0; to = 0 }) (omega arith) (All-append IsBehind (map (start_link (size n)) n.starts) (map (end_link (size n)) n.ends) starts_behind ends_behind))
 
   -- each link by its place
   pub data KindAt (k : ℕ) (link : Link) : Type 0 where

@@ -114,7 +114,7 @@ pub fn levels(alloc: Global, r: &Residual) -> Result<List<Option<u64>>, NoMemory
 /// The levels of the first so many parts, counted from the starts' in places.
 fn place_levels(
     alloc: Global,
-    levels: &[Option<u64>],
+    levels: &[Option<u32>],
     places: usize,
 ) -> Result<List<Option<u64>>, NoMemory>
     requires { places ≤ length levels.now }
@@ -129,11 +129,11 @@ fn place_levels(
 }
 
 /// A level less by one.
-fn lower(level: Option<u64>) -> Option<u64>
+fn lower(level: Option<u32>) -> Option<u64>
     ensures { result ≡ lowered level }
 {
     match level {
-        Some(level) => Some(level.saturating_sub(1)),
+        Some(level) => Some(u64::from(level.saturating_sub(1))),
         None => None,
     }
 }
