@@ -4,7 +4,7 @@ ghost use Rattle.bl_flow.specs.Split.{link_at};
 ghost use Rattle.bl_flow.specs.Searches.{AreRows, row_at};
 ghost use Rattle.bl_flow.specs.Rows.{reversed, AreChained, AreBefore, IsLast, AppendsRow};
 
-use crate::split::{Link, reverse_of};
+use crate::split::{Link, number_of, reverse_of};
 use bl_base::NoMemory;
 use std::alloc::Global;
 use std::marker::Model;
@@ -43,9 +43,9 @@ impl Rows {
         ensures row { result.now ≡ row_at self.now part }
         ensures small { (p : ℕ) → length (row_at self.now p) < 2 ^ 63 }
     {
-        let start = self.offsets[part] as usize;
-        let end = self.offsets[part + 1] as usize;
-        &self.entries[start..end]
+        let start = self.offsets[part];
+        let end = self.offsets[part + 1];
+        &self.entries[start as usize..end as usize]
     }
 
     /// The links from a part; none from the end, behind which no walk goes on.
@@ -100,9 +100,7 @@ pub fn rows_of(alloc: Global, links: &[Link], parts: usize) -> Result<Rows, NoMe
     offsets.push(0)?;
     for part in 0..parts {
         push_chain(&chains.before, chains.last[part], &mut entries)?;
-        let Ok(end) = u32::try_from(entries.len()) else {
-            return Err(NoMemory);
-        };
+        let end = number_of(entries.len())?;
         offsets.push(end)?;
     }
     Ok(Rows { offsets, entries })
@@ -116,12 +114,9 @@ fn chains_of(alloc: Global, links: &[Link], parts: usize) -> Result<Chains, NoMe
     let mut last = no_links(alloc, parts)?;
     let mut before = Vec::with_capacity(alloc, links.len())?;
     for (k, link) in links.iter().enumerate() {
-        let Ok(number) = u32::try_from(k) else {
-            return Err(NoMemory);
-        };
-        let from = link.from as usize;
-        before.push(last[from])?;
-        last[from] = Some(number);
+        let number = number_of(k)?;
+        before.push(last[link.from as usize])?;
+        last[link.from as usize] = Some(number);
     }
     Ok(Chains { last, before })
 }
