@@ -1,12 +1,12 @@
 -- The level of the part behind all ends, and the levels of the ends' out places.
-use Rattle.std.proofs.Common.{◌≡◌, ◌↔◌, ◌++◌, take, drop, ℕ, zero, suc, ◌+◌, ◌-◌, ◌*◌, ◌^◌, ◌<◌, ◌≤◌, List, length, Option, Some, None, refl, sym, ap, subst, ◌∙◌, arith, inl, inr, slice_index}
+use Rattle.std.proofs.Common.{◌≡◌, ◌↔◌, ◌++◌, take, drop, ℕ, suc, ◌+◌, ◌-◌, ◌^◌, ◌<◌, ◌≤◌, List, length, Option, Some, None, refl, sym, ap, subst, ◌∙◌, arith, inl, inr}
 use Rattle.std.specs.List.{Contains}
 use Rattle.std.proofs.lemmas.List.Elements.{All-contains}
 use Rattle.bl_flow.specs.declared.network.Network.{Network}
 use Rattle.bl_flow.specs.declared.split.Link.{Link}
 use Rattle.bl_flow.specs.Networks.{size, InRange}
 use Rattle.bl_flow.specs.Split.{in_part, out_part, end_link, links_of, both_ways, link_at, reverse_link}
-use Rattle.bl_flow.specs.Flows.{link_count, IsFlow}
+use Rattle.bl_flow.specs.Flows.{IsFlow}
 use Rattle.bl_flow.specs.Levels.{IsReached, here, onward, level_at, AreLevels, HasRisen}
 use Rattle.bl_flow.specs.Packed.{IsPacked, IsAdvanced}
 use Rattle.bl_flow.specs.Residuals.{Loaded, loaded_by, arc_at, ResidualWalk, AreLevelsOf, ReachesAnEnd, EndsHaveRisen, IsLawful, amount_of}
@@ -15,8 +15,7 @@ use Rattle.bl_flow.proofs.Lawful.{lawful, amount_is}
 use Rattle.bl_flow.proofs.Wiring.{given_back}
 use Rattle.bl_flow.proofs.Links.{unbounded_behind, end_place}
 use Rattle.bl_flow.proofs.BothWays.{forward_at, reverse_at, place_cases}
-use Rattle.bl_flow.proofs.Levelling.{some_same, none_some}
-use Rattle.bl_flow.proofs.Residuals.{IsBehind, to_start, from_end, KindAt, is_node, is_arc, is_behind, kind_at, arc_ends, walk_out, walk_in, by_link, always_capacity}
+use Rattle.bl_flow.proofs.Residuals.{to_start, from_end, KindAt, is_node, is_arc, is_behind, kind_at, arc_ends, walk_out, walk_in, by_link, always_capacity}
 
 -- a walk to the part behind all ends comes from the out place of an end
 pub record FromEnd (n : Network) (capacities : List ℕ) (steps : ℕ) : Type 0 where

@@ -1,5 +1,5 @@
 -- A flow in the links is a lawful flow of the residual network, of the same amount.
-use Rattle.std.proofs.Common.{◌≡◌, ℕ, zero, suc, ◌+◌, ◌-◌, ◌*◌, ◌^◌, ◌<◌, ◌≤◌, Bool, true, false, List, length, refl, sym, ap, subst, ◌∙◌, arith, inl, inr, slice_index, nat_eq, take, drop, map, length-append}
+use Rattle.std.proofs.Common.{◌≡◌, ℕ, zero, suc, ◌+◌, ◌-◌, ◌^◌, ◌<◌, ◌≤◌, List, length, refl, sym, ap, subst, ◌∙◌, arith, inl, inr, slice_index, nat_eq, drop, map, length-append}
 use Rattle.std.specs.List.{Contains}
 use Rattle.std.specs.Prelude.{if◌then◌else◌}
 use Rattle.std.proofs.lemmas.Bool.{cases_eq, eq-eqb, ne_eqb}
@@ -10,13 +10,13 @@ use Rattle.bl_base.proofs.Sums.{sum_same, sum_none, sum_plus, sum_change}
 use Rattle.bl_flow.specs.declared.network.Network.{Network}
 use Rattle.bl_flow.specs.declared.split.Link.{Link}
 use Rattle.bl_flow.specs.Networks.{size, InRange}
-use Rattle.bl_flow.specs.Split.{in_part, out_part, node_link, arc_link, start_link, end_link, links_of, link_at}
-use Rattle.bl_flow.specs.Flows.{amount_if, leaves, enters, link_count, carried_by, IsFlow}
+use Rattle.bl_flow.specs.Split.{in_part, out_part, arc_link, links_of, link_at}
+use Rattle.bl_flow.specs.Flows.{amount_if, link_count, carried_by, IsFlow}
 use Rattle.bl_flow.specs.Residuals.{Loaded, loaded_by, arc_at, brought, taken_away, IsLawful, amount_of}
 use Rattle.bl_flow.proofs.Amounts.{amount_in, amount_out}
-use Rattle.bl_flow.proofs.Links.{node_at, outer_part, count_of}
+use Rattle.bl_flow.proofs.Links.{node_at, count_of}
 use Rattle.bl_flow.proofs.Filling.{load_fits}
-use Rattle.bl_flow.proofs.Residuals.{borders, arc_link_at, arcs_within, IsBehind, to_start, from_end, behind_at, KindAt, is_node, is_arc, is_behind, kind_at, load_is, carried_is, arc_ends}
+use Rattle.bl_flow.proofs.Residuals.{borders, arc_link_at, IsBehind, to_start, from_end, behind_at, KindAt, is_node, is_arc, is_behind, kind_at, load_is, carried_is, arc_ends}
 
 -- a sum in two
 pub sum_split : (m k : ℕ) (g : ℕ → ℕ) → sum_below (m + k) g ≡ sum_below m g + sum_below k (λ j. g (m + j))

@@ -1,9 +1,9 @@
 -- The trail back through what is carried, whose circles are taken off.
-use Rattle.std.proofs.Common.{◌≡◌, ℕ, zero, suc, ◌+◌, ◌-◌, ◌*◌, ◌<◌, ◌≤◌, Bool, true, false, cond, List, [], ◌∷◌, ◌++◌, length, take, drop, set, refl, sym, ap, subst, ◌∙◌, arith, ◌⊎◌, inl, inr, slice_index, nat_eq, nat_lt, ◌&&◌, length-append, length-set, length-drop}
+use Rattle.std.proofs.Common.{◌≡◌, ℕ, zero, suc, ◌+◌, ◌-◌, ◌*◌, ◌<◌, ◌≤◌, Bool, true, false, cond, List, [], ◌∷◌, ◌++◌, length, take, drop, set, refl, sym, ap, subst, ◌∙◌, arith, ◌⊎◌, inl, inr, slice_index, nat_eq, nat_lt, ◌&&◌, length-append, length-drop}
 use Rattle.std.specs.List.{Contains, count_by}
 use Rattle.std.proofs.Math.Nat.{mul-suc}
 use Rattle.std.proofs.Math.Seq.{drop-cons}
-use Rattle.std.proofs.lemmas.Bool.{cases_lt, cases_eq, cases_Bool, false≢true, lt-ltb, le-ltb, ltb-true, eqb-true, eq-eqb, ne_eqb, and_parts, and_from}
+use Rattle.std.proofs.lemmas.Bool.{cases_lt, cases_eq, false≢true, lt-ltb, le-ltb, ltb-true, eqb-true, eq-eqb, ne_eqb, and_parts, and_from}
 use Rattle.std.proofs.lemmas.List.{get_or-take, get_or-drop, get_or_append_left, get_or_push, get_or-set_same, get_or-set_other, get_or_past, length-take-le, get_or_default, take-append-drop}
 use Rattle.bl_flow.specs.declared.network.Network.{Network}
 use Rattle.bl_flow.specs.declared.split.Link.{Link}
@@ -14,7 +14,7 @@ use Rattle.bl_flow.specs.Flows.{amount_if, Adds, Carries, LeadsBack, IsTaken, Is
 use Rattle.bl_flow.specs.Searches.{row_at}
 use Rattle.bl_flow.specs.Levels.{AreRowsIn}
 use Rattle.bl_flow.specs.Traces.{ArePassedOver, Brings, OnTrace, on_trail, AreFed, IsTraced}
-use Rattle.bl_base.proofs.Sums.{sum_change, sum_term, sum_le, sum_tight}
+use Rattle.bl_base.proofs.Sums.{sum_change, sum_term, sum_tight}
 use Rattle.bl_flow.proofs.Amounts.{amount_in, amount_out}
 use Rattle.bl_flow.proofs.BothWays.{forward_at}
 use Rattle.bl_flow.proofs.Blocking.{leads_more}

@@ -1,5 +1,5 @@
 -- The trail that is traced back through what a flow carries.
-use Rattle.std.specs.Prelude.{◌≡◌, ℕ, ◌<◌, ◌≤◌, ◌⊎◌, Bool, List, length, slice_index, nat_lt, nat_eq, ◌&&◌}
+use Rattle.std.specs.Prelude.{◌≡◌, ℕ, ◌<◌, ◌⊎◌, Bool, List, length, slice_index, nat_lt, nat_eq, ◌&&◌}
 use Rattle.bl_flow.specs.declared.split.Link.{Link}
 use Rattle.bl_flow.specs.Split.{link_at}
 use Rattle.bl_flow.specs.Flows.{LeadsBack}

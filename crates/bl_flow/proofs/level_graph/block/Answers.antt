@@ -1,4 +1,4 @@
-use Rattle.std.proofs.Common.{rules, arith, ◌≡◌, ◌<◌, ◌≤◌, ◌+◌, ◌-◌, ◌*◌, ◌/◌, ℕ, List, length, slice_index, take, sym, ap, subst, ◌∙◌, refl}
+use Rattle.std.proofs.Common.{arith, ◌≡◌, ◌<◌, ◌≤◌, ◌+◌, ◌-◌, ◌*◌, ◌/◌, ℕ, length, take, sym, ap, subst, ◌∙◌, refl}
 use Rattle.bl_flow.specs.Networks.{size, total_weight}
 use Rattle.bl_flow.specs.Rows.{reversed}
 use Rattle.bl_flow.specs.Levels.{AreLevels, IsShortest}

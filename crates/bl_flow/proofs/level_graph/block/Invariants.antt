@@ -1,5 +1,5 @@
-use Rattle.std.proofs.Common.{length, ◌*◌, ◌+◌, ◌-◌, ◌/◌, ◌≤◌}
-use Rattle.bl_flow.specs.Networks.{size, total_weight}
+use Rattle.std.proofs.Common.{length, ◌+◌, ◌-◌, ◌/◌, ◌≤◌}
+use Rattle.bl_flow.specs.Networks.{total_weight}
 use Rattle.bl_flow.specs.Levels.{height}
 use Rattle.bl_flow.specs.Rows.{reversed}
 use Rattle.bl_flow.proofs.Phases.{Phase}

@@ -1,9 +1,9 @@
-use Rattle.std.proofs.Common.{rules, arith, ◌≡◌, ◌<◌, ◌≤◌, ◌+◌, ◌-◌, ◌/◌, ℕ, true, false, length, slice_index, sym, ap, subst, ◌∙◌, refl}
+use Rattle.std.proofs.Common.{rules, arith, ◌<◌, ◌+◌, ◌-◌, ◌/◌, length, slice_index, sym, ◌∙◌, refl}
 use Rattle.std.proofs.lemmas.Bool.{false≢true}
 use Rattle.bl_flow.specs.Split.{link_at}
 use Rattle.bl_flow.specs.Searches.{row_at}
 use Rattle.bl_flow.specs.Rows.{reversed}
-use Rattle.bl_flow.proofs.Blocking.{buffer_begins, takes_buffered, passes_buffered, back_buffered, may_buffered, none_left, short_buffered, at_place, past_row}
+use Rattle.bl_flow.proofs.Blocking.{takes_buffered, passes_buffered, back_buffered, may_buffered, none_left, at_place, past_row}
 use Rattle.bl_flow.proofs.level_graph.next_augmenting_path.Goals as goal
 
 pub loop-at-preserved-then-leads_on : goal.loop-at-preserved-then-leads_on

@@ -1,4 +1,4 @@
-use Rattle.std.proofs.Common.{◌/◌, length, take}
+use Rattle.std.proofs.Common.{◌/◌, length}
 use Rattle.bl_flow.specs.Rows.{reversed}
 use Rattle.bl_flow.proofs.Blocking.{Buffered, measure}
 use Rattle.bl_flow.proofs.level_graph.next_augmenting_path.Given as goal

@@ -1,4 +1,4 @@
-use Rattle.std.proofs.Common.{arith, ◌≡◌, ◌<◌, ◌+◌, ◌/◌, ℕ, length, slice_index, sym, ap, subst, ◌∙◌, refl}
+use Rattle.std.proofs.Common.{arith, ◌≡◌, ◌+◌, ◌/◌, length, slice_index, ap, ◌∙◌}
 use Rattle.bl_flow.proofs.paths.carried.Goals as goal
 
 pub returns-clause-all : goal.returns-clause-all

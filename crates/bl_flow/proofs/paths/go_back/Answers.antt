@@ -1,4 +1,4 @@
-use Rattle.std.proofs.Common.{arith, ◌≡◌, ◌<◌, ◌≤◌, ◌+◌, ◌++◌, ◌∷◌, [], ℕ, List, false, length, slice_index, set, sym, ap, subst, ◌∙◌, refl}
+use Rattle.std.proofs.Common.{arith, ◌≡◌, ◌<◌, ◌++◌, ◌∷◌, [], false, length, set, sym, ap, ◌∙◌}
 use Rattle.bl_flow.specs.Split.{link_at}
 use Rattle.bl_flow.specs.Rows.{reversed}
 use Rattle.bl_flow.specs.Traces.{OnTrace, on_trail}

@@ -1,6 +1,6 @@
-use Rattle.std.proofs.Common.{arith, ◌≡◌, ◌<◌, ◌≤◌, ◌+◌, ◌*◌, ℕ, true, length, slice_index, sym, ap, subst, ◌∙◌, refl}
+use Rattle.std.proofs.Common.{arith, ◌+◌, ◌*◌, length, sym, subst}
 use Rattle.bl_flow.specs.Networks.{size}
-use Rattle.bl_flow.specs.Split.{both_ways, links_of, in_part, out_part}
+use Rattle.bl_flow.specs.Split.{links_of, in_part, out_part}
 use Rattle.bl_flow.specs.Rows.{reversed}
 use Rattle.bl_flow.specs.Flows.{link_count}
 use Rattle.bl_flow.specs.Levels.{AreRowsIn}

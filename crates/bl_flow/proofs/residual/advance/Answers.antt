@@ -1,4 +1,4 @@
-use Rattle.std.proofs.Common.{arith, ◌≡◌, length, drop, sym, subst, ◌∙◌}
+use Rattle.std.proofs.Common.{arith, length, drop, sym, subst, ◌∙◌}
 use Rattle.bl_flow.specs.Packed.{IsPacked}
 use Rattle.bl_flow.proofs.Wiring.{given_back}
 use Rattle.bl_flow.proofs.Advancing.{packed_lawful, advance_is}

@@ -1,4 +1,4 @@
-use Rattle.std.proofs.Common.{arith, ◌≡◌, ◌<◌, ◌≤◌, ◌+◌, ◌*◌, ◌^◌, ℕ, length, sym, ap, subst, ◌∙◌}
+use Rattle.std.proofs.Common.{arith, ◌≡◌, ◌+◌, ◌*◌, length, ap, subst, ◌∙◌}
 use Rattle.bl_flow.specs.Networks.{size}
 use Rattle.bl_flow.specs.Split.{both_ways, links_of, in_part, out_part}
 use Rattle.bl_flow.specs.Levels.{level_at, AreLevels}

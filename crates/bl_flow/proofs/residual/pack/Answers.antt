@@ -1,4 +1,4 @@
-use Rattle.std.proofs.Common.{arith, ◌≡◌, ◌+◌, ◌*◌, ◌/◌, ℕ, List, length, take, drop, replicate, sym, ap, subst, ◌∙◌}
+use Rattle.std.proofs.Common.{arith, ◌≡◌, ◌+◌, ◌*◌, ◌/◌, ℕ, List, length, replicate, sym, ap, subst, ◌∙◌}
 use Rattle.bl_flow.specs.declared.network.Network.{Network}
 use Rattle.bl_flow.specs.Networks.{size}
 use Rattle.bl_flow.specs.Split.{links_of, both_ways}

@@ -1,7 +1,6 @@
-use Rattle.std.proofs.Common.{arith, ◌≡◌, ◌+◌, ◌-◌, ◌++◌, ◌∷◌, [], ℕ, List, Option, None, length, slice_index_or, sym, ap, subst, ◌∙◌, refl}
+use Rattle.std.proofs.Common.{arith, ◌≡◌, ◌+◌, ◌++◌, ◌∷◌, [], None, length, slice_index_or, sym, ap, subst, ◌∙◌}
 use Rattle.std.proofs.lemmas.List.{get_or_default}
-use Rattle.bl_flow.specs.Rows.{rows_from}
-use Rattle.bl_flow.proofs.Chains.{RowsTo, no_rows, row_next, are_rows, rows_count, are_offsets, chain_falls, last_inside}
+use Rattle.bl_flow.proofs.Chains.{RowsTo, no_rows, row_next, are_rows, rows_count}
 use Rattle.bl_flow.proofs.rows.rows_of.Goals as goal
 
 pub loop-part-init : goal.loop-part-init
