@@ -51,7 +51,7 @@ impl Residual {
     }
 }
 
-/// The residual network in which nothing flows. The conditions are those of `max_flow`.
+/// The residual network in which nothing flows. The conditions are those of `max_flow`, and so is the size of a network.
 pub fn pack(alloc: Global, n: &Network) -> Result<Residual, NoMemory>
     requires in_range { InRange n.now }
     requires bounded { Meets n.now (λ v. IsSome (weight_at n.now v)) }
