@@ -1,12 +1,12 @@
 -- The level of the part behind all ends, and the levels of the ends' out places.
-use Rattle.std.proofs.Common.{◌≡◌, ◌↔◌, ◌++◌, take, drop, ℕ, zero, suc, ◌+◌, ◌-◌, ◌*◌, ◌^◌, ◌<◌, ◌≤◌, List, length, Option, Some, None, refl, sym, ap, subst, ◌∙◌, arith, inl, inr, slice_index}
+use Rattle.std.proofs.Common.{◌≡◌, ◌↔◌, ◌++◌, take, drop, ℕ, suc, ◌+◌, ◌-◌, ◌^◌, ◌<◌, ◌≤◌, List, length, Option, Some, None, refl, sym, ap, subst, ◌∙◌, arith, inl, inr}
 use Rattle.std.specs.List.{Contains}
 use Rattle.std.proofs.lemmas.List.Elements.{All-contains}
 use Rattle.bl_flow.specs.declared.network.Network.{Network}
 use Rattle.bl_flow.specs.declared.split.Link.{Link}
 use Rattle.bl_flow.specs.Networks.{size, InRange}
-use Rattle.bl_flow.specs.Split.{in_part, out_part, end_link, links_of, both_ways, link_at, turned}
-use Rattle.bl_flow.specs.Flows.{link_count, IsFlow}
+use Rattle.bl_flow.specs.Split.{in_part, out_part, end_link, links_of, both_ways, link_at, reverse_link}
+use Rattle.bl_flow.specs.Flows.{IsFlow}
 use Rattle.bl_flow.specs.Levels.{IsReached, here, onward, level_at, AreLevels, HasRisen}
 use Rattle.bl_flow.specs.Packed.{IsPacked, IsAdvanced}
 use Rattle.bl_flow.specs.Residuals.{Loaded, loaded_by, arc_at, ResidualWalk, AreLevelsOf, ReachesAnEnd, EndsHaveRisen, IsLawful, amount_of}
@@ -14,19 +14,18 @@ use Rattle.bl_flow.proofs.Filling.{at_most_total}
 use Rattle.bl_flow.proofs.Lawful.{lawful, amount_is}
 use Rattle.bl_flow.proofs.Wiring.{given_back}
 use Rattle.bl_flow.proofs.Links.{unbounded_behind, end_place}
-use Rattle.bl_flow.proofs.BothWays.{forward_at, turned_at, place_cases}
-use Rattle.bl_flow.proofs.Levelling.{some_same, none_some}
-use Rattle.bl_flow.proofs.Residuals.{IsBehind, to_start, from_end, KindAt, is_node, is_arc, is_behind, kind_at, arc_ends, walk_out, walk_in, by_link, always_room}
+use Rattle.bl_flow.proofs.BothWays.{forward_at, reverse_at, place_cases}
+use Rattle.bl_flow.proofs.Residuals.{to_start, from_end, KindAt, is_node, is_arc, is_behind, kind_at, arc_ends, walk_out, walk_in, by_link, always_capacity}
 
 -- a walk to the part behind all ends comes from the out place of an end
-pub record FromEnd (n : Network) (rooms : List ℕ) (steps : ℕ) : Type 0 where
+pub record FromEnd (n : Network) (capacities : List ℕ) (steps : ℕ) : Type 0 where
   pub end : ℕ
   pub before : ℕ
   pub is_end : Contains n.ends end
   pub one : steps ≡ suc before
-  pub reached : IsReached (both_ways (links_of n)) rooms (in_part (size n)) (out_part (size n)) before (out_part end)
+  pub reached : IsReached (both_ways (links_of n)) capacities (in_part (size n)) (out_part (size n)) before (out_part end)
 
-module _ (n : Network) (range : InRange n) (rooms : List ℕ) (amount : ℕ) (flow : IsFlow n rooms amount) (small : amount < 2 ^ 63) where
+module _ (n : Network) (range : InRange n) (capacities : List ℕ) (amount : ℕ) (flow : IsFlow n capacities amount) (small : amount < 2 ^ 63) where
   abbrev root : ℕ
   root = in_part (size n)
 
@@ -39,44 +38,44 @@ module _ (n : Network) (range : InRange n) (rooms : List ℕ) (amount : ℕ) (fl
   end_lt : (e : ℕ) → Contains n.ends e → e < size n
   end_lt e is = All-contains (λ w. w < size n) n.ends e range.ends is
 
-  by_forward : (steps k : ℕ) (link : Link) → KindAt n k link → link.to ≡ last → IsReached links rooms root last steps link.from → FromEnd n rooms (suc steps)
-  by_forward steps k link (is_node lt e) to way = let f : out_part k ≡ last = sym (ap (λ l. l.to) e) ∙ to in absurd (omega arith)
-  by_forward steps k link (is_arc a lt place e) to way = let f : in_part (arc_at n a).to ≡ last = sym (ap (λ l. l.to) e) ∙ to in absurd (omega arith)
-  by_forward steps k link (is_behind high (to_start s start e)) to way = let f : in_part s ≡ last = sym (ap (λ l. l.to) e) ∙ to in absurd (omega arith)
-  by_forward steps k link (is_behind high (from_end s is e)) to way = record { end = s; before = steps; is_end = is; one = refl; reached = subst (IsReached links rooms root last steps) (ap (λ l. l.from) e) way }
+  by_forward : (steps k : ℕ) (link : Link) → KindAt n k link → link.to ≡ last → IsReached links capacities root last steps link.from → FromEnd n capacities (suc steps)
+  by_forward steps k link (is_node lt e) to trail = let f : out_part k ≡ last = sym (ap (λ l. l.to) e) ∙ to in absurd (omega arith)
+  by_forward steps k link (is_arc a lt place e) to trail = let f : in_part (arc_at n a).to ≡ last = sym (ap (λ l. l.to) e) ∙ to in absurd (omega arith)
+  by_forward steps k link (is_behind high (to_start s start e)) to trail = let f : in_part s ≡ last = sym (ap (λ l. l.to) e) ∙ to in absurd (omega arith)
+  by_forward steps k link (is_behind high (from_end s is e)) to trail = record { end = s; before = steps; is_end = is; one = refl; reached = subst (IsReached links capacities root last steps) (ap (λ l. l.from) e) trail }
 
   not_back : (k : ℕ) (link : Link) → KindAt n k link → link.from ≡ last → ⊥
   not_back k link (is_node lt e) from = let f : in_part k ≡ last = sym (ap (λ l. l.from) e) ∙ from in omega arith
-  not_back k link (is_arc a lt place e) from = let f : out_part (arc_at n a).from ≡ last = sym (ap (λ l. l.from) e) ∙ from in let low = (arc_ends n range rooms amount flow small a lt).0 in omega arith
+  not_back k link (is_arc a lt place e) from = let f : out_part (arc_at n a).from ≡ last = sym (ap (λ l. l.from) e) ∙ from in let low = (arc_ends n range capacities amount flow small a lt).0 in omega arith
   not_back k link (is_behind high (to_start s start e)) from = let f : in_part (size n) ≡ last = sym (ap (λ l. l.from) e) ∙ from in omega arith
   not_back k link (is_behind high (from_end s is e)) from = let f : out_part s ≡ last = sym (ap (λ l. l.from) e) ∙ from in let low = end_lt s is in omega arith
 
-  by_last : (steps part : ℕ) → IsReached links rooms root last steps part → part ≡ last → FromEnd n rooms steps
+  by_last : (steps part : ℕ) → IsReached links capacities root last steps part → part ≡ last → FromEnd n capacities steps
   by_last _ _ here e = absurd (omega arith)
-  by_last _ _ (onward steps part k lt room way goes to) e =
-      elim (place_cases (links_of n) k lt) as (λ _. FromEnd n rooms (suc steps)) [
+  by_last _ _ (onward steps part k lt capacity trail goes to) e =
+      elim (place_cases (links_of n) k lt) as (λ _. FromEnd n capacities (suc steps)) [
         | inl low ↦
             let same = forward_at (links_of n) k low in
-            by_forward steps k (link_at (links_of n) k) (kind_at n k low) (ap (λ l. l.to) (sym same) ∙ to ∙ e) (subst (λ l. IsReached links rooms root last steps l.from) same way)
+            by_forward steps k (link_at (links_of n) k) (kind_at n k low) (ap (λ l. l.to) (sym same) ∙ to ∙ e) (subst (λ l. IsReached links capacities root last steps l.from) same trail)
         | inr high ↦
-            let same : link_at links k ≡ turned (link_at (links_of n) high.0) = ap (link_at links) high.2 ∙ turned_at (links_of n) high.0 high.1 in
+            let same : link_at links k ≡ reverse_link (link_at (links_of n) high.0) = ap (link_at links) high.2 ∙ reverse_at (links_of n) high.0 high.1 in
             absurd (not_back high.0 (link_at (links_of n) high.0) (kind_at n high.0 high.1) (ap (λ l. l.to) (sym same) ∙ to ∙ e))
       ]
 
-  to_last : (steps e : ℕ) → Contains n.ends e → ResidualWalk (loaded_by n rooms) steps (out_part e) → IsReached links rooms root last (suc (suc steps)) last
+  to_last : (steps e : ℕ) → Contains n.ends e → ResidualWalk (loaded_by n capacities) steps (out_part e) → IsReached links capacities root last (suc (suc steps)) last
   to_last steps e is walk =
       let place = end_place n e is in
       let lt = end_lt e is in
-      by_link n range rooms amount flow small (suc steps) (out_part e) last place.0 (end_link (size n) e) place.1 place.3
-      (always_room n range rooms amount flow small place.0 place.1 (unbounded_behind n place.0 place.2)) refl refl (λ q. omega arith) (walk_in n range rooms amount flow small steps (out_part e) walk)
+      by_link n range capacities amount flow small (suc steps) (out_part e) last place.0 (end_link (size n) e) place.1 place.3
+      (always_capacity n range capacities amount flow small place.0 place.1 (unbounded_behind n place.0 place.2)) refl refl (λ q. omega arith) (walk_in n range capacities amount flow small steps (out_part e) walk)
 
-  module _ (levels all : List (Option ℕ)) (public_ : AreLevelsOf (loaded_by n rooms) levels) (are : AreLevels links rooms root last all) where
+  module _ (levels all : List (Option ℕ)) (public_ : AreLevelsOf (loaded_by n capacities) levels) (are : AreLevels links capacities root last all) where
     -- the least level that an end's out place has is two less
     pub last_out : (d : ℕ) → level_at all last ≡ Some d → (e c : ℕ) × Contains n.ends e × (level_at levels (out_part e) ≡ Some c) × (c + 2 ≤ d)
     last_out d is =
         let from = by_last d last (are.sound last d is) refl in
         let low = end_lt from.end from.is_end in
-        let s = walk_out n range rooms amount flow small from.before (out_part from.end) from.reached (omega arith) in
+        let s = walk_out n range capacities amount flow small from.before (out_part from.end) from.reached (omega arith) in
         let c = public_.least (out_part from.end) s.count s.walk in
         let a = s.less in let b = c.2 in let one = from.one in
         (from.end, c.0, from.is_end, c.1, omega arith)
@@ -97,22 +96,22 @@ ends_risen n range old new before after flow small flow_now small_now levels all
     let gap = out.4 in
     omega arith
 
-pub packed_small : (n : Network) (links : List Link) (rows : List (List ℕ)) (rooms : List ℕ) (amount : ℕ) → IsPacked n links rows rooms amount → amount < 2 ^ 63
-packed_small n links rows rooms amount is = let most = at_most_total n rooms amount is.flow is.in_range is.bounded in let total = is.total in omega arith
+pub packed_small : (n : Network) (links : List Link) (rows : List (List ℕ)) (capacities : List ℕ) (amount : ℕ) → IsPacked n links rows capacities amount → amount < 2 ^ 63
+packed_small n links rows capacities amount is = let most = at_most_total n capacities amount is.flow is.in_range is.bounded in let total = is.total in omega arith
 
-pub packed_lawful : (r : Loaded) (n : Network) (links : List Link) (rows : List (List ℕ)) (rooms : List ℕ) (amount : ℕ) → loaded_by n rooms ≡ r
-    → IsPacked n links rows rooms amount → IsLawful r × (amount_of r ≡ amount)
-packed_lawful r n links rows rooms amount view is =
-    let small = packed_small n links rows rooms amount is in
-    subst (λ x. IsLawful x × (amount_of x ≡ amount)) view (lawful n is.in_range rooms amount is.flow small, amount_is n is.in_range rooms amount is.flow small)
+pub packed_lawful : (r : Loaded) (n : Network) (links : List Link) (rows : List (List ℕ)) (capacities : List ℕ) (amount : ℕ) → loaded_by n capacities ≡ r
+    → IsPacked n links rows capacities amount → IsLawful r × (amount_of r ≡ amount)
+packed_lawful r n links rows capacities amount view is =
+    let small = packed_small n links rows capacities amount is in
+    subst (λ x. IsLawful x × (amount_of x ≡ amount)) view (lawful n is.in_range capacities amount is.flow small, amount_is n is.in_range capacities amount is.flow small)
 
 -- what an advance of a residual network comes to
-pub record Advance (r : Loaded) (n : Network) (links : List Link) (rows : List (List ℕ)) (rooms : List ℕ) (before after : ℕ) (levels : List (Option ℕ)) : Type 0 where
-  pub packed : IsPacked n links rows rooms after
-  pub lawful_ : IsLawful (loaded_by n rooms)
-  pub amount_ : amount_of (loaded_by n rooms) ≡ amount_of r + (after - before)
+pub record Advance (r : Loaded) (n : Network) (links : List Link) (rows : List (List ℕ)) (capacities : List ℕ) (before after : ℕ) (levels : List (Option ℕ)) : Type 0 where
+  pub packed : IsPacked n links rows capacities after
+  pub lawful_ : IsLawful (loaded_by n capacities)
+  pub amount_ : amount_of (loaded_by n capacities) ≡ amount_of r + (after - before)
   pub some : (0 < after - before) ↔ ReachesAnEnd r.network levels
-  pub risen : EndsHaveRisen (loaded_by n rooms) levels
+  pub risen : EndsHaveRisen (loaded_by n capacities) levels
 
 module _ (n : Network) (links : List Link) (rows : List (List ℕ)) (old new : List ℕ) (before after : ℕ) (levels : List (Option ℕ))
     (is : IsPacked n links rows old before) (more : IsAdvanced n old new before after) (public_ : AreLevelsOf (loaded_by n old) levels) where

@@ -1,6 +1,6 @@
 -- Rows made of chains of links.
-use Rattle.std.proofs.Common.{◌≡◌, ℕ, zero, suc, ◌+◌, ◌-◌, ◌<◌, ◌≤◌, List, [], ◌∷◌, ◌++◌, Option, Some, None, length, map, take, drop, set, refl, sym, ap, subst, ◌∙◌, arith, ◌⊎◌, inl, inr, slice_index, slice_index_or, replicate, length-append, length-set, length-drop}
-use Rattle.std.specs.List.{Contains, range_with_len}
+use Rattle.std.proofs.Common.{◌≡◌, ℕ, suc, ◌+◌, ◌-◌, ◌<◌, ◌≤◌, List, [], ◌∷◌, ◌++◌, Option, Some, None, length, drop, set, refl, sym, ap, subst, ◌∙◌, arith, inl, inr, slice_index, slice_index_or, replicate, length-append, length-set, length-drop}
+use Rattle.std.specs.List.{Contains}
 use Rattle.std.proofs.lemmas.Bool.{cases_lt, cases_eq}
 use Rattle.std.proofs.lemmas.List.{get_or-take, get_or-drop, get_or_append_left, get_or_push, get_or-set_same, get_or-set_other, get_or-replicate, get_or_past, length-replicate, length-take-le, get_or_default}
 use Rattle.std.proofs.lemmas.List.FromFn.{get_or-map-range_with_len, length-map-range_with_len}

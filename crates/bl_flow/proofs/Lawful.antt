@@ -1,5 +1,5 @@
 -- A flow in the links is a lawful flow of the residual network, of the same amount.
-use Rattle.std.proofs.Common.{◌≡◌, ℕ, zero, suc, ◌+◌, ◌-◌, ◌*◌, ◌^◌, ◌<◌, ◌≤◌, Bool, true, false, List, length, refl, sym, ap, subst, ◌∙◌, arith, inl, inr, slice_index, nat_eq, take, drop, map, length-append}
+use Rattle.std.proofs.Common.{◌≡◌, ℕ, zero, suc, ◌+◌, ◌-◌, ◌^◌, ◌<◌, ◌≤◌, List, length, refl, sym, ap, subst, ◌∙◌, arith, inl, inr, slice_index, nat_eq, drop, map, length-append}
 use Rattle.std.specs.List.{Contains}
 use Rattle.std.specs.Prelude.{if◌then◌else◌}
 use Rattle.std.proofs.lemmas.Bool.{cases_eq, eq-eqb, ne_eqb}
@@ -10,13 +10,13 @@ use Rattle.bl_base.proofs.Sums.{sum_same, sum_none, sum_plus, sum_change}
 use Rattle.bl_flow.specs.declared.network.Network.{Network}
 use Rattle.bl_flow.specs.declared.split.Link.{Link}
 use Rattle.bl_flow.specs.Networks.{size, InRange}
-use Rattle.bl_flow.specs.Split.{in_part, out_part, node_link, arc_link, start_link, end_link, links_of, link_at}
-use Rattle.bl_flow.specs.Flows.{amount_if, leaves, enters, link_count, carried_by, IsFlow}
+use Rattle.bl_flow.specs.Split.{in_part, out_part, arc_link, links_of, link_at}
+use Rattle.bl_flow.specs.Flows.{amount_if, link_count, carried_by, IsFlow}
 use Rattle.bl_flow.specs.Residuals.{Loaded, loaded_by, arc_at, brought, taken_away, IsLawful, amount_of}
 use Rattle.bl_flow.proofs.Amounts.{amount_in, amount_out}
-use Rattle.bl_flow.proofs.Links.{node_at, outer_part, count_of}
+use Rattle.bl_flow.proofs.Links.{node_at, count_of}
 use Rattle.bl_flow.proofs.Filling.{load_fits}
-use Rattle.bl_flow.proofs.Residuals.{borders, arc_link_at, arcs_within, IsBehind, to_start, from_end, behind_at, KindAt, is_node, is_arc, is_behind, kind_at, load_is, carried_is, arc_ends}
+use Rattle.bl_flow.proofs.Residuals.{borders, arc_link_at, IsBehind, to_start, from_end, behind_at, KindAt, is_node, is_arc, is_behind, kind_at, load_is, carried_is, arc_ends}
 
 -- a sum in two
 pub sum_split : (m k : ℕ) (g : ℕ → ℕ) → sum_below (m + k) g ≡ sum_below m g + sum_below k (λ j. g (m + j))
@@ -46,12 +46,12 @@ same_test x y v w a b there back e =
       | inr other ↦ amount_out (nat_eq x y) a (ne_eqb x y other) ∙ sym (amount_out (nat_eq v w) b (ne_eqb v w (λ q. other (back q))))
     ]
 
-module _ (n : Network) (range : InRange n) (rooms : List ℕ) (amount : ℕ) (flow : IsFlow n rooms amount) (small : amount < 2 ^ 63) where
+module _ (n : Network) (range : InRange n) (capacities : List ℕ) (amount : ℕ) (flow : IsFlow n capacities amount) (small : amount < 2 ^ 63) where
   abbrev r : Loaded
-  r = loaded_by n rooms
+  r = loaded_by n capacities
 
   abbrev carries : ℕ → ℕ
-  carries k = carried_by n rooms k
+  carries k = carried_by n capacities k
 
   abbrev at_link : ℕ → Link
   at_link k = link_at (links_of n) k
@@ -122,7 +122,7 @@ module _ (n : Network) (range : InRange n) (rooms : List ℕ) (amount : ℕ) (fl
 
     pub by_arcs : slice_index r.loads v ≡ brought r v + begins
     by_arcs =
-        let load = load_is n range rooms amount flow small v inside in
+        let load = load_is n range capacities amount flow small v inside in
         let node = node_at n v inside in
         let here_ : amount_if (nat_eq (at_link v).from (in_part v)) (carries v) ≡ carries v = amount_in _ (carries v) (eq-eqb _ _ (ap (λ l. l.from) node)) in
         let single = sum_single (link_count n) (λ k. amount_if (nat_eq (at_link k).from (in_part v)) (carries k)) v within
@@ -134,12 +134,12 @@ module _ (n : Network) (range : InRange n) (rooms : List ℕ) (amount : ℕ) (fl
         let same = sum_same arcs (λ a. amount_if (nat_eq (at_link (size n + a)).to (in_part v)) (carries (size n + a))) (λ a. (if nat_eq (arc_at n a).to v then slice_index r.carried a else 0))
         (λ a lt.
         let to : (at_link (size n + a)).to ≡ in_part (arc_at n a).to = ap (λ l. l.to) (arc_link_at n a lt) in
-        same_test (at_link (size n + a)).to (in_part v) (arc_at n a).to v (carries (size n + a)) (slice_index r.carried a) (λ q. omega arith) (λ q. omega arith) (sym (carried_is n range rooms amount flow small a lt))) in
+        same_test (at_link (size n + a)).to (in_part v) (arc_at n a).to v (carries (size n + a)) (slice_index r.carried a) (λ q. omega arith) (λ q. omega arith) (sym (carried_is n range capacities amount flow small a lt))) in
         omega arith
 
     pub by_ends : slice_index r.loads v ≡ taken_away r v + ends_here
     by_ends =
-        let load = load_is n range rooms amount flow small v inside in
+        let load = load_is n range capacities amount flow small v inside in
         let node = node_at n v inside in
         let here_ : amount_if (nat_eq (at_link v).to (out_part v)) (carries v) ≡ carries v = amount_in _ (carries v) (eq-eqb _ _ (ap (λ l. l.to) node)) in
         let single = sum_single (link_count n) (λ k. amount_if (nat_eq (at_link k).to (out_part v)) (carries k)) v within
@@ -151,7 +151,7 @@ module _ (n : Network) (range : InRange n) (rooms : List ℕ) (amount : ℕ) (fl
         let same = sum_same arcs (λ a. amount_if (nat_eq (at_link (size n + a)).from (out_part v)) (carries (size n + a))) (λ a. (if nat_eq (arc_at n a).from v then slice_index r.carried a else 0))
         (λ a lt.
         let from : (at_link (size n + a)).from ≡ out_part (arc_at n a).from = ap (λ l. l.from) (arc_link_at n a lt) in
-        same_test (at_link (size n + a)).from (out_part v) (arc_at n a).from v (carries (size n + a)) (slice_index r.carried a) (λ q. omega arith) (λ q. omega arith) (sym (carried_is n range rooms amount flow small a lt))) in
+        same_test (at_link (size n + a)).from (out_part v) (arc_at n a).from v (carries (size n + a)) (slice_index r.carried a) (λ q. omega arith) (λ q. omega arith) (sym (carried_is n range capacities amount flow small a lt))) in
         omega arith
 
     not_from : (link : Link) → IsBehind n link → (Contains n.starts v → ⊥) → link.to ≡ in_part v → ⊥
@@ -172,9 +172,9 @@ module _ (n : Network) (range : InRange n) (rooms : List ℕ) (amount : ℕ) (fl
 
   pub lawful : IsLawful r
   lawful = record {
-    arcs = let c = all_count in let p = flow.places in let d = length-drop (link_count n + size n) rooms in length-take-le arcs (drop (link_count n + size n) rooms) (omega arith);
-    nodes = let c = all_count in let p = flow.places in let d = length-drop (link_count n) rooms in length-take-le (size n) (drop (link_count n) rooms) (omega arith);
-    fits = λ v w e. load_fits n rooms amount v w (slice_index r.loads v) flow e (λ lt. let same = load_is n range rooms amount flow small v lt in omega arith);
+    arcs = let c = all_count in let p = flow.places in let d = length-drop (link_count n + size n) capacities in length-take-le arcs (drop (link_count n + size n) capacities) (omega arith);
+    nodes = let c = all_count in let p = flow.places in let d = length-drop (link_count n) capacities in length-take-le (size n) (drop (link_count n) capacities) (omega arith);
+    fits = λ v w e. load_fits n capacities amount v w (slice_index r.loads v) flow e (λ lt. let same = load_is n range capacities amount flow small v lt in omega arith);
     brings = λ v lt. let e = by_arcs v lt in omega arith;
     brings_all = λ v lt none. let e = by_arcs v lt in let zero_ = no_start v lt none in omega arith;
     takes = λ v lt. let e = by_ends v lt in omega arith;
@@ -196,7 +196,7 @@ module _ (n : Network) (range : InRange n) (rooms : List ℕ) (amount : ℕ) (fl
 
   not_into_root : (k : ℕ) (link : Link) → KindAt n k link → link.to ≡ in_part (size n) → ⊥
   not_into_root k link (is_node lt e) q = let f : out_part k ≡ in_part (size n) = sym (ap (λ l. l.to) e) ∙ q in omega arith
-  not_into_root k link (is_arc a lt place e) q = let f : in_part (arc_at n a).to ≡ in_part (size n) = sym (ap (λ l. l.to) e) ∙ q in let low = (arc_ends n range rooms amount flow small a lt).1 in omega arith
+  not_into_root k link (is_arc a lt place e) q = let f : in_part (arc_at n a).to ≡ in_part (size n) = sym (ap (λ l. l.to) e) ∙ q in let low = (arc_ends n range capacities amount flow small a lt).1 in omega arith
   not_into_root k link (is_behind high (to_start s start e)) q = let f : in_part s ≡ in_part (size n) = sym (ap (λ l. l.to) e) ∙ q in let low = start_lt s start in omega arith
   not_into_root k link (is_behind high (from_end s last e)) q = let f : out_part (size n) ≡ in_part (size n) = sym (ap (λ l. l.to) e) ∙ q in omega arith
 

@@ -1,9 +1,9 @@
--- The way back through what is carried, whose circles are taken off.
-use Rattle.std.proofs.Common.{◌≡◌, ℕ, zero, suc, ◌+◌, ◌-◌, ◌*◌, ◌<◌, ◌≤◌, Bool, true, false, cond, List, [], ◌∷◌, ◌++◌, length, take, drop, set, refl, sym, ap, subst, ◌∙◌, arith, ◌⊎◌, inl, inr, slice_index, nat_eq, nat_lt, ◌&&◌, length-append, length-set, length-drop}
+-- The trail back through what is carried, whose circles are taken off.
+use Rattle.std.proofs.Common.{◌≡◌, ℕ, zero, suc, ◌+◌, ◌-◌, ◌*◌, ◌<◌, ◌≤◌, Bool, true, false, cond, List, [], ◌∷◌, ◌++◌, length, take, drop, set, refl, sym, ap, subst, ◌∙◌, arith, ◌⊎◌, inl, inr, slice_index, nat_eq, nat_lt, ◌&&◌, length-append, length-drop}
 use Rattle.std.specs.List.{Contains, count_by}
 use Rattle.std.proofs.Math.Nat.{mul-suc}
 use Rattle.std.proofs.Math.Seq.{drop-cons}
-use Rattle.std.proofs.lemmas.Bool.{cases_lt, cases_eq, cases_Bool, false≢true, lt-ltb, le-ltb, ltb-true, eqb-true, eq-eqb, ne_eqb, and_parts, and_from}
+use Rattle.std.proofs.lemmas.Bool.{cases_lt, cases_eq, false≢true, lt-ltb, le-ltb, ltb-true, eqb-true, eq-eqb, ne_eqb, and_parts, and_from}
 use Rattle.std.proofs.lemmas.List.{get_or-take, get_or-drop, get_or_append_left, get_or_push, get_or-set_same, get_or-set_other, get_or_past, length-take-le, get_or_default, take-append-drop}
 use Rattle.bl_flow.specs.declared.network.Network.{Network}
 use Rattle.bl_flow.specs.declared.split.Link.{Link}
@@ -13,19 +13,19 @@ use Rattle.bl_flow.specs.Split.{link_at, both_ways, links_of, in_part, out_part}
 use Rattle.bl_flow.specs.Flows.{amount_if, Adds, Carries, LeadsBack, IsTaken, IsCarried, link_count}
 use Rattle.bl_flow.specs.Searches.{row_at}
 use Rattle.bl_flow.specs.Levels.{AreRowsIn}
-use Rattle.bl_flow.specs.Traces.{ArePassedOver, Brings, OnTrace, on_way, AreFed, IsTraced}
-use Rattle.bl_base.proofs.Sums.{sum_change, sum_term, sum_le, sum_tight}
+use Rattle.bl_flow.specs.Traces.{ArePassedOver, Brings, OnTrace, on_trail, AreFed, IsTraced}
+use Rattle.bl_base.proofs.Sums.{sum_change, sum_term, sum_tight}
 use Rattle.bl_flow.proofs.Amounts.{amount_in, amount_out}
 use Rattle.bl_flow.proofs.BothWays.{forward_at}
 use Rattle.bl_flow.proofs.Blocking.{leads_more}
-use Rattle.bl_flow.proofs.Ways.{once, count_cons}
+use Rattle.bl_flow.proofs.Trails.{once, count_cons}
 
--- how many parts are not on the way
+-- how many parts are not on the trail
 abbrev pub absent : Bool → ℕ
 absent b = cond b 0 1
 
-abbrev pub off_way : List Link → List ℕ → List ℕ → ℕ → ℕ
-off_way links places way parts = sum_below parts (λ p. absent (on_way links way places p))
+abbrev pub off_trail : List Link → List ℕ → List ℕ → ℕ → ℕ
+off_trail links places trail parts = sum_below parts (λ p. absent (on_trail links trail places p))
 
 -- a way in two
 leads_split : (links : List Link) (front back : List ℕ) (from to : ℕ) → LeadsBack links (front ++ back) from to → (mid : ℕ) × LeadsBack links front mid to × LeadsBack links back from mid
@@ -41,84 +41,84 @@ module _ (links : List Link) (count : ℕ) (carries : List ℕ) (end : ℕ) wher
     placed = λ place lt. absurd (omega arith);
   }
 
-  module _ (places way : List ℕ) (part : ℕ) where
-    pub is_on : on_way links way places part ≡ true → (slice_index places part < length way) × ((link_at links (slice_index way (slice_index places part))).to ≡ part)
+  module _ (places trail : List ℕ) (part : ℕ) where
+    pub is_on : on_trail links trail places part ≡ true → (slice_index places part < length trail) × ((link_at links (slice_index trail (slice_index places part))).to ≡ part)
     is_on h =
-        let both = and_parts (nat_lt (slice_index places part) (length way)) (nat_eq (link_at links (slice_index way (slice_index places part))).to part) h in
+        let both = and_parts (nat_lt (slice_index places part) (length trail)) (nat_eq (link_at links (slice_index trail (slice_index places part))).to part) h in
         (ltb-true _ _ both.0, eqb-true _ _ both.1)
 
-    module _ (trace : OnTrace links count carries places way end part) where
-      not_on : on_way links way places part ≡ false → (place : ℕ) → place < length way → (link_at links (slice_index way place)).to ≡ part → ⊥
+    module _ (trace : OnTrace links count carries places trail end part) where
+      not_on : on_trail links trail places part ≡ false → (place : ℕ) → place < length trail → (link_at links (slice_index trail place)).to ≡ part → ⊥
       not_on h place lt e =
           let there : slice_index places part ≡ place = ap (slice_index places) (sym e) ∙ trace.placed place lt in
-          let low = lt-ltb (slice_index places part) (length way) (omega arith) in
-          let same : (link_at links (slice_index way (slice_index places part))).to ≡ part = ap (λ p. (link_at links (slice_index way p)).to) there ∙ e in
+          let low = lt-ltb (slice_index places part) (length trail) (omega arith) in
+          let same : (link_at links (slice_index trail (slice_index places part))).to ≡ part = ap (λ p. (link_at links (slice_index trail p)).to) there ∙ e in
           false≢true (sym h ∙ and_from _ _ low (eq-eqb _ _ same))
 
-      pub trace_apart : (p q : ℕ) → p < q → q < length way → slice_index way p ≡ slice_index way q → ⊥
+      pub trace_apart : (p q : ℕ) → p < q → q < length trail → slice_index trail p ≡ slice_index trail q → ⊥
       trace_apart p q before lt same =
           let a = trace.placed p (omega arith) in let b = trace.placed q lt in
           let c = ap (λ k. slice_index places (link_at links k).to) same in omega arith
 
-      module _ (fresh : on_way links way places part ≡ false) (inside : part < length places) (k : ℕ) (to : (link_at links k).to ≡ part) where
+      module _ (fresh : on_trail links trail places part ≡ false) (inside : part < length places) (k : ℕ) (to : (link_at links k).to ≡ part) where
         abbrev after : List ℕ
-        after = set places part (length way)
+        after = set places part (length trail)
 
-        longer : length (way ++ k ∷ []) ≡ length way + 1
-        longer = length-append way (k ∷ [])
+        longer : length (trail ++ k ∷ []) ≡ length trail + 1
+        longer = length-append trail (k ∷ [])
 
-        before_ : (place : ℕ) → place < length way → slice_index (way ++ k ∷ []) place ≡ slice_index way place
-        before_ place lt = get_or_append_left way (k ∷ []) 0 place lt
+        before_ : (place : ℕ) → place < length trail → slice_index (trail ++ k ∷ []) place ≡ slice_index trail place
+        before_ place lt = get_or_append_left trail (k ∷ []) 0 place lt
 
-        last_ : (place : ℕ) → place ≡ length way → slice_index (way ++ k ∷ []) place ≡ k
-        last_ place e = get_or_push way k 0 place (sym e)
+        last_ : (place : ℕ) → place ≡ length trail → slice_index (trail ++ k ∷ []) place ≡ k
+        last_ place e = get_or_push trail k 0 place (sym e)
 
-        here_ : slice_index after part ≡ length way
-        here_ = get_or-set_same places part (length way) 0 inside
+        here_ : slice_index after part ≡ length trail
+        here_ = get_or-set_same places part (length trail) 0 inside
 
         other_ : (p : ℕ) → (p ≡ part → ⊥) → slice_index after p ≡ slice_index places p
-        other_ p apart = get_or-set_other places part p (length way) 0 apart
+        other_ p apart = get_or-set_other places part p (length trail) 0 apart
 
-        each : (P : ℕ → ℕ → Type 0) → ((place : ℕ) → place < length way → P place (slice_index way place)) → P (length way) k → (place : ℕ) → place < length (way ++ k ∷ []) → P place (slice_index (way ++ k ∷ []) place)
+        each : (P : ℕ → ℕ → Type 0) → ((place : ℕ) → place < length trail → P place (slice_index trail place)) → P (length trail) k → (place : ℕ) → place < length (trail ++ k ∷ []) → P place (slice_index (trail ++ k ∷ []) place)
         each P old new place lt =
             let c = longer in
-            elim (cases_lt place (length way)) as (λ _. P place (slice_index (way ++ k ∷ []) place)) [
+            elim (cases_lt place (length trail)) as (λ _. P place (slice_index (trail ++ k ∷ []) place)) [
               | inl low ↦ subst (P place) (sym (before_ place low)) (old place low)
-              | inr high ↦ let e : place ≡ length way = omega arith in subst (P place) (sym (last_ place e)) (subst (λ p. P p k) (sym e) new)
+              | inr high ↦ let e : place ≡ length trail = omega arith in subst (P place) (sym (last_ place e)) (subst (λ p. P p k) (sym e) new)
             ]
 
-        pub trace_more : k < count → 0 < slice_index carries k → OnTrace links count carries after (way ++ k ∷ []) end (link_at links k).from
+        pub trace_more : k < count → 0 < slice_index carries k → OnTrace links count carries after (trail ++ k ∷ []) end (link_at links k).from
         trace_more below some = record {
-          back = leads_more links way part end k trace.back to;
+          back = leads_more links trail part end k trace.back to;
           within = each (λ _ j. j < count) trace.within below;
           some = each (λ _ j. 0 < slice_index carries j) trace.some some;
           placed = each (λ place j. slice_index after (link_at links j).to ≡ place)
-              (λ place lt. other_ (link_at links (slice_index way place)).to (not_on fresh place lt) ∙ trace.placed place lt)
+              (λ place lt. other_ (link_at links (slice_index trail place)).to (not_on fresh place lt) ∙ trace.placed place lt)
               (ap (slice_index after) to ∙ here_);
         }
 
-        -- a part more is on the way
-        on_other : (p : ℕ) → (p ≡ part → ⊥) → on_way links (way ++ k ∷ []) after p ≡ on_way links way places p
+        -- a part more is on the trail
+        on_other : (p : ℕ) → (p ≡ part → ⊥) → on_trail links (trail ++ k ∷ []) after p ≡ on_trail links trail places p
         on_other p apart =
             let c = longer in
             let at_ = other_ p apart in
-            elim (cases_lt (slice_index places p) (length way)) as (λ _. on_way links (way ++ k ∷ []) after p ≡ on_way links way places p) [
+            elim (cases_lt (slice_index places p) (length trail)) as (λ _. on_trail links (trail ++ k ∷ []) after p ≡ on_trail links trail places p) [
               | inl low ↦
-                  let a : nat_lt (slice_index places p) (length (way ++ k ∷ [])) ≡ nat_lt (slice_index places p) (length way) = lt-ltb _ _ (omega arith) ∙ sym (lt-ltb _ _ low) in
-                  ap (λ q. nat_lt q (length (way ++ k ∷ [])) && nat_eq (link_at links (slice_index (way ++ k ∷ []) q)).to p) at_
-                  ∙ ap (λ b. b && nat_eq (link_at links (slice_index (way ++ k ∷ []) (slice_index places p))).to p) a
-                  ∙ ap (λ j. nat_lt (slice_index places p) (length way) && nat_eq (link_at links j).to p) (before_ (slice_index places p) low)
+                  let a : nat_lt (slice_index places p) (length (trail ++ k ∷ [])) ≡ nat_lt (slice_index places p) (length trail) = lt-ltb _ _ (omega arith) ∙ sym (lt-ltb _ _ low) in
+                  ap (λ q. nat_lt q (length (trail ++ k ∷ [])) && nat_eq (link_at links (slice_index (trail ++ k ∷ []) q)).to p) at_
+                  ∙ ap (λ b. b && nat_eq (link_at links (slice_index (trail ++ k ∷ []) (slice_index places p))).to p) a
+                  ∙ ap (λ j. nat_lt (slice_index places p) (length trail) && nat_eq (link_at links j).to p) (before_ (slice_index places p) low)
               | inr high ↦
-                  let none : on_way links way places p ≡ false = ap (λ b. b && nat_eq (link_at links (slice_index way (slice_index places p))).to p) (le-ltb (slice_index places p) (length way) high) in
-                  elim (cases_eq (slice_index places p) (length way)) as (λ _. on_way links (way ++ k ∷ []) after p ≡ on_way links way places p) [
+                  let none : on_trail links trail places p ≡ false = ap (λ b. b && nat_eq (link_at links (slice_index trail (slice_index places p))).to p) (le-ltb (slice_index places p) (length trail) high) in
+                  elim (cases_eq (slice_index places p) (length trail)) as (λ _. on_trail links (trail ++ k ∷ []) after p ≡ on_trail links trail places p) [
                     | inl e ↦
-                        let other : nat_eq (link_at links (slice_index (way ++ k ∷ []) (slice_index places p))).to p ≡ false =
+                        let other : nat_eq (link_at links (slice_index (trail ++ k ∷ []) (slice_index places p))).to p ≡ false =
                         ne_eqb _ _ (λ q. apart (sym q ∙ ap (λ j. (link_at links j).to) (last_ (slice_index places p) e) ∙ to)) in
-                        ap (λ q. nat_lt q (length (way ++ k ∷ [])) && nat_eq (link_at links (slice_index (way ++ k ∷ []) q)).to p) at_
-                        ∙ ap (λ b. nat_lt (slice_index places p) (length (way ++ k ∷ [])) && b) other ∙ and_false (nat_lt (slice_index places p) (length (way ++ k ∷ []))) ∙ sym none
+                        ap (λ q. nat_lt q (length (trail ++ k ∷ [])) && nat_eq (link_at links (slice_index (trail ++ k ∷ []) q)).to p) at_
+                        ∙ ap (λ b. nat_lt (slice_index places p) (length (trail ++ k ∷ [])) && b) other ∙ and_false (nat_lt (slice_index places p) (length (trail ++ k ∷ []))) ∙ sym none
                     | inr differs ↦
-                        ap (λ q. nat_lt q (length (way ++ k ∷ [])) && nat_eq (link_at links (slice_index (way ++ k ∷ []) q)).to p) at_
-                        ∙ ap (λ b. b && nat_eq (link_at links (slice_index (way ++ k ∷ []) (slice_index places p))).to p) (le-ltb (slice_index places p) (length (way ++ k ∷ [])) (omega arith)) ∙ sym none
+                        ap (λ q. nat_lt q (length (trail ++ k ∷ [])) && nat_eq (link_at links (slice_index (trail ++ k ∷ []) q)).to p) at_
+                        ∙ ap (λ b. b && nat_eq (link_at links (slice_index (trail ++ k ∷ []) (slice_index places p))).to p) (le-ltb (slice_index places p) (length (trail ++ k ∷ [])) (omega arith)) ∙ sym none
                   ]
             ]
           where
@@ -126,29 +126,29 @@ module _ (links : List Link) (count : ℕ) (carries : List ℕ) (end : ℕ) wher
             and_false true = refl
             and_false false = refl
 
-        on_here : on_way links (way ++ k ∷ []) after part ≡ true
+        on_here : on_trail links (trail ++ k ∷ []) after part ≡ true
         on_here =
             let c = longer in let at_ = here_ in
-            let low = lt-ltb (slice_index after part) (length (way ++ k ∷ [])) (omega arith) in
+            let low = lt-ltb (slice_index after part) (length (trail ++ k ∷ [])) (omega arith) in
             and_from _ _ low (eq-eqb _ _ (ap (λ j. (link_at links j).to) (last_ (slice_index after part) at_) ∙ to))
 
-        pub less_off : (parts : ℕ) → part < parts → off_way links places way parts ≡ off_way links after (way ++ k ∷ []) parts + 1
+        pub less_off : (parts : ℕ) → part < parts → off_trail links places trail parts ≡ off_trail links after (trail ++ k ∷ []) parts + 1
         less_off parts lt =
-            let a : absent (on_way links way places part) ≡ 1 = ap absent fresh in
-            let b : absent (on_way links (way ++ k ∷ []) after part) ≡ 0 = ap absent on_here in
-            sum_change parts (λ p. absent (on_way links (way ++ k ∷ []) after p)) (λ p. absent (on_way links way places p)) part 1 lt (a ∙ ap (λ x. x + 1) (sym b))
+            let a : absent (on_trail links trail places part) ≡ 1 = ap absent fresh in
+            let b : absent (on_trail links (trail ++ k ∷ []) after part) ≡ 0 = ap absent on_here in
+            sum_change parts (λ p. absent (on_trail links (trail ++ k ∷ []) after p)) (λ p. absent (on_trail links trail places p)) part 1 lt (a ∙ ap (λ x. x + 1) (sym b))
             (λ p below apart. ap absent (sym (on_other p apart)))
 
       -- the circle from a place on is taken off
-      pub trace_cut : (after : List ℕ) (amount : ℕ) → on_way links way places part ≡ true → IsTaken carries after (drop (slice_index places part) way) amount
-          → OnTrace links count after places (take (slice_index places part) way) end part
+      pub trace_cut : (after : List ℕ) (amount : ℕ) → on_trail links trail places part ≡ true → IsTaken carries after (drop (slice_index places part) trail) amount
+          → OnTrace links count after places (take (slice_index places part) trail) end part
       trace_cut after amount on taken = record {
-        back = subst (λ p. LeadsBack links (take at_ way) p end) (sym first ∙ found.1) split.1;
+        back = subst (λ p. LeadsBack links (take at_ trail) p end) (sym first ∙ found.1) split.1;
         within = λ place lt. subst (λ k. k < count) (sym (entry place lt)) (trace.within place (shorter place lt));
         some = λ place lt.
-            let same = taken.others (slice_index way place) (λ q below e.
+            let same = taken.others (slice_index trail place) (λ q below e.
             let c = rest in
-            trace_apart place (at_ + q) (let l = low place lt in omega arith) (omega arith) (sym e ∙ get_or-drop at_ way q 0)) in
+            trace_apart place (at_ + q) (let l = low place lt in omega arith) (omega arith) (sym e ∙ get_or-drop at_ trail q 0)) in
             let old = trace.some place (shorter place lt) in
             subst (λ k. 0 < slice_index after k) (sym (entry place lt)) (omega arith);
         placed = λ place lt. ap (λ k. slice_index places (link_at links k).to) (entry place lt) ∙ trace.placed place (shorter place lt);
@@ -157,39 +157,39 @@ module _ (links : List Link) (count : ℕ) (carries : List ℕ) (end : ℕ) wher
           at_ : ℕ
           at_ = slice_index places part
 
-          found : (at_ < length way) × ((link_at links (slice_index way at_)).to ≡ part)
+          found : (at_ < length trail) × ((link_at links (slice_index trail at_)).to ≡ part)
           found = is_on on
 
-          size_ : length (take at_ way) ≡ at_
-          size_ = let lt = found.0 in length-take-le at_ way (omega arith)
+          size_ : length (take at_ trail) ≡ at_
+          size_ = let lt = found.0 in length-take-le at_ trail (omega arith)
 
-          rest : length (drop at_ way) ≡ length way - at_
-          rest = length-drop at_ way
+          rest : length (drop at_ trail) ≡ length trail - at_
+          rest = length-drop at_ trail
 
-          low : (place : ℕ) → place < length (take at_ way) → place < at_
+          low : (place : ℕ) → place < length (take at_ trail) → place < at_
           low place lt = let s = size_ in omega arith
 
-          shorter : (place : ℕ) → place < length (take at_ way) → place < length way
+          shorter : (place : ℕ) → place < length (take at_ trail) → place < length trail
           shorter place lt = let s = size_ in let l = found.0 in omega arith
 
-          entry : (place : ℕ) → place < length (take at_ way) → slice_index (take at_ way) place ≡ slice_index way place
-          entry place lt = get_or-take at_ way place 0 (low place lt)
+          entry : (place : ℕ) → place < length (take at_ trail) → slice_index (take at_ trail) place ≡ slice_index trail place
+          entry place lt = get_or-take at_ trail place 0 (low place lt)
 
-          split : (mid : ℕ) × LeadsBack links (take at_ way) mid end × LeadsBack links (drop at_ way) part mid
-          split = leads_split links (take at_ way) (drop at_ way) part end (subst (λ w. LeadsBack links w part end) (sym (take-append-drop at_ way)) trace.back)
+          split : (mid : ℕ) × LeadsBack links (take at_ trail) mid end × LeadsBack links (drop at_ trail) part mid
+          split = leads_split links (take at_ trail) (drop at_ trail) part end (subst (λ w. LeadsBack links w part end) (sym (take-append-drop at_ trail)) trace.back)
 
-          first : (link_at links (slice_index way at_)).to ≡ split.0
-          first = (subst (λ w. LeadsBack links w part split.0) (drop-cons way at_ 0 found.0) split.2).0
+          first : (link_at links (slice_index trail at_)).to ≡ split.0
+          first = (subst (λ w. LeadsBack links w part split.0) (drop-cons trail at_ 0 found.0) split.2).0
 
-      pub circle_back : on_way links way places part ≡ true → LeadsBack links (drop (slice_index places part) way) part part
+      pub circle_back : on_trail links trail places part ≡ true → LeadsBack links (drop (slice_index places part) trail) part part
       circle_back on =
           let found = is_on on in
-          let split = leads_split links (take (slice_index places part) way) (drop (slice_index places part) way) part end (subst (λ w. LeadsBack links w part end) (sym (take-append-drop (slice_index places part) way)) trace.back) in
-          let first : (link_at links (slice_index way (slice_index places part))).to ≡ split.0 = (subst (λ w. LeadsBack links w part split.0) (drop-cons way (slice_index places part) 0 found.0) split.2).0 in
-          subst (λ p. LeadsBack links (drop (slice_index places part) way) part p) (sym first ∙ found.1) split.2
+          let split = leads_split links (take (slice_index places part) trail) (drop (slice_index places part) trail) part end (subst (λ w. LeadsBack links w part end) (sym (take-append-drop (slice_index places part) trail)) trace.back) in
+          let first : (link_at links (slice_index trail (slice_index places part))).to ≡ split.0 = (subst (λ w. LeadsBack links w part split.0) (drop-cons trail (slice_index places part) 0 found.0) split.2).0 in
+          subst (λ p. LeadsBack links (drop (slice_index places part) trail) part p) (sym first ∙ found.1) split.2
 
-      pub traced : (root : ℕ) → part ≡ root → IsTraced links count carries way root end
-      traced root e = record { back = subst (λ p. LeadsBack links way p end) e trace.back; within = trace.within; some = trace.some; apart = trace_apart }
+      pub traced : (root : ℕ) → part ≡ root → IsTraced links count carries trail root end
+      traced root e = record { back = subst (λ p. LeadsBack links trail p end) e trace.back; within = trace.within; some = trace.some; apart = trace_apart }
 
 -- a circle less carries as much
 pub carries_circle : (links : List Link) (m : ℕ) (old new : ℕ → ℕ) (x y a p d : ℕ) → Carries links m old x y a → Adds links m new old p p d → Carries links m new x y a
@@ -280,9 +280,9 @@ module _ (carries : List ℕ) (rows : List (List ℕ)) where
 
 -- what feeds a part is in its row
 pub brings : (links : List Link) (count : ℕ) (carries : List ℕ) (rows : List (List ℕ)) (root end part : ℕ) → AreRowsIn links rows → count ≤ length links → AreFed links count carries root end → (part ≡ root → ⊥)
-    → (places way : List ℕ) → OnTrace links count carries places way end part → Brings carries (row_at rows part)
-brings links count carries rows root end part hold most fed apart places way trace =
-    let k = fed part apart (ends_with way trace.back trace.within trace.some) in
+    → (places trail : List ℕ) → OnTrace links count carries places trail end part → Brings carries (row_at rows part)
+brings links count carries rows root end part hold most fed apart places trail trace =
+    let k = fed part apart (ends_with trail trace.back trace.within trace.some) in
     let lt = k.1 in
     let there : Contains (row_at rows part) k.0 = subst (λ p. Contains (row_at rows p) k.0) k.2 (hold.full k.0 (omega arith)) in
     let e : slice_index (row_at rows part) there.0 ≡ k.0 = get_or_default (row_at rows part) there.0 0 k.0 there.1 ∙ there.2 in
@@ -311,60 +311,60 @@ sum_less m carries after le j lt less =
     ]
 
 -- one link back, in the words of the code
-pub steps_back : (links : List Link) (carries : List ℕ) (rows : List (List ℕ)) (end : ℕ) (places way : List ℕ) (part k len parts : ℕ) → AreRowsIn links rows → OnTrace links (length carries) carries places way end part
-    → on_way links way places part ≡ false → part < length places → part < parts → Contains (row_at rows part) k → 0 < slice_index carries k → len ≡ length way
-    → OnTrace links (length carries) carries (set places part len) (way ++ k ∷ []) end (link_at links k).from
+pub steps_back : (links : List Link) (carries : List ℕ) (rows : List (List ℕ)) (end : ℕ) (places trail : List ℕ) (part k len parts : ℕ) → AreRowsIn links rows → OnTrace links (length carries) carries places trail end part
+    → on_trail links trail places part ≡ false → part < length places → part < parts → Contains (row_at rows part) k → 0 < slice_index carries k → len ≡ length trail
+    → OnTrace links (length carries) carries (set places part len) (trail ++ k ∷ []) end (link_at links k).from
     × (k < length links)
-    × (off_way links (set places part len) (way ++ k ∷ []) parts < off_way links places way parts)
-steps_back links carries rows end places way part k len parts hold trace fresh inside lt there some e =
+    × (off_trail links (set places part len) (trail ++ k ∷ []) parts < off_trail links places trail parts)
+steps_back links carries rows end places trail part k len parts hold trace fresh inside lt there some e =
     let entry : slice_index (row_at rows part) there.0 ≡ k = get_or_default (row_at rows part) there.0 0 k there.1 ∙ there.2 in
     let sound = hold.sound part there.0 there.1 in
     let within : k < length links = subst (λ j. j < length links) entry sound.0 in
     let to : (link_at links k).to ≡ part = subst (λ j. (link_at links j).to ≡ part) entry sound.1 in
-    let more = trace_more links (length carries) carries end places way part trace fresh inside k to (link_carries carries rows k some) some in
-    let less = less_off links (length carries) carries end places way part trace fresh inside k to parts lt in (
-      subst (λ l. OnTrace links (length carries) carries (set places part l) (way ++ k ∷ []) end (link_at links k).from) (sym e) more,
+    let more = trace_more links (length carries) carries end places trail part trace fresh inside k to (link_carries carries rows k some) some in
+    let less = less_off links (length carries) carries end places trail part trace fresh inside k to parts lt in (
+      subst (λ l. OnTrace links (length carries) carries (set places part l) (trail ++ k ∷ []) end (link_at links k).from) (sym e) more,
       within,
-      subst (λ l. off_way links (set places part l) (way ++ k ∷ []) parts < off_way links places way parts) (sym e) (omega arith),
+      subst (λ l. off_trail links (set places part l) (trail ++ k ∷ []) parts < off_trail links places trail parts) (sym e) (omega arith),
     )
 
 -- a circle is taken off what is carried
-pub record Dropped (n : Network) (links : List Link) (carries after places way : List ℕ) (end part left : ℕ) : Type 0 where
+pub record Dropped (n : Network) (links : List Link) (carries after places trail : List ℕ) (end part left : ℕ) : Type 0 where
   pub carried_ : IsCarried n after left
   pub less : (k : ℕ) → slice_index after k ≤ slice_index carries k
   pub lower : sum_below (link_count n) (λ k. slice_index after k) < sum_below (link_count n) (λ k. slice_index carries k)
-  pub trace : OnTrace links (link_count n) after places (take (slice_index places part) way) end part
+  pub trace : OnTrace links (link_count n) after places (take (slice_index places part) trail) end part
 
-pub circle_dropped : (n : Network) (links : List Link) (carries after places way : List ℕ) (end part left : ℕ) → links ≡ both_ways (links_of n) → IsCarried n carries left → OnTrace links (link_count n) carries places way end part
-    → on_way links way places part ≡ true → (amount : ℕ) × (0 < amount) × IsTaken carries after (drop (slice_index places part) way) amount → Dropped n links carries after places way end part left
-circle_dropped n links carries after places way end part left both is trace on some = record {
+pub circle_dropped : (n : Network) (links : List Link) (carries after places trail : List ℕ) (end part left : ℕ) → links ≡ both_ways (links_of n) → IsCarried n carries left → OnTrace links (link_count n) carries places trail end part
+    → on_trail links trail places part ≡ true → (amount : ℕ) × (0 < amount) × IsTaken carries after (drop (slice_index places part) trail) amount → Dropped n links carries after places trail end part left
+circle_dropped n links carries after places trail end part left both is trace on some = record {
   carried_ = record {
     places = taken.places ∙ is.places;
     flow = carries_circle (links_of n) (link_count n) (λ k. slice_index carries k) (λ k. slice_index after k) (in_part (size n)) (out_part (size n)) left part amount is.flow
-        (taken.adds (links_of n) part part within (subst (λ l. LeadsBack l (drop at_ way) part part) both (circle_back links (link_count n) carries end places way part trace on)));
+        (taken.adds (links_of n) part part within (subst (λ l. LeadsBack l (drop at_ trail) part part) both (circle_back links (link_count n) carries end places trail part trace on)));
   };
   less = le;
   lower = sum_less (link_count n) carries after le first (trace.within at_ found.0) here_;
-  trace = trace_cut links (link_count n) carries end places way part trace after amount on taken;
+  trace = trace_cut links (link_count n) carries end places trail part trace after amount on taken;
 }
   where
     amount : ℕ
     amount = some.0
 
-    taken : IsTaken carries after (drop (slice_index places part) way) amount
+    taken : IsTaken carries after (drop (slice_index places part) trail) amount
     taken = some.2
 
     at_ : ℕ
     at_ = slice_index places part
 
     first : ℕ
-    first = slice_index way at_
+    first = slice_index trail at_
 
-    found : (at_ < length way) × ((link_at links first).to ≡ part)
-    found = is_on links (link_count n) carries end places way part on
+    found : (at_ < length trail) × ((link_at links first).to ≡ part)
+    found = is_on links (link_count n) carries end places trail part on
 
-    within : (place : ℕ) → place < length (drop at_ way) → slice_index (drop at_ way) place < link_count n
-    within place lt = let c = length-drop at_ way in subst (λ k. k < link_count n) (sym (get_or-drop at_ way place 0)) (trace.within (at_ + place) (omega arith))
+    within : (place : ℕ) → place < length (drop at_ trail) → slice_index (drop at_ trail) place < link_count n
+    within place lt = let c = length-drop at_ trail in subst (λ k. k < link_count n) (sym (get_or-drop at_ trail place 0)) (trace.within (at_ + place) (omega arith))
 
     le : (k : ℕ) → slice_index after k ≤ slice_index carries k
     le k = let sum = taken.less k in omega arith
@@ -372,8 +372,8 @@ circle_dropped n links carries after places way end part left both is trace on s
     here_ : slice_index after first < slice_index carries first
     here_ =
         let sum = taken.less first in
-        let open_ : count_by (λ j. nat_eq j first) (drop at_ way) ≡ suc (count_by (λ j. nat_eq j first) (drop (suc at_) way)) =
-        ap (count_by (λ j. nat_eq j first)) (drop-cons way at_ 0 found.0) ∙ count_cons (λ j. nat_eq j first) first (drop (suc at_) way) ∙ ap (λ b. once b + count_by (λ j. nat_eq j first) (drop (suc at_) way)) (eq-eqb first first refl) ∙ omega arith in
-        let product = ap (λ c. amount * c) open_ ∙ mul-suc amount (count_by (λ j. nat_eq j first) (drop (suc at_) way)) in
+        let open_ : count_by (λ j. nat_eq j first) (drop at_ trail) ≡ suc (count_by (λ j. nat_eq j first) (drop (suc at_) trail)) =
+        ap (count_by (λ j. nat_eq j first)) (drop-cons trail at_ 0 found.0) ∙ count_cons (λ j. nat_eq j first) first (drop (suc at_) trail) ∙ ap (λ b. once b + count_by (λ j. nat_eq j first) (drop (suc at_) trail)) (eq-eqb first first refl) ∙ omega arith in
+        let product = ap (λ c. amount * c) open_ ∙ mul-suc amount (count_by (λ j. nat_eq j first) (drop (suc at_) trail)) in
         let more = some.1 in
         omega arith

@@ -10,14 +10,14 @@ use Rattle.bl_flow.specs.Searches.{AreRows}
 use Rattle.bl_flow.specs.Levels.{level_at, AreLevels, HasRisen}
 
 -- the links both ways, row by row, with what each can still take in a flow of so much
-pub record IsPacked (n : Network) (links : List Link) (rows : List (List ℕ)) (rooms : List ℕ) (amount : ℕ) : Type 0 where
+pub record IsPacked (n : Network) (links : List Link) (rows : List (List ℕ)) (capacities : List ℕ) (amount : ℕ) : Type 0 where
   pub in_range : InRange n
   pub bounded : Meets n (λ v. IsSome (weight_at n v))
   pub total : total_weight n < 2 ^ 63
   pub links_ : links ≡ both_ways (links_of n)
   pub rows_ : AreRows links rows
   pub parts : length rows ≡ 2 * size n + 2
-  pub flow : IsFlow n rooms amount
+  pub flow : IsFlow n capacities amount
 
 -- a level counted from the starts' in places, where that of the part before them is 0
 abbrev pub lowered : Option ℕ → Option ℕ

@@ -43,7 +43,8 @@ amount_of r = sum_below (size r.network) (λ v. slice_index r.loads v - brought 
 -- the residual arcs: through a node that can take more and back through one that is loaded, along each arc and against one that
 -- carries something
 pub data IsResidualArc (r : Loaded) : ℕ → ℕ → Type 0 where
-  through : (v : ℕ) → v < size r.network → (weight_at r.network v ≡ None) ⊎ ((w : ℕ) × (weight_at r.network v ≡ Some w) × (slice_index r.loads v < w))
+  through : (v : ℕ) → v < size r.network
+      → (weight_at r.network v ≡ None) ⊎ ((w : ℕ) × (weight_at r.network v ≡ Some w) × (slice_index r.loads v < w))
       → IsResidualArc r (in_part v) (out_part v)
   back : (v : ℕ) → v < size r.network → 0 < slice_index r.loads v → IsResidualArc r (out_part v) (in_part v)
   along : (u v : ℕ) → HasArc r.network u v → IsResidualArc r (out_part u) (in_part v)
@@ -70,12 +71,13 @@ abbrev pub EndsHaveRisen : Loaded → List (Option ℕ) → Type 0
 EndsHaveRisen r levels =
     (e steps : ℕ) → Contains r.network.ends e → ResidualWalk r steps (out_part e)
     → (least e' : ℕ) → Contains r.network.ends e' → level_at levels (out_part e') ≡ Some least
-    → ((e'' d'' : ℕ) → Contains r.network.ends e'' → level_at levels (out_part e'') ≡ Some d'' → least ≤ d'') → least < steps
+    → ((e'' d'' : ℕ) → Contains r.network.ends e'' → level_at levels (out_part e'') ≡ Some d'' → least ≤ d'')
+    → least < steps
 
 -- what links both ways carry, as loads and what arcs carry: the links through the nodes come first, and then those along the arcs
 abbrev pub loaded_by : Network → List ℕ → Loaded
-loaded_by n rooms = record {
+loaded_by n capacities = record {
   network = n;
-  carried = take (length n.arcs) (drop (link_count n + size n) rooms);
-  loads = take (size n) (drop (link_count n) rooms);
+  carried = take (length n.arcs) (drop (link_count n + size n) capacities);
+  loads = take (size n) (drop (link_count n) capacities);
 }

@@ -1,5 +1,5 @@
 -- Compressed rows, and the chains of links that they are made of.
-use Rattle.std.specs.Prelude.{◌≡◌, ℕ, suc, ◌+◌, ◌-◌, ◌<◌, ◌≤◌, List, Option, Some, None, length, map, take, drop, slice_index, slice_index_or, if◌then◌else◌, nat_lt}
+use Rattle.std.specs.Prelude.{◌≡◌, ℕ, ◌+◌, ◌-◌, ◌<◌, ◌≤◌, List, Option, Some, None, length, map, take, drop, slice_index, slice_index_or, if◌then◌else◌, nat_lt}
 use Rattle.std.specs.List.{range_with_len}
 use Rattle.bl_flow.specs.declared.split.Link.{Link}
 use Rattle.bl_flow.specs.Split.{link_at}

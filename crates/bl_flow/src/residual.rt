@@ -9,7 +9,7 @@ ghost use Rattle.bl_flow.specs.Residuals.{IsLawful, amount_of, AreLevelsOf, Reac
 use crate::level_graph::{block_graph, part_levels};
 use crate::network::Network;
 use crate::rows::{Rows, rows_of};
-use crate::split::{Link, empty_rooms, links_both_ways};
+use crate::split::{Link, empty_capacities, links_both_ways};
 use bl_base::{List, NoMemory};
 use std::alloc::Global;
 use std::marker::Model;
@@ -23,7 +23,7 @@ pub struct Residual {
     links: Vec<Link>,
     rows: Rows,
     /// What each link can still take.
-    rooms: Vec<u64>,
+    capacities: Vec<u64>,
     /// How much flows.
     amount: u64,
 }
@@ -34,9 +34,9 @@ impl Model for Residual {
 
     ghost Value = { Loaded };
 
-    ghost view = { λ r. loaded_by r.network r.rooms.items };
+    ghost view = { λ r. loaded_by r.network r.capacities.items };
 
-    ghost invariant = { λ r. IsPacked r.network r.links.items r.rows r.rooms.items r.amount };
+    ghost invariant = { λ r. IsPacked r.network r.links.items r.rows r.capacities.items r.amount };
 }
 
 impl Residual {
@@ -51,7 +51,7 @@ impl Residual {
     }
 }
 
-/// The residual network in which nothing flows. The conditions are those of `max_flow`.
+/// The residual network in which nothing flows. The conditions are those of `max_flow`, and so is the size of a network.
 pub fn pack(alloc: Global, n: &Network) -> Result<Residual, NoMemory>
     requires in_range { InRange n.now }
     requires bounded { Meets n.now (λ v. IsSome (weight_at n.now v)) }
@@ -63,13 +63,13 @@ pub fn pack(alloc: Global, n: &Network) -> Result<Residual, NoMemory>
     let nodes = n.weights.as_slice().len();
     let links = links_both_ways(alloc, n)?;
     let rows = rows_of(alloc, &links, 2 * nodes + 2)?;
-    let rooms = empty_rooms(alloc, n, links.len() / 2)?;
+    let capacities = empty_capacities(alloc, n, links.len() / 2)?;
     let network = copy_of(alloc, n)?;
     Ok(Residual {
         network,
         links,
         rows,
-        rooms,
+        capacities,
         amount: 0,
     })
 }
@@ -106,7 +106,7 @@ pub fn levels(alloc: Global, r: &Residual) -> Result<List<Option<u64>>, NoMemory
     ensures { IfOk result (λ levels. AreLevelsOf r.now levels) }
 {
     let source = 2 * r.network.weights.as_slice().len();
-    let found = part_levels(alloc, &r.links, &r.rows, &r.rooms, source, source + 1)?;
+    let found = part_levels(alloc, &r.links, &r.rows, &r.capacities, source, source + 1)?;
     let list = place_levels(alloc, &found, source)?;
     Ok(list)
 }
@@ -114,7 +114,7 @@ pub fn levels(alloc: Global, r: &Residual) -> Result<List<Option<u64>>, NoMemory
 /// The levels of the first so many parts, counted from the starts' in places.
 fn place_levels(
     alloc: Global,
-    levels: &[Option<u64>],
+    levels: &[Option<u32>],
     places: usize,
 ) -> Result<List<Option<u64>>, NoMemory>
     requires { places ≤ length levels.now }
@@ -129,11 +129,11 @@ fn place_levels(
 }
 
 /// A level less by one.
-fn lower(level: Option<u64>) -> Option<u64>
+fn lower(level: Option<u32>) -> Option<u64>
     ensures { result ≡ lowered level }
 {
     match level {
-        Some(level) => Some(level.saturating_sub(1)),
+        Some(level) => Some(u64::from(level.saturating_sub(1))),
         None => None,
     }
 }
@@ -161,16 +161,16 @@ pub fn advance(
         network,
         links,
         rows,
-        mut rooms,
+        mut capacities,
         amount,
     } = r;
-    match flow_on(alloc, &network, &links, &rows, &mut rooms, amount) {
+    match flow_on(alloc, &network, &links, &rows, &mut capacities, amount) {
         Ok(now) => {
             let r = Residual {
                 network,
                 links,
                 rows,
-                rooms,
+                capacities,
                 amount: now,
             };
             Ok((r, now - amount))
@@ -180,7 +180,7 @@ pub fn advance(
                 network,
                 links,
                 rows,
-                rooms,
+                capacities,
                 amount,
             };
             Err((r, error))
@@ -212,14 +212,14 @@ fn flow_on(
     n: &Network,
     links: &[Link],
     rows: &Rows,
-    rooms: &mut [u64],
+    capacities: &mut [u64],
     amount: u64,
 ) -> Result<u64, NoMemory>
-    requires { IsPacked n.now links.now rows.now rooms.old amount }
-    ensures advanced { IfOk result (IsAdvanced n.now rooms.old rooms.new amount) }
-    ensures unchanged { OnErr result (rooms.new ≡ rooms.old) }
+    requires { IsPacked n.now links.now rows.now capacities.old amount }
+    ensures advanced { IfOk result (IsAdvanced n.now capacities.old capacities.new amount) }
+    ensures unchanged { OnErr result (capacities.new ≡ capacities.old) }
 {
     let source = 2 * n.weights.as_slice().len();
-    let levels = part_levels(alloc, links, rows, rooms, source, source + 1)?;
-    block_graph(alloc, n, links, rows, rooms, &levels, amount)
+    let levels = part_levels(alloc, links, rows, capacities, source, source + 1)?;
+    block_graph(alloc, n, links, rows, capacities, &levels, amount)
 }

@@ -4,7 +4,7 @@ ghost use Rattle.bl_flow.specs.Split.{link_at};
 ghost use Rattle.bl_flow.specs.Searches.{AreRows, row_at};
 ghost use Rattle.bl_flow.specs.Rows.{reversed, AreChained, AreBefore, IsLast, AppendsRow};
 
-use crate::split::{Link, reverse_of};
+use crate::split::{Link, number_of, reverse_of};
 use bl_base::NoMemory;
 use std::alloc::Global;
 use std::marker::Model;
@@ -13,9 +13,9 @@ use std::marker::Model;
 #[derive(Debug, Drop)]
 pub struct Rows {
     /// For each part where its row begins, and then where the last row ends.
-    offsets: Vec<usize>,
+    offsets: Vec<u32>,
     /// The links, row by row.
-    entries: Vec<usize>,
+    entries: Vec<u32>,
 }
 
 impl Model for Rows {
@@ -38,18 +38,18 @@ impl Rows {
     }
 
     /// The links from a part.
-    pub fn row(&self, part: usize) -> &[usize]
+    pub fn row(&self, part: usize) -> &[u32]
         requires { part < length self.now }
         ensures row { result.now ≡ row_at self.now part }
         ensures small { (p : ℕ) → length (row_at self.now p) < 2 ^ 63 }
     {
         let start = self.offsets[part];
         let end = self.offsets[part + 1];
-        &self.entries[start..end]
+        &self.entries[start as usize..end as usize]
     }
 
     /// The links from a part; none from the end, behind which no walk goes on.
-    pub fn row_before(&self, part: usize, end: usize) -> &[usize]
+    pub fn row_before(&self, part: usize, end: usize) -> &[u32]
         requires { part < length self.now }
         ensures last { part ≡ end → length result.now ≡ 0 }
         ensures before { (part ≡ end → ⊥) → result.now ≡ row_at self.now part }
@@ -63,7 +63,8 @@ impl Rows {
         ensures link { result ≡ slice_get (row_at self.now part) place }
         ensures small { (p : ℕ) → length (row_at self.now p) < 2 ^ 63 }
     {
-        self.row(part).get(place).copied()
+        let link = self.row(part).get(place)?;
+        Some(*link as usize)
     }
 
     /// The link to a part that is the reverse of the one at a place of its row; the reverse of each of the
@@ -83,23 +84,24 @@ impl Rows {
 /// the same part.
 #[derive(Drop)]
 struct Chains {
-    last: Vec<Option<usize>>,
-    before: Vec<Option<usize>>,
+    last: Vec<Option<u32>>,
+    before: Vec<Option<u32>>,
 }
 
-/// For each part the links from it.
+/// For each part the links from it. More links than have numbers of 32 bits are too many for memory.
 pub fn rows_of(alloc: Global, links: &[Link], parts: usize) -> Result<Rows, NoMemory>
     requires { (k : ℕ) → k < length links.now → (link_at links.now k).from < parts }
     ensures places { IfOk result (λ rows. length rows ≡ parts) }
     ensures rows { IfOk result (λ rows. AreRows links.now rows) }
 {
     let chains = chains_of(alloc, links, parts)?;
-    let mut offsets = Vec::new(alloc);
+    let mut offsets = Vec::with_capacity(alloc, parts)?;
     let mut entries = Vec::with_capacity(alloc, links.len())?;
     offsets.push(0)?;
     for part in 0..parts {
         push_chain(&chains.before, chains.last[part], &mut entries)?;
-        offsets.push(entries.len())?;
+        let end = number_of(entries.len())?;
+        offsets.push(end)?;
     }
     Ok(Rows { offsets, entries })
 }
@@ -112,14 +114,15 @@ fn chains_of(alloc: Global, links: &[Link], parts: usize) -> Result<Chains, NoMe
     let mut last = no_links(alloc, parts)?;
     let mut before = Vec::with_capacity(alloc, links.len())?;
     for (k, link) in links.iter().enumerate() {
-        before.push(last[link.from])?;
-        last[link.from] = Some(k);
+        let number = number_of(k)?;
+        before.push(last[link.from as usize])?;
+        last[link.from as usize] = Some(number);
     }
     Ok(Chains { last, before })
 }
 
 /// No part has a link.
-fn no_links(alloc: Global, parts: usize) -> Result<Vec<Option<usize>>, NoMemory>
+fn no_links(alloc: Global, parts: usize) -> Result<Vec<Option<u32>>, NoMemory>
     ensures { IfOk result (λ last. last.items ≡ replicate parts None) }
 {
     let mut last = Vec::with_capacity(alloc, parts)?;
@@ -131,9 +134,9 @@ fn no_links(alloc: Global, parts: usize) -> Result<Vec<Option<usize>>, NoMemory>
 
 /// Appends the links of a chain, the last first.
 fn push_chain(
-    before: &[Option<usize>],
-    last: Option<usize>,
-    entries: &mut Vec<usize>,
+    before: &[Option<u32>],
+    last: Option<u32>,
+    entries: &mut Vec<u32>,
 ) -> Result<(), NoMemory>
     requires falls { (k j : ℕ) → slice_index_or before.now k None ≡ Some j → j < k }
     requires inside { (j : ℕ) → last ≡ Some j → j < length before.now }
@@ -143,7 +146,7 @@ fn push_chain(
     let mut next = last;
     while let Some(link) = next {
         entries.push(link)?;
-        next = before[link];
+        next = before[link as usize];
     }
     Ok(())
 }

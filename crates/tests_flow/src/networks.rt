@@ -100,3 +100,71 @@ pub fn crossing(alloc: Global) -> Result<Network, NoMemory> {
         &[3],
     )
 }
+
+/// A node more; gives its number.
+fn add_node(n: &mut Network, weight: Option<u64>) -> Result<u32, NoMemory> {
+    let number = n.weights.len() as u64 % 0x1_0000_0000;
+    n.weights.push(weight)?;
+    Ok(number as u32)
+}
+
+/// Arcs from one node to another by so many new nodes without weights.
+fn add_way(n: &mut Network, from: u32, nodes: u32, to: u32) -> Result<(), NoMemory> {
+    let mut at = from;
+    for _ in 0..nodes {
+        let between = add_node(n, None)?;
+        n.arcs.push(Arc {
+            from: at,
+            to: between,
+        })?;
+        at = between;
+    }
+    n.arcs.push(Arc { from: at, to })
+}
+
+/// A rung of a ladder, between nodes of its rails.
+#[derive(Clone, Copy, Drop)]
+struct Rung {
+    above: u32,
+    first: u32,
+    second: u32,
+    below: u32,
+}
+
+/// A rung more; the rails lead to it and back by so many nodes each.
+fn add_rung(n: &mut Network, last: Option<Rung>, gap: u32) -> Result<Rung, NoMemory> {
+    let bound = if last.is_none() { Some(1000) } else { None };
+    let above = add_node(n, bound)?;
+    let first = add_node(n, Some(1))?;
+    let second = add_node(n, Some(1))?;
+    let below = add_node(n, bound)?;
+    add_way(n, above, 0, first)?;
+    add_way(n, second, 0, below)?;
+    match last {
+        None => add_way(n, first, 0, second)?,
+        Some(last) => {
+            add_way(n, last.above, gap, above)?;
+            add_way(n, below, gap, last.below)?;
+            add_way(n, last.first, 0, second)?;
+            add_way(n, first, 0, last.second)?;
+        }
+    }
+    Ok(Rung {
+        above,
+        first,
+        second,
+        below,
+    })
+}
+
+/// Each level graph of this ladder carries one path, and the path by a rung takes back all that the paths before it put
+/// on arcs between rungs.
+pub fn ladder(alloc: Global, rungs: u32) -> Result<Network, NoMemory> {
+    let mut n = network(alloc, &[], &[], &[0], &[3])?;
+    let mut last = None;
+    for rung in 0..rungs {
+        let gap = rung.wrapping_mul(2);
+        last = Some(add_rung(&mut n, last, gap)?);
+    }
+    Ok(n)
+}

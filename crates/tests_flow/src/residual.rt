@@ -1,5 +1,5 @@
 //! Levels and advances, by hand: of each node the level of its in place, and then that of its out place.
-use crate::networks::{crossing, is_fit};
+use crate::networks::{crossing, is_fit, ladder};
 use bl_base::{List, NoMemory};
 use bl_flow::{Network, Residual, advance, levels, pack};
 use std::alloc::Global;
@@ -100,5 +100,19 @@ fn the_end_rises_until_it_has_no_level(rt: HostRuntime) -> Result<(), Fail> {
         ]
         .as_slice()
     );
+    Ok(())
+}
+
+#[test]
+fn each_level_graph_of_a_ladder_carries_one_path(rt: HostRuntime) -> Result<(), Fail> {
+    let n = ladder(rt.alloc(), 12)?;
+    let mut r = packed(rt.alloc(), &n)?.expect(&rt, "a lawful network");
+    for before in 0..12u64 {
+        let (next, more, _) = step(rt.alloc(), r)?;
+        assert_eq!(rt; (more, next.amount()), (1, before + 1));
+        r = next;
+    }
+    let (r, more, _) = step(rt.alloc(), r)?;
+    assert_eq!(rt; (more, r.amount()), (0, 12));
     Ok(())
 }

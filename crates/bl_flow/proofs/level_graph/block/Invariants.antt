@@ -1,5 +1,5 @@
-use Rattle.std.proofs.Common.{length, ◌*◌, ◌+◌, ◌-◌, ◌/◌, ◌≤◌}
-use Rattle.bl_flow.specs.Networks.{size, total_weight}
+use Rattle.std.proofs.Common.{length, ◌+◌, ◌-◌, ◌/◌, ◌≤◌}
+use Rattle.bl_flow.specs.Networks.{total_weight}
 use Rattle.bl_flow.specs.Levels.{height}
 use Rattle.bl_flow.specs.Rows.{reversed}
 use Rattle.bl_flow.proofs.Phases.{Phase}
@@ -7,8 +7,8 @@ use Rattle.bl_flow.proofs.level_graph.block.Given as goal
 
 abbrev pub invariant-loop-count : goal.invariant-loop-count
 invariant-loop-count l = record {
-  phase : Phase l.n l.links (reversed (length l.links / 2) l.rows) l.levels l.source (l.source + 1) (length l.rows) l.fn.amount l.fn.rooms l.rooms l.total l.passed;
-  long : height l.levels (l.source + 1) ≤ length l.way;
+  phase : Phase l.n l.links (reversed (length l.links / 2) l.rows) l.levels l.source (l.source + 1) (length l.rows) l.fn.amount l.fn.capacities l.capacities l.total l.passed;
+  long : height l.levels (l.source + 1) ≤ length l.trail;
 }
 
 abbrev pub decreases-loop-count : goal.decreases-loop-count

@@ -1,8 +1,8 @@
-use Rattle.std.proofs.Common.{arith, ◌≡◌, ◌<◌, ◌≤◌, ◌+◌, ◌++◌, ◌∷◌, [], ℕ, List, false, length, slice_index, set, sym, ap, subst, ◌∙◌, refl}
+use Rattle.std.proofs.Common.{arith, ◌≡◌, ◌<◌, ◌++◌, ◌∷◌, [], false, length, set, sym, ap, ◌∙◌}
 use Rattle.bl_flow.specs.Split.{link_at}
 use Rattle.bl_flow.specs.Rows.{reversed}
-use Rattle.bl_flow.specs.Traces.{OnTrace, on_way}
-use Rattle.bl_flow.proofs.Tracing.{brings, steps_back, off_way}
+use Rattle.bl_flow.specs.Traces.{OnTrace, on_trail}
+use Rattle.bl_flow.proofs.Tracing.{brings, steps_back, off_trail}
 use Rattle.bl_flow.proofs.paths.go_back.Goals as goal
 use Rattle.bl_flow.proofs.paths.go_back.Goals.{In_ok-push}
 
@@ -10,16 +10,16 @@ pub next_carrying-link-requires-clause-some : goal.next_carrying-link-requires-c
 next_carrying-link-requires-clause-some c =
     let halves = c.requires.halves in
     brings c.args.links.now (length c.args.carries.now) c.args.carries.now (reversed (length c.args.carries.now) c.args.rows.now) c.args.root c.args.end c.loop-at.at c.requires.rows_hold (omega arith) c.requires.fed c.loop-at-test.true
-    c.loop-at.places c.loop-at.way.items c.loop-at.invariant.trace
+    c.loop-at.places c.loop-at.trail.items c.loop-at.invariant.trace
 
-step : (c : In_ok-push) → OnTrace c.args.links.now (length c.args.carries.now) c.args.carries.now (set c.loop-at.places c.loop-at.at c.len.result) (c.loop-at.way.items ++ c.next_carrying-link.result ∷ []) c.args.end (link_at c.args.links.now c.next_carrying-link.result).from
+step : (c : In_ok-push) → OnTrace c.args.links.now (length c.args.carries.now) c.args.carries.now (set c.loop-at.places c.loop-at.at c.len.result) (c.loop-at.trail.items ++ c.next_carrying-link.result ∷ []) c.args.end (link_at c.args.links.now c.next_carrying-link.result).from
     × (c.next_carrying-link.result < length c.args.links.now)
-    × (off_way c.args.links.now (set c.loop-at.places c.loop-at.at c.len.result) (c.loop-at.way.items ++ c.next_carrying-link.result ∷ []) (length c.args.rows.now) < off_way c.args.links.now c.loop-at.places c.loop-at.way.items (length c.args.rows.now))
+    × (off_trail c.args.links.now (set c.loop-at.places c.loop-at.at c.len.result) (c.loop-at.trail.items ++ c.next_carrying-link.result ∷ []) (length c.args.rows.now) < off_trail c.args.links.now c.loop-at.places c.loop-at.trail.items (length c.args.rows.now))
 step c =
-    let fresh : on_way c.args.links.now c.loop-at.way.items c.loop-at.places c.loop-at.at ≡ false = ap (λ w. on_way c.args.links.now w c.loop-at.places c.loop-at.at) (sym c.deref.ensures.value) ∙ sym c.is_on.ensures ∙ c.if-not-is_on.true in
+    let fresh : on_trail c.args.links.now c.loop-at.trail.items c.loop-at.places c.loop-at.at ≡ false = ap (λ w. on_trail c.args.links.now w c.loop-at.places c.loop-at.at) (sym c.deref.ensures.value) ∙ sym c.is_on.ensures ∙ c.if-not-is_on.true in
     let places = c.requires.places_in in let auto = c.loop-at.auto.places in let inside = c.loop-at.invariant.inside in
-    let len : c.len.result ≡ length c.loop-at.way.items = let e = c.len.ensures in let ok = c.loop-at.way.ok.0 in omega arith in
-    steps_back c.args.links.now c.args.carries.now (reversed (length c.args.carries.now) c.args.rows.now) c.args.end c.loop-at.places c.loop-at.way.items c.loop-at.at c.next_carrying-link.result c.len.result (length c.args.rows.now)
+    let len : c.len.result ≡ length c.loop-at.trail.items = let e = c.len.ensures in let ok = c.loop-at.trail.ok.0 in omega arith in
+    steps_back c.args.links.now c.args.carries.now (reversed (length c.args.carries.now) c.args.rows.now) c.args.end c.loop-at.places c.loop-at.trail.items c.loop-at.at c.next_carrying-link.result c.len.result (length c.args.rows.now)
     c.requires.rows_hold c.loop-at.invariant.trace fresh (omega arith) inside c.next_carrying-link.ensures.link c.next_carrying-link.ensures.some len
 
 pub loop-at-smaller : goal.loop-at-smaller

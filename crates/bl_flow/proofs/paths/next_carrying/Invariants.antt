@@ -1,4 +1,4 @@
-use Rattle.std.proofs.Common.{◌≡◌, ◌-◌, length, slice_index}
+use Rattle.std.proofs.Common.{◌-◌, length, slice_index}
 use Rattle.bl_flow.specs.Searches.{row_at}
 use Rattle.bl_flow.specs.Rows.{reversed}
 use Rattle.bl_flow.specs.Traces.{ArePassedOver}

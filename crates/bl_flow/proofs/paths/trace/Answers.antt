@@ -1,6 +1,6 @@
-use Rattle.std.proofs.Common.{arith, ◌≡◌, ◌<◌, ◌≤◌, ◌+◌, ◌*◌, ℕ, true, length, slice_index, sym, ap, subst, ◌∙◌, refl}
+use Rattle.std.proofs.Common.{arith, ◌+◌, ◌*◌, length, sym, subst}
 use Rattle.bl_flow.specs.Networks.{size}
-use Rattle.bl_flow.specs.Split.{both_ways, links_of, in_part, out_part}
+use Rattle.bl_flow.specs.Split.{links_of, in_part, out_part}
 use Rattle.bl_flow.specs.Rows.{reversed}
 use Rattle.bl_flow.specs.Flows.{link_count}
 use Rattle.bl_flow.specs.Levels.{AreRowsIn}
@@ -9,11 +9,11 @@ use Rattle.bl_flow.proofs.Parts.{from_within}
 use Rattle.bl_flow.proofs.Wiring.{rows_reversed}
 use Rattle.bl_flow.proofs.Tracing.{Dropped, are_fed, circle_dropped, over_less}
 use Rattle.bl_flow.proofs.paths.trace.Goals as goal
-use Rattle.bl_flow.proofs.paths.trace.Goals.{After-slice_known-in-loop-way-4-1}
+use Rattle.bl_flow.proofs.paths.trace.Goals.{After-slice_known-in-loop-trail-4-1}
 
 pub go_back-requires-clause-rows_hold : goal.go_back-requires-clause-rows_hold
 go_back-requires-clause-rows_hold c =
-    subst (λ h. AreRowsIn c.args.links.now (reversed h c.args.rows.now)) (sym c.loop-way.invariant.carried_.places)
+    subst (λ h. AreRowsIn c.args.links.now (reversed h c.args.rows.now)) (sym c.loop-trail.invariant.carried_.places)
     (rows_reversed (links_of c.args.n.now) c.args.links.now c.args.rows.now c.requires.links_hold c.requires.rows_hold)
 
 pub go_back-requires-clause-froms : goal.go_back-requires-clause-froms
@@ -21,29 +21,29 @@ go_back-requires-clause-froms c = from_within c.args.n.now c.requires.in_range (
 
 pub go_back-requires-clause-fed : goal.go_back-requires-clause-fed
 go_back-requires-clause-fed c =
-    subst (λ p. AreFed c.args.links.now (length c.loop-way.carries) c.loop-way.carries (2 * p) (2 * p + 1)) (sym c.len-source.ensures)
-    (subst (λ h. AreFed c.args.links.now h c.loop-way.carries (in_part (size c.args.n.now)) (out_part (size c.args.n.now))) (sym c.loop-way.invariant.carried_.places)
-    (subst (λ l. AreFed l (link_count c.args.n.now) c.loop-way.carries (in_part (size c.args.n.now)) (out_part (size c.args.n.now))) (sym c.requires.links_hold)
-    (are_fed c.args.n.now c.loop-way.carries c.args.left c.loop-way.invariant.carried_ c.requires.some)))
+    subst (λ p. AreFed c.args.links.now (length c.loop-trail.carries) c.loop-trail.carries (2 * p) (2 * p + 1)) (sym c.len-source.ensures)
+    (subst (λ h. AreFed c.args.links.now h c.loop-trail.carries (in_part (size c.args.n.now)) (out_part (size c.args.n.now))) (sym c.loop-trail.invariant.carried_.places)
+    (subst (λ l. AreFed l (link_count c.args.n.now) c.loop-trail.carries (in_part (size c.args.n.now)) (out_part (size c.args.n.now))) (sym c.requires.links_hold)
+    (are_fed c.args.n.now c.loop-trail.carries c.args.left c.loop-trail.invariant.carried_ c.requires.some)))
 
-dropped : (c : After-slice_known-in-loop-way-4-1) → Dropped c.args.n.now c.args.links.now c.loop-way.carries c.drop_circle.new.carries c.go_back.new.places c.go_back.new.way.items (2 * c.len-source.result + 1) c.in_ok-at.at c.args.left
+dropped : (c : After-slice_known-in-loop-trail-4-1) → Dropped c.args.n.now c.args.links.now c.loop-trail.carries c.drop_circle.new.carries c.go_back.new.places c.go_back.new.trail.items (2 * c.len-source.result + 1) c.in_ok-at.at c.args.left
 dropped c =
-    let trace : OnTrace c.args.links.now (link_count c.args.n.now) c.loop-way.carries c.go_back.new.places c.go_back.new.way.items (2 * c.len-source.result + 1) c.in_ok-at.at =
-    subst (λ h. OnTrace c.args.links.now h c.loop-way.carries c.go_back.new.places c.go_back.new.way.items (2 * c.len-source.result + 1) c.in_ok-at.at) c.loop-way.invariant.carried_.places c.in_ok-at.ensures.trace in
-    circle_dropped c.args.n.now c.args.links.now c.loop-way.carries c.drop_circle.new.carries c.go_back.new.places c.go_back.new.way.items (2 * c.len-source.result + 1) c.in_ok-at.at c.args.left c.requires.links_hold c.loop-way.invariant.carried_ trace
+    let trace : OnTrace c.args.links.now (link_count c.args.n.now) c.loop-trail.carries c.go_back.new.places c.go_back.new.trail.items (2 * c.len-source.result + 1) c.in_ok-at.at =
+    subst (λ h. OnTrace c.args.links.now h c.loop-trail.carries c.go_back.new.places c.go_back.new.trail.items (2 * c.len-source.result + 1) c.in_ok-at.at) c.loop-trail.invariant.carried_.places c.in_ok-at.ensures.trace in
+    circle_dropped c.args.n.now c.args.links.now c.loop-trail.carries c.drop_circle.new.carries c.go_back.new.places c.go_back.new.trail.items (2 * c.len-source.result + 1) c.in_ok-at.at c.args.left c.requires.links_hold c.loop-trail.invariant.carried_ trace
     (c.in_ok-at.ensures.stops c.if-at-source.false) c.drop_circle.ensures.taken
 
-pub loop-way-smaller : goal.loop-way-smaller
-loop-way-smaller c = (dropped c).lower
+pub loop-trail-smaller : goal.loop-trail-smaller
+loop-trail-smaller c = (dropped c).lower
 
-pub loop-way-preserved : goal.loop-way-preserved
-loop-way-preserved c =
+pub loop-trail-preserved : goal.loop-trail-preserved
+loop-trail-preserved c =
     let d = dropped c in
-    rw c.drop_circle.ensures.way (record {
+    rw c.drop_circle.ensures.trail (record {
       inside = c.in_ok-at.ensures.part_in;
       carried_ = d.carried_;
-      less = λ k. let a = d.less k in let b = c.loop-way.invariant.less k in omega arith;
-      passed_ = over_less c.loop-way.carries (reversed (link_count c.args.n.now) c.args.rows.now) c.drop_circle.new.carries c.go_back.new.passed d.less
-          (subst (λ h. ArePassedOver c.loop-way.carries (reversed h c.args.rows.now) c.go_back.new.passed) c.loop-way.invariant.carried_.places c.in_ok-at.ensures.passed);
+      less = λ k. let a = d.less k in let b = c.loop-trail.invariant.less k in omega arith;
+      passed_ = over_less c.loop-trail.carries (reversed (link_count c.args.n.now) c.args.rows.now) c.drop_circle.new.carries c.go_back.new.passed d.less
+          (subst (λ h. ArePassedOver c.loop-trail.carries (reversed h c.args.rows.now) c.go_back.new.passed) c.loop-trail.invariant.carried_.places c.in_ok-at.ensures.passed);
       trace = d.trace;
     })

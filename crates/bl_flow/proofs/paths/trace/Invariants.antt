@@ -1,19 +1,18 @@
-use Rattle.std.proofs.Common.{◌≡◌, ℕ, ◌<◌, ◌≤◌, ◌+◌, length, slice_index}
-use Rattle.bl_flow.specs.Networks.{size}
+use Rattle.std.proofs.Common.{ℕ, ◌<◌, ◌≤◌, ◌+◌, length, slice_index}
 use Rattle.bl_base.specs.Sums.{sum_below}
 use Rattle.bl_flow.specs.Rows.{reversed}
 use Rattle.bl_flow.specs.Flows.{IsCarried, link_count}
 use Rattle.bl_flow.specs.Traces.{ArePassedOver, OnTrace}
 use Rattle.bl_flow.proofs.paths.trace.Given as goal
 
-abbrev pub invariant-loop-way : goal.invariant-loop-way
-invariant-loop-way l = record {
+abbrev pub invariant-loop-trail : goal.invariant-loop-trail
+invariant-loop-trail l = record {
   inside : l.at < length l.rows;
   carried_ : IsCarried l.n l.carries l.left;
   less : (k : ℕ) → slice_index l.carries k ≤ slice_index l.fn.carries k;
   passed_ : ArePassedOver l.carries (reversed (link_count l.n) l.rows) l.passed;
-  trace : OnTrace l.links (link_count l.n) l.carries l.places l.way.items (l.source + 1) l.at;
+  trace : OnTrace l.links (link_count l.n) l.carries l.places l.trail.items (l.source + 1) l.at;
 }
 
-abbrev pub decreases-loop-way : goal.decreases-loop-way
-decreases-loop-way l = sum_below (link_count l.n) (λ k. slice_index l.carries k)
+abbrev pub decreases-loop-trail : goal.decreases-loop-trail
+decreases-loop-trail l = sum_below (link_count l.n) (λ k. slice_index l.carries k)

@@ -1,4 +1,4 @@
-use Rattle.std.proofs.Common.{rules, arith, refl, ◌≡◌, ◌<◌, ℕ, suc, Some, None, length, slice_index_or, sym, ap, subst, ◌∙◌}
+use Rattle.std.proofs.Common.{rules, arith, refl, ◌<◌, length, subst}
 use Rattle.bl_flow.proofs.Chains.{Walking, walk_begins, walk_more, walk_ends, left_falls}
 use Rattle.bl_flow.proofs.rows.push_chain.Goals as goal
 

@@ -1,4 +1,4 @@
-use Rattle.std.proofs.Common.{◌≡◌, ◌<◌, ℕ, zero, suc, List, Option, Some, None, length}
+use Rattle.std.proofs.Common.{◌≡◌, ◌<◌, ℕ, List, Some, length}
 use Rattle.bl_flow.specs.declared.split.Link.{Link}
 use Rattle.bl_flow.specs.Rows.{AreBefore, IsLast}
 use Rattle.bl_flow.proofs.Chains.{Walking, left_of}

@@ -1,12 +1,11 @@
-use Rattle.std.proofs.Common.{arith, ◌≡◌, ◌+◌, ◌-◌, ◌++◌, ◌∷◌, [], ℕ, List, Option, None, length, slice_index_or, sym, ap, subst, ◌∙◌, refl}
+use Rattle.std.proofs.Common.{arith, ◌≡◌, ◌+◌, ◌++◌, ◌∷◌, [], None, length, slice_index_or, sym, ap, subst, ◌∙◌}
 use Rattle.std.proofs.lemmas.List.{get_or_default}
-use Rattle.bl_flow.specs.Rows.{rows_from}
-use Rattle.bl_flow.proofs.Chains.{RowsTo, no_rows, row_next, are_rows, rows_count, are_offsets, chain_falls, last_inside}
+use Rattle.bl_flow.proofs.Chains.{RowsTo, no_rows, row_next, are_rows, rows_count}
 use Rattle.bl_flow.proofs.rows.rows_of.Goals as goal
 
 pub loop-part-init : goal.loop-part-init
 loop-part-init c =
-    let first : c.push.new.self.items ≡ 0 ∷ [] = c.in_ok-push.ensures.items ∙ ap (λ xs. xs ++ 0 ∷ []) c.new-offsets.ensures.items in
+    let first : c.push.new.self.items ≡ 0 ∷ [] = c.in_ok-push.ensures.items ∙ ap (λ xs. xs ++ 0 ∷ []) c.in_ok-offsets.ensures.items in
     rw (first, c.in_ok-entries.ensures.items) (no_rows c.args.links.now)
 
 pub loop-part-preserved : goal.loop-part-preserved
@@ -18,7 +17,7 @@ loop-part-preserved c =
     let first : c.index.result.now ≡ slice_index_or c.in_ok-chains.chains.last.items part None = c.index.ensures ∙ get_or_default c.in_ok-chains.chains.last.items part _ None (omega arith) in
     let more = row_next c.args.links.now c.args.parts part c.in_ok-chains.chains.last.items c.in_ok-chains.chains.before.items c.deref.result.now c.index.result.now c.loop-part.offsets.items c.loop-part.entries.items c.push_chain.new.entries.items
     chained lt c.deref.ensures.value first c.loop-part.invariant c.in_ok-push_chain.ensures in
-    let len : c.len.result ≡ length c.push_chain.new.entries.items = let e = c.len.ensures in let ok = c.push_chain.new.entries.ok.0 in omega arith in
+    let len : c.in_ok-end.end ≡ length c.push_chain.new.entries.items = c.in_ok-end.ensures ∙ (let e = c.len.ensures in let ok = c.push_chain.new.entries.ok.0 in omega arith) in
     rw c.in_ok-push-2.ensures.items (subst (λ x. RowsTo c.args.links.now (part + 1) (c.loop-part.offsets.items ++ x ∷ []) c.push_chain.new.entries.items) (sym len) more)
 
 pub returns-clause-places : goal.returns-clause-places

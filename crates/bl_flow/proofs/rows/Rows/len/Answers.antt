@@ -1,4 +1,4 @@
-use Rattle.std.proofs.Common.{arith, ◌≡◌, ◌-◌, List, ℕ, sym, ap, ◌∙◌, length}
+use Rattle.std.proofs.Common.{arith, ◌≡◌, ◌-◌, sym, ap, ◌∙◌, length}
 use Rattle.bl_flow.proofs.Chains.{rows_count}
 use Rattle.bl_flow.proofs.rows.Rows.len.Goals as goal
 
