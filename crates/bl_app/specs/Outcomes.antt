@@ -39,11 +39,14 @@ row_text number opening bytes offset =
     then []
     else line (codes "row " ++ decimal number ++ codes " " ++ decimal offset ++ codes " " ++ flat_map hex_text (row_at bytes offset))
 
--- a memory: its pages, and the rows of it that differ, rising
+-- the rows of a memory that differ, rising
+abbrev pub rows_text : ℕ → List ℕ → List ℕ → List ℕ
+rows_text number opening bytes = flat_map (λ row. row_text number opening bytes (16 * row)) (range_with_len 0 (length bytes / 16))
+
+-- a memory: its pages, and the rows of it that differ
 abbrev pub memory_text : ℕ → List ℕ → MemoryState → List ℕ
 memory_text number opening memory =
-    line (codes "memory " ++ decimal number ++ codes " pages " ++ decimal memory.pages)
-    ++ flat_map (λ row. row_text number opening memory.bytes (16 * row)) (range_with_len 0 (length memory.bytes / 16))
+    line (codes "memory " ++ decimal number ++ codes " pages " ++ decimal memory.pages) ++ rows_text number opening memory.bytes
 
 -- the opening contents of a memory
 abbrev pub opening_bytes : List MemoryState → ℕ → List ℕ

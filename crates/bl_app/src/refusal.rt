@@ -30,6 +30,15 @@ pub enum Refusal<'a> {
         /// Its value.
         value: u64,
     },
+    /// The bytes of a file are the image of no program.
+    NotAnImage,
+    /// The program of an image isn't well-formed.
+    BrokenRule {
+        /// The first rule that it breaks, from 1 to 9.
+        rule: u8,
+        /// The position where it does.
+        position: u32,
+    },
     /// No function is exported under the name.
     NoExport,
     /// A line of the start file is bad: the first one's number, from 1.
@@ -67,6 +76,7 @@ impl<'a> Refusal<'a> {
             Refusal::InvalidFunction(_, _) | Refusal::InvalidModule(_) => Status::Invalid,
             Refusal::Unsupported(_) => Status::Unsupported,
             Refusal::Limit { .. } => Status::Limit,
+            Refusal::NotAnImage | Refusal::BrokenRule { .. } => Status::Image,
             Refusal::NoExport | Refusal::BadLine(_) | Refusal::FewArguments(_) => Status::Start,
         }
     }
@@ -81,6 +91,10 @@ impl<'a> Refusal<'a> {
             Refusal::InvalidModule(name) => named_line(alloc, "invalid: ", name, " module"),
             Refusal::Unsupported(name) => named_line(alloc, "unsupported: ", name, ""),
             Refusal::Limit { which, value } => limit_line(alloc, which, value),
+            Refusal::NotAnImage => Ok(b"image: not an image\n".to_vec(alloc)?),
+            Refusal::BrokenRule { rule, position } => Ok(format!(in alloc;
+                "image: rule {rule} at {position}\n"
+            )?.into_bytes()),
             Refusal::NoExport => Ok(b"start: export\n".to_vec(alloc)?),
             Refusal::BadLine(number) => Ok(format!(in alloc;
                 "start: line {number}\n"

@@ -4,7 +4,7 @@ ghost use Rattle.bl_base.specs.Bytes.{bytes_of, number_of};
 ghost use Rattle.bl_cmd.specs.Steps.{loaded, overlay, stored};
 ghost use Rattle.bl_ops.specs.Access.{is_load, width_of};
 
-use bl_base::NoMemory;
+use bl_base::{NoMemory, Text};
 use bl_ops::{AccessKind, extend, narrow};
 use std::alloc::Global;
 use std::marker::Model;
@@ -45,6 +45,13 @@ impl Space {
         ensures { result.now ≡ self.now }
     {
         &self.bytes
+    }
+
+    /// The bytes, as a text; takes no memory.
+    pub fn into_text(self) -> Text
+        ensures { result ≡ self }
+    {
+        Text::of(self.bytes)
     }
 
     /// Appends so many zeros.

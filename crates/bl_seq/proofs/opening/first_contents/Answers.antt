@@ -5,7 +5,7 @@ use Rattle.bl_base.proofs.Lists.{zip_length}
 use Rattle.bl_cmd.specs.Outcomes.{first_memory}
 use Rattle.bl_seq.specs.Openings.{IsSized, AreSized}
 use Rattle.bl_seq.proofs.Starting.{sized_first, inside_at, sized_patched, patch_next}
-use Rattle.bl_seq.proofs.opening.first_memories.Goals as goal
+use Rattle.bl_seq.proofs.opening.first_contents.Goals as goal
 
 pub loop-patch-init : goal.loop-patch-init
 loop-patch-init c =

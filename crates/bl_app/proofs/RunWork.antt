@@ -1,0 +1,47 @@
+-- The work of `run`, by its stages.
+use Rattle.std.proofs.Common.{◌≡◌, List, [], ◌∷◌, None, refl, ℕ}
+use Rattle.std.specs.Prelude.{Ok, Err}
+use Rattle.bl_base.specs.declared.start.Start.{Start}
+use Rattle.bl_cmd.specs.declared.definitions.ProgramParts.{ProgramParts as Program}
+use Rattle.bl_app.specs.Entering.{Entry, Finds, IsImaged, Starts, function_named, imaging, starting}
+use Rattle.bl_app.specs.Executing.{run_job}
+use Rattle.bl_app.specs.Requests.{RunRequest}
+use Rattle.bl_app.specs.Stages.{at_first, at_second}
+use Rattle.bl_app.specs.Working.{IsPlainTold, IsStaged, IsWork, entered_in, refusal_in}
+use Rattle.bl_app.specs.declared.job.Plan.{Plan as PlanMade}
+use Rattle.bl_app.specs.declared.refusal.Refusal.TheVariants as told
+use Rattle.bl_app.specs.declared.refusal.WorkError.{WorkError}
+use Rattle.bl_app.specs.declared.refusal.WorkError.TheVariants as error
+
+module _ (request : RunRequest) (image start : List ℕ) where
+  -- an image that is refused
+  pub image_refused : (e : WorkError) → IsStaged imaging (λ (p : Program). p) image (Err e) → IsWork (run_job request) (image ∷ start ∷ []) (Err e)
+  image_refused (error.Refused refusal) r = record { image = image; start = start; are = refl; refuses = at_first r }
+  image_refused error.Memory r = tt
+
+  module _ (program : Program) (imaged : IsImaged image program) where
+    -- an export that is absent
+    pub not_exported : function_named request.export program.exports ≡ None → IsWork (run_job request) (image ∷ start ∷ []) (Err (error.Refused told.NoExport))
+    not_exported none =
+        record { image = image; start = start; are = refl; refuses = at_second program imaged (at_first (record { not_exported = none; is_refusal = refl })) }
+
+    module _ (entry : Entry) (found : Finds request.export program entry) where
+      -- a start file that is refused
+      pub start_refused : (e : WorkError) → IsStaged (starting start) (entered_in entry) entry (Err e) → IsWork (run_job request) (image ∷ start ∷ []) (Err e)
+      start_refused (error.Refused refusal) r =
+          record { image = image; start = start; are = refl; refuses = at_second program imaged (at_second entry found r) }
+      start_refused error.Memory r = tt
+
+      -- what was run
+      pub was_run : (s : Start) (plan : PlanMade) → Starts start entry (entered_in entry s) → IsPlainTold (entered_in entry s) request.steps plan
+          → IsWork (run_job request) (image ∷ start ∷ []) (Ok plan)
+      was_run s plan starts told = record {
+        image = image;
+        start = start;
+        are = refl;
+        entered = entered_in entry s;
+        prepared = (program, imaged, (entry, found, starts));
+        outcome = told.outcome;
+        within = told.within;
+        is_plan = told.is_plan;
+      }
