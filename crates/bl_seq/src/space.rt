@@ -54,6 +54,16 @@ impl Space {
         Text::of(self.bytes)
     }
 
+    /// A copy of so many bytes from a place on, or of those that there are.
+    #[tactic(auto, using(crate::proofs::Spaces::part_is))]
+    pub fn part(&self, alloc: Global, from: usize, count: usize) -> Result<Text, NoMemory>
+        ensures { IfOk result (λ text. text ≡ take count (drop from self.now)) }
+    {
+        let from = from.min(self.bytes.len());
+        let count = count.min(self.bytes.len() - from);
+        Text::copy_of(alloc, &self.bytes[from..from + count])
+    }
+
     /// Appends so many zeros.
     pub fn push_zeros(&mut self, count: usize) -> Result<(), NoMemory>
         ensures { OnOk result (self.new ≡ self.old ++ replicate count 0) }

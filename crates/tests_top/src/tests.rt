@@ -1,5 +1,6 @@
 mod blocks;
 mod interp;
+mod run;
 mod words;
 
 use bl_app::blade;
