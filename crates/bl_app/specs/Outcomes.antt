@@ -28,9 +28,13 @@ values_text kinds values = flat_map (λ each. value_text each.0 each.1) (zip kin
 abbrev pub hex_text : ℕ → List ℕ
 hex_text byte = digits 16 false (byte / 16) ++ digits 16 false (byte % 16)
 
--- the row of 16 bytes from that place on; what lies past the contents is zero
+-- so many bytes from a place on; what lies past the contents is zero
+abbrev pub bytes_at : List ℕ → ℕ → ℕ → List ℕ
+bytes_at bytes from count = map (λ place. slice_index bytes place) (range_with_len from count)
+
+-- the row of 16 bytes from that place on
 abbrev pub row_at : List ℕ → ℕ → List ℕ
-row_at bytes offset = map (λ place. slice_index bytes place) (range_with_len offset 16)
+row_at bytes offset = bytes_at bytes offset 16
 
 -- the line of a row, where it differs from the opening contents
 abbrev pub row_text : ℕ → List ℕ → List ℕ → ℕ → List ℕ

@@ -1,9 +1,10 @@
 //! Memories, as they are told at a run's end.
-ghost use Rattle.std.specs.Prelude.{◌≡◌, ◌++◌, ◌∷◌, [], ◌↔◌, ◌<◌, ◌^◌, false, length, map, IfOk, IsTrue, slice_index};
-ghost use Rattle.std.specs.Fmt.{digits};
+ghost use Rattle.std.specs.Prelude.{◌≡◌, ◌++◌, ◌∷◌, [], ◌↔◌, ◌+◌, ◌<◌, ◌^◌, codes, false, map, IfOk, IsTrue, slice_index};
+ghost use Rattle.std.specs.Fmt.{decimal, digits};
 ghost use Rattle.std.specs.List.{flat_map};
 ghost use Rattle.bl_base.specs.Runs.{memory_of};
-ghost use Rattle.bl_app.specs.Outcomes.{hex_text, memories_text, memory_text, opening_bytes, row_at, row_text, rows_text};
+ghost use Rattle.bl_app.specs.Outcomes.{bytes_at, hex_text, memories_text, memory_text, opening_bytes, row_text, rows_text};
+ghost use Rattle.bl_app.specs.Texts.{line};
 
 use bl_base::{NoMemory, Pages};
 use std::alloc::Global;
@@ -45,9 +46,18 @@ fn push_memory(
 ) -> Result<(), NoMemory>
     ensures { IfOk result (λ _. text.new.items ≡ text.old.items ++ memory_text number opening.now (memory_of memory.now)) }
 {
-    let head = format!(in alloc; "memory {number} pages {}\n", memory.pages)?;
-    text.extend_from_slice(head.as_bytes())?;
-    push_rows(alloc, text, number, opening, memory.bytes.as_slice())
+    let head = memory_line(alloc, number, memory.pages)?;
+    text.extend_from_slice(&head)?;
+    push_rows(alloc, text, number, opening, memory.bytes.as_slice())?;
+    Ok(())
+}
+
+/// The line of a memory's pages.
+fn memory_line(alloc: Global, number: usize, pages: u32) -> Result<Vec<u8>, NoMemory>
+    ensures { IfOk result (λ text. text.items ≡ line (codes "memory " ++ decimal number ++ codes " pages " ++ decimal pages)) }
+{
+    let text = format!(in alloc; "memory {number} pages {pages}\n")?;
+    Ok(text.into_bytes())
 }
 
 /// Puts the rows that differ behind the text.
@@ -78,22 +88,29 @@ fn push_row(
     requires { offset < 2 ^ 63 }
     ensures { IfOk result (λ _. text.new.items ≡ text.old.items ++ row_text number opening.now bytes.now offset) }
 {
-    if is_same_row(opening, bytes, offset) {
+    if is_same(opening, bytes, offset, 16) {
         return Ok(());
     }
-    let head = format!(in alloc; "row {number} {offset} ")?;
-    text.extend_from_slice(head.as_bytes())?;
-    push_hex(text, bytes, offset)?;
+    text.extend_from_slice(&row_head(alloc, number, offset)?)?;
+    push_hex(text, bytes, offset, 16)?;
     text.push(b'\n')?;
     Ok(())
 }
 
-/// Whether two memories have the same bytes in the row from an offset on.
-fn is_same_row(opening: &[u8], bytes: &[u8], offset: usize) -> bool
-    requires { offset < 2 ^ 63 }
-    ensures { IsTrue result ↔ (row_at opening.now offset ≡ row_at bytes.now offset) }
+/// What stands before the digits of a row.
+fn row_head(alloc: Global, number: usize, offset: usize) -> Result<Vec<u8>, NoMemory>
+    ensures { IfOk result (λ text. text.items ≡ codes "row " ++ decimal number ++ codes " " ++ decimal offset ++ codes " ") }
 {
-    for place in offset..offset + 16 {
+    let text = format!(in alloc; "row {number} {offset} ")?;
+    Ok(text.into_bytes())
+}
+
+/// Whether two memories have the same bytes, so many from a place on.
+fn is_same(opening: &[u8], bytes: &[u8], from: usize, count: usize) -> bool
+    requires { from + count < 2 ^ 64 }
+    ensures { IsTrue result ↔ (bytes_at opening.now from count ≡ bytes_at bytes.now from count) }
+{
+    for place in from..from + count {
         if byte_at(opening, place) != byte_at(bytes, place) {
             return false;
         }
@@ -101,12 +118,17 @@ fn is_same_row(opening: &[u8], bytes: &[u8], offset: usize) -> bool
     true
 }
 
-/// Puts the digits of the row from an offset on behind the text.
-fn push_hex(text: &mut Vec<u8>, bytes: &[u8], offset: usize) -> Result<(), NoMemory>
-    requires { offset < 2 ^ 63 }
-    ensures { IfOk result (λ _. text.new.items ≡ text.old.items ++ flat_map hex_text (row_at bytes.now offset)) }
+/// Puts the digits of so many bytes from a place on behind the text.
+fn push_hex(
+    text: &mut Vec<u8>,
+    bytes: &[u8],
+    from: usize,
+    count: usize,
+) -> Result<(), NoMemory>
+    requires { from + count < 2 ^ 64 }
+    ensures { IfOk result (λ _. text.new.items ≡ text.old.items ++ flat_map hex_text (bytes_at bytes.now from count)) }
 {
-    for place in offset..offset + 16 {
+    for place in from..from + count {
         push_byte(text, byte_at(bytes, place))?;
     }
     Ok(())

@@ -92,9 +92,7 @@ impl<'a> Refusal<'a> {
             Refusal::Unsupported(name) => named_line(alloc, "unsupported: ", name, ""),
             Refusal::Limit { which, value } => limit_line(alloc, which, value),
             Refusal::NotAnImage => Ok(b"image: not an image\n".to_vec(alloc)?),
-            Refusal::BrokenRule { rule, position } => Ok(format!(in alloc;
-                "image: rule {rule} at {position}\n"
-            )?.into_bytes()),
+            Refusal::BrokenRule { rule, position } => rule_line(alloc, rule, position),
             Refusal::NoExport => Ok(b"start: export\n".to_vec(alloc)?),
             Refusal::BadLine(number) => Ok(format!(in alloc;
                 "start: line {number}\n"
@@ -123,6 +121,14 @@ fn function_line(alloc: Global, name: &str, index: u32) -> Result<Vec<u8>, NoMem
 {
     let tail = format!(in alloc; " function {index}")?;
     named_line(alloc, "invalid: ", name, tail.as_str())
+}
+
+/// The line of a rule and the position where it is broken.
+fn rule_line(alloc: Global, rule: u8, position: u32) -> Result<Vec<u8>, NoMemory>
+    ensures { IfOk result (λ text. text.items ≡ line (codes "image: rule " ++ decimal rule ++ codes " at " ++ decimal position)) }
+{
+    let text = format!(in alloc; "image: rule {rule} at {position}\n")?;
+    Ok(text.into_bytes())
 }
 
 /// The line of a quantity and its value.
