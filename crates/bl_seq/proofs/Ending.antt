@@ -1,7 +1,7 @@
 -- Where a plain run ends, each memory has all bytes of its pages.
-use Rattle.std.proofs.Common.{◌≡◌, ℕ, zero, suc, ◌+◌, ◌-◌, ◌*◌, ◌<◌, ◌≤◌, ◌%◌, ◌^◌, Bool, true, false, List, [], ◌∷◌, ◌++◌, length, map, take, drop, replicate, Option, Some, None, slice_get, refl, sym, ap, ◌∙◌, subst, arith}
+use Rattle.std.proofs.Common.{◌≡◌, ℕ, zero, suc, ◌+◌, ◌-◌, ◌*◌, ◌≤◌, ◌%◌, ◌^◌, Bool, true, false, List, [], ◌∷◌, length, map, drop, replicate, Option, Some, None, slice_get, refl, sym, ap, ◌∙◌, subst, arith}
 use Rattle.std.specs.Prelude.{nat_lt, ◌==◌, if◌then◌else◌}
-use Rattle.std.specs.List.{All, AllZip, fold}
+use Rattle.std.specs.List.{All, fold}
 use Rattle.std.proofs.lemmas.List.{length-append, length-drop, length-replicate, length-take-le}
 use Rattle.std.proofs.lemmas.List.Elements.{All-cons, All-head, All-tail}
 use Rattle.bl_base.specs.Bytes.{patched}
@@ -11,11 +11,11 @@ use Rattle.bl_base.specs.declared.start.Patch.{Patch}
 use Rattle.bl_base.specs.declared.start.Start.{Start}
 use Rattle.bl_base.specs.declared.trap.Trap.TheVariants as trap_kind
 use Rattle.bl_base.proofs.RunLemmas.{IsEnd, IsNext}
-use Rattle.bl_cmd.specs.Layout.{entry_of, running, result, results_of, size_of, command_at, sum_before}
+use Rattle.bl_cmd.specs.Layout.{entry_of, size_of, command_at, sum_before}
 use Rattle.bl_cmd.specs.Outcomes.{IsStart, first_memories, first_memory, opening, padded, space_of}
 use Rattle.bl_cmd.specs.Programs.{IsProgram}
 use Rattle.bl_cmd.specs.Rules.{IsMemory, IsWellFormed}
-use Rattle.bl_cmd.specs.Steps.{Plain, Registers, depth, effective, narrowed, perform, plain_step, ret, states, states_from, stored, to, value_of, values_from}
+use Rattle.bl_cmd.specs.Steps.{Plain, Registers, depth, effective, perform, plain_step, ret, states, states_from, to, value_of}
 use Rattle.bl_cmd.specs.declared.command.Command.{Command}
 use Rattle.bl_cmd.specs.declared.command.Command.TheVariants.{Set, Load, Store, Test, Jump, Arg, Call, Out, Ret, Trap}
 use Rattle.bl_cmd.specs.declared.definitions.MemoryDef.{MemoryDef}
@@ -23,7 +23,7 @@ use Rattle.bl_cmd.specs.declared.definitions.ProgramParts.{ProgramParts as Progr
 use Rattle.bl_seq.specs.Endings.{EndsWhole, IsWhole, memories_at, pages_at}
 use Rattle.bl_seq.specs.Machines.{Leads}
 use Rattle.bl_seq.specs.Openings.{AreSized}
-use Rattle.bl_seq.specs.OwnMemory.{HasSizes, IsReached}
+use Rattle.bl_seq.specs.OwnMemory.{IsReached}
 use Rattle.bl_seq.proofs.OwnSizes.{sized, whole}
 use Rattle.bl_seq.proofs.Spaces.{overlay_length}
 use Rattle.bl_seq.proofs.Starting.{lies_inside, sized_first, sized_patched}
@@ -129,7 +129,7 @@ whole_states : (registers : Registers) (space : List ℕ) (size from : ℕ) (mem
 whole_states registers space size from [] sizes rules le = λ k d lt. absurd (omega arith)
 whole_states registers space size from (memory ∷ memories) sizes rules le =
     All-cons IsWhole (pages_at space from (registers 0 size)) (states_from registers space (suc size) (from + memory.reserve * 65536) memories)
-    (record { len = length-take-le (registers 0 size * 65536) (drop from space) (let long = length-drop from space in omega arith); few = omega arith })
+    (record { len = length-take-le (registers 0 size * 65536) (drop from space) (omega (arith, length-drop from space, fits)); few = omega (arith, fits, few) })
     (whole_states registers space (suc size) (from + memory.reserve * 65536) memories
     (λ k d e. let place : size + suc k ≡ suc size + k = omega arith in subst (λ x. registers 0 x ≤ d.reserve) place (sizes (suc k) d e))
     (All-tail IsMemory memory memories rules) (omega arith))

@@ -1,5 +1,5 @@
 -- What is told of a machine: results and memories.
-use Rattle.std.proofs.Common.{◌≡◌, ℕ, zero, suc, ◌+◌, ◌-◌, ◌*◌, ◌<◌, ◌≤◌, List, [], ◌∷◌, ◌++◌, length, map, take, drop, get_or, refl, sym, ap, subst, ◌∙◌, arith}
+use Rattle.std.proofs.Common.{◌≡◌, ℕ, suc, ◌+◌, ◌-◌, ◌*◌, ◌<◌, ◌≤◌, List, [], ◌∷◌, ◌++◌, length, map, drop, get_or, sym, ap, subst, ◌∙◌, arith}
 use Rattle.std.proofs.Math.Seq.{drop-cons}
 use Rattle.std.specs.List.{All}
 use Rattle.std.proofs.lemmas.List.Elements.{All-head, All-tail}
@@ -71,9 +71,10 @@ module _ (registers : ℕ → ℕ → ℕ) (space : List ℕ) (memories : List M
       let next : suc i ≡ i + 1 = omega arith in
       let one : MemoryState = pages_at space from (registers 0 (size + i)) in
       let others : List MemoryState = states_from registers space (suc (size + i)) (from + (get_or memories i d).reserve * 65536) (drop (suc i) memories) in
-      let here : All IsWhole (one ∷ others) = subst (λ l. All IsWhole (states_from registers space (size + i) from l)) (drop-cons memories i d lt) all in
-      (All-head IsWhole one others here,
-      subst (λ j. All IsWhole (states_from registers space (size + (i + 1)) (from + memory.reserve * 65536) (drop j memories))) next
-      (subst (λ p. All IsWhole (states_from registers space p (from + memory.reserve * 65536) (drop (suc i) memories))) place
-      (subst (λ (m : MemoryDef). All IsWhole (states_from registers space (suc (size + i)) (from + m.reserve * 65536) (drop (suc i) memories))) (sym is)
-      (All-tail IsWhole one others here))))
+      let here : All IsWhole (one ∷ others) = subst (λ l. All IsWhole (states_from registers space (size + i) from l)) (drop-cons memories i d lt) all in (
+        All-head IsWhole one others here,
+        subst (λ j. All IsWhole (states_from registers space (size + (i + 1)) (from + memory.reserve * 65536) (drop j memories))) next
+            (subst (λ p. All IsWhole (states_from registers space p (from + memory.reserve * 65536) (drop (suc i) memories))) place
+            (subst (λ (m : MemoryDef). All IsWhole (states_from registers space (suc (size + i)) (from + m.reserve * 65536) (drop (suc i) memories))) (sym is)
+            (All-tail IsWhole one others here))),
+      )

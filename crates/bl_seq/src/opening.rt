@@ -71,9 +71,16 @@ pub fn first_memories(
     ensures { IfOk result (λ memories. map memory_of memories ≡ first_memories program.now start.now) }
 {
     let contents = first_contents(alloc, program.program().parts(), start)?;
+    pages_of(alloc, contents)
+}
+
+/// Contents as pages.
+fn pages_of(alloc: Global, contents: Vec<Contents>) -> Result<List<Pages>, NoMemory>
+    ensures { IfOk result (λ pages. map memory_of pages ≡ contents.items) }
+{
     let pages = contents
         .into_iter()
-        .map(Contents::into_pages)
+        .map(|memory| memory.into_pages())
         .collect(alloc)?;
     Ok(List::of(pages))
 }

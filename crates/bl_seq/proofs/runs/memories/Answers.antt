@@ -1,6 +1,5 @@
-use Rattle.std.proofs.Common.{◌≡◌, ◌+◌, ◌*◌, ◌<◌, ◌≤◌, ◌∙◌, length, get_or, ap, subst, sym, arith}
+use Rattle.std.proofs.Common.{◌≡◌, ◌+◌, ◌<◌, ◌≤◌, ◌∙◌, length, get_or, ap, subst, sym, arith}
 use Rattle.bl_base.specs.Runs.{memory_of}
-use Rattle.bl_cmd.specs.Layout.{sum_before}
 use Rattle.bl_cmd.specs.declared.definitions.MemoryDef.{MemoryDef}
 use Rattle.bl_cmd.proofs.Layouts.{sum_up}
 use Rattle.bl_seq.specs.Machines.{shown}
@@ -27,7 +26,7 @@ copied-requires c =
     let lt : c.loop-number.number < length memories = omega (arith, ap length c.as_slice-memory-items.ensures) in
     let is : c.memory-item.result ≡ get_or memories c.loop-number.number c.memory-item.result = cc in
     let both = whole_next (shown c.args.machine.now).registers c.args.machine.now.space memories c.len-globals.result c.loop-number.from c.loop-number.number c.memory-item.result
-        c.memory-item.result lt is c.loop-number.invariant.whole in
+    c.memory-item.result lt is c.loop-number.invariant.whole in
     subst (λ n. IsWhole (pages_at c.args.machine.now.space c.loop-number.from n)) (sym c.at-pages.ensures) both.0
 
 pub loop-number-preserved : goal.loop-number-preserved
@@ -39,7 +38,7 @@ loop-number-preserved c =
     let next = sum_next (λ (m : MemoryDef). m.reserve) memories c.loop-number.number c.memory-item.result lt in
     let same = ap (λ (m : MemoryDef). m.reserve) is in
     let both = whole_next (shown c.args.machine.now).registers c.args.machine.now.space memories c.len-globals.result c.loop-number.from c.loop-number.number c.memory-item.result
-        c.memory-item.result lt is c.loop-number.invariant.whole in
+    c.memory-item.result lt is c.loop-number.invariant.whole in
     let state : memory_of c.in_ok-copied.field-0 ≡ pages_at c.args.machine.now.space c.loop-number.from c.at-pages.result = c.in_ok-copied.ensures in
     record {
       all = states_next (shown c.args.machine.now).registers c.args.machine.now.space memories c.loop-number.memories c.push.new.self c.in_ok-copied.field-0

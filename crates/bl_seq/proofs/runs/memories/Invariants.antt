@@ -1,4 +1,4 @@
-use Rattle.std.proofs.Common.{◌≡◌, ◌+◌, ◌*◌, ◌++◌, map, drop, length}
+use Rattle.std.proofs.Common.{◌≡◌, ◌+◌, ◌*◌, ◌++◌, map, drop}
 use Rattle.std.specs.List.{All}
 use Rattle.bl_base.specs.Runs.{memory_of}
 use Rattle.bl_cmd.specs.Layout.{sum_before}
