@@ -61,7 +61,7 @@ module _ (old new : List ℕ) where
   pub same_begin : (from count : ℕ) → (bytes_at old from count ≡ bytes_at new from count) ↔ (bytes_from old from (from + count) ≡ bytes_from new from (from + count))
   same_begin from count = (
     λ e. sym (bytes_all old from count) ∙ e ∙ bytes_all new from count,
-    λ e. bytes_all old from count ∙ e ∙ sym (bytes_all new from count)
+    λ e. bytes_all old from count ∙ e ∙ sym (bytes_all new from count),
   )
 
   bytes_next : (bytes : List ℕ) (i n : ℕ) → i < n → bytes_from bytes i n ≡ slice_index bytes i ∷ bytes_from bytes (i + 1) n
@@ -70,7 +70,7 @@ module _ (old new : List ℕ) where
   pub same_next : (P : Type 0) (i n : ℕ) → i < n → slice_index old i ≡ slice_index new i → (P ↔ (bytes_from old i n ≡ bytes_from new i n)) → P ↔ (bytes_from old (i + 1) n ≡ bytes_from new (i + 1) n)
   same_next P i n lt same iff = (
     λ p. tails (sym (bytes_next old i n lt) ∙ iff.0 p ∙ bytes_next new i n lt),
-    λ e. iff.1 (bytes_next old i n lt ∙ (λ k. same k ∷ e k) ∙ sym (bytes_next new i n lt))
+    λ e. iff.1 (bytes_next old i n lt ∙ (λ k. same k ∷ e k) ∙ sym (bytes_next new i n lt)),
   )
     where
       tails : slice_index old i ∷ bytes_from old (i + 1) n ≡ slice_index new i ∷ bytes_from new (i + 1) n → bytes_from old (i + 1) n ≡ bytes_from new (i + 1) n

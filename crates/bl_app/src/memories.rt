@@ -119,12 +119,7 @@ fn is_same(opening: &[u8], bytes: &[u8], from: usize, count: usize) -> bool
 }
 
 /// Puts the digits of so many bytes from a place on behind the text.
-fn push_hex(
-    text: &mut Vec<u8>,
-    bytes: &[u8],
-    from: usize,
-    count: usize,
-) -> Result<(), NoMemory>
+fn push_hex(text: &mut Vec<u8>, bytes: &[u8], from: usize, count: usize) -> Result<(), NoMemory>
     requires { from + count < 2 ^ 64 }
     ensures { IfOk result (λ _. text.new.items ≡ text.old.items ++ flat_map hex_text (bytes_at bytes.now from count)) }
 {

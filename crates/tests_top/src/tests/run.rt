@@ -139,7 +139,11 @@ fn bytes_that_are_no_image_and_images_that_break_a_rule(rt: HostRuntime) -> Resu
     let cases: [(Vec<u8>, u8, &str); 6] = [
         (with_end(alloc, 1, b"")?, 12, "image: not an image\n"),
         (with_end(alloc, 0, b"\x08")?, 12, "image: not an image\n"),
-        (with_end(alloc, 1, b"\x09\x00")?, 16, "trapped unreachable\n"),
+        (
+            with_end(alloc, 1, b"\x09\x00")?,
+            16,
+            "trapped unreachable\n",
+        ),
         (with_byte(alloc, 13, 0x04)?, 12, "image: rule 4 at 10\n"),
         (with_byte(alloc, 24, 0x01)?, 12, "image: rule 3 at 0\n"),
         (

@@ -22,5 +22,5 @@ returns c =
     let is : function_named c.args.export.now program.exports ≡ Some c.in_ok-function.function = ap (function_named c.args.export.now) (sym exports) ∙ sym c.in_ok-function.ensures in
     let lt = named_exists (length program.functions) c.args.export.now program.exports c.in_ok-function.function c.program.ensures.rules.rule3.exist is in
     let got = slice_get_is program.functions c.in_ok-function.function c.index-as_slice-function.result lt
-        (subst (λ l. c.index-as_slice-function.result ≡ get_or l c.in_ok-function.function c.index-as_slice-function.result) functions c.index-as_slice-function.is) in
+    (subst (λ l. c.index-as_slice-function.result ≡ get_or l c.in_ok-function.function c.index-as_slice-function.result) functions c.index-as_slice-function.is) in
     record { same_program = refl; exported = is; defined = got }

@@ -17,5 +17,5 @@ pub returns-then-byte_at : goal.returns-then-byte_at
 returns-then-byte_at c = (
   λ t. cc,
   λ p. absurd (differ c.args.opening.now c.args.bytes.now (bytes_at c.args.opening.now c.args.from c.args.count ≡ bytes_at c.args.bytes.now c.args.from c.args.count)
-      c.loop-place.place (c.args.from + c.args.count) (omega arith) (λ e. omega (arith, e)) c.loop-place.invariant p)
+      c.loop-place.place (c.args.from + c.args.count) (omega arith) (λ e. omega (arith, e)) c.loop-place.invariant p),
 )
