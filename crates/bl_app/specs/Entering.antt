@@ -1,5 +1,5 @@
 -- From the bytes of an image to its program, then to an exported function of it, and then to a start of the function.
-use Rattle.std.specs.Prelude.{◌≡◌, ℕ, List, [], ◌∷◌, map, slice_get, Option, Some, None, Ok, Err, if◌then◌else◌}
+use Rattle.std.specs.Prelude.{◌≡◌, ℕ, List, [], ◌∷◌, map, slice_get, Option, Some, None, Result, Ok, Err, if◌then◌else◌}
 use Rattle.std.specs.Str.{bytes_eq}
 use Rattle.bl_base.specs.declared.names.ValueType.{ValueType}
 use Rattle.bl_base.specs.declared.start.Start.{Start}
@@ -9,6 +9,7 @@ use Rattle.bl_cmd.specs.declared.definitions.FunctionDef.{FunctionDef}
 use Rattle.bl_cmd.specs.declared.definitions.ProgramParts.{ProgramParts as Program}
 use Rattle.bl_image.specs.Image.{Image}
 use Rattle.bl_trace.specs.Answers.{answer_of}
+use Rattle.bl_trace.specs.declared.error.StartError.{StartError}
 use Rattle.bl_trace.specs.declared.error.StartError.TheVariants.{Line, Count}
 use Rattle.bl_app.specs.Refusals.{Refusal, not_an_image, broken_rule, no_export, bad_line, few_arguments}
 use Rattle.bl_app.specs.Stages.{Stage, chain}
@@ -24,8 +25,8 @@ pub data ImagingRefuses (bytes : List ℕ) (refusal : Refusal) : Type 0 where
   -- the bytes are the image of no program
   no_image : ((program : Program) → Image program bytes → ⊥) → refusal ≡ not_an_image → ImagingRefuses bytes refusal
   -- they are that of a program that breaks a rule; the first one and its position
-  ill_formed : (program : Program) (rule position : ℕ) → Image program bytes → IsFirstBroken rule position program → refusal ≡ broken_rule rule position
-      → ImagingRefuses bytes refusal
+  ill_formed : (program : Program) (rule position : ℕ) → Image program bytes → IsFirstBroken rule position program
+      → refusal ≡ broken_rule rule position → ImagingRefuses bytes refusal
 
 abbrev pub imaging : Stage (List ℕ) Program
 imaging = record { Passes = IsImaged; Refuses = ImagingRefuses }
@@ -72,17 +73,20 @@ kinds_of defined = map (λ param. param.kind) defined.params
 abbrev pub pages_of : Program → List ℕ
 pages_of program = map (λ memory. memory.pages) program.memories
 
--- the bytes of a start file ask for that start of the function
+-- what the bytes of a start file ask for
+abbrev pub asked : List ℕ → Entry → Result Start StartError
+asked bytes entry = answer_of (kinds_of entry.defined) (pages_of entry.program) bytes
+
+-- they ask for that start of the function
 pub record Starts (bytes : List ℕ) (entry : Entry) (entered : Entered) : Type 0 where
   pub same_entry : entered.entry ≡ entry
-  pub read : answer_of (kinds_of entry.defined) (pages_of entry.program) bytes ≡ Ok entered.start
+  pub read : asked bytes entry ≡ Ok entered.start
 
 pub data StartingRefuses (bytes : List ℕ) (entry : Entry) (refusal : Refusal) : Type 0 where
   -- a line is bad; the first one
-  line_is_bad : (line : ℕ) → answer_of (kinds_of entry.defined) (pages_of entry.program) bytes ≡ Err (Line line) → refusal ≡ bad_line line → StartingRefuses bytes entry refusal
+  line_is_bad : (line : ℕ) → asked bytes entry ≡ Err (Line line) → refusal ≡ bad_line line → StartingRefuses bytes entry refusal
   -- no line is bad, and there are too few arguments
-  too_few : (count : ℕ) → answer_of (kinds_of entry.defined) (pages_of entry.program) bytes ≡ Err (Count count) → refusal ≡ few_arguments count
-      → StartingRefuses bytes entry refusal
+  too_few : (count : ℕ) → asked bytes entry ≡ Err (Count count) → refusal ≡ few_arguments count → StartingRefuses bytes entry refusal
 
 abbrev pub starting : List ℕ → Stage Entry Entered
 starting bytes = record { Passes = Starts bytes; Refuses = StartingRefuses bytes }

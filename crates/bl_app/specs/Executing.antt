@@ -22,7 +22,8 @@ HasPlainOutcome entered steps outcome = IsWithin (plain entered.entry.program en
 
 -- the text of the outcome, by the types of the results and the memories at the start
 abbrev pub plain_text : Entered → ℕ → Option Outcome → List ℕ
-plain_text entered steps outcome = outcome_text entered.entry.defined.results (first_memories entered.entry.program entered.start) steps outcome
+plain_text entered steps outcome =
+    outcome_text entered.entry.defined.results (first_memories entered.entry.program entered.start) steps outcome
 
 -- the contents are those of an image and of a start file, which are refused
 pub record RunRefuses (request : RunRequest) (contents : List (List ℕ)) (refusal : Refusal) : Type 0 where

@@ -25,8 +25,8 @@ use std::alloc::Global;
 /// Runs the program on its words, the program's own name first, and answers its exit status: 0 done,
 /// 2 no request, 3 a file could not be read, 4 a file or the sink could not be written, 5 the module's bytes spell none, 6 it
 /// has no typing, 7 it has something that isn't supported or is outside the form, 8 a quantity exceeds its number, 11 memory
-/// ran out, 12 the bytes are no image or the image isn't well-formed, 15 the export is absent, a line of the start file is bad, or there are too few arguments, 16 the run trapped, 17 its
-/// steps were spent. All text goes to the sink.
+/// ran out, 12 the bytes are no image or the image isn't well-formed, 15 the export is absent, a line of the start file is bad, or
+/// there are too few arguments, 16 the run trapped, 17 its steps were spent. All text goes to the sink.
 pub fn blade<F: Shelf, O: Sink>(alloc: Global, words: &[String], files: &mut F, out: &mut O) -> u8
     // How the call ends, whatever fails.
     ensures ends { IsStatus result (Ends job_of (request_of (map string_bytes words.now))
