@@ -1,14 +1,14 @@
 -- An exported function, its start and the outcome of its run are one; the job of `interp` keeps the laws.
 use Rattle.std.proofs.Common.{◌≡◌, ℕ, List, [], ◌∷◌, Option, Some, None, refl, ap, sym, ◌∙◌, subst, map}
 use Rattle.std.specs.Prelude.{Result, Ok, Err}
-use Rattle.bl_base.specs.Runs.{Outcome, returned, trapped}
+use Rattle.bl_base.specs.Runs.{Outcome}
 use Rattle.bl_base.specs.declared.start.Start.{Start}
 use Rattle.bl_base.proofs.Lists.{some_same}
 use Rattle.bl_base.proofs.RunLemmas.{run_unique}
 use Rattle.bl_wasm.specs.Exports.{number_of}
 use Rattle.bl_wasm.specs.declared.linked.Signature.{Signature}
 use Rattle.bl_wasm.specs.declared.linked.Tree.{Tree}
-use Rattle.bl_reduce.specs.Outcomes.{opening as opening_of}
+use Rattle.bl_reduce.specs.Outcomes.{opening as opening_of, source}
 use Rattle.bl_reduce.specs.Steps.{source_step}
 use Rattle.bl_trace.specs.Answers.{answer_of}
 use Rattle.bl_trace.specs.declared.error.StartError.{StartError}
@@ -28,6 +28,7 @@ use Rattle.bl_app.specs.Status.{kind_of, of_deed}
 use Rattle.bl_app.specs.Worlds.{World, took, with_files}
 use Rattle.bl_app.specs.declared.status.Status.{Status}
 use Rattle.bl_app.proofs.LoadingLemmas.{loading_lawful}
+use Rattle.bl_app.proofs.RunLemmas.{deed_of_run, one_within}
 use Rattle.bl_app.proofs.StageLemmas.{chain_lawful}
 
 module _ (export bytes : List ℕ) (tree : Tree) where
@@ -90,16 +91,9 @@ preparing_lawful request start = chain_lawful (loading StandsAlone) (opening req
 
 -- the outcome within so many steps is one
 one_outcome : (opened : Opened) (steps : ℕ) (a b : Option Outcome) → HasOutcome opened steps a → HasOutcome opened steps b → a ≡ b
-one_outcome opened steps (Some o) (Some p) h i =
-    ap Some (run_unique (source_step opened.tree) h.0 i.0 (opening_of opened.tree opened.function opened.start) o p h.1.run i.1.run).1
-one_outcome opened steps (Some o) None h i = absurd (i h.0 o h.1 h.2)
-one_outcome opened steps None (Some p) h i = absurd (h i.0 p i.1 i.2)
-one_outcome opened steps None None h i = refl
-
-deed_of_run : (outcome : Option Outcome) → kind_of (outcome_status outcome) ≡ of_deed
-deed_of_run (Some (returned values memories)) = refl
-deed_of_run (Some (trapped kind memories)) = refl
-deed_of_run None = refl
+one_outcome opened steps =
+    one_within (source opened.tree opened.function opened.start) steps
+    (λ m n o p h i. (run_unique (source_step opened.tree) m n (opening_of opened.tree opened.function opened.start) o p h.run i.run).1)
 
 module _ (request : InterpRequest) where
   -- a run has one plan

@@ -7,7 +7,7 @@ use Rattle.std.proofs.lemmas.Bool.{cond-false, eqb-true, false_from_ne_true}
 use Rattle.std.proofs.lemmas.Bool.Decides.{not_from_Decides}
 use Rattle.std.proofs.lemmas.List.{take-append-drop}
 use Rattle.std.proofs.lemmas.Slice.Eq.{bytes_eq-Decides}
-use Rattle.bl_app.specs.Requests.{HardenRequest, InterpRequest, Parts, harden, interp, request_of, parts_of, parts_behind_steps, steps_of, harden_of, harden_request, interp_of, interp_request}
+use Rattle.bl_app.specs.Requests.{HardenRequest, InterpRequest, Parts, harden, interp, request_of, parts_of, parts_behind_steps, steps_of, harden_of, harden_request, interp_of, interp_request, RunRequest, run, run_of, run_request}
 use Rattle.bl_app.specs.Requests.{BeginsWithDash, IsOption, IsTakenApart, no_words, options_end, argument, value_in_next_word, value_in_same_word}
 use Rattle.bl_app.specs.Requests.{begins_with_dash, is_option, is_steps_value, with_argument, with_steps}
 
@@ -116,7 +116,7 @@ two_files (image ∷ certificate ∷ wasm ∷ []) [] request e =
     subst (λ r. bytes_eq r.image r.certificate ≡ false) passed.1 passed.0
 two_files _ _ request e = cc
 
--- an `interp` is no `harden`
+-- an `interp` is no `harden`, nor is a `run`
 of_steps : (made : ℕ → InterpRequest) (steps : Option ℕ) (request : HardenRequest) → option_map (λ n. interp (made n)) steps ≡ Some (harden request) → ⊥
 of_steps made None request e = cc
 of_steps made (Some steps) request e = cc
@@ -134,14 +134,29 @@ of_interp : (found : Option Parts) (request : HardenRequest) → option_and_then
 of_interp None request e = cc
 of_interp (Some parts) request e = no_files parts.arguments parts.steps_values request e
 
-of_command : (is_harden is_interp : Bool) (found : Option Parts) (request : HardenRequest) →
-    cond is_harden (option_and_then harden_request found) (cond is_interp (option_and_then interp_request found) None) ≡ Some (harden request) →
+of_image : (made : ℕ → RunRequest) (steps : Option ℕ) (request : HardenRequest) → option_map (λ n. run (made n)) steps ≡ Some (harden request) → ⊥
+of_image made None request e = cc
+of_image made (Some steps) request e = cc
+
+no_modules : (arguments values : List (List ℕ)) (request : HardenRequest) → run_of arguments values ≡ Some (harden request) → ⊥
+no_modules (image ∷ export ∷ start ∷ []) values request e =
+    of_image (λ n. record { image = image; export = export; start = start; steps = n }) (steps_of values) request e
+no_modules _ values request e = cc
+
+of_run : (found : Option Parts) (request : HardenRequest) → option_and_then run_request found ≡ Some (harden request) → ⊥
+of_run None request e = cc
+of_run (Some parts) request e = no_modules parts.arguments parts.steps_values request e
+
+of_command : (is_harden is_interp is_run : Bool) (found : Option Parts) (request : HardenRequest) →
+    cond is_harden (option_and_then harden_request found) (cond is_interp (option_and_then interp_request found)
+    (cond is_run (option_and_then run_request found) None)) ≡ Some (harden request) →
     bytes_eq request.image request.certificate ≡ false
-of_command true is_interp found request e = of_harden found request e
-of_command false true found request e = absurd (of_interp found request e)
-of_command false false found request e = cc
+of_command true is_interp is_run found request e = of_harden found request e
+of_command false true is_run found request e = absurd (of_interp found request e)
+of_command false false true found request e = absurd (of_run found request e)
+of_command false false false found request e = cc
 
 pub request_differs : (words : List (List ℕ)) (request : HardenRequest) → request_of words ≡ Some (harden request) → bytes_eq request.image request.certificate ≡ false
 request_differs (program ∷ command ∷ words) request e =
-    of_command (bytes_eq command (codes "harden")) (bytes_eq command (codes "interp")) (parts_of words) request e
+    of_command (bytes_eq command (codes "harden")) (bytes_eq command (codes "interp")) (bytes_eq command (codes "run")) (parts_of words) request e
 request_differs _ request e = cc

@@ -2,6 +2,8 @@ pub mod Bodies
 pub mod Causes
 pub mod Commands
 pub mod Ends
+pub mod Entering
+pub mod Executing
 pub mod Form
 pub mod Hardening
 pub mod Image

@@ -28,9 +28,13 @@ values_text kinds values = flat_map (λ each. value_text each.0 each.1) (zip kin
 abbrev pub hex_text : ℕ → List ℕ
 hex_text byte = digits 16 false (byte / 16) ++ digits 16 false (byte % 16)
 
--- the row of 16 bytes from that place on; what lies past the contents is zero
+-- so many bytes from a place on; what lies past the contents is zero
+abbrev pub bytes_at : List ℕ → ℕ → ℕ → List ℕ
+bytes_at bytes from count = map (λ place. slice_index bytes place) (range_with_len from count)
+
+-- the row of 16 bytes from that place on
 abbrev pub row_at : List ℕ → ℕ → List ℕ
-row_at bytes offset = map (λ place. slice_index bytes place) (range_with_len offset 16)
+row_at bytes offset = bytes_at bytes offset 16
 
 -- the line of a row, where it differs from the opening contents
 abbrev pub row_text : ℕ → List ℕ → List ℕ → ℕ → List ℕ
@@ -39,11 +43,14 @@ row_text number opening bytes offset =
     then []
     else line (codes "row " ++ decimal number ++ codes " " ++ decimal offset ++ codes " " ++ flat_map hex_text (row_at bytes offset))
 
--- a memory: its pages, and the rows of it that differ, rising
+-- the rows of a memory that differ, rising
+abbrev pub rows_text : ℕ → List ℕ → List ℕ → List ℕ
+rows_text number opening bytes = flat_map (λ row. row_text number opening bytes (16 * row)) (range_with_len 0 (length bytes / 16))
+
+-- a memory: its pages, and the rows of it that differ
 abbrev pub memory_text : ℕ → List ℕ → MemoryState → List ℕ
 memory_text number opening memory =
-    line (codes "memory " ++ decimal number ++ codes " pages " ++ decimal memory.pages)
-    ++ flat_map (λ row. row_text number opening memory.bytes (16 * row)) (range_with_len 0 (length memory.bytes / 16))
+    line (codes "memory " ++ decimal number ++ codes " pages " ++ decimal memory.pages) ++ rows_text number opening memory.bytes
 
 -- the opening contents of a memory
 abbrev pub opening_bytes : List MemoryState → ℕ → List ℕ

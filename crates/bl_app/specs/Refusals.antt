@@ -13,6 +13,10 @@ pub data Refusal : Type 0 where
   unsupported : (name : List ℕ) → Refusal
   -- a quantity exceeds its number
   limit : (which : Quantity) → (value : ℕ) → Refusal
+  -- the bytes of a file are the image of no program
+  not_an_image : Refusal
+  -- the program of an image isn't well-formed: the first rule that it breaks, and the position where it does
+  broken_rule : (rule position : ℕ) → Refusal
   -- no function is exported under the name
   no_export : Refusal
   -- a line of the start file is bad

@@ -18,10 +18,18 @@ pub record InterpRequest : Type 0 where
   pub modules : List (List ℕ)
   pub steps : ℕ
 
+-- `run`: the image that is read, the name of an exported function, the start file that is read, and the most steps
+pub record RunRequest : Type 0 where
+  pub image : List ℕ
+  pub export : List ℕ
+  pub start : List ℕ
+  pub steps : ℕ
+
 -- what a call is asked for
 pub data Request : Type 0 where
   harden : HardenRequest → Request
   interp : InterpRequest → Request
+  run : RunRequest → Request
 
 -- a word that begins with `-`
 pub record BeginsWithDash (word : List ℕ) : Type 0 where
@@ -122,11 +130,21 @@ interp_of arguments values = None
 abbrev pub interp_request : Parts → Option Request
 interp_request parts = interp_of parts.arguments parts.steps_values
 
+-- what `run` asks for: an image, an export and a start file, and the most steps
+abbrev pub run_of : List (List ℕ) → List (List ℕ) → Option Request
+run_of (image ∷ export ∷ start ∷ []) values =
+    option_map (λ steps. run (record { image = image; export = export; start = start; steps = steps })) (steps_of values)
+run_of arguments values = None
+
+abbrev pub run_request : Parts → Option Request
+run_request parts = run_of parts.arguments parts.steps_values
+
 -- the request of all words, the program's own name first, and then the command
 abbrev pub request_of : List (List ℕ) → Option Request
 request_of (program ∷ command ∷ words) =
     (if bytes_eq command (codes "harden") then option_and_then harden_request (parts_of words)
     else if bytes_eq command (codes "interp") then option_and_then interp_request (parts_of words)
+    else if bytes_eq command (codes "run") then option_and_then run_request (parts_of words)
     else None)
 request_of words = None
 

@@ -1,8 +1,8 @@
 -- The exit statuses: their numbers, and what each says of a call.
 use Rattle.std.specs.Prelude.{◌≡◌, ℕ}
-use Rattle.bl_app.specs.Refusals.{Refusal, malformed, invalid_function, invalid_module, unsupported, limit, no_export, bad_line, few_arguments}
+use Rattle.bl_app.specs.Refusals.{Refusal, malformed, invalid_function, invalid_module, unsupported, limit, not_an_image, broken_rule, no_export, bad_line, few_arguments}
 use Rattle.bl_app.specs.declared.status.Status.{Status}
-use Rattle.bl_app.specs.declared.status.Status.TheVariants.{Done, Usage, ReadFault, WriteFault, Malformed, Invalid, Unsupported, Limit, Memory, Start, Trapped, Spent}
+use Rattle.bl_app.specs.declared.status.Status.TheVariants.{Done, Usage, ReadFault, WriteFault, Malformed, Invalid, Unsupported, Limit, Memory, Image, Start, Trapped, Spent}
 
 abbrev pub code_of : Status → ℕ
 code_of Done = 0
@@ -14,6 +14,7 @@ code_of Invalid = 6
 code_of Unsupported = 7
 code_of Limit = 8
 code_of Memory = 11
+code_of Image = 12
 code_of Start = 15
 code_of Trapped = 16
 code_of Spent = 17
@@ -25,6 +26,8 @@ status_of (invalid_function name index) = Invalid
 status_of (invalid_module name) = Invalid
 status_of (unsupported name) = Unsupported
 status_of (limit which value) = Limit
+status_of not_an_image = Image
+status_of (broken_rule rule position) = Image
 status_of no_export = Start
 status_of (bad_line number) = Start
 status_of (few_arguments count) = Start
@@ -49,6 +52,7 @@ kind_of Invalid = of_refusal
 kind_of Unsupported = of_refusal
 kind_of Limit = of_refusal
 kind_of Memory = of_memory
+kind_of Image = of_refusal
 kind_of Start = of_refusal
 kind_of Trapped = of_deed
 kind_of Spent = of_deed

@@ -2,7 +2,7 @@
 use Rattle.std.specs.Prelude.{ℕ, Bool, true, false, List, [], ◌∷◌, ◌++◌, length, codes, count_by}
 use Rattle.std.specs.Fmt.{decimal}
 use Rattle.bl_base.specs.Quantity.{word_of}
-use Rattle.bl_app.specs.Refusals.{Refusal, malformed, invalid_function, invalid_module, unsupported, limit, no_export, bad_line, few_arguments}
+use Rattle.bl_app.specs.Refusals.{Refusal, malformed, invalid_function, invalid_module, unsupported, limit, not_an_image, broken_rule, no_export, bad_line, few_arguments}
 use Rattle.bl_app.specs.declared.program.Command.{Command}
 use Rattle.bl_app.specs.declared.program.Command.TheVariants.{Set, Jump, Out, Ret, Trap}
 use Rattle.bl_app.specs.declared.program.Program.{Program}
@@ -45,6 +45,8 @@ refusal_text (invalid_function name index) = line (codes "invalid: " ++ name ++ 
 refusal_text (invalid_module name) = line (codes "invalid: " ++ name ++ codes " module")
 refusal_text (unsupported name) = line (codes "unsupported: " ++ name)
 refusal_text (limit which value) = line (codes "limit: " ++ word_of which ++ codes " " ++ decimal value)
+refusal_text not_an_image = line (codes "image: not an image")
+refusal_text (broken_rule rule position) = line (codes "image: rule " ++ decimal rule ++ codes " at " ++ decimal position)
 refusal_text no_export = line (codes "start: export")
 refusal_text (bad_line number) = line (codes "start: line " ++ decimal number)
 refusal_text (few_arguments count) = line (codes "start: arguments " ++ decimal count)

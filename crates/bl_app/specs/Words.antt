@@ -1,11 +1,12 @@
 -- The words of a call as the code keeps them.
 use Rattle.std.specs.Prelude.{map, [], ◌∷◌}
-use Rattle.bl_app.specs.Requests.{Request, HardenRequest, InterpRequest, Parts as PartsOf, harden, interp}
+use Rattle.bl_app.specs.Requests.{Request, HardenRequest, InterpRequest, RunRequest, Parts as PartsOf, harden, interp, run}
 use Rattle.bl_app.specs.declared.words.HardenWords.{HardenWords}
 use Rattle.bl_app.specs.declared.words.InterpWords.{InterpWords}
+use Rattle.bl_app.specs.declared.words.RunWords.{RunWords}
 use Rattle.bl_app.specs.declared.words.Parts.{Parts}
 use Rattle.bl_app.specs.declared.words.Request.{Request as RequestWords}
-use Rattle.bl_app.specs.declared.words.Request.TheVariants.{Harden, Interp}
+use Rattle.bl_app.specs.declared.words.Request.TheVariants.{Harden, Interp, Run}
 
 -- the parts that borrowed words are
 abbrev pub parts_in : Parts → PartsOf
@@ -18,6 +19,10 @@ harden_in words = record { image = words.image.now; certificate = words.certific
 abbrev pub interp_in : InterpWords → InterpRequest
 interp_in words = record { export = words.export.now; start = words.start.now; modules = words.wasm.now ∷ []; steps = words.steps }
 
+abbrev pub run_in : RunWords → RunRequest
+run_in words = record { image = words.image.now; export = words.export.now; start = words.start.now; steps = words.steps }
+
 abbrev pub request_in : RequestWords → Request
 request_in (Harden words) = harden (harden_in words)
 request_in (Interp words) = interp (interp_in words)
+request_in (Run words) = run (run_in words)

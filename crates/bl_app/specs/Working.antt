@@ -3,6 +3,10 @@ use Rattle.std.specs.Prelude.{◌≡◌, ℕ, List, [], ◌∷◌, map, Option, 
 use Rattle.std.proofs.Common.{Bor}
 use Rattle.std.specs.declared.alloc.Global.{Global}
 use Rattle.bl_base.specs.Runs.{Outcome}
+use Rattle.bl_base.specs.declared.start.Start.{Start}
+use Rattle.bl_cmd.specs.declared.definitions.ProgramParts.{ProgramParts as Program}
+use Rattle.bl_image.specs.declared.error.ImageError.{ImageError}
+use Rattle.bl_image.specs.declared.error.ImageError.TheVariants as image
 use Rattle.bl_outside.specs.Shelf.{ReadFails}
 use Rattle.bl_outside.specs.declared.shelf.ShelfError.{ShelfError}
 use Rattle.bl_outside.specs.declared.shelf.ShelfError.TheVariants as shelf
@@ -14,6 +18,8 @@ use Rattle.bl_trace.specs.declared.error.StartError.{StartError}
 use Rattle.bl_trace.specs.declared.error.StartError.TheVariants as start
 use Rattle.bl_wasm.specs.declared.linked.Tree.{Tree}
 use Rattle.bl_wasm.specs.declared.module.Module.{Module}
+use Rattle.bl_app.specs.Entering.{Entered, Entry}
+use Rattle.bl_app.specs.Executing.{HasPlainOutcome, plain_text}
 use Rattle.bl_app.specs.Form.{IsForm, StandsAlone}
 use Rattle.bl_app.specs.Image.{image_of}
 use Rattle.bl_app.specs.Interpreting.{HasOutcome}
@@ -21,12 +27,13 @@ use Rattle.bl_app.specs.Jobs.{AreRead, Job, Plan, Read, ReadsName, RefusesLength
 use Rattle.bl_app.specs.Loading.{Named, Part, decoding, loading, of_form, validation}
 use Rattle.bl_app.specs.Lowering.{low}
 use Rattle.bl_app.specs.Outcomes.{outcome_status, outcome_text}
-use Rattle.bl_app.specs.Refusals.{Refusal, malformed, invalid_function, invalid_module, unsupported, limit, no_export, bad_line, few_arguments}
+use Rattle.bl_app.specs.Refusals.{Refusal, malformed, invalid_function, invalid_module, unsupported, limit, not_an_image, broken_rule, no_export, bad_line, few_arguments}
 use Rattle.bl_app.specs.Running.{Opened}
 use Rattle.bl_app.specs.Stages.{Stage, chain}
 use Rattle.bl_app.specs.Status.{status_of}
 use Rattle.bl_app.specs.Texts.{read_fault_text, refusal_text, report_text}
 use Rattle.bl_app.specs.Worlds.{Said, SaidIfRoom, SameShelf, Stream, Unchanged, World}
+use Rattle.bl_app.specs.declared.entry.Entry.{Entry as EntryFound}
 use Rattle.bl_app.specs.declared.harden.Hardened.{Hardened}
 use Rattle.bl_app.specs.declared.interp.Opening.{Opening}
 use Rattle.bl_app.specs.declared.job.Keep.{Keep}
@@ -61,6 +68,8 @@ refusal_in (told.InvalidFunction name index) = invalid_function name.now index
 refusal_in (told.InvalidModule name) = invalid_module name.now
 refusal_in (told.Unsupported name) = unsupported name.now
 refusal_in (told.Limit which value) = limit which value
+refusal_in told.NotAnImage = not_an_image
+refusal_in (told.BrokenRule rule position) = broken_rule rule position
 refusal_in told.NoExport = no_export
 refusal_in (told.BadLine number) = bad_line number
 refusal_in (told.FewArguments count) = few_arguments count
@@ -137,6 +146,26 @@ start_error start.Memory = error.Memory
 -- a function of a tree, its type and its start
 abbrev pub opened_in : Tree → Opening → Opened
 opened_in tree opening = record { tree = tree; function = opening.function; type = opening.kind.now; start = opening.start }
+
+-- an error of reading an image
+abbrev pub image_error : ImageError → WorkError
+image_error image.NotAnImage = error.Refused told.NotAnImage
+image_error (image.IllFormed rule position) = error.Refused (told.BrokenRule rule position.0)
+image_error image.Memory = error.Memory
+
+-- a function of a program
+abbrev pub entry_in : Program → EntryFound → Entry
+entry_in program entry = record { program = program; function = entry.function; defined = entry.defined.now }
+
+-- a function of a program and its start
+abbrev pub entered_in : Entry → Start → Entered
+entered_in entry start = record { entry = entry; start = start }
+
+-- printing the outcome of a function's plain run from a start
+pub record IsPlainTold (entered : Entered) (steps : ℕ) (plan : PlanMade) : Type 0 where
+  pub outcome : Option Outcome
+  pub within : HasPlainOutcome entered steps outcome
+  pub is_plan : plan_in plan ≡ saying (outcome_status outcome) (plain_text entered steps outcome)
 
 -- printing the outcome of a function's run from a start
 pub record IsTold (opened : Opened) (steps : ℕ) (plan : PlanMade) : Type 0 where

@@ -9,6 +9,7 @@ use crate::harden::{harden, harden_reads};
 use crate::interp::{interp_reads, interpret};
 use crate::job::{Plan, Read};
 use crate::refusal::WorkError;
+use crate::run::{execute, run_reads};
 use crate::words::Request;
 use bl_base::NoMemory;
 use std::alloc::Global;
@@ -20,6 +21,7 @@ pub fn reads_of<'a>(alloc: Global, request: &Request<'a>) -> Result<Vec<Read<'a>
     match request {
         Request::Harden(words) => harden_reads(alloc, words),
         Request::Interp(words) => interp_reads(alloc, words),
+        Request::Run(words) => run_reads(alloc, words),
     }
 }
 
@@ -35,5 +37,6 @@ pub fn work<'a>(
     match request {
         Request::Harden(words) => harden(alloc, words, contents),
         Request::Interp(words) => interpret(alloc, words, contents),
+        Request::Run(words) => execute(alloc, words, contents),
     }
 }

@@ -6,17 +6,18 @@ ghost use Rattle.bl_app.specs.Interpreting.{interp_job};
 ghost use Rattle.bl_app.specs.Jobs.{AreRead};
 ghost use Rattle.bl_app.specs.Running.{opening as opening_stage, type_of};
 ghost use Rattle.bl_app.specs.Words.{interp_in};
-ghost use Rattle.bl_app.specs.Working.{IsStaged, IsTold, IsWork, contents_in, opened_in, read_in, start_error};
+ghost use Rattle.bl_app.specs.Working.{IsStaged, IsTold, IsWork, contents_in, opened_in, read_in};
 
 use crate::job::{Plan, Read};
 use crate::module::{Form, module_read, read_module};
 use crate::outcome::{outcome_status, outcome_text};
 use crate::refusal::{Refusal, WorkError};
+use crate::start::of_start;
 use crate::words::{InterpWords, module_name};
 use bl_base::{NoMemory, Quantity, Start};
 use bl_link::link_alone;
 use bl_machine::interp;
-use bl_trace::{StartError, read_start};
+use bl_trace::read_start;
 use bl_wasm::{Linked, Signature, Tree};
 use std::alloc::Global;
 
@@ -86,7 +87,7 @@ fn tell<'a>(
     ensures { IfOk result (λ plan. IsTold (opened_in linked.now opening.now) steps plan) }
 {
     let run = interp(alloc, linked, opening.function, &opening.start, steps)?;
-    let text = outcome_text(alloc, opening.kind.results.as_slice(), steps, &run)?;
+    let text = outcome_text(alloc, opening.kind.results.as_slice(), &[], steps, &run)?;
     let status = outcome_status(&run);
     Ok(Plan {
         status,
@@ -129,15 +130,4 @@ fn signature(tree: &Tree, function: u32) -> &Signature
 {
     let function = &tree.functions.as_slice()[function as usize];
     &tree.types.as_slice()[function.type_index as usize]
-}
-
-/// Why a function isn't run whose start file gives no start.
-fn of_start<'a>(error: StartError) -> WorkError<'a>
-    ensures { result ≡ start_error error }
-{
-    match error {
-        StartError::Line(number) => WorkError::Refused(Refusal::BadLine(number)),
-        StartError::Count(count) => WorkError::Refused(Refusal::FewArguments(count)),
-        StartError::Memory => WorkError::Memory,
-    }
 }

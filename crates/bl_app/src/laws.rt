@@ -5,11 +5,12 @@ ghost use Rattle.bl_leb.specs.Numbers.{IsUnsigned};
 ghost use Rattle.bl_leb.specs.Spellings.{IsShortest};
 ghost use Rattle.bl_app.specs.Causes.{Causes, NoneRose};
 ghost use Rattle.bl_app.specs.Commands.{job_of};
+ghost use Rattle.bl_app.specs.Executing.{RunDoes};
 ghost use Rattle.bl_app.specs.Image.{leb};
 ghost use Rattle.bl_app.specs.Interpreting.{InterpDoes};
 ghost use Rattle.bl_app.specs.Jobs.{AreRead, FirstRefusal, IsLawful, Plan};
 ghost use Rattle.bl_app.specs.Refusals.{Refusal};
-ghost use Rattle.bl_app.specs.Requests.{InterpRequest, IsTakenApart, Request, parts_of};
+ghost use Rattle.bl_app.specs.Requests.{InterpRequest, IsTakenApart, Request, RunRequest, parts_of};
 ghost use Rattle.bl_app.specs.Worlds.{World};
 ghost use Rattle.bl_app.specs.declared.status.Status.{Status};
 ghost use Rattle.bl_app.specs.declared.status.Status.TheVariants as status;
@@ -33,7 +34,8 @@ pub fn what_can_be_done_is_not_refused()
 
 /// A run has one text and one status.
 pub fn one_run()
-    ensures { (request : InterpRequest) (contents : Listed (Listed ℕ)) (p q : Plan) → InterpDoes request contents p → InterpDoes request contents q → p ≡ q }
+    ensures interp { (request : InterpRequest) (contents : Listed (Listed ℕ)) (p q : Plan) → InterpDoes request contents p → InterpDoes request contents q → p ≡ q }
+    ensures run { (request : RunRequest) (contents : Listed (Listed ℕ)) (p q : Plan) → RunDoes request contents p → RunDoes request contents q → p ≡ q }
 {}
 
 /// No status but that of want of memory can be the answer to all calls: where no count of faults rises, words that are no

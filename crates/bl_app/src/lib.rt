@@ -3,6 +3,7 @@
 
 mod command;
 mod deliver;
+mod entry;
 mod fetch;
 mod form;
 mod harden;
@@ -12,12 +13,15 @@ mod job;
 pub mod laws;
 mod lists;
 mod lower;
+mod memories;
 mod module;
 mod outcome;
 mod output;
 mod program;
 mod refusal;
 mod report;
+mod run;
+mod start;
 mod status;
 mod top;
 mod words;

@@ -1,30 +1,37 @@
 //! How a run ended, as it is told.
-ghost use Rattle.std.specs.Prelude.{◌≡◌, ◌++◌, [], IfOk, codes};
+ghost use Rattle.std.specs.Prelude.{◌≡◌, ◌++◌, IfOk, codes, map};
 ghost use Rattle.std.specs.Fmt.{decimal};
 ghost use Rattle.bl_base.specs.Trap.{text_of};
-ghost use Rattle.bl_base.specs.Runs.{outcome_of};
-ghost use Rattle.bl_machine.specs.Interpreting.{memories_in};
+ghost use Rattle.bl_base.specs.Runs.{memory_of, outcome_of};
 ghost use Rattle.bl_app.specs.Outcomes.{outcome_status, outcome_text, type_word, value_text, values_text};
 ghost use Rattle.bl_app.specs.Texts.{line};
 
+use crate::memories::with_memories;
 use crate::status::Status;
-use bl_base::{NoMemory, Run, Trap, ValueType};
+use bl_base::{NoMemory, Pages, Run, Trap, ValueType};
 use std::alloc::Global;
 
-/// The line of a run that was given so many steps: its results, each with its type and unsigned, or the trap, or the
-/// steps that were spent. `kinds` are the types of the results; the run has no memories. Linear in the results.
+/// The text of a run that was given so many steps: a line of its results, each with its type and unsigned, or of the trap, and then
+/// each memory; or a line of the steps that were spent. `kinds` are the types of the results, `opening` the memories at the start.
+/// Linear in the results and in the bytes of the memories.
 pub fn outcome_text(
     alloc: Global,
     kinds: &[ValueType],
+    opening: &[Pages],
     steps: u64,
     run: &Run,
 ) -> Result<Vec<u8>, NoMemory>
-    requires { memories_in run.now ≡ [] }
-    ensures { IfOk result (λ text. text.items ≡ outcome_text kinds.now [] steps (outcome_of run.now)) }
+    ensures { IfOk result (λ text. text.items ≡ outcome_text kinds.now (map memory_of opening.now) steps (outcome_of run.now)) }
 {
     match run {
-        Run::Returned { values, .. } => returned_line(alloc, kinds, values.as_slice()),
-        Run::Trapped { kind, .. } => trapped_line(alloc, *kind),
+        Run::Returned { values, memories } => {
+            let text = returned_line(alloc, kinds, values.as_slice())?;
+            with_memories(alloc, text, opening, memories.as_slice())
+        }
+        Run::Trapped { kind, memories } => {
+            let text = trapped_line(alloc, *kind)?;
+            with_memories(alloc, text, opening, memories.as_slice())
+        }
         Run::Spent => spent_line(alloc, steps),
     }
 }

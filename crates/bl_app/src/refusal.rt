@@ -30,6 +30,15 @@ pub enum Refusal<'a> {
         /// Its value.
         value: u64,
     },
+    /// The bytes of a file are the image of no program.
+    NotAnImage,
+    /// The program of an image isn't well-formed.
+    BrokenRule {
+        /// The first rule that it breaks, from 1 to 9.
+        rule: u8,
+        /// The position where it does.
+        position: u32,
+    },
     /// No function is exported under the name.
     NoExport,
     /// A line of the start file is bad: the first one's number, from 1.
@@ -67,6 +76,7 @@ impl<'a> Refusal<'a> {
             Refusal::InvalidFunction(_, _) | Refusal::InvalidModule(_) => Status::Invalid,
             Refusal::Unsupported(_) => Status::Unsupported,
             Refusal::Limit { .. } => Status::Limit,
+            Refusal::NotAnImage | Refusal::BrokenRule { .. } => Status::Image,
             Refusal::NoExport | Refusal::BadLine(_) | Refusal::FewArguments(_) => Status::Start,
         }
     }
@@ -81,6 +91,8 @@ impl<'a> Refusal<'a> {
             Refusal::InvalidModule(name) => named_line(alloc, "invalid: ", name, " module"),
             Refusal::Unsupported(name) => named_line(alloc, "unsupported: ", name, ""),
             Refusal::Limit { which, value } => limit_line(alloc, which, value),
+            Refusal::NotAnImage => Ok(b"image: not an image\n".to_vec(alloc)?),
+            Refusal::BrokenRule { rule, position } => rule_line(alloc, rule, position),
             Refusal::NoExport => Ok(b"start: export\n".to_vec(alloc)?),
             Refusal::BadLine(number) => Ok(format!(in alloc;
                 "start: line {number}\n"
@@ -109,6 +121,14 @@ fn function_line(alloc: Global, name: &str, index: u32) -> Result<Vec<u8>, NoMem
 {
     let tail = format!(in alloc; " function {index}")?;
     named_line(alloc, "invalid: ", name, tail.as_str())
+}
+
+/// The line of a rule and the position where it is broken.
+fn rule_line(alloc: Global, rule: u8, position: u32) -> Result<Vec<u8>, NoMemory>
+    ensures { IfOk result (λ text. text.items ≡ line (codes "image: rule " ++ decimal rule ++ codes " at " ++ decimal position)) }
+{
+    let text = format!(in alloc; "image: rule {rule} at {position}\n")?;
+    Ok(text.into_bytes())
 }
 
 /// The line of a quantity and its value.

@@ -23,6 +23,8 @@ pub enum Status {
     Limit,
     /// Memory ran out.
     Memory,
+    /// The bytes are no image, or the image is not well-formed.
+    Image,
     /// The export is absent, a line of the start file is bad, or there are too few arguments.
     Start,
     /// The run ended by a trap.
@@ -46,6 +48,7 @@ impl Status {
             Status::Unsupported => 7,
             Status::Limit => 8,
             Status::Memory => 11,
+            Status::Image => 12,
             Status::Start => 15,
             Status::Trapped => 16,
             Status::Spent => 17,

@@ -2,13 +2,13 @@
 ghost use Rattle.std.specs.Prelude.{◌≡◌, IfOk, map, nat_eq, string_bytes, if◌then◌else◌, drop};
 ghost use Rattle.std.specs.Option.{option_map};
 ghost use Rattle.std.specs.List.{after_last};
-ghost use Rattle.bl_app.specs.Requests.{parts_of, harden_request, interp_request, request_of, begins_with_dash as word_begins_with_dash, is_option, is_steps_value, number_of_steps, steps_of, module_name as module_name_of, without_ending as name_without_ending};
+ghost use Rattle.bl_app.specs.Requests.{parts_of, harden_request, interp_request, run_request, request_of, begins_with_dash as word_begins_with_dash, is_option, is_steps_value, number_of_steps, steps_of, module_name as module_name_of, without_ending as name_without_ending};
 ghost use Rattle.bl_app.specs.Words.{parts_in, request_in};
 
 use bl_base::NoMemory;
 use std::alloc::Global;
 
-/// The most steps of an `interp` that doesn't say them.
+/// The most steps of an `interp` or a `run` that doesn't say them.
 const DEFAULT_STEPS: u64 = 1_000_000;
 
 /// What the words of a call ask for.
@@ -18,6 +18,8 @@ pub enum Request<'a> {
     Harden(HardenWords<'a>),
     /// To run an exported function of a module.
     Interp(InterpWords<'a>),
+    /// To run an exported function of an image.
+    Run(RunWords<'a>),
 }
 
 /// The words of a `harden`.
@@ -40,6 +42,19 @@ pub struct InterpWords<'a> {
     pub start: &'a str,
     /// The file of the module, which is read.
     pub wasm: &'a str,
+    /// The most steps that are made, from 1 to 4,294,967,295.
+    pub steps: u64,
+}
+
+/// The words of a `run`.
+#[derive(Clone, Copy)]
+pub struct RunWords<'a> {
+    /// The file of the image, which is read.
+    pub image: &'a str,
+    /// The name of the exported function that is entered.
+    pub export: &'a str,
+    /// The start file, which is read.
+    pub start: &'a str,
     /// The most steps that are made, from 1 to 4,294,967,295.
     pub steps: u64,
 }
@@ -73,6 +88,7 @@ pub fn read_words(alloc: Global, words: &[String]) -> Result<Option<Request<'_>>
     match command.as_str() {
         "harden" => Ok(take_apart(alloc, words)?.and_then(|parts| harden_words(&parts))),
         "interp" => Ok(take_apart(alloc, words)?.and_then(|parts| interp_words(&parts))),
+        "run" => Ok(take_apart(alloc, words)?.and_then(|parts| run_words(&parts))),
         _ => Ok(None),
     }
 }
@@ -140,6 +156,22 @@ fn interp_words<'a>(parts: &Parts<'a>) -> Option<Request<'a>>
         export: *export,
         start: *start,
         wasm: *wasm,
+        steps,
+    }))
+}
+
+/// What `run` asks for with these parts: three arguments, and at most one `--steps`.
+fn run_words<'a>(parts: &Parts<'a>) -> Option<Request<'a>>
+    ensures { option_map request_in result ≡ run_request (parts_in parts.now) }
+{
+    let [image, export, start] = parts.arguments.as_slice() else {
+        return None;
+    };
+    let steps = most_steps(parts.steps_values.as_slice())?;
+    Some(Request::Run(RunWords {
+        image: *image,
+        export: *export,
+        start: *start,
         steps,
     }))
 }

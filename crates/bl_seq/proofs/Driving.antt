@@ -1,5 +1,5 @@
 -- Steps of the machine, and runs of them.
-use Rattle.std.proofs.Common.{◌≡◌, ℕ, suc, ◌+◌, ◌≤◌, ◌<◌, List, refl, sym, ap, ◌∙◌, subst, arith}
+use Rattle.std.proofs.Common.{◌≡◌, ℕ, suc, ◌+◌, ◌<◌, List, refl, sym, ap, ◌∙◌, subst, arith}
 use Rattle.std.specs.Prelude.{IfOk, OnOk, Result, Ok, Err}
 use Rattle.std.proofs.Math.Path.{fun_ext}
 use Rattle.bl_base.specs.Runs.{Outcome, Next, goes, ends, stuck, Comes, EndsAfter, last, more, IsWithin, Tells, outcome_of}

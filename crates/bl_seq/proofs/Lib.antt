@@ -1,4 +1,5 @@
 pub mod Driving
+pub mod Ending
 pub mod Filling
 pub mod Laying
 pub mod OwnAccesses

@@ -1,6 +1,6 @@
 -- Bytes that are written over others, and bytes as numbers.
-use Rattle.std.proofs.Common.{◌≡◌, ℕ, zero, suc, ◌+◌, ◌-◌, ◌*◌, ◌/◌, ◌%◌, ◌<◌, ◌≤◌, List, [], ◌∷◌, ◌++◌, length, take, drop, set, get_or, refl, sym, ap, ◌∙◌, subst, arith}
-use Rattle.std.proofs.lemmas.List.{take_all}
+use Rattle.std.proofs.Common.{◌≡◌, ℕ, zero, suc, ◌+◌, ◌-◌, ◌*◌, ◌/◌, ◌%◌, ◌<◌, ◌≤◌, min, List, [], ◌∷◌, length, take, drop, set, get_or, refl, sym, ap, ◌∙◌, arith}
+use Rattle.std.proofs.lemmas.List.{drop_min, length-drop, take_all, take_min}
 use Rattle.bl_base.specs.Bytes.{number_of, bytes_of}
 use Rattle.bl_cmd.specs.Steps.{overlay}
 
@@ -102,3 +102,10 @@ length_over zero (n ∷ new) (s ∷ space) = ap suc (length_over zero new space)
 
 pub overlay_length : (from : ℕ) (new space : List ℕ) → length (overlay from new space) ≡ length space
 overlay_length from new space = ap length (overlay_is from new space) ∙ length_over from new space
+
+-- ---- a part
+
+pub part_is : (from count : ℕ) (bytes : List ℕ) → take (min count (length bytes - min from (length bytes))) (drop (min from (length bytes)) bytes) ≡ take count (drop from bytes)
+part_is from count bytes =
+    ap (λ k. take (min count k) (drop (min from (length bytes)) bytes)) (sym (length-drop (min from (length bytes)) bytes))
+    ∙ take_min count (drop (min from (length bytes)) bytes) ∙ ap (take count) (drop_min from bytes)

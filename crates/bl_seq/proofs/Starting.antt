@@ -1,11 +1,11 @@
 -- The machine before the first step.
-use Rattle.std.proofs.Common.{◌≡◌, ◌≢◌, ◌⊎◌, inl, inr, ℕ, zero, suc, ◌+◌, ◌-◌, ◌*◌, ◌<◌, ◌≤◌, Bool, true, false, List, [], ◌∷◌, ◌++◌, length, map, take, drop, set, replicate, get_or, Option, Some, None, slice_get, refl, sym, ap, ◌∙◌, subst, arith}
+use Rattle.std.proofs.Common.{◌≡◌, ◌≢◌, ℕ, zero, suc, ◌+◌, ◌-◌, ◌*◌, ◌<◌, ◌≤◌, Bool, true, false, List, [], ◌∷◌, ◌++◌, length, map, drop, replicate, get_or, Option, Some, None, slice_get, refl, sym, ap, ◌∙◌, subst, arith}
 use Rattle.std.specs.Prelude.{nat_lt, if◌then◌else◌, IfOk, Result, Ok, Err}
-use Rattle.std.specs.List.{All, fold, AllZip}
+use Rattle.std.specs.List.{All, fold}
 use Rattle.std.proofs.lemmas.List.Elements.{All-get_or}
 use Rattle.std.proofs.Math.Seq.{drop-cons}
-use Rattle.std.proofs.lemmas.Bool.{cases_lt, ltb-true, ltb-false}
-use Rattle.std.proofs.lemmas.List.{get_or_past, length-append, length-drop, length-take, length-replicate, take_all}
+use Rattle.std.proofs.lemmas.Bool.{ltb-true, ltb-false}
+use Rattle.std.proofs.lemmas.List.{length-append, length-drop, length-take, length-replicate, take_all}
 use Rattle.std.proofs.lemmas.Option.{none-some}
 use Rattle.bl_base.specs.Bytes.{patch_over, patched, write}
 use Rattle.bl_base.specs.Fits.{LiesIn, PatchFits}
@@ -34,10 +34,13 @@ length_rows : (rows : List MemRow) (bytes : List ℕ) → length (fold with_row 
 length_rows [] bytes = refl
 length_rows (row ∷ rows) bytes = length_rows rows (with_row bytes row) ∙ overlay_length (row.number * 16) row.bytes bytes
 
+pub first_length : (memory : MemoryDef) → length (first_memory memory).bytes ≡ memory.pages * 65536
+first_length memory = length_rows memory.rows (replicate (memory.pages * 65536) 0) ∙ length-replicate (memory.pages * 65536) 0
+
 pub sized_first : (memories : List MemoryDef) → AreSized memories (map first_memory memories)
 sized_first [] = tt
 sized_first (memory ∷ memories) =
-    (record { len = length_rows memory.rows (replicate (memory.pages * 65536) 0) ∙ length-replicate (memory.pages * 65536) 0 }, sized_first memories)
+    (record { len = first_length memory }, sized_first memories)
 
 got_mapped : {A B : Type 0} (f : A → B) (xs : List A) (i : ℕ) (x : A) → slice_get xs i ≡ Some x → slice_get (map f xs) i ≡ Some (f x)
 got_mapped f [] i x e = absurd (none-some x e)
@@ -67,6 +70,11 @@ sized_patched memories states patch sized inside = by (slice_get states patch.me
         let got = zip_got IsSized memories states patch.memory state sized e in
         zip_set IsSized memories states patch.memory got.0 (write state patch.offset patch.bytes) sized got.1
         (record { len = length_write state patch.offset patch.bytes (inside.within state e) ∙ got.2.len })
+
+-- what is told of contents is told of what they are
+pub told_as : {X E : Type 0} (f : X → List MemoryState) (r : Result X E) (a b : List MemoryState) → IfOk r (λ x. f x ≡ a) → a ≡ b → IfOk r (λ x. f x ≡ b)
+told_as f (Ok x) a b e same = e ∙ same
+told_as f (Err y) a b e same = tt
 
 -- one patch of those that are written in order
 pub inside_at : (memories : List MemoryDef) (states : List MemoryState) (patches : List Patch) (i : ℕ) (patch : Patch) → AreSized memories states

@@ -1,11 +1,14 @@
 -- What is told of a machine: results and memories.
-use Rattle.std.proofs.Common.{◌≡◌, ℕ, zero, suc, ◌+◌, ◌-◌, ◌*◌, ◌<◌, ◌≤◌, List, [], ◌∷◌, ◌++◌, length, map, take, drop, get_or, refl, sym, ap, ◌∙◌, arith}
+use Rattle.std.proofs.Common.{◌≡◌, ℕ, suc, ◌+◌, ◌-◌, ◌*◌, ◌<◌, ◌≤◌, List, [], ◌∷◌, ◌++◌, length, map, drop, get_or, sym, ap, subst, ◌∙◌, arith}
 use Rattle.std.proofs.Math.Seq.{drop-cons}
+use Rattle.std.specs.List.{All}
+use Rattle.std.proofs.lemmas.List.Elements.{All-head, All-tail}
 use Rattle.std.proofs.lemmas.List.{append-nil, append_assoc, at_drop_all, map-append}
 use Rattle.bl_base.specs.Runs.{MemoryState, memory_of}
 use Rattle.bl_base.specs.declared.run.Pages.{Pages}
 use Rattle.bl_cmd.specs.Steps.{states_from, values_from}
 use Rattle.bl_cmd.specs.declared.definitions.MemoryDef.{MemoryDef}
+use Rattle.bl_seq.specs.Endings.{IsWhole, pages_at}
 
 -- ---- results
 
@@ -30,10 +33,6 @@ module _ (registers : ℕ → ℕ → ℕ) (depth : ℕ) where
       ∙ ap (λ x. values_from registers depth x n) p ∙ ap (λ k. values_from registers depth place k) c
 
 -- ---- memories
-
--- a memory of so many pages whose bytes begin there
-abbrev pub pages_at : List ℕ → ℕ → ℕ → MemoryState
-pages_at space from pages = record { pages = pages; bytes = take (pages * 65536) (drop from space) }
 
 module _ (registers : ℕ → ℕ → ℕ) (space : List ℕ) (memories : List MemoryDef) where
   -- one more memory of those in a row
@@ -62,3 +61,20 @@ module _ (registers : ℕ → ℕ → ℕ) (space : List ℕ) (memories : List M
   states_all list size from i all le e =
       sym (append-nil (map memory_of list))
       ∙ sym (at_drop_all (λ l. map memory_of list ++ states_from registers space (size + i) from l) memories i le) ∙ e
+
+  -- where all memories from one on are whole, it is whole and those behind it are
+  pub whole_next : (size from i : ℕ) (memory d : MemoryDef) → i < length memories → memory ≡ get_or memories i d
+      → All IsWhole (states_from registers space (size + i) from (drop i memories))
+      → IsWhole (pages_at space from (registers 0 (size + i))) × All IsWhole (states_from registers space (size + (i + 1)) (from + memory.reserve * 65536) (drop (i + 1) memories))
+  whole_next size from i memory d lt is all =
+      let place : suc (size + i) ≡ size + (i + 1) = omega arith in
+      let next : suc i ≡ i + 1 = omega arith in
+      let one : MemoryState = pages_at space from (registers 0 (size + i)) in
+      let others : List MemoryState = states_from registers space (suc (size + i)) (from + (get_or memories i d).reserve * 65536) (drop (suc i) memories) in
+      let here : All IsWhole (one ∷ others) = subst (λ l. All IsWhole (states_from registers space (size + i) from l)) (drop-cons memories i d lt) all in (
+        All-head IsWhole one others here,
+        subst (λ j. All IsWhole (states_from registers space (size + (i + 1)) (from + memory.reserve * 65536) (drop j memories))) next
+            (subst (λ p. All IsWhole (states_from registers space p (from + memory.reserve * 65536) (drop (suc i) memories))) place
+            (subst (λ (m : MemoryDef). All IsWhole (states_from registers space (suc (size + i)) (from + m.reserve * 65536) (drop (suc i) memories))) (sym is)
+            (All-tail IsWhole one others here))),
+      )

@@ -1,3 +1,4 @@
+pub mod Endings
 pub mod Filled
 pub mod Layouts
 pub mod Machines

@@ -1,8 +1,6 @@
 -- The machine as a state of the plain run.
-use Rattle.std.specs.Prelude.{◌≡◌, ◌≤◌, ℕ, suc, List, [], ◌∷◌, Option, Some, None, map}
-use Rattle.bl_base.specs.Runs.{MemoryState, Outcome, returned, trapped, Next, goes, ends, stuck, Comes, EndsAfter, outcome_of, memory_of}
-use Rattle.bl_base.specs.declared.run.Pages.{Pages}
-use Rattle.bl_base.specs.declared.run.Run.{Run}
+use Rattle.std.specs.Prelude.{◌≤◌, ℕ, List, Option, Some, None}
+use Rattle.bl_base.specs.Runs.{Outcome, returned, trapped, Next, goes, ends, stuck, Comes, EndsAfter}
 use Rattle.bl_cmd.specs.Layout.{results_of, result, running}
 use Rattle.bl_cmd.specs.Steps.{Plain, values_from, states, plain_step}
 use Rattle.bl_cmd.specs.declared.definitions.ProgramParts.{ProgramParts as Program}

@@ -1,4 +1,4 @@
-//! Plain runs of well-formed programs.
+//! Plain runs of well-formed programs, and the memories at their start.
 #![tactic(auto)]
 
 mod chain;
@@ -11,4 +11,5 @@ mod runs;
 mod space;
 mod state;
 
+pub use opening::first_memories;
 pub use runs::run;

@@ -1,7 +1,8 @@
 //! The machine before the first step.
-ghost use Rattle.std.specs.Prelude.{◌≡◌, ℕ, ◌^◌, ◌<◌, ◌-◌, ◌*◌, ◌++◌, IfOk, OnOk, length, map, replicate};
+ghost use Rattle.std.specs.Prelude.{◌≡◌, ℕ, ◌^◌, ◌<◌, ◌≤◌, ◌+◌, ◌-◌, ◌*◌, ◌++◌, IfOk, OnOk, length, map, replicate};
 ghost use Rattle.std.specs.List.{All};
-ghost use Rattle.bl_base.specs.Bytes.{patched};
+ghost use Rattle.bl_base.specs.Bytes.{patched, write};
+ghost use Rattle.bl_base.specs.Runs.{memory_of};
 ghost use Rattle.bl_cmd.specs.Outcomes.{IsStart, first_memories, first_memory, first_registers, opening, space_of};
 ghost use Rattle.bl_base.specs.Fits.{PatchFits};
 ghost use Rattle.bl_seq.specs.Openings.{LiesInside};
@@ -14,8 +15,8 @@ use crate::layout::Layout;
 use crate::registers::Registers;
 use crate::space::Space;
 use crate::state::Machine;
-use bl_base::{NoMemory, Patch, Start};
-use bl_cmd::{MemoryDef, ProgramParts};
+use bl_base::{List, NoMemory, Pages, Patch, Start};
+use bl_cmd::{MemoryDef, ProgramParts, WellFormed};
 use std::alloc::Global;
 use std::marker::Model;
 
@@ -32,6 +33,56 @@ impl Model for Contents {
     ghost Value = { MemoryState };
 
     ghost view = { λ contents. record { pages = contents.pages; bytes = contents.space } };
+
+    ghost use Rattle.std.specs.Prelude.{◌≡◌, ◌*◌, length};
+
+    ghost invariant = { λ contents. length contents.space ≡ contents.pages * 65536 };
+}
+
+impl Contents {
+    /// Writes the bytes of a patch, which lies inside.
+    fn patch(&mut self, patch: &Patch)
+        requires { patch.now.offset + length patch.now.bytes ≤ length self.old.bytes }
+        ensures { self.new ≡ write self.old patch.now.offset patch.now.bytes }
+    {
+        self.space
+            .overlay(patch.offset as usize, patch.bytes.as_slice());
+    }
+
+    /// The contents as pages; takes no memory.
+    fn into_pages(self) -> Pages
+        ensures { memory_of result ≡ self }
+    {
+        Pages {
+            pages: self.pages,
+            bytes: self.space.into_text(),
+        }
+    }
+}
+
+/// The memories before the first step: their first contents, with the patches of the start. Linear in the memories' pages and the
+/// patches.
+pub fn first_memories(
+    alloc: Global,
+    program: &WellFormed,
+    start: &Start,
+) -> Result<List<Pages>, NoMemory>
+    requires { All (PatchFits (map (λ memory. memory.pages) program.now.memories)) start.now.patches }
+    ensures { IfOk result (λ memories. map memory_of memories ≡ first_memories program.now start.now) }
+{
+    let contents = first_contents(alloc, program.program().parts(), start)?;
+    pages_of(alloc, contents)
+}
+
+/// Contents as pages.
+fn pages_of(alloc: Global, contents: Vec<Contents>) -> Result<List<Pages>, NoMemory>
+    ensures { IfOk result (λ pages. map memory_of pages ≡ contents.items) }
+{
+    let pages = contents
+        .into_iter()
+        .map(|memory| memory.into_pages())
+        .collect(alloc)?;
+    Ok(List::of(pages))
 }
 
 /// The machine at a function's entry with the arguments of the start.
@@ -101,7 +152,7 @@ fn first_space(alloc: Global, parts: &ProgramParts, start: &Start) -> Result<Spa
     requires { All (PatchFits (map (λ memory. memory.pages) parts.now.memories)) start.now.patches }
     ensures { IfOk result (λ space. space ≡ space_of parts.now.memories (first_memories parts.now start.now)) }
 {
-    let memories = first_memories(alloc, parts, start)?;
+    let memories = first_contents(alloc, parts, start)?;
     space_of(alloc, parts.memories.as_slice(), &memories)
 }
 
@@ -120,7 +171,7 @@ fn first_statics(alloc: Global, parts: &ProgramParts) -> Result<Vec<u64>, NoMemo
 }
 
 /// The first contents of the memories, with the patches of the start.
-fn first_memories(
+fn first_contents(
     alloc: Global,
     parts: &ProgramParts,
     start: &Start,
@@ -169,9 +220,7 @@ fn patch_memory(memories: &mut Vec<Contents>, patch: &Patch)
 {
     let number = patch.memory as usize;
     if number < memories.len() {
-        memories[number]
-            .space
-            .overlay(patch.offset as usize, patch.bytes.as_slice());
+        memories[number].patch(patch);
     }
 }
 

@@ -1,15 +1,17 @@
 //! Plain runs.
-ghost use Rattle.std.specs.Prelude.{◌≡◌, ◌*◌, IfOk, drop, map, take};
+ghost use Rattle.std.specs.Prelude.{◌≡◌, ◌*◌, IfOk, map};
+ghost use Rattle.std.specs.List.{All};
 ghost use Rattle.bl_base.specs.Runs.{Tells, memory_of, outcome_of};
 ghost use Rattle.bl_cmd.specs.Outcomes.{IsStart, plain};
 ghost use Rattle.bl_cmd.specs.Steps.{states};
+ghost use Rattle.bl_seq.specs.Endings.{EndsWhole, IsWhole, pages_at};
 ghost use Rattle.bl_seq.specs.Layouts.{IsLayout};
 ghost use Rattle.bl_seq.specs.Machines.{next_of, results_in, shown, told};
 
 use crate::layout::Layout;
 use crate::opening::begin;
 use crate::state::{Machine, Progress};
-use bl_base::{List, NoMemory, Pages, Run, Start, Text};
+use bl_base::{List, NoMemory, Pages, Run, Start};
 use bl_cmd::WellFormed;
 use std::alloc::Global;
 
@@ -38,7 +40,8 @@ fn finish(
     machine: &Machine,
     progress: Progress,
 ) -> Result<Run, NoMemory>
-    requires { IsLayout layout.now }
+    requires layout { IsLayout layout.now }
+    requires whole { EndsWhole (next_of layout.now.parts.now progress (shown machine.now)) }
     ensures { IfOk result (λ run. outcome_of run ≡ told (next_of layout.now.parts.now progress (shown machine.now))) }
 {
     match progress {
@@ -70,7 +73,8 @@ fn results(alloc: Global, layout: &Layout, machine: &Machine) -> Result<List<u64
 
 /// The memories.
 fn memories(alloc: Global, layout: &Layout, machine: &Machine) -> Result<List<Pages>, NoMemory>
-    requires { IsLayout layout.now }
+    requires layout { IsLayout layout.now }
+    requires whole { All IsWhole (states layout.now.parts.now (shown machine.now)) }
     ensures { IfOk result (λ memories. map memory_of memories ≡ states layout.now.parts.now (shown machine.now)) }
 {
     let globals = layout.parts.globals.len();
@@ -86,18 +90,10 @@ fn memories(alloc: Global, layout: &Layout, machine: &Machine) -> Result<List<Pa
 
 /// So many pages from a place on.
 fn copied(alloc: Global, machine: &Machine, pages: u64, from: usize) -> Result<Pages, NoMemory>
-    ensures { IfOk result (λ memory. memory_of memory ≡ record { pages = pages; bytes = take (pages * 65536) (drop from machine.now.space) }) }
+    requires { IsWhole (pages_at machine.now.space from pages) }
+    ensures { IfOk result (λ memory. memory_of memory ≡ pages_at machine.now.space from pages) }
 {
-    let Ok(pages) = u32::try_from(pages) else {
-        return Err(NoMemory);
-    };
-    let bytes = machine.space.as_slice();
-    let count = pages as usize * 65_536;
-    if from > bytes.len() || count > bytes.len() - from {
-        return Err(NoMemory);
-    }
-    Ok(Pages {
-        pages,
-        bytes: Text::of(bytes[from..from + count].to_vec(alloc)?),
-    })
+    let pages = pages as u32;
+    let bytes = machine.space.part(alloc, from, pages as usize * 65_536)?;
+    Ok(Pages { pages, bytes })
 }

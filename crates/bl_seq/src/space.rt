@@ -4,7 +4,7 @@ ghost use Rattle.bl_base.specs.Bytes.{bytes_of, number_of};
 ghost use Rattle.bl_cmd.specs.Steps.{loaded, overlay, stored};
 ghost use Rattle.bl_ops.specs.Access.{is_load, width_of};
 
-use bl_base::NoMemory;
+use bl_base::{NoMemory, Text};
 use bl_ops::{AccessKind, extend, narrow};
 use std::alloc::Global;
 use std::marker::Model;
@@ -45,6 +45,23 @@ impl Space {
         ensures { result.now ≡ self.now }
     {
         &self.bytes
+    }
+
+    /// The bytes, as a text; takes no memory.
+    pub fn into_text(self) -> Text
+        ensures { result ≡ self }
+    {
+        Text::of(self.bytes)
+    }
+
+    /// A copy of so many bytes from a place on, or of those that there are.
+    #[tactic(auto, using(crate::proofs::Spaces::part_is))]
+    pub fn part(&self, alloc: Global, from: usize, count: usize) -> Result<Text, NoMemory>
+        ensures { IfOk result (λ text. text ≡ take count (drop from self.now)) }
+    {
+        let from = from.min(self.bytes.len());
+        let count = count.min(self.bytes.len() - from);
+        Text::copy_of(alloc, &self.bytes[from..from + count])
     }
 
     /// Appends so many zeros.

@@ -1,5 +1,9 @@
-//! Tests over programs and images.
+//! Tests over programs, images and plain runs.
 #![tactic(auto)]
 
 #[cfg(test)]
+mod cmd;
+#[cfg(test)]
 mod image;
+#[cfg(test)]
+mod seq;

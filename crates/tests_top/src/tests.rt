@@ -1,6 +1,7 @@
 mod blocks;
 mod greatest;
 mod interp;
+mod run;
 mod words;
 
 use bl_app::blade;

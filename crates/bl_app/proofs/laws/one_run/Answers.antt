@@ -1,5 +1,9 @@
-use Rattle.bl_app.proofs.InterpLemmas.{one_run}
+use Rattle.bl_app.proofs.InterpLemmas.{one_run as one_of_interp}
+use Rattle.bl_app.proofs.RunLemmas.{one_run as one_of_run}
 use Rattle.bl_app.proofs.laws.one_run.Goals as goal
 
-pub returns : goal.returns
-returns c = one_run
+pub returns-clause-interp : goal.returns-clause-interp
+returns-clause-interp c = one_of_interp
+
+pub returns-clause-run : goal.returns-clause-run
+returns-clause-run c = one_of_run

@@ -4,6 +4,7 @@ use Rattle.bl_app.proofs.CausesLemmas.{causes, was_done}
 use Rattle.bl_app.proofs.CommandLemmas.{done_by_zero, laws_of}
 use Rattle.bl_app.proofs.HardenLemmas.{hardens}
 use Rattle.bl_app.proofs.InterpLemmas.{interprets}
+use Rattle.bl_app.proofs.RunLemmas.{runs}
 use Rattle.bl_app.proofs.top.blade.Goals as goal
 
 pub returns-clause-ends : goal.returns-clause-ends
@@ -20,4 +21,11 @@ returns-clause-interprets g c = λ request asks. record {
   status = c.run.result;
   is_code = c.code.ensures;
   holds = λ deed. interprets request _ _ _ c.run.result asks (was_done job_of laws_of _ _ _ _ c.run.ensures deed);
+}
+
+pub returns-clause-runs : goal.returns-clause-runs
+returns-clause-runs g c = λ request asks. record {
+  status = c.run.result;
+  is_code = c.code.ensures;
+  holds = λ deed. runs request _ _ _ c.run.result asks (was_done job_of laws_of _ _ _ _ c.run.ensures deed);
 }

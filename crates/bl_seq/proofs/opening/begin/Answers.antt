@@ -1,8 +1,4 @@
-use Rattle.std.proofs.Common.{◌≡◌, ap}
-use Rattle.std.proofs.Math.Path.{fun_ext}
-use Rattle.bl_cmd.specs.Layout.{entry_of}
-use Rattle.bl_cmd.specs.Outcomes.{first_registers, opening}
-use Rattle.bl_seq.specs.Filled.{register_at}
+use Rattle.std.proofs.Common.{ap}
 use Rattle.bl_seq.specs.declared.layout.Frame.{Frame}
 use Rattle.bl_seq.proofs.Starting.{opens}
 use Rattle.bl_seq.proofs.opening.begin.Goals as goal

@@ -1,7 +1,9 @@
-use Rattle.std.proofs.Common.{◌≡◌, ◌∙◌}
+use Rattle.std.proofs.Common.{◌≡◌, ◌∙◌, subst, sym}
 use Rattle.bl_seq.specs.Layouts.{IsLayout}
-use Rattle.bl_seq.specs.Machines.{shown}
+use Rattle.bl_cmd.specs.Outcomes.{IsStart}
+use Rattle.bl_seq.specs.Machines.{Leads, next_of, shown}
 use Rattle.bl_seq.proofs.Driving.{told_run}
+use Rattle.bl_seq.proofs.Ending.{ends_whole}
 use Rattle.bl_seq.proofs.runs.run.Goals as goal
 
 pub returns : goal.returns
@@ -10,3 +12,13 @@ returns c =
     told_run c.args.program.now c.args.function c.args.start.now c.args.steps c.requires c.finish.result c.in_ok-layout.layout.parts.now
     (shown c.in_ok-machine.machine) (shown c.drive.new.self) c.in_ok-progress.progress (both.0 ∙ c.parts.ensures.same ∙ c.program.ensures.same)
     c.in_ok-machine.ensures c.in_ok-progress.ensures c.finish.ensures
+
+pub finish-requires-clause-whole : goal.finish-requires-clause-whole
+finish-requires-clause-whole c =
+    let parts = c.in_ok-layout.layout.parts.now in
+    let both : (parts ≡ c.parts.result.now) × IsLayout c.in_ok-layout.layout = c.in_ok-layout.ensures in
+    let same : parts ≡ c.args.program.now = both.0 ∙ c.parts.ensures.same ∙ c.program.ensures.same in
+    let fits = subst (λ p. IsStart p c.args.function c.args.start.now) (sym same) c.requires in
+    let next = next_of parts c.in_ok-progress.progress (shown c.drive.new.self) in
+    ends_whole parts both.1.facts both.1.rules c.args.function c.args.start.now fits c.args.steps next
+    (subst (λ s. Leads parts s c.args.steps next) c.in_ok-machine.ensures c.in_ok-progress.ensures)

@@ -1,4 +1,4 @@
-use Rattle.std.proofs.Common.{◌≡◌, ◌++◌, [], replicate}
+use Rattle.std.proofs.Common.{◌≡◌, ◌++◌, replicate}
 use Rattle.bl_seq.proofs.registers.Leaf.reach.Given as goal
 
 abbrev pub invariant-loop : goal.invariant-loop

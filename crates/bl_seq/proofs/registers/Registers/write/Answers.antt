@@ -1,5 +1,3 @@
-use Rattle.std.proofs.Common.{◌≡◌, ℕ, subst, sym, List}
-use Rattle.std.specs.Prelude.{OnOk, Result, Ok, Err}
 use Rattle.bl_seq.proofs.Filling.{wrote}
 use Rattle.bl_seq.proofs.registers.Registers.write.Goals as goal
 

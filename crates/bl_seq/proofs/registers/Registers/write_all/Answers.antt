@@ -1,4 +1,4 @@
-use Rattle.std.proofs.Common.{◌+◌, drop, arith, ◌∙◌, refl, ap, sym}
+use Rattle.std.proofs.Common.{◌+◌, arith, ◌∙◌, refl, ap, sym}
 use Rattle.std.proofs.lemmas.List.{at_drop_all}
 use Rattle.bl_seq.specs.Filled.{filled, register_at}
 use Rattle.bl_seq.proofs.Filling.{fill_next}

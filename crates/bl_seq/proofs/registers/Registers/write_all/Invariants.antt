@@ -1,4 +1,4 @@
-use Rattle.std.proofs.Common.{◌≡◌, ℕ, ◌+◌, drop}
+use Rattle.std.proofs.Common.{◌≡◌, ◌+◌, drop}
 use Rattle.bl_seq.specs.Filled.{filled, register_at}
 use Rattle.bl_seq.proofs.registers.Registers.write_all.Given as goal
 

@@ -1,4 +1,4 @@
-use Rattle.std.proofs.Common.{◌+◌, drop, arith, ◌∙◌, refl, sym, ap, subst}
+use Rattle.std.proofs.Common.{◌+◌, drop, arith, ◌∙◌, refl, sym, ap}
 use Rattle.std.proofs.lemmas.List.{at_drop_all}
 use Rattle.bl_cmd.specs.Steps.{overlay}
 use Rattle.bl_seq.proofs.Spaces.{overlay_more, overlay_none}

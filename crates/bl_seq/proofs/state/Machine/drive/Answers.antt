@@ -1,6 +1,5 @@
-use Rattle.std.proofs.Common.{◌+◌, ◌∙◌, ap, arith}
+use Rattle.std.proofs.Common.{◌∙◌, ap, arith}
 use Rattle.bl_seq.specs.Machines.{next_of, shown}
-use Rattle.bl_seq.specs.declared.state.Progress.TheVariants.{Running, Returned, Trapped, Stuck}
 use Rattle.bl_seq.proofs.Driving.{goes_on, has_ended, is_stuck}
 use Rattle.bl_seq.proofs.state.Machine.drive.Goals as goal
 

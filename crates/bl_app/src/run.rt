@@ -1,0 +1,98 @@
+//! `run`: from an image's bytes and a start file's to the text of the outcome of a plain run.
+ghost use Rattle.std.specs.Prelude.{◌≡◌, ◌∷◌, [], None, IfOk, map};
+ghost use Rattle.bl_cmd.specs.Outcomes.{IsStart};
+ghost use Rattle.bl_app.specs.Executing.{run_job};
+ghost use Rattle.bl_app.specs.Jobs.{AreRead};
+ghost use Rattle.bl_app.specs.Words.{run_in};
+ghost use Rattle.bl_app.specs.Working.{IsPlainTold, IsWork, contents_in, entered_in, entry_in, read_in};
+
+use crate::entry::{Entry, find_entry, read_entry_start, read_image};
+use crate::job::{Plan, Read};
+use crate::outcome::{outcome_status, outcome_text};
+use crate::refusal::{Refusal, WorkError};
+use crate::words::RunWords;
+use bl_base::{NoMemory, Quantity, Start};
+use bl_cmd::WellFormed;
+use bl_seq::{first_memories, run};
+use std::alloc::Global;
+
+/// The files that `run` reads: the image, and then the start file.
+pub fn run_reads<'a>(alloc: Global, words: &RunWords<'a>) -> Result<Vec<Read<'a>>, NoMemory>
+    ensures { IfOk result (λ reads. map read_in reads.items ≡ (run_job (run_in words.now)).reads) }
+{
+    let mut reads = Vec::new(alloc);
+    reads.push(Read {
+        name: words.image,
+        quantity: Quantity::Image,
+    })?;
+    reads.push(Read {
+        name: words.start,
+        quantity: Quantity::Start,
+    })?;
+    Ok(reads)
+}
+
+/// Printing the outcome of an exported function of an image's program from a start file's bytes; Refused exactly where these are
+/// refused. Linear in the bytes and in the steps, but for what the check of a program takes.
+pub fn execute<'a>(
+    alloc: Global,
+    words: &RunWords<'a>,
+    contents: &[Vec<u8>],
+) -> Result<Plan<'a>, WorkError<'a>>
+    requires { AreRead None (run_job (run_in words.now)).reads (contents_in contents.now) }
+    ensures { IsWork (run_job (run_in words.now)) (contents_in contents.now) result }
+{
+    let [image, start] = contents else {
+        unreachable!()
+    };
+    execute_image(alloc, words, image, start)
+}
+
+/// The same, by the bytes of the image and those of the start file.
+fn execute_image<'a>(
+    alloc: Global,
+    words: &RunWords<'a>,
+    image: &[u8],
+    start: &[u8],
+) -> Result<Plan<'a>, WorkError<'a>>
+    ensures { IsWork (run_job (run_in words.now)) (image.now ∷ start.now ∷ []) result }
+{
+    let program = match read_image(alloc, image) {
+        Ok(program) => program,
+        Err(error) => return Err(error),
+    };
+    let Some(entry) = find_entry(&program, words.export) else {
+        return Err(WorkError::Refused(Refusal::NoExport));
+    };
+    let start = match read_entry_start(alloc, &program, &entry, start) {
+        Ok(start) => start,
+        Err(error) => return Err(error),
+    };
+    match tell(alloc, &program, &entry, &start, words.steps) {
+        Ok(plan) => Ok(plan),
+        Err(NoMemory) => Err(WorkError::Memory),
+    }
+}
+
+/// Runs a function from its start: printing the outcome within so many steps. Linear in the program and in the steps.
+fn tell<'a>(
+    alloc: Global,
+    program: &WellFormed,
+    entry: &Entry<'_>,
+    start: &Start,
+    steps: u64,
+) -> Result<Plan<'a>, NoMemory>
+    requires { IsStart program.now entry.now.function start.now }
+    ensures { IfOk result (λ plan. IsPlainTold (entered_in (entry_in program.now entry.now) start.now) steps plan) }
+{
+    let run = run(alloc, program, entry.function, start, steps)?;
+    let opening = first_memories(alloc, program, start)?;
+    let kinds = entry.defined.results.as_slice();
+    let text = outcome_text(alloc, kinds, opening.as_slice(), steps, &run)?;
+    let status = outcome_status(&run);
+    Ok(Plan {
+        status,
+        keeps: Vec::new(alloc),
+        text,
+    })
+}

@@ -1,0 +1,97 @@
+//! What plain runs come to.
+ghost use Rattle.std.specs.Prelude.{◌≡◌, IfOk, IsTrue, map};
+ghost use Rattle.bl_cmd.specs.Outcomes.{IsStart};
+ghost use Rattle.bl_cmd.specs.declared.definitions.MemoryDef.{MemoryDef};
+ghost use Rattle.bl_cmd.specs.declared.definitions.ParamDef.{ParamDef};
+
+use crate::image::{INC, LOADS};
+use bl_base::{List, NoMemory, Run, Start, Trap, ValueType, fits};
+use bl_cmd::{FunctionDef, ProgramParts, WellFormed};
+use bl_image::decode_image;
+use bl_seq::run;
+use std::alloc::Global;
+use std::test::Fail;
+
+/// The types of a function's parameters.
+fn kinds_of(alloc: Global, defined: &FunctionDef) -> Result<Vec<ValueType>, NoMemory>
+    ensures { IfOk result (λ kinds. kinds.items ≡ map (λ (param : ParamDef). param.kind) defined.now.params) }
+{
+    let mut kinds = Vec::new(alloc);
+    for param in defined.params.as_slice() {
+        kinds.push(param.kind)?;
+    }
+    Ok(kinds)
+}
+
+/// The first pages of a program's memories.
+fn pages_of(alloc: Global, parts: &ProgramParts) -> Result<Vec<u32>, NoMemory>
+    ensures { IfOk result (λ pages. pages.items ≡ map (λ (memory : MemoryDef). memory.pages) parts.now.memories) }
+{
+    let mut pages = Vec::new(alloc);
+    for memory in parts.memories.as_slice() {
+        pages.push(memory.pages)?;
+    }
+    Ok(pages)
+}
+
+/// Whether a start fits the function of that number.
+fn is_start(
+    alloc: Global,
+    program: &WellFormed,
+    function: u32,
+    start: &Start,
+) -> Result<bool, NoMemory>
+    ensures { IfOk result (λ yes. IsTrue yes → IsStart program.now function start.now) }
+{
+    let parts = program.program().parts();
+    let Some(defined) = parts.functions.as_slice().get(function as usize) else {
+        return Ok(false);
+    };
+    let kinds = kinds_of(alloc, defined)?;
+    let pages = pages_of(alloc, parts)?;
+    Ok(fits(kinds.as_slice(), pages.as_slice(), start))
+}
+
+/// The outcome of the first function of an image's program, from a start of one argument; None where the start doesn't fit.
+fn outcome(alloc: Global, image: &[u8], argument: u64, steps: u64) -> Result<Option<Run>, Fail> {
+    let program = decode_image(alloc, image)?;
+    let mut start = Start {
+        args: List::new(alloc),
+        patches: List::new(alloc),
+    };
+    start.args.push(argument)?;
+    if !is_start(alloc, &program, 0, &start)? {
+        return Ok(None);
+    }
+    Ok(Some(run(alloc, &program, 0, &start, steps)?))
+}
+
+#[test]
+fn a_run_returns_within_its_steps(rt: HostRuntime) -> Result<(), Fail> {
+    let alloc = rt.alloc();
+    let Some(Run::Returned { values, memories }) = outcome(alloc, &INC, 4_294_967_295, 6)? else {
+        panic!(rt; "the run doesn't return");
+    };
+    assert_eq!(rt; values.as_slice(), [0].as_slice());
+    assert!(rt; memories.is_empty());
+    let spent = outcome(alloc, &INC, 4_294_967_295, 5)?;
+    assert!(rt; matches!(&spent, Some(Run::Spent)));
+    let unfit = outcome(alloc, &INC, 4_294_967_296, 5)?;
+    assert!(rt; unfit.is_none());
+    Ok(())
+}
+
+#[test]
+fn a_run_traps_where_an_access_leaves_its_memory(rt: HostRuntime) -> Result<(), Fail> {
+    let found = outcome(rt.alloc(), &LOADS, 65_533, 100)?;
+    let Some(Run::Trapped { kind, memories }) = found else {
+        panic!(rt; "the run doesn't trap");
+    };
+    assert_eq!(rt; kind, Trap::OutOfBounds);
+    let [memory] = memories.as_slice() else {
+        panic!(rt; "there is one memory");
+    };
+    assert_eq!(rt; memory.pages, 1);
+    assert_eq!(rt; memory.bytes.len(), 65_536);
+    Ok(())
+}
