@@ -3,7 +3,7 @@ use Rattle.bl_base.specs.Runs.{memory_of}
 use Rattle.bl_cmd.specs.Layout.{sum_before}
 use Rattle.bl_cmd.specs.declared.definitions.MemoryDef.{MemoryDef}
 use Rattle.bl_cmd.proofs.Layouts.{sum_up}
-use Rattle.bl_seq.specs.Machines.{shown}
+use Rattle.bl_seq.specs.Filled.{register_at}
 use Rattle.bl_seq.proofs.Laying.{sum_next}
 use Rattle.bl_seq.proofs.Telling.{pages_at, states_next, states_all}
 use Rattle.bl_seq.proofs.runs.memories.Goals as goal
@@ -28,11 +28,11 @@ loop-number-preserved c =
     let is : c.memory-item.result ≡ get_or memories c.loop-number.number c.memory-item.result = cc in
     let next = sum_next (λ (m : MemoryDef). m.reserve) memories c.loop-number.number c.memory-item.result lt in
     let same = ap (λ (m : MemoryDef). m.reserve) is in
-    let state : memory_of c.in_ok-copied.field-0 ≡ pages_at c.args.machine.now.space c.loop-number.from c.at-pages.result = c.in_ok-copied.ensures in
+    let state : memory_of c.in_ok-copied.field-0 ≡ pages_at c.args.space.now c.loop-number.from c.at-pages.result = c.in_ok-copied.ensures in
     record {
-      all = states_next (shown c.args.machine.now).registers c.args.machine.now.space memories c.loop-number.memories c.push.new.self c.in_ok-copied.field-0
+      all = states_next (λ depth x. register_at c.args.registers.now depth x) c.args.space.now memories c.loop-number.memories c.push.new.self c.in_ok-copied.field-0
           c.len-globals.result c.loop-number.from c.loop-number.number c.memory-item.result c.memory-item.result lt is c.in_ok-push.ensures.ok
-          (state ∙ ap (λ n. pages_at c.args.machine.now.space c.loop-number.from n) c.at-pages.ensures)
+          (state ∙ ap (λ n. pages_at c.args.space.now c.loop-number.from n) c.at-pages.ensures)
           ∙ c.loop-number.invariant.all;
       from = omega arith;
     }
@@ -40,5 +40,5 @@ loop-number-preserved c =
 pub returns : goal.returns
 returns c =
     let le : length c.args.layout.now.parts.now.memories ≤ c.loop-number.number = omega (arith, ap length c.as_slice-memory-items.ensures) in
-    states_all (shown c.args.machine.now).registers c.args.machine.now.space c.args.layout.now.parts.now.memories c.loop-number.memories c.len-globals.result
+    states_all (λ depth x. register_at c.args.registers.now depth x) c.args.space.now c.args.layout.now.parts.now.memories c.loop-number.memories c.len-globals.result
     c.loop-number.from c.loop-number.number _ le c.loop-number.invariant.all

@@ -1,0 +1,4 @@
+pub mod Machines
+pub mod Observed
+pub mod Robs
+pub mod Answers

@@ -1,0 +1,211 @@
+//! Fetching and predicting.
+ghost use Rattle.std.specs.Prelude.{◌≡◌, ◌≤◌, ◌<◌, ◌^◌, None, Some, length, slice_get};
+ghost use Rattle.bl_cmd.specs.Layout.{entry_of};
+ghost use Rattle.bl_cmd.specs.Programs.{IsCommand};
+ghost use Rattle.bl_seq.specs.Layouts.{IsLayout};
+ghost use Rattle.bl_rob.specs.Answers.{Comes_by, shown};
+ghost use Rattle.bl_rob.specs.Machines.{before, fetch, fetched, moved, predict, register_of, source_of};
+
+use crate::directive::{End, Observation, StepError};
+use crate::entry::{Entry, LoadKind, Register, Source, Work};
+use crate::machine::Machine;
+use bl_base::{NoMemory, Pos, Trap, Var};
+use bl_cmd::{Command, Operand};
+use bl_ops::{AccessKind, Op};
+use bl_seq::Layout;
+use std::alloc::Global;
+
+/// The most calls that are open at once, the run's own function included.
+const MOST_CALLS: u32 = 1_024;
+
+/// A variable as a frame of that depth finds it.
+fn register_of(layout: &Layout, depth: u32, x: Var) -> Register
+    requires { IsLayout layout.now }
+    ensures { result ≡ register_of layout.now.parts.now depth x.0 }
+{
+    let var = x.0 as usize;
+    Register {
+        depth: layout.held(depth as usize, var) as u32,
+        var,
+    }
+}
+
+/// An operand in a frame of that depth.
+fn source_of(layout: &Layout, depth: u32, operand: Operand) -> Source
+    requires { IsLayout layout.now }
+    ensures { result ≡ source_of layout.now.parts.now depth operand }
+{
+    match operand {
+        Operand::Const(number) => Source::Const(number),
+        Operand::Var(x) => Source::Holds(register_of(layout, depth, x)),
+    }
+}
+
+/// An assignment of a value to a variable at a depth.
+fn moved(protect: bool, depth: u32, var: usize, value: Source) -> Work
+    ensures { result ≡ moved protect depth var value }
+{
+    Work::Assign {
+        protect,
+        op: Op::Move,
+        to: Register { depth, var },
+        a: value,
+        b: Source::Const(0),
+        c: Source::Const(0),
+    }
+}
+
+/// The position of a function's entry.
+pub fn entry_of(layout: &Layout, function: u32) -> u32
+    requires { IsLayout layout.now }
+    ensures { result ≡ entry_of layout.now.parts.now function }
+{
+    layout.frame(function).entry as u32
+}
+
+impl Machine {
+    /// The command at the front end; None where a buffer of at most that many entries has no room, where the front end has
+    /// ended, and where there is no command.
+    pub fn next(&self, layout: &Layout, most: usize) -> Option<Command>
+    {
+        if self.entries.len() >= most || self.front.end.is_some() {
+            return None;
+        }
+        layout.parts.commands.as_slice().get(self.front.position as usize).copied()
+    }
+
+    /// Whether there is such a command, and it is a Test or isn't.
+    pub fn may_fetch(&self, layout: &Layout, most: usize, test: bool) -> bool
+    {
+        match self.next(layout, most) {
+            Some(command) => matches!(command, Command::Test { .. }) == test,
+            None => false,
+        }
+    }
+
+    /// Fetches the command at the front end, into a buffer of at most that many entries.
+    pub fn fetch(&mut self, layout: &Layout, most: usize) -> Result<Observation, StepError>
+        requires { IsLayout layout.now }
+    {
+        let Some(command) = self.next(layout, most) else {
+            return Err(StepError::NotEnabled);
+        };
+        let Some(work) = self.work_of(layout, command) else {
+            return Err(StepError::NotEnabled);
+        };
+        self.push(work)?;
+        match self.advance(layout, command) {
+            Ok(()) => Ok(Observation::Nothing),
+            Err(NoMemory) => {
+                self.entries.pop();
+                Err(StepError::Memory)
+            }
+        }
+    }
+
+    /// Appends an entry of the command at the front end.
+    fn push(&mut self, work: Work) -> Result<(), NoMemory> {
+        self.entries.push(Entry {
+            position: self.front.position,
+            work,
+        })?;
+        Ok(())
+    }
+
+    /// What the command at the front end becomes; None where it is a Test.
+    fn work_of(&self, layout: &Layout, command: Command) -> Option<Work>
+    {
+        let depth = self.front.chain.depth();
+        match command {
+            Command::Set { mark, op, to, a, b, c } => Some(Work::Assign {
+                protect: mark.protect,
+                op,
+                to: register_of(layout, depth, to),
+                a: source_of(layout, depth, a),
+                b: source_of(layout, depth, b),
+                c: source_of(layout, depth, c),
+            }),
+            Command::Load { mark, kind, memory, to, offset, address } => Some(Work::Load {
+                protect: mark.protect,
+                kind: LoadKind::of(kind),
+                memory,
+                to: register_of(layout, depth, to),
+                offset,
+                address: source_of(layout, depth, address),
+            }),
+            Command::Store { kind, memory, offset, address, value } => Some(Work::Store {
+                kind,
+                memory,
+                offset,
+                address: source_of(layout, depth, address),
+                value: source_of(layout, depth, value),
+            }),
+            Command::Test { .. } => None,
+            Command::Jump { .. } | Command::Ret => Some(Work::Nop),
+            Command::Arg { mark, function, index, value } => {
+                let var = layout.frame(function).first + index as usize;
+                Some(moved(mark.protect, depth + 1, var, source_of(layout, depth, value)))
+            }
+            Command::Call { .. } => {
+                if depth < MOST_CALLS {
+                    Some(Work::Nop)
+                } else {
+                    Some(Work::Fail(Trap::StackExhausted))
+                }
+            }
+            Command::Out { mark, index, value } => {
+                let var = layout.result(self.front.position as usize, index);
+                Some(moved(mark.protect, depth - 1, var, source_of(layout, depth, value)))
+            }
+            Command::Trap { kind } => Some(Work::Fail(kind)),
+        }
+    }
+
+    /// Moves the front end to where the command there goes.
+    fn advance(&mut self, layout: &Layout, command: Command) -> Result<(), NoMemory>
+    {
+        match command {
+            Command::Jump { to } => self.front.go_to(to.0),
+            Command::Call { function } => return self.call(layout, function),
+            Command::Ret => self.front.leave(),
+            Command::Trap { kind } => self.front.end_with(End::Trapped(kind)),
+            Command::Set { .. }
+            | Command::Load { .. }
+            | Command::Store { .. }
+            | Command::Test { .. }
+            | Command::Arg { .. }
+            | Command::Out { .. } => self.front.go_to(self.front.position + 1),
+        }
+        Ok(())
+    }
+
+    /// Moves the front end into a function, or ends it where too many calls are open.
+    fn call(&mut self, layout: &Layout, function: u32) -> Result<(), NoMemory>
+    {
+        if self.front.chain.depth() < MOST_CALLS {
+            self.front.call(entry_of(layout, function))
+        } else {
+            self.front.end_with(End::Trapped(Trap::StackExhausted));
+            Ok(())
+        }
+    }
+
+    /// Fetches the Test at the front end as a guard that predicts where it goes.
+    pub fn predict(&mut self, alloc: Global, layout: &Layout, most: usize, predicted: bool) -> Result<Observation, StepError>
+        requires { IsLayout layout.now }
+    {
+        let Some(Command::Test { cond, yes, no }) = self.next(layout, most) else {
+            return Err(StepError::NotEnabled);
+        };
+        let (taken, other) = if predicted { (yes, no) } else { (no, yes) };
+        let work = Work::Guard {
+            cond: source_of(layout, self.front.chain.depth(), cond),
+            predicted,
+            other: other.0,
+            chain: self.front.chain.copied(alloc)?,
+        };
+        self.push(work)?;
+        self.front.go_to(taken.0);
+        Ok(Observation::Nothing)
+    }
+}
