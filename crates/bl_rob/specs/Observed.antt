@@ -83,9 +83,9 @@ IsConsistent program from s = IsConsistent_by program from s (end_in s)
 -- two ended machines hold the same globals that are demanded to be public, and, where they have returned, the same results of
 -- the function that are
 pub record MeetDemands (program : Program) (function : ℕ) (one other : State) : Type 0 where
-  pub globals : (x : ℕ) → Contains (demand.Global x) program.demands → one.registers 0 x ≡ other.registers 0 x
+  pub globals : (x : ℕ) → Contains program.demands (demand.Global x) → one.registers 0 x ≡ other.registers 0 x
   pub results : end_in one ≡ Some ending.Returned → end_in other ≡ Some ending.Returned
-      → (index : ℕ) → Contains (demand.Result function index) program.demands
+      → (index : ℕ) → Contains program.demands (demand.Result function index)
       → one.registers 0 (result program function index) ≡ other.registers 0 (result program function index)
 
 -- where both machines have ended
