@@ -1,10 +1,12 @@
 -- What the calls of the machine answer.
-use Rattle.std.specs.Prelude.{◌≡◌, ℕ, Bool, true, false, IsSome, List, Option, Some, None, option_map, Result, Ok, Err}
+use Rattle.std.specs.Prelude.{◌≡◌, ℕ, Bool, true, false, if◌then◌else◌, IsSome, List, Option, Some, None, option_map, slice_get, take, Result, Ok, Err}
 use Rattle.bl_base.specs.Runs.{Outcome, outcome_of}
 use Rattle.bl_base.specs.declared.run.Run.{Run}
+use Rattle.bl_cmd.specs.Layout.{command_at}
+use Rattle.bl_cmd.specs.declared.command.Command.{Command}
 use Rattle.bl_cmd.specs.declared.definitions.ProgramParts.{ProgramParts as Program}
 use Rattle.bl_seq.specs.Filled.{register_at}
-use Rattle.bl_rob.specs.Machines.{State, directive_step, end_in, outcome_by}
+use Rattle.bl_rob.specs.Machines.{State, Fetched, Straight, Branch, Nowhere, has_room, act, turned, exec_entry, directive_step, end_in, outcome_by}
 use Rattle.bl_rob.specs.declared.directive.Directive.{Directive}
 use Rattle.bl_rob.specs.declared.directive.Directive.TheVariants.{Fetch, Predict, Exec, Retire}
 use Rattle.bl_rob.specs.declared.directive.End.{End}
@@ -13,6 +15,8 @@ use Rattle.bl_rob.specs.declared.directive.Kind.TheVariants as kind
 use Rattle.bl_rob.specs.declared.directive.Observation.{Observation}
 use Rattle.bl_rob.specs.declared.directive.StepError.{StepError}
 use Rattle.bl_rob.specs.declared.directive.StepError.TheVariants.{NotEnabled, Memory}
+use Rattle.bl_rob.specs.declared.entry.Act.{Act}
+use Rattle.bl_rob.specs.declared.entry.Act.TheVariants.{Idle}
 use Rattle.bl_rob.specs.declared.entry.Entry.{Entry}
 use Rattle.bl_rob.specs.declared.entry.Work.{Work}
 use Rattle.bl_rob.specs.declared.entry.Work.TheVariants.{Nop, Assign, Load, Held, Done, Store, Ready, Guard, Fail}
@@ -46,6 +50,44 @@ Comes_by step needs old (Err Memory) new = needs × (new ≡ old)
 
 abbrev pub Steps : ℕ → Program → Directive → State → Result Observation StepError → State → Type 0
 Steps most program d old result new = Comes_by (directive_step most program old d) (NeedsMemory d) old result new
+
+-- what executing an entry has come to, where None says that it isn't enabled
+abbrev pub Executes : Program → ℕ → State → Option Observation → State → Type 0
+Executes program n old None new = (exec_entry program n old (slice_get old.buffer n) ≡ None) × (new ≡ old)
+Executes program n old (Some observation) new = exec_entry program n old (slice_get old.buffer n) ≡ Some (new, observation)
+
+-- what an entry comes to, where there is one
+abbrev pub act_by : Program → State → ℕ → Option Entry → Act
+act_by program s n None = Idle
+act_by program s n (Some entry) = act program s.registers s.space (take n s.buffer) entry.work
+
+abbrev pub act_at : Program → State → ℕ → Act
+act_at program s n = act_by program s n (slice_get s.buffer n)
+
+-- the machine behind a guard that was wrong
+abbrev pub turned_at : ℕ → State → Option Entry → State
+turned_at n s None = s
+turned_at n s (Some entry) = turned n entry.position entry.work s
+
+-- the command at the front end, unless that has ended
+abbrev pub command_from : Program → Front → Option End → Option Command
+command_from program front None = command_at program front.position
+command_from program front (Some end) = None
+
+-- the command that is fetched next, where the buffer has room for one more of at most so many entries
+abbrev pub next_command : ℕ → Program → State → Option Command
+next_command most program s = if has_room most s then command_from program s.front s.front.end else None
+
+-- what is appended, and where the front end goes
+abbrev pub work_in : Fetched → Option Work
+work_in (Straight work front) = Some work
+work_in (Branch cond one other) = None
+work_in Nowhere = None
+
+abbrev pub front_in : Front → Fetched → Front
+front_in old (Straight work front) = front
+front_in old (Branch cond one other) = old
+front_in old Nowhere = old
 
 -- a directive is enabled
 abbrev pub is_some : {A : Type 0} → Option A → Bool

@@ -1,10 +1,12 @@
 //! Fetching and predicting.
-ghost use Rattle.std.specs.Prelude.{◌≡◌, ◌≤◌, ◌<◌, ◌^◌, None, Some, length, slice_get};
+ghost use Rattle.std.specs.Prelude.{◌≡◌, ◌≤◌, ◌<◌, ◌++◌, ◌∷◌, [], ℕ, Bool, List, suc, None, OnErr, OnOk, Some, length};
 ghost use Rattle.bl_cmd.specs.Layout.{entry_of};
 ghost use Rattle.bl_cmd.specs.Programs.{IsCommand};
+ghost use Rattle.bl_cmd.specs.declared.definitions.ProgramParts.{ProgramParts};
 ghost use Rattle.bl_seq.specs.Layouts.{IsLayout};
-ghost use Rattle.bl_rob.specs.Answers.{Comes_by, shown};
-ghost use Rattle.bl_rob.specs.Machines.{before, fetch, fetched, moved, predict, register_of, source_of};
+ghost use Rattle.bl_rob.specs.Answers.{Steps, front_in, is_enabled, next_command, shown, work_in};
+ghost use Rattle.bl_rob.specs.Machines.{called, fetched, moved, register_of, source_of};
+ghost use Rattle.bl_rob.specs.declared.directive.Directive.TheVariants.{Fetch, Predict};
 
 use crate::directive::{End, Observation, StepError};
 use crate::entry::{Entry, LoadKind, Register, Source, Work};
@@ -25,7 +27,7 @@ fn register_of(layout: &Layout, depth: u32, x: Var) -> Register
 {
     let var = x.0 as usize;
     Register {
-        depth: layout.held(depth as usize, var) as u32,
+        depth: if var < layout.statics { 0 } else { depth },
         var,
     }
 }
@@ -55,6 +57,18 @@ fn moved(protect: bool, depth: u32, var: usize, value: Source) -> Work
     }
 }
 
+/// What a call at a depth becomes.
+fn called(depth: u32) -> Work
+    ensures { (program : ProgramParts) (function position : ℕ) (chain : List ℕ) → depth ≡ suc (length chain)
+        → Some result ≡ work_in (called program function position chain) }
+{
+    if depth < MOST_CALLS {
+        Work::Nop
+    } else {
+        Work::Fail(Trap::StackExhausted)
+    }
+}
+
 /// The position of a function's entry.
 pub fn entry_of(layout: &Layout, function: u32) -> u32
     requires { IsLayout layout.now }
@@ -67,6 +81,7 @@ impl Machine {
     /// The command at the front end; None where a buffer of at most that many entries has no room, where the front end has
     /// ended, and where there is no command.
     pub fn next(&self, layout: &Layout, most: usize) -> Option<Command>
+        ensures { result ≡ next_command most layout.now.parts.now (shown self.now) }
     {
         if self.entries.len() >= most || self.front.end.is_some() {
             return None;
@@ -74,11 +89,22 @@ impl Machine {
         layout.parts.commands.as_slice().get(self.front.position as usize).copied()
     }
 
-    /// Whether there is such a command, and it is a Test or isn't.
-    pub fn may_fetch(&self, layout: &Layout, most: usize, test: bool) -> bool
+    /// Whether there is such a command, and it isn't a Test.
+    pub fn may_fetch(&self, layout: &Layout, most: usize) -> bool
+        ensures { result ≡ is_enabled most layout.now.parts.now (shown self.now) Fetch }
     {
         match self.next(layout, most) {
-            Some(command) => matches!(command, Command::Test { .. }) == test,
+            Some(command) => !matches!(command, Command::Test { .. }),
+            None => false,
+        }
+    }
+
+    /// Whether there is such a command, and it is a Test.
+    pub fn may_predict(&self, layout: &Layout, most: usize) -> bool
+        ensures { (predicted : Bool) → result ≡ is_enabled most layout.now.parts.now (shown self.now) (Predict predicted) }
+    {
+        match self.next(layout, most) {
+            Some(command) => matches!(command, Command::Test { .. }),
             None => false,
         }
     }
@@ -86,6 +112,7 @@ impl Machine {
     /// Fetches the command at the front end, into a buffer of at most that many entries.
     pub fn fetch(&mut self, layout: &Layout, most: usize) -> Result<Observation, StepError>
         requires { IsLayout layout.now }
+        ensures { Steps most layout.now.parts.now Fetch (shown self.old) result (shown self.new) }
     {
         let Some(command) = self.next(layout, most) else {
             return Err(StepError::NotEnabled);
@@ -104,7 +131,11 @@ impl Machine {
     }
 
     /// Appends an entry of the command at the front end.
-    fn push(&mut self, work: Work) -> Result<(), NoMemory> {
+    fn push(&mut self, work: Work) -> Result<(), NoMemory>
+        ensures ok { OnOk result (shown self.new ≡ record (shown self.old)
+            { buffer = self.old.entries.items ++ (record { position = self.old.front.position; work = work } ∷ []) }) }
+        ensures err { OnErr result (shown self.new ≡ shown self.old) }
+    {
         self.entries.push(Entry {
             position: self.front.position,
             work,
@@ -114,6 +145,9 @@ impl Machine {
 
     /// What the command at the front end becomes; None where it is a Test.
     fn work_of(&self, layout: &Layout, command: Command) -> Option<Work>
+        requires layout { IsLayout layout.now }
+        requires command { IsCommand command }
+        ensures { result ≡ work_in (fetched layout.now.parts.now self.now.front.position self.now.front.chain (Some command)) }
     {
         let depth = self.front.chain.depth();
         match command {
@@ -146,13 +180,7 @@ impl Machine {
                 let var = layout.frame(function).first + index as usize;
                 Some(moved(mark.protect, depth + 1, var, source_of(layout, depth, value)))
             }
-            Command::Call { .. } => {
-                if depth < MOST_CALLS {
-                    Some(Work::Nop)
-                } else {
-                    Some(Work::Fail(Trap::StackExhausted))
-                }
-            }
+            Command::Call { .. } => Some(called(depth)),
             Command::Out { mark, index, value } => {
                 let var = layout.result(self.front.position as usize, index);
                 Some(moved(mark.protect, depth - 1, var, source_of(layout, depth, value)))
@@ -161,18 +189,24 @@ impl Machine {
         }
     }
 
-    /// Moves the front end to where the command there goes.
+    /// Moves the front end to where the command there goes; a Test leaves it. A refusal leaves the machine as it was.
     fn advance(&mut self, layout: &Layout, command: Command) -> Result<(), NoMemory>
+        requires layout { IsLayout layout.now }
+        requires running { self.old.front.end ≡ None }
+        requires within { self.old.front.position < length layout.now.parts.now.commands }
+        ensures ok { OnOk result (shown self.new ≡ record (shown self.old)
+            { front = front_in self.old.front (fetched layout.now.parts.now self.old.front.position self.old.front.chain (Some command)) }) }
+        ensures err { OnErr result (shown self.new ≡ shown self.old) }
     {
         match command {
             Command::Jump { to } => self.front.go_to(to.0),
             Command::Call { function } => return self.call(layout, function),
             Command::Ret => self.front.leave(),
             Command::Trap { kind } => self.front.end_with(End::Trapped(kind)),
+            Command::Test { .. } => {}
             Command::Set { .. }
             | Command::Load { .. }
             | Command::Store { .. }
-            | Command::Test { .. }
             | Command::Arg { .. }
             | Command::Out { .. } => self.front.go_to(self.front.position + 1),
         }
@@ -181,6 +215,12 @@ impl Machine {
 
     /// Moves the front end into a function, or ends it where too many calls are open.
     fn call(&mut self, layout: &Layout, function: u32) -> Result<(), NoMemory>
+        requires layout { IsLayout layout.now }
+        requires running { self.old.front.end ≡ None }
+        requires within { self.old.front.position < length layout.now.parts.now.commands }
+        ensures ok { OnOk result (shown self.new ≡ record (shown self.old)
+            { front = front_in self.old.front (called layout.now.parts.now function self.old.front.position self.old.front.chain) }) }
+        ensures err { OnErr result (shown self.new ≡ shown self.old) }
     {
         if self.front.chain.depth() < MOST_CALLS {
             self.front.call(entry_of(layout, function))
@@ -193,6 +233,7 @@ impl Machine {
     /// Fetches the Test at the front end as a guard that predicts where it goes.
     pub fn predict(&mut self, alloc: Global, layout: &Layout, most: usize, predicted: bool) -> Result<Observation, StepError>
         requires { IsLayout layout.now }
+        ensures { Steps most layout.now.parts.now (Predict predicted) (shown self.old) result (shown self.new) }
     {
         let Some(Command::Test { cond, yes, no }) = self.next(layout, most) else {
             return Err(StepError::NotEnabled);

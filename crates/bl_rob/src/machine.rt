@@ -1,14 +1,13 @@
 //! The machine between two steps, and what executing an entry of it comes to.
-ghost use Rattle.std.specs.Prelude.{◌≡◌, ◌≤◌, ◌<◌, ◌^◌, Some, length, option_map, slice_get, take};
+ghost use Rattle.std.specs.Prelude.{◌≡◌, ◌≤◌, ◌<◌, ◌^◌, length};
 ghost use Rattle.bl_cmd.specs.Sites.{is_division};
-ghost use Rattle.bl_cmd.specs.Steps.{effective, loaded};
-ghost use Rattle.bl_seq.specs.Filled.{register_at};
+ghost use Rattle.bl_cmd.specs.Steps.{effective};
 ghost use Rattle.bl_seq.specs.Layouts.{IsLayout};
-ghost use Rattle.bl_rob.specs.Answers.{shown};
-ghost use Rattle.bl_rob.specs.Machines.{act, assigns, frees, guards, has_guard, has_store, judges, loads, stores, valued, visible_of};
+ghost use Rattle.bl_rob.specs.Answers.{act_at, shown};
+ghost use Rattle.bl_rob.specs.Machines.{act, assigns, frees, guards, has_guard, has_store, judges, loads, stores, valued};
 
 use crate::directive::Observation;
-use crate::entry::{Act, Entry, LoadKind, Register, Source, Work};
+use crate::entry::{Act, Entry, LoadKind, Register, Work};
 use crate::front::Front;
 use crate::visible::{guards, has_guard, has_store, visible_of};
 use bl_ops::{AccessKind, Op, eval};
@@ -97,8 +96,7 @@ impl Machine {
     pub fn act(&self, layout: &Layout, n: usize) -> Act
         requires layout { IsLayout layout.now }
         requires few { length self.now.entries.items ≤ 64 }
-        ensures { MatchOption (slice_get self.now.entries.items n) (result ≡ Idle)
-            (λ entry. result ≡ act layout.now.parts.now (shown self.now).registers self.now.space (take n self.now.entries.items) entry.work) }
+        ensures { result ≡ act_at layout.now.parts.now (shown self.now) n }
     {
         match self.entries.get(n) {
             Some(entry) => self.act_behind(layout, &self.entries[..n], &entry.work),
@@ -120,7 +118,12 @@ impl Machine {
                 a,
                 b,
                 c,
-            } => self.assign(before, *protect, *op, *to, [*a, *b, *c]),
+            } => {
+                let a = visible_of(&self.registers, before, *a);
+                let b = visible_of(&self.registers, before, *b);
+                let c = visible_of(&self.registers, before, *c);
+                assign(before, *protect, *op, *to, a, b, c)
+            }
             Work::Load {
                 protect,
                 kind,
@@ -148,42 +151,6 @@ impl Machine {
                 cond, predicted, ..
             } => judges(*predicted, visible_of(&self.registers, before, *cond)),
             Work::Nop | Work::Done { .. } | Work::Ready { .. } | Work::Fail(_) => Act::Idle,
-        }
-    }
-
-    /// A pending assignment behind those entries.
-    fn assign(
-        &self,
-        before: &[Entry],
-        protect: bool,
-        op: Op,
-        to: Register,
-        operands: [Source; 3],
-    ) -> Act
-        requires { length before.now ≤ 64 }
-    {
-        let [a, b, c] = operands;
-        let Some(a) = visible_of(&self.registers, before, a) else {
-            return Act::Idle;
-        };
-        let Some(b) = visible_of(&self.registers, before, b) else {
-            return Act::Idle;
-        };
-        let Some(c) = visible_of(&self.registers, before, c) else {
-            return Act::Idle;
-        };
-        let work = valued(protect, to, eval(op, a, b, c));
-        if is_division(op) {
-            Act::Becomes(
-                work,
-                Observation::Divide {
-                    a,
-                    b,
-                    guards: guards(before),
-                },
-            )
-        } else {
-            Act::Becomes(work, Observation::Nothing)
         }
     }
 
@@ -218,6 +185,40 @@ impl Machine {
             },
         )
     }
+}
+
+/// A pending assignment behind those entries, where its operands are visible or aren't.
+fn assign(
+    before: &[Entry],
+    protect: bool,
+    op: Op,
+    to: Register,
+    a: Option<u64>,
+    b: Option<u64>,
+    c: Option<u64>,
+) -> Act
+    requires { length before.now ≤ 64 }
+    ensures { result ≡ assigns (guards before.now) protect op to a b c }
+{
+    let Some(a) = a else {
+        return Act::Idle;
+    };
+    let Some(b) = b else {
+        return Act::Idle;
+    };
+    let Some(c) = c else {
+        return Act::Idle;
+    };
+    let work = valued(protect, to, eval(op, a, b, c));
+    if !is_division(op) {
+        return Act::Becomes(work, Observation::Nothing);
+    }
+    let observation = Observation::Divide {
+        a,
+        b,
+        guards: guards(before),
+    };
+    Act::Becomes(work, observation)
 }
 
 /// A pending store behind those entries, where its address and its value are visible or aren't.

@@ -141,8 +141,8 @@ impl<'p, const W: usize> Rob<'p, W> {
         ensures { result ≡ is_enabled W self.now.program (shown self.now.machine) d }
     {
         match d {
-            Directive::Fetch => self.machine.may_fetch(&self.layout, W, false),
-            Directive::Predict(_) => self.machine.may_fetch(&self.layout, W, true),
+            Directive::Fetch => self.machine.may_fetch(&self.layout, W),
+            Directive::Predict(_) => self.machine.may_predict(&self.layout, W),
             Directive::Exec(n) => !matches!(self.machine.act(&self.layout, n as usize), Act::Idle),
             Directive::Retire => self.machine.may_retire(),
         }

@@ -1,9 +1,14 @@
 //! Executing and retiring.
-ghost use Rattle.std.specs.Prelude.{◌≡◌, ◌≤◌, IsTrue, Some, length};
-ghost use Rattle.bl_cmd.specs.Steps.{written};
+ghost use Rattle.std.specs.Prelude.{◌≡◌, ◌≤◌, ◌<◌, ◌^◌, ℕ, [], suc, IfSome, IsTrue, OnErr, OnOk, Some, drop, length, slice_get};
+ghost use Rattle.bl_cmd.specs.Steps.{stored, written};
+ghost use Rattle.bl_cmd.specs.declared.definitions.ProgramParts.{ProgramParts};
 ghost use Rattle.bl_seq.specs.Layouts.{IsLayout};
-ghost use Rattle.bl_rob.specs.Answers.{Comes_by, shown};
-ghost use Rattle.bl_rob.specs.Machines.{become, exec_entry, retire, turned};
+ghost use Rattle.bl_rob.specs.Answers.{Executes, Steps, is_enabled, shown, turned_at};
+ghost use Rattle.bl_rob.specs.Effects.{effect_of, first_effect};
+ghost use Rattle.bl_rob.specs.Machines.{become, ended_at, is_guard, without};
+ghost use Rattle.bl_rob.specs.declared.directive.Directive.TheVariants.{Retire};
+ghost use Rattle.bl_rob.specs.declared.directive.End.TheVariants as ending;
+ghost use Rattle.bl_rob.specs.declared.entry.Entry.{Entry};
 
 use crate::directive::{End, Observation, StepError};
 use crate::entry::{Act, Entry, Register, Work};
@@ -16,7 +21,7 @@ use std::mem;
 
 /// What an entry does when it is retired.
 #[derive(Clone, Copy, Debug)]
-enum Effect {
+pub enum Effect {
     /// Nothing.
     Nothing,
     /// Writes a register.
@@ -35,7 +40,9 @@ enum Effect {
 
 impl Work {
     /// What it does when it is retired; None where it can't be yet.
-    fn effect(&self) -> Option<Effect> {
+    fn effect(&self) -> Option<Effect>
+        ensures { result ≡ effect_of self.now }
+    {
         match self {
             Work::Nop => Some(Effect::Nothing),
             Work::Done { to, value } => Some(Effect::Write(*to, *value)),
@@ -67,6 +74,8 @@ impl Machine {
     pub fn exec(&mut self, layout: &Layout, n: usize) -> Option<Observation>
         requires layout { IsLayout layout.now }
         requires few { length self.old.entries.items ≤ 64 }
+        requires n { n < 2 ^ 32 }
+        ensures { Executes layout.now.parts.now n (shown self.old) result (shown self.new) }
     {
         match self.act(layout, n) {
             Act::Idle => None,
@@ -83,12 +92,17 @@ impl Machine {
 
     /// Lets an entry do something else from then on.
     fn replace(&mut self, n: usize, work: Work)
+        requires { n < length self.old.entries.items }
+        ensures { (entry : Entry) → slice_get self.old.entries.items n ≡ Some entry → shown self.new ≡ become n entry.position work (shown self.old) }
     {
         self.entries[n].work = work;
     }
 
     /// Drops what stands behind a guard, and goes to its other branch.
     fn turn(&mut self, n: usize)
+        requires guard { IfSome (slice_get self.old.entries.items n) (λ entry. IsTrue (is_guard entry.work)) }
+        requires within { n < length self.old.entries.items }
+        ensures { shown self.new ≡ turned_at n (shown self.old) (slice_get self.old.entries.items n) }
     {
         self.entries.truncate(n + 1);
         let guard = mem::replace(&mut self.entries[n].work, Work::Nop);
@@ -97,23 +111,29 @@ impl Machine {
         }
     }
 
-    /// Whether there is an oldest entry that can be retired.
-    pub fn may_retire(&self) -> bool
+    /// What the oldest entry does when it is retired; None where there is none, or it can't be yet.
+    fn first_effect(&self) -> Option<Effect>
+        ensures { result ≡ first_effect self.now.entries.items }
     {
         match self.entries.first() {
-            Some(entry) => entry.work.effect().is_some(),
-            None => false,
+            Some(entry) => entry.work.effect(),
+            None => None,
         }
+    }
+
+    /// Whether there is an oldest entry that can be retired.
+    pub fn may_retire(&self) -> bool
+        ensures { (most : ℕ) (program : ProgramParts) → result ≡ is_enabled most program (shown self.now) Retire }
+    {
+        self.first_effect().is_some()
     }
 
     /// Retires the oldest entry.
     pub fn retire(&mut self, alloc: Global, layout: &Layout) -> Result<Observation, StepError>
         requires { IsLayout layout.now }
+        ensures { (most : ℕ) → Steps most layout.now.parts.now Retire (shown self.old) result (shown self.new) }
     {
-        let Some(entry) = self.entries.first() else {
-            return Err(StepError::NotEnabled);
-        };
-        let Some(effect) = entry.work.effect() else {
+        let Some(effect) = self.first_effect() else {
             return Err(StepError::NotEnabled);
         };
         let Some(retired) = self.retired.checked_add(1) else {
@@ -122,27 +142,56 @@ impl Machine {
         match effect {
             Effect::Nothing => {}
             Effect::Write(to, value) => self.write(alloc, to, value)?,
-            Effect::Store { kind, memory, offset, address, value } => {
-                let from = effective(layout, memory, offset, address);
-                self.space.store(kind, from, value);
+            Effect::Store {
+                kind,
+                memory,
+                offset,
+                address,
+                value,
+            } => self.store(kind, effective(layout, memory, offset, address), value),
+            Effect::Fail(kind) => {
+                self.fail(kind, retired);
+                return Ok(Observation::Fail);
             }
-            Effect::Fail(kind) => return Ok(self.fail(retired, kind)),
         }
-        self.entries.remove(0);
-        self.retired = retired;
+        self.drop_first(retired);
         Ok(Observation::Nothing)
     }
 
-    /// Writes a register.
-    fn write(&mut self, alloc: Global, to: Register, value: u64) -> Result<(), NoMemory> {
-        self.registers.write(alloc, to.depth as usize, to.var, value)
+    /// Writes a register. A refusal leaves the machine as it was.
+    fn write(&mut self, alloc: Global, to: Register, value: u64) -> Result<(), NoMemory>
+        ensures ok { OnOk result (shown self.new ≡ record (shown self.old) { registers = written (shown self.old).registers to.depth to.var value }) }
+        ensures err { OnErr result (shown self.new ≡ shown self.old) }
+    {
+        self.registers
+            .write(alloc, to.depth as usize, to.var, value)
     }
 
-    /// Ends the machine.
-    fn fail(&mut self, retired: u64, kind: Trap) -> Observation {
-        self.entries.clear();
-        self.front.end = Some(End::Trapped(kind));
+    /// Stores a value.
+    fn store(&mut self, kind: AccessKind, from: usize, value: u64)
+        requires { from < 2 ^ 61 }
+        ensures { shown self.new ≡ record (shown self.old) { space = stored kind from value self.old.space } }
+    {
+        self.space.store(kind, from, value);
+    }
+
+    /// Drops the oldest entry, where so many were retired with it.
+    fn drop_first(&mut self, retired: u64)
+        requires one { 0 < length self.old.entries.items }
+        requires count { retired ≡ suc self.old.retired }
+        ensures { shown self.new ≡ without (shown self.old) (drop 1 self.old.entries.items) }
+    {
+        self.entries.remove(0);
         self.retired = retired;
-        Observation::Fail
+    }
+
+    /// Ends the machine by a trap, where so many entries were retired with it.
+    fn fail(&mut self, kind: Trap, retired: u64)
+        requires { retired ≡ suc self.old.retired }
+        ensures { shown self.new ≡ record (without (shown self.old) []) { front = ended_at self.old.front.position self.old.front.chain (ending.Trapped kind) } }
+    {
+        self.entries.clear();
+        self.front.end_with(End::Trapped(kind));
+        self.retired = retired;
     }
 }
