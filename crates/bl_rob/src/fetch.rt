@@ -1,13 +1,17 @@
 //! Fetching and predicting.
-ghost use Rattle.std.specs.Prelude.{◌≡◌, ◌≤◌, ◌<◌, ◌++◌, ◌∷◌, [], ℕ, Bool, List, suc, None, OnErr, OnOk, Some, length};
+ghost use Rattle.std.specs.Prelude.{◌≡◌, ◌≤◌, ◌<◌, ◌++◌, ◌∷◌, [], ℕ, Bool, List, suc, IfErr, IfOk, None, OnErr, OnOk, Some, length};
 ghost use Rattle.bl_cmd.specs.Layout.{entry_of};
 ghost use Rattle.bl_cmd.specs.Programs.{IsCommand};
 ghost use Rattle.bl_cmd.specs.declared.definitions.ProgramParts.{ProgramParts};
 ghost use Rattle.bl_seq.specs.Layouts.{IsLayout};
 ghost use Rattle.bl_rob.specs.Answers.{Steps, front_in, is_enabled, next_command, shown, work_in};
-ghost use Rattle.bl_rob.specs.Machines.{called, fetched, moved, register_of, source_of};
+ghost use Rattle.bl_rob.specs.Machines.{at_position, back, called, ended_at, fetched, grown, moved, register_of, source_of};
 ghost use Rattle.bl_rob.specs.declared.directive.Directive.TheVariants.{Fetch, Predict};
+ghost use Rattle.bl_rob.specs.declared.directive.Observation.TheVariants.{Nothing};
+ghost use Rattle.bl_rob.specs.declared.directive.StepError.TheVariants.{Memory};
+ghost use Rattle.bl_rob.specs.declared.entry.Work.TheVariants.{Guard};
 
+use crate::chain::Chain;
 use crate::directive::{End, Observation, StepError};
 use crate::entry::{Entry, LoadKind, Register, Source, Work};
 use crate::machine::Machine;
@@ -198,19 +202,43 @@ impl Machine {
             { front = front_in self.old.front (fetched layout.now.parts.now self.old.front.position self.old.front.chain (Some command)) }) }
         ensures err { OnErr result (shown self.new ≡ shown self.old) }
     {
+        let position = self.front.position;
         match command {
-            Command::Jump { to } => self.front.go_to(to.0),
+            Command::Jump { to } => self.go_to(to.0),
             Command::Call { function } => return self.call(layout, function),
-            Command::Ret => self.front.leave(),
-            Command::Trap { kind } => self.front.end_with(End::Trapped(kind)),
+            Command::Ret => self.leave(),
+            Command::Trap { kind } => self.end_with(End::Trapped(kind)),
             Command::Test { .. } => {}
             Command::Set { .. }
             | Command::Load { .. }
             | Command::Store { .. }
             | Command::Arg { .. }
-            | Command::Out { .. } => self.front.go_to(self.front.position + 1),
+            | Command::Out { .. } => self.go_to(position + 1),
         }
         Ok(())
+    }
+
+    /// Moves the front end to a position.
+    fn go_to(&mut self, position: u32)
+        requires { self.old.front.end ≡ None }
+        ensures { shown self.new ≡ record (shown self.old) { front = at_position position self.old.front.chain } }
+    {
+        self.front.go_to(position);
+    }
+
+    /// Moves the front end to where a return goes.
+    fn leave(&mut self)
+        requires { self.old.front.end ≡ None }
+        ensures { shown self.new ≡ record (shown self.old) { front = back self.old.front.position self.old.front.chain } }
+    {
+        self.front.leave();
+    }
+
+    /// Ends the front end.
+    fn end_with(&mut self, end: End)
+        ensures { shown self.new ≡ record (shown self.old) { front = ended_at self.old.front.position self.old.front.chain end } }
+    {
+        self.front.end_with(end);
     }
 
     /// Moves the front end into a function, or ends it where too many calls are open.
@@ -225,7 +253,7 @@ impl Machine {
         if self.front.chain.depth() < MOST_CALLS {
             self.front.call(entry_of(layout, function))
         } else {
-            self.front.end_with(End::Trapped(Trap::StackExhausted));
+            self.end_with(End::Trapped(Trap::StackExhausted));
             Ok(())
         }
     }
@@ -238,15 +266,35 @@ impl Machine {
         let Some(Command::Test { cond, yes, no }) = self.next(layout, most) else {
             return Err(StepError::NotEnabled);
         };
-        let (taken, other) = if predicted { (yes, no) } else { (no, yes) };
-        let work = Work::Guard {
-            cond: source_of(layout, self.front.chain.depth(), cond),
+        let cond = source_of(layout, self.front.chain.depth(), cond);
+        let chain = self.front.chain.copied(alloc)?;
+        if predicted {
+            return self.guess(cond, true, yes, no, chain);
+        }
+        self.guess(cond, false, no, yes, chain)
+    }
+
+    /// Appends a guard with that condition and prediction, and goes to where that goes. A refusal leaves the machine as it was.
+    fn guess(
+        &mut self,
+        cond: Source,
+        predicted: bool,
+        taken: Pos,
+        other: Pos,
+        chain: Chain,
+    ) -> Result<Observation, StepError>
+        requires { self.old.front.end ≡ None }
+        ensures ok { IfOk result (λ observation. (observation ≡ Nothing)
+            × (shown self.new ≡ grown (shown self.old) (Guard cond predicted other.0 chain) (at_position taken.0 self.old.front.chain))) }
+        ensures err { IfErr result (λ error. (error ≡ Memory) × (shown self.new ≡ shown self.old)) }
+    {
+        self.push(Work::Guard {
+            cond,
             predicted,
             other: other.0,
-            chain: self.front.chain.copied(alloc)?,
-        };
-        self.push(work)?;
-        self.front.go_to(taken.0);
+            chain,
+        })?;
+        self.go_to(taken.0);
         Ok(Observation::Nothing)
     }
 }

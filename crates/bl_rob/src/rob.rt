@@ -3,6 +3,7 @@ ghost use Rattle.std.specs.Prelude.{◌≡◌, ◌≤◌, IfOk, slice_get, slice
 ghost use Rattle.bl_cmd.specs.Outcomes.{IsStart};
 ghost use Rattle.bl_rob.specs.Answers.{Steps, Told, is_enabled, kind_of, outcome_in, position_of, shown};
 ghost use Rattle.bl_rob.specs.Machines.{end_in, opening};
+ghost use Rattle.bl_rob.specs.declared.directive.Directive.TheVariants.{Exec, Fetch, Predict, Retire};
 
 use crate::chain::Chain;
 use crate::directive::{Directive, End, Kind, Observation, StepError};
@@ -73,14 +74,42 @@ impl<'p, const W: usize> Rob<'p, W> {
         ensures step { Steps W self.old.program d (shown self.old.machine) result (shown self.new.machine) }
     {
         match d {
-            Directive::Fetch => self.machine.fetch(&self.layout, W),
-            Directive::Predict(predicted) => self.machine.predict(alloc, &self.layout, W, predicted),
-            Directive::Exec(n) => match self.machine.exec(&self.layout, n as usize) {
-                Some(observation) => Ok(observation),
-                None => Err(StepError::NotEnabled),
-            },
-            Directive::Retire => self.machine.retire(alloc, &self.layout),
+            Directive::Fetch => self.fetch(),
+            Directive::Predict(predicted) => self.predict(alloc, predicted),
+            Directive::Exec(n) => self.exec(n),
+            Directive::Retire => self.retire(alloc),
         }
+    }
+
+    fn fetch(&mut self) -> Result<Observation, StepError>
+        ensures same { self.new.program ≡ self.old.program }
+        ensures step { Steps W self.old.program Fetch (shown self.old.machine) result (shown self.new.machine) }
+    {
+        self.machine.fetch(&self.layout, W)
+    }
+
+    fn predict(&mut self, alloc: Global, predicted: bool) -> Result<Observation, StepError>
+        ensures same { self.new.program ≡ self.old.program }
+        ensures step { Steps W self.old.program (Predict predicted) (shown self.old.machine) result (shown self.new.machine) }
+    {
+        self.machine.predict(alloc, &self.layout, W, predicted)
+    }
+
+    fn exec(&mut self, n: u32) -> Result<Observation, StepError>
+        ensures same { self.new.program ≡ self.old.program }
+        ensures step { Steps W self.old.program (Exec n) (shown self.old.machine) result (shown self.new.machine) }
+    {
+        match self.machine.exec(&self.layout, n as usize) {
+            Some(observation) => Ok(observation),
+            None => Err(StepError::NotEnabled),
+        }
+    }
+
+    fn retire(&mut self, alloc: Global) -> Result<Observation, StepError>
+        ensures same { self.new.program ≡ self.old.program }
+        ensures step { Steps W self.old.program Retire (shown self.old.machine) result (shown self.new.machine) }
+    {
+        self.machine.retire(alloc, &self.layout)
     }
 
     /// How the machine has ended; None where it hasn't.

@@ -5,11 +5,12 @@ ghost use Rattle.bl_cmd.specs.declared.definitions.ProgramParts.{ProgramParts};
 ghost use Rattle.bl_seq.specs.Layouts.{IsLayout};
 ghost use Rattle.bl_rob.specs.Answers.{Executes, Steps, is_enabled, shown, turned_at};
 ghost use Rattle.bl_rob.specs.Effects.{effect_of, first_effect};
-ghost use Rattle.bl_rob.specs.Machines.{become, ended_at, is_guard, without};
+ghost use Rattle.bl_rob.specs.Machines.{at_position, become, ended_at, is_guard, without};
 ghost use Rattle.bl_rob.specs.declared.directive.Directive.TheVariants.{Retire};
 ghost use Rattle.bl_rob.specs.declared.directive.End.TheVariants as ending;
 ghost use Rattle.bl_rob.specs.declared.entry.Entry.{Entry};
 
+use crate::chain::Chain;
 use crate::directive::{End, Observation, StepError};
 use crate::entry::{Act, Entry, Register, Work};
 use crate::machine::{Machine, effective};
@@ -107,7 +108,7 @@ impl Machine {
         self.entries.truncate(n + 1);
         let guard = mem::replace(&mut self.entries[n].work, Work::Nop);
         if let Work::Guard { other, chain, .. } = guard {
-            self.front.go_back(other, chain);
+            self.go_back(other, chain);
         }
     }
 
@@ -126,6 +127,13 @@ impl Machine {
         ensures { (most : ℕ) (program : ProgramParts) → result ≡ is_enabled most program (shown self.now) Retire }
     {
         self.first_effect().is_some()
+    }
+
+    /// Moves the front end back to a position, with the calls that were open there.
+    fn go_back(&mut self, position: u32, chain: Chain)
+        ensures { shown self.new ≡ record (shown self.old) { front = at_position position chain } }
+    {
+        self.front.go_back(position, chain);
     }
 
     /// Retires the oldest entry.
