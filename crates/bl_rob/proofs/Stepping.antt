@@ -1,20 +1,28 @@
 -- Steps of the machine, from what their parts answer.
-use Rattle.std.proofs.Common.{◌≡◌, ℕ, zero, suc, ◌+◌, ◌<◌, ◌≤◌, Bool, true, false, List, [], ◌∷◌, ◌++◌, length, take, drop, set, get_or, Option, Some, None, IsTrue, refl, sym, ap, ◌∙◌, subst, arith}
-use Rattle.std.specs.Prelude.{if◌then◌else◌, slice_get, IfSome}
+use Rattle.std.proofs.Common.{◌≡◌, ℕ, zero, suc, ◌+◌, ◌-◌, ◌<◌, ◌≤◌, Bool, true, false, List, [], ◌∷◌, ◌++◌, length, take, drop, set, get_or, Option, Some, None, IsTrue, refl, sym, ap, ◌∙◌, subst, arith}
+use Rattle.std.specs.Prelude.{if◌then◌else◌, slice_get, IfErr, IfOk, IfSome, Result, Ok, Err}
+use Rattle.std.proofs.Math.Seq.{take-append_seam}
+use Rattle.std.proofs.lemmas.List.{length-append}
 use Rattle.std.proofs.lemmas.Option.{get_or_from_slice_get}
+use Rattle.bl_base.specs.declared.number.Pos.{Pos}
 use Rattle.bl_base.proofs.Lists.{within_get}
 use Rattle.bl_ops.specs.declared.access.AccessKind.{AccessKind}
 use Rattle.bl_ops.specs.declared.op.Op.{Op}
 use Rattle.bl_cmd.specs.Layout.{command_at}
 use Rattle.bl_cmd.specs.Steps.{Registers}
 use Rattle.bl_cmd.specs.declared.command.Command.{Command}
+use Rattle.bl_cmd.specs.declared.command.Command.TheVariants as command
+use Rattle.bl_cmd.specs.declared.command.Operand.{Operand}
 use Rattle.bl_cmd.specs.declared.definitions.ProgramParts.{ProgramParts as Program}
-use Rattle.bl_rob.specs.Answers.{act_by, command_from, front_in, turned_at, work_in}
+use Rattle.bl_rob.specs.Answers.{Comes_by, Steps, act_by, command_from, next_command, front_in, turned_at, work_in}
 use Rattle.bl_rob.specs.Effects.{carried, effect_of, first_effect}
-use Rattle.bl_rob.specs.Machines.{State, at_position, Fetched, Straight, Branch, Nowhere, fetched, fetched_from, grown, fetch, predict, is_guard, assigns, loads, stores, frees, judges, agree, truth, act, become, turned, acted, exec_entry, retire_work, retire}
+use Rattle.bl_rob.specs.Machines.{State, at_position, Fetched, Straight, Branch, Nowhere, fetched, fetched_from, grown, fetch, source_of, guess, predict, has_room, directive_step, is_guard, assigns, loads, stores, frees, judges, agree, truth, act, become, turned, acted, exec_entry, retire_work, retire}
+use Rattle.bl_rob.specs.declared.directive.Directive.TheVariants.{Predict}
 use Rattle.bl_rob.specs.declared.directive.End.{End}
 use Rattle.bl_rob.specs.declared.directive.Observation.{Observation}
 use Rattle.bl_rob.specs.declared.directive.Observation.TheVariants as seen
+use Rattle.bl_rob.specs.declared.directive.StepError.{StepError}
+use Rattle.bl_rob.specs.declared.directive.StepError.TheVariants.{Memory}
 use Rattle.bl_rob.specs.declared.entry.Act.{Act}
 use Rattle.bl_rob.specs.declared.entry.Act.TheVariants.{Idle, Becomes, Turns}
 use Rattle.bl_rob.specs.declared.entry.Entry.{Entry}
@@ -68,6 +76,43 @@ module _ (s : State) where
   some_work (Straight w front) work h = let same : w ≡ work = cc in ap (λ x. Some (grown s x front, seen.Nothing)) same
   some_work (Branch cond one other) work h = cc
   some_work Nowhere work h = cc
+
+-- without the entry that was appended
+pub dropped : (a s : State) (entry : Entry) (items : List Entry) (n : ℕ) → a ≡ record s { buffer = s.buffer ++ entry ∷ [] } → items ≡ take (n - 1) a.buffer → n ≡ length a.buffer
+    → record a { buffer = items } ≡ s
+dropped a s entry items n h is size =
+    let buffer : a.buffer ≡ s.buffer ++ entry ∷ [] = ap (λ (x : State). x.buffer) h in
+    let long : length (s.buffer ++ entry ∷ []) ≡ length s.buffer + 1 = length-append s.buffer (entry ∷ []) in
+    let same : length a.buffer ≡ length (s.buffer ++ entry ∷ []) = ap length buffer in
+    let count : n - 1 ≡ length s.buffer = omega arith in
+    let rest : items ≡ s.buffer =
+        is ∙ ap (λ l. take (n - 1) l) buffer ∙ ap (λ k. take k (s.buffer ++ entry ∷ [])) count ∙ take-append_seam s.buffer (entry ∷ []) in
+    let here : (State → State) = λ x. record x { buffer = items } in
+    let there : (List Entry → State) = λ l. record s { buffer = l } in
+    ap here h ∙ ap there rest
+
+-- ---- predicting
+
+module _ (most : ℕ) (program : Program) (s new : State) (cond : Operand) (one other : Pos) (source : Source) (chain : List ℕ) where
+  guess_is : (predicted : Bool) → chain ≡ s.front.chain
+      → grown s (Guard source predicted (if predicted then other.0 else one.0) chain) (at_position (if predicted then one.0 else other.0) s.front.chain)
+      ≡ guess predicted s source one.0 other.0
+  guess_is true h = ap (λ l. grown s (Guard source true other.0 l) (at_position one.0 s.front.chain)) h
+  guess_is false h = ap (λ l. grown s (Guard source false one.0 l) (at_position other.0 s.front.chain)) h
+
+  pub guessed : (p predicted : Bool) (r : Result Observation StepError) → p ≡ predicted → next_command most program s ≡ Some (command.Test cond one other)
+      → source ≡ source_of program (suc (length s.front.chain)) cond → chain ≡ s.front.chain
+      → IfOk r (λ o. (o ≡ seen.Nothing) × (new ≡ grown s (Guard source predicted (if predicted then other.0 else one.0) chain)
+          (at_position (if predicted then one.0 else other.0) s.front.chain)))
+      → IfErr r (λ e. (e ≡ Memory) × (new ≡ s)) → Steps most program (Predict p) s r new
+  guessed p predicted (Ok o) same next is chained ok err =
+      (some_next program s (has_room most s) s.front.end (command.Test cond one other) next).predicts p
+      ∙ ap (λ x. Some (guess p s x one.0 other.0, seen.Nothing)) (sym is)
+      ∙ ap (λ b. Some (guess b s source one.0 other.0, seen.Nothing)) same
+      ∙ ap (λ t. Some (t, seen.Nothing)) (sym (ok.1 ∙ guess_is predicted chained))
+      ∙ ap (λ x. Some (new, x)) (sym ok.0)
+  guessed p predicted (Err e) same next is chained ok err =
+      subst (λ (x : StepError). Comes_by (directive_step most program s (Predict p)) (Unit {0}) s (Err x) new) (sym err.0) (tt, err.1)
 
 -- ---- executing
 

@@ -32,7 +32,9 @@ first_effect (entry ∷ entries) = effect_of entry.work
 -- the machine behind it, with these entries left, and what is observed
 abbrev pub carried : Program → State → List Entry → Effect → State × Observation
 carried program s entries Nothing = (without s entries, seen.Nothing)
-carried program s entries (Write to value) = (record (without s entries) { registers = written s.registers to.depth to.var value }, seen.Nothing)
+carried program s entries (Write to value) =
+    (record (without s entries) { registers = written s.registers to.depth to.var value }, seen.Nothing)
 carried program s entries (Store kind memory offset address value) =
     (record (without s entries) { space = stored kind (effective program memory offset address) value s.space }, seen.Nothing)
-carried program s entries (Fail kind) = (record (without s []) { front = ended_at s.front.position s.front.chain (ending.Trapped kind) }, seen.Fail)
+carried program s entries (Fail kind) =
+    (record (without s []) { front = ended_at s.front.position s.front.chain (ending.Trapped kind) }, seen.Fail)

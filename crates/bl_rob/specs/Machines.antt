@@ -110,11 +110,12 @@ abbrev pub fetched : Program → ℕ → List ℕ → Option Command → Fetched
 fetched program position chain None = Nowhere
 fetched program position chain (Some (command.Set mark op to a b c)) =
     let depth = suc (length chain) in
-    Straight (Assign mark.protect op (register_of program depth to.0) (source_of program depth a) (source_of program depth b) (source_of program depth c))
-        (at_position (suc position) chain)
+    let source : (Operand → Source) = source_of program depth in
+    Straight (Assign mark.protect op (register_of program depth to.0) (source a) (source b) (source c)) (at_position (suc position) chain)
 fetched program position chain (Some (command.Load mark kind memory to offset address)) =
     let depth = suc (length chain) in
-    Straight (Load mark.protect kind memory (register_of program depth to.0) offset (source_of program depth address)) (at_position (suc position) chain)
+    Straight (Load mark.protect kind memory (register_of program depth to.0) offset (source_of program depth address))
+        (at_position (suc position) chain)
 fetched program position chain (Some (command.Store kind memory offset address value)) =
     let depth = suc (length chain) in
     Straight (Store kind memory offset (source_of program depth address) (source_of program depth value)) (at_position (suc position) chain)
@@ -122,7 +123,8 @@ fetched program position chain (Some (command.Test cond one other)) = Branch (so
 fetched program position chain (Some (command.Jump to)) = Straight Nop (at_position to.0 chain)
 fetched program position chain (Some (command.Arg mark function index value)) =
     let depth = suc (length chain) in
-    Straight (moved mark.protect (suc depth) (param program function index) (source_of program depth value)) (at_position (suc position) chain)
+    Straight (moved mark.protect (suc depth) (param program function index) (source_of program depth value))
+        (at_position (suc position) chain)
 fetched program position chain (Some (command.Call function)) = called program function position chain
 fetched program position chain (Some (command.Out mark index value)) =
     let depth = suc (length chain) in
@@ -278,7 +280,8 @@ judges predicted (Some cond) = if agree predicted (truth cond) then Becomes Nop 
 abbrev pub act : Program → Registers → List ℕ → List Entry → Work → Act
 act program registers space entries Nop = Idle
 act program registers space entries (Assign protect op to a b c) =
-    assigns (guards entries) protect op to (visible_of registers entries a) (visible_of registers entries b) (visible_of registers entries c)
+    let source : (Source → Option ℕ) = visible_of registers entries in
+    assigns (guards entries) protect op to (source a) (source b) (source c)
 act program registers space entries (Load protect kind memory to offset address) =
     loads program space (guards entries) (has_store entries) protect kind memory to offset (visible_of registers entries address)
 act program registers space entries (Held to value) = frees (has_guard entries) to value

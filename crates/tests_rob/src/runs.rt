@@ -1,5 +1,5 @@
-use bl_base::{List, NoMemory, Pos, Run, Start, Var};
-use bl_cmd::WellFormed;
+use crate::begun::begun;
+use bl_base::{List, Pos, Run, Start, Trap};
 use bl_image::decode_image;
 use bl_rob::{Directive, End, Kind, Observation, Rob, StepError};
 use std::test::Fail;
@@ -36,7 +36,7 @@ fn start_with(rt: &HostRuntime, argument: u64) -> Result<Start, Fail> {
 fn a_function_is_fetched_executed_and_retired(rt: HostRuntime) -> Result<(), Fail> {
     let program = decode_image(rt.alloc(), &INC)?;
     let start = start_with(&rt, 41)?;
-    let mut rob: Rob<64> = Rob::begin(rt.alloc(), &program, 0, &start)?;
+    let mut rob: Rob<64> = begun(rt.alloc(), &program, 0, &start)?;
     let mut directives = Vec::new(rt.alloc());
     for _ in 0..6 {
         directives.push(Directive::Fetch)?;
@@ -63,7 +63,7 @@ fn a_function_is_fetched_executed_and_retired(rt: HostRuntime) -> Result<(), Fai
 fn a_guess_is_rolled_back(rt: HostRuntime) -> Result<(), Fail> {
     let program = decode_image(rt.alloc(), &LOADS)?;
     let start = start_with(&rt, 65_536)?;
-    let mut rob: Rob<64> = Rob::begin(rt.alloc(), &program, 0, &start)?;
+    let mut rob: Rob<64> = begun(rt.alloc(), &program, 0, &start)?;
     let directives = [
         (Directive::Fetch, Observation::Nothing),
         (Directive::Fetch, Observation::Nothing),
@@ -86,7 +86,7 @@ fn a_guess_is_rolled_back(rt: HostRuntime) -> Result<(), Fail> {
     }
     assert_eq!(rt; rob.step(rt.alloc(), Directive::Fetch), Err(StepError::NotEnabled));
     let outcome = rob.outcome(rt.alloc())?;
-    assert!(rt; matches!(&outcome, Some(Run::Trapped { kind: bl_base::Trap::OutOfBounds, .. })));
+    assert!(rt; matches!(&outcome, Some(Run::Trapped { kind: Trap::OutOfBounds, .. })));
     Ok(())
 }
 
@@ -94,7 +94,7 @@ fn a_guess_is_rolled_back(rt: HostRuntime) -> Result<(), Fail> {
 fn a_buffer_of_one_entry(rt: HostRuntime) -> Result<(), Fail> {
     let program = decode_image(rt.alloc(), &INC)?;
     let start = start_with(&rt, 41)?;
-    let mut rob: Rob<1> = Rob::begin(rt.alloc(), &program, 0, &start)?;
+    let mut rob: Rob<1> = begun(rt.alloc(), &program, 0, &start)?;
     assert_eq!(rt; rob.step(rt.alloc(), Directive::Fetch)?, Observation::Nothing);
     assert_eq!(rt; rob.step(rt.alloc(), Directive::Fetch), Err(StepError::NotEnabled));
     assert_eq!(rt; rob.entry(0), Some((Pos(7), Kind::Nop)));

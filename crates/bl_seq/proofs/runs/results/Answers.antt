@@ -1,4 +1,4 @@
-use Rattle.std.proofs.Common.{◌≡◌, ◌+◌, ◌-◌, ◌++◌, ◌∙◌, ap, arith}
+use Rattle.std.proofs.Common.{◌≡◌, ℕ, ◌+◌, ◌-◌, ◌++◌, ◌∙◌, ap, arith}
 use Rattle.bl_cmd.specs.Layout.{running}
 use Rattle.bl_cmd.specs.Steps.{values_from}
 use Rattle.bl_seq.specs.Filled.{register_at}
@@ -9,7 +9,7 @@ use Rattle.bl_seq.proofs.runs.results.Goals as goal
 
 pub loop-i-preserved : goal.loop-i-preserved
 loop-i-preserved c =
-    let registers = (λ depth x. register_at c.args.registers.now depth x) in
+    let registers : (ℕ → ℕ → ℕ) = λ depth x. register_at c.args.registers.now depth x in
     let frame = c.frame-frame.result in
     ap (λ l. l ++ values_from registers 0 (frame.first + frame.params + (c.loop-i.i + 1)) (frame.results - (c.loop-i.i + 1))) c.in_ok-push.ensures.ok
     ∙ values_next registers 0 (frame.first + frame.params) c.loop-i.i frame.results _ c.loop-i.values (omega arith) c.at.ensures
