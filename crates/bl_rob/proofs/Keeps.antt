@@ -55,7 +55,7 @@ Stays Q c n t = (t.retired ≡ n) × Inv Q c t
 module _ (Q : Program) (c : Config) (s : State) (i : Inv Q c s) where
   turned_ok : (n p : ℕ) (pre post : List Entry) (work : Work) → pre ≡ take n s.buffer → Tracks Q (pre ++ entry_at p work ∷ post) c s.front
       → ((d : Config) → Below (view (committed s.registers) pre) d.registers → (has_store pre ≡ false → d.space ≡ c.space) → Tracks Q (entry_at p work ∷ post) d s.front
-          → GoesBack Q d work)
+      → GoesBack Q d work)
       → Stays Q c s.retired (turned n p work s)
   turned_ok n p pre post Nop e t k = (refl, i)
   turned_ok n p pre post (Assign protect op to a b z) e t k = (refl, i)
@@ -79,7 +79,7 @@ module _ (Q : Program) (c : Config) (s : State) (i : Inv Q c s) where
   acted_ok : (n : ℕ) (pre post : List Entry) (e : Entry) (a : Act) → pre ≡ take n s.buffer → post ≡ drop (suc n) s.buffer
       → Tracks Q (pre ++ e ∷ post) c s.front
       → ((d : Config) → Below (view (committed s.registers) pre) d.registers → (has_store pre ≡ false → d.space ≡ c.space) → Tracks Q (e ∷ post) d s.front
-          → Acts Q d post s.front e.work a)
+      → Acts Q d post s.front e.work a)
       → Holds (Stays Q c s.retired) (acted n s e a)
   acted_ok n pre post e Idle ep eq t k = tt
   acted_ok n pre post e (Becomes work observation) ep eq t k = (
@@ -192,7 +192,7 @@ module _ (Q : Program) (c : Config) where
     grown_ok Q c s i (Guard cond true other s.front.chain) (at_position one s.front.chain) (λ d q.
         let p : before Q d.front ≡ Branch cond one other = sym (ap (λ y. before Q y) q) ∙ h in
         let to : (if truth (value_in d.registers cond) then at_position one s.front.chain else at_position other s.front.chain) ≡ (next Q d).front =
-            ap (λ g. if truth (value_in d.registers cond) then at_position one g.chain else at_position other g.chain) q ∙ ap (λ y. (next_at Q d y).front) (sym p) in (
+        ap (λ g. if truth (value_in d.registers cond) then at_position one g.chain else at_position other g.chain) q ∙ ap (λ y. (next_at Q d y).front) (sym p) in (
           subst IsThere (sym p) tt,
           ap (λ y. (next_at Q d y).registers) (sym p),
           ap (λ y. (next_at Q d y).space) (sym p),
@@ -204,7 +204,7 @@ module _ (Q : Program) (c : Config) where
     grown_ok Q c s i (Guard cond false one s.front.chain) (at_position other s.front.chain) (λ d q.
         let p : before Q d.front ≡ Branch cond one other = sym (ap (λ y. before Q y) q) ∙ h in
         let to : (if truth (value_in d.registers cond) then at_position one s.front.chain else at_position other s.front.chain) ≡ (next Q d).front =
-            ap (λ g. if truth (value_in d.registers cond) then at_position one g.chain else at_position other g.chain) q ∙ ap (λ y. (next_at Q d y).front) (sym p) in (
+        ap (λ g. if truth (value_in d.registers cond) then at_position one g.chain else at_position other g.chain) q ∙ ap (λ y. (next_at Q d y).front) (sym p) in (
           subst IsThere (sym p) tt,
           ap (λ y. (next_at Q d y).registers) (sym p),
           ap (λ y. (next_at Q d y).space) (sym p),

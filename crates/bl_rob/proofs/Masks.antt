@@ -36,7 +36,7 @@ one_more entries left mask new entry guard m some is which e =
     let lt : left - 1 < length entries = omega arith in
     let next : suc (left - 1) ≡ left = omega arith in
     let split : drop (left - 1) entries ≡ entry ∷ drop left entries =
-        drop-cons entries (left - 1) entry lt ∙ ap (λ k. get_or entries (left - 1) entry ∷ drop k entries) next ∙ ap (λ x. x ∷ drop left entries) (sym is) in
+    drop-cons entries (left - 1) entry lt ∙ ap (λ k. get_or entries (left - 1) entry ∷ drop k entries) next ∙ ap (λ x. x ∷ drop left entries) (sym is) in
     let count : length entries - (left - 1) ≡ suc (length entries - left) = omega arith in
     let same : 2 ^ (length entries - (left - 1)) ≡ 2 * 2 ^ (length entries - left) = ap (λ k. 2 ^ k) count ∙ double (length entries - left) in
     let small = m.small in
@@ -51,6 +51,7 @@ one_more entries left mask new entry guard m some is which e =
   where
     double : (k : ℕ) → 2 ^ suc k ≡ 2 * 2 ^ k
     double k = pow-succ' 2 k
+
     turned : (a b : ℕ) → 2 * a + b ≡ b + 2 * a
     turned a b = omega arith
 

@@ -58,18 +58,18 @@ module _ (program : Program) where
 
   tested : (s : Plain) (zero : Bool) (one other : ℕ)
       → Follows program s (record { front = if not zero then at_position one s.chain else at_position other s.chain; registers = s.registers; space = s.space }) (Unit {0})
-          (if zero then to other s else to one s)
+      (if zero then to other s else to one s)
   tested s true one other = refl
   tested s false one other = refl
 
   calls : (s : Plain) (function : ℕ) (few : Bool) (there : Type 0)
       → Follows program s
-          (next_at program (config_of s)
-          (if few then Straight work.Nop (at_position (entry_of program function) (suc s.position ∷ s.chain))
-          else Straight (work.Fail trap_kind.StackExhausted) (ended_at s.position s.chain (ending.Trapped trap_kind.StackExhausted))))
-          there
-          (if few then goes (record s { position = entry_of program function; chain = suc s.position ∷ s.chain })
-          else ends (outcome_by program (state_of (config_of s)) (ending.Trapped trap_kind.StackExhausted)))
+      (next_at program (config_of s)
+      (if few then Straight work.Nop (at_position (entry_of program function) (suc s.position ∷ s.chain))
+      else Straight (work.Fail trap_kind.StackExhausted) (ended_at s.position s.chain (ending.Trapped trap_kind.StackExhausted))))
+      there
+      (if few then goes (record s { position = entry_of program function; chain = suc s.position ∷ s.chain })
+      else ends (outcome_by program (state_of (config_of s)) (ending.Trapped trap_kind.StackExhausted)))
   calls s function true there = refl
   calls s function false there = record { end = ending.Trapped trap_kind.StackExhausted; front = refl; registers = refl; space = refl; outcome_is = refl }
 

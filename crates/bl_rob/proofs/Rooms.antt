@@ -1,6 +1,7 @@
 -- No directive lets the buffer grow past its room.
 use Rattle.std.proofs.Common.{◌≡◌, ℕ, zero, suc, ◌+◌, ◌-◌, ◌<◌, ◌≤◌, Bool, true, false, List, [], ◌∷◌, ◌++◌, length, take, drop, min, Option, Some, None, refl, sym, ap, ◌∙◌, subst, arith}
 use Rattle.std.specs.Prelude.{nat_lt, slice_get, Result, Ok, Err}
+use Rattle.std.specs.Option.{ok_or}
 use Rattle.std.proofs.lemmas.Bool.{ltb-true}
 use Rattle.std.proofs.lemmas.List.{length-append}
 use Rattle.bl_cmd.specs.declared.definitions.ProgramParts.{ProgramParts as Program}
@@ -89,6 +90,7 @@ module _ (most : ℕ) where
     where
       less : length entries ≤ most
       less = omega (arith, fits)
+
       by : (work : Work) → Holds Fits (retire_work program s entries work)
       by Nop = less
       by (Assign protect op to a b c) = tt
@@ -111,3 +113,13 @@ module _ (most : ℕ) where
   steps_fit program old new d (Ok observation) fits h = subst (Holds Fits) h (step_fits program old d fits)
   steps_fit program old new d (Err NotEnabled) fits h = subst Fits (sym h.1) fits
   steps_fit program old new d (Err Memory) fits h = subst Fits (sym h.1) fits
+
+  pub executes_fit : (program : Program) (old new : State) (n : ℕ) (result : Option Observation) → Fits old → Executes program n old result new → Fits new
+  executes_fit program old new n None fits h = subst Fits (sym h.1) fits
+  executes_fit program old new n (Some observation) fits h = subst (Holds Fits) h (exec_fits program old n (slice_get old.buffer n) refl fits)
+
+  -- what executing has come to, as a step
+  pub executes : (program : Program) (old new : State) (n : ℕ) (result : Option Observation) (answer : Result Observation StepError) → Executes program n old result new
+      → answer ≡ ok_or result NotEnabled → Steps most program (Exec n) old answer new
+  executes program old new n None answer h e = subst (λ a. Steps most program (Exec n) old a new) (sym e) h
+  executes program old new n (Some observation) answer h e = subst (λ a. Steps most program (Exec n) old a new) (sym e) h

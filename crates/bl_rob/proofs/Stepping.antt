@@ -86,7 +86,7 @@ dropped a s entry items n h is size =
     let same : length a.buffer ≡ length (s.buffer ++ entry ∷ []) = ap length buffer in
     let count : n - 1 ≡ length s.buffer = omega arith in
     let rest : items ≡ s.buffer =
-        is ∙ ap (λ l. take (n - 1) l) buffer ∙ ap (λ k. take k (s.buffer ++ entry ∷ [])) count ∙ take-append_seam s.buffer (entry ∷ []) in
+    is ∙ ap (λ l. take (n - 1) l) buffer ∙ ap (λ k. take k (s.buffer ++ entry ∷ [])) count ∙ take-append_seam s.buffer (entry ∷ []) in
     let here : (State → State) = λ x. record x { buffer = items } in
     let there : (List Entry → State) = λ l. record s { buffer = l } in
     ap here h ∙ ap there rest
@@ -103,7 +103,7 @@ module _ (most : ℕ) (program : Program) (s new : State) (cond : Operand) (one 
   pub guessed : (p predicted : Bool) (r : Result Observation StepError) → p ≡ predicted → next_command most program s ≡ Some (command.Test cond one other)
       → source ≡ source_of program (suc (length s.front.chain)) cond → chain ≡ s.front.chain
       → IfOk r (λ o. (o ≡ seen.Nothing) × (new ≡ grown s (Guard source predicted (if predicted then other.0 else one.0) chain)
-          (at_position (if predicted then one.0 else other.0) s.front.chain)))
+      (at_position (if predicted then one.0 else other.0) s.front.chain)))
       → IfErr r (λ e. (e ≡ Memory) × (new ≡ s)) → Steps most program (Predict p) s r new
   guessed p predicted (Ok o) same next is chained ok err =
       (some_next program s (has_room most s) s.front.end (command.Test cond one other) next).predicts p
@@ -145,18 +145,22 @@ module _ (program : Program) (n : ℕ) (s : State) where
       no_assign mask protect op to (Some a) (Some b) None h = cc
       no_assign mask protect op to (Some a) None c h = cc
       no_assign mask protect op to None b c h = cc
+
       no_load : (space : List ℕ) (mask : ℕ) (passes protect : Bool) (kind : AccessKind) (memory : ℕ) (to : Register) (offset : ℕ) (a : Option ℕ)
           → loads program space mask passes protect kind memory to offset a ≡ Turns → ⊥
       no_load space mask passes protect kind memory to offset None h = cc
       no_load space mask true protect kind memory to offset (Some a) h = cc
       no_load space mask false protect kind memory to offset (Some a) h = cc
+
       no_store : (mask : ℕ) (kind : AccessKind) (memory offset : ℕ) (a b : Option ℕ) → stores program mask kind memory offset a b ≡ Turns → ⊥
       no_store mask kind memory offset (Some a) (Some b) h = cc
       no_store mask kind memory offset (Some a) None h = cc
       no_store mask kind memory offset None b h = cc
+
       no_held : (guarded : Bool) (to : Register) (value : ℕ) → frees guarded to value ≡ Turns → ⊥
       no_held true to value h = cc
       no_held false to value h = cc
+
       by : (work : Work) → act program s.registers s.space (take n s.buffer) work ≡ Turns → IsTrue (is_guard work)
       by Nop h = cc
       by (Assign protect op to a b c) h = absurd (no_assign _ protect op to _ _ _ h)
@@ -252,6 +256,7 @@ some_effect program s (entry ∷ entries) what h = (by entry.work h, omega arith
     same : (work : Work) (one other : Effect) → one ≡ other → retire_work program s entries work ≡ Some (carried program s entries one)
         → retire_work program s entries work ≡ Some (carried program s entries other)
     same work one other e h = h ∙ ap (λ x. Some (carried program s entries x)) e
+
     by : (work : Work) → effect_of work ≡ Some what → retire_work program s entries work ≡ Some (carried program s entries what)
     by Nop h = let e : effect.Nothing ≡ what = cc in same Nop (effect.Nothing) what e refl
     by (Assign protect op to a b c) h = cc

@@ -183,7 +183,7 @@ pub go_along : (Q : Program) (pre rest rest' : List Entry) (f f' : Front) (c : C
 go_along Q [] rest rest' f f' c look below t k = k c below (λ _. refl) t
 go_along Q (e ∷ pre) rest rest' f f' c look below t k =
     let below' : Below (seen_by e.work look) (next Q c).registers =
-        subst (λ rs. Below (seen_by e.work look) rs) t.1 (seen_below Q e.work look c.registers c.space below) in (
+    subst (λ rs. Below (seen_by e.work look) rs) t.1 (seen_below Q e.work look c.registers c.space below) in (
       t.0,
       t.1,
       t.2,
@@ -236,7 +236,7 @@ module _ (Q : Program) (d : Config) (post : List Entry) (f : Front) where
   load_ok work space mask false protect kind memory to offset x (Some u) hx hm a r m t =
       let n = hm refl in
       let e : loaded kind space (effective Q memory offset u) ≡ loaded kind d.space (effective Q memory offset x) =
-          ap (λ l. loaded kind l (effective Q memory offset u)) n ∙ ap (λ v. loaded kind d.space (effective Q memory offset v)) hx in
+      ap (λ l. loaded kind l (effective Q memory offset u)) n ∙ ap (λ v. loaded kind d.space (effective Q memory offset v)) hx in
       λ p. value_ok protect to _ p a (ap (λ v. written d.registers to.depth to.var v) e ∙ r) m t
   load_ok work space mask true protect kind memory to offset x (Some u) hx hm a r m t = tt
   load_ok work space mask passes protect kind memory to offset x None hx hm a r m t = tt
@@ -246,7 +246,7 @@ module _ (Q : Program) (d : Config) (post : List Entry) (f : Front) where
       → Acts Q d post f work (stores Q mask kind memory offset ox oy)
   store_ok work mask kind memory offset x y (Some u) (Some v) hx hy a r m t =
       let e : stored kind (effective Q memory offset u) v d.space ≡ stored kind (effective Q memory offset x) y d.space =
-          ap (λ n. stored kind (effective Q memory offset n) v d.space) hx ∙ ap (λ n. stored kind (effective Q memory offset x) n d.space) hy in
+      ap (λ n. stored kind (effective Q memory offset n) v d.space) hx ∙ ap (λ n. stored kind (effective Q memory offset x) n d.space) hy in
       λ p. (a, r, e ∙ m, t)
   store_ok work mask kind memory offset x y (Some u) None hx hy a r m t = tt
   store_ok work mask kind memory offset x y None oy hx hy a r m t = tt

@@ -1,6 +1,7 @@
 -- What the calls of the machine answer.
 use Rattle.std.specs.Prelude.{◌≡◌, ℕ, Bool, true, false, if◌then◌else◌, IsSome, List, Option, Some, None, option_map, slice_get, take, Result, Ok, Err}
 use Rattle.bl_base.specs.Runs.{Outcome, outcome_of}
+use Rattle.bl_base.specs.declared.number.Pos.{Pos}
 use Rattle.bl_base.specs.declared.run.Run.{Run}
 use Rattle.bl_cmd.specs.Layout.{command_at}
 use Rattle.bl_cmd.specs.declared.command.Command.{Command}
@@ -110,6 +111,13 @@ kind_of (Store what memory offset address value) = kind.Store
 kind_of (Ready what memory offset address value) = kind.Ready
 kind_of (Guard cond predicted other chain) = kind.Guard predicted
 kind_of (Fail trap) = kind.Fail
+
+-- the position and the kind that are told of an entry, exactly where there is one
+abbrev pub IsTold : Option Entry → Option (Pos × Kind) → Type 0
+IsTold None None = Unit {0}
+IsTold None (Some found) = ⊥
+IsTold (Some entry) None = ⊥
+IsTold (Some entry) (Some found) = (found.0.0 ≡ entry.position) × (found.1 ≡ kind_of entry.work)
 
 -- where the front end is, unless it has ended
 abbrev pub position_by : ℕ → Option End → Option ℕ

@@ -115,7 +115,7 @@ fetched program position chain (Some (command.Set mark op to a b c)) =
 fetched program position chain (Some (command.Load mark kind memory to offset address)) =
     let depth = suc (length chain) in
     Straight (Load mark.protect kind memory (register_of program depth to.0) offset (source_of program depth address))
-        (at_position (suc position) chain)
+    (at_position (suc position) chain)
 fetched program position chain (Some (command.Store kind memory offset address value)) =
     let depth = suc (length chain) in
     Straight (Store kind memory offset (source_of program depth address) (source_of program depth value)) (at_position (suc position) chain)
@@ -124,12 +124,12 @@ fetched program position chain (Some (command.Jump to)) = Straight Nop (at_posit
 fetched program position chain (Some (command.Arg mark function index value)) =
     let depth = suc (length chain) in
     Straight (moved mark.protect (suc depth) (param program function index) (source_of program depth value))
-        (at_position (suc position) chain)
+    (at_position (suc position) chain)
 fetched program position chain (Some (command.Call function)) = called program function position chain
 fetched program position chain (Some (command.Out mark index value)) =
     let depth = suc (length chain) in
     Straight (moved mark.protect (length chain) (result program (running program position) index) (source_of program depth value))
-        (at_position (suc position) chain)
+    (at_position (suc position) chain)
 fetched program position chain (Some command.Ret) = Straight Nop (back position chain)
 fetched program position chain (Some (command.Trap kind)) = Straight (Fail kind) (ended_at position chain (ending.Trapped kind))
 
@@ -366,5 +366,5 @@ abbrev pub outcome_by : Program → State → End → Outcome
 outcome_by program s ending.Returned =
     let function = running program s.front.position in
     returned (values_from s.registers 0 (result program function 0) (results_of program function))
-        (states_from s.registers s.space (size_of program 0) 0 program.memories)
+    (states_from s.registers s.space (size_of program 0) 0 program.memories)
 outcome_by program s (ending.Trapped kind) = trapped kind (states_from s.registers s.space (size_of program 0) 0 program.memories)

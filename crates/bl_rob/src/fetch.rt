@@ -90,7 +90,12 @@ impl Machine {
         if self.entries.len() >= most || self.front.end.is_some() {
             return None;
         }
-        layout.parts.commands.as_slice().get(self.front.position as usize).copied()
+        layout
+            .parts
+            .commands
+            .as_slice()
+            .get(self.front.position as usize)
+            .copied()
     }
 
     /// Whether there is such a command, and it isn't a Test.
@@ -155,7 +160,14 @@ impl Machine {
     {
         let depth = self.front.chain.depth();
         match command {
-            Command::Set { mark, op, to, a, b, c } => Some(Work::Assign {
+            Command::Set {
+                mark,
+                op,
+                to,
+                a,
+                b,
+                c,
+            } => Some(Work::Assign {
                 protect: mark.protect,
                 op,
                 to: register_of(layout, depth, to),
@@ -163,7 +175,14 @@ impl Machine {
                 b: source_of(layout, depth, b),
                 c: source_of(layout, depth, c),
             }),
-            Command::Load { mark, kind, memory, to, offset, address } => Some(Work::Load {
+            Command::Load {
+                mark,
+                kind,
+                memory,
+                to,
+                offset,
+                address,
+            } => Some(Work::Load {
                 protect: mark.protect,
                 kind: LoadKind::of(kind),
                 memory,
@@ -171,7 +190,13 @@ impl Machine {
                 offset,
                 address: source_of(layout, depth, address),
             }),
-            Command::Store { kind, memory, offset, address, value } => Some(Work::Store {
+            Command::Store {
+                kind,
+                memory,
+                offset,
+                address,
+                value,
+            } => Some(Work::Store {
                 kind,
                 memory,
                 offset,
@@ -180,14 +205,29 @@ impl Machine {
             }),
             Command::Test { .. } => None,
             Command::Jump { .. } | Command::Ret => Some(Work::Nop),
-            Command::Arg { mark, function, index, value } => {
+            Command::Arg {
+                mark,
+                function,
+                index,
+                value,
+            } => {
                 let var = layout.frame(function).first + index as usize;
-                Some(moved(mark.protect, depth + 1, var, source_of(layout, depth, value)))
+                Some(moved(
+                    mark.protect,
+                    depth + 1,
+                    var,
+                    source_of(layout, depth, value),
+                ))
             }
             Command::Call { .. } => Some(called(depth)),
             Command::Out { mark, index, value } => {
                 let var = layout.result(self.front.position as usize, index);
-                Some(moved(mark.protect, depth - 1, var, source_of(layout, depth, value)))
+                Some(moved(
+                    mark.protect,
+                    depth - 1,
+                    var,
+                    source_of(layout, depth, value),
+                ))
             }
             Command::Trap { kind } => Some(Work::Fail(kind)),
         }
@@ -259,7 +299,13 @@ impl Machine {
     }
 
     /// Fetches the Test at the front end as a guard that predicts where it goes.
-    pub fn predict(&mut self, alloc: Global, layout: &Layout, most: usize, predicted: bool) -> Result<Observation, StepError>
+    pub fn predict(
+        &mut self,
+        alloc: Global,
+        layout: &Layout,
+        most: usize,
+        predicted: bool,
+    ) -> Result<Observation, StepError>
         requires { IsLayout layout.now }
         ensures { Steps most layout.now.parts.now (Predict predicted) (shown self.old) result (shown self.new) }
     {

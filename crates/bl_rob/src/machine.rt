@@ -133,7 +133,9 @@ impl Machine {
                 address,
             } => {
                 let address = visible_of(&self.registers, before, *address);
-                self.load(layout, before, *protect, kind, *memory, *to, *offset, address)
+                self.load(
+                    layout, before, *protect, kind, *memory, *to, *offset, address,
+                )
             }
             Work::Held { to, value } => frees(has_guard(before), *to, *value),
             Work::Store {
@@ -148,7 +150,9 @@ impl Machine {
                 store(layout, before, *kind, *memory, *offset, address, value)
             }
             Work::Guard {
-                cond, predicted, ..
+                cond,
+                predicted,
+                ..
             } => judges(*predicted, visible_of(&self.registers, before, *cond)),
             Work::Nop | Work::Done { .. } | Work::Ready { .. } | Work::Fail(_) => Act::Idle,
         }

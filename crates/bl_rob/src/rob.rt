@@ -1,7 +1,7 @@
 //! The buffer machine as its callers see it.
 ghost use Rattle.std.specs.Prelude.{◌≡◌, ◌≤◌, IfOk, slice_get, slice_index, option_map};
 ghost use Rattle.bl_cmd.specs.Outcomes.{IsStart};
-ghost use Rattle.bl_rob.specs.Answers.{Steps, Told, is_enabled, kind_of, outcome_in, position_of, shown};
+ghost use Rattle.bl_rob.specs.Answers.{IsTold, Steps, Told, is_enabled, kind_of, outcome_in, position_of, shown};
 ghost use Rattle.bl_rob.specs.Machines.{end_in, opening};
 ghost use Rattle.bl_rob.specs.declared.directive.Directive.TheVariants.{Exec, Fetch, Predict, Retire};
 
@@ -45,8 +45,8 @@ impl<'p, const W: usize> Rob<'p, W> {
         start: &Start,
     ) -> Result<Rob<'p, W>, NoMemory>
         requires room { (1 ≤ W) × (W ≤ 64) }
-        requires start { IsStart program.entry.now function start.now }
-        ensures { IfOk result (λ rob. (rob.program ≡ program.entry.now) × (shown rob.machine ≡ opening program.entry.now function start.now)) }
+        requires start { IsStart program.now function start.now }
+        ensures { IfOk result (λ rob. (rob.program ≡ program.now) × (shown rob.machine ≡ opening program.now function start.now)) }
     {
         let layout = Layout::of(alloc, program.program().parts())?;
         let first = begin(alloc, &layout, function, start)?;
@@ -99,10 +99,9 @@ impl<'p, const W: usize> Rob<'p, W> {
         ensures same { self.new.program ≡ self.old.program }
         ensures step { Steps W self.old.program (Exec n) (shown self.old.machine) result (shown self.new.machine) }
     {
-        match self.machine.exec(&self.layout, n as usize) {
-            Some(observation) => Ok(observation),
-            None => Err(StepError::NotEnabled),
-        }
+        self.machine
+            .exec(&self.layout, n as usize)
+            .ok_or(StepError::NotEnabled)
     }
 
     fn retire(&mut self, alloc: Global) -> Result<Observation, StepError>
@@ -158,7 +157,12 @@ impl<'p, const W: usize> Rob<'p, W> {
         let memories = memories(alloc, &self.layout, &machine.registers, &machine.space)?;
         Ok(Some(match end {
             End::Returned => Run::Returned {
-                values: results(alloc, &self.layout, &machine.registers, machine.front.position as usize)?,
+                values: results(
+                    alloc,
+                    &self.layout,
+                    &machine.registers,
+                    machine.front.position as usize,
+                )?,
                 memories,
             },
             End::Trapped(kind) => Run::Trapped { kind, memories },
@@ -189,8 +193,7 @@ impl<'p, const W: usize> Rob<'p, W> {
 
     /// The position and the kind of an entry; None exactly where the buffer has none of that index. Takes no memory.
     pub fn entry(&self, n: u32) -> Option<(Pos, Kind)>
-        ensures { option_map (λ found. (found.0.0, found.1)) result
-            ≡ option_map (λ entry. (entry.position, kind_of entry.work)) (slice_get (shown self.now.machine).buffer n) }
+        ensures { IsTold (slice_get (shown self.now.machine).buffer n) result }
     {
         match self.machine.entries.get(n as usize) {
             Some(entry) => Some((Pos(entry.position), entry.work.kind())),

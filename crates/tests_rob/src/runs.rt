@@ -55,7 +55,9 @@ fn a_function_is_fetched_executed_and_retired(rt: HostRuntime) -> Result<(), Fai
     assert_eq!(rt; rob.finished(), Some(End::Returned));
     assert_eq!(rt; rob.retired(), 6);
     let outcome = rob.outcome(rt.alloc())?;
-    assert!(rt; matches!(&outcome, Some(Run::Returned { values, .. }) if values.as_slice() == [42].as_slice()));
+    assert!(rt;
+        matches!(&outcome, Some(Run::Returned { values, .. }) if values.as_slice() == [42].as_slice())
+    );
     Ok(())
 }
 
@@ -71,7 +73,13 @@ fn a_guess_is_rolled_back(rt: HostRuntime) -> Result<(), Fail> {
         (Directive::Predict(false), Observation::Nothing),
         (Directive::Fetch, Observation::Nothing),
         (Directive::Exec(1), Observation::Nothing),
-        (Directive::Exec(4), Observation::Read { address: 65_536, guards: 8 }),
+        (
+            Directive::Exec(4),
+            Observation::Read {
+                address: 65_536,
+                guards: 8,
+            },
+        ),
         (Directive::Exec(2), Observation::Nothing),
         (Directive::Exec(3), Observation::Rollback(3)),
         (Directive::Fetch, Observation::Nothing),
@@ -84,9 +92,20 @@ fn a_guess_is_rolled_back(rt: HostRuntime) -> Result<(), Fail> {
     for (d, wanted) in directives {
         assert_eq!(rt; rob.step(rt.alloc(), d)?, wanted);
     }
-    assert_eq!(rt; rob.step(rt.alloc(), Directive::Fetch), Err(StepError::NotEnabled));
+    assert_eq!(rt;
+        rob.step(rt.alloc(), Directive::Fetch),
+        Err(StepError::NotEnabled)
+    );
     let outcome = rob.outcome(rt.alloc())?;
-    assert!(rt; matches!(&outcome, Some(Run::Trapped { kind: Trap::OutOfBounds, .. })));
+    assert!(rt;
+        matches!(
+            &outcome,
+            Some(Run::Trapped {
+                kind: Trap::OutOfBounds,
+                ..
+            })
+        )
+    );
     Ok(())
 }
 
@@ -95,8 +114,14 @@ fn a_buffer_of_one_entry(rt: HostRuntime) -> Result<(), Fail> {
     let program = decode_image(rt.alloc(), &INC)?;
     let start = start_with(&rt, 41)?;
     let mut rob: Rob<1> = begun(rt.alloc(), &program, 0, &start)?;
-    assert_eq!(rt; rob.step(rt.alloc(), Directive::Fetch)?, Observation::Nothing);
-    assert_eq!(rt; rob.step(rt.alloc(), Directive::Fetch), Err(StepError::NotEnabled));
+    assert_eq!(rt;
+        rob.step(rt.alloc(), Directive::Fetch)?,
+        Observation::Nothing
+    );
+    assert_eq!(rt;
+        rob.step(rt.alloc(), Directive::Fetch),
+        Err(StepError::NotEnabled)
+    );
     assert_eq!(rt; rob.entry(0), Some((Pos(7), Kind::Nop)));
     assert_eq!(rt; rob.front(), Some(Pos(8)));
     Ok(())

@@ -29,7 +29,7 @@ loop-number-preserved c =
     let next = sum_next (λ (m : MemoryDef). m.reserve) memories c.loop-number.number c.memory-item.result lt in
     let same = ap (λ (m : MemoryDef). m.reserve) is in
     let state : memory_of c.in_ok-copied.field-0 ≡ pages_at c.args.space.now c.loop-number.from c.at-pages.result =
-        c.in_ok-copied.ensures ∙ ap (λ bytes. pages_at bytes c.loop-number.from c.at-pages.result) c.as_slice.ensures in
+    c.in_ok-copied.ensures ∙ ap (λ bytes. pages_at bytes c.loop-number.from c.at-pages.result) c.as_slice.ensures in
     record {
       all = states_next (λ depth x. register_at c.args.registers.now depth x) c.args.space.now memories c.loop-number.memories c.push.new.self c.in_ok-copied.field-0
           c.len-globals.result c.loop-number.from c.loop-number.number c.memory-item.result c.memory-item.result lt is c.in_ok-push.ensures.ok
