@@ -1,5 +1,5 @@
 -- The machine before its first step.
-use Rattle.std.proofs.Common.{◌≡◌, ℕ, List, [], refl, sym, ap, ◌∙◌}
+use Rattle.std.proofs.Common.{◌≡◌, ℕ, List, [], ap, ◌∙◌}
 use Rattle.bl_base.specs.declared.start.Start.{Start}
 use Rattle.bl_cmd.specs.Layout.{entry_of}
 use Rattle.bl_cmd.specs.Outcomes.{opening as plain_opening}

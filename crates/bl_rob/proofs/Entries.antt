@@ -1,9 +1,7 @@
 -- Entries of functions are positions.
-use Rattle.std.proofs.Common.{◌≡◌, inl, inr, ℕ, zero, suc, ◌+◌, ◌<◌, ◌≤◌, List, [], ◌∷◌, length, refl, sym, ap, ◌∙◌, subst, arith}
-use Rattle.std.proofs.lemmas.Bool.{cases_lt}
-use Rattle.bl_base.proofs.Lists.{all_get}
-use Rattle.bl_cmd.specs.Layout.{sum_before, command_at, entry_of}
-use Rattle.bl_cmd.specs.Programs.{IsProgram, IsCommand}
+use Rattle.std.proofs.Common.{ℕ, zero, suc, ◌≤◌, List, [], ◌∷◌, length, arith}
+use Rattle.bl_cmd.specs.Layout.{sum_before, entry_of}
+use Rattle.bl_cmd.specs.Programs.{IsProgram}
 use Rattle.bl_cmd.specs.Rules.{IsWellFormed}
 use Rattle.bl_cmd.specs.declared.definitions.ProgramParts.{ProgramParts as Program}
 

@@ -2,7 +2,7 @@
 use Rattle.std.proofs.Common.{◌≡◌, ℕ, zero, suc, ◌+◌, Bool, true, false, List, [], ◌∷◌, ◌++◌, length, take, drop, Option, Some, None, refl, sym, ap, ◌∙◌, subst, arith}
 use Rattle.std.specs.Prelude.{if◌then◌else◌, slice_get, nat_lt}
 use Rattle.std.proofs.lemmas.List.{append-nil}
-use Rattle.bl_base.specs.Runs.{Outcome, Next, goes, ends, stuck, Comes, EndsAfter, last}
+use Rattle.bl_base.specs.Runs.{Next, goes, ends, stuck, Comes, EndsAfter, last}
 use Rattle.bl_base.proofs.RunLemmas.{comes_then, comes_to_end}
 use Rattle.bl_base.specs.declared.start.Start.{Start}
 use Rattle.bl_base.specs.declared.trap.Trap.{Trap}
@@ -12,8 +12,8 @@ use Rattle.bl_cmd.specs.Steps.{Registers, Plain, plain_step}
 use Rattle.bl_cmd.specs.declared.command.Command.{Command}
 use Rattle.bl_cmd.specs.declared.command.Command.TheVariants as command
 use Rattle.bl_cmd.specs.declared.definitions.ProgramParts.{ProgramParts as Program}
-use Rattle.bl_rob.specs.Machines.{State, at_position, ended_at, opening, end_of, end_in, Fetched, Straight, Branch, Nowhere, fetched, fetched_from, called, back, before, grown, fetch, guess, predict, has_store, act, become, turned, acted, exec_entry, truth, agree, without, retire_work, retire, has_room, directive_step, outcome_by}
-use Rattle.bl_rob.specs.Observed.{go_on, after, reached, IsAlike, IsComeTo, HasEnded, IsConsistent_by, IsConsistent}
+use Rattle.bl_rob.specs.Machines.{State, at_position, ended_at, opening, end_of, end_in, Fetched, Straight, Branch, Nowhere, fetched, fetched_from, before, grown, fetch, predict, has_store, act, turned, acted, exec_entry, truth, agree, retire_work, retire, has_room, directive_step, outcome_by}
+use Rattle.bl_rob.specs.Observed.{go_on, after, reached, IsConsistent_by, IsConsistent}
 use Rattle.bl_rob.specs.declared.directive.Directive.{Directive}
 use Rattle.bl_rob.specs.declared.directive.Directive.TheVariants.{Fetch, Predict, Exec, Retire}
 use Rattle.bl_rob.specs.declared.directive.End.{End}
@@ -22,12 +22,11 @@ use Rattle.bl_rob.specs.declared.directive.Observation.{Observation}
 use Rattle.bl_rob.specs.declared.entry.Act.{Act}
 use Rattle.bl_rob.specs.declared.entry.Act.TheVariants.{Idle, Becomes, Turns}
 use Rattle.bl_rob.specs.declared.entry.Entry.{Entry}
-use Rattle.bl_rob.specs.declared.entry.Source.{Source}
 use Rattle.bl_rob.specs.declared.entry.Work.{Work}
 use Rattle.bl_rob.specs.declared.entry.Work.TheVariants.{Nop, Assign, Load, Held, Done, Store, Ready, Guard, Fail}
 use Rattle.bl_rob.specs.declared.front.Front.{Front}
-use Rattle.bl_rob.proofs.Tracks.{Config, value_in, registers_after, space_after, next_at, next, IsThere, Cases, Path, Tracks, View, view, committed, Below, go_along, entry_at, GoesBack, Acts, act_ok}
-use Rattle.bl_rob.proofs.Plainly.{config_of, state_of, Ends, Follows, follows}
+use Rattle.bl_rob.proofs.Tracks.{Config, value_in, registers_after, space_after, next_at, next, IsThere, Cases, Path, Tracks, view, committed, Below, go_along, entry_at, GoesBack, Acts, act_ok}
+use Rattle.bl_rob.proofs.Plainly.{config_of, state_of, Follows, follows}
 
 -- ---- the buffer
 

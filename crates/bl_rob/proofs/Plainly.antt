@@ -1,24 +1,21 @@
 -- The plain run over what is fetched is the plain run.
-use Rattle.std.proofs.Common.{◌≡◌, ℕ, zero, suc, ◌%◌, ◌^◌, ◌==◌, Bool, true, false, List, [], ◌∷◌, length, Option, Some, None, refl, sym, ap, ◌∙◌, subst}
+use Rattle.std.proofs.Common.{◌≡◌, ℕ, suc, ◌%◌, ◌^◌, ◌==◌, Bool, true, false, List, [], ◌∷◌, length, Option, Some, None, refl}
 use Rattle.std.specs.Prelude.{not, nat_lt, if◌then◌else◌}
-use Rattle.bl_base.specs.Runs.{Outcome, Next, goes, ends, stuck, Comes, EndsAfter, last}
+use Rattle.bl_base.specs.Runs.{Outcome, Next, goes, ends, stuck}
 use Rattle.bl_base.specs.declared.trap.Trap.TheVariants as trap_kind
-use Rattle.bl_base.proofs.RunLemmas.{comes_then, comes_to_end}
 use Rattle.bl_ops.specs.Numerics.{meaning}
-use Rattle.bl_ops.specs.declared.op.Op.{Op}
 use Rattle.bl_ops.specs.declared.op.Op.TheVariants.{Move}
-use Rattle.bl_cmd.specs.Layout.{command_at, entry_of, param, result, running}
-use Rattle.bl_cmd.specs.Steps.{Registers, Plain, written, held, value_at, effective, loaded, stored, to, call, perform, plain_step}
+use Rattle.bl_cmd.specs.Layout.{command_at, entry_of}
+use Rattle.bl_cmd.specs.Steps.{Registers, Plain, value_at, to, perform, plain_step}
 use Rattle.bl_cmd.specs.declared.command.Command.{Command}
 use Rattle.bl_cmd.specs.declared.command.Command.TheVariants.{Set, Load, Store, Test, Jump, Arg, Call, Out, Ret, Trap}
 use Rattle.bl_cmd.specs.declared.command.Operand.{Operand}
 use Rattle.bl_cmd.specs.declared.command.Operand.TheVariants.{Var, Const}
 use Rattle.bl_cmd.specs.declared.definitions.ProgramParts.{ProgramParts as Program}
-use Rattle.bl_rob.specs.Machines.{State, at_position, ended_at, Fetched, Straight, fetched, called, back, before, source_of, truth, outcome_by}
+use Rattle.bl_rob.specs.Machines.{State, at_position, ended_at, Straight, fetched, before, source_of, outcome_by}
 use Rattle.bl_rob.specs.declared.directive.End.{End}
 use Rattle.bl_rob.specs.declared.directive.End.TheVariants as ending
 use Rattle.bl_rob.specs.declared.entry.Work.TheVariants as work
-use Rattle.bl_rob.specs.declared.front.Front.{Front}
 use Rattle.bl_rob.proofs.Tracks.{Config, value_in, next_at, next, IsThere}
 
 -- a state of the plain run

@@ -1,12 +1,12 @@
 -- No directive lets the buffer grow past its room.
-use Rattle.std.proofs.Common.{◌≡◌, ℕ, zero, suc, ◌+◌, ◌-◌, ◌<◌, ◌≤◌, Bool, true, false, List, [], ◌∷◌, ◌++◌, length, take, drop, min, Option, Some, None, refl, sym, ap, ◌∙◌, subst, arith}
+use Rattle.std.proofs.Common.{◌≡◌, ℕ, zero, suc, ◌+◌, ◌<◌, ◌≤◌, Bool, true, false, List, [], ◌∷◌, ◌++◌, length, take, drop, Option, Some, None, refl, sym, ap, subst, arith}
 use Rattle.std.specs.Prelude.{nat_lt, slice_get, Result, Ok, Err}
 use Rattle.std.specs.Option.{ok_or}
 use Rattle.std.proofs.lemmas.Bool.{ltb-true}
 use Rattle.std.proofs.lemmas.List.{length-append}
 use Rattle.bl_cmd.specs.declared.definitions.ProgramParts.{ProgramParts as Program}
-use Rattle.bl_rob.specs.Answers.{NeedsMemory, Comes_by, Steps, Executes}
-use Rattle.bl_rob.specs.Machines.{State, Fetched, Straight, Branch, Nowhere, before, fetch, guess, predict, act, become, turned, acted, exec_entry, retire_work, retire, has_room, directive_step}
+use Rattle.bl_rob.specs.Answers.{Steps, Executes}
+use Rattle.bl_rob.specs.Machines.{State, Fetched, Straight, Branch, Nowhere, before, fetch, guess, predict, act, turned, acted, exec_entry, retire_work, retire, has_room, directive_step}
 use Rattle.bl_rob.specs.declared.directive.Directive.{Directive}
 use Rattle.bl_rob.specs.declared.directive.Directive.TheVariants.{Fetch, Predict, Exec, Retire}
 use Rattle.bl_rob.specs.declared.directive.Observation.{Observation}

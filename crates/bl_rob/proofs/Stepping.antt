@@ -1,5 +1,5 @@
 -- Steps of the machine, from what their parts answer.
-use Rattle.std.proofs.Common.{◌≡◌, ℕ, zero, suc, ◌+◌, ◌-◌, ◌<◌, ◌≤◌, Bool, true, false, List, [], ◌∷◌, ◌++◌, length, take, drop, set, get_or, Option, Some, None, IsTrue, refl, sym, ap, ◌∙◌, subst, arith}
+use Rattle.std.proofs.Common.{◌≡◌, ℕ, zero, suc, ◌+◌, ◌-◌, ◌<◌, Bool, true, false, List, [], ◌∷◌, ◌++◌, length, take, drop, set, get_or, Option, Some, None, IsTrue, refl, sym, ap, ◌∙◌, subst, arith}
 use Rattle.std.specs.Prelude.{if◌then◌else◌, slice_get, IfErr, IfOk, IfSome, Result, Ok, Err}
 use Rattle.std.proofs.Math.Seq.{take-append_seam}
 use Rattle.std.proofs.lemmas.List.{length-append}
@@ -9,21 +9,19 @@ use Rattle.bl_base.proofs.Lists.{within_get}
 use Rattle.bl_ops.specs.declared.access.AccessKind.{AccessKind}
 use Rattle.bl_ops.specs.declared.op.Op.{Op}
 use Rattle.bl_cmd.specs.Layout.{command_at}
-use Rattle.bl_cmd.specs.Steps.{Registers}
 use Rattle.bl_cmd.specs.declared.command.Command.{Command}
 use Rattle.bl_cmd.specs.declared.command.Command.TheVariants as command
 use Rattle.bl_cmd.specs.declared.command.Operand.{Operand}
 use Rattle.bl_cmd.specs.declared.definitions.ProgramParts.{ProgramParts as Program}
 use Rattle.bl_rob.specs.Answers.{Comes_by, Steps, act_by, command_from, next_command, front_in, turned_at, work_in}
 use Rattle.bl_rob.specs.Effects.{carried, effect_of, first_effect}
-use Rattle.bl_rob.specs.Machines.{State, at_position, Fetched, Straight, Branch, Nowhere, fetched, fetched_from, grown, fetch, source_of, guess, predict, has_room, directive_step, is_guard, assigns, loads, stores, frees, judges, agree, truth, act, become, turned, acted, exec_entry, retire_work, retire}
+use Rattle.bl_rob.specs.Machines.{State, at_position, Fetched, Straight, Branch, Nowhere, fetched, fetched_from, grown, fetch, source_of, guess, predict, has_room, directive_step, is_guard, assigns, loads, stores, frees, act, become, turned, acted, exec_entry, retire_work, retire}
 use Rattle.bl_rob.specs.declared.directive.Directive.TheVariants.{Predict}
 use Rattle.bl_rob.specs.declared.directive.End.{End}
 use Rattle.bl_rob.specs.declared.directive.Observation.{Observation}
 use Rattle.bl_rob.specs.declared.directive.Observation.TheVariants as seen
 use Rattle.bl_rob.specs.declared.directive.StepError.{StepError}
 use Rattle.bl_rob.specs.declared.directive.StepError.TheVariants.{Memory}
-use Rattle.bl_rob.specs.declared.entry.Act.{Act}
 use Rattle.bl_rob.specs.declared.entry.Act.TheVariants.{Idle, Becomes, Turns}
 use Rattle.bl_rob.specs.declared.entry.Entry.{Entry}
 use Rattle.bl_rob.specs.declared.entry.Register.{Register}

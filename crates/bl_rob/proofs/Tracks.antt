@@ -1,14 +1,14 @@
 -- A buffer unfolds the plain run: behind the registers and memories of a state of that run its entries are those of the next
 -- commands, as far as the guards guessed right.
-use Rattle.std.proofs.Common.{◌≡◌, ℕ, ◌%◌, ◌^◌, ◌==◌, Bool, true, false, List, [], ◌∷◌, ◌++◌, Option, Some, None, refl, sym, ap, ◌∙◌, subst}
-use Rattle.std.specs.Prelude.{◌||◌, ◌&&◌, not, nat_eq, if◌then◌else◌}
+use Rattle.std.proofs.Common.{◌≡◌, ℕ, Bool, true, false, List, [], ◌∷◌, ◌++◌, Option, Some, None, refl, sym, ap, ◌∙◌, subst}
+use Rattle.std.specs.Prelude.{◌||◌, if◌then◌else◌}
 use Rattle.std.specs.List.{fold}
 use Rattle.bl_ops.specs.Numerics.{meaning}
 use Rattle.bl_ops.specs.declared.access.AccessKind.{AccessKind}
 use Rattle.bl_ops.specs.declared.op.Op.{Op}
 use Rattle.bl_cmd.specs.Steps.{Registers, written, effective, loaded, stored}
 use Rattle.bl_cmd.specs.declared.definitions.ProgramParts.{ProgramParts as Program}
-use Rattle.bl_rob.specs.Machines.{at_position, Fetched, Straight, Branch, Nowhere, before, behind, is_at, visible, visible_of, is_store, has_store, has_guard, guards, valued, assigns, loads, stores, frees, truth, agree, judges, act}
+use Rattle.bl_rob.specs.Machines.{at_position, Fetched, Straight, Branch, Nowhere, before, behind, is_at, visible_of, is_store, has_store, has_guard, guards, valued, assigns, loads, stores, frees, truth, agree, judges, act}
 use Rattle.bl_rob.specs.declared.directive.End.TheVariants as ending
 use Rattle.bl_rob.specs.declared.directive.Observation.TheVariants as seen
 use Rattle.bl_rob.specs.declared.entry.Act.{Act}

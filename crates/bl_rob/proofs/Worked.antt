@@ -1,22 +1,20 @@
 -- Worked runs.
-use Rattle.std.proofs.Common.{◌≡◌, ℕ, Bool, true, false, List, [], ◌∷◌, ◌++◌, replicate, Option, Some, None, refl}
-use Rattle.bl_base.specs.Trap.{kinds}
-use Rattle.bl_base.specs.Runs.{returned, trapped}
+use Rattle.std.proofs.Common.{◌≡◌, ℕ, Bool, true, false, List, [], ◌∷◌, ◌++◌, replicate, Some, None, refl}
+use Rattle.bl_base.specs.Runs.{returned}
 use Rattle.bl_base.specs.declared.names.Label.TheVariants.{Public}
 use Rattle.bl_base.specs.declared.names.ValueType.TheVariants.{I32}
 use Rattle.bl_base.specs.declared.start.Start.{Start}
-use Rattle.bl_base.specs.declared.trap.Trap.{Trap as TrapKind}
 use Rattle.bl_base.specs.declared.trap.Trap.TheVariants as trap_kind
 use Rattle.bl_ops.specs.declared.access.AccessKind.TheVariants.{I32Load8U}
-use Rattle.bl_ops.specs.declared.op.Op.TheVariants.{Move, I32Add, Outside}
+use Rattle.bl_ops.specs.declared.op.Op.TheVariants.{Move, I32Add}
 use Rattle.bl_cmd.specs.declared.command.Command.{Command}
 use Rattle.bl_cmd.specs.declared.command.Command.TheVariants.{Set, Load, Test, Jump, Out, Ret, Trap}
 use Rattle.bl_cmd.specs.declared.command.Mark.{Mark}
 use Rattle.bl_cmd.specs.declared.command.Operand.{Operand}
 use Rattle.bl_cmd.specs.declared.command.Operand.TheVariants.{Var, Const}
 use Rattle.bl_cmd.specs.declared.definitions.ProgramParts.{ProgramParts as Program}
-use Rattle.bl_rob.specs.Machines.{State, at_position, end_in, outcome_by, opening}
-use Rattle.bl_rob.specs.Observed.{Observed, after, observed, observed_from, reached}
+use Rattle.bl_rob.specs.Machines.{State, at_position, end_in, outcome_by}
+use Rattle.bl_rob.specs.Observed.{observed, observed_from, reached}
 use Rattle.bl_rob.specs.declared.directive.Directive.{Directive}
 use Rattle.bl_rob.specs.declared.directive.Directive.TheVariants.{Fetch, Predict, Exec, Retire}
 use Rattle.bl_rob.specs.declared.directive.End.TheVariants as ending
@@ -24,17 +22,17 @@ use Rattle.bl_rob.specs.declared.directive.Observation.TheVariants.{Nothing, Rea
 
 -- ---- a function that adds 1: it is fetched, executed and retired
 
-plain : Mark
+abbrev plain : Mark
 plain = record { depth = 0; protect = false }
 
-traps : List Command
+abbrev traps : List Command
 traps = Trap trap_kind.Unreachable ∷ Trap trap_kind.DivideByZero ∷ Trap trap_kind.Overflow ∷ Trap trap_kind.OutOfBounds ∷ Trap trap_kind.UndefinedElement
     ∷ Trap trap_kind.UninitializedElement ∷ Trap trap_kind.TypeMismatch ∷ []
 
-v : ℕ → Operand
+abbrev v : ℕ → Operand
 v x = Var (record { 0 = x })
 
-inc : Program
+abbrev inc : Program
 inc = record {
   globals = [];
   memories = [];
@@ -51,10 +49,10 @@ inc = record {
   weights = [];
 }
 
-forty_one : Start
+abbrev forty_one : Start
 forty_one = record { args = 41 ∷ []; patches = [] }
 
-in_order : List Directive
+abbrev in_order : List Directive
 in_order = replicate 6 Fetch ++ (Exec 1 ∷ Exec 2 ∷ Exec 3 ∷ Exec 4 ∷ replicate 6 Retire)
 
 inc_observed : observed 64 inc 0 forty_one in_order ≡ record { made = replicate 16 Nothing; refused = None }
@@ -73,7 +71,7 @@ inc_alone = refl
 
 -- ---- a load behind a guess that it is inside its memory, and a second load at what it gave
 
-chased : Bool → Program
+abbrev chased : Bool → Program
 chased protect = record {
   globals = [];
   memories = [];
@@ -94,7 +92,7 @@ chased protect = record {
   weights = [];
 }
 
-at_two : State
+abbrev at_two : State
 at_two = record {
   buffer = [];
   front = at_position 7 [];
@@ -103,7 +101,7 @@ at_two = record {
   retired = 0;
 }
 
-guessed : List Directive
+abbrev guessed : List Directive
 guessed = Fetch ∷ Fetch ∷ Fetch ∷ Predict false ∷ Fetch ∷ Fetch ∷ Predict false ∷ Fetch ∷ Exec 1 ∷ Exec 4 ∷ Exec 7 ∷ Exec 2 ∷ Exec 3 ∷ Fetch ∷ Retire ∷ Retire ∷ Retire ∷ Retire ∷ []
 
 -- the second load is executed at the value that the first one gave

@@ -3,9 +3,8 @@ use Rattle.std.specs.Prelude.{◌≡◌, ◌≤◌, ℕ, suc, Contains, List, []
 use Rattle.bl_base.specs.Runs.{Comes, EndsAfter}
 use Rattle.bl_base.specs.declared.start.Start.{Start}
 use Rattle.bl_cmd.specs.Layout.{result}
-use Rattle.bl_cmd.specs.Outcomes.{Agree, opening as plain_opening}
+use Rattle.bl_cmd.specs.Outcomes.{Agree}
 use Rattle.bl_cmd.specs.Steps.{Plain, plain_step}
-use Rattle.bl_cmd.specs.declared.definitions.Demand.{Demand}
 use Rattle.bl_cmd.specs.declared.definitions.Demand.TheVariants as demand
 use Rattle.bl_cmd.specs.declared.definitions.ProgramParts.{ProgramParts as Program}
 use Rattle.bl_rob.specs.Machines.{State, opening, directive_step, end_in, outcome_by}

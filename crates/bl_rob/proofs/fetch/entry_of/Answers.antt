@@ -1,4 +1,4 @@
-use Rattle.std.proofs.Common.{◌≡◌, ◌+◌, ◌∙◌, ap, arith}
+use Rattle.std.proofs.Common.{◌≡◌, ap, arith}
 use Rattle.bl_cmd.specs.Layout.{entry_of}
 use Rattle.bl_seq.specs.declared.layout.Frame.{Frame}
 use Rattle.bl_rob.proofs.Entries.{entry_small}

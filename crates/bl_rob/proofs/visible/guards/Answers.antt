@@ -1,4 +1,4 @@
-use Rattle.std.proofs.Common.{◌≡◌, ◌+◌, ◌*◌, ap, ◌∙◌, arith}
+use Rattle.std.proofs.Common.{◌+◌, ◌*◌, ap, ◌∙◌, arith}
 use Rattle.bl_rob.proofs.Masks.{byte_is, one_more}
 use Rattle.bl_rob.proofs.visible.guards.Goals as goal
 
