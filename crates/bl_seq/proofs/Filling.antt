@@ -1,12 +1,12 @@
 -- Registers after writes.
-use Rattle.std.proofs.Common.{◌≡◌, ◌≢◌, inl, inr, ℕ, zero, suc, ◌+◌, ◌-◌, ◌<◌, ◌≤◌, Bool, true, false, List, [], ◌∷◌, ◌++◌, length, drop, replicate, get_or, refl, sym, ap, ◌∙◌, subst, arith}
-use Rattle.std.specs.Prelude.{◌&&◌, nat_eq, if◌then◌else◌, OnOk, Result, Ok, Err}
+use Rattle.std.proofs.Common.{◌≡◌, ◌≢◌, ◌⊎◌, inl, inr, ℕ, zero, suc, ◌+◌, ◌-◌, ◌<◌, ◌≤◌, Bool, true, false, List, [], ◌∷◌, ◌++◌, length, drop, replicate, set, get_or, refl, sym, ap, ◌∙◌, subst, arith, add-one}
+use Rattle.std.specs.Prelude.{◌&&◌, nat_eq, if◌then◌else◌, OnErr, OnOk, Result, Ok, Err}
 use Rattle.std.proofs.Math.Path.{fun_ext}
 use Rattle.std.proofs.lemmas.Bool.{cases_lt, eqb-true, eqb-false, eq-eqb}
 use Rattle.std.proofs.lemmas.Bool.Decides.{eqb_tells}
-use Rattle.std.proofs.lemmas.List.{get_or-set_same, get_or-set_other, get_or_append_left, get_or-append_right, get_or-replicate, get_or_past, length-append, length-replicate}
+use Rattle.std.proofs.lemmas.List.{get_or-set_same, get_or-set_other, get_or_append_left, get_or-append_right, get_or_default, get_or-replicate, get_or_past, length-append, length-replicate}
 use Rattle.bl_cmd.specs.Steps.{written}
-use Rattle.bl_seq.specs.Filled.{put, Tree, branch_of, leaf_of, cell_of, in_tree, put_in, register_at, filled}
+use Rattle.bl_seq.specs.Filled.{AreSame, IsSameLeaf, IsSameBranch, IsSameTree, put, Tree, branch_of, leaf_of, cell_of, in_tree, put_in, register_at, filled}
 
 -- ---- a list with an item put at a place
 
@@ -17,7 +17,7 @@ module _ {A : Type 0} (blank : A) where
     | inr more ↦ get_or_past (replicate n blank) k blank (simp length-replicate more)
   ]
 
-  with_blanks : (list : List A) (n j : ℕ) → get_or (list ++ replicate n blank) j blank ≡ get_or list j blank
+  pub with_blanks : (list : List A) (n j : ℕ) → get_or (list ++ replicate n blank) j blank ≡ get_or list j blank
   with_blanks list n j = elim (cases_lt j (length list)) as (λ _. get_or (list ++ replicate n blank) j blank ≡ get_or list j blank) [
     | inl less ↦ get_or_append_left list (replicate n blank) blank j less
     | inr more ↦ get_or-append_right list (replicate n blank) (length list) j blank refl more ∙ of_blanks n (j - length list) ∙ sym (get_or_past list j blank more)
@@ -30,6 +30,57 @@ module _ {A : Type 0} (blank : A) where
 
   got_other : (list : List A) (i j : ℕ) (x : A) → j ≢ i → get_or (put blank list i x) j blank ≡ get_or list j blank
   got_other list i j x ne = get_or-set_other (list ++ replicate (i + 1 - length list) blank) i j x blank ne ∙ with_blanks list (i + 1 - length list) j
+
+-- ---- what is the same where a write was refused
+
+-- a list with blanks behind its end, and that with another item at a place, where items are compared by a relation
+module _ {A : Type 0} (blank : A) (Same : A → A → Type 0) (same : (x : A) → Same x x) where
+  pub grown_same : (old new : List A) (n : ℕ) → new ≡ old ++ replicate n blank → (j : ℕ) → Same (get_or old j blank) (get_or new j blank)
+  grown_same old new n e j =
+      subst (λ x. Same (get_or old j blank) x) (sym (ap (λ l. get_or l j blank) e ∙ with_blanks blank old n j)) (same (get_or old j blank))
+
+  pub set_same : (old mid new : List A) (n i : ℕ) (x : A) → mid ≡ old ++ replicate n blank → i < length mid → new ≡ set mid i x → Same (get_or mid i blank) x
+      → (j : ℕ) → Same (get_or old j blank) (get_or new j blank)
+  set_same old mid new n i x e lt is h j =
+      let before : get_or mid j blank ≡ get_or old j blank = ap (λ l. get_or l j blank) e ∙ with_blanks blank old n j in
+      elim (eqb_tells j i) as (λ _. Same (get_or old j blank) (get_or new j blank)) [
+        | inl here ↦
+            subst (λ y. Same y (get_or new j blank)) before
+            (subst (λ y. Same (get_or mid j blank) y) (sym (ap (λ l. get_or l j blank) is ∙ ap (λ k. get_or (set mid i x) k blank) here.1 ∙ get_or-set_same mid i x blank lt))
+            (subst (λ k. Same (get_or mid k blank) x) (sym here.1) h))
+        | inr other ↦
+            subst (λ y. Same (get_or old j blank) y) (sym (ap (λ l. get_or l j blank) is ∙ get_or-set_other mid i j x blank other.1 ∙ before)) (same (get_or old j blank))
+      ]
+
+module _ {A : Type 0} (blank : A) (Same : A → A → Type 0) (same : (x : A) → Same x x) where
+  -- a list that was made to reach a place, with an item put there that is the same as the one before
+  pub put_same : (old mid : List A) (i : ℕ) (y x : A) → mid ≡ old ++ replicate (i + 1 - length old) blank → y ≡ get_or mid i y → Same y x
+      → (j : ℕ) → Same (get_or old j blank) (get_or (set mid i x) j blank)
+  put_same old mid i y x e is h =
+      let size : length mid ≡ length (old ++ replicate (i + 1 - length old) blank) = ap length e in
+      let all : length (old ++ replicate (i + 1 - length old) blank) ≡ length old + (i + 1 - length old) = simp (length-append, length-replicate) refl in
+      let room : i < length mid = omega arith in
+      set_same blank Same same old mid (set mid i x) (i + 1 - length old) i x e room refl (subst (λ z. Same z x) (is ∙ get_or_default mid i y blank room) h)
+
+pub on_err : {X E : Type 0} (r : Result X E) (P : Type 0) → P → OnErr r P
+on_err (Ok y) P h = tt
+on_err (Err e) P h = h
+
+pub when_err : {X E : Type 0} (r : Result X E) (P Q : Type 0) → (P → Q) → OnErr r P → OnErr r Q
+when_err (Ok y) P Q f h = tt
+when_err (Err e) P Q f h = f h
+
+pub same_number : (x : ℕ) → x ≡ x
+same_number x = refl
+
+pub same_leaf : (x : List ℕ) → IsSameLeaf x x
+same_leaf x cell = refl
+
+pub same_branch : (x : List (List ℕ)) → IsSameBranch x x
+same_branch x leaf cell = refl
+
+pub same_tree : (x : Tree) → IsSameTree x x
+same_tree x branch leaf cell = refl
 
 -- ---- a variable written at a depth
 
@@ -153,3 +204,7 @@ pub wrote : {X E : Type 0} (old new : List Tree) (r : Result X E) (depth x numbe
     → OnOk r ((d v : ℕ) → register_at new d v ≡ written (λ d v. register_at old d v) depth x number d v)
 wrote old new (Ok y) depth x number e = λ d v. ap (λ file. register_at file d v) e ∙ register_put old depth x number d v
 wrote old new (Err y) depth x number e = tt
+
+-- what a write leaves where it was refused
+pub refused : {X E : Type 0} (old new : List Tree) (r : Result X E) → OnErr r (AreSame old new) → OnErr r ((d v : ℕ) → register_at new d v ≡ register_at old d v)
+refused old new r h = when_err r (AreSame old new) _ (λ same d v. same d (branch_of v) (leaf_of v) (cell_of v)) h

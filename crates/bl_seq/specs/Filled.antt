@@ -1,5 +1,5 @@
 -- Registers as lists of lists that are filled as far as they were written.
-use Rattle.std.specs.Prelude.{ℕ, suc, ◌+◌, ◌-◌, ◌/◌, ◌%◌, List, [], ◌∷◌, ◌++◌, length, replicate, set, slice_index, slice_index_or}
+use Rattle.std.specs.Prelude.{◌≡◌, ℕ, suc, ◌+◌, ◌-◌, ◌/◌, ◌%◌, List, [], ◌∷◌, ◌++◌, length, replicate, set, slice_index, slice_index_or}
 use Rattle.bl_cmd.specs.Steps.{written}
 
 -- a list with an item put at a place; what it lacked before that place is blank
@@ -38,3 +38,17 @@ register_at file depth x = in_tree (slice_index_or file depth []) x
 abbrev pub filled : (ℕ → ℕ → ℕ) → ℕ → ℕ → List ℕ → ℕ → ℕ → ℕ
 filled registers depth from [] = registers
 filled registers depth from (number ∷ numbers) = filled (written registers depth from number) depth (suc from) numbers
+
+-- ---- the same numbers, where lists may have got blanks behind their ends
+
+abbrev pub IsSameLeaf : List ℕ → List ℕ → Type 0
+IsSameLeaf old new = (cell : ℕ) → slice_index new cell ≡ slice_index old cell
+
+abbrev pub IsSameBranch : List (List ℕ) → List (List ℕ) → Type 0
+IsSameBranch old new = (leaf : ℕ) → IsSameLeaf (slice_index_or old leaf []) (slice_index_or new leaf [])
+
+abbrev pub IsSameTree : Tree → Tree → Type 0
+IsSameTree old new = (branch : ℕ) → IsSameBranch (slice_index_or old branch []) (slice_index_or new branch [])
+
+abbrev pub AreSame : List Tree → List Tree → Type 0
+AreSame old new = (depth : ℕ) → IsSameTree (slice_index_or old depth []) (slice_index_or new depth [])

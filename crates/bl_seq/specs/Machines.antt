@@ -2,7 +2,7 @@
 use Rattle.std.specs.Prelude.{◌≤◌, ℕ, List, Option, Some, None}
 use Rattle.bl_base.specs.Runs.{Outcome, returned, trapped, Next, goes, ends, stuck, Comes, EndsAfter}
 use Rattle.bl_cmd.specs.Layout.{results_of, result, running}
-use Rattle.bl_cmd.specs.Steps.{Plain, values_from, states, plain_step}
+use Rattle.bl_cmd.specs.Steps.{Registers, Plain, values_from, states, plain_step}
 use Rattle.bl_cmd.specs.declared.definitions.ProgramParts.{ProgramParts as Program}
 use Rattle.bl_seq.specs.Filled.{register_at}
 use Rattle.bl_seq.specs.declared.state.Machine.{Machine}
@@ -18,9 +18,13 @@ shown m = record {
   space = m.space;
 }
 
--- the results of the function that runs, in a state in which no call is open but the run's own
+-- the results of the function that holds a position, where no call is open but the run's own
+abbrev pub results_at : Program → Registers → ℕ → List ℕ
+results_at program registers position =
+    values_from registers 0 (result program (running program position) 0) (results_of program (running program position))
+
 abbrev pub results_in : Program → Plain → List ℕ
-results_in program s = values_from s.registers 0 (result program (running program s.position) 0) (results_of program (running program s.position))
+results_in program s = results_at program s.registers s.position
 
 -- what a step has come to, where the machine stands for that state behind it
 abbrev pub next_of : Program → Progress → Plain → Next Plain

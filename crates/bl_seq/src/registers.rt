@@ -1,7 +1,7 @@
 //! Registers, which take room as they are written.
-ghost use Rattle.std.specs.Prelude.{◌≡◌, ◌+◌, ◌^◌, ◌<◌, ◌++◌, ℕ, [], suc, ◌-◌, OnOk, length, replicate, slice_index, slice_index_or};
+ghost use Rattle.std.specs.Prelude.{◌≡◌, ◌+◌, ◌^◌, ◌<◌, ◌++◌, ℕ, [], suc, ◌-◌, OnErr, OnOk, length, replicate, slice_index, slice_index_or};
 ghost use Rattle.bl_cmd.specs.Steps.{written};
-ghost use Rattle.bl_seq.specs.Filled.{filled, in_tree, put, put_in, register_at};
+ghost use Rattle.bl_seq.specs.Filled.{AreSame, IsSameBranch, IsSameLeaf, IsSameTree, filled, in_tree, put, put_in, register_at};
 
 use bl_base::NoMemory;
 use std::alloc::Global;
@@ -43,7 +43,8 @@ impl Leaf {
     /// Makes the place one of the leaf's.
     fn reach(&mut self, place: usize) -> Result<(), NoMemory>
         requires { place < 2 ^ 63 }
-        ensures { OnOk result (self.new ≡ self.old ++ replicate (place + 1 - length self.old) 0) }
+        ensures ok { OnOk result (self.new ≡ self.old ++ replicate (place + 1 - length self.old) 0) }
+        ensures err { OnErr result (IsSameLeaf self.old self.new) }
     {
         let missing = (place + 1).saturating_sub(self.cells.len());
         for _ in 0..missing {
@@ -55,7 +56,8 @@ impl Leaf {
     /// Puts a number at a place.
     fn put(&mut self, place: usize, number: u64) -> Result<(), NoMemory>
         requires { place < 2 ^ 63 }
-        ensures { OnOk result (self.new ≡ put 0 self.old place number) }
+        ensures ok { OnOk result (self.new ≡ put 0 self.old place number) }
+        ensures err { OnErr result (IsSameLeaf self.old self.new) }
     {
         self.reach(place)?;
         self.cells[place] = number;
@@ -99,7 +101,8 @@ impl Branch {
     /// Makes the leaf one of the branch's.
     fn reach(&mut self, alloc: Global, leaf: usize) -> Result<(), NoMemory>
         requires { leaf < 2 ^ 63 }
-        ensures { OnOk result (self.new ≡ self.old ++ replicate (leaf + 1 - length self.old) []) }
+        ensures ok { OnOk result (self.new ≡ self.old ++ replicate (leaf + 1 - length self.old) []) }
+        ensures err { OnErr result (IsSameBranch self.old self.new) }
     {
         let missing = (leaf + 1).saturating_sub(self.leaves.len());
         for _ in 0..missing {
@@ -112,7 +115,8 @@ impl Branch {
     fn put(&mut self, alloc: Global, leaf: usize, place: usize, number: u64) -> Result<(), NoMemory>
         requires leaf { leaf < 2 ^ 63 }
         requires place { place < 2 ^ 63 }
-        ensures { OnOk result (self.new ≡ put [] self.old leaf (put 0 (slice_index_or self.old leaf []) place number)) }
+        ensures ok { OnOk result (self.new ≡ put [] self.old leaf (put 0 (slice_index_or self.old leaf []) place number)) }
+        ensures err { OnErr result (IsSameBranch self.old self.new) }
     {
         self.reach(alloc, leaf)?;
         self.leaves[leaf].put(place, number)
@@ -155,7 +159,8 @@ impl Tree {
     /// Makes the branch one of the tree's.
     fn reach(&mut self, alloc: Global, branch: usize) -> Result<(), NoMemory>
         requires { branch < 2 ^ 63 }
-        ensures { OnOk result (self.new ≡ self.old ++ replicate (branch + 1 - length self.old) []) }
+        ensures ok { OnOk result (self.new ≡ self.old ++ replicate (branch + 1 - length self.old) []) }
+        ensures err { OnErr result (IsSameTree self.old self.new) }
     {
         let missing = (branch + 1).saturating_sub(self.branches.len());
         for _ in 0..missing {
@@ -167,7 +172,8 @@ impl Tree {
     /// Writes a variable.
     #[tactic(auto, unfolding(crate::specs::Filled::put_in))]
     fn put(&mut self, alloc: Global, x: usize, number: u64) -> Result<(), NoMemory>
-        ensures { OnOk result (self.new ≡ put_in self.old x number) }
+        ensures ok { OnOk result (self.new ≡ put_in self.old x number) }
+        ensures err { OnErr result (IsSameTree self.old self.new) }
     {
         let branch = x / 1_048_576;
         self.reach(alloc, branch)?;
@@ -213,7 +219,8 @@ impl Registers {
     /// Makes the depth one of the registers'.
     fn reach(&mut self, alloc: Global, depth: usize) -> Result<(), NoMemory>
         requires { depth < 2 ^ 63 }
-        ensures { OnOk result (self.new ≡ self.old ++ replicate (depth + 1 - length self.old) []) }
+        ensures ok { OnOk result (self.new ≡ self.old ++ replicate (depth + 1 - length self.old) []) }
+        ensures err { OnErr result (AreSame self.old self.new) }
     {
         let missing = (depth + 1).saturating_sub(self.depths.len());
         for _ in 0..missing {
@@ -222,7 +229,7 @@ impl Registers {
         Ok(())
     }
 
-    /// Writes a variable at a depth.
+    /// Writes a variable at a depth. A refusal changes no number.
     pub fn write(
         &mut self,
         alloc: Global,
@@ -231,7 +238,8 @@ impl Registers {
         number: u64,
     ) -> Result<(), NoMemory>
         requires { depth < 2 ^ 63 }
-        ensures { OnOk result ((d v : ℕ) → register_at self.new d v ≡ written (λ d v. register_at self.old d v) depth x number d v) }
+        ensures ok { OnOk result ((d v : ℕ) → register_at self.new d v ≡ written (λ d v. register_at self.old d v) depth x number d v) }
+        ensures err { OnErr result ((d v : ℕ) → register_at self.new d v ≡ register_at self.old d v) }
     {
         self.put(alloc, depth, x, number)
     }
@@ -239,7 +247,8 @@ impl Registers {
     /// Puts a number at its place.
     fn put(&mut self, alloc: Global, depth: usize, x: usize, number: u64) -> Result<(), NoMemory>
         requires { depth < 2 ^ 63 }
-        ensures { OnOk result (self.new ≡ put [] self.old depth (put_in (slice_index_or self.old depth []) x number)) }
+        ensures ok { OnOk result (self.new ≡ put [] self.old depth (put_in (slice_index_or self.old depth []) x number)) }
+        ensures err { OnErr result (AreSame self.old self.new) }
     {
         self.reach(alloc, depth)?;
         self.depths[depth].put(alloc, x, number)

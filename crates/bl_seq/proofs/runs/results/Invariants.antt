@@ -1,7 +1,7 @@
 use Rattle.std.proofs.Common.{◌≡◌, ◌+◌, ◌-◌, ◌++◌}
 use Rattle.bl_cmd.specs.Steps.{values_from}
-use Rattle.bl_seq.specs.Machines.{shown}
+use Rattle.bl_seq.specs.Filled.{register_at}
 use Rattle.bl_seq.proofs.runs.results.Given as goal
 
 abbrev pub invariant-loop-i : goal.invariant-loop-i
-invariant-loop-i l = l.values ++ values_from (shown l.machine).registers 0 (l.first + l.i) (l.i-end - l.i) ≡ values_from (shown l.machine).registers 0 l.first l.i-end
+invariant-loop-i l = l.values ++ values_from (λ depth x. register_at l.registers depth x) 0 (l.first + l.i) (l.i-end - l.i) ≡ values_from (λ depth x. register_at l.registers depth x) 0 l.first l.i-end

@@ -1,5 +1,8 @@
-use Rattle.bl_seq.proofs.Filling.{wrote}
+use Rattle.bl_seq.proofs.Filling.{refused, wrote}
 use Rattle.bl_seq.proofs.registers.Registers.write.Goals as goal
 
-pub returns : goal.returns
-returns c = wrote _ _ c.put.result c.args.depth c.args.x c.args.number c.put.ensures
+pub returns-clause-ok : goal.returns-clause-ok
+returns-clause-ok c = wrote _ _ c.put.result c.args.depth c.args.x c.args.number c.put.ensures.ok
+
+pub returns-clause-err : goal.returns-clause-err
+returns-clause-err c = refused _ _ c.put.result c.put.ensures.err

@@ -6,7 +6,7 @@ use Rattle.bl_seq.proofs.registers.Registers.write_all.Goals as goal
 
 pub loop-i-preserved : goal.loop-i-preserved
 loop-i-preserved c =
-    fill_next (λ d v. register_at c.loop-i.self d v) (λ d v. register_at c.write.new.self d v) c.args.depth c.args.from c.loop-i.i c.args.numbers.now _ (omega arith) refl c.in_ok-write.ensures
+    fill_next (λ d v. register_at c.loop-i.self d v) (λ d v. register_at c.write.new.self d v) c.args.depth c.args.from c.loop-i.i c.args.numbers.now _ (omega arith) refl c.in_ok-write.ensures.ok
     ∙ c.loop-i.invariant
 
 pub returns : goal.returns

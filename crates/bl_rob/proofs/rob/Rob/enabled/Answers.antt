@@ -1,0 +1,11 @@
+use Rattle.std.proofs.Common.{◌∙◌, ap, sym}
+use Rattle.bl_rob.specs.Answers.{is_enabled, shown}
+use Rattle.bl_rob.specs.Robs.{RobView}
+use Rattle.bl_rob.specs.declared.directive.Directive.TheVariants.{Retire}
+use Rattle.bl_rob.proofs.rob.Rob.enabled.Goals as goal
+
+pub returns-in-Retire : goal.returns-in-Retire
+returns-in-Retire g c =
+    c.may_retire.ensures g.row.W c.args.self.now.program
+    ∙ ap (λ (v : RobView). is_enabled g.row.W c.args.self.now.program (shown v.machine) Retire) c.self.view_is
+    ∙ ap (λ d. is_enabled g.row.W c.args.self.now.program (shown c.args.self.now.machine) d) (sym c.in-Retire.is)

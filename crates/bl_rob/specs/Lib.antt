@@ -1,0 +1,5 @@
+pub mod Answers
+pub mod Effects
+pub mod Machines
+pub mod Observed
+pub mod Robs

@@ -1,0 +1,346 @@
+//! Fetching and predicting.
+ghost use Rattle.std.specs.Prelude.{◌≡◌, ◌≤◌, ◌<◌, ◌++◌, ◌∷◌, [], ℕ, Bool, List, suc, IfErr, IfOk, None, OnErr, OnOk, Some, length};
+ghost use Rattle.bl_cmd.specs.Layout.{entry_of};
+ghost use Rattle.bl_cmd.specs.Programs.{IsCommand};
+ghost use Rattle.bl_cmd.specs.declared.definitions.ProgramParts.{ProgramParts};
+ghost use Rattle.bl_seq.specs.Layouts.{IsLayout};
+ghost use Rattle.bl_rob.specs.Answers.{Steps, front_in, is_enabled, next_command, shown, work_in};
+ghost use Rattle.bl_rob.specs.Machines.{at_position, back, called, ended_at, fetched, grown, moved, register_of, source_of};
+ghost use Rattle.bl_rob.specs.declared.directive.Directive.TheVariants.{Fetch, Predict};
+ghost use Rattle.bl_rob.specs.declared.directive.Observation.TheVariants.{Nothing};
+ghost use Rattle.bl_rob.specs.declared.directive.StepError.TheVariants.{Memory};
+ghost use Rattle.bl_rob.specs.declared.entry.Work.TheVariants.{Guard};
+
+use crate::chain::Chain;
+use crate::directive::{End, Observation, StepError};
+use crate::entry::{Entry, LoadKind, Register, Source, Work};
+use crate::machine::Machine;
+use bl_base::{NoMemory, Pos, Trap, Var};
+use bl_cmd::{Command, Operand};
+use bl_ops::{AccessKind, Op};
+use bl_seq::Layout;
+use std::alloc::Global;
+
+/// The most calls that are open at once, the run's own function included.
+const MOST_CALLS: u32 = 1_024;
+
+/// A variable as a frame of that depth finds it.
+fn register_of(layout: &Layout, depth: u32, x: Var) -> Register
+    requires { IsLayout layout.now }
+    ensures { result ≡ register_of layout.now.parts.now depth x.0 }
+{
+    let var = x.0 as usize;
+    Register {
+        depth: if var < layout.statics { 0 } else { depth },
+        var,
+    }
+}
+
+/// An operand in a frame of that depth.
+fn source_of(layout: &Layout, depth: u32, operand: Operand) -> Source
+    requires { IsLayout layout.now }
+    ensures { result ≡ source_of layout.now.parts.now depth operand }
+{
+    match operand {
+        Operand::Const(number) => Source::Const(number),
+        Operand::Var(x) => Source::Holds(register_of(layout, depth, x)),
+    }
+}
+
+/// An assignment of a value to a variable at a depth.
+fn moved(protect: bool, depth: u32, var: usize, value: Source) -> Work
+    ensures { result ≡ moved protect depth var value }
+{
+    Work::Assign {
+        protect,
+        op: Op::Move,
+        to: Register { depth, var },
+        a: value,
+        b: Source::Const(0),
+        c: Source::Const(0),
+    }
+}
+
+/// What a call at a depth becomes.
+fn called(depth: u32) -> Work
+    ensures { (program : ProgramParts) (function position : ℕ) (chain : List ℕ) → depth ≡ suc (length chain)
+        → Some result ≡ work_in (called program function position chain) }
+{
+    if depth < MOST_CALLS {
+        Work::Nop
+    } else {
+        Work::Fail(Trap::StackExhausted)
+    }
+}
+
+/// The position of a function's entry.
+pub fn entry_of(layout: &Layout, function: u32) -> u32
+    requires { IsLayout layout.now }
+    ensures { result ≡ entry_of layout.now.parts.now function }
+{
+    layout.frame(function).entry as u32
+}
+
+impl Machine {
+    /// The command at the front end; None where a buffer of at most that many entries has no room, where the front end has
+    /// ended, and where there is no command.
+    pub fn next(&self, layout: &Layout, most: usize) -> Option<Command>
+        ensures { result ≡ next_command most layout.now.parts.now (shown self.now) }
+    {
+        if self.entries.len() >= most || self.front.end.is_some() {
+            return None;
+        }
+        layout
+            .parts
+            .commands
+            .as_slice()
+            .get(self.front.position as usize)
+            .copied()
+    }
+
+    /// Whether there is such a command, and it isn't a Test.
+    pub fn may_fetch(&self, layout: &Layout, most: usize) -> bool
+        ensures { result ≡ is_enabled most layout.now.parts.now (shown self.now) Fetch }
+    {
+        match self.next(layout, most) {
+            Some(command) => !matches!(command, Command::Test { .. }),
+            None => false,
+        }
+    }
+
+    /// Whether there is such a command, and it is a Test.
+    pub fn may_predict(&self, layout: &Layout, most: usize) -> bool
+        ensures { (predicted : Bool) → result ≡ is_enabled most layout.now.parts.now (shown self.now) (Predict predicted) }
+    {
+        match self.next(layout, most) {
+            Some(command) => matches!(command, Command::Test { .. }),
+            None => false,
+        }
+    }
+
+    /// Fetches the command at the front end, into a buffer of at most that many entries.
+    pub fn fetch(&mut self, layout: &Layout, most: usize) -> Result<Observation, StepError>
+        requires { IsLayout layout.now }
+        ensures { Steps most layout.now.parts.now Fetch (shown self.old) result (shown self.new) }
+    {
+        let Some(command) = self.next(layout, most) else {
+            return Err(StepError::NotEnabled);
+        };
+        let Some(work) = self.work_of(layout, command) else {
+            return Err(StepError::NotEnabled);
+        };
+        self.push(work)?;
+        match self.advance(layout, command) {
+            Ok(()) => Ok(Observation::Nothing),
+            Err(NoMemory) => {
+                self.entries.pop();
+                Err(StepError::Memory)
+            }
+        }
+    }
+
+    /// Appends an entry of the command at the front end.
+    fn push(&mut self, work: Work) -> Result<(), NoMemory>
+        ensures ok { OnOk result (shown self.new ≡ record (shown self.old)
+            { buffer = self.old.entries.items ++ (record { position = self.old.front.position; work = work } ∷ []) }) }
+        ensures err { OnErr result (shown self.new ≡ shown self.old) }
+    {
+        self.entries.push(Entry {
+            position: self.front.position,
+            work,
+        })?;
+        Ok(())
+    }
+
+    /// What the command at the front end becomes; None where it is a Test.
+    fn work_of(&self, layout: &Layout, command: Command) -> Option<Work>
+        requires layout { IsLayout layout.now }
+        requires command { IsCommand command }
+        ensures { result ≡ work_in (fetched layout.now.parts.now self.now.front.position self.now.front.chain (Some command)) }
+    {
+        let depth = self.front.chain.depth();
+        match command {
+            Command::Set {
+                mark,
+                op,
+                to,
+                a,
+                b,
+                c,
+            } => Some(Work::Assign {
+                protect: mark.protect,
+                op,
+                to: register_of(layout, depth, to),
+                a: source_of(layout, depth, a),
+                b: source_of(layout, depth, b),
+                c: source_of(layout, depth, c),
+            }),
+            Command::Load {
+                mark,
+                kind,
+                memory,
+                to,
+                offset,
+                address,
+            } => Some(Work::Load {
+                protect: mark.protect,
+                kind: LoadKind::of(kind),
+                memory,
+                to: register_of(layout, depth, to),
+                offset,
+                address: source_of(layout, depth, address),
+            }),
+            Command::Store {
+                kind,
+                memory,
+                offset,
+                address,
+                value,
+            } => Some(Work::Store {
+                kind,
+                memory,
+                offset,
+                address: source_of(layout, depth, address),
+                value: source_of(layout, depth, value),
+            }),
+            Command::Test { .. } => None,
+            Command::Jump { .. } | Command::Ret => Some(Work::Nop),
+            Command::Arg {
+                mark,
+                function,
+                index,
+                value,
+            } => {
+                let var = layout.frame(function).first + index as usize;
+                Some(moved(
+                    mark.protect,
+                    depth + 1,
+                    var,
+                    source_of(layout, depth, value),
+                ))
+            }
+            Command::Call { .. } => Some(called(depth)),
+            Command::Out { mark, index, value } => {
+                let var = layout.result(self.front.position as usize, index);
+                Some(moved(
+                    mark.protect,
+                    depth - 1,
+                    var,
+                    source_of(layout, depth, value),
+                ))
+            }
+            Command::Trap { kind } => Some(Work::Fail(kind)),
+        }
+    }
+
+    /// Moves the front end to where the command there goes; a Test leaves it. A refusal leaves the machine as it was.
+    fn advance(&mut self, layout: &Layout, command: Command) -> Result<(), NoMemory>
+        requires layout { IsLayout layout.now }
+        requires running { self.old.front.end ≡ None }
+        requires within { self.old.front.position < length layout.now.parts.now.commands }
+        ensures ok { OnOk result (shown self.new ≡ record (shown self.old)
+            { front = front_in self.old.front (fetched layout.now.parts.now self.old.front.position self.old.front.chain (Some command)) }) }
+        ensures err { OnErr result (shown self.new ≡ shown self.old) }
+    {
+        let position = self.front.position;
+        match command {
+            Command::Jump { to } => self.go_to(to.0),
+            Command::Call { function } => return self.call(layout, function),
+            Command::Ret => self.leave(),
+            Command::Trap { kind } => self.end_with(End::Trapped(kind)),
+            Command::Test { .. } => {}
+            Command::Set { .. }
+            | Command::Load { .. }
+            | Command::Store { .. }
+            | Command::Arg { .. }
+            | Command::Out { .. } => self.go_to(position + 1),
+        }
+        Ok(())
+    }
+
+    /// Moves the front end to a position.
+    fn go_to(&mut self, position: u32)
+        requires { self.old.front.end ≡ None }
+        ensures { shown self.new ≡ record (shown self.old) { front = at_position position self.old.front.chain } }
+    {
+        self.front.go_to(position);
+    }
+
+    /// Moves the front end to where a return goes.
+    fn leave(&mut self)
+        requires { self.old.front.end ≡ None }
+        ensures { shown self.new ≡ record (shown self.old) { front = back self.old.front.position self.old.front.chain } }
+    {
+        self.front.leave();
+    }
+
+    /// Ends the front end.
+    fn end_with(&mut self, end: End)
+        ensures { shown self.new ≡ record (shown self.old) { front = ended_at self.old.front.position self.old.front.chain end } }
+    {
+        self.front.end_with(end);
+    }
+
+    /// Moves the front end into a function, or ends it where too many calls are open.
+    fn call(&mut self, layout: &Layout, function: u32) -> Result<(), NoMemory>
+        requires layout { IsLayout layout.now }
+        requires running { self.old.front.end ≡ None }
+        requires within { self.old.front.position < length layout.now.parts.now.commands }
+        ensures ok { OnOk result (shown self.new ≡ record (shown self.old)
+            { front = front_in self.old.front (called layout.now.parts.now function self.old.front.position self.old.front.chain) }) }
+        ensures err { OnErr result (shown self.new ≡ shown self.old) }
+    {
+        if self.front.chain.depth() < MOST_CALLS {
+            self.front.call(entry_of(layout, function))
+        } else {
+            self.end_with(End::Trapped(Trap::StackExhausted));
+            Ok(())
+        }
+    }
+
+    /// Fetches the Test at the front end as a guard that predicts where it goes.
+    pub fn predict(
+        &mut self,
+        alloc: Global,
+        layout: &Layout,
+        most: usize,
+        predicted: bool,
+    ) -> Result<Observation, StepError>
+        requires { IsLayout layout.now }
+        ensures { Steps most layout.now.parts.now (Predict predicted) (shown self.old) result (shown self.new) }
+    {
+        let Some(Command::Test { cond, yes, no }) = self.next(layout, most) else {
+            return Err(StepError::NotEnabled);
+        };
+        let cond = source_of(layout, self.front.chain.depth(), cond);
+        let chain = self.front.chain.copied(alloc)?;
+        if predicted {
+            return self.guess(cond, true, yes, no, chain);
+        }
+        self.guess(cond, false, no, yes, chain)
+    }
+
+    /// Appends a guard with that condition and prediction, and goes to where that goes. A refusal leaves the machine as it was.
+    fn guess(
+        &mut self,
+        cond: Source,
+        predicted: bool,
+        taken: Pos,
+        other: Pos,
+        chain: Chain,
+    ) -> Result<Observation, StepError>
+        requires { self.old.front.end ≡ None }
+        ensures ok { IfOk result (λ observation. (observation ≡ Nothing)
+            × (shown self.new ≡ grown (shown self.old) (Guard cond predicted other.0 chain) (at_position taken.0 self.old.front.chain))) }
+        ensures err { IfErr result (λ error. (error ≡ Memory) × (shown self.new ≡ shown self.old)) }
+    {
+        self.push(Work::Guard {
+            cond,
+            predicted,
+            other: other.0,
+            chain,
+        })?;
+        self.go_to(taken.0);
+        Ok(Observation::Nothing)
+    }
+}

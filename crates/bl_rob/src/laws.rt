@@ -1,0 +1,14 @@
+//! Laws of the buffer machine. Each function is its contract alone.
+ghost use Rattle.std.specs.Prelude.{ℕ, List};
+ghost use Rattle.bl_base.specs.declared.start.Start.{Start};
+ghost use Rattle.bl_cmd.specs.Outcomes.{opening as plain_opening};
+ghost use Rattle.bl_cmd.specs.declared.definitions.ProgramParts.{ProgramParts};
+ghost use Rattle.bl_rob.specs.Observed.{IsConsistent, reached};
+ghost use Rattle.bl_rob.specs.declared.directive.Directive.{Directive};
+
+/// Consistency: whatever the directives, where r entries were retired, registers and memories are those of the plain run after
+/// r commands; and a machine that has ended has the plain run's outcome after exactly so many commands.
+pub fn consistency()
+    ensures { (most : ℕ) (program : ProgramParts) (function : ℕ) (start : Start) (directives : List Directive)
+        → IsConsistent program (plain_opening program function start) (reached most program function start directives) }
+{}

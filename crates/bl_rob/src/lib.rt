@@ -1,0 +1,17 @@
+//! The buffer machine: a processor that fetches commands in the order of a program, guesses where tests go, executes entries
+//! of its buffer in any order, and retires them in the program's. What a directive does stands in specs/.
+#![tactic(auto)]
+
+mod chain;
+mod directive;
+mod entry;
+mod fetch;
+mod front;
+pub mod laws;
+mod machine;
+mod rob;
+mod steps;
+mod visible;
+
+pub use directive::{Directive, End, Kind, Observation, StepError};
+pub use rob::Rob;

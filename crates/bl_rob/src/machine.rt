@@ -1,0 +1,262 @@
+//! The machine between two steps, and what executing an entry of it comes to.
+ghost use Rattle.std.specs.Prelude.{◌≡◌, ◌≤◌, ◌<◌, ◌^◌, length};
+ghost use Rattle.bl_cmd.specs.Sites.{is_division};
+ghost use Rattle.bl_cmd.specs.Steps.{effective};
+ghost use Rattle.bl_seq.specs.Layouts.{IsLayout};
+ghost use Rattle.bl_rob.specs.Answers.{act_at, shown};
+ghost use Rattle.bl_rob.specs.Machines.{act, assigns, frees, guards, has_guard, has_store, judges, loads, stores, valued};
+
+use crate::directive::Observation;
+use crate::entry::{Act, Entry, LoadKind, Register, Work};
+use crate::front::Front;
+use crate::visible::{guards, has_guard, has_store, visible_of};
+use bl_ops::{AccessKind, Op, eval};
+use bl_seq::{Layout, Registers, Space};
+
+/// The machine between two steps.
+#[derive(Debug, Drop)]
+pub struct Machine {
+    /// The buffer, the oldest entry first.
+    pub entries: Vec<Entry>,
+    /// The front end.
+    pub front: Front,
+    /// The registers.
+    pub registers: Registers,
+    /// The bytes of all memories.
+    pub space: Space,
+    /// How many entries were retired.
+    pub retired: u64,
+}
+
+/// Where an access begins.
+pub fn effective(layout: &Layout, memory: u32, offset: u32, address: u64) -> usize
+    requires { IsLayout layout.now }
+    ensures place { result ≡ effective layout.now.parts.now memory offset address }
+    ensures small { result < 2 ^ 61 }
+{
+    let address = address % 0x1_0000_0000;
+    layout.base(memory) + (address as usize + offset as usize)
+}
+
+/// Whether an operator divides.
+fn is_division(op: Op) -> bool
+    ensures { result ≡ is_division op }
+{
+    matches!(
+        op,
+        Op::I32DivS
+            | Op::I32DivU
+            | Op::I32RemS
+            | Op::I32RemU
+            | Op::I64DivS
+            | Op::I64DivU
+            | Op::I64RemS
+            | Op::I64RemU
+    )
+}
+
+/// A value that is held where it is protected.
+fn valued(protect: bool, to: Register, value: u64) -> Work
+    ensures { result ≡ valued protect to value }
+{
+    if protect {
+        Work::Held { to, value }
+    } else {
+        Work::Done { to, value }
+    }
+}
+
+/// A held value, where a guard stands before it or none does.
+fn frees(guarded: bool, to: Register, value: u64) -> Act
+    ensures { result ≡ frees guarded to value }
+{
+    if guarded {
+        Act::Idle
+    } else {
+        Act::Becomes(Work::Done { to, value }, Observation::Nothing)
+    }
+}
+
+/// A guard with that prediction and, where it is visible, that condition.
+fn judges(predicted: bool, cond: Option<u64>) -> Act
+    ensures { result ≡ judges predicted cond }
+{
+    let Some(cond) = cond else {
+        return Act::Idle;
+    };
+    if predicted == (cond % 0x1_0000_0000 != 0) {
+        Act::Becomes(Work::Nop, Observation::Nothing)
+    } else {
+        Act::Turns
+    }
+}
+
+impl Machine {
+    /// What the entry of that index comes to; Idle where there is none.
+    pub fn act(&self, layout: &Layout, n: usize) -> Act
+        requires layout { IsLayout layout.now }
+        requires few { length self.now.entries.items ≤ 64 }
+        ensures { result ≡ act_at layout.now.parts.now (shown self.now) n }
+    {
+        match self.entries.get(n) {
+            Some(entry) => self.act_behind(layout, &self.entries[..n], &entry.work),
+            None => Act::Idle,
+        }
+    }
+
+    /// What that work comes to behind those entries.
+    fn act_behind(&self, layout: &Layout, before: &[Entry], work: &Work) -> Act
+        requires layout { IsLayout layout.now }
+        requires few { length before.now ≤ 64 }
+        ensures { result ≡ act layout.now.parts.now (shown self.now).registers self.now.space before.now work.now }
+    {
+        match work {
+            Work::Assign {
+                protect,
+                op,
+                to,
+                a,
+                b,
+                c,
+            } => {
+                let a = visible_of(&self.registers, before, *a);
+                let b = visible_of(&self.registers, before, *b);
+                let c = visible_of(&self.registers, before, *c);
+                assign(before, *protect, *op, *to, a, b, c)
+            }
+            Work::Load {
+                protect,
+                kind,
+                memory,
+                to,
+                offset,
+                address,
+            } => {
+                let address = visible_of(&self.registers, before, *address);
+                self.load(
+                    layout, before, *protect, kind, *memory, *to, *offset, address,
+                )
+            }
+            Work::Held { to, value } => frees(has_guard(before), *to, *value),
+            Work::Store {
+                kind,
+                memory,
+                offset,
+                address,
+                value,
+            } => {
+                let address = visible_of(&self.registers, before, *address);
+                let value = visible_of(&self.registers, before, *value);
+                store(layout, before, *kind, *memory, *offset, address, value)
+            }
+            Work::Guard {
+                cond,
+                predicted,
+                ..
+            } => judges(*predicted, visible_of(&self.registers, before, *cond)),
+            Work::Nop | Work::Done { .. } | Work::Ready { .. } | Work::Fail(_) => Act::Idle,
+        }
+    }
+
+    /// A pending load behind those entries, where its address is visible or isn't.
+    fn load(
+        &self,
+        layout: &Layout,
+        before: &[Entry],
+        protect: bool,
+        kind: &LoadKind,
+        memory: u32,
+        to: Register,
+        offset: u32,
+        address: Option<u64>,
+    ) -> Act
+        requires layout { IsLayout layout.now }
+        requires few { length before.now ≤ 64 }
+        ensures { result ≡ loads layout.now.parts.now self.now.space (guards before.now) (has_store before.now) protect kind.now memory to offset address }
+    {
+        let Some(address) = address else {
+            return Act::Idle;
+        };
+        if has_store(before) {
+            return Act::Idle;
+        }
+        let from = effective(layout, memory, offset, address);
+        Act::Becomes(
+            valued(protect, to, kind.load(&self.space, from)),
+            Observation::Read {
+                address: from as u64,
+                guards: guards(before),
+            },
+        )
+    }
+}
+
+/// A pending assignment behind those entries, where its operands are visible or aren't.
+fn assign(
+    before: &[Entry],
+    protect: bool,
+    op: Op,
+    to: Register,
+    a: Option<u64>,
+    b: Option<u64>,
+    c: Option<u64>,
+) -> Act
+    requires { length before.now ≤ 64 }
+    ensures { result ≡ assigns (guards before.now) protect op to a b c }
+{
+    let Some(a) = a else {
+        return Act::Idle;
+    };
+    let Some(b) = b else {
+        return Act::Idle;
+    };
+    let Some(c) = c else {
+        return Act::Idle;
+    };
+    let work = valued(protect, to, eval(op, a, b, c));
+    if !is_division(op) {
+        return Act::Becomes(work, Observation::Nothing);
+    }
+    let observation = Observation::Divide {
+        a,
+        b,
+        guards: guards(before),
+    };
+    Act::Becomes(work, observation)
+}
+
+/// A pending store behind those entries, where its address and its value are visible or aren't.
+fn store(
+    layout: &Layout,
+    before: &[Entry],
+    kind: AccessKind,
+    memory: u32,
+    offset: u32,
+    address: Option<u64>,
+    value: Option<u64>,
+) -> Act
+    requires layout { IsLayout layout.now }
+    requires few { length before.now ≤ 64 }
+    ensures { result ≡ stores layout.now.parts.now (guards before.now) kind memory offset address value }
+{
+    let Some(address) = address else {
+        return Act::Idle;
+    };
+    let Some(value) = value else {
+        return Act::Idle;
+    };
+    let from = effective(layout, memory, offset, address);
+    Act::Becomes(
+        Work::Ready {
+            kind,
+            memory,
+            offset,
+            address,
+            value,
+        },
+        Observation::Write {
+            address: from as u64,
+            guards: guards(before),
+        },
+    )
+}

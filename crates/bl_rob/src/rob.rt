@@ -1,0 +1,222 @@
+//! The buffer machine as its callers see it.
+ghost use Rattle.std.specs.Prelude.{◌≡◌, ◌≤◌, IfOk, slice_get, slice_index, option_map};
+ghost use Rattle.bl_cmd.specs.Outcomes.{IsStart};
+ghost use Rattle.bl_rob.specs.Answers.{IsTold, Steps, Told, is_enabled, kind_of, outcome_in, position_of, shown};
+ghost use Rattle.bl_rob.specs.Machines.{end_in, opening};
+ghost use Rattle.bl_rob.specs.declared.directive.Directive.TheVariants.{Exec, Fetch, Predict, Retire};
+
+use crate::chain::Chain;
+use crate::directive::{Directive, End, Kind, Observation, StepError};
+use crate::entry::{Act, Work};
+use crate::fetch::entry_of;
+use crate::front::Front;
+use crate::machine::Machine;
+use bl_base::{NoMemory, Pos, Run, Start, Var};
+use bl_cmd::{Command, WellFormed};
+use bl_seq::{Layout, begin, memories, results};
+use std::alloc::Global;
+use std::marker::Model;
+
+/// The buffer machine of a well-formed program, with a buffer of at most W entries; W is from 1 to 64.
+#[derive(Debug, Drop)]
+pub struct Rob<'p, const W: usize> {
+    layout: Layout<'p>,
+    machine: Machine,
+}
+
+impl<'p, const W: usize> Model for Rob<'p, W> {
+    ghost use Rattle.std.specs.Prelude.{◌≤◌, length};
+    ghost use Rattle.bl_seq.specs.Layouts.{IsLayout};
+    ghost use Rattle.bl_rob.specs.Robs.{RobView};
+
+    ghost Value = { RobView };
+
+    ghost view = { λ rob. record { program = rob.layout.parts.now; machine = rob.machine } };
+
+    ghost invariant = { λ rob. IsLayout rob.layout × (length rob.machine.entries.items ≤ W) × (W ≤ 64) };
+}
+
+impl<'p, const W: usize> Rob<'p, W> {
+    /// The machine before its first step, at a function's entry. Linear in the program and the start.
+    pub fn begin(
+        alloc: Global,
+        program: &'p WellFormed,
+        function: u32,
+        start: &Start,
+    ) -> Result<Rob<'p, W>, NoMemory>
+        requires room { (1 ≤ W) × (W ≤ 64) }
+        requires start { IsStart program.now function start.now }
+        ensures { IfOk result (λ rob. (rob.program ≡ program.now) × (shown rob.machine ≡ opening program.now function start.now)) }
+    {
+        let layout = Layout::of(alloc, program.program().parts())?;
+        let first = begin(alloc, &layout, function, start)?;
+        let front = Front {
+            position: entry_of(&layout, function),
+            chain: Chain::new(alloc),
+            end: None,
+        };
+        Ok(Rob {
+            layout,
+            machine: Machine {
+                entries: Vec::new(alloc),
+                front,
+                registers: first.registers,
+                space: first.space,
+                retired: 0,
+            },
+        })
+    }
+
+    /// One directive. NotEnabled comes exactly where the rules don't enable it; after either refusal the machine is as it was,
+    /// and an Exec takes no memory.
+    pub fn step(&mut self, alloc: Global, d: Directive) -> Result<Observation, StepError>
+        ensures same { self.new.program ≡ self.old.program }
+        ensures step { Steps W self.old.program d (shown self.old.machine) result (shown self.new.machine) }
+    {
+        match d {
+            Directive::Fetch => self.fetch(),
+            Directive::Predict(predicted) => self.predict(alloc, predicted),
+            Directive::Exec(n) => self.exec(n),
+            Directive::Retire => self.retire(alloc),
+        }
+    }
+
+    fn fetch(&mut self) -> Result<Observation, StepError>
+        ensures same { self.new.program ≡ self.old.program }
+        ensures step { Steps W self.old.program Fetch (shown self.old.machine) result (shown self.new.machine) }
+    {
+        self.machine.fetch(&self.layout, W)
+    }
+
+    fn predict(&mut self, alloc: Global, predicted: bool) -> Result<Observation, StepError>
+        ensures same { self.new.program ≡ self.old.program }
+        ensures step { Steps W self.old.program (Predict predicted) (shown self.old.machine) result (shown self.new.machine) }
+    {
+        self.machine.predict(alloc, &self.layout, W, predicted)
+    }
+
+    fn exec(&mut self, n: u32) -> Result<Observation, StepError>
+        ensures same { self.new.program ≡ self.old.program }
+        ensures step { Steps W self.old.program (Exec n) (shown self.old.machine) result (shown self.new.machine) }
+    {
+        self.machine
+            .exec(&self.layout, n as usize)
+            .ok_or(StepError::NotEnabled)
+    }
+
+    fn retire(&mut self, alloc: Global) -> Result<Observation, StepError>
+        ensures same { self.new.program ≡ self.old.program }
+        ensures step { Steps W self.old.program Retire (shown self.old.machine) result (shown self.new.machine) }
+    {
+        self.machine.retire(alloc, &self.layout)
+    }
+
+    /// How the machine has ended; None where it hasn't.
+    pub fn finished(&self) -> Option<End>
+        ensures { result ≡ end_in (shown self.now.machine) }
+    {
+        if self.machine.entries.is_empty() {
+            self.machine.front.end
+        } else {
+            None
+        }
+    }
+
+    /// How many entries were retired.
+    pub fn retired(&self) -> u64
+        ensures { result ≡ (shown self.now.machine).retired }
+    {
+        self.machine.retired
+    }
+
+    /// What a variable holds at a depth.
+    pub fn register(&self, depth: u32, var: Var) -> u64
+        ensures { result ≡ (shown self.now.machine).registers depth var.0 }
+    {
+        self.machine.registers.at(depth as usize, var.0 as usize)
+    }
+
+    /// The byte at a place of the space of all memories; 0 past its end.
+    pub fn byte(&self, address: u64) -> u8
+        ensures { result ≡ slice_index (shown self.now.machine).space address }
+    {
+        match self.machine.space.as_slice().get(address as usize) {
+            Some(byte) => *byte,
+            None => 0,
+        }
+    }
+
+    /// The outcome; None exactly where the machine hasn't ended.
+    pub fn outcome(&self, alloc: Global) -> Result<Option<Run>, NoMemory>
+        ensures { IfOk result (Told (outcome_in self.now.program (shown self.now.machine))) }
+    {
+        let machine = &self.machine;
+        let Some(end) = self.finished() else {
+            return Ok(None);
+        };
+        let memories = memories(alloc, &self.layout, &machine.registers, &machine.space)?;
+        Ok(Some(match end {
+            End::Returned => Run::Returned {
+                values: results(
+                    alloc,
+                    &self.layout,
+                    &machine.registers,
+                    machine.front.position as usize,
+                )?,
+                memories,
+            },
+            End::Trapped(kind) => Run::Trapped { kind, memories },
+        }))
+    }
+
+    /// Whether a directive is enabled; takes no memory.
+    pub fn enabled(&self, d: Directive) -> bool
+        ensures { result ≡ is_enabled W self.now.program (shown self.now.machine) d }
+    {
+        match d {
+            Directive::Fetch => self.machine.may_fetch(&self.layout, W),
+            Directive::Predict(_) => self.machine.may_predict(&self.layout, W),
+            Directive::Exec(n) => !matches!(self.machine.act(&self.layout, n as usize), Act::Idle),
+            Directive::Retire => self.machine.may_retire(),
+        }
+    }
+
+    /// The front end's position; None exactly where it has ended. Takes no memory.
+    pub fn front(&self) -> Option<Pos>
+        ensures { option_map (λ position. position.0) result ≡ position_of (shown self.now.machine).front }
+    {
+        match self.machine.front.end {
+            Some(_) => None,
+            None => Some(Pos(self.machine.front.position)),
+        }
+    }
+
+    /// The position and the kind of an entry; None exactly where the buffer has none of that index. Takes no memory.
+    pub fn entry(&self, n: u32) -> Option<(Pos, Kind)>
+        ensures { IsTold (slice_get (shown self.now.machine).buffer n) result }
+    {
+        match self.machine.entries.get(n as usize) {
+            Some(entry) => Some((Pos(entry.position), entry.work.kind())),
+            None => None,
+        }
+    }
+}
+
+impl Work {
+    /// What the entry is.
+    fn kind(&self) -> Kind
+        ensures { result ≡ kind_of self.now }
+    {
+        match self {
+            Work::Nop => Kind::Nop,
+            Work::Assign { .. } => Kind::Assign,
+            Work::Load { .. } => Kind::Load,
+            Work::Held { .. } => Kind::Held,
+            Work::Done { .. } => Kind::Done,
+            Work::Store { .. } => Kind::Store,
+            Work::Ready { .. } => Kind::Ready,
+            Work::Guard { predicted, .. } => Kind::Guard(*predicted),
+            Work::Fail(_) => Kind::Fail,
+        }
+    }
+}

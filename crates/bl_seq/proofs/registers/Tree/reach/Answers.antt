@@ -1,0 +1,10 @@
+use Rattle.std.proofs.Common.{◌≡◌, ◌++◌, ◌∙◌, [], ap, replicate}
+use Rattle.bl_seq.specs.Filled.{IsSameTree, IsSameBranch}
+use Rattle.bl_seq.proofs.Filling.{grown_same, on_err, same_branch}
+use Rattle.bl_seq.proofs.registers.Tree.reach.Goals as goal
+
+pub returns-in_err-push-clause-err : goal.returns-in_err-push-clause-err
+returns-in_err-push-clause-err c =
+    on_err c.from_residual.result (IsSameTree c.args.self.now c.push.new.self.items)
+    (grown_same [] IsSameBranch same_branch c.args.self.now c.push.new.self.items c.loop.counter
+    (c.in_err-push.ensures.items ∙ c.loop.invariant ∙ ap (λ l. l ++ replicate c.loop.counter []) c.self.view_is))

@@ -1,0 +1,7 @@
+//! Tests of the buffer machine.
+#![tactic(auto)]
+
+#[cfg(test)]
+mod begun;
+#[cfg(test)]
+mod runs;
