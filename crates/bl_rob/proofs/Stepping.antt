@@ -186,24 +186,20 @@ put_at n position s entry x work h is lt p =
     ∙ set_split s.buffer n (record { position = entry.position; work = work }) lt)
 
 -- the entries up to a place, with another one there
-pub cut_at : {A : Type 0} (xs : List A) (n : ℕ) (x : A) → n < length xs → set (take (n + 1) xs) n x ≡ take n xs ++ x ∷ []
+pub cut_at : {A : Type 0} (xs : List A) (n : ℕ) (x : A) → n < length xs → set (take (suc n) xs) n x ≡ take n xs ++ x ∷ []
 cut_at [] n x lt = absurd (omega arith)
 cut_at (y ∷ xs) zero x lt = refl
-cut_at (y ∷ xs) (suc n) x lt =
-    let next : suc n + 1 ≡ suc (n + 1) = omega arith in
-    ap (λ k. set (take k (y ∷ xs)) (suc n) x) next ∙ ap (λ l. y ∷ l) (cut_at xs n x (omega arith))
+cut_at (y ∷ xs) (suc n) x lt = ap (λ l. y ∷ l) (cut_at xs n x (omega arith))
 
-pub read_cut : {A : Type 0} (xs : List A) (n : ℕ) (d : A) → n < length xs → get_or (take (n + 1) xs) n d ≡ get_or xs n d
+pub read_cut : {A : Type 0} (xs : List A) (n : ℕ) (d : A) → n < length xs → get_or (take (suc n) xs) n d ≡ get_or xs n d
 read_cut [] n d lt = absurd (omega arith)
 read_cut (y ∷ xs) zero d lt = refl
-read_cut (y ∷ xs) (suc n) d lt =
-    let next : suc n + 1 ≡ suc (n + 1) = omega arith in
-    ap (λ k. get_or (take k (y ∷ xs)) (suc n) d) next ∙ read_cut xs n d (omega arith)
+read_cut (y ∷ xs) (suc n) d lt = read_cut xs n d (omega arith)
 
 -- the machine behind a guard that was wrong
 pub cut_back : (n : ℕ) (s : State) (o : Option Entry) (x : Entry) (cond : Source) (predicted : Bool) (other : ℕ) (chain : List ℕ)
     → slice_get s.buffer n ≡ o → n < length s.buffer → x ≡ get_or s.buffer n x → x.work ≡ Guard cond predicted other chain
-    → record s { buffer = set (take (n + 1) s.buffer) n (record { position = x.position; work = Nop }); front = at_position other chain } ≡ turned_at n s o
+    → record s { buffer = set (take (suc n) s.buffer) n (record { position = x.position; work = Nop }); front = at_position other chain } ≡ turned_at n s o
 cut_back n s None x cond predicted other chain h lt is w = let has = within_get s.buffer n lt in let e = has.1 in cc
 cut_back n s (Some entry) x cond predicted other chain h lt is w =
     let same : x ≡ entry = is ∙ get_or_from_slice_get s.buffer n entry x h in

@@ -1,5 +1,5 @@
 //! Executing and retiring.
-ghost use Rattle.std.specs.Prelude.{◌≡◌, ◌≤◌, ◌<◌, ◌^◌, ℕ, [], suc, IfSome, IsTrue, OnErr, OnOk, Some, drop, length, slice_get};
+ghost use Rattle.std.specs.Prelude.{◌≡◌, ◌≤◌, ◌<◌, ◌^◌, ℕ, [], suc, IfSome, IsTrue, OnErr, OnOk, Some, drop, length, slice_get, take};
 ghost use Rattle.bl_cmd.specs.Steps.{stored, written};
 ghost use Rattle.bl_cmd.specs.declared.definitions.ProgramParts.{ProgramParts};
 ghost use Rattle.bl_seq.specs.Layouts.{IsLayout};
@@ -105,7 +105,7 @@ impl Machine {
         requires within { n < length self.old.entries.items }
         ensures { shown self.new ≡ turned_at n (shown self.old) (slice_get self.old.entries.items n) }
     {
-        self.entries.truncate(n + 1);
+        self.drop_behind(n);
         let guard = mem::replace(&mut self.entries[n].work, Work::Nop);
         if let Work::Guard { other, chain, .. } = guard {
             self.go_back(other, chain);
@@ -127,6 +127,14 @@ impl Machine {
         ensures { (most : ℕ) (program : ProgramParts) → result ≡ is_enabled most program (shown self.now) Retire }
     {
         self.first_effect().is_some()
+    }
+
+    /// Drops all entries behind one.
+    fn drop_behind(&mut self, n: usize)
+        requires { n < length self.old.entries.items }
+        ensures { shown self.new ≡ record (shown self.old) { buffer = take (suc n) self.old.entries.items } }
+    {
+        self.entries.truncate(n + 1);
     }
 
     /// Moves the front end back to a position, with the calls that were open there.
