@@ -1,0 +1,2 @@
+//! Lowering: the program of a linked tree.
+#![tactic(auto)]
