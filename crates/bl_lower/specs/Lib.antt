@@ -1,1 +1,6 @@
-pub mod Templates
+pub mod Constructs
+pub mod Items
+pub mod Low
+pub mod Nest
+pub mod Shapes
+pub mod Trees
