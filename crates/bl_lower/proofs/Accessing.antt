@@ -21,7 +21,7 @@ use Rattle.bl_reduce.specs.Memory.{number_of, bytes_of, read, write, grow, with_
 use Rattle.bl_reduce.specs.TypedConfigurations.{IsMemoryState}
 use Rattle.bl_reduce.proofs.MemoryItems.{written_state, grown_state, bytes_all, length-bytes_of}
 use Rattle.bl_base.proofs.Lists.{some_same, zip_set, zip_got}
-use ??.{guard, grows}
+use Rattle.bl_lower.proofs.Laid.{guard, grows}
 use Rattle.bl_access.specs.Templates.{variable, jump_to, load_of, shift, set as set_command, move}
 use Rattle.bl_cmd.specs.Steps.{Registers, written, Plain, depth, overlay, on}
 use Rattle.bl_cmd.specs.declared.command.Command.TheVariants.{Store}

@@ -25,15 +25,15 @@ module _ (blocks : BlockType → Counts) (shapes : ℕ → Shape) (number : ℕ)
 
   -- an ordinary item: its template, then the rest from behind it
   pub step_writes : (open_ones : List Target) (item : Instr) (p : Point) (l : Level) (outer : List Level)
-      → Left open_ones (live p) (level (step item l.body) l.second ∷ outer) ≡ template blocks shapes number open_ones item p ++ Left open_ones (live (after shapes number open_ones item p)) (l ∷ outer)
+      → Left open_ones (live p) (level (step item l.body) l.second ∷ outer) ≡ template shapes number open_ones item p ++ Left open_ones (live (after shapes number open_ones item p)) (l ∷ outer)
   step_writes open_ones item p l outer =
       let w = low blocks shapes number open_ones l.body (after shapes number open_ones item p) in
-      append_assoc (template blocks shapes number open_ones item p) w.commands (to_end blocks shapes number open_ones w.reached l.second outer)
+      append_assoc (template shapes number open_ones item p) w.commands (to_end blocks shapes number open_ones w.reached l.second outer)
 
   -- an item behind which what follows is dead
   pub leave_writes : (open_ones : List Target) (item : Instr) (p : Point) (l : Level) (outer : List Level)
       → Left open_ones (live p) (level (leave item l.body) l.second ∷ outer)
-      ≡ leaving blocks shapes number open_ones item p ++ Left open_ones (dead 0 (left_next blocks (calls_in blocks shapes number) (shapes number).wanted (shapes number).slots (shapes number).results item p.next)) (l ∷ outer)
+      ≡ leaving shapes number open_ones item p ++ Left open_ones (dead 0 (left_next blocks (calls_in shapes number) (shapes number).wanted (shapes number).slots (shapes number).results item p.next)) (l ∷ outer)
   leave_writes open_ones item p l outer = refl
 
   -- a construct with one part is opened, its end where its size says

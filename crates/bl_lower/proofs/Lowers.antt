@@ -113,20 +113,20 @@ module _ (program : Program) (bound number : ℕ) where
     tests_at : (used next : ℕ) (open_ones : List Target) (ones : List Open) (types : List WasmType) (stack : List Operand) (index : Operand) (position x j arm default : ℕ) (ls : List ℕ) → AreOpen open_ones ones → Neat open_ones stack next
         → length types ≤ length stack → All (λ l. slice_get (labels c ones) l ≡ Some types) (ls ++ default ∷ [])
         → used + (2 * length ls + branch_most results (slice_get (takes_of open_ones) default)) ≤ bound → used + (2 * length ls + branch_mosts blocks (calls blocks shapes number) (shapes number).wanted (shapes number).slots results (takes_of open_ones) ls) ≤ bound
-        → At position (tests blocks shapes number open_ones index position x j arm ls) → At (position + 2 * length ls) (to_label blocks shapes number open_ones stack default) → At arm (arms blocks shapes number open_ones stack ls)
+        → At position (tests shapes number open_ones index position x j arm ls) → At (position + 2 * length ls) (to_label shapes number open_ones stack default) → At arm (arms shapes number open_ones stack ls)
         → TestsAt program bound number used open_ones stack index position x j ls default
     tests_at used next open_ones ones types stack index position x j arm default [] opens_are neat room all most mosts h d a =
         to_at (mark_of open_ones) used position stack (slice_get open_ones default) (branches used next open_ones ones default types stack opens_are neat (All-head (λ l. slice_get (labels c ones) l ≡ Some types) default [] all) room (omega (arith, most)))
-        (let same : position + 2 * 0 ≡ position = omega arith in subst (λ n. At n (to_label blocks shapes number open_ones stack default)) same d)
+        (let same : position + 2 * 0 ≡ position = omega arith in subst (λ n. At n (to_label shapes number open_ones stack default)) same d)
     tests_at used next open_ones ones types stack index position x j arm default (l ∷ ls) opens_are neat room all most mosts h d a =
         let size = branch_size results (slice_get (takes_of open_ones) l) in
-        let one = to_label blocks shapes number open_ones stack l in (
+        let one = to_label shapes number open_ones stack l in (
           arm,
           (h.0.0, (h.1.0.0, tt)),
-          to_at (mark_of open_ones) (suc (suc used)) arm stack (slice_get open_ones l) (branches (suc (suc used)) next open_ones ones l types stack opens_are neat (All-head (λ l. slice_get (labels c ones) l ≡ Some types) l (ls ++ default ∷ []) all) room (omega (arith, mosts))) (front arm one (arms blocks shapes number open_ones stack ls) a),
+          to_at (mark_of open_ones) (suc (suc used)) arm stack (slice_get open_ones l) (branches (suc (suc used)) next open_ones ones l types stack opens_are neat (All-head (λ l. slice_get (labels c ones) l ≡ Some types) l (ls ++ default ∷ []) all) room (omega (arith, mosts))) (front arm one (arms shapes number open_ones stack ls) a),
           tests_at (suc (suc used)) next open_ones ones types stack index (suc (suc position)) (suc x) (suc j) (arm + size) default ls opens_are neat room (All-tail (λ l. slice_get (labels c ones) l ≡ Some types) l (ls ++ default ∷ []) all) (omega (arith, most)) (omega (arith, mosts)) h.1.1
-              (let same : position + 2 * suc (length ls) ≡ suc (suc position) + 2 * length ls = omega arith in subst (λ n. At n (to_label blocks shapes number open_ones stack default)) same d)
-              (back arm size one (arms blocks shapes number open_ones stack ls) (label_length blocks shapes number open_ones stack l) a),
+              (let same : position + 2 * suc (length ls) ≡ suc (suc position) + 2 * length ls = omega arith in subst (λ n. At n (to_label shapes number open_ones stack default)) same d)
+              (back arm size one (arms shapes number open_ones stack ls) (label_length blocks shapes number open_ones stack l) a),
         )
 
     -- ---- items
@@ -145,12 +145,12 @@ module _ (program : Program) (bound number : ℕ) where
       abbrev Behind_item : List Target → Instr → Point → Point
       Behind_item open_ones item p = after shapes number open_ones item p
 
-      slot_at : (slot : Slot) (mark : ℕ) (wanted : Counts) (stack : List Operand) (at_ first behind_it : ℕ) (those : List Slot) → ArmsFit program wanted (slot ∷ those) → At at_ (slot_arms blocks shapes number mark stack first behind_it (slot ∷ those))
-          → SlotAt program bound number mark wanted slot (yes_of blocks shapes number slot at_) stack first behind_it
+      slot_at : (slot : Slot) (mark : ℕ) (wanted : Counts) (stack : List Operand) (at_ first behind_it : ℕ) (those : List Slot) → ArmsFit program wanted (slot ∷ those) → At at_ (slot_arms shapes number mark stack first behind_it (slot ∷ those))
+          → SlotAt program bound number mark wanted slot (yes_of shapes number slot at_) stack first behind_it
       slot_at vacant mark wanted stack at_ first behind_it those fit g = refl
       slot_at strange mark wanted stack at_ first behind_it those fit g = refl
       slot_at (armed f) mark wanted stack at_ first behind_it those fit g =
-          (has at_ (slot_arm blocks shapes number mark stack first behind_it (armed f)) (front at_ (slot_arm blocks shapes number mark stack first behind_it (armed f)) (slot_arms blocks shapes number mark stack first behind_it those) g), fit.0, fit.1)
+          (has at_ (slot_arm shapes number mark stack first behind_it (armed f)) (front at_ (slot_arm shapes number mark stack first behind_it (armed f)) (slot_arms shapes number mark stack first behind_it those) g), fit.0, fit.1)
 
       fit_rest : (slot : Slot) (those : List Slot) (wanted : Counts) → ArmsFit program wanted (slot ∷ those) → ArmsFit program wanted those
       fit_rest vacant those wanted fit = fit
@@ -158,37 +158,37 @@ module _ (program : Program) (bound number : ℕ) where
       fit_rest (armed f) those wanted fit = fit.2
 
       pub record Stepped (open_ones : List Target) (item : Instr) (p : Point) (k : List Instr) (to : List WasmType) : Type 0 where
-        pub lays : At p.position (template blocks shapes number open_ones item p) → (Behind_item open_ones item p).next ≤ limit → LaidLive open_ones (Behind_item open_ones item p) k → LaidLive open_ones p (item ∷ k)
+        pub lays : At p.position (template shapes number open_ones item p) → (Behind_item open_ones item p).next ≤ limit → LaidLive open_ones (Behind_item open_ones item p) k → LaidLive open_ones p (item ∷ k)
         pub long : length (Behind_item open_ones item p).stack ≡ length to
 
       -- the tests of slots, and their arms
       slots_at : (those : List Slot) (mark : ℕ) (wanted : Counts) (index : Operand) (stack : List Operand) (position x j at_ first behind_it : ℕ) (slot : Slot) → ArmsFit program wanted (slot ∷ those)
-          → At position (slot_tests blocks shapes number mark index position x j at_ (slot ∷ those)) → At at_ (slot_arms blocks shapes number mark stack first behind_it (slot ∷ those))
+          → At position (slot_tests shapes number mark index position x j at_ (slot ∷ those)) → At at_ (slot_arms shapes number mark stack first behind_it (slot ∷ those))
           → SlotsFrom program bound number mark wanted index stack first behind_it position x j (slot ∷ those)
       slots_at [] mark wanted index stack position x j at_ first behind_it slot fit h g = (
-        yes_of blocks shapes number slot at_,
+        yes_of shapes number slot at_,
         4,
         (h.0.0, (h.1.0.0, tt)),
         slot_at slot mark wanted stack at_ first behind_it [] fit g,
         refl,
       )
       slots_at (next_slot ∷ those) mark wanted index stack position x j at_ first behind_it slot fit h g = (
-        yes_of blocks shapes number slot at_,
+        yes_of shapes number slot at_,
         suc (suc position),
         (h.0.0, (h.1.0.0, tt)),
         slot_at slot mark wanted stack at_ first behind_it (next_slot ∷ those) fit g,
         slots_at those mark wanted index stack (suc (suc position)) (suc x) (suc j) (at_ + arm_size (calls blocks shapes number) slot) first behind_it next_slot (fit_rest slot (next_slot ∷ those) wanted fit) h.1.1
-            (back at_ (arm_size (calls blocks shapes number) slot) (slot_arm blocks shapes number mark stack first behind_it slot) (slot_arms blocks shapes number mark stack first behind_it (next_slot ∷ those))
+            (back at_ (arm_size (calls blocks shapes number) slot) (slot_arm shapes number mark stack first behind_it slot) (slot_arms shapes number mark stack first behind_it (next_slot ∷ those))
             (slot_arm_length blocks shapes number mark stack first behind_it slot) g),
       )
 
       indirect_at : (those : List Slot) (mark : ℕ) (wanted : Counts) (index : Operand) (stack : List Operand) (position x first behind_it : ℕ) → ArmsFit program wanted those
-          → At position (slot_head blocks shapes number mark index position x those ++ slot_arms blocks shapes number mark stack first behind_it those)
+          → At position (slot_head shapes number mark index position x those ++ slot_arms shapes number mark stack first behind_it those)
           → SlotsFrom program bound number mark wanted index stack first behind_it position x 0 those ⊎ (slice_get program.commands position ≡ Some (jump_to 4)) × (those ≡ [])
       indirect_at [] mark wanted index stack position x first behind_it fit h = inr (h.0.0, refl)
       indirect_at (slot ∷ those) mark wanted index stack position x first behind_it fit h =
-          let head = slot_head blocks shapes number mark index position x (slot ∷ those) in
-          let rest = slot_arms blocks shapes number mark stack first behind_it (slot ∷ those) in
+          let head = slot_head shapes number mark index position x (slot ∷ those) in
+          let rest = slot_arms shapes number mark stack first behind_it (slot ∷ those) in
           inl (slots_at those mark wanted index stack position x 0 (position + 2 * suc (length those)) first behind_it slot fit (front position head rest h)
           (back position (2 * suc (length those)) head rest (slot_head_length blocks shapes number mark index position x (slot ∷ those)) h))
 
@@ -258,7 +258,7 @@ module _ (program : Program) (bound number : ℕ) where
           let count = (program.shape f).results in
           record {
             lays = λ h le laid. (
-              record { commands = has p.position (template blocks shapes number open_ones (Call f) p) h; enough = omega (arith, long, a.before, is.0); most = most },
+              record { commands = has p.position (template shapes number open_ones (Call f) p) h; enough = omega (arith, long, a.before, is.0); most = most },
               le,
               laid,
             );
@@ -308,15 +308,15 @@ module _ (program : Program) (bound number : ℕ) where
           }
       stepped (Load kind argument) open_ones ones p k from os to ordinary rule opens_are neat long most =
           let a = arrow_lengths (I32 ∷ []) (integer (type_of kind) ∷ []) from to rule.1.3 in
-          record { lays = λ h le laid. ((has p.position (template blocks shapes number open_ones (Load kind argument) p) h, most), le, laid); long = omega (arith, length-drop 1 p.stack, long, a.before, a.behind) }
+          record { lays = λ h le laid. ((has p.position (template shapes number open_ones (Load kind argument) p) h, most), le, laid); long = omega (arith, length-drop 1 p.stack, long, a.before, a.behind) }
       stepped (Store kind argument) open_ones ones p k from os to ordinary rule opens_are neat long most =
           let a = arrow_lengths (I32 ∷ integer (type_of kind) ∷ []) [] from to rule.1.3 in
-          record { lays = λ h le laid. ((has p.position (template blocks shapes number open_ones (Store kind argument) p) h, most), le, laid); long = omega (arith, length-drop 1 p.stack, length-drop 1 (drop 1 p.stack), long, a.before, a.behind) }
+          record { lays = λ h le laid. ((has p.position (template shapes number open_ones (Store kind argument) p) h, most), le, laid); long = omega (arith, length-drop 1 p.stack, length-drop 1 (drop 1 p.stack), long, a.before, a.behind) }
       stepped MemorySize open_ones ones p k from os to ordinary rule opens_are neat long most =
           let a = arrow_lengths [] (I32 ∷ []) from to rule.1.1 in record { lays = λ h le laid. ((h.0.0, tt), le, laid); long = omega (arith, long, a.before, a.behind) }
       stepped MemoryGrow open_ones ones p k from os to ordinary rule opens_are neat long most =
           let a = arrow_lengths (I32 ∷ []) (I32 ∷ []) from to rule.1.1 in
-          record { lays = λ h le laid. ((has p.position (template blocks shapes number open_ones MemoryGrow p) h, most), le, laid); long = omega (arith, length-drop 1 p.stack, long, a.before, a.behind) }
+          record { lays = λ h le laid. ((has p.position (template shapes number open_ones MemoryGrow p) h, most), le, laid); long = omega (arith, length-drop 1 p.stack, long, a.before, a.behind) }
       stepped (Block r) open_ones ones p k from os to ordinary rule opens_are neat long most = absurd ordinary
       stepped (Loop r) open_ones ones p k from os to ordinary rule opens_are neat long most = absurd ordinary
       stepped (If r) open_ones ones p k from os to ordinary rule opens_are neat long most = absurd ordinary
@@ -360,7 +360,7 @@ module _ (program : Program) (bound number : ℕ) where
       -- an item behind which what follows is dead
       left_at : (item : Instr) (open_ones : List Target) (ones : List Open) (p : Point) (k : List Instr) (from : List WasmType) (os : List Open) (to : List WasmType) → IsLeave item → Rule c item ones from os to → AreOpen open_ones ones
           → Neat open_ones p.stack p.next → length p.stack ≡ length from → left_most blocks (calls blocks shapes number) (shapes number).wanted (shapes number).slots results (takes_of open_ones) item ≤ bound → left_next blocks (calls blocks shapes number) (shapes number).wanted (shapes number).slots results item p.next ≤ limit
-          → At p.position (leaving blocks shapes number open_ones item p) → LaidDead open_ones 0 (left_next blocks (calls blocks shapes number) (shapes number).wanted (shapes number).slots results item p.next) k → LaidLive open_ones p (item ∷ k)
+          → At p.position (leaving shapes number open_ones item p) → LaidDead open_ones 0 (left_next blocks (calls blocks shapes number) (shapes number).wanted (shapes number).slots results item p.next) k → LaidLive open_ones p (item ∷ k)
       left_at (Br l) open_ones ones p k from os to leaves rule opens_are neat long most room h laid =
           (to_at (mark_of open_ones) 0 p.position p.stack (slice_get open_ones l) (branches 0 p.next open_ones ones l rule.1.0 p.stack opens_are neat rule.1.1 (omega (arith, long, leaves_enough rule.1.0 from rule.1.2)) (omega (arith, most))) h, laid)
       left_at (BrTable default ls) open_ones ones p k from os to leaves rule opens_are neat long most room h laid =
@@ -368,9 +368,9 @@ module _ (program : Program) (bound number : ℕ) where
           let stack = drop 1 p.stack in
           let index = top p.stack in
           let arm = p.position + (2 * length ls + branch_size results (slice_get (takes_of open_ones) default)) in
-          let ts = tests blocks shapes number open_ones index p.position p.next 0 arm ls in
-          let d = to_label blocks shapes number open_ones stack default in
-          let a = arms blocks shapes number open_ones stack ls in
+          let ts = tests shapes number open_ones index p.position p.next 0 arm ls in
+          let d = to_label shapes number open_ones stack default in
+          let a = arms shapes number open_ones stack ls in
           let size = branch_size results (slice_get (takes_of open_ones) default) in
           let behind_tests = back p.position (2 * length ls) ts (d ++ a) (tests_length blocks shapes number open_ones index p.position p.next 0 arm ls) h in
           let same : p.position + 2 * length ls + size ≡ arm = omega arith in (
@@ -545,7 +545,7 @@ module _ (program : Program) (bound number : ℕ) where
           let q = Behind_item open_ones item p in
           let s = stepped item open_ones ones p (flat body k) from b.behind b.to are.0 b.rule opens_are neat long (omega (arith, most)) in
           let rest = (Low blocks shapes number open_ones body q).commands in
-          let t = template blocks shapes number open_ones item p in
+          let t = template shapes number open_ones item p in
           let next = after_next blocks shapes number open_ones item p in
           s.lays (front p.position t rest h) (omega (arith, next, room))
           (lays body open_ones ones q k b.to b.later are.1 opens_are (neat_after item open_ones p neat) s.long (omega (arith, next, room)) (omega (arith, most))

@@ -3,7 +3,7 @@ use Rattle.std.proofs.Common.{◌≡◌, ℕ, zero, suc, ◌+◌, ◌<◌, ◌�
 use Rattle.std.proofs.lemmas.List.{reverse-append, append_assoc}
 use Rattle.bl_access.specs.Templates.{variable}
 use Rattle.bl_cmd.specs.declared.command.Operand.{Operand}
-use Rattle.bl_cmd.specs.declared.command.Operand.TheVariants.{Const}
+use Rattle.bl_cmd.specs.declared.command.Operand.TheVariants.{Var, Const}
 use Rattle.bl_lower.proofs.Laid.{AreNot, Fresh}
 use Rattle.bl_lower.specs.Constructs.{pad, reads, Kind, whole, again, part, Target, taken, first_to}
 use Rattle.bl_lower.proofs.Sizes.{padded_length}
@@ -13,7 +13,7 @@ use Rattle.bl_lower.proofs.Sizes.{padded_length}
 -- each operand is a variable below the one above it, topmost first
 abbrev pub Below : ℕ → List Operand → Type 0
 Below next [] = Unit {0}
-Below next (variable x ∷ stack) = (x < next) × Below x stack
+Below next (Var x ∷ stack) = (x.0 < next) × Below x.0 stack
 Below next (Const c ∷ stack) = ⊥
 
 -- a variable that the moves to a construct don't write too early
@@ -22,7 +22,7 @@ lowest (again start params first) = first
 lowest kind = 0
 
 abbrev pub Avoids : Target → Operand → Type 0
-Avoids t (variable x) = ((x < t.first) ⊎ (t.first + t.arity ≤ x)) × (lowest t.kind ≤ x)
+Avoids t (Var x) = ((x.0 < t.first) ⊎ (t.first + t.arity ≤ x.0)) × (lowest t.kind ≤ x.0)
 Avoids t (Const c) = Unit {0}
 
 abbrev pub AllAvoid : Target → List Operand → Type 0
@@ -45,7 +45,7 @@ pub record Neat (open_ones : List Target) (stack : List Operand) (next : ℕ) : 
 
 pub below_later : (a b : ℕ) (stack : List Operand) → a ≤ b → Below a stack → Below b stack
 below_later a b [] le h = tt
-below_later a b (variable x ∷ stack) le h = (omega (arith, h.0, le), h.1)
+below_later a b (Var x ∷ stack) le h = (omega (arith, h.0, le), h.1)
 below_later a b (Const c ∷ stack) le h = absurd h
 
 pub walls_later : (a b : ℕ) (open_ones : List Target) → a ≤ b → Walls open_ones a → Walls open_ones b
@@ -67,7 +67,7 @@ clear_tail (t ∷ open_ones) n stack h = (all_tail t n stack h.0, clear_tail ope
 below_tail : (n next : ℕ) (stack : List Operand) → Below next stack → Below next (drop n stack)
 below_tail zero next stack h = h
 below_tail (suc n) next [] h = tt
-below_tail (suc n) next (variable x ∷ stack) h = below_tail n next stack (below_later x next stack (omega (arith, h.0)) h.1)
+below_tail (suc n) next (Var x ∷ stack) h = below_tail n next stack (below_later x.0 next stack (omega (arith, h.0)) h.1)
 below_tail (suc n) next (Const c ∷ stack) h = absurd h
 
 pub neat_tail : (open_ones : List Target) (n : ℕ) (stack : List Operand) (next : ℕ) → Neat open_ones stack next → Neat open_ones (drop n stack) next
@@ -105,12 +105,12 @@ neat_pushed temps count n open_ones stack next h =
 
 abbrev pub AtLeast : ℕ → List Operand → Type 0
 AtLeast low [] = Unit {0}
-AtLeast low (variable x ∷ stack) = (low ≤ x) × AtLeast low stack
+AtLeast low (Var x ∷ stack) = (low ≤ x.0) × AtLeast low stack
 AtLeast low (Const c ∷ stack) = AtLeast low stack
 
 at_least_zero : (stack : List Operand) → AtLeast 0 stack
 at_least_zero [] = tt
-at_least_zero (variable x ∷ stack) = (omega arith, at_least_zero stack)
+at_least_zero (Var x ∷ stack) = (omega arith, at_least_zero stack)
 at_least_zero (Const c ∷ stack) = at_least_zero stack
 
 at_least_reads : (low count first : ℕ) (acc : List Operand) → low ≤ first → AtLeast low acc → AtLeast low (reverse (reads first count) ++ acc)
@@ -120,7 +120,7 @@ at_least_reads low (suc count) first acc le h =
 
 all_avoid : (t : Target) (high : ℕ) (stack : List Operand) → high ≤ t.first → Below high stack → AtLeast (lowest t.kind) stack → AllAvoid t stack
 all_avoid t high [] le h g = tt
-all_avoid t high (variable x ∷ stack) le h g = ((inl (omega (arith, h.0, le)), g.0), all_avoid t x stack (omega (arith, h.0, le)) h.1 g.1)
+all_avoid t high (Var x ∷ stack) le h g = ((inl (omega (arith, h.0, le)), g.0), all_avoid t x.0 stack (omega (arith, h.0, le)) h.1 g.1)
 all_avoid t high (Const c ∷ stack) le h g = absurd h
 
 -- operands below a construct's results stay as they are inside
@@ -141,7 +141,7 @@ clear_front (t ∷ open_ones) n stack h = (all_front t n stack h.0, clear_front 
 below_front : (n next : ℕ) (stack : List Operand) → Below next stack → Below next (take n stack)
 below_front zero next stack h = tt
 below_front (suc n) next [] h = tt
-below_front (suc n) next (variable x ∷ stack) h = (h.0, below_front n x stack h.1)
+below_front (suc n) next (Var x ∷ stack) h = (h.0, below_front n x.0 stack h.1)
 below_front (suc n) next (Const c ∷ stack) h = absurd h
 
 neat_front : (open_ones : List Target) (n : ℕ) (stack : List Operand) (next : ℕ) → Neat open_ones stack next → Neat open_ones (take n stack) next
@@ -171,7 +171,7 @@ neat_looped t open_ones n stack from next le room low h =
 
 -- each operand from a list, in the other order
 abbrev pub Outside : ℕ → ℕ → Operand → Type 0
-Outside low high (variable x) = (x < low) ⊎ (high ≤ x)
+Outside low high (Var x) = (x.0 < low) ⊎ (high ≤ x.0)
 Outside low high (Const c) = Unit {0}
 
 abbrev pub AllOutside : ℕ → ℕ → List Operand → Type 0
@@ -185,9 +185,9 @@ outside_pad low high (suc n) (a ∷ stack) acc h g = subst (AllOutside low high)
 
 not_outside : (low high x : ℕ) (ops : List Operand) → low ≤ x → x < high → AllOutside low high ops → AreNot x ops
 not_outside low high x [] le lt h = tt
-not_outside low high x (variable y ∷ ops) le lt h = (out h.0, not_outside low high x ops le lt h.1)
+not_outside low high x (Var y ∷ ops) le lt h = (out h.0, not_outside low high x ops le lt h.1)
   where
-    out : (y < low) ⊎ (high ≤ y) → y ≡ x → ⊥
+    out : (y.0 < low) ⊎ (high ≤ y.0) → y.0 ≡ x → ⊥
     out (inl g) e = omega (arith, g, le, e)
     out (inr g) e = omega (arith, g, lt, e)
 not_outside low high x (Const c ∷ ops) le lt h = (tt, not_outside low high x ops le lt h.1)
@@ -200,31 +200,31 @@ outside_fresh low high first (a ∷ ops) le ge h =
 -- operands that rise from a variable on
 abbrev pub Rising : ℕ → List Operand → Type 0
 Rising low [] = Unit {0}
-Rising low (variable x ∷ ops) = (low ≤ x) × Rising (suc x) ops
+Rising low (Var x ∷ ops) = (low ≤ x.0) × Rising (suc x.0) ops
 Rising low (Const c ∷ ops) = ⊥
 
 rising_later : (a b : ℕ) (ops : List Operand) → b ≤ a → Rising a ops → Rising b ops
 rising_later a b [] le h = tt
-rising_later a b (variable x ∷ ops) le h = (omega (arith, h.0, le), h.1)
+rising_later a b (Var x ∷ ops) le h = (omega (arith, h.0, le), h.1)
 rising_later a b (Const c ∷ ops) le h = absurd h
 
 rising_not : (x low : ℕ) (ops : List Operand) → x < low → Rising low ops → AreNot x ops
 rising_not x low [] lt h = tt
-rising_not x low (variable y ∷ ops) lt h = ((λ e. omega (arith, e, h.0, lt)), rising_not x (suc y) ops (omega (arith, h.0, lt)) h.1)
+rising_not x low (Var y ∷ ops) lt h = ((λ e. omega (arith, e, h.0, lt)), rising_not x (suc y.0) ops (omega (arith, h.0, lt)) h.1)
 rising_not x low (Const c ∷ ops) lt h = absurd h
 
 -- moves in order from the least of them on read no variable that an earlier one has written
 pub rising_fresh : (first low : ℕ) (ops : List Operand) → first ≤ low → Rising low ops → Fresh first ops
 rising_fresh first low [] le h = tt
-rising_fresh first low (variable x ∷ ops) le h = (rising_not first (suc x) ops (omega (arith, le, h.0)) h.1, rising_fresh (suc first) (suc x) ops (omega (arith, le, h.0)) h.1)
+rising_fresh first low (Var x ∷ ops) le h = (rising_not first (suc x.0) ops (omega (arith, le, h.0)) h.1, rising_fresh (suc first) (suc x.0) ops (omega (arith, le, h.0)) h.1)
 rising_fresh first low (Const c ∷ ops) le h = absurd h
 
 rising_pad : (n low next : ℕ) (stack acc : List Operand) → n ≤ length stack → low ≤ next → Below next stack → AtLeast low stack → Rising next acc → Rising low (reverse (pad n stack) ++ acc)
 rising_pad zero low next stack acc le from h g rest = rising_later next low acc from rest
 rising_pad (suc n) low next [] acc le from h g rest = absurd (omega (arith, le))
-rising_pad (suc n) low next (variable x ∷ stack) acc le from h g rest =
-    subst (Rising low) (sym (reverse_step (variable x) (pad n stack) acc))
-    (rising_pad n low x stack (variable x ∷ acc) (omega (arith, le)) g.0 h.1 g.1 (omega arith, rising_later next (suc x) acc (omega (arith, h.0)) rest))
+rising_pad (suc n) low next (Var x ∷ stack) acc le from h g rest =
+    subst (Rising low) (sym (reverse_step (Var x) (pad n stack) acc))
+    (rising_pad n low x.0 stack (Var x ∷ acc) (omega (arith, le)) g.0 h.1 g.1 (omega arith, rising_later next (suc x.0) acc (omega (arith, h.0)) rest))
 rising_pad (suc n) low next (Const c ∷ stack) acc le from h g rest = absurd h
 
 -- the moves of a construct's results
@@ -234,7 +234,7 @@ avoids_fresh t stack h = outside_fresh t.first (t.first + t.arity) t.first (reve
   where
     out : (stack : List Operand) → AllAvoid t stack → AllOutside t.first (t.first + t.arity) stack
     out [] h = tt
-    out (variable x ∷ stack) h = (h.0.0, out stack h.1)
+    out (Var x ∷ stack) h = (h.0.0, out stack h.1)
     out (Const c ∷ stack) h = (tt, out stack h.1)
 
 -- the moves of a branch
@@ -243,7 +243,7 @@ branch_fresh t stack next enough below low h = by_kind t.kind refl
   where
     least : (first : ℕ) (stack : List Operand) → lowest t.kind ≡ first → AllAvoid t stack → AtLeast first stack
     least first [] e h = tt
-    least first (variable x ∷ stack) e h = (omega (arith, e, h.0.1), least first stack e h.1)
+    least first (Var x ∷ stack) e h = (omega (arith, e, h.0.1), least first stack e h.1)
     least first (Const c ∷ stack) e h = least first stack e h.1
 
     by_kind : (kind : Kind) → t.kind ≡ kind → Fresh (first_to t) (reverse (pad (taken t) stack))
@@ -262,5 +262,5 @@ new_fresh n next stack h = outside_fresh next (next + n) next (reverse (pad n st
   where
     go : (top : ℕ) (stack : List Operand) → Below top stack → top ≤ next → AllOutside next (next + n) stack
     go top [] h le = tt
-    go top (variable x ∷ stack) h le = (inl (omega (arith, h.0, le)), go x stack h.1 (omega (arith, h.0, le)))
+    go top (Var x ∷ stack) h le = (inl (omega (arith, h.0, le)), go x.0 stack h.1 (omega (arith, h.0, le)))
     go top (Const c ∷ stack) h le = absurd h
