@@ -1,8 +1,10 @@
 -- What is laid out inside a construct is laid out behind its end, and in its second part.
-use Rattle.std.proofs.Common.{◌≡◌, ℕ, zero, suc, ◌+◌, ◌≤◌, List, [], ◌∷◌, ◌++◌, length, take, drop, reverse, sym, subst, arith}
+use Rattle.std.proofs.Common.{◌≡◌, ℕ, zero, suc, ◌+◌, ◌≤◌, List, [], ◌∷◌, ◌++◌, length, take, drop, reverse, refl, sym, ap, ◌∙◌, subst, arith}
 use Rattle.bl_wasm.specs.declared.instruction.Instr.{Instr}
 use Rattle.bl_wasm.specs.declared.instruction.Instr.TheVariants.{Unreachable, Block, Loop, If, Else, End, Br, BrIf, BrTable, Return, Call, CallIndirect, Select, LocalGet, GlobalGet, Load, Store, MemorySize, MemoryGrow, I32Const, I64Const, Integer}
-use Rattle.bl_reduce.specs.Control.{behind_end, second_part}
+use Rattle.std.specs.Prelude.{unwrap_or}
+use Rattle.bl_wasm.specs.Nesting.{Kind as NestKind, of_block, of_loop, then_part, else_part, Construct, construct, behind_else, open_behind}
+use Rattle.bl_reduce.specs.Control.{items_behind_end, items_of_else}
 use Rattle.bl_cmd.specs.declared.command.Operand.{Operand}
 use Rattle.bl_lower.proofs.Laid.{Code, live, dead, second_of, Laid, EndsAt, SecondAt, params_of, arity_of, operands_of}
 use Rattle.bl_lower.proofs.Machine.{Program}
@@ -32,6 +34,70 @@ abbrev pub depth_of : Code → ℕ → ℕ
 depth_of (live p) k = k
 depth_of (dead zero next) k = k
 depth_of (dead (suc depth) next) k = suc (depth_of (dead depth next) k)
+
+-- ---- the parts of a construct, by how many constructs are open within
+
+-- what stands behind the end of the construct that is the innermost but so many
+abbrev pub behind_end : ℕ → List Instr → List Instr
+behind_end depth [] = []
+behind_end depth (Block r ∷ items) = behind_end (suc depth) items
+behind_end depth (Loop r ∷ items) = behind_end (suc depth) items
+behind_end depth (If r ∷ items) = behind_end (suc depth) items
+behind_end zero (End ∷ items) = items
+behind_end (suc depth) (End ∷ items) = behind_end depth items
+behind_end depth (item ∷ items) = behind_end depth items
+
+-- the second part of an if with its end, from inside its first part
+abbrev pub second_part : ℕ → List Instr → List Instr
+second_part depth [] = []
+second_part depth (Block r ∷ items) = second_part (suc depth) items
+second_part depth (Loop r ∷ items) = second_part (suc depth) items
+second_part depth (If r ∷ items) = second_part (suc depth) items
+second_part zero (Else ∷ items) = items
+second_part zero (End ∷ items) = End ∷ items
+second_part (suc depth) (End ∷ items) = second_part depth items
+second_part depth (item ∷ items) = second_part depth items
+
+-- behind an `else` as many are open
+as_many : (inner : List Construct) → length (unwrap_or (open_behind Else inner) inner) ≡ length inner
+as_many [] = refl
+as_many (x ∷ inner) = by_kind x.kind
+  where
+    by_kind : (kind : NestKind) → length (unwrap_or (behind_else (construct kind x.type ∷ inner)) (construct kind x.type ∷ inner)) ≡ suc (length inner)
+    by_kind of_block = refl
+    by_kind of_loop = refl
+    by_kind then_part = refl
+    by_kind else_part = refl
+
+end_is : (items : List Instr) (inner : List Construct) → items_behind_end inner items ≡ behind_end (length inner) items
+end_is [] inner = refl
+end_is (Block r ∷ items) [] = end_is items (construct of_block r ∷ [])
+end_is (Block r ∷ items) (x ∷ inner) = end_is items (construct of_block r ∷ x ∷ inner)
+end_is (Loop r ∷ items) [] = end_is items (construct of_loop r ∷ [])
+end_is (Loop r ∷ items) (x ∷ inner) = end_is items (construct of_loop r ∷ x ∷ inner)
+end_is (If r ∷ items) [] = end_is items (construct then_part r ∷ [])
+end_is (If r ∷ items) (x ∷ inner) = end_is items (construct then_part r ∷ x ∷ inner)
+end_is (Else ∷ items) [] = end_is items []
+end_is (Else ∷ items) (x ∷ inner) = end_is items (unwrap_or (open_behind Else (x ∷ inner)) (x ∷ inner)) ∙ ap (λ n. behind_end n items) (as_many (x ∷ inner))
+end_is (End ∷ items) [] = refl
+end_is (End ∷ items) (x ∷ inner) = end_is items inner
+end_is (item ∷ items) [] = end_is items []
+end_is (item ∷ items) (x ∷ inner) = end_is items (x ∷ inner)
+
+else_is : (items : List Instr) (inner : List Construct) → items_of_else inner items ≡ second_part (length inner) items
+else_is [] inner = refl
+else_is (Block r ∷ items) [] = else_is items (construct of_block r ∷ [])
+else_is (Block r ∷ items) (x ∷ inner) = else_is items (construct of_block r ∷ x ∷ inner)
+else_is (Loop r ∷ items) [] = else_is items (construct of_loop r ∷ [])
+else_is (Loop r ∷ items) (x ∷ inner) = else_is items (construct of_loop r ∷ x ∷ inner)
+else_is (If r ∷ items) [] = else_is items (construct then_part r ∷ [])
+else_is (If r ∷ items) (x ∷ inner) = else_is items (construct then_part r ∷ x ∷ inner)
+else_is (Else ∷ items) [] = refl
+else_is (Else ∷ items) (x ∷ inner) = else_is items (unwrap_or (open_behind Else (x ∷ inner)) (x ∷ inner)) ∙ ap (λ n. second_part n items) (as_many (x ∷ inner))
+else_is (End ∷ items) [] = refl
+else_is (End ∷ items) (x ∷ inner) = else_is items inner
+else_is (item ∷ items) [] = else_is items []
+else_is (item ∷ items) (x ∷ inner) = else_is items (x ∷ inner)
 
 module _ (program : Program) (bound number : ℕ) where
   next_grows : (open_ones : List Target) (item : Instr) (p : Point) → p.next ≤ (after program.shape number open_ones item p).next
@@ -181,3 +247,11 @@ module _ (program : Program) (bound number : ℕ) where
     seconds (u ∷ inner) (dead zero next) (End ∷ rest) le h = seconds inner (live (behind u next)) rest le h.1
     seconds inner (dead (suc depth) next) (End ∷ rest) le h = seconds inner (dead depth next) rest le h
     seconds inner (dead depth next) (item ∷ rest) le h = seconds inner (dead depth next) rest le h
+
+    -- the second part of the innermost construct
+    pub seconds_here : (p : Point) (rest : List Instr) → p.next ≤ (program.shape number).limit → LaidHere (t ∷ open_ones) (live p) rest → Second t open_ones p.next (items_of_else [] rest)
+    seconds_here p rest le h = subst (Second t open_ones p.next) (sym (else_is rest [])) (seconds [] (live p) rest le h)
+
+  -- the end of the innermost construct
+  pub ends_here : (t : Target) (open_ones : List Target) (p : Point) (rest : List Instr) → p.next ≤ (program.shape number).limit → LaidHere (t ∷ open_ones) (live p) rest → Behind t open_ones p.next (items_behind_end [] rest)
+  ends_here t open_ones p rest le h = subst (Behind t open_ones p.next) (sym (end_is rest [])) (ends t open_ones [] (live p) rest le h)

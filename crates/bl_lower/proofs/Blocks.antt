@@ -11,18 +11,18 @@ use Rattle.bl_wasm.specs.declared.types.BlockType.{BlockType}
 use Rattle.bl_wasm.specs.declared.types.FuncType.{FuncType}
 use Rattle.bl_wasm.specs.declared.linked.Tree.{Tree}
 use Rattle.bl_reduce.specs.Configurations.{State, with_values}
-use Rattle.bl_reduce.specs.Control.{behind_end, second_part, enter_with, enter_block, enter_loop, enter_if, reach_end, reach_else}
+use Rattle.bl_reduce.specs.Control.{items_behind_end, items_of_else, enter_with, enter_block, enter_loop, enter_if, reach_end, reach_else}
 use Rattle.bl_base.proofs.Lists.{zip_reverse}
 use Rattle.bl_access.specs.Templates.{variable, test_of, jump_to, shift}
 use Rattle.bl_cmd.specs.Steps.{Registers, Plain, depth}
 use Rattle.bl_cmd.specs.declared.command.Operand.{Operand}
-use Rattle.bl_cmd.specs.declared.command.Operand.TheVariants.{Const}
+use Rattle.bl_cmd.specs.declared.command.Operand.TheVariants.{Var, Const}
 use Rattle.bl_lower.proofs.Laid.{HasAt, Fresh, AllUnder, floor, landing, live, Laid, EndsAt, Brings}
 use Rattle.bl_lower.proofs.Machine.{Program, plain_step}
 use Rattle.bl_lower.proofs.Matching.{Holds, AllHold, Layout, Here}
 use Rattle.bl_lower.specs.Constructs.{reads, moves, whole, again, part, mark_of, Target, as_whole, taken, first_to, behind, top, point, inside}
 use Rattle.bl_lower.specs.Shapes.{bottom}
-use Rattle.bl_lower.proofs.Behind.{Behind, ends, Second, seconds}
+use Rattle.bl_lower.proofs.Behind.{Behind, ends_here, Second, seconds_here}
 use Rattle.bl_lower.proofs.Branching.{IsSmall}
 use Rattle.bl_lower.proofs.Frames.{static_low, next_low, floor_is_above, store_kept, targets_later, locals_kept, callers_kept, Reaches, Then, popping}
 use Rattle.bl_lower.proofs.Items.{arrives, tests}
@@ -138,9 +138,9 @@ module _ (tree : Tree) (program : Program) (bound : ℕ) (layout : Layout progra
         → Reaches tree program bound 0 (enter_block type state.frame.rest state) s
     block_reaches end stack next state s h command most limit laid =
         let t = inside whole m end (drop n stack) next in
-        let b = ends program bound state.frame.number t open_ones [] (live (point (suc s.position) (take n stack) (next + m))) state.frame.rest limit laid in
-        as_counted m (length type.params) 0 (behind_end 0 state.frame.rest) state.frame.rest state s (length type.results) counts.1 counts.0
-        (stays 0 1 t n (suc s.position) (next + m) b.next (behind_end 0 state.frame.rest) state.frame.rest stack next state s h refl b.later b.limit refl b.laid (omega arith) (omega arith) limit laid (omega arith) (omega (arith, most))
+        let b = ends_here program bound state.frame.number t open_ones (point (suc s.position) (take n stack) (next + m)) state.frame.rest limit laid in
+        as_counted m (length type.params) 0 (items_behind_end [] state.frame.rest) state.frame.rest state s (length type.results) counts.1 counts.0
+        (stays 0 1 t n (suc s.position) (next + m) b.next (items_behind_end [] state.frame.rest) state.frame.rest stack next state s h refl b.later b.limit refl b.laid (omega arith) (omega arith) limit laid (omega arith) (omega (arith, most))
         (at (suc s.position) s.registers s, does program s (jump_to (suc s.position)) command, refl))
 
     pub if_reaches : (end second : ℕ) (stack : List Operand) (next : ℕ) (state : State) (s : Plain) → Here program bound open_ones stack next state s → IsSmall state.frame.values
@@ -149,13 +149,13 @@ module _ (tree : Tree) (program : Program) (bound : ℕ) (layout : Layout progra
         → Then tree program bound 0 (enter_if type state) s
     if_reaches end second stack next state s h small command most limit laid =
         popping tree program bound open_ones next 0 stack state s
-        (λ condition state. if condition == 0 then enter_block type (second_part 0 state.frame.rest) state else enter_block type state.frame.rest state) h (λ v vs e holds here.
-        tests tree program bound layout 0 s (top stack) (suc s.position) second v (enter_block type (second_part 0 state.frame.rest) (with_values vs state)) (enter_block type state.frame.rest (with_values vs state)) command
+        (λ condition state. if condition == 0 then enter_block type (items_of_else [] state.frame.rest) state else enter_block type state.frame.rest state) h (λ v vs e holds here.
+        tests tree program bound layout 0 s (top stack) (suc s.position) second v (enter_block type (items_of_else [] state.frame.rest) (with_values vs state)) (enter_block type state.frame.rest (with_values vs state)) command
         (holds_value program s (bottom (program.shape state.frame.number)) next (top stack) v (static_low program bound layout state.frame.number) holds) (subst IsSmall e small)
-        (λ way has. as_counted m (length type.params) 0 (behind_end 0 state.frame.rest) (second_part 0 state.frame.rest) (with_values vs state) s (length type.results) counts.1 counts.0
-        (stays 0 1 (as_whole t) n second c.next b.next (behind_end 0 state.frame.rest) (second_part 0 state.frame.rest) (drop 1 stack) next (with_values vs state) s here refl b.later b.limit refl b.laid (omega arith) c.later c.limit c.laid (omega arith) (omega (arith, most)) way))
-        (λ way has. as_counted m (length type.params) 0 (behind_end 0 state.frame.rest) state.frame.rest (with_values vs state) s (length type.results) counts.1 counts.0
-        (stays 0 1 t n (suc s.position) (next + m) b.next (behind_end 0 state.frame.rest) state.frame.rest (drop 1 stack) next (with_values vs state) s here refl b.later b.limit refl b.laid (omega arith) (omega arith) limit laid (omega arith) (omega (arith, most)) way)))
+        (λ way has. as_counted m (length type.params) 0 (items_behind_end [] state.frame.rest) (items_of_else [] state.frame.rest) (with_values vs state) s (length type.results) counts.1 counts.0
+        (stays 0 1 (as_whole t) n second c.next b.next (items_behind_end [] state.frame.rest) (items_of_else [] state.frame.rest) (drop 1 stack) next (with_values vs state) s here refl b.later b.limit refl b.laid (omega arith) c.later c.limit c.laid (omega arith) (omega (arith, most)) way))
+        (λ way has. as_counted m (length type.params) 0 (items_behind_end [] state.frame.rest) state.frame.rest (with_values vs state) s (length type.results) counts.1 counts.0
+        (stays 0 1 t n (suc s.position) (next + m) b.next (items_behind_end [] state.frame.rest) state.frame.rest (drop 1 stack) next (with_values vs state) s here refl b.later b.limit refl b.laid (omega arith) (omega arith) limit laid (omega arith) (omega (arith, most)) way)))
       where
         operands : List Operand
         operands = take n (drop 1 stack)
@@ -163,11 +163,11 @@ module _ (tree : Tree) (program : Program) (bound : ℕ) (layout : Layout progra
         t : Target
         t = inside (part second operands) m end (drop n (drop 1 stack)) next
 
-        b : Behind program bound state.frame.number t open_ones (next + m) (behind_end 0 state.frame.rest)
-        b = ends program bound state.frame.number t open_ones [] (live (point (suc s.position) operands (next + m))) state.frame.rest limit laid
+        b : Behind program bound state.frame.number t open_ones (next + m) (items_behind_end [] state.frame.rest)
+        b = ends_here program bound state.frame.number t open_ones (point (suc s.position) operands (next + m)) state.frame.rest limit laid
 
-        c : Second program bound state.frame.number t open_ones (next + m) (second_part 0 state.frame.rest)
-        c = seconds program bound state.frame.number t second operands refl open_ones [] (live (point (suc s.position) operands (next + m))) state.frame.rest limit laid
+        c : Second program bound state.frame.number t open_ones (next + m) (items_of_else [] state.frame.rest)
+        c = seconds_here program bound state.frame.number t second operands refl open_ones (point (suc s.position) operands (next + m)) state.frame.rest limit laid
 
     -- ---- loops
 
@@ -204,19 +204,19 @@ module _ (tree : Tree) (program : Program) (bound : ℕ) (layout : Layout progra
     all_under : (r' : Registers) (d low high : ℕ) (operands : List Operand) (vs : List ℕ) → AllHold r' d low high operands vs → AllUnder high operands
     all_under r' d low high [] vs h = tt
     all_under r' d low high (a ∷ operands) [] h = absurd h
-    all_under r' d low high (variable x ∷ operands) (v ∷ vs) h = (h.0.1, all_under r' d low high operands vs h.1)
+    all_under r' d low high (Var x ∷ operands) (v ∷ vs) h = (h.0.1, all_under r' d low high operands vs h.1)
     all_under r' d low high (Const c ∷ operands) (v ∷ vs) h = (tt, all_under r' d low high operands vs h.1)
 
     under_more : (a b : ℕ) (operands : List Operand) → a ≤ b → AllUnder a operands → AllUnder b operands
     under_more a b [] le h = tt
-    under_more a b (variable x ∷ operands) le h = (omega (arith, h.0, le), under_more a b operands le h.1)
+    under_more a b (Var x ∷ operands) le h = (omega (arith, h.0, le), under_more a b operands le h.1)
     under_more a b (Const c ∷ operands) le h = (tt, under_more a b operands le h.1)
 
     hold_under : (r' : Registers) (d low high first : ℕ) (operands : List Operand) (vs : List ℕ) → AllUnder first operands → AllHold r' d low high operands vs → AllHold r' d low first operands vs
     hold_under r' d low high first [] [] u h = tt
     hold_under r' d low high first [] (v ∷ vs) u h = absurd h
     hold_under r' d low high first (a ∷ operands) [] u h = absurd h
-    hold_under r' d low high first (variable x ∷ operands) (v ∷ vs) u h = ((h.0.0, u.0, h.0.2), hold_under r' d low high first operands vs u.1 h.1)
+    hold_under r' d low high first (Var x ∷ operands) (v ∷ vs) u h = ((h.0.0, u.0, h.0.2), hold_under r' d low high first operands vs u.1 h.1)
     hold_under r' d low high first (Const c ∷ operands) (v ∷ vs) u h = (h.0, hold_under r' d low high first operands vs u.1 h.1)
 
     pub loop_reaches : (first results start end : ℕ) (stack : List Operand) (next : ℕ) (state : State) (s : Plain) → Here program bound open_ones stack next state s
@@ -270,5 +270,5 @@ module _ (tree : Tree) (program : Program) (bound : ℕ) (layout : Layout progra
       → EndsAt program bound state.frame.number (mark_of (t ∷ open_ones)) t s.position stack → LaidWith state (as_whole t ∷ open_ones) second operands next state.frame.rest
       → Then tree program bound 0 (reach_else state) s
   else_reaches t second operands stack next state s h at_ laid =
-      let b = ends program bound state.frame.number (as_whole t) open_ones [] (live (point second operands next)) state.frame.rest h.frame_is.limit laid in
-      leaves_label tree program bound layout (mark_of (t ∷ open_ones)) t open_ones state.frame.labels (behind_end 0 state.frame.rest) stack next state s h h.frame_is.labels at_ b.next (omega (arith, h.frame_is.above, b.later)) b.limit b.laid
+      let b = ends_here program bound state.frame.number (as_whole t) open_ones (point second operands next) state.frame.rest h.frame_is.limit laid in
+      leaves_label tree program bound layout (mark_of (t ∷ open_ones)) t open_ones state.frame.labels (items_behind_end [] state.frame.rest) stack next state s h h.frame_is.labels at_ b.next (omega (arith, h.frame_is.above, b.later)) b.limit b.laid

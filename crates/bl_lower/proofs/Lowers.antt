@@ -6,7 +6,8 @@ use Rattle.std.proofs.lemmas.List.Elements.{All-head, All-tail}
 use Rattle.std.proofs.lemmas.Option.{none-some}
 use Rattle.bl_ops.specs.Access.{type_of}
 use Rattle.bl_ops.specs.Table.{row_of}
-use Rattle.bl_wasm.specs.Typing.{Label, block as block_label, loop as loop_label, first_part, second_part, Context, Open, opened, Types, Rule, HasType, labels, expanded, type_in, results_of, taken_by, integer}
+use Rattle.bl_wasm.specs.Nesting.{Kind, of_block, of_loop, then_part, else_part}
+use Rattle.bl_wasm.specs.Typing.{Context, Open, opened, Types, Rule, HasType, labels, expanded, taken_by, integer}
 use Rattle.bl_wasm.specs.declared.instruction.Instr.{Instr}
 use Rattle.bl_wasm.specs.declared.instruction.Instr.TheVariants.{Unreachable, Nop, Block, Loop, If, Else, End, Br, BrIf, BrTable, Return, Call, CallIndirect, Drop, Select, LocalGet, LocalSet, LocalTee, GlobalGet, GlobalSet, Load, Store, MemorySize, MemoryGrow, I32Const, I64Const, Integer}
 use Rattle.bl_wasm.specs.declared.types.BlockType.{BlockType}
@@ -15,20 +16,21 @@ use Rattle.bl_wasm.specs.declared.types.WasmType.TheVariants.{I32, I64}
 use Rattle.bl_wasm.specs.declared.types.FuncType.{FuncType}
 use Rattle.bl_reduce.proofs.Places.{behind_item}
 use Rattle.bl_base.proofs.Lists.{some_same}
-use Rattle.bl_access.specs.Templates.{variable, jump_to, shift, set as set_command}
+use Rattle.bl_access.specs.Templates.{chain, variable, jump_to, shift, set as set_command}
 use Rattle.bl_cmd.specs.declared.command.Command.{Command}
 use Rattle.bl_cmd.specs.declared.command.Operand.{Operand}
 use Rattle.bl_lower.proofs.Laid.{HasAt, Fresh, live, dead, second_of, operands_of, Laid, OutsAt, ToAt, TestsAt, SecondAt, SlotsFrom, SlotAt, flat, code_of, tests, yes_of, slot_tests}
 use Rattle.bl_lower.proofs.Machine.{Program}
 use Rattle.bl_lower.specs.Constructs.{pad, reads, moves, outs, top, whole, again, part, Target, as_whole, taken, first_to, mark_of, Point, point, behind, inside, branched}
-use Rattle.bl_lower.specs.Items.{checks, check_of, check_size, check_new, count_of, left, right, after, arm_size, branch_size, branch_most, branch_mosts, size_of, most_of, left_new, left_next, left_most, to_label, arms, slot_head, slot_arm, slot_arms, template, leaving}
+use Rattle.bl_lower.specs.Items.{arms_from, checks, check_of, check_size, check_new, count_of, left, right, after, arm_size, branch_size, branch_most, branch_mosts, size_of, most_of, left_new, left_next, left_most, to_label, arms, slot_head, slot_arm, slot_arms, template, leaving}
 use Rattle.bl_lower.specs.Low.{Body, done, step, leave, block, loop, choice, Extent, closed_size, most_in, Reached, on, off, next_in, Lowered, closed, takes_of, size_in}
 use Rattle.bl_lower.specs.Shapes.{Slot, armed, vacant, strange, Counts, Shape}
 use Rattle.bl_lower.proofs.Leaving.{moves_length}
-use Rattle.bl_lower.proofs.Sizes.{Low, Size, Sized, ReachedAs, sizes, part_length, padded_length, checks_length, label_length, tests_length, template_length, after_position, after_next, calls, slot_arm_length, slot_head_length}
+use Rattle.bl_lower.proofs.Sizes.{Low, Size, Sized, ReachedAs, sizes, part_length, padded_length, checks_length, label_length, template_length, after_position, after_next, calls, slot_arm_length, slot_head_length}
 use Rattle.bl_lower.proofs.Typings.{IsOrdinary, IsLeave, IsBody, arrow_lengths, leaves_enough, at_end, at_else, opens, stays}
 use Rattle.bl_lower.proofs.Walls.{Neat, neat_later, neat_tail, neat_new, neat_reads, neat_taken, neat_looped, new_fresh, avoids_fresh, branch_fresh}
 use Rattle.bl_lower.proofs.Ways.{shift_is}
+use Rattle.bl_lower.proofs.Chains.{chain_length, arms_from_length, tests_are, slot_tests_are}
 
 reads_count : (first count : ℕ) → length (reads first count) ≡ count
 reads_count first zero = refl
@@ -89,8 +91,8 @@ module _ (program : Program) (bound number : ℕ) where
   module _ (c : Context) (results_are : length c.results ≡ results) where
     -- a construct that is open, for lowering and for typing
     pub record IsOpen (t : Target) (one : Open) : Type 0 where
-      pub taken_is : taken t ≡ length (taken_by one.label)
-      pub leaves : t.arity ≡ length (results_of one.label)
+      pub taken_is : taken t ≡ length (taken_by one.kind one.type)
+      pub leaves : t.arity ≡ length (one.type.results)
 
     abbrev pub AreOpen : List Target → List Open → Type 0
     AreOpen [] [] = Unit {0}
@@ -104,7 +106,7 @@ module _ (program : Program) (bound number : ℕ) where
     branches used next [] (one ∷ ones) l types stack h neat e room most = absurd h
     branches used next (t ∷ ts) [] l types stack h neat e room most = absurd h
     branches used next (t ∷ ts) (one ∷ ones) zero types stack h neat e room most =
-        let enough : taken t ≤ length stack = omega (arith, ap length (some_same (taken_by one.label) types e), h.0.taken_is, room) in
+        let enough : taken t ≤ length stack = omega (arith, ap length (some_same (taken_by one.kind one.type) types e), h.0.taken_is, room) in
         (enough, branch_fresh t stack next enough neat.below neat.walls.1 neat.clear.0, most)
     branches used next (t ∷ ts) (one ∷ ones) (suc l) types stack h neat e room most =
         branches used next ts ones l types stack h.1 (record { below = neat.below; clear = neat.clear.1; walls = neat.walls.2 }) e room most
@@ -112,7 +114,7 @@ module _ (program : Program) (bound number : ℕ) where
     -- the tests of a br_table, and its arms
     tests_at : (used next : ℕ) (open_ones : List Target) (ones : List Open) (types : List WasmType) (stack : List Operand) (index : Operand) (position x j arm default : ℕ) (ls : List ℕ) → AreOpen open_ones ones → Neat open_ones stack next
         → length types ≤ length stack → All (λ l. slice_get (labels c ones) l ≡ Some types) (ls ++ default ∷ [])
-        → used + (2 * length ls + branch_most results (slice_get (takes_of open_ones) default)) ≤ bound → used + (2 * length ls + branch_mosts blocks (calls blocks shapes number) (shapes number).wanted (shapes number).slots results (takes_of open_ones) ls) ≤ bound
+        → used + (2 * length ls + branch_most results (slice_get (takes_of open_ones) default)) ≤ bound → used + (2 * length ls + branch_mosts results (takes_of open_ones) ls) ≤ bound
         → At position (tests shapes number open_ones index position x j arm ls) → At (position + 2 * length ls) (to_label shapes number open_ones stack default) → At arm (arms shapes number open_ones stack ls)
         → TestsAt program bound number used open_ones stack index position x j ls default
     tests_at used next open_ones ones types stack index position x j arm default [] opens_are neat room all most mosts h d a =
@@ -189,29 +191,30 @@ module _ (program : Program) (bound number : ℕ) where
       indirect_at (slot ∷ those) mark wanted index stack position x first behind_it fit h =
           let head = slot_head shapes number mark index position x (slot ∷ those) in
           let rest = slot_arms shapes number mark stack first behind_it (slot ∷ those) in
-          inl (slots_at those mark wanted index stack position x 0 (position + 2 * suc (length those)) first behind_it slot fit (front position head rest h)
+          inl (slots_at those mark wanted index stack position x 0 (position + 2 * suc (length those)) first behind_it slot fit
+          (subst (At position) (slot_tests_are shapes number mark index position x 0 (position + 2 * suc (length those)) (slot ∷ those)) (front position head rest h))
           (back position (2 * suc (length those)) head rest (slot_head_length blocks shapes number mark index position x (slot ∷ those)) h))
 
       stepped : (item : Instr) (open_ones : List Target) (ones : List Open) (p : Point) (k : List Instr) (from : List WasmType) (os : List Open) (to : List WasmType) → IsOrdinary item → Rule c item ones from os to → AreOpen open_ones ones
-          → Neat open_ones p.stack p.next → length p.stack ≡ length from → most_of blocks (calls blocks shapes number) (shapes number).wanted (shapes number).slots results (takes_of open_ones) item ≤ bound → Stepped open_ones item p k to
+          → Neat open_ones p.stack p.next → length p.stack ≡ length from → most_of (calls blocks shapes number) (shapes number).wanted (shapes number).slots results (takes_of open_ones) item ≤ bound → Stepped open_ones item p k to
       stepped (I32Const n) open_ones ones p k from os to ordinary rule opens_are neat long most =
-          let a = arrow_lengths [] (I32 ∷ []) from to rule.1 in record { lays = λ h le laid. ((h.0.0, tt), le, laid); long = omega (arith, long, a.before, a.behind) }
+          let a = arrow_lengths [] (I32 ∷ []) from to rule.rule in record { lays = λ h le laid. ((h.0.0, tt), le, laid); long = omega (arith, long, a.before, a.behind) }
       stepped (I64Const n) open_ones ones p k from os to ordinary rule opens_are neat long most =
-          let a = arrow_lengths [] (I64 ∷ []) from to rule.1 in record { lays = λ h le laid. ((h.0.0, tt), le, laid); long = omega (arith, long, a.before, a.behind) }
+          let a = arrow_lengths [] (I64 ∷ []) from to rule.rule in record { lays = λ h le laid. ((h.0.0, tt), le, laid); long = omega (arith, long, a.before, a.behind) }
       stepped (LocalGet x) open_ones ones p k from os to ordinary rule opens_are neat long most =
-          let a = arrow_lengths [] (rule.1.0 ∷ []) from to rule.1.2 in record { lays = λ h le laid. ((h.0.0, tt), le, laid); long = omega (arith, long, a.before, a.behind) }
+          let a = arrow_lengths [] (rule.rule.0 ∷ []) from to rule.rule.2 in record { lays = λ h le laid. ((h.0.0, tt), le, laid); long = omega (arith, long, a.before, a.behind) }
       stepped (LocalSet x) open_ones ones p k from os to ordinary rule opens_are neat long most =
-          let a = arrow_lengths (rule.1.0 ∷ []) [] from to rule.1.2 in record { lays = λ h le laid. ((h.0.0, tt), le, laid); long = omega (arith, length-drop 1 p.stack, long, a.before, a.behind) }
+          let a = arrow_lengths (rule.rule.0 ∷ []) [] from to rule.rule.2 in record { lays = λ h le laid. ((h.0.0, tt), le, laid); long = omega (arith, length-drop 1 p.stack, long, a.before, a.behind) }
       stepped (LocalTee x) open_ones ones p k from os to ordinary rule opens_are neat long most =
-          let a = arrow_lengths (rule.1.0 ∷ []) (rule.1.0 ∷ []) from to rule.1.2 in record { lays = λ h le laid. ((h.0.0, tt), le, laid); long = omega (arith, long, a.before, a.behind) }
+          let a = arrow_lengths (rule.rule.0 ∷ []) (rule.rule.0 ∷ []) from to rule.rule.2 in record { lays = λ h le laid. ((h.0.0, tt), le, laid); long = omega (arith, long, a.before, a.behind) }
       stepped (GlobalGet x) open_ones ones p k from os to ordinary rule opens_are neat long most =
-          let a = arrow_lengths [] (rule.1.0.kind ∷ []) from to rule.1.2 in record { lays = λ h le laid. ((h.0.0, tt), le, laid); long = omega (arith, long, a.before, a.behind) }
+          let a = arrow_lengths [] (rule.rule.0.kind ∷ []) from to rule.rule.2 in record { lays = λ h le laid. ((h.0.0, tt), le, laid); long = omega (arith, long, a.before, a.behind) }
       stepped (GlobalSet x) open_ones ones p k from os to ordinary rule opens_are neat long most =
-          let a = arrow_lengths (rule.1.0.kind ∷ []) [] from to rule.1.3 in record { lays = λ h le laid. ((h.0.0, tt), le, laid); long = omega (arith, length-drop 1 p.stack, long, a.before, a.behind) }
+          let a = arrow_lengths (rule.rule.0.kind ∷ []) [] from to rule.rule.3 in record { lays = λ h le laid. ((h.0.0, tt), le, laid); long = omega (arith, length-drop 1 p.stack, long, a.before, a.behind) }
       stepped (Integer o) open_ones ones p k from os to ordinary rule opens_are neat long most =
-          let row = rule.1.0 in
-          let a = arrow_lengths (replicate row.operands (integer row.from)) (integer row.to ∷ []) from to rule.1.2 in
-          let count : count_of (row_of o) ≡ row.operands = ap count_of rule.1.1 in
+          let row = rule.rule.0 in
+          let a = arrow_lengths (replicate row.operands (integer row.from)) (integer row.to ∷ []) from to rule.rule.2 in
+          let count : count_of (row_of o) ≡ row.operands = ap count_of rule.rule.1 in
           let many : length (replicate row.operands (integer row.from)) ≡ row.operands = length-replicate {A = WasmType} row.operands (integer row.from) in
           let x = left (count_of (row_of o)) p.stack in
           let y = right (count_of (row_of o)) p.stack in
@@ -232,29 +235,29 @@ module _ (program : Program) (bound number : ℕ) where
             long = omega (arith, length-drop (count_of (row_of o)) p.stack, long, a.before, a.behind, count, many);
           }
       stepped Select open_ones ones p k from os to ordinary rule opens_are neat long most =
-          let type = rule.1.0 in
-          let a = arrow_lengths (type ∷ type ∷ I32 ∷ []) (type ∷ []) from to rule.1.1 in
+          let type = rule.rule.0 in
+          let a = arrow_lengths (type ∷ type ∷ I32 ∷ []) (type ∷ []) from to rule.rule.1 in
           record { lays = λ h le laid. ((h.0.0, tt), le, laid); long = omega (arith, length-drop 1 p.stack, length-drop 1 (drop 1 p.stack), length-drop 1 (drop 1 (drop 1 p.stack)), long, a.before, a.behind) }
       stepped Nop open_ones ones p k from os to ordinary rule opens_are neat long most =
-          let a = arrow_lengths [] [] from to rule.1 in record { lays = λ h le laid. ((h.0.0, tt), le, laid); long = omega (arith, long, a.before, a.behind) }
+          let a = arrow_lengths [] [] from to rule.rule in record { lays = λ h le laid. ((h.0.0, tt), le, laid); long = omega (arith, long, a.before, a.behind) }
       stepped Drop open_ones ones p k from os to ordinary rule opens_are neat long most =
-          let a = arrow_lengths (rule.1.0 ∷ []) [] from to rule.1.1 in record { lays = λ h le laid. ((h.0.0, tt), le, laid); long = omega (arith, length-drop 1 p.stack, long, a.before, a.behind) }
+          let a = arrow_lengths (rule.rule.0 ∷ []) [] from to rule.rule.1 in record { lays = λ h le laid. ((h.0.0, tt), le, laid); long = omega (arith, length-drop 1 p.stack, long, a.before, a.behind) }
       stepped (BrIf l) open_ones ones p k from os to ordinary rule opens_are neat long most =
-          let types = rule.1.0 in
-          let a = arrow_lengths (types ++ I32 ∷ []) types from to rule.1.2 in
+          let types = rule.rule.0 in
+          let a = arrow_lengths (types ++ I32 ∷ []) types from to rule.rule.2 in
           let lost : length (drop 1 p.stack) ≡ length to = omega (arith, length-drop 1 p.stack, long, a.before, a.behind, length-append types (I32 ∷ [])) in
           record {
             lays = λ h le laid. (
-              ((h.0.0, tt), to_at (mark_of open_ones) 1 (suc p.position) (drop 1 p.stack) (slice_get open_ones l) (branches 1 p.next open_ones ones l types (drop 1 p.stack) opens_are (neat_tail open_ones 1 p.stack p.next neat) rule.1.1 (omega (arith, lost, a.behind)) most) h.1),
+              ((h.0.0, tt), to_at (mark_of open_ones) 1 (suc p.position) (drop 1 p.stack) (slice_get open_ones l) (branches 1 p.next open_ones ones l types (drop 1 p.stack) opens_are (neat_tail open_ones 1 p.stack p.next neat) rule.rule.1 (omega (arith, lost, a.behind)) most) h.1),
               le,
               laid,
             );
             long = lost;
           }
       stepped (Call f) open_ones ones p k from os to ordinary rule opens_are neat long most =
-          let type = rule.1.0 in
-          let a = arrow_lengths type.params type.results from to rule.1.2 in
-          let is = called f type rule.1.1 in
+          let type = rule.rule.0 in
+          let a = arrow_lengths type.params type.results from to rule.rule.2 in
+          let is = called f type rule.rule.1 in
           let count = (program.shape f).results in
           record {
             lays = λ h le laid. (
@@ -276,9 +279,9 @@ module _ (program : Program) (bound number : ℕ) where
             );
           }
       stepped (CallIndirect i) open_ones ones p k from os to ordinary rule opens_are neat long most =
-          let type = rule.1.0 in
-          let a = arrow_lengths (type.params ++ I32 ∷ []) type.results from to rule.1.3 in
-          let counts = wanted_are i type rule.1.1 in
+          let type = rule.rule.0 in
+          let a = arrow_lengths (type.params ++ I32 ∷ []) type.results from to rule.rule.3 in
+          let counts = wanted_are i type rule.rule.1 in
           let those = (program.shape number).slots i in
           let wanted = (program.shape number).wanted i in
           record {
@@ -307,15 +310,15 @@ module _ (program : Program) (bound number : ℕ) where
             );
           }
       stepped (Load kind argument) open_ones ones p k from os to ordinary rule opens_are neat long most =
-          let a = arrow_lengths (I32 ∷ []) (integer (type_of kind) ∷ []) from to rule.1.3 in
+          let a = arrow_lengths (I32 ∷ []) (integer (type_of kind) ∷ []) from to rule.rule.3 in
           record { lays = λ h le laid. ((has p.position (template shapes number open_ones (Load kind argument) p) h, most), le, laid); long = omega (arith, length-drop 1 p.stack, long, a.before, a.behind) }
       stepped (Store kind argument) open_ones ones p k from os to ordinary rule opens_are neat long most =
-          let a = arrow_lengths (I32 ∷ integer (type_of kind) ∷ []) [] from to rule.1.3 in
+          let a = arrow_lengths (I32 ∷ integer (type_of kind) ∷ []) [] from to rule.rule.3 in
           record { lays = λ h le laid. ((has p.position (template shapes number open_ones (Store kind argument) p) h, most), le, laid); long = omega (arith, length-drop 1 p.stack, length-drop 1 (drop 1 p.stack), long, a.before, a.behind) }
       stepped MemorySize open_ones ones p k from os to ordinary rule opens_are neat long most =
-          let a = arrow_lengths [] (I32 ∷ []) from to rule.1.1 in record { lays = λ h le laid. ((h.0.0, tt), le, laid); long = omega (arith, long, a.before, a.behind) }
+          let a = arrow_lengths [] (I32 ∷ []) from to rule.rule.1 in record { lays = λ h le laid. ((h.0.0, tt), le, laid); long = omega (arith, long, a.before, a.behind) }
       stepped MemoryGrow open_ones ones p k from os to ordinary rule opens_are neat long most =
-          let a = arrow_lengths (I32 ∷ []) (I32 ∷ []) from to rule.1.1 in
+          let a = arrow_lengths (I32 ∷ []) (I32 ∷ []) from to rule.rule.1 in
           record { lays = λ h le laid. ((has p.position (template shapes number open_ones MemoryGrow p) h, most), le, laid); long = omega (arith, length-drop 1 p.stack, long, a.before, a.behind) }
       stepped (Block r) open_ones ones p k from os to ordinary rule opens_are neat long most = absurd ordinary
       stepped (Loop r) open_ones ones p k from os to ordinary rule opens_are neat long most = absurd ordinary
@@ -326,7 +329,7 @@ module _ (program : Program) (bound number : ℕ) where
       stepped (BrTable default ls) open_ones ones p k from os to ordinary rule opens_are neat long most = absurd ordinary
       stepped Return open_ones ones p k from os to ordinary rule opens_are neat long most = absurd ordinary
       stepped Unreachable open_ones ones p k from os to ordinary rule opens_are neat long most = absurd ordinary
-      stepped item open_ones ones p k from os to ordinary rule opens_are neat long most = absurd rule.1
+      stepped item open_ones ones p k from os to ordinary rule opens_are neat long most = absurd rule.rule
 
       -- the operands behind an item
       one_new : (temps n : ℕ) (open_ones : List Target) (stack : List Operand) (next : ℕ) → Neat open_ones stack next → Neat open_ones (variable (shift temps next) ∷ drop n stack) (suc (shift temps next))
@@ -359,30 +362,31 @@ module _ (program : Program) (bound number : ℕ) where
 
       -- an item behind which what follows is dead
       left_at : (item : Instr) (open_ones : List Target) (ones : List Open) (p : Point) (k : List Instr) (from : List WasmType) (os : List Open) (to : List WasmType) → IsLeave item → Rule c item ones from os to → AreOpen open_ones ones
-          → Neat open_ones p.stack p.next → length p.stack ≡ length from → left_most blocks (calls blocks shapes number) (shapes number).wanted (shapes number).slots results (takes_of open_ones) item ≤ bound → left_next blocks (calls blocks shapes number) (shapes number).wanted (shapes number).slots results item p.next ≤ limit
-          → At p.position (leaving shapes number open_ones item p) → LaidDead open_ones 0 (left_next blocks (calls blocks shapes number) (shapes number).wanted (shapes number).slots results item p.next) k → LaidLive open_ones p (item ∷ k)
+          → Neat open_ones p.stack p.next → length p.stack ≡ length from → left_most (calls blocks shapes number) (shapes number).wanted (shapes number).slots results (takes_of open_ones) item ≤ bound → left_next (calls blocks shapes number) (shapes number).wanted (shapes number).slots results item p.next ≤ limit
+          → At p.position (leaving shapes number open_ones item p) → LaidDead open_ones 0 (left_next (calls blocks shapes number) (shapes number).wanted (shapes number).slots results item p.next) k → LaidLive open_ones p (item ∷ k)
       left_at (Br l) open_ones ones p k from os to leaves rule opens_are neat long most room h laid =
-          (to_at (mark_of open_ones) 0 p.position p.stack (slice_get open_ones l) (branches 0 p.next open_ones ones l rule.1.0 p.stack opens_are neat rule.1.1 (omega (arith, long, leaves_enough rule.1.0 from rule.1.2)) (omega (arith, most))) h, laid)
+          (to_at (mark_of open_ones) 0 p.position p.stack (slice_get open_ones l) (branches 0 p.next open_ones ones l rule.rule.0 p.stack opens_are neat rule.rule.1 (omega (arith, long, leaves_enough rule.rule.0 from rule.rule.2)) (omega (arith, most))) h, laid)
       left_at (BrTable default ls) open_ones ones p k from os to leaves rule opens_are neat long most room h laid =
-          let types = rule.1.0 in
+          let types = rule.rule.0 in
           let stack = drop 1 p.stack in
           let index = top p.stack in
           let arm = p.position + (2 * length ls + branch_size results (slice_get (takes_of open_ones) default)) in
-          let ts = tests shapes number open_ones index p.position p.next 0 arm ls in
+          let those = arms_from results (takes_of open_ones) arm ls in
+          let ts = chain index p.next those (p.position + 2 * length ls) p.position (mark_of open_ones) in
           let d = to_label shapes number open_ones stack default in
           let a = arms shapes number open_ones stack ls in
           let size = branch_size results (slice_get (takes_of open_ones) default) in
-          let behind_tests = back p.position (2 * length ls) ts (d ++ a) (tests_length blocks shapes number open_ones index p.position p.next 0 arm ls) h in
+          let behind_tests = back p.position (2 * length ls) ts (d ++ a) (chain_length index p.next 0 those (p.position + 2 * length ls) p.position (mark_of open_ones) ∙ ap (λ n. 2 * n) (arms_from_length results (takes_of open_ones) arm ls)) h in
           let same : p.position + 2 * length ls + size ≡ arm = omega arith in (
             tests_at 0 p.next open_ones ones types stack index p.position p.next 0 arm default ls opens_are (neat_tail open_ones 1 p.stack p.next neat)
-                (omega (arith, length-drop 1 p.stack, long, leaves_enough (types ++ I32 ∷ []) from rule.1.2, length-append types (I32 ∷ []))) rule.1.1 (omega (arith, most)) (omega (arith, most))
-                (front p.position ts (d ++ a) h) (front (p.position + 2 * length ls) d a behind_tests)
+                (omega (arith, length-drop 1 p.stack, long, leaves_enough (types ++ I32 ∷ []) from rule.rule.2, length-append types (I32 ∷ []))) rule.rule.1 (omega (arith, most)) (omega (arith, most))
+                (subst (At p.position) (tests_are shapes number open_ones index p.position p.next 0 arm (p.position + 2 * length ls) ls refl) (front p.position ts (d ++ a) h)) (front (p.position + 2 * length ls) d a behind_tests)
                 (subst (λ n. At n a) same (back (p.position + 2 * length ls) size d a (label_length blocks shapes number open_ones stack default) behind_tests)),
             room,
             laid,
           )
       left_at Return open_ones ones p k from os to leaves rule opens_are neat long most room h laid =
-          (to_at (mark_of open_ones) 0 p.position p.stack None (omega (arith, long, leaves_enough c.results from rule.1, results_are), omega (arith, most)) h, laid)
+          (to_at (mark_of open_ones) 0 p.position p.stack None (omega (arith, long, leaves_enough c.results from rule.rule, results_are), omega (arith, most)) h, laid)
       left_at Unreachable open_ones ones p k from os to leaves rule opens_are neat long most room h laid = ((h.0.0, tt), laid)
       left_at item open_ones ones p k from os to leaves rule opens_are neat long most room h laid = absurd leaves
 
@@ -424,33 +428,33 @@ module _ (program : Program) (bound number : ℕ) where
           skip_item item open_ones depth next (flat body k) (inr are.0) (skips body open_ones ones depth next k b.to b.later are.1 (stays c item ones (flat body k) from (inr are.0) b) then)
       skips (block r inner body) open_ones ones depth next k from later are h then =
           let b = behind_item c (Block r) (flat inner (End ∷ flat body k)) ones from later h in
-          let one = opened (block_label b.rule.0) b.rule.2 in
-          skips inner open_ones (one ∷ ones) (suc depth) next (End ∷ flat body k) b.rule.0.params b.later are.0 (opens c one b.rule.0.params (Block r) ones (flat inner (End ∷ flat body k)) from b b.rule.4 b.rule.5) (λ to later typing.
+          let one = opened of_block b.rule.type b.rule.lower in
+          skips inner open_ones (one ∷ ones) (suc depth) next (End ∷ flat body k) b.rule.type.params b.later are.0 (opens c one b.rule.type.params (Block r) ones (flat inner (End ∷ flat body k)) from b b.rule.inside b.rule.behind) (λ to later typing.
           let e = at_end c one ones (flat body k) to later typing in
-          dead_end open_ones depth next (flat body k) (skips body open_ones ones depth next k (one.lower ++ results_of one.label) e.later are.1 e.typing then))
+          dead_end open_ones depth next (flat body k) (skips body open_ones ones depth next k (one.lower ++ one.type.results) e.later are.1 e.typing then))
       skips (loop r inner body) open_ones ones depth next k from later are h then =
           let b = behind_item c (Loop r) (flat inner (End ∷ flat body k)) ones from later h in
-          let one = opened (loop_label b.rule.0) b.rule.2 in
-          skips inner open_ones (one ∷ ones) (suc depth) next (End ∷ flat body k) b.rule.0.params b.later are.0 (opens c one b.rule.0.params (Loop r) ones (flat inner (End ∷ flat body k)) from b b.rule.4 b.rule.5) (λ to later typing.
+          let one = opened of_loop b.rule.type b.rule.lower in
+          skips inner open_ones (one ∷ ones) (suc depth) next (End ∷ flat body k) b.rule.type.params b.later are.0 (opens c one b.rule.type.params (Loop r) ones (flat inner (End ∷ flat body k)) from b b.rule.inside b.rule.behind) (λ to later typing.
           let e = at_end c one ones (flat body k) to later typing in
-          dead_end open_ones depth next (flat body k) (skips body open_ones ones depth next k (one.lower ++ results_of one.label) e.later are.1 e.typing then))
+          dead_end open_ones depth next (flat body k) (skips body open_ones ones depth next k (one.lower ++ one.type.results) e.later are.1 e.typing then))
       skips (choice r first true second body) open_ones ones depth next k from later are h then =
           let rest = Else ∷ flat second (End ∷ flat body k) in
           let b = behind_item c (If r) (flat first rest) ones from later h in
-          let one = opened (first_part b.rule.0) b.rule.2 in
-          skips first open_ones (one ∷ ones) (suc depth) next rest b.rule.0.params b.later are.0 (opens c one b.rule.0.params (If r) ones (flat first rest) from b b.rule.4 b.rule.5) (λ to later typing.
+          let one = opened then_part b.rule.type b.rule.lower in
+          skips first open_ones (one ∷ ones) (suc depth) next rest b.rule.type.params b.later are.0 (opens c one b.rule.type.params (If r) ones (flat first rest) from b b.rule.inside b.rule.behind) (λ to later typing.
           let m = at_else c one ones (flat second (End ∷ flat body k)) to later typing in
-          let other = opened (second_part m.type) one.lower in
-          dead_else open_ones depth next (flat second (End ∷ flat body k)) (skips second open_ones (other ∷ ones) (suc depth) next (End ∷ flat body k) m.type.params m.later are.1 m.typing (λ to later typing.
+          let other = opened else_part one.type one.lower in
+          dead_else open_ones depth next (flat second (End ∷ flat body k)) (skips second open_ones (other ∷ ones) (suc depth) next (End ∷ flat body k) one.type.params m.later are.1 m.typing (λ to later typing.
           let e = at_end c other ones (flat body k) to later typing in
-          dead_end open_ones depth next (flat body k) (skips body open_ones ones depth next k (other.lower ++ results_of other.label) e.later are.2 e.typing then))))
+          dead_end open_ones depth next (flat body k) (skips body open_ones ones depth next k (other.lower ++ other.type.results) e.later are.2 e.typing then))))
       skips (choice r first false second body) open_ones ones depth next k from later are h then =
           let rest = End ∷ flat body k in
           let b = behind_item c (If r) (flat first rest) ones from later h in
-          let one = opened (first_part b.rule.0) b.rule.2 in
-          skips first open_ones (one ∷ ones) (suc depth) next rest b.rule.0.params b.later are.0 (opens c one b.rule.0.params (If r) ones (flat first rest) from b b.rule.4 b.rule.5) (λ to later typing.
+          let one = opened then_part b.rule.type b.rule.lower in
+          skips first open_ones (one ∷ ones) (suc depth) next rest b.rule.type.params b.later are.0 (opens c one b.rule.type.params (If r) ones (flat first rest) from b b.rule.inside b.rule.behind) (λ to later typing.
           let e = at_end c one ones (flat body k) to later typing in
-          dead_end open_ones depth next (flat body k) (skips body open_ones ones depth next k (one.lower ++ results_of one.label) e.later are.2 e.typing then))
+          dead_end open_ones depth next (flat body k) (skips body open_ones ones depth next k (one.lower ++ one.type.results) e.later are.2 e.typing then))
 
       -- ---- the ends of constructs
 
@@ -517,8 +521,8 @@ module _ (program : Program) (bound number : ℕ) where
                 (back (suc p.position) (closed_size t.arity e + closed_size t.arity f) (a ++ b) rest.commands (omega (arith, length-append a b, a_size, b_size)) all);
           }
 
-      behind_length : (t : Target) (lower : ℕ) (label : Label) (next : ℕ) → t.arity ≡ length (results_of label) → length t.below ≡ lower → length (behind t next).stack ≡ lower + length (results_of label)
-      behind_length t lower label next e f = omega (arith, length-append (reverse (reads t.first t.arity)) t.below, length-reverse (reads t.first t.arity), reads_count t.first t.arity, e, f)
+      behind_length : (t : Target) (lower : ℕ) (types : List WasmType) (next : ℕ) → t.arity ≡ length types → length t.below ≡ lower → length (behind t next).stack ≡ lower + length types
+      behind_length t lower types next e f = omega (arith, length-append (reverse (reads t.first t.arity)) t.below, length-reverse (reads t.first t.arity), reads_count t.first t.arity, e, f)
 
       -- the operands behind a construct
       neat_behind : (t : Target) (open_ones : List Target) (next : ℕ) → t.first + t.arity ≤ next → Neat open_ones t.below t.first → Neat open_ones (behind t next).stack next
@@ -535,9 +539,9 @@ module _ (program : Program) (bound number : ℕ) where
       lays (leave item body) open_ones ones p k from later are opens_are neat long room most h typing then =
           let b = behind_item c item (flat body k) ones from later typing in
           left_at item open_ones ones p (flat body k) from b.behind b.to are.0 b.rule opens_are neat long (omega (arith, most)) (within item p.next room) h
-          (skips body open_ones ones 0 (left_next blocks (calls blocks shapes number) (shapes number).wanted (shapes number).slots results item p.next) k b.to b.later are.1 (stays c item ones (flat body k) from (inr are.0) b) (λ to later typing. then to later typing tt))
+          (skips body open_ones ones 0 (left_next (calls blocks shapes number) (shapes number).wanted (shapes number).slots results item p.next) k b.to b.later are.1 (stays c item ones (flat body k) from (inr are.0) b) (λ to later typing. then to later typing tt))
         where
-          within : (item : Instr) (next : ℕ) → next + left_new blocks (calls blocks shapes number) (shapes number).wanted (shapes number).slots results item ≤ limit → left_next blocks (calls blocks shapes number) (shapes number).wanted (shapes number).slots results item next ≤ limit
+          within : (item : Instr) (next : ℕ) → next + left_new (calls blocks shapes number) (shapes number).wanted (shapes number).slots results item ≤ limit → left_next (calls blocks shapes number) (shapes number).wanted (shapes number).slots results item next ≤ limit
           within (BrTable default ls) next le = le
           within item next le = omega (arith, le)
       lays (step item body) open_ones ones p k from later are opens_are neat long room most h typing then =
@@ -549,16 +553,16 @@ module _ (program : Program) (bound number : ℕ) where
           let next = after_next blocks shapes number open_ones item p in
           s.lays (front p.position t rest h) (omega (arith, next, room))
           (lays body open_ones ones q k b.to b.later are.1 opens_are (neat_after item open_ones p neat) s.long (omega (arith, next, room)) (omega (arith, most))
-          (subst (λ n. At n rest) (sym (after_position blocks shapes number open_ones item p)) (back p.position (size_of blocks (calls blocks shapes number) (shapes number).wanted (shapes number).slots results (takes_of open_ones) item) t rest (template_length blocks shapes number open_ones item p) h))
+          (subst (λ n. At n rest) (sym (after_position blocks shapes number open_ones item p)) (back p.position (size_of (calls blocks shapes number) (shapes number).wanted (shapes number).slots results (takes_of open_ones) item) t rest (template_length blocks shapes number open_ones item p) h))
           (stays c item ones (flat body k) from (inl are.0) b) then)
       lays (block r inner body) open_ones ones p k from later are opens_are neat long room most h typing then =
           let b = behind_item c (Block r) (flat inner (End ∷ flat body k)) ones from later typing in
-          let type = b.rule.0 in
-          let lower = b.rule.2 in
-          let counts = blocks_are r type b.rule.1 in
+          let type = b.rule.type in
+          let lower = b.rule.lower in
+          let counts = blocks_are r type b.rule.named in
           let n = (blocks r).params in
           let m = (blocks r).results in
-          let one = opened (block_label type) lower in
+          let one = opened of_block type lower in
           let e = size_in blocks shapes number (m ∷ takes_of open_ones) inner in
           let t = inside whole m (suc p.position + closed_size m e) (drop n p.stack) p.next in
           let q = point (suc p.position) (take n p.stack) (p.next + m) in
@@ -568,7 +572,7 @@ module _ (program : Program) (bound number : ℕ) where
           let mark = mark_of (t ∷ open_ones) in
           let cs = closed mark t w.reached in
           let mine = front (suc p.position) (w.commands ++ cs) rest h.1 in
-          let whole_long : length p.stack ≡ length lower + length type.params = long ∙ ap length b.rule.3 ∙ length-append lower type.params in
+          let whole_long : length p.stack ≡ length lower + length type.params = omega (arith, long, ap length b.rule.before, length-append lower (type.params ++ []), length-append type.params []) in
           let enough : n ≤ length p.stack = omega (arith, whole_long, counts.0) in
           let left_over : length (drop n p.stack) ≡ length lower = omega (arith, length-drop n p.stack, whole_long, counts.0) in
           let under : Neat open_ones (drop n p.stack) p.next = neat_tail open_ones n p.stack p.next neat in (
@@ -578,21 +582,21 @@ module _ (program : Program) (bound number : ℕ) where
             omega (arith, room),
             lays inner (t ∷ open_ones) (one ∷ ones) q (End ∷ flat body k) type.params b.later are.0 (record { taken_is = counts.1; leaves = counts.1 }, opens_are)
                 (neat_taken t open_ones n p.stack p.next q.next (omega arith) (omega arith) refl neat) (length-take-le n p.stack enough ∙ counts.0) (omega (arith, room)) (omega (arith, most)) (front (suc p.position) w.commands cs mine)
-                (opens c one type.params (Block r) ones (flat inner (End ∷ flat body k)) from b b.rule.4 b.rule.5) (λ to later typing ended.
+                (opens c one type.params (Block r) ones (flat inner (End ∷ flat body k)) from b b.rule.inside b.rule.behind) (λ to later typing ended.
                 let x = at_end c one ones (flat body k) to later typing in
                 end_at t w.reached open_ones (suc p.position) e to s.reached ended (ap length x.full ∙ sym counts.1) (omega (arith, most)) (back (suc p.position) e.size w.commands cs s.size mine) (flat body k) tt
-                (lays body open_ones ones (behind t (next_in w.reached)) k (one.lower ++ results_of one.label) x.later are.1 opens_are (neat_behind t open_ones (next_in w.reached) (omega (arith, s.new)) under)
-                (behind_length t (length lower) one.label (next_in w.reached) counts.1 left_over ∙ sym (length-append one.lower (results_of one.label))) (omega (arith, room, s.new)) (omega (arith, most))
+                (lays body open_ones ones (behind t (next_in w.reached)) k (one.lower ++ one.type.results) x.later are.1 opens_are (neat_behind t open_ones (next_in w.reached) (omega (arith, s.new)) under)
+                (behind_length t (length lower) one.type.results (next_in w.reached) counts.1 left_over ∙ sym (length-append one.lower (one.type.results))) (omega (arith, room, s.new)) (omega (arith, most))
                 (back (suc p.position) (closed_size m e) (w.commands ++ cs) rest (part_length blocks shapes number mark t e q w s) h.1) x.typing then)),
           )
       lays (loop r inner body) open_ones ones p k from later are opens_are neat long room most h typing then =
           let b = behind_item c (Loop r) (flat inner (End ∷ flat body k)) ones from later typing in
-          let type = b.rule.0 in
-          let lower = b.rule.2 in
-          let counts = blocks_are r type b.rule.1 in
+          let type = b.rule.type in
+          let lower = b.rule.lower in
+          let counts = blocks_are r type b.rule.named in
           let n = (blocks r).params in
           let m = (blocks r).results in
-          let one = opened (loop_label type) lower in
+          let one = opened of_loop type lower in
           let e = size_in blocks shapes number (n ∷ takes_of open_ones) inner in
           let start = shift n p.position in
           let t = inside (again start n p.next) m (suc start + closed_size m e) (drop n p.stack) (p.next + n) in
@@ -618,7 +622,7 @@ module _ (program : Program) (bound number : ℕ) where
           let inner_there : p.position + (n + 1) ≡ suc start = omega (arith, there) in
           let cs_there : p.position + (n + 1 + e.size) ≡ suc start + e.size = omega (arith, there) in
           let rest_there : p.position + (n + 1 + closed_size m e) ≡ suc start + closed_size m e = omega (arith, there) in
-          let whole_long : length p.stack ≡ length lower + length type.params = long ∙ ap length b.rule.3 ∙ length-append lower type.params in
+          let whole_long : length p.stack ≡ length lower + length type.params = omega (arith, long, ap length b.rule.before, length-append lower (type.params ++ []), length-append type.params []) in
           let enough : n ≤ length p.stack = omega (arith, whole_long, counts.0) in
           let left_over : length (drop n p.stack) ≡ length lower = omega (arith, length-drop n p.stack, whole_long, counts.0) in
           let inside_long : length (reverse (reads p.next n)) ≡ length type.params = length-reverse (reads p.next n) ∙ reads_count p.next n ∙ counts.0 in
@@ -635,21 +639,21 @@ module _ (program : Program) (bound number : ℕ) where
             omega (arith, room),
             lays inner (t ∷ open_ones) (one ∷ ones) q (End ∷ flat body k) type.params b.later are.0 (record { taken_is = counts.0; leaves = counts.1 }, opens_are)
                 (neat_looped t open_ones n p.stack p.next q.next (omega arith) (omega arith) refl neat) inside_long (omega (arith, room)) (omega (arith, most)) (subst (λ x. At x w.commands) inner_there inner_at)
-                (opens c one type.params (Loop r) ones (flat inner (End ∷ flat body k)) from b b.rule.4 b.rule.5) (λ to later typing ended.
+                (opens c one type.params (Loop r) ones (flat inner (End ∷ flat body k)) from b b.rule.inside b.rule.behind) (λ to later typing ended.
                 let x = at_end c one ones (flat body k) to later typing in
                 end_at t w.reached open_ones (suc start) e to s.reached ended (ap length x.full ∙ sym counts.1) (omega (arith, most)) (subst (λ x. At x cs) cs_there cs_at) (flat body k) tt
-                (lays body open_ones ones (behind t (next_in w.reached)) k (one.lower ++ results_of one.label) x.later are.1 opens_are (neat_behind t open_ones (next_in w.reached) (omega (arith, s.new)) under)
-                (behind_length t (length lower) one.label (next_in w.reached) counts.1 left_over ∙ sym (length-append one.lower (results_of one.label))) (omega (arith, room, s.new)) (omega (arith, most))
+                (lays body open_ones ones (behind t (next_in w.reached)) k (one.lower ++ one.type.results) x.later are.1 opens_are (neat_behind t open_ones (next_in w.reached) (omega (arith, s.new)) under)
+                (behind_length t (length lower) one.type.results (next_in w.reached) counts.1 left_over ∙ sym (length-append one.lower (one.type.results))) (omega (arith, room, s.new)) (omega (arith, most))
                 (subst (λ x. At x rest) rest_there rest_at) x.typing then)),
           )
       lays (choice r first true second body) open_ones ones p k from later are opens_are neat long room most h typing then =
           let b = behind_item c (If r) (flat first (Else ∷ flat second (End ∷ flat body k))) ones from later typing in
-          let type = b.rule.0 in
-          let lower = b.rule.2 in
-          let counts = blocks_are r type b.rule.1 in
+          let type = b.rule.type in
+          let lower = b.rule.lower in
+          let counts = blocks_are r type b.rule.named in
           let n = (blocks r).params in
           let m = (blocks r).results in
-          let one = opened (first_part type) lower in
+          let one = opened then_part type lower in
           let e = size_in blocks shapes number (m ∷ takes_of open_ones) first in
           let f = size_in blocks shapes number (m ∷ takes_of open_ones) second in
           let middle = suc p.position + closed_size m e in
@@ -665,7 +669,7 @@ module _ (program : Program) (bound number : ℕ) where
           let rest = Low blocks shapes number open_ones body (behind t (next_in v.reached)) in
           let mark = mark_of open_ones in
           let cs = parts mark operands p q t e f w v rest s s' h.1 in
-          let lost : length stack ≡ length lower + length type.params = omega (arith, length-drop 1 p.stack, long, ap length b.rule.3, length-append lower (type.params ++ I32 ∷ []), length-append type.params (I32 ∷ [])) in
+          let lost : length stack ≡ length lower + length type.params = omega (arith, length-drop 1 p.stack, long, ap length b.rule.before, length-append lower (type.params ++ I32 ∷ []), length-append type.params (I32 ∷ [])) in
           let enough : n ≤ length stack = omega (arith, lost, counts.0) in
           let left_over : length (drop n stack) ≡ length lower = omega (arith, length-drop n stack, lost, counts.0) in
           let inside_long : length operands ≡ length type.params = length-take-le n stack enough ∙ counts.0 in
@@ -678,28 +682,26 @@ module _ (program : Program) (bound number : ℕ) where
             omega (arith, room),
             lays first (t ∷ open_ones) (one ∷ ones) q (Else ∷ flat second (End ∷ flat body k)) type.params b.later are.0 (record { taken_is = counts.1; leaves = counts.1 }, opens_are)
                 (neat_taken t open_ones n stack p.next q.next (omega arith) (omega arith) refl above) inside_long (omega (arith, room)) (omega (arith, most)) cs.first
-                (opens c one type.params (If r) ones (flat first (Else ∷ flat second (End ∷ flat body k))) from b b.rule.4 b.rule.5) (λ to later typing ended.
+                (opens c one type.params (If r) ones (flat first (Else ∷ flat second (End ∷ flat body k))) from b b.rule.inside b.rule.behind) (λ to later typing ended.
                 let o = at_else c one ones (flat second (End ∷ flat body k)) to later typing in
-                let same_results : length type.results ≡ length o.type.results = ap (λ l. length (type_in l).results) o.is in
-                let same_params : length type.params ≡ length o.type.params = ap (λ l. length (type_in l).params) o.is in
-                let another = opened (second_part o.type) one.lower in
-                else_at t w.reached open_ones (suc p.position) e to s.reached ended (ap length o.full ∙ sym same_results ∙ sym counts.1) (omega (arith, most)) cs.first_end (flat second (End ∷ flat body k))
-                (lays second (as_whole t ∷ open_ones) (another ∷ ones) q' (End ∷ flat body k) o.type.params o.later are.1 (record { taken_is = counts.1 ∙ same_results; leaves = counts.1 ∙ same_results }, opens_are)
-                (neat_taken (as_whole t) open_ones n stack p.next q'.next (omega arith) (omega (arith, s.new)) refl above) (inside_long ∙ same_params) (omega (arith, room, s.new)) (omega (arith, most)) cs.second o.typing (λ to later typing ended.
+                let another = opened else_part type lower in
+                else_at t w.reached open_ones (suc p.position) e to s.reached ended (ap length o.full ∙ sym counts.1) (omega (arith, most)) cs.first_end (flat second (End ∷ flat body k))
+                (lays second (as_whole t ∷ open_ones) (another ∷ ones) q' (End ∷ flat body k) type.params o.later are.1 (record { taken_is = counts.1; leaves = counts.1 }, opens_are)
+                (neat_taken (as_whole t) open_ones n stack p.next q'.next (omega arith) (omega (arith, s.new)) refl above) inside_long (omega (arith, room, s.new)) (omega (arith, most)) cs.second o.typing (λ to later typing ended.
                 let x = at_end c another ones (flat body k) to later typing in
-                end_at (as_whole t) v.reached open_ones middle f to s'.reached ended (ap length x.full ∙ sym same_results ∙ sym counts.1) (omega (arith, most)) cs.second_end (flat body k) tt
-                (lays body open_ones ones (behind t (next_in v.reached)) k (another.lower ++ results_of another.label) x.later are.2 opens_are (neat_behind t open_ones (next_in v.reached) (omega (arith, s.new, s'.new)) under)
-                (behind_length t (length lower) another.label (next_in v.reached) (counts.1 ∙ same_results) left_over ∙ sym (length-append another.lower (results_of another.label))) (omega (arith, room, s.new, s'.new)) (omega (arith, most))
+                end_at (as_whole t) v.reached open_ones middle f to s'.reached ended (ap length x.full ∙ sym counts.1) (omega (arith, most)) cs.second_end (flat body k) tt
+                (lays body open_ones ones (behind t (next_in v.reached)) k (another.lower ++ another.type.results) x.later are.2 opens_are (neat_behind t open_ones (next_in v.reached) (omega (arith, s.new, s'.new)) under)
+                (behind_length t (length lower) another.type.results (next_in v.reached) counts.1 left_over ∙ sym (length-append another.lower (another.type.results))) (omega (arith, room, s.new, s'.new)) (omega (arith, most))
                 cs.later x.typing then)))),
           )
       lays (choice r first false done body) open_ones ones p k from later are opens_are neat long room most h typing then =
           let b = behind_item c (If r) (flat first (End ∷ flat body k)) ones from later typing in
-          let type = b.rule.0 in
-          let lower = b.rule.2 in
-          let counts = blocks_are r type b.rule.1 in
+          let type = b.rule.type in
+          let lower = b.rule.lower in
+          let counts = blocks_are r type b.rule.named in
           let n = (blocks r).params in
           let m = (blocks r).results in
-          let one = opened (first_part type) lower in
+          let one = opened then_part type lower in
           let e = size_in blocks shapes number (m ∷ takes_of open_ones) first in
           let f = size_in blocks shapes number (m ∷ takes_of open_ones) done in
           let middle = suc p.position + closed_size m e in
@@ -715,7 +717,7 @@ module _ (program : Program) (bound number : ℕ) where
           let rest = Low blocks shapes number open_ones body (behind t (next_in v.reached)) in
           let mark = mark_of open_ones in
           let cs = parts mark operands p q t e f w v rest s s' h.1 in
-          let lost : length stack ≡ length lower + length type.params = omega (arith, length-drop 1 p.stack, long, ap length b.rule.3, length-append lower (type.params ++ I32 ∷ []), length-append type.params (I32 ∷ [])) in
+          let lost : length stack ≡ length lower + length type.params = omega (arith, length-drop 1 p.stack, long, ap length b.rule.before, length-append lower (type.params ++ I32 ∷ []), length-append type.params (I32 ∷ [])) in
           let enough : n ≤ length stack = omega (arith, lost, counts.0) in
           let left_over : length (drop n stack) ≡ length lower = omega (arith, length-drop n stack, lost, counts.0) in
           let inside_long : length operands ≡ length type.params = length-take-le n stack enough ∙ counts.0 in
@@ -730,9 +732,9 @@ module _ (program : Program) (bound number : ℕ) where
             omega (arith, room),
             lays first (t ∷ open_ones) (one ∷ ones) q (End ∷ flat body k) type.params b.later are.0 (record { taken_is = counts.1; leaves = counts.1 }, opens_are)
                 (neat_taken t open_ones n stack p.next q.next (omega arith) (omega arith) refl above) inside_long (omega (arith, room)) (omega (arith, most)) cs.first
-                (opens c one type.params (If r) ones (flat first (End ∷ flat body k)) from b b.rule.4 b.rule.5) (λ to later typing ended.
+                (opens c one type.params (If r) ones (flat first (End ∷ flat body k)) from b b.rule.inside b.rule.behind) (λ to later typing ended.
                 let x = at_end c one ones (flat body k) to later typing in
-                let bare : length type.params ≡ length type.results = ap length (x.bare type refl) in
+                let bare : length type.params ≡ length type.results = ap length (x.bare refl) in
                 end_at t w.reached open_ones (suc p.position) e to s.reached ended (ap length x.full ∙ sym counts.1) (omega (arith, most)) cs.first_end (flat body k)
                 (record {
                   commands = has middle (closed mark (as_whole t) (on q')) (subst (λ n. At n (closed mark (as_whole t) (on q'))) none cs.second_end);
@@ -740,8 +742,8 @@ module _ (program : Program) (bound number : ℕ) where
                   fresh = avoids_fresh (as_whole t) operands inner_neat.clear.0;
                   most = omega (arith, most);
                 })
-                (lays body open_ones ones (behind t (next_in w.reached)) k (one.lower ++ results_of one.label) x.later are.2 opens_are (neat_behind t open_ones (next_in w.reached) (omega (arith, s.new)) under)
-                (behind_length t (length lower) one.label (next_in w.reached) counts.1 left_over ∙ sym (length-append one.lower (results_of one.label))) (omega (arith, room, s.new)) (omega (arith, most))
+                (lays body open_ones ones (behind t (next_in w.reached)) k (one.lower ++ one.type.results) x.later are.2 opens_are (neat_behind t open_ones (next_in w.reached) (omega (arith, s.new)) under)
+                (behind_length t (length lower) one.type.results (next_in w.reached) counts.1 left_over ∙ sym (length-append one.lower (one.type.results))) (omega (arith, room, s.new)) (omega (arith, most))
                 cs.later x.typing then)),
           )
       lays (choice r first false second body) open_ones ones p k from later are opens_are neat long room most h typing then = absurd are.1

@@ -16,7 +16,7 @@ use Rattle.bl_wasm.specs.declared.linked.Tree.{Tree}
 use Rattle.bl_reduce.specs.Configurations.{Config, entering, running}
 use Rattle.bl_reduce.specs.Steps.{source_step}
 use Rattle.bl_reduce.specs.TypedConfigurations.{IsTyped, IsTypedStep, IsValue}
-use Rattle.bl_reduce.proofs.Soundness.{typed_step, step_of_typed, drop_head}
+use Rattle.bl_reduce.proofs.Soundness.{preservation, progress, drop_head}
 use Rattle.bl_base.proofs.Lists.{all_get}
 use Rattle.bl_cmd.specs.Steps.{Plain}
 use Rattle.bl_lower.proofs.Machine.{Program, plain_step}
@@ -80,8 +80,8 @@ module _ (tree : Tree) (linked : IsLinked tree) (program : Program) (bound : ℕ
 
   pub simulates : Simulates (source_step tree) (plain_step program) bound Meets
   simulates config s h =
-      follows (source_step tree config) s (typed_step tree linked results config h.0)
-      (step_reaches tree program bound is some config s h.1 (tested_in config h.0) (step_of_typed tree linked results config h.0))
+      follows (source_step tree config) s (preservation tree linked results config h.0)
+      (step_reaches tree program bound is some config s h.1 (tested_in config h.0) (progress tree linked results config h.0))
 
   pub plain_follows : (n : ℕ) (config : Config) (s : Plain) (o : Outcome) → Meets config s → EndsAfter (source_step tree) n config o
       → (m : ℕ) × EndsAfter (plain_step program) m s o × (n ≤ m) × (m ≤ bound * n)
