@@ -43,19 +43,19 @@ module _ (c : Context) where
       → AllZip IsValue (reverse stack) values → Tested items values
   tested open_ones [] stack later values h all = tt
   tested open_ones (If r ∷ items) stack [] values h all = absurd h
-  tested open_ones (If r ∷ items) stack (to ∷ later) values h all = topmost stack h.1.2 h.1.0.params values h.1.3 all
+  tested open_ones (If r ∷ items) stack (to ∷ later) values h all = topmost stack h.1.lower h.1.type.params values h.1.before all
   tested open_ones (BrIf l ∷ items) stack [] values h all = absurd h
-  tested open_ones (BrIf l ∷ items) stack (to ∷ later) values h all = topmost stack h.1.1.2.lower h.1.1.0 values h.1.1.2.before all
+  tested open_ones (BrIf l ∷ items) stack (to ∷ later) values h all = topmost stack h.1.rule.2.lower h.1.rule.0 values h.1.rule.2.before all
   tested open_ones (BrTable default ls ∷ items) stack [] values h all = absurd h
-  tested open_ones (BrTable default ls ∷ items) stack (to ∷ later) values h all = topmost stack h.1.1.2.lower h.1.1.0 values h.1.1.2.before all
+  tested open_ones (BrTable default ls ∷ items) stack (to ∷ later) values h all = topmost stack h.1.rule.2.lower h.1.rule.0 values h.1.rule.2.before all
   tested open_ones (Load kind argument ∷ items) stack [] values h all = absurd h
-  tested open_ones (Load kind argument ∷ items) stack (to ∷ later) values h all = topmost stack h.1.1.3.lower [] values h.1.1.3.before all
+  tested open_ones (Load kind argument ∷ items) stack (to ∷ later) values h all = topmost stack h.1.rule.3.lower [] values h.1.rule.3.before all
   tested open_ones (Store kind argument ∷ items) stack [] values h all = absurd h
-  tested open_ones (Store kind argument ∷ items) stack (to ∷ later) values h all = second stack h.1.1.3.lower (integer (type_of kind)) values h.1.1.3.before all
+  tested open_ones (Store kind argument ∷ items) stack (to ∷ later) values h all = second stack h.1.rule.3.lower (integer (type_of kind)) values h.1.rule.3.before all
   tested open_ones (MemoryGrow ∷ items) stack [] values h all = absurd h
-  tested open_ones (MemoryGrow ∷ items) stack (to ∷ later) values h all = topmost stack h.1.1.1.lower [] values h.1.1.1.before all
+  tested open_ones (MemoryGrow ∷ items) stack (to ∷ later) values h all = topmost stack h.1.rule.1.lower [] values h.1.rule.1.before all
   tested open_ones (CallIndirect i ∷ items) stack [] values h all = absurd h
-  tested open_ones (CallIndirect i ∷ items) stack (to ∷ later) values h all = topmost stack h.1.1.3.lower h.1.1.0.params values h.1.1.3.before all
+  tested open_ones (CallIndirect i ∷ items) stack (to ∷ later) values h all = topmost stack h.1.rule.3.lower h.1.rule.0.params values h.1.rule.3.before all
   tested open_ones (item ∷ items) stack later values h all = tt
 
 module _ (tree : Tree) (linked : IsLinked tree) (program : Program) (bound : ℕ) (is : IsProgram tree program bound) (some : 1 ≤ bound) (results : List ValueType) where
