@@ -1,2 +1,4 @@
-//! Lowering: the program of a linked tree.
+//! Lowering: the program of a linked tree, and what it keeps of the tree's runs.
 #![tactic(auto)]
+
+pub mod laws;
