@@ -184,7 +184,7 @@ module _ (tree : Tree) (linked : IsLinked tree) (number : ℕ) (B : ℕ → Type
   starts position [] h ends = let same : position + 0 ≡ position = omega arith in subst B same ends
   starts position (piece ∷ those) h ends = h.0
 
-  begins : (open_ones : List Target) (body : Body) (p : Point) → AllAt Begins p.position (Pieces open_ones body p) → EndsIn (End open_ones body p) → B p.position
+  pub begins : (open_ones : List Target) (body : Body) (p : Point) → AllAt Begins p.position (Pieces open_ones body p) → EndsIn (End open_ones body p) → B p.position
   begins open_ones done p h ends = ends
   begins open_ones (leave item body) p h ends = h.0
   begins open_ones (step item body) p h ends = h.0
