@@ -33,7 +33,7 @@ use Rattle.bl_lower.proofs.Placing.{shaped, stands_at, low_length, total_some}
 use Rattle.bl_lower.specs.Trees.{step_bound}
 
 -- an access goes nowhere
-access_stays : (last : Command) (r : Reach) (y : ℕ) → reach_of last ≡ Some r → GoesTo last y → ⊥
+pub access_stays : (last : Command) (r : Reach) (y : ℕ) → reach_of last ≡ Some r → GoesTo last y → ⊥
 access_stays (Set mark o to a b c) r y e h = h
 access_stays (Load mark kind memory to offset address) r y e h = h
 access_stays (Store kind memory offset address value) r y e h = h
@@ -49,32 +49,32 @@ module _ (tree : Tree) (linked : IsLinked tree) where
   -- ---- one function
 
   module _ (number : ℕ) (function : Function) (exists : slice_get tree.functions number ≡ Some function) (is : IsFunction tree function) where
-    abbrev entry : ℕ
+    abbrev pub entry : ℕ
     entry = (shape tree number).entry
 
-    abbrev those : List (List Command)
+    abbrev pub those : List (List Command)
     those = function_pieces tree linked number function exists is
 
-    abbrev Begin : ℕ → Type 0
+    abbrev pub Begin : ℕ → Type 0
     Begin = B tree linked number function exists is
 
     goods : AllAt (Good tree linked number Begin) entry those
     goods = all_good tree linked number function exists is
 
-    whole_length : length (all_of those) ≡ function_size tree function
+    pub whole_length : length (all_of those) ≡ function_size tree function
     whole_length = ap length (function_whole tree linked number function exists is) ∙ low_length tree number function exists
 
-    next_entry : entry_of (low_tree tree) (suc number) ≡ entry + length (all_of those)
+    pub next_entry : entry_of (low_tree tree) (suc number) ≡ entry + length (all_of those)
     next_entry = omega (arith, entry_is tree (suc number), total_some (function_size tree) tree.functions number function exists, whole_length)
 
-    holds_of : (x : ℕ) → entry ≤ x → x < entry + length (all_of those) → Holds (low_tree tree) number x
+    pub holds_of : (x : ℕ) → entry ≤ x → x < entry + length (all_of those) → Holds (low_tree tree) number x
     holds_of x low high = record {
       exists = omega (arith, slice_get_within tree.functions number function exists, length-map tree.functions (function_def tree));
       from = omega (arith, low, entry_is tree number);
       below = omega (arith, high, next_entry);
     }
 
-    stand : HasAt (low_tree tree).commands entry (all_of those)
+    pub stand : HasAt (low_tree tree).commands entry (all_of those)
     stand = subst (HasAt (low_tree tree).commands entry) (sym (function_whole tree linked number function exists is))
         (has (shaped tree) (step_bound tree) number entry (low_function tree number function) (stands_at tree number function exists))
 
@@ -86,7 +86,7 @@ module _ (tree : Tree) (linked : IsLinked tree) where
       pub good : Good tree linked number Begin start piece
       pub stands : HasAt (low_tree tree).commands start piece
 
-    place_at : (x : ℕ) → Holds (low_tree tree) number x → Place x
+    pub place_at : (x : ℕ) → Holds (low_tree tree) number x → Place x
     place_at x holds =
         let f = find entry those x (omega (arith, holds.from, entry_is tree number)) (omega (arith, holds.below, next_entry)) in record {
           start = f.0;
@@ -98,7 +98,7 @@ module _ (tree : Tree) (linked : IsLinked tree) where
         }
 
     -- what holds of each command of the piece holds of the one there
-    there : (K : ℕ → Command → Type 0) (x : ℕ) (p : Place x) (command : Command) → EachAt K p.start p.piece → command_at (low_tree tree) x ≡ Some command → K x command
+    pub there : (K : ℕ → Command → Type 0) (x : ℕ) (p : Place x) (command : Command) → EachAt K p.start p.piece → command_at (low_tree tree) x ≡ Some command → K x command
     there K x p command each e = each_got K (low_tree tree).commands p.start x p.piece command each p.stands p.bounds_.from p.bounds_.below e
 
     lawful_at : (x : ℕ) (p : Place x) (command : Command) → command_at (low_tree tree) x ≡ Some command → Lawful tree linked number Begin p.start (length p.piece) x command
@@ -165,7 +165,7 @@ module _ (tree : Tree) (linked : IsLinked tree) where
 
   module _ (facts : IsProgram (low_tree tree)) (number : ℕ) (function : Function) (exists : slice_get tree.functions number ≡ Some function) (is : IsFunction tree function) where
     -- what goes inside a piece is in the piece, whatever its function
-    inside_only : (y start : ℕ) (piece : List Command) → Found (entry number function exists is) (those number function exists is) y start piece → Holds (low_tree tree) number y → start < y
+    pub inside_only : (y start : ℕ) (piece : List Command) → Found (entry number function exists is) (those number function exists is) y start piece → Holds (low_tree tree) number y → start < y
         → (K : ℕ → Command → Type 0) → EachAt K start piece → (from : ℕ) (command : Command) → command_at (low_tree tree) from ≡ Some command → GoesTo command y → K from command
     inside_only y start piece found holds above K each from command e goes = elim (cases_lt from 7) [
       | inl small ↦ absurd (trap_stays facts from command y small e goes)
