@@ -34,7 +34,7 @@ use Rattle.bl_lower.specs.Constructs.{Target, top}
 use Rattle.bl_lower.specs.Shapes.{bottom}
 use Rattle.bl_lower.proofs.Branching.{IsSmall}
 use Rattle.bl_lower.proofs.Frames.{static_low, static_next, next_low, here_above, store_kept, frame_kept, callers_kept, Reaches, Then, reaches_later, popping, knowing, with_stack}
-use Rattle.bl_lower.proofs.Items.{LaidOut, arrives, pushes, raised}
+use Rattle.bl_lower.proofs.Stepping.{LaidOut, arrives, pushes, raised}
 use Rattle.bl_lower.proofs.Operating.{zero_test, tested, falls}
 use Rattle.bl_lower.proofs.Space.{Segment, segment, reads_same, writes_same, grows_same, padded_length}
 use Rattle.bl_lower.proofs.States.{states_are}
@@ -162,9 +162,9 @@ module _ (tree : Tree) (program : Program) (bound : ℕ) (is : IsProgram tree pr
       → value_of program a s ≡ v → v < 2 ^ 32 → reach < 2 ^ 34 → IsStore program s.registers s.space state.store → Means state m memory → nat_lt (memory.pages * 65536) (v + reach) ≡ b
       → Guarded s t (if b then 3 else suc (suc s.position))
   guarded state s mark t v reach m memory a b stands static value small near stored u e =
-      let w = (if b then 1 else 0) in
-      let r' = written s.registers (depth s) t w in
-      let s' = at (suc s.position) r' s in
+      let w : ℕ = (if b then 1 else 0) in
+      let r' : Registers = written s.registers (depth s) t w in
+      let s' : Plain = at (suc s.position) r' s in
       let is_w : meaning op.Outside (value_of program a s) (value_of program (variable (program.shape state.frame.number).size) s) reach ≡ w =
       ap (λ n. meaning op.Outside n (value_of program (variable (program.shape state.frame.number).size) s) reach) value ∙ ap (λ n. meaning op.Outside v n reach) (size_value state s s m memory stored u)
       ∙ outside_is v memory.pages reach small (omega (arith, u.few)) near ∙ ap (λ t. if t then 1 else 0) e in

@@ -13,7 +13,7 @@ use Rattle.bl_wasm.specs.declared.linked.Tree.{Tree}
 use Rattle.bl_reduce.specs.Configurations.{State, with_values}
 use Rattle.bl_reduce.specs.Control.{items_behind_end, items_of_else, enter_with, enter_block, enter_loop, enter_if, reach_end, reach_else}
 use Rattle.bl_base.proofs.Lists.{zip_reverse}
-use Rattle.bl_access.specs.Templates.{variable, test_of, jump_to, shift}
+use Rattle.bl_access.specs.Templates.{test_of, jump_to, shift}
 use Rattle.bl_cmd.specs.Steps.{Registers, Plain, depth}
 use Rattle.bl_cmd.specs.declared.command.Operand.{Operand}
 use Rattle.bl_cmd.specs.declared.command.Operand.TheVariants.{Var, Const}
@@ -25,7 +25,7 @@ use Rattle.bl_lower.specs.Shapes.{bottom}
 use Rattle.bl_lower.proofs.Behind.{Behind, ends_here, Second, seconds_here}
 use Rattle.bl_lower.proofs.Branching.{IsSmall}
 use Rattle.bl_lower.proofs.Frames.{static_low, next_low, floor_is_above, store_kept, targets_later, locals_kept, callers_kept, Reaches, Then, popping}
-use Rattle.bl_lower.proofs.Items.{arrives, tests}
+use Rattle.bl_lower.proofs.Stepping.{arrives, tests}
 use Rattle.bl_lower.proofs.Leaving.{leaves_label, zip_take, pad_is_take, taken_length}
 use Rattle.bl_lower.proofs.States.{take_front, drop_front}
 use Rattle.bl_lower.proofs.Ways.{Kept, at, does, moved, held_values, holds_value, all_later}

@@ -20,7 +20,7 @@ use Rattle.bl_lower.proofs.Matching.{Holds, Layout, Here}
 use Rattle.bl_lower.specs.Constructs.{Target, taken, first_to, start_of, mark_of, top}
 use Rattle.bl_lower.specs.Shapes.{bottom}
 use Rattle.bl_lower.proofs.Frames.{static_low, static_next, Reaches, Then, popping, reaches_later, here_above}
-use Rattle.bl_lower.proofs.Items.{arrives, LaidOut, tests}
+use Rattle.bl_lower.proofs.Stepping.{arrives, LaidOut, tests}
 use Rattle.bl_lower.proofs.Leaving.{lands, ToTarget, find_target}
 use Rattle.bl_lower.proofs.Returning.{return_reaches}
 use Rattle.bl_lower.proofs.Ways.{Kept, at, does, sets, holds_value, holds_later, kept_written, read_written, value_is}

@@ -1,22 +1,21 @@
 -- Plain steps of the program of a linked tree, by shapes and as the program's own.
-use Rattle.std.proofs.Common.{◌≡◌, ℕ, zero, suc, ◌+◌, ◌-◌, ◌*◌, ◌%◌, ◌^◌, ◌≤◌, cond, List, [], ◌∷◌, ◌++◌, length, map, take, drop, replicate, Option, Some, None, slice_get, refl, sym, ap, ap₂, ◌∙◌, subst, arith}
+use Rattle.std.proofs.Common.{◌≡◌, ℕ, zero, suc, ◌+◌, ◌*◌, ◌%◌, ◌^◌, cond, List, [], ◌∷◌, ◌++◌, length, map, take, drop, Option, Some, None, slice_get, refl, sym, ap, ap₂, ◌∙◌, arith}
 use Rattle.std.specs.Prelude.{nat_lt, ◌==◌}
-use Rattle.bl_base.specs.Runs.{MemoryState, Outcome, Next, goes, ends, stuck, returned, trapped, EndsAfter, last, more}
+use Rattle.bl_base.specs.Runs.{MemoryState, Outcome, Next, goes, ends, returned, trapped, EndsAfter, last, more}
 use Rattle.bl_base.specs.declared.trap.Trap.TheVariants as trap_kind
 use Rattle.bl_ops.specs.Numerics.{meaning}
-use Rattle.bl_ops.specs.declared.op.Op.{Op}
 use Rattle.bl_wasm.specs.Linked.{IsLinked}
 use Rattle.bl_wasm.specs.declared.linked.Memory.{Memory}
 use Rattle.bl_wasm.specs.declared.linked.Tree.{Tree}
-use Rattle.bl_cmd.specs.Layout.{statics as statics_of, size_of, result as result_of, param as param_of, running, results_of, entry_of, base as base_of, sum_before}
-use Rattle.bl_cmd.specs.Outcomes.{padded as padded_of, space_of as spaces_of}
+use Rattle.bl_cmd.specs.Layout.{size_of, result as result_of, param as param_of, running, sum_before}
+use Rattle.bl_cmd.specs.Outcomes.{space_of as spaces_of}
 use Rattle.bl_cmd.specs.Steps.{Registers, Plain, written, depth, held, on, to, loaded, stored, values_from, states_from as states_at, states as states_of, effective as effective_of, ret as ret_of, perform as perform_of, plain_step as step_of, value_of as value_in}
 use Rattle.bl_cmd.specs.declared.command.Command.{Command}
 use Rattle.bl_cmd.specs.declared.command.Command.TheVariants.{Set, Load, Store, Test, Jump, Arg, Call, Out, Ret, Trap}
 use Rattle.bl_cmd.specs.declared.command.Operand.{Operand}
 use Rattle.bl_cmd.specs.declared.command.Operand.TheVariants.{Var, Const}
 use Rattle.bl_lower.specs.Shapes.{Shape, result, param}
-use Rattle.bl_lower.specs.Trees.{global_def, memory_def, shape, statics, low_tree}
+use Rattle.bl_lower.specs.Trees.{global_def, memory_def, shape, low_tree}
 use Rattle.bl_lower.proofs.Machine.{base, padded, space_of, place, value_of, results_from, states_from, states, effective, ret, perform, plain_step}
 use Rattle.bl_lower.proofs.Parts.{statics_are, entry_is, first_is, results_number, params_number}
 use Rattle.bl_lower.proofs.Placing.{shaped}

@@ -27,7 +27,7 @@ use Rattle.bl_lower.proofs.Matching.{Holds, AllHold, Layout, AreCallers, Here, A
 use Rattle.bl_lower.specs.Constructs.{pad, reads, moves, args, mark_of, Target, point}
 use Rattle.bl_lower.specs.Shapes.{Shape, local, param, bottom, result_reads}
 use Rattle.bl_lower.proofs.Frames.{local_value, static_low, store_kept, frame_kept, callers_kept, Reaches, Then, knowing}
-use Rattle.bl_lower.proofs.Items.{arrives}
+use Rattle.bl_lower.proofs.Stepping.{arrives}
 use Rattle.bl_lower.proofs.Leaving.{pad_is_take, zip_take, taken_length, moves_length}
 use Rattle.bl_lower.proofs.States.{states_are}
 use Rattle.bl_lower.proofs.Ways.{Kept, at, does, Moved, moved, Value, holds_value, all_later, has_front, has_back, read_written, read_deeper, kept_written}

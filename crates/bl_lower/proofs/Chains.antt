@@ -1,6 +1,6 @@
 -- The tests of an index, one by one.
-use Rattle.std.proofs.Common.{◌≡◌, ℕ, zero, suc, ◌+◌, ◌*◌, List, [], ◌∷◌, length, slice_get, refl, ap, ◌∙◌, arith}
-use Rattle.bl_access.specs.Templates.{chain, chain_from, missed, set as set_command, test_of, variable}
+use Rattle.std.proofs.Common.{◌≡◌, ℕ, suc, ◌+◌, ◌*◌, List, [], ◌∷◌, length, slice_get, refl, ap, ◌∙◌, arith}
+use Rattle.bl_access.specs.Templates.{chain_from, missed, set as set_command, test_of, variable}
 use Rattle.bl_ops.specs.declared.op.Op.TheVariants as op
 use Rattle.bl_cmd.specs.declared.command.Operand.{Operand}
 use Rattle.bl_cmd.specs.declared.command.Operand.TheVariants.{Const}

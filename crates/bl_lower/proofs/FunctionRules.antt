@@ -1,5 +1,5 @@
 -- The pieces of a whole function keep the rules as far as they go themselves.
-use Rattle.std.proofs.Common.{◌≡◌, ℕ, zero, suc, ◌+◌, ◌-◌, ◌*◌, ◌<◌, ◌≤◌, List, [], ◌∷◌, ◌++◌, length, reverse, replicate, Some, slice_get, refl, sym, ap, ap₂, ◌∙◌, subst, arith, length-append, append_assoc, ◌⊎◌, inl, inr}
+use Rattle.std.proofs.Common.{◌≡◌, ℕ, zero, suc, ◌+◌, ◌-◌, ◌≤◌, List, [], ◌∷◌, ◌++◌, length, reverse, replicate, Some, slice_get, refl, sym, ap, ap₂, ◌∙◌, subst, arith, append_assoc, inl, inr}
 use Rattle.std.proofs.lemmas.List.{length-replicate}
 use Rattle.bl_wasm.specs.Linked.{IsLinked, IsFunction, context}
 use Rattle.bl_wasm.specs.Typing.{Context}
@@ -7,29 +7,26 @@ use Rattle.bl_wasm.specs.declared.linked.Function.{Function}
 use Rattle.bl_wasm.specs.declared.linked.Tree.{Tree}
 use Rattle.bl_wasm.proofs.NestingLemmas.{closes}
 use Rattle.bl_wasm.proofs.LeadingLemmas.{typing_nests}
-use Rattle.bl_cmd.specs.Rules.{IsLocal}
 use Rattle.bl_cmd.specs.declared.command.Command.{Command}
 use Rattle.bl_cmd.specs.declared.command.Operand.{Operand}
 use Rattle.bl_cmd.specs.declared.command.Operand.TheVariants.{Const}
-use Rattle.bl_access.specs.Templates.{shift, jump_to}
+use Rattle.bl_access.specs.Templates.{jump_to}
 use Rattle.bl_lower.specs.Shapes.{Shape, bottom}
-use Rattle.bl_lower.specs.Constructs.{pad, moves, outs, Point, point}
-use Rattle.bl_lower.specs.Low.{Extent, Reached, on, off, next_in, low}
-use Rattle.bl_lower.specs.Trees.{blocks, shape, start_at, last, body_of, low_body, low_function, low_tree, function_variables}
+use Rattle.bl_lower.specs.Constructs.{pad, moves, outs, Point}
+use Rattle.bl_lower.specs.Low.{Extent, Reached, on, off, next_in}
+use Rattle.bl_lower.specs.Trees.{blocks, shape, start_at, last, body_of, low_body, low_function, function_variables}
 use Rattle.bl_lower.proofs.BodyRules.{bodies, begins, EndsIn, StackIn}
 use Rattle.bl_lower.proofs.Finding.{Starts, all_start}
 use Rattle.bl_lower.proofs.Goods.{Good, simple_good, readables}
-use Rattle.bl_lower.proofs.Laid.{flat}
-use Rattle.bl_lower.proofs.Lawful.{Simple, Goes, own_local, reads_const, AllReadable, moves_simple, outs_simple, jump_simple}
+use Rattle.bl_lower.proofs.Lawful.{Simple, own_local, reads_const, AllReadable, moves_simple, outs_simple, jump_simple}
 use Rattle.bl_lower.proofs.Leaving.{moves_length}
 use Rattle.bl_lower.proofs.Nested.{nested_is}
-use Rattle.bl_lower.proofs.Parts.{statics_are}
-use Rattle.bl_lower.proofs.Pieces.{all_of, AllAt, EachAt, each_both, all_at_front, all_at_back, all_at_both, pieces, whole_is}
+use Rattle.bl_lower.proofs.Pieces.{all_of, AllAt, each_both, all_at_front, all_at_back, all_at_both, pieces, whole_is}
 use Rattle.bl_lower.proofs.Placing.{first_point, opens, opens_length, room_of, extent_is, results_are, counts_are, locals_are, total_some}
-use Rattle.bl_lower.proofs.Ranged.{AllRanged, ranged_pad}
+use Rattle.bl_lower.proofs.Ranged.{ranged_pad}
 use Rattle.bl_lower.proofs.Sizes.{Size, Sized, ReachedAs, sizes, padded_length, outs_length}
 use Rattle.bl_lower.proofs.Sound.{Sound, Each, EachIn, all_sound, each_in}
-use Rattle.bl_lower.proofs.Templates.{within, spans}
+use Rattle.bl_lower.proofs.Templates.{within}
 use Rattle.bl_lower.proofs.Typings.{nested_body}
 use Rattle.bl_lower.proofs.Ways.{shift_is}
 

@@ -1,45 +1,23 @@
 -- The pieces of a function keep the rules as far as they go themselves.
-use Rattle.std.proofs.Common.{◌≡◌, ◌≢◌, ℕ, zero, suc, ◌+◌, ◌*◌, ◌^◌, ◌<◌, ◌≤◌, true, false, Bool, List, [], ◌∷◌, ◌++◌, length, drop, take, reverse, map, replicate, Option, Some, None, slice_get, unwrap_or, refl, sym, ap, ap₂, ◌∙◌, subst, arith, length-append, ◌⊎◌, inl, inr}
-use Rattle.std.specs.Prelude.{IfSome, IsTrue, IsFalse, not, option_map}
-use Rattle.std.proofs.lemmas.List.{length-map, length-replicate}
-use Rattle.std.proofs.lemmas.Option.{none-some, slice_get-map}
-use Rattle.bl_base.proofs.Lists.{all_get, within_get}
-use Rattle.bl_base.specs.declared.trap.Trap.TheVariants as trap_kind
-use Rattle.bl_ops.specs.Access.{is_load, width_of}
-use Rattle.bl_ops.specs.Table.{row_of}
-use Rattle.bl_ops.specs.declared.op.Op.{Op}
+use Rattle.std.proofs.Common.{◌≡◌, ◌≢◌, ℕ, zero, suc, ◌+◌, ◌*◌, ◌<◌, ◌≤◌, List, [], ◌∷◌, ◌++◌, length, reverse, Option, Some, None, slice_get, refl, arith, length-append, inl, inr}
+use Rattle.std.specs.Prelude.{option_map}
 use Rattle.bl_ops.specs.declared.op.Op.TheVariants as op
-use Rattle.bl_ops.specs.declared.op.OpRow.{OpRow}
-use Rattle.bl_wasm.specs.Linked.{IsLinked, IsFunction, context, seen}
-use Rattle.bl_wasm.specs.Typing.{integer}
-use Rattle.bl_wasm.specs.Validity.{locals_of}
-use Rattle.bl_wasm.specs.declared.instruction.Instr.{Instr}
-use Rattle.bl_wasm.specs.declared.instruction.Instr.TheVariants.{Br, BrIf, BrTable, Return, Call, CallIndirect, Drop, Select, LocalGet, LocalSet, LocalTee, GlobalGet, GlobalSet, Load, Store, MemorySize, MemoryGrow, I32Const, I64Const, Integer}
-use Rattle.bl_wasm.specs.declared.linked.Function.{Function}
+use Rattle.bl_wasm.specs.Linked.{IsLinked}
 use Rattle.bl_wasm.specs.declared.linked.Tree.{Tree}
 use Rattle.bl_cmd.specs.Layout.{size_of as size_variable}
-use Rattle.bl_cmd.specs.Programs.{IsCommand, ArePadded, arity, arity_by}
-use Rattle.bl_cmd.specs.Rules.{IsLocal, Rule8, GoesTo, Leaves, Reach, reach_of}
+use Rattle.bl_cmd.specs.Rules.{IsLocal, Rule8, reach_of}
 use Rattle.bl_cmd.specs.declared.command.Command.{Command}
-use Rattle.bl_cmd.specs.declared.command.Command.TheVariants as command
 use Rattle.bl_cmd.specs.declared.command.Operand.{Operand}
 use Rattle.bl_cmd.specs.declared.command.Operand.TheVariants.{Var, Const}
-use Rattle.bl_access.specs.Templates.{shift, variable, set_of, load_of, test_of, jump_to, set as set_command, move, bounds, growth, chain, chain_from, missed}
-use Rattle.bl_lower.specs.Shapes.{Counts, Slot, armed, vacant, strange, Shape, local, bottom, result_reads}
-use Rattle.bl_lower.specs.Constructs.{reads, top, pad, moves, args, outs, mark_of, Kind, Target, taken, first_to, start_of, branched, Point, point}
-use Rattle.bl_lower.specs.Items.{Check, free, nonzero, quotient, check_of, check_size, check_new, checks, count_of, left, right, branch_size, branch_sizes, arms_from, arm_size, arms_size, head_size, hit_of, hits_from, calls_in, after, to_label, arms, slot_arm, slot_arms, slot_head, template, leaving}
-use Rattle.bl_lower.specs.Low.{takes_of, closed, Reached, on}
-use Rattle.bl_lower.specs.Trees.{blocks, shape, statics, low_tree, function_def, memory_def, counts, counts_of, memory_in, reserve_in, locals_in}
-use Rattle.bl_lower.proofs.Frames.{is_local}
+use Rattle.bl_access.specs.Templates.{shift, variable, jump_to, bounds, growth, chain_from, missed}
+use Rattle.bl_lower.specs.Shapes.{Shape, bottom}
+use Rattle.bl_lower.specs.Constructs.{reads, pad, moves, Target, taken, first_to, start_of, branched}
+use Rattle.bl_lower.specs.Trees.{blocks, shape, low_tree}
 use Rattle.bl_lower.proofs.Leaving.{moves_length}
-use Rattle.bl_lower.proofs.Lawful.{mark_small, own, own_local, new_local, Readable, reads_const, reads_own, reads_static, AllReadable, result_readable, Goes, Lawful, Simple, Writes, no_size, set_simple, two_padded, one_padded, move_simple, test_simple, jump_simple, call_simple, trap_simple, moves_simple, args_simple, outs_simple}
-use Rattle.bl_lower.proofs.Parts.{statics_are}
+use Rattle.bl_lower.proofs.Lawful.{new_local, Readable, reads_const, reads_own, AllReadable, Goes, Lawful, Simple, set_simple, two_padded, test_simple, jump_simple, moves_simple, outs_simple}
 use Rattle.bl_lower.proofs.Pieces.{EachAt, each_map, each_both}
-use Rattle.bl_lower.proofs.Placing.{type_is}
-use Rattle.bl_lower.proofs.Ranged.{Ranged, AllRanged, ranged_later, ranged_tail, ranged_top, ranged_left, ranged_right, ranged_pad}
-use Rattle.bl_lower.proofs.Sizes.{padded_length, args_length, reads_length, branch_length, size_is}
-use Rattle.bl_lower.proofs.Sound.{Sound}
-use Rattle.bl_lower.proofs.Ways.{shift_is}
+use Rattle.bl_lower.proofs.Ranged.{Ranged, AllRanged, ranged_pad}
+use Rattle.bl_lower.proofs.Sizes.{padded_length, branch_length}
 
 module _ (tree : Tree) (linked : IsLinked tree) (number : ℕ) (B : ℕ → Type 0) where
   abbrev Mine : Shape

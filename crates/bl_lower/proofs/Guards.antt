@@ -1,36 +1,24 @@
 -- Rules 7 and 8 at each position of the program of a linked tree.
-use Rattle.std.proofs.Common.{◌≡◌, ◌≢◌, ℕ, zero, suc, ◌+◌, ◌*◌, ◌<◌, ◌≤◌, List, [], ◌∷◌, ◌++◌, length, map, take, Option, Some, None, slice_get, refl, sym, ap, ap₂, ◌∙◌, subst, arith, ◌⊎◌, inl, inr}
+use Rattle.std.proofs.Common.{◌≡◌, ◌≢◌, ℕ, suc, ◌+◌, ◌<◌, ◌≤◌, List, [], ◌∷◌, ◌++◌, length, Some, slice_get, refl, sym, ap, ◌∙◌, subst, arith, inl, inr}
 use Rattle.std.specs.Prelude.{IfSome, option_map}
-use Rattle.std.proofs.lemmas.Bool.{cases_lt}
-use Rattle.std.proofs.lemmas.List.{length-map}
-use Rattle.std.proofs.lemmas.Option.{none-some, slice_get_within}
-use Rattle.bl_base.proofs.Lists.{all_get, within_get, some_same}
-use Rattle.bl_base.specs.declared.trap.Trap.{Trap as TrapKind}
 use Rattle.bl_ops.specs.declared.op.Op.TheVariants as op
 use Rattle.bl_wasm.specs.Linked.{IsLinked, IsFunction}
 use Rattle.bl_wasm.specs.declared.linked.Function.{Function}
 use Rattle.bl_wasm.specs.declared.linked.Tree.{Tree}
 use Rattle.bl_cmd.specs.Layout.{size_of as size_variable, entry_of, command_at, Holds}
-use Rattle.bl_cmd.specs.Programs.{IsCommand, IsProgram}
-use Rattle.bl_cmd.specs.Rules.{IsLocal, Rule4, Rule5, Rule6, Rule7, Rule8, GoesTo, Leaves, Reach, reach_of, variable, assign, branch, IsPassed, IsGuarded, IsTested, IsSum, IsGrowth}
+use Rattle.bl_cmd.specs.Programs.{IsProgram}
+use Rattle.bl_cmd.specs.Rules.{IsLocal, Rule7, Rule8, GoesTo, Reach, variable, assign, IsPassed, IsGuarded, IsTested, IsGrowth}
 use Rattle.bl_cmd.specs.declared.command.Command.{Command}
-use Rattle.bl_cmd.specs.declared.command.Command.TheVariants.{Set, Load, Store, Test, Jump, Arg, Call, Out, Ret, Trap}
-use Rattle.bl_cmd.specs.declared.command.Operand.{Operand}
-use Rattle.bl_cmd.specs.declared.command.Operand.TheVariants.{Var, Const}
-use Rattle.bl_cmd.proofs.Layouts.{holds_apart, held_by, no_entry}
-use Rattle.bl_access.specs.Templates.{shift, mark_at, set_of, test_of, jump_to, set as set_command, move, bounds, growth}
-use Rattle.bl_lower.specs.Shapes.{Shape}
-use Rattle.bl_lower.specs.Trees.{shape, low_tree, low_function, function_def, function_size}
-use Rattle.bl_lower.proofs.Finding.{Found, Starts, Bounds, bounds_of, found_same, found_other, found_at, find, starts_found, found_stands}
-use Rattle.bl_lower.proofs.FunctionRules.{function_pieces, function_whole, B, all_good}
-use Rattle.bl_lower.proofs.Goods.{Access, Growing, Sort, quiet, accesses, grows, Good}
+use Rattle.bl_cmd.specs.declared.command.Operand.TheVariants.{Const}
+use Rattle.bl_cmd.proofs.Layouts.{no_entry}
+use Rattle.bl_access.specs.Templates.{shift, mark_at, bounds, growth}
+use Rattle.bl_lower.specs.Trees.{low_tree}
+use Rattle.bl_lower.proofs.Finding.{Found, bounds_of, found_other}
+use Rattle.bl_lower.proofs.Goods.{Access, Growing, Sort, quiet, accesses, grows}
 use Rattle.bl_lower.proofs.Laid.{HasAt}
-use Rattle.bl_lower.proofs.Lawful.{Lawful, Goes, no_size}
-use Rattle.bl_lower.proofs.Lowers.{has}
+use Rattle.bl_lower.proofs.Lawful.{no_size}
 use Rattle.bl_lower.proofs.Parts.{entry_is}
-use Rattle.bl_lower.proofs.Pieces.{all_of, AllAt, EachAt, all_at_map, each_got}
-use Rattle.bl_lower.proofs.Placing.{shaped, stands_at, low_length, total_some}
-use Rattle.bl_lower.specs.Trees.{step_bound}
+use Rattle.bl_lower.proofs.Pieces.{EachAt}
 
 use Rattle.bl_lower.proofs.Goods.{Quiet}
 use Rattle.bl_lower.proofs.Rules.{entry, those, Begin, Place, place_at, there, holds_of, inside_only, access_stays}

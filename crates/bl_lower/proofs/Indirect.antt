@@ -25,7 +25,7 @@ use Rattle.bl_lower.specs.Trees.{slot_of, slot_by}
 use Rattle.bl_lower.proofs.Branching.{IsSmall, equal_is_one, above_is_zero}
 use Rattle.bl_lower.proofs.Calling.{call_at_reaches, has_type, args_length}
 use Rattle.bl_lower.proofs.Frames.{static_low, static_next, here_above, Reaches, Then, reaches_later, popping, knowing}
-use Rattle.bl_lower.proofs.Items.{LaidOut}
+use Rattle.bl_lower.proofs.Stepping.{LaidOut}
 use Rattle.bl_lower.proofs.Leaving.{moves_length}
 use Rattle.bl_lower.proofs.Operating.{zero_test, tries}
 use Rattle.bl_lower.proofs.States.{states_are}

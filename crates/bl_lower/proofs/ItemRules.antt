@@ -1,57 +1,35 @@
 -- Each piece of a body keeps the rules as far as it goes itself.
-use Rattle.std.proofs.Common.{◌≡◌, ◌≢◌, ℕ, zero, suc, ◌+◌, ◌-◌, ◌*◌, ◌^◌, ◌<◌, ◌≤◌, true, false, Bool, List, [], ◌∷◌, ◌++◌, length, drop, take, reverse, map, replicate, Option, Some, None, slice_get, unwrap_or, refl, sym, ap, ap₂, ◌∙◌, subst, arith, length-append, ◌⊎◌, inl, inr}
-use Rattle.std.specs.Prelude.{IfSome, IsTrue, IsFalse, not, option_map, option_and_then, if◌then◌else◌}
-use Rattle.std.proofs.lemmas.Bool.{cases_lt}
-use Rattle.std.proofs.lemmas.List.{length-map, length-replicate}
-use Rattle.std.proofs.lemmas.Option.{none-some, slice_get-map, slice_get_within}
-use Rattle.bl_base.proofs.Lists.{all_get, within_get}
-use Rattle.bl_base.specs.declared.trap.Trap.TheVariants as trap_kind
-use Rattle.bl_ops.specs.Access.{is_load, width_of}
+use Rattle.std.proofs.Common.{◌≡◌, ℕ, suc, ◌+◌, ◌*◌, ◌<◌, ◌≤◌, List, [], ◌∷◌, ◌++◌, length, drop, reverse, Some, slice_get, refl, sym, ap, ◌∙◌, subst, arith, length-append, inl, inr}
 use Rattle.bl_ops.specs.Table.{row_of}
-use Rattle.bl_ops.specs.declared.access.AccessKind.{AccessKind}
 use Rattle.bl_ops.specs.declared.op.Op.{Op}
 use Rattle.bl_ops.specs.declared.op.Op.TheVariants as op
 use Rattle.bl_ops.specs.declared.op.OpRow.{OpRow}
-use Rattle.bl_reduce.specs.Calls.{type_of, is_same_type}
-use Rattle.bl_wasm.specs.Linked.{IsLinked, IsFunction, context, global_type, seen}
-use Rattle.bl_wasm.specs.Typing.{Context, integer}
-use Rattle.bl_wasm.specs.Validity.{locals_of}
+use Rattle.bl_wasm.specs.Linked.{IsLinked, IsFunction, context}
+use Rattle.bl_wasm.specs.Typing.{Context}
 use Rattle.bl_wasm.specs.declared.instruction.Instr.{Instr}
-use Rattle.bl_wasm.specs.declared.instruction.Instr.TheVariants.{Br, BrIf, BrTable, Return, Call, CallIndirect, Drop, Select, LocalGet, LocalSet, LocalTee, GlobalGet, GlobalSet, Load, Store, MemorySize, MemoryGrow, I32Const, I64Const, Integer}
+use Rattle.bl_wasm.specs.declared.instruction.Instr.TheVariants.{BrIf, Call, CallIndirect, Select, LocalGet, LocalSet, LocalTee, GlobalGet, GlobalSet, Load, Store, MemorySize, MemoryGrow, I32Const, I64Const, Integer}
 use Rattle.bl_wasm.specs.declared.linked.Function.{Function}
-use Rattle.bl_wasm.specs.declared.linked.Signature.{Signature}
 use Rattle.bl_wasm.specs.declared.linked.Tree.{Tree}
-use Rattle.bl_cmd.specs.Layout.{size_of as size_variable}
-use Rattle.bl_cmd.specs.Programs.{IsCommand, ArePadded, arity, arity_by}
-use Rattle.bl_cmd.specs.Rules.{IsLocal, IsReadable, Rule4, Rule6, Rule8, GoesTo, Leaves, Reach, reach_of}
-use Rattle.bl_cmd.specs.Sites.{Names, Among}
 use Rattle.bl_cmd.specs.declared.command.Command.{Command}
 use Rattle.bl_cmd.specs.declared.command.Command.TheVariants as command
 use Rattle.bl_cmd.specs.declared.command.Operand.{Operand}
-use Rattle.bl_cmd.specs.declared.command.Operand.TheVariants.{Var, Const}
-use Rattle.bl_access.specs.Templates.{shift, variable, set_of, load_of, test_of, jump_to, set as set_command, move, bounds, growth, chain, chain_from, missed}
-use Rattle.bl_lower.specs.Shapes.{Counts, Slot, armed, vacant, strange, Shape, local, bottom, result_reads}
-use Rattle.bl_lower.specs.Constructs.{reads, top, pad, moves, args, outs, mark_of, Kind, Target, taken, first_to, start_of, branched, Point, point}
-use Rattle.bl_lower.specs.Items.{Check, free, nonzero, quotient, check_of, check_size, check_new, checks, count_of, left, right, branch_size, branch_sizes, arms_from, arm_size, arms_size, head_size, hit_of, hits_from, calls_in, after, to_label, arms, slot_arm, slot_arms, slot_head, template, leaving}
-use Rattle.bl_lower.specs.Low.{takes_of, closed, Reached, on}
-use Rattle.bl_lower.specs.Trees.{blocks, shape, statics, low_tree, function_def, global_def, memory_def, counts, counts_of, memory_in, reserve_in, locals_in, slot_by, slot_of, slots_in, slots_at, wanted}
-use Rattle.bl_lower.proofs.Chains.{chain_length, arms_from_length, hits_from_length}
-use Rattle.bl_lower.proofs.Frames.{is_local}
-use Rattle.bl_lower.proofs.Goods.{Access, Growing, Sort, quiet, accesses, grows, Good, simple_good, readable, readables, Ready, AllReady, ReadyFor, ready_get, branched_simple, AllInto, chain_simple}
-use Rattle.bl_lower.proofs.Leaving.{moves_length}
-use Rattle.bl_lower.proofs.Lawful.{mark_small, own, own_local, new_local, Readable, reads_const, reads_own, reads_static, AllReadable, result_readable, Goes, Lawful, Simple, Writes, no_size, set_simple, two_padded, one_padded, move_simple, test_simple, jump_simple, call_simple, trap_simple, moves_simple, args_simple, outs_simple}
-use Rattle.bl_lower.proofs.Lowers.{ArmsFit}
-use Rattle.bl_lower.proofs.Parts.{statics_are}
-use Rattle.bl_lower.proofs.Pieces.{EachAt, each_map, each_both}
-use Rattle.bl_lower.proofs.Placing.{shaped, type_is, arms_at, room_of}
-use Rattle.bl_lower.proofs.Ranged.{Ranged, AllRanged, ranged_later, ranged_tail, ranged_top, ranged_left, ranged_right, ranged_pad}
-use Rattle.bl_lower.proofs.Sizes.{padded_length, args_length, reads_length, branch_length, label_length, slot_head_length, slot_arm_length, template_length, after_position, leaving_length, checks_length}
+use Rattle.bl_cmd.specs.declared.command.Operand.TheVariants.{Const}
+use Rattle.bl_access.specs.Templates.{shift, variable, set_of, jump_to, set as set_command}
+use Rattle.bl_lower.specs.Shapes.{Slot, Shape, local, bottom, result_reads}
+use Rattle.bl_lower.specs.Constructs.{top, pad, moves, args, mark_of, Target, Point}
+use Rattle.bl_lower.specs.Items.{check_of, check_size, check_new, checks, count_of, left, right, arms_size, head_size, hits_from, calls_in, after, to_label, slot_arms, slot_head, template}
+use Rattle.bl_lower.specs.Trees.{blocks, shape}
+use Rattle.bl_lower.proofs.Chains.{hits_from_length}
+use Rattle.bl_lower.proofs.Goods.{Good, simple_good, readable, AllReady, ready_get, branched_simple, chain_simple}
+use Rattle.bl_lower.proofs.Lawful.{mark_small, new_local, Readable, reads_const, reads_static, Goes, Simple, Writes, set_simple, test_simple, jump_simple}
+use Rattle.bl_lower.proofs.Pieces.{EachAt, each_both}
+use Rattle.bl_lower.proofs.Placing.{arms_at}
+use Rattle.bl_lower.proofs.Ranged.{Ranged, AllRanged, ranged_tail, ranged_top, ranged_left, ranged_right}
+use Rattle.bl_lower.proofs.Sizes.{slot_head_length, template_length, after_position, checks_length}
 use Rattle.bl_lower.proofs.Sound.{Sound}
 use Rattle.bl_lower.proofs.Ways.{shift_is}
 
-use Rattle.bl_lower.specs.Low.{left_to}
-use Rattle.bl_lower.proofs.Goods.{moved_simple}
-use Rattle.bl_lower.proofs.Templates.{row_padded, check_fits, arms_exist, spans, within, local_own, local_read, functions_number, globals_number, size_static, checks_simple, arms_into, arms_simple, called_simple, hits_into, slots_simple, one_good, move_good, load_good, store_good, grow_good}
+use Rattle.bl_lower.proofs.Templates.{row_padded, check_fits, arms_exist, spans, local_own, local_read, functions_number, globals_number, size_static, checks_simple, called_simple, hits_into, slots_simple, one_good, move_good, load_good, store_good, grow_good}
 
 append_nil : (l : List Command) → l ++ [] ≡ l
 append_nil [] = refl

@@ -1,23 +1,22 @@
 -- Commands of a function that keep the rules as far as their piece goes.
-use Rattle.std.proofs.Common.{◌≡◌, ◌≢◌, ℕ, zero, suc, ◌+◌, ◌*◌, ◌^◌, ◌<◌, ◌≤◌, List, [], ◌∷◌, ◌++◌, length, drop, take, reverse, map, Option, Some, None, slice_get, refl, sym, ap, ap₂, ◌∙◌, subst, arith, length-append, ◌⊎◌, inl, inr}
-use Rattle.std.specs.Prelude.{IfSome, min}
+use Rattle.std.proofs.Common.{◌≡◌, ℕ, zero, suc, ◌+◌, ◌<◌, ◌≤◌, List, [], ◌∷◌, length, None, refl, subst, arith, ◌⊎◌, inl, inr}
 use Rattle.std.proofs.lemmas.List.{length-map}
 use Rattle.bl_ops.specs.declared.op.Op.{Op}
 use Rattle.bl_ops.specs.declared.op.Op.TheVariants as op
 use Rattle.bl_base.specs.declared.trap.Trap.{Trap as TrapKind}
 use Rattle.bl_wasm.specs.Linked.{IsLinked}
 use Rattle.bl_wasm.specs.declared.linked.Tree.{Tree}
-use Rattle.bl_cmd.specs.Layout.{size_of as size_variable, params_of, results_of, first_of, result as result_of}
+use Rattle.bl_cmd.specs.Layout.{size_of as size_variable, result as result_of}
 use Rattle.bl_cmd.specs.Programs.{IsCommand, ArePadded, arity}
-use Rattle.bl_cmd.specs.Rules.{IsOwn, IsResult, IsLocal, IsReadable, Rule4, Rule6, Rule8, GoesTo, Leaves, Reach, reach_of}
-use Rattle.bl_cmd.specs.Sites.{Names, Among}
+use Rattle.bl_cmd.specs.Rules.{IsOwn, IsResult, IsLocal, IsReadable, Rule4, Rule6, Rule8, GoesTo, Leaves, reach_of}
+use Rattle.bl_cmd.specs.Sites.{Names}
 use Rattle.bl_cmd.specs.declared.command.Command.{Command}
 use Rattle.bl_cmd.specs.declared.command.Command.TheVariants.{Call, Ret, Trap}
 use Rattle.bl_cmd.specs.declared.command.Operand.{Operand}
-use Rattle.bl_cmd.specs.declared.command.Operand.TheVariants.{Var, Const}
-use Rattle.bl_access.specs.Templates.{variable, set_of, test_of, jump_to, arg_of, out_of, set, move}
-use Rattle.bl_lower.specs.Shapes.{Shape, result, local, bottom, result_reads}
-use Rattle.bl_lower.specs.Constructs.{moves, args, outs, loops, mark_of, Target}
+use Rattle.bl_cmd.specs.declared.command.Operand.TheVariants.{Const}
+use Rattle.bl_access.specs.Templates.{variable, set_of, test_of, jump_to, arg_of, out_of, move}
+use Rattle.bl_lower.specs.Shapes.{Shape, result, bottom, result_reads}
+use Rattle.bl_lower.specs.Constructs.{moves, args, outs, mark_of, Target}
 use Rattle.bl_lower.specs.Trees.{shape, statics, low_tree, global_def}
 use Rattle.bl_lower.proofs.Parts.{statics_are, first_is, results_number, params_number}
 use Rattle.bl_lower.proofs.Pieces.{EachAt}

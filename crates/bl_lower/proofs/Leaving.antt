@@ -18,7 +18,7 @@ use Rattle.bl_lower.proofs.Matching.{Holds, AllHold, Layout, IsTarget, AreTarget
 use Rattle.bl_lower.specs.Constructs.{pad, reads, moves, Target, first_to, behind, point}
 use Rattle.bl_lower.specs.Shapes.{bottom}
 use Rattle.bl_lower.proofs.Frames.{floor_is_above, static_low, store_kept, targets_later, locals_kept, callers_kept, Reaches, Then}
-use Rattle.bl_lower.proofs.Items.{arrives}
+use Rattle.bl_lower.proofs.Stepping.{arrives}
 use Rattle.bl_lower.proofs.Ways.{Agree, Kept, at, does, moved, held_values, all_later, has_front, has_back}
 
 pub zip_take : {A B : Type 0} (R : A → B → Type 0) (n : ℕ) (xs : List A) (ys : List B) → AllZip R xs ys → AllZip R (take n xs) (take n ys)

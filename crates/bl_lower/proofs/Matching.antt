@@ -1,5 +1,5 @@
 -- A configuration and a plain state that stand for each other.
-use Rattle.std.specs.Prelude.{◌≡◌, ◌⊎◌, ℕ, if◌then◌else◌, option_and_then, Option, None, suc, ◌+◌, ◌≤◌, ◌<◌, List, [], ◌∷◌, ◌++◌, length, map, take, reverse, replicate, Some, slice_get}
+use Rattle.std.specs.Prelude.{◌≡◌, ◌⊎◌, ℕ, option_and_then, Option, suc, ◌+◌, ◌≤◌, ◌<◌, List, [], ◌∷◌, ◌++◌, length, map, take, reverse, replicate, Some, slice_get}
 use Rattle.std.specs.List.{AllZip}
 use Rattle.bl_wasm.specs.Linked.{function_type}
 use Rattle.bl_wasm.specs.Typing.{expanded}
@@ -11,7 +11,7 @@ use Rattle.bl_wasm.specs.declared.linked.Function.{Function}
 use Rattle.bl_wasm.specs.declared.linked.Memory.{Memory}
 use Rattle.bl_wasm.specs.declared.linked.Tree.{Tree}
 use Rattle.bl_reduce.specs.TypedConfigurations.{IsMemoryState}
-use Rattle.bl_access.specs.Templates.{variable, jump_to, shift}
+use Rattle.bl_access.specs.Templates.{jump_to, shift}
 use Rattle.bl_cmd.specs.Steps.{Registers, Plain, depth}
 use Rattle.bl_cmd.specs.declared.command.Command.TheVariants.{Trap}
 use Rattle.bl_cmd.specs.declared.command.Operand.{Operand}
@@ -19,8 +19,7 @@ use Rattle.bl_cmd.specs.declared.command.Operand.TheVariants.{Var, Const}
 use Rattle.bl_lower.proofs.Laid.{HasAt, live, landing, floor, Laid, Stand}
 use Rattle.bl_lower.proofs.Machine.{space_of, Program}
 use Rattle.bl_lower.specs.Constructs.{reads, moves, mark_of, Target, point, taken, first_to}
-use Rattle.bl_lower.specs.Shapes.{Slot, armed, vacant, strange, Shape, local, param, result, bottom, result_reads}
-use Rattle.bl_reduce.specs.Calls.{is_same_type, type_of}
+use Rattle.bl_lower.specs.Shapes.{Shape, local, param, result, bottom, result_reads}
 use Rattle.bl_reduce.specs.Configurations.{Store, Label, Frame, State, Config, entering, running}
 use Rattle.bl_base.specs.Runs.{MemoryState}
 use Rattle.bl_base.specs.Trap.{kinds}

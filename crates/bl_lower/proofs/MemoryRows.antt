@@ -1,11 +1,10 @@
 -- A memory's rows are those of its bytes that aren't all zero.
-use Rattle.std.proofs.Common.{◌≡◌, ℕ, zero, suc, ◌+◌, ◌-◌, ◌*◌, ◌≤◌, ◌<◌, Bool, true, false, cond, List, [], ◌∷◌, ◌++◌, length, map, take, drop, replicate, refl, sym, ap, ap₂, ◌∙◌, subst, arith, length-append, length-drop, append_assoc}
+use Rattle.std.proofs.Common.{◌≡◌, ℕ, zero, suc, ◌+◌, ◌-◌, ◌*◌, ◌≤◌, Bool, true, false, cond, List, [], ◌∷◌, ◌++◌, length, map, take, drop, replicate, refl, sym, ap, ap₂, ◌∙◌, arith, length-append, length-drop, append_assoc}
 use Rattle.std.specs.Prelude.{◌/◌}
 use Rattle.std.specs.List.{fold, filter, range_with_len}
 use Rattle.std.proofs.lemmas.List.{length-replicate, length-take-le}
 use Rattle.bl_cmd.specs.Outcomes.{with_row}
 use Rattle.bl_cmd.specs.declared.definitions.MemRow.{MemRow}
-use Rattle.bl_cmd.specs.Steps.{overlay}
 use Rattle.bl_lower.specs.Trees.{row_at, is_filled, rows_of}
 
 abbrev zeros : ℕ → List ℕ

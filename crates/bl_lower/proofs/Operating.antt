@@ -25,7 +25,7 @@ use Rattle.bl_lower.specs.Constructs.{Target, point}
 use Rattle.bl_lower.specs.Items.{Check, free, nonzero, quotient, check_of, check_size, check_new, checks, count_of, left, right}
 use Rattle.bl_lower.specs.Shapes.{bottom}
 use Rattle.bl_lower.proofs.Frames.{static_low, store_kept, next_low, here_above, Reaches, Then, reaches_later, with_stack, knowing}
-use Rattle.bl_lower.proofs.Items.{LaidOut, pushes, raised}
+use Rattle.bl_lower.proofs.Stepping.{LaidOut, pushes, raised}
 use Rattle.bl_lower.proofs.States.{states_are}
 use Rattle.bl_lower.proofs.Ways.{Kept, at, does, sets, holds_value, value_is, holds_later, kept_written, read_written, shift_is}
 

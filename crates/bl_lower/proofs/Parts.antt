@@ -1,24 +1,19 @@
 -- The parts of the program of a linked tree: where they stand, and what its memories are at first.
-use Rattle.std.proofs.Common.{◌≡◌, ℕ, zero, suc, ◌+◌, ◌-◌, ◌*◌, ◌≤◌, ◌<◌, Bool, true, false, cond, List, [], ◌∷◌, ◌++◌, length, map, take, drop, replicate, Option, Some, None, slice_get, unwrap_or, refl, sym, ap, ap₂, ◌∙◌, subst, arith, length-append, length-drop, append_assoc}
-use Rattle.std.specs.Prelude.{option_map, option_and_then, get_or, ◌/◌}
-use Rattle.std.specs.List.{All, fold, filter, zip, range_with_len}
-use Rattle.std.proofs.lemmas.List.{length-map, length-replicate, length-take-le}
-use Rattle.std.proofs.lemmas.Option.{none-some, slice_get-map}
+use Rattle.std.proofs.Common.{◌≡◌, ℕ, zero, suc, ◌+◌, List, [], ◌∷◌, length, map, Option, Some, None, slice_get, unwrap_or, refl, sym, ap, ap₂, ◌∙◌, subst}
+use Rattle.std.specs.Prelude.{option_map, option_and_then}
+use Rattle.std.specs.List.{zip}
+use Rattle.std.proofs.lemmas.List.{length-map}
+use Rattle.std.proofs.lemmas.Option.{slice_get-map}
 use Rattle.std.proofs.lemmas.Slice.Zip.{firsts-zip}
 use Rattle.bl_base.proofs.Lists.{all_get}
-use Rattle.bl_base.specs.Runs.{MemoryState}
 use Rattle.bl_base.specs.declared.names.Label.{Label}
-use Rattle.bl_base.specs.declared.names.ValueType.{ValueType}
-use Rattle.bl_wasm.specs.Linked.{IsLinked, IsFunction, IsMemory}
+use Rattle.bl_wasm.specs.Linked.{IsLinked, IsFunction}
 use Rattle.bl_wasm.specs.declared.linked.Function.{Function}
-use Rattle.bl_wasm.specs.declared.linked.Global.{Global}
-use Rattle.bl_wasm.specs.declared.linked.Memory.{Memory}
 use Rattle.bl_wasm.specs.declared.linked.Signature.{Signature}
 use Rattle.bl_wasm.specs.declared.linked.Tree.{Tree}
-use Rattle.bl_reduce.specs.Calls.{type_of}
-use Rattle.bl_cmd.specs.Layout.{sum_before, number_at, params_of, results_of, first_of, entry_of, statics as statics_of}
+use Rattle.bl_cmd.specs.Layout.{sum_before, params_of, results_of, first_of, entry_of, statics as statics_of}
 use Rattle.bl_cmd.specs.declared.definitions.FunctionDef.{FunctionDef}
-use Rattle.bl_lower.specs.Trees.{counts_of, counts, function_size, function_variables, total, shape, statics, global_def, memory_def, function_def, params_by, results_by, param_def, low_tree}
+use Rattle.bl_lower.specs.Trees.{counts_of, function_size, function_variables, total, shape, statics, global_def, memory_def, function_def, params_by, results_by, param_def, low_tree}
 
 pub map_map : {A B C : Type 0} (f : A → B) (g : B → C) (xs : List A) → map g (map f xs) ≡ map (λ x. g (f x)) xs
 map_map f g [] = refl

@@ -1,6 +1,6 @@
 -- The commands of a body in pieces: what each item becomes, and what opens and ends a construct. A loop's moves are a piece each,
 -- since a branch comes to its Jump.
-use Rattle.std.proofs.Common.{◌≡◌, ℕ, zero, suc, ◌+◌, ◌≤◌, ◌<◌, List, [], ◌∷◌, ◌++◌, length, take, drop, reverse, Bool, Option, Some, None, slice_get, refl, sym, ap, ap₂, ◌∙◌, subst, arith, length-append, append_assoc, ◌⊎◌, inl, inr}
+use Rattle.std.proofs.Common.{◌≡◌, ℕ, zero, suc, ◌+◌, ◌≤◌, ◌<◌, List, [], ◌∷◌, ◌++◌, length, take, drop, reverse, Option, Some, None, slice_get, refl, sym, ap, ap₂, ◌∙◌, subst, arith, length-append, append_assoc, ◌⊎◌, inl, inr}
 use Rattle.bl_wasm.specs.declared.types.BlockType.{BlockType}
 use Rattle.bl_cmd.specs.declared.command.Command.{Command}
 use Rattle.bl_access.specs.Templates.{shift, test_of, jump_to}
@@ -9,7 +9,6 @@ use Rattle.bl_lower.specs.Constructs.{reads, top, pad, moves, whole, again, part
 use Rattle.bl_lower.specs.Items.{after, template, leaving}
 use Rattle.bl_lower.specs.Low.{Body, done, step, leave, block, loop, choice, closed_size, Reached, on, off, next_in, closed, takes_of, size_in, low}
 use Rattle.bl_lower.proofs.Laid.{HasAt}
-use Rattle.bl_lower.proofs.Ways.{shift_is}
 
 -- ---- lists of pieces
 

@@ -18,7 +18,7 @@ use Rattle.bl_lower.proofs.Matching.{Holds, AllHold, Layout, IsStore, IsFrame, A
 use Rattle.bl_lower.specs.Constructs.{reads, moves, mark_of, Target}
 use Rattle.bl_lower.specs.Shapes.{Shape, result, bottom, result_reads}
 use Rattle.bl_lower.proofs.Frames.{floor_is_above, static_low, store_kept, frame_kept, callers_kept, Reaches, reaches_later}
-use Rattle.bl_lower.proofs.Items.{arrives}
+use Rattle.bl_lower.proofs.Stepping.{arrives}
 use Rattle.bl_lower.proofs.Leaving.{pad_is_take, zip_take, taken_length}
 use Rattle.bl_lower.proofs.States.{states_are}
 use Rattle.bl_lower.proofs.Ways.{Kept, at, does, Moved, moved, Value, holds_value, all_later, read_written, read_deeper, kept_written}

@@ -1,5 +1,5 @@
 -- Worked programs.
-use Rattle.std.proofs.Common.{◌≡◌, ℕ, zero, suc, List, [], ◌∷◌, ◌++◌, length, map, drop, replicate, true, false, Some, None, slice_get, refl}
+use Rattle.std.proofs.Common.{◌≡◌, ℕ, zero, suc, List, [], ◌∷◌, ◌++◌, length, map, drop, replicate, true, Some, None, slice_get, refl}
 use Rattle.bl_base.specs.declared.names.ValueType.TheVariants as value
 use Rattle.bl_ops.specs.declared.op.Op.TheVariants as op
 use Rattle.bl_wasm.specs.declared.instruction.Instr.{Instr}

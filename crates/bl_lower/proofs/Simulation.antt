@@ -25,7 +25,7 @@ use Rattle.bl_lower.proofs.Branching.{IsSmall, branch_reaches, branch_if_reaches
 use Rattle.bl_lower.proofs.Calling.{call_reaches, enter_reaches}
 use Rattle.bl_lower.proofs.Frames.{Then, knowing}
 use Rattle.bl_lower.proofs.Indirect.{indirect_reaches}
-use Rattle.bl_lower.proofs.Items.{pushes, get_reaches, global_get_reaches, local_set_reaches, local_tee_reaches, global_set_reaches, jumps_on, drop_reaches, select_reaches}
+use Rattle.bl_lower.proofs.Stepping.{pushes, get_reaches, global_get_reaches, local_set_reaches, local_tee_reaches, global_set_reaches, jumps_on, drop_reaches, select_reaches}
 use Rattle.bl_lower.proofs.Operating.{operate_reaches}
 use Rattle.bl_lower.proofs.Returning.{return_reaches}
 use Rattle.bl_lower.proofs.States.{states_are}

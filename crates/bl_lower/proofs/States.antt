@@ -31,16 +31,17 @@ made r space [] [] size from before long h sizes e = refl
 made r space [] (state ∷ those) size from before long h sizes e = absurd h
 made r space (memory ∷ memories) [] size from before long h sizes e = absurd h
 made r space (memory ∷ memories) (state ∷ those) size from before long h sizes e =
-    let zero_is : size ≡ size + 0 = omega arith in
-    let pages : r 0 size ≡ state.pages = ap (r 0) zero_is ∙ sizes 0 state refl in
-    let zeros = replicate (memory.reserve * 65536 - length state.bytes) 0 in
-    let rest = space_of memories those in
-    let bytes : take (r 0 size * 65536) (drop from space) ≡ state.bytes =
-    ap (λ s. take (r 0 size * 65536) (drop from s)) e ∙ ap (take (r 0 size * 65536)) (drop_front from before ((state.bytes ++ zeros) ++ rest) long ∙ append_assoc state.bytes zeros rest)
-    ∙ take_front (r 0 size * 65536) state.bytes (zeros ++ rest) (h.0.size ∙ ap (λ n. n * 65536) (sym pages)) in
     ap₂ (λ a b. a ∷ b) (same_state state (r 0 size) (take (r 0 size * 65536) (drop from space)) pages bytes)
     (made r space memories those (suc size) (from + memory.reserve * 65536) (before ++ padded memory state) (omega (arith, length-append before (padded memory state), padded_length memory state h.0, long)) h.1
-    (λ i other got. let next : suc size + i ≡ size + suc i = omega arith in ap (r 0) next ∙ sizes (suc i) other got) (e ∙ sym (append_assoc before (padded memory state) rest)))
+    (λ i other got. let next : suc size + i ≡ size + suc i = omega arith in ap (r 0) next ∙ sizes (suc i) other got) (e ∙ sym (append_assoc before (padded memory state) (space_of memories those))))
+  where
+    pages : r 0 size ≡ state.pages
+    pages = let zero_is : size ≡ size + 0 = omega arith in ap (r 0) zero_is ∙ sizes 0 state refl
+
+    bytes : take (r 0 size * 65536) (drop from space) ≡ state.bytes
+    bytes =
+        ap (λ s. take (r 0 size * 65536) (drop from s)) e ∙ ap (take (r 0 size * 65536)) (drop_front from before (padded memory state ++ space_of memories those) long ∙ append_assoc state.bytes (replicate (memory.reserve * 65536 - length state.bytes) 0) (space_of memories those))
+        ∙ take_front (r 0 size * 65536) state.bytes (replicate (memory.reserve * 65536 - length state.bytes) 0 ++ space_of memories those) (h.0.size ∙ ap (λ n. n * 65536) (sym pages))
 
 pub states_are : (program : Program) (s : Plain) (store : Store) → IsStore program s.registers s.space store → states program s ≡ store.memories
 states_are program s store h = made s.registers s.space program.memories store.memories program.sizes 0 [] refl h.within h.sizes h.space_is

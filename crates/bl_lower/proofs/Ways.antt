@@ -7,7 +7,7 @@ use Rattle.bl_base.specs.Runs.{Comes, goes}
 use Rattle.bl_ops.specs.declared.op.Op.{Op}
 use Rattle.bl_ops.specs.Numerics.{meaning}
 use Rattle.bl_ops.specs.declared.op.Op.TheVariants as op
-use Rattle.bl_access.specs.Templates.{variable, set_of, shift}
+use Rattle.bl_access.specs.Templates.{set_of, shift}
 use Rattle.bl_cmd.specs.Steps.{Registers, written, Plain, depth, on}
 use Rattle.bl_cmd.specs.declared.command.Command.{Command}
 use Rattle.bl_cmd.specs.declared.command.Operand.{Operand}
