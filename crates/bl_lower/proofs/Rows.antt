@@ -3,7 +3,7 @@ use Rattle.std.proofs.Common.{◌≡◌, ℕ, zero, suc, List, [], ◌∷◌, �
 use Rattle.bl_base.specs.declared.names.ValueType.TheVariants as value
 use Rattle.bl_ops.specs.declared.op.Op.TheVariants as op
 use Rattle.bl_wasm.specs.declared.instruction.Instr.{Instr}
-use Rattle.bl_wasm.specs.declared.instruction.Instr.TheVariants.{Loop, End, BrIf, LocalGet, LocalSet, LocalTee, Load, I32Const, Integer, Nop, If, Unreachable, Block, BrTable, Call, CallIndirect, Drop, MemoryGrow}
+use Rattle.bl_wasm.specs.declared.instruction.Instr.TheVariants.{Loop, End, BrIf, LocalGet, LocalSet, LocalTee, Load, I32Const, Integer, Nop, If, Unreachable, Block, Br, BrTable, Call, CallIndirect, Drop, MemoryGrow}
 use Rattle.bl_wasm.specs.declared.types.BlockType.TheVariants.{Empty, Index}
 use Rattle.bl_wasm.specs.declared.linked.Signature.{Signature}
 use Rattle.bl_wasm.specs.declared.linked.Tree.{Tree}
@@ -223,6 +223,23 @@ through_commands = refl
 
 through_demands : (low_tree through).demands ≡ demand.Result 2 0 ∷ []
 through_demands = refl
+
+-- an extension by sign: 12 commands
+extended : length (commands (one (i32 1) (LocalGet 0 ∷ Integer op.I32Extend8S ∷ []))) ≡ 12
+extended = refl
+
+-- a branch to a loop that swaps its two parameters, by way of the locals
+abbrev two : Signature
+two = record { params = value.I32 ∷ value.I32 ∷ []; results = value.I32 ∷ value.I32 ∷ [] }
+
+swapping_commands : drop 7 (commands (one two
+    (LocalGet 0 ∷ LocalGet 1 ∷ Loop (Index 0) ∷ LocalSet 1 ∷ LocalSet 0 ∷ LocalGet 1 ∷ LocalGet 0 ∷ Br 0 ∷ End ∷ [])))
+    ≡ jump_to 8 ∷ move 0 4 (variable 0) ∷ move 0 5 (variable 1)
+    ∷ move 0 6 (variable 4) ∷ move 0 7 (variable 5) ∷ jump_to 13
+    ∷ move 1 1 (variable 7) ∷ move 1 0 (variable 6) ∷ move 1 10 (variable 1) ∷ move 1 11 (variable 0)
+    ∷ move 1 6 (variable 10) ∷ move 1 7 (variable 11) ∷ jump_to 12
+    ∷ out_of 0 0 (variable 8) ∷ out_of 0 1 (variable 9) ∷ command.Ret ∷ []
+swapping_commands = refl
 
 -- ---- rows of a memory
 
