@@ -1,12 +1,12 @@
 //! The parts of a program that are copied from the linked tree.
 ghost use Rattle.std.specs.Prelude.{◌≡◌, ◌+◌, ◌*◌, ◌<◌, ◌≤◌, ◌^◌, ◌++◌, [], map, drop, take, length, IfOk, OnOk};
 ghost use Rattle.std.specs.List.{All, filter, range_with_len, zip};
-ghost use Rattle.bl_lower.specs.Trees.{demanded_from, demanded_results, export_def as export_of, global_def as global_of, is_filled as filled_of, memory_def as memory_of, param_def as param_of, row_at, rows_of};
+ghost use Rattle.bl_lower.specs.Trees.{demanded_from, demanded_results, export_def as export_of, function_def as function_of, function_size, function_variables, global_def as global_of, is_filled as filled_of, memory_def as memory_of, param_def as param_of, row_at, rows_of};
 ghost use Rattle.bl_cmd.specs.declared.definitions.Demand.TheVariants as demand;
 
 use bl_base::{Label, List, NoMemory, Text, ValueType};
-use bl_cmd::{Demand, ExportDef, GlobalDef, MemRow, MemoryDef, ParamDef};
-use bl_wasm::{Exports, Function, Memory};
+use bl_cmd::{Demand, ExportDef, FunctionDef, GlobalDef, MemRow, MemoryDef, ParamDef};
+use bl_wasm::{Exports, Function, Memory, Tree};
 use std::alloc::Global;
 
 /// A global as a program has it.
@@ -50,6 +50,51 @@ pub(crate) fn param_defs(
         })?;
     }
     Ok(all)
+}
+
+/// The types of values, copied.
+fn value_types(alloc: Global, kinds: &[ValueType]) -> Result<List<ValueType>, NoMemory>
+    ensures { IfOk result (λ all. all ≡ kinds.now) }
+{
+    let mut all = List::new(alloc);
+    for kind in kinds {
+        all.push(*kind)?;
+    }
+    Ok(all)
+}
+
+/// A function of the tree as a program has it, by the numbers of its variables and of its commands.
+pub(crate) fn function_def(
+    alloc: Global,
+    tree: &Tree,
+    function: &Function,
+    vars: u32,
+    length: u32,
+) -> Result<FunctionDef, NoMemory>
+    requires vars { vars ≡ function_variables tree.now function.now }
+    requires length { length ≡ function_size tree.now function.now }
+    ensures { IfOk result (λ one. one ≡ function_of tree.now function.now) }
+{
+    let Some(signature) = tree.types.as_slice().get(function.type_index as usize) else {
+        return Ok(FunctionDef {
+            params: List::new(alloc),
+            results: List::new(alloc),
+            vars,
+            length,
+        });
+    };
+    let params = param_defs(
+        alloc,
+        signature.params.as_slice(),
+        function.labels.as_slice(),
+    )?;
+    let results = value_types(alloc, signature.results.as_slice())?;
+    Ok(FunctionDef {
+        params,
+        results,
+        vars,
+        length,
+    })
 }
 
 /// The exports as a program has them.

@@ -1,4 +1,4 @@
-use Rattle.std.proofs.Common.{◌≡◌, sym, ◌∙◌}
+use Rattle.std.proofs.Common.{sym}
 use Rattle.bl_lower.proofs.Copying.{results_more}
 use Rattle.bl_lower.proofs.definitions.demands.Goals as goal
 

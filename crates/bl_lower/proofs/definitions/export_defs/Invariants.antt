@@ -1,4 +1,4 @@
-use Rattle.std.proofs.Common.{◌≡◌, ℕ, ◌+◌, ◌-◌, ◌*◌, ◌/◌, ◌≤◌, ◌++◌, [], map, drop, take, length}
+use Rattle.std.proofs.Common.{◌≡◌, ◌++◌, map, drop}
 use Rattle.bl_lower.specs.Trees.{export_def}
 use Rattle.bl_lower.proofs.definitions.export_defs.Given as goal
 

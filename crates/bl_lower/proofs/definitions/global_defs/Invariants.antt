@@ -1,4 +1,4 @@
-use Rattle.std.proofs.Common.{◌≡◌, ℕ, ◌+◌, ◌-◌, ◌*◌, ◌/◌, ◌≤◌, ◌++◌, [], map, drop, take, length}
+use Rattle.std.proofs.Common.{◌≡◌, map, take}
 use Rattle.bl_lower.specs.Trees.{global_def}
 use Rattle.bl_lower.proofs.definitions.global_defs.Given as goal
 

@@ -1,4 +1,4 @@
-use Rattle.std.proofs.Common.{◌≡◌, ℕ, ◌+◌, ◌-◌, ◌*◌, ◌/◌, ◌≤◌, ◌++◌, [], map, drop, take, length}
+use Rattle.std.proofs.Common.{◌≡◌, drop}
 use Rattle.bl_lower.specs.Trees.{is_filled}
 use Rattle.bl_lower.proofs.definitions.is_filled.Given as goal
 

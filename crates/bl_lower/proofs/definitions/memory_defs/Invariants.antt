@@ -1,4 +1,4 @@
-use Rattle.std.proofs.Common.{◌≡◌, ℕ, ◌+◌, ◌-◌, ◌*◌, ◌/◌, ◌≤◌, ◌++◌, [], map, drop, take, length}
+use Rattle.std.proofs.Common.{◌≡◌, map, take}
 use Rattle.bl_lower.specs.Trees.{memory_def}
 use Rattle.bl_lower.proofs.definitions.memory_defs.Given as goal
 

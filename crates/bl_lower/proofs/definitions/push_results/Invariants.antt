@@ -1,4 +1,4 @@
-use Rattle.std.proofs.Common.{◌≡◌, ℕ, ◌+◌, ◌-◌, ◌*◌, ◌/◌, ◌≤◌, ◌++◌, [], map, drop, take, length}
+use Rattle.std.proofs.Common.{◌≡◌, ◌++◌, drop}
 use Rattle.bl_lower.specs.Trees.{demanded_from}
 use Rattle.bl_cmd.specs.declared.definitions.Demand.TheVariants as demand
 use Rattle.bl_lower.proofs.definitions.push_results.Given as goal

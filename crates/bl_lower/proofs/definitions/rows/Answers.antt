@@ -1,4 +1,4 @@
-use Rattle.std.proofs.Common.{◌≡◌, ◌/◌, length, true, false, sym, ap, ◌∙◌, arith, rules}
+use Rattle.std.proofs.Common.{◌≡◌, ◌/◌, length, true, false, rules}
 use Rattle.bl_lower.specs.Trees.{is_filled, row_at}
 use Rattle.bl_lower.proofs.Copying.{filled_more, unfilled_more}
 use Rattle.bl_lower.proofs.definitions.rows.Goals as goal

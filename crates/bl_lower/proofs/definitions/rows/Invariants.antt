@@ -1,4 +1,4 @@
-use Rattle.std.proofs.Common.{◌≡◌, ℕ, ◌+◌, ◌-◌, ◌*◌, ◌/◌, ◌≤◌, ◌++◌, [], map, drop, take, length}
+use Rattle.std.proofs.Common.{◌≡◌, ◌-◌, ◌/◌, ◌++◌, map, length}
 use Rattle.bl_lower.specs.Trees.{is_filled, row_at, rows_of}
 use Rattle.std.specs.List.{filter, range_with_len}
 use Rattle.bl_lower.proofs.definitions.rows.Given as goal
