@@ -1,0 +1,217 @@
+-- The commands of a body in pieces: what each item becomes, and what opens and ends a construct. A loop's moves are a piece each,
+-- since a branch comes to its Jump.
+use Rattle.std.proofs.Common.{◌≡◌, ℕ, zero, suc, ◌+◌, ◌≤◌, ◌<◌, List, [], ◌∷◌, ◌++◌, length, take, drop, reverse, Option, Some, None, slice_get, refl, sym, ap, ap₂, ◌∙◌, subst, arith, length-append, append_assoc, ◌⊎◌, inl, inr}
+use Rattle.bl_wasm.specs.declared.types.BlockType.{BlockType}
+use Rattle.bl_cmd.specs.declared.command.Command.{Command}
+use Rattle.bl_access.specs.Templates.{shift, test_of, jump_to}
+use Rattle.bl_lower.specs.Shapes.{Counts, Shape}
+use Rattle.bl_lower.specs.Constructs.{reads, top, pad, moves, whole, again, part, Target, inside, as_whole, mark_of, Point, point, behind}
+use Rattle.bl_lower.specs.Items.{after, template, leaving}
+use Rattle.bl_lower.specs.Low.{Body, done, step, leave, block, loop, choice, closed_size, Reached, on, off, next_in, closed, takes_of, size_in, low}
+use Rattle.bl_lower.proofs.Laid.{HasAt}
+
+-- ---- lists of pieces
+
+abbrev pub all_of : List (List Command) → List Command
+all_of [] = []
+all_of (piece ∷ pieces) = piece ++ all_of pieces
+
+abbrev pub singles : List Command → List (List Command)
+singles [] = []
+singles (command ∷ commands) = (command ∷ []) ∷ singles commands
+
+all_append : (a b : List (List Command)) → all_of (a ++ b) ≡ all_of a ++ all_of b
+all_append [] b = refl
+all_append (piece ∷ a) b = ap (λ l. piece ++ l) (all_append a b) ∙ sym (append_assoc piece (all_of a) (all_of b))
+
+all_singles : (commands : List Command) → all_of (singles commands) ≡ commands
+all_singles [] = refl
+all_singles (command ∷ commands) = ap (λ l. command ∷ l) (all_singles commands)
+
+-- what holds of each piece at its position
+abbrev pub AllAt : (ℕ → List Command → Type 0) → ℕ → List (List Command) → Type 0
+AllAt P position [] = Unit {0}
+AllAt P position (piece ∷ pieces) = P position piece × AllAt P (position + length piece) pieces
+
+-- what holds of each command at its position
+abbrev pub EachAt : (ℕ → Command → Type 0) → ℕ → List Command → Type 0
+EachAt K position [] = Unit {0}
+EachAt K position (command ∷ commands) = K position command × EachAt K (suc position) commands
+
+module _ (P : ℕ → List Command → Type 0) where
+  pub all_at_front : (position : ℕ) (a b : List (List Command)) → AllAt P position (a ++ b) → AllAt P position a
+  all_at_front position [] b h = tt
+  all_at_front position (piece ∷ a) b h = (h.0, all_at_front (position + length piece) a b h.1)
+
+  pub all_at_back : (position to : ℕ) (a b : List (List Command)) → to ≡ position + length (all_of a) → AllAt P position (a ++ b) → AllAt P to b
+  all_at_back position to [] b e h = let same : position ≡ to = omega (arith, e) in subst (λ n. AllAt P n b) same h
+  all_at_back position to (piece ∷ a) b e h =
+      all_at_back (position + length piece) to a b (omega (arith, e, length-append piece (all_of a))) h.1
+
+  pub all_at_both : (position to : ℕ) (a b : List (List Command)) → to ≡ position + length (all_of a) → AllAt P position a → AllAt P to b → AllAt P position (a ++ b)
+  all_at_both position to [] b e h i = let same : to ≡ position = omega (arith, e) in subst (λ n. AllAt P n b) same i
+  all_at_both position to (piece ∷ a) b e h i =
+      (h.0, all_at_both (position + length piece) to a b (omega (arith, e, length-append piece (all_of a))) h.1 i)
+
+pub all_at_map : (P Q : ℕ → List Command → Type 0) → ((position : ℕ) (piece : List Command) → P position piece → Q position piece) → (position : ℕ) (pieces : List (List Command)) → AllAt P position pieces → AllAt Q position pieces
+all_at_map P Q f position [] h = tt
+all_at_map P Q f position (piece ∷ pieces) h = (f position piece h.0, all_at_map P Q f (position + length piece) pieces h.1)
+
+pub each_map : (K L : ℕ → Command → Type 0) → ((position : ℕ) (command : Command) → K position command → L position command) → (position : ℕ) (commands : List Command) → EachAt K position commands → EachAt L position commands
+each_map K L f position [] h = tt
+each_map K L f position (command ∷ commands) h = (f position command h.0, each_map K L f (suc position) commands h.1)
+
+pub each_both : (K : ℕ → Command → Type 0) (position to : ℕ) (a b : List Command) → to ≡ position + length a → EachAt K position a → EachAt K to b → EachAt K position (a ++ b)
+each_both K position to [] b e h i = let same : to ≡ position = omega (arith, e) in subst (λ n. EachAt K n b) same i
+each_both K position to (command ∷ a) b e h i = (h.0, each_both K (suc position) to a b (omega (arith, e)) h.1 i)
+
+-- the one at a place
+pub each_got : (K : ℕ → Command → Type 0) (code : List Command) (position place : ℕ) (commands : List Command) (command : Command) → EachAt K position commands → HasAt code position commands
+    → position ≤ place → place < position + length commands → slice_get code place ≡ Some command → K place command
+each_got K code position place [] command h has low high e = absurd (omega (arith, low, high))
+each_got K code position place (first ∷ commands) command h has low high e =
+    by_place (λ later. each_got K code (suc position) place commands command h.1 has.1 later (omega (arith, high)) e) (cases_le position place low)
+  where
+    cases_le : (m n : ℕ) → m ≤ n → (m ≡ n) ⊎ (suc m ≤ n)
+    cases_le zero zero le = inl refl
+    cases_le zero (suc n) le = inr (omega arith)
+    cases_le (suc m) zero le = absurd (omega (arith, le))
+    cases_le (suc m) (suc n) le = elim (cases_le m n (omega (arith, le))) [ inl e ↦ inl (ap suc e) | inr lt ↦ inr (omega (arith, lt)) ]
+
+    IsThat : Option Command → Type 0
+    IsThat None = ⊥
+    IsThat (Some other) = first ≡ other
+
+    by_place : (suc position ≤ place → K place command) → (position ≡ place) ⊎ (suc position ≤ place) → K place command
+    by_place rest (inl same) =
+        subst (λ n. K n command) same (subst (K position) (subst IsThat (sym has.0 ∙ ap (slice_get code) same ∙ e) refl) h.0)
+    by_place rest (inr later) = rest later
+
+-- ---- the pieces of a body
+
+-- the end of a construct or part, where it is reached
+abbrev pub closed_pieces : ℕ → Target → Reached → List (List Command)
+closed_pieces depth t (on p) = closed depth t (on p) ∷ []
+closed_pieces depth t (off next) = []
+
+closed_same : (depth : ℕ) (t : Target) (reached : Reached) → all_of (closed_pieces depth t reached) ≡ closed depth t reached
+closed_same depth t (on p) = append_nil (closed depth t (on p))
+  where
+    append_nil : (l : List Command) → l ++ [] ≡ l
+    append_nil [] = refl
+    append_nil (x ∷ l) = ap (λ r. x ∷ r) (append_nil l)
+closed_same depth t (off next) = refl
+
+module _ (blocks : BlockType → Counts) (shapes : ℕ → Shape) (number : ℕ) where
+  abbrev pub pieces : List Target → Body → Point → List (List Command)
+  pieces open_ones done p = []
+  pieces open_ones (leave item body) p = leaving shapes number open_ones item p ∷ []
+  pieces open_ones (step item body) p = template shapes number open_ones item p ∷ pieces open_ones body (after shapes number open_ones item p)
+  pieces open_ones (block r inner body) p =
+      let n = (blocks r).params in
+      let m = (blocks r).results in
+      let i = size_in blocks shapes number (m ∷ takes_of open_ones) inner in
+      let t = inside whole m (suc p.position + closed_size m i) (drop n p.stack) p.next in
+      let q = point (suc p.position) (take n p.stack) (p.next + m) in
+      let within = low blocks shapes number (t ∷ open_ones) inner q in
+      (jump_to (suc p.position) ∷ []) ∷ (pieces (t ∷ open_ones) inner q
+      ++ (closed_pieces (mark_of (t ∷ open_ones)) t within.reached ++ pieces open_ones body (behind t (next_in within.reached))))
+  pieces open_ones (loop r inner body) p =
+      let n = (blocks r).params in
+      let m = (blocks r).results in
+      let i = size_in blocks shapes number (n ∷ takes_of open_ones) inner in
+      let start = shift n p.position in
+      let t = inside (again start n p.next) m (suc start + closed_size m i) (drop n p.stack) (p.next + n) in
+      let q = point (suc start) (reverse (reads p.next n)) (p.next + n + m) in
+      let within = low blocks shapes number (t ∷ open_ones) inner q in
+      singles (moves (mark_of open_ones) p.next (reverse (pad n p.stack))) ++ ((jump_to (suc start) ∷ []) ∷ (pieces (t ∷ open_ones) inner q
+      ++ (closed_pieces (mark_of (t ∷ open_ones)) t within.reached ++ pieces open_ones body (behind t (next_in within.reached)))))
+  pieces open_ones (choice r first other second body) p =
+      let n = (blocks r).params in
+      let m = (blocks r).results in
+      let i = size_in blocks shapes number (m ∷ takes_of open_ones) first in
+      let j = size_in blocks shapes number (m ∷ takes_of open_ones) second in
+      let middle = suc p.position + closed_size m i in
+      let operands = take n (drop 1 p.stack) in
+      let t = inside (part middle operands) m (middle + closed_size m j) (drop n (drop 1 p.stack)) p.next in
+      let q = point (suc p.position) operands (p.next + m) in
+      let within = low blocks shapes number (t ∷ open_ones) first q in
+      let q' = point middle operands (next_in within.reached) in
+      let others = low blocks shapes number (as_whole t ∷ open_ones) second q' in
+      (test_of (top p.stack) (suc p.position) middle ∷ []) ∷ (pieces (t ∷ open_ones) first q ++ (closed_pieces (mark_of open_ones) t within.reached
+      ++ (pieces (as_whole t ∷ open_ones) second q' ++ (closed_pieces (mark_of open_ones) (as_whole t) others.reached
+      ++ pieces open_ones body (behind t (next_in others.reached))))))
+
+  abbrev Lows : List Target → Body → Point → List Command
+  Lows open_ones body p = (low blocks shapes number open_ones body p).commands
+
+  four : (a b c d : List Command) → a ++ (b ++ (c ++ d)) ≡ ((a ++ b) ++ c) ++ d
+  four a b c d = sym (append_assoc (a ++ b) c d ∙ append_assoc a b (c ++ d))
+
+  -- a construct with one part
+  around : (opening : List (List Command)) (code : List Command) (inner ends body : List (List Command)) (a b c : List Command) → all_of opening ≡ code → all_of inner ≡ a → all_of ends ≡ b → all_of body ≡ c
+      → all_of (opening ++ (inner ++ (ends ++ body))) ≡ ((code ++ a) ++ b) ++ c
+  around opening code inner ends body a b c o e f g =
+      all_append opening (inner ++ (ends ++ body)) ∙ ap (λ l. all_of opening ++ l) (all_append inner (ends ++ body) ∙ ap (λ l. all_of inner ++ l) (all_append ends body))
+      ∙ ap₂ (λ w x. w ++ (all_of inner ++ x)) o (ap₂ (λ y z. y ++ z) f g) ∙ ap (λ x. code ++ (x ++ (b ++ c))) e ∙ four code a b c
+
+  -- one after another they are the commands
+  pub whole_is : (open_ones : List Target) (body : Body) (p : Point) → all_of (pieces open_ones body p) ≡ Lows open_ones body p
+  whole_is open_ones done p = refl
+  whole_is open_ones (leave item body) p = append_nil (leaving shapes number open_ones item p)
+    where
+      append_nil : (l : List Command) → l ++ [] ≡ l
+      append_nil [] = refl
+      append_nil (x ∷ l) = ap (λ r. x ∷ r) (append_nil l)
+  whole_is open_ones (step item body) p = ap (λ l. template shapes number open_ones item p ++ l) (whole_is open_ones body (after shapes number open_ones item p))
+  whole_is open_ones (block r inner body) p =
+      let n = (blocks r).params in
+      let m = (blocks r).results in
+      let i = size_in blocks shapes number (m ∷ takes_of open_ones) inner in
+      let t = inside whole m (suc p.position + closed_size m i) (drop n p.stack) p.next in
+      let q = point (suc p.position) (take n p.stack) (p.next + m) in
+      let within = low blocks shapes number (t ∷ open_ones) inner q in
+      let later = behind t (next_in within.reached) in
+      around ((jump_to (suc p.position) ∷ []) ∷ []) (jump_to (suc p.position) ∷ []) (pieces (t ∷ open_ones) inner q) (closed_pieces (mark_of (t ∷ open_ones)) t within.reached) (pieces open_ones body later)
+      within.commands (closed (mark_of (t ∷ open_ones)) t within.reached) (Lows open_ones body later) refl (whole_is (t ∷ open_ones) inner q) (closed_same (mark_of (t ∷ open_ones)) t within.reached) (whole_is open_ones body later)
+  whole_is open_ones (loop r inner body) p =
+      let n = (blocks r).params in
+      let m = (blocks r).results in
+      let i = size_in blocks shapes number (n ∷ takes_of open_ones) inner in
+      let start = shift n p.position in
+      let t = inside (again start n p.next) m (suc start + closed_size m i) (drop n p.stack) (p.next + n) in
+      let q = point (suc start) (reverse (reads p.next n)) (p.next + n + m) in
+      let within = low blocks shapes number (t ∷ open_ones) inner q in
+      let later = behind t (next_in within.reached) in
+      let ms = moves (mark_of open_ones) p.next (reverse (pad n p.stack)) in
+      let rest = pieces (t ∷ open_ones) inner q ++ (closed_pieces (mark_of (t ∷ open_ones)) t within.reached ++ pieces open_ones body later) in
+      ap all_of (sym (append_assoc (singles ms) ((jump_to (suc start) ∷ []) ∷ []) rest))
+      ∙ around (singles ms ++ (jump_to (suc start) ∷ []) ∷ []) (ms ++ jump_to (suc start) ∷ []) (pieces (t ∷ open_ones) inner q) (closed_pieces (mark_of (t ∷ open_ones)) t within.reached) (pieces open_ones body later)
+      within.commands (closed (mark_of (t ∷ open_ones)) t within.reached) (Lows open_ones body later)
+      (all_append (singles ms) ((jump_to (suc start) ∷ []) ∷ []) ∙ ap (λ l. l ++ jump_to (suc start) ∷ []) (all_singles ms))
+      (whole_is (t ∷ open_ones) inner q) (closed_same (mark_of (t ∷ open_ones)) t within.reached) (whole_is open_ones body later)
+  whole_is open_ones (choice r first other second body) p =
+      let n = (blocks r).params in
+      let m = (blocks r).results in
+      let i = size_in blocks shapes number (m ∷ takes_of open_ones) first in
+      let j = size_in blocks shapes number (m ∷ takes_of open_ones) second in
+      let middle = suc p.position + closed_size m i in
+      let operands = take n (drop 1 p.stack) in
+      let t = inside (part middle operands) m (middle + closed_size m j) (drop n (drop 1 p.stack)) p.next in
+      let q = point (suc p.position) operands (p.next + m) in
+      let within = low blocks shapes number (t ∷ open_ones) first q in
+      let q' = point middle operands (next_in within.reached) in
+      let others = low blocks shapes number (as_whole t ∷ open_ones) second q' in
+      let later = behind t (next_in others.reached) in
+      let test = test_of (top p.stack) (suc p.position) middle ∷ [] in
+      let ends = closed (mark_of open_ones) t within.reached in
+      let second_ends = closed (mark_of open_ones) (as_whole t) others.reached in
+      let back = pieces (as_whole t ∷ open_ones) second q' ++ (closed_pieces (mark_of open_ones) (as_whole t) others.reached ++ pieces open_ones body later) in
+      around (test ∷ []) test (pieces (t ∷ open_ones) first q) (closed_pieces (mark_of open_ones) t within.reached) back within.commands ends (others.commands ++ (second_ends ++ Lows open_ones body later)) refl
+      (whole_is (t ∷ open_ones) first q) (closed_same (mark_of open_ones) t within.reached)
+      (all_append (pieces (as_whole t ∷ open_ones) second q') (closed_pieces (mark_of open_ones) (as_whole t) others.reached ++ pieces open_ones body later)
+      ∙ ap₂ (λ x y. x ++ y) (whole_is (as_whole t ∷ open_ones) second q')
+      (all_append (closed_pieces (mark_of open_ones) (as_whole t) others.reached) (pieces open_ones body later)
+      ∙ ap₂ (λ x y. x ++ y) (closed_same (mark_of open_ones) (as_whole t) others.reached) (whole_is open_ones body later)))
+      ∙ ap (λ l. ((test ++ within.commands) ++ ends) ++ l) (sym (append_assoc others.commands second_ends (Lows open_ones body later)))
+      ∙ sym (append_assoc ((test ++ within.commands) ++ ends) (others.commands ++ second_ends) (Lows open_ones body later))

@@ -1,0 +1,6 @@
+pub mod Constructs
+pub mod Items
+pub mod Low
+pub mod Nest
+pub mod Shapes
+pub mod Trees
