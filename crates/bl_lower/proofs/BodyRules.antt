@@ -26,7 +26,6 @@ use Rattle.bl_lower.proofs.Ranged.{AllRanged, ranged_later, ranged_tail, ranged_
 use Rattle.bl_lower.proofs.Sizes.{padded_length, branch_length, label_length, template_length, after_position, leaving_length}
 use Rattle.bl_lower.proofs.Sound.{Sound}
 use Rattle.bl_lower.proofs.Ways.{shift_is}
-
 use Rattle.bl_lower.specs.Constructs.{whole, again, part, inside, as_whole, behind}
 use Rattle.bl_lower.specs.Low.{calls_of, Body, done, step, leave, block, loop, choice, Extent, closed_size, closing, off, next_in, size_in, low, left_to}
 use Rattle.bl_lower.proofs.Goods.{moved_simple}
@@ -221,8 +220,7 @@ module _ (tree : Tree) (linked : IsLinked tree) (number : ℕ) (B : ℕ → Type
       let one : position + 1 ≡ suc position = omega arith in
       let there : position + suc (length operands) ≡ position + 1 + length operands = omega arith in
       let rest = singles_good depth (position + 1) (suc first) next operands small h.1 (subst B there ends) le ranged.1 (λ x above below. writes x (omega (arith, above)) (omega (arith, below))) in
-      let next_begins = starts (position + 1) (singles (moves depth (suc first) operands)) h.1 (subst B (there ∙ ap (λ n. position + 1 + n) (sym (singles_length depth (suc first) operands))) ends) in
-      (
+      let next_begins = starts (position + 1) (singles (moves depth (suc first) operands)) h.1 (subst B (there ∙ ap (λ n. position + 1 + n) (sym (singles_length depth (suc first) operands))) ends) in (
         move_good tree linked number B function exists is position depth first a small (readable tree linked number B next a le ranged.0) (writes first (omega arith) (omega arith)) (subst B one next_begins),
         rest,
       )
@@ -246,8 +244,7 @@ module _ (tree : Tree) (linked : IsLinked tree) (number : ℕ) (B : ℕ → Type
       = ap (λ n. p.position + n) (template_length (blocks tree) (shape tree) number open_ones item p) ∙ sym (after_position (blocks tree) (shape tree) number open_ones item p) in
       let next = after_next (blocks tree) (shape tree) number open_ones item p in
       let later = subst (λ n. AllAt Begins n (Pieces open_ones body q)) there h.1 in
-      let rest = bodies body open_ones q sound.1 ready (ranged_after item open_ones p low ranged) (omega (arith, low, next)) (omega (arith, next, room)) later ends in
-      (
+      let rest = bodies body open_ones q sound.1 ready (ranged_after item open_ones p low ranged) (omega (arith, low, next)) (omega (arith, next, room)) later ends in (
         (
           template_good tree linked number B function exists is item open_ones p sound.0 ready ranged low (omega (arith, room)) (omega (arith, next, room)) (begins open_ones body q later ends),
           subst (λ n. AllAt GoodAt n (Pieces open_ones body q)) (sym there) rest.0,
@@ -282,8 +279,7 @@ module _ (tree : Tree) (linked : IsLinked tree) (number : ℕ) (B : ℕ → Type
       let below = ranged_tail (bottom Mine) n p.next p.stack ranged in
       let stack = ranged_reads (bottom Mine) (next_in w) m p.next (drop n p.stack) low (omega (arith, s.new)) (ranged_later (bottom Mine) p.next (next_in w) (drop n p.stack) (omega (arith, s.new)) below) in
       let rest = bodies body open_ones u sound.1 ready stack (omega (arith, low, s.new)) (omega (arith, s.new, room)) r_begins ends in
-      let c_good = closed_goods depth t w e q.position (mark_small (t ∷ open_ones)) s.reached i.1 (omega (arith, s.new, room)) t_ready in
-      (
+      let c_good = closed_goods depth t w e q.position (mark_small (t ∷ open_ones)) s.reached i.1 (omega (arith, s.new, room)) t_ready in (
         (
           one_good tree linked number B function exists is p.position (jump_to (suc p.position)) (jump_simple tree linked number B p.position 1 p.position (suc p.position) (inr (inl (begins (t ∷ open_ones) inner q i_begins i_ends)))),
           subst (λ k. AllAt GoodAt k (i_pieces ++ (c_pieces ++ r_pieces))) (sym one)
@@ -331,15 +327,13 @@ module _ (tree : Tree) (linked : IsLinked tree) (number : ℕ) (B : ℕ → Type
       let rest = bodies body open_ones u sound.1 ready stack (omega (arith, low, s.new)) (omega (arith, s.new, room)) r_begins ends in
       let c_good = closed_goods depth t w e q.position (mark_small (t ∷ open_ones)) s.reached i.1 (omega (arith, s.new, room)) t_ready in
       let m_good = singles_good (mark_of open_ones) p.position p.next p.next ops (mark_small open_ones) m_begins (let same : start ≡ p.position + length ops = omega (arith, there, ops_long) in subst B same from_jump.0) (omega (arith, room))
-      (ranged_pad (bottom Mine) p.next n p.stack ranged) (λ x above under. inl (new_local tree linked number B x (omega (arith, low, above)) (omega (arith, under, ops_long, room)))) in
-      (
-        all_at_both GoodAt p.position start ms (jump ∷ (i_pieces ++ (c_pieces ++ r_pieces))) (omega (arith, ms_long, there)) m_good
-            (
-              one_good tree linked number B function exists is start (jump_to (suc start)) (jump_simple tree linked number B start 1 start (suc start) (inr (inl (begins (t ∷ open_ones) inner q i_begins i_ends)))),
-              subst (λ k. AllAt GoodAt k (i_pieces ++ (c_pieces ++ r_pieces))) (sym one)
-                  (all_at_both GoodAt q.position (q.position + e.size) i_pieces (c_pieces ++ r_pieces) (omega (arith, i_long)) i.0
-                  (all_at_both GoodAt (q.position + e.size) u.position c_pieces r_pieces (omega (arith, c_long)) c_good rest.0)),
-            ),
+      (ranged_pad (bottom Mine) p.next n p.stack ranged) (λ x above under. inl (new_local tree linked number B x (omega (arith, low, above)) (omega (arith, under, ops_long, room)))) in (
+        all_at_both GoodAt p.position start ms (jump ∷ (i_pieces ++ (c_pieces ++ r_pieces))) (omega (arith, ms_long, there)) m_good (
+          one_good tree linked number B function exists is start (jump_to (suc start)) (jump_simple tree linked number B start 1 start (suc start) (inr (inl (begins (t ∷ open_ones) inner q i_begins i_ends)))),
+          subst (λ k. AllAt GoodAt k (i_pieces ++ (c_pieces ++ r_pieces))) (sym one)
+              (all_at_both GoodAt q.position (q.position + e.size) i_pieces (c_pieces ++ r_pieces) (omega (arith, i_long)) i.0
+              (all_at_both GoodAt (q.position + e.size) u.position c_pieces r_pieces (omega (arith, c_long)) c_good rest.0)),
+        ),
         rest.1,
       )
   bodies (choice r first other second body) open_ones p sound ready ranged low room h ends =
@@ -393,8 +387,7 @@ module _ (tree : Tree) (linked : IsLinked tree) (number : ℕ) (B : ℕ → Type
       let left = ranged_reads (bottom Mine) (next_in v) m p.next (drop n stack) low (omega (arith, s.new, s'.new)) (ranged_later (bottom Mine) p.next (next_in v) (drop n stack) (omega (arith, s.new, s'.new)) below) in
       let rest = bodies body open_ones u sound.2 ready left (omega (arith, low, s.new, s'.new)) (omega (arith, s.new, s'.new, room)) r_begins ends in
       let c_good = closed_goods depth t w e q.position (mark_small open_ones) s.reached i.1 (omega (arith, s.new, room)) t_ready in
-      let d_good = closed_goods depth t' v f middle (mark_small open_ones) s'.reached j.1 (omega (arith, s.new, s'.new, room)) t_ready' in
-      (
+      let d_good = closed_goods depth t' v f middle (mark_small open_ones) s'.reached j.1 (omega (arith, s.new, s'.new, room)) t_ready' in (
         (
           one_good tree linked number B function exists is p.position (test_of (top p.stack) (suc p.position) middle)
               (test_simple tree linked number B p.position 1 p.position (top p.stack) (suc p.position) middle (readable tree linked number B p.next (top p.stack) (omega (arith, room)) (ranged_top (bottom Mine) p.next p.stack ranged))

@@ -160,8 +160,7 @@ module _ (tree : Tree) (linked : IsLinked tree) (number : ℕ) (function : Funct
       let long = padded_length Mine.results q.stack in
       let n = length (outs 0 0 ops) in
       let all = outs_length 0 0 ops in
-      let some : 1 ≤ n = omega (arith, all) in
-      (
+      let some : 1 ≤ n = omega (arith, all) in (
         subst (λ k. GoodAt k (outs 0 0 ops)) reaches.1
             (simple_good tree linked number B q.position (outs 0 0 ops) some
             (outs_simple tree linked number B q.position n (q.position + n - 1) (within tree linked number B function exists is q.position n some) q.position 0 0 ops (omega arith) (omega arith) (omega (arith, all)) (omega (arith, long))

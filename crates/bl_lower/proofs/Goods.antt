@@ -161,9 +161,11 @@ module _ (tree : Tree) (linked : IsLinked tree) (number : ℕ) (B : ℕ → Type
     chain_simple position depth x number_ last index (arm ∷ those) small low high above most reads into ends = (
       set_simple tree linked number B start size position depth op.I32Eq x index (Const number_) (Const 0) small (two_padded tree linked number B start size op.I32Eq (Const number_) refl) reads
           (reads_const tree linked number B number_) (reads_const tree linked number B 0) (inl (new_local tree linked number B x above (omega (arith, most)))) (goes (suc position) (omega (arith, low)) (omega (arith, high))),
-      (test_simple tree linked number B start size (suc position) (variable x) arm (missed those last (suc (suc position))) (reads_own tree linked number B x (omega (arith, above)) (omega (arith, most))) into.0
-          (otherwise those (omega (arith, high))),
-      chain_simple (suc (suc position)) depth (suc x) (suc number_) last index those small (omega (arith, low)) (omega (arith, high)) (omega (arith, above)) (omega (arith, most)) reads into.1 (λ some. ends (omega arith))),
+      (
+        test_simple tree linked number B start size (suc position) (variable x) arm (missed those last (suc (suc position))) (reads_own tree linked number B x (omega (arith, above)) (omega (arith, most))) into.0
+            (otherwise those (omega (arith, high))),
+        chain_simple (suc (suc position)) depth (suc x) (suc number_) last index those small (omega (arith, low)) (omega (arith, high)) (omega (arith, above)) (omega (arith, most)) reads into.1 (λ some. ends (omega arith)),
+      ),
     )
       where
         otherwise : (those : List ℕ) → position + 2 * suc (length those) ≤ suc stop → Into (missed those last (suc (suc position)))

@@ -19,7 +19,6 @@ use Rattle.bl_lower.proofs.Laid.{HasAt}
 use Rattle.bl_lower.proofs.Lawful.{no_size}
 use Rattle.bl_lower.proofs.Parts.{entry_is}
 use Rattle.bl_lower.proofs.Pieces.{EachAt}
-
 use Rattle.bl_lower.proofs.Goods.{Quiet}
 use Rattle.bl_lower.proofs.Rules.{entry, those, Begin, Place, place_at, there, holds_of, inside_only, access_stays}
 
@@ -213,8 +212,8 @@ module _ (tree : Tree) (linked : IsLinked tree) (facts : IsProgram (low_tree tre
               (λ m lt e. absurd (no_size_of (suc (suc g.next)) g.own_v m lt e)),
               (
                 (λ m lt e.
-                let same : g.memory ≡ m = omega (arith, e, g.size_is) in
-                (record { sum = refl; from_size = ap (λ s. variable s) e; no_third = refl }, growing m same)),
+                    let same : g.memory ≡ m = omega (arith, e, g.size_is) in
+                    (record { sum = refl; from_size = ap (λ s. variable s) e; no_third = refl }, growing m same)),
                 (tt, ((λ m lt e. absurd (no_size_of (suc (suc g.next)) g.own_v m lt e)), tt)),
               ),
             ),

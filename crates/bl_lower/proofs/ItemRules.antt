@@ -28,7 +28,6 @@ use Rattle.bl_lower.proofs.Ranged.{Ranged, AllRanged, ranged_tail, ranged_top, r
 use Rattle.bl_lower.proofs.Sizes.{slot_head_length, template_length, after_position, checks_length}
 use Rattle.bl_lower.proofs.Sound.{Sound}
 use Rattle.bl_lower.proofs.Ways.{shift_is}
-
 use Rattle.bl_lower.proofs.Templates.{row_padded, check_fits, arms_exist, spans, local_own, local_read, functions_number, globals_number, size_static, checks_simple, called_simple, hits_into, slots_simple, one_good, move_good, load_good, store_good, grow_good}
 
 append_nil : (l : List Command) → l ++ [] ≡ l
@@ -62,9 +61,11 @@ module _ (tree : Tree) (linked : IsLinked tree) (number : ℕ) (B : ℕ → Type
   operates o row depth p e small ranged low room ends =
       simple_good tree linked number B p.position (cs ++ set_ ∷ []) (omega (arith, long))
       (each_both (Simple tree linked number B p.position n) p.position (p.position + k) cs (set_ ∷ []) (omega (arith, checks_long))
-      (checks_simple tree linked number B function exists is p.position n (p.position + n) goes (check_of o) p.position depth p.next a b (check_fits o) small low (omega (arith, room, new_there)) ra rb (omega arith) (omega (arith, long)))
-      (set_simple tree linked number B p.position n (p.position + k) depth o x a b (Const 0) small (row_padded o row p.stack e) ra rb (reads_const tree linked number B 0)
-      (new x (omega (arith, low, new_there)) (omega (arith, room))) (goes (suc (p.position + k)) (omega arith) (omega (arith, long))), tt))
+      (checks_simple tree linked number B function exists is p.position n (p.position + n) goes (check_of o) p.position depth p.next a b (check_fits o) small low (omega (arith, room, new_there)) ra rb (omega arith) (omega (arith, long))) (
+        set_simple tree linked number B p.position n (p.position + k) depth o x a b (Const 0) small (row_padded o row p.stack e) ra rb (reads_const tree linked number B 0)
+            (new x (omega (arith, low, new_there)) (omega (arith, room))) (goes (suc (p.position + k)) (omega arith) (omega (arith, long))),
+        tt,
+      ))
     where
       a : Operand
       a = left (count_of (row_of o)) p.stack
@@ -165,8 +166,7 @@ module _ (tree : Tree) (linked : IsLinked tree) (number : ℕ) (B : ℕ → Type
       let one = to_label (shape tree) number open_ones (drop 1 p.stack) l in
       let n = suc (length one) in
       let goes = spans tree linked number B function exists is p.position n (ends_there open_ones (BrIf l) p ends) in
-      simple_good tree linked number B p.position (Template open_ones (BrIf l) p) (omega arith)
-      (
+      simple_good tree linked number B p.position (Template open_ones (BrIf l) p) (omega arith) (
         test_simple tree linked number B p.position n p.position (top p.stack) (suc p.position) (after (shape tree) number open_ones (BrIf l) p).position (reads_stack p.next (top p.stack) le (ranged_top (bottom Mine) p.next p.stack ranged))
             (goes (suc p.position) (omega arith) (omega arith)) (inr (inl ends)),
         branched_simple tree linked number B p.position n (p.position + n) goes (suc p.position) (mark_of open_ones) p.next (slice_get open_ones l) (drop 1 p.stack) (mark_small open_ones) (omega arith) (omega arith) le

@@ -247,8 +247,7 @@ module _ (tree : Tree) (linked : IsLinked tree) (number : ℕ) (B : ℕ → Type
         let many = reads_length (shape tree f) 0 (shape tree f).results in
         let there = position + (shape tree f).params in
         each_both (Simple tree linked number B start size) position there (args depth f 0 ops) (command.Call f ∷ (moves depth first back ++ rest)) (omega (arith, args_length depth f 0 ops, long))
-        (args_simple tree linked number B start size stop goes position depth f 0 ops small low (omega (arith, high, long)) lt (omega (arith, long)) (readables tree linked number B next ops le (ranged_pad (bottom Mine) next (shape tree f).params stack ranged)))
-        (
+        (args_simple tree linked number B start size stop goes position depth f 0 ops small low (omega (arith, high, long)) lt (omega (arith, long)) (readables tree linked number B next ops le (ranged_pad (bottom Mine) next (shape tree f).params stack ranged))) (
           call_simple tree linked number B start size there f lt (goes (suc there) (omega (arith, low)) (omega (arith, high))),
           each_both (Simple tree linked number B start size) (suc there) (there + suc (shape tree f).results) (moves depth first back) rest (omega (arith, moves_length depth first back, many))
               (moves_simple tree linked number B start size stop goes (suc there) depth first back small (omega (arith, low)) (omega (arith, high, many)) (λ x a b. new_local tree linked number B x (omega (arith, above, a)) (omega (arith, most, b, many)))

@@ -171,10 +171,7 @@ fn memory_def(alloc: Global, memory: &Memory) -> Result<MemoryDef, NoMemory>
 }
 
 /// The memories as a program has them.
-pub(crate) fn memory_defs(
-    alloc: Global,
-    memories: &[Memory],
-) -> Result<List<MemoryDef>, NoMemory>
+pub(crate) fn memory_defs(alloc: Global, memories: &[Memory]) -> Result<List<MemoryDef>, NoMemory>
     requires { All (λ memory. length memory.bytes < 2 ^ 32) memories.now }
     ensures { IfOk result (λ all. all ≡ map memory_of memories.now) }
 {
@@ -211,7 +208,11 @@ pub(crate) fn demands(
 {
     let mut all = List::new(alloc);
     for number in 0..functions.len() as u32 {
-        push_results(&mut all, number, functions[number as usize].demanded.as_slice())?;
+        push_results(
+            &mut all,
+            number,
+            functions[number as usize].demanded.as_slice(),
+        )?;
     }
     for number in 0..globals.len() as u32 {
         if globals[number as usize].demanded {
