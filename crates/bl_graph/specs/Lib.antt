@@ -1,0 +1,4 @@
+pub mod Certificates
+pub mod Chains
+pub mod Graphs
+pub mod Ranges

@@ -1,0 +1,2 @@
+pub mod Transient
+pub mod Verdicts

@@ -1,0 +1,6 @@
+//! Which variables may hold what comes of a guess, where a set of sites is protected.
+#![tactic(auto)]
+
+mod transient;
+
+pub use transient::FlowVerdict;
