@@ -1,0 +1,4 @@
+pub mod Chaining
+pub mod Counting
+pub mod Members
+pub mod Ranging
