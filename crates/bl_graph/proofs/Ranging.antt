@@ -134,7 +134,7 @@ module _ (program : Program) (facts : IsProgram program) (rules : IsWellFormed p
   writable_small function x (inl low) = let up : statics program ≤ variables program = omega arith in omega arith
   writable_small function x (inr local) = any_own function x local.0
 
-  param_small : (callee index : ℕ) → callee < length program.functions → index < params_of program callee → param program callee index < variables program
+  pub param_small : (callee index : ℕ) → callee < length program.functions → index < params_of program callee → param program callee index < variables program
   param_small callee index exists low =
       let got = within_get program.functions callee exists in
       let params : params_of program callee ≡ length got.0.params = number_is (λ (f : FunctionDef). length f.params) program.functions callee got.0 got.1 in
@@ -143,7 +143,7 @@ module _ (program : Program) (facts : IsProgram program) (rules : IsWellFormed p
       let up = first_below program (suc callee) (omega arith) in
       omega arith
 
-  result_small : (function index : ℕ) → index < results_of program function → result program function index < variables program
+  pub result_small : (function index : ℕ) → index < results_of program function → result program function index < variables program
   result_small function index low = any_own function (result program function index) (result_own program function (result program function index) rules.rule2 (omega arith, omega arith))
 
   written_small : (s function x : ℕ) (command : Command) → Holds program function s → Rule4 program function command → Rule6 program function command → written_by program s command ≡ Some x → x < variables program

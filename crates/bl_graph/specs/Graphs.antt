@@ -3,8 +3,8 @@ use Rattle.std.specs.Prelude.{◌≡◌, ◌⊎◌, ◌<◌, ◌↔◌, ℕ, Lis
 use Rattle.std.specs.List.{AllPairs, Contains}
 use Rattle.bl_cmd.specs.Sites.{IsLoad, Writes, Reads, SinkReads}
 use Rattle.bl_cmd.specs.declared.definitions.ProgramParts.{ProgramParts as Program}
-use Rattle.bl_graph.specs.declared.graph.Use.{Use}
-use Rattle.bl_graph.specs.declared.graph.Graph.{Graph}
+use Rattle.bl_graph.specs.declared.facts.Use.{Use}
+use Rattle.bl_graph.specs.declared.facts.Graph.{Graph}
 
 -- a position and a variable
 abbrev pub use_of : ℕ → ℕ → Use

@@ -3,7 +3,13 @@
 #![tactic(auto)]
 
 mod certificate;
-mod graph;
+mod facts;
+pub mod laws;
+mod listing;
+mod reads;
+mod writes;
 
 pub use certificate::{Certificate, FlowPath};
-pub use graph::{Graph, Read, SinkUse, Use, Write};
+pub use facts::{Graph, Read, SinkUse, Use, Write};
+pub use listing::graph;
+pub use writes::variables;

@@ -1,4 +1,4 @@
-//! Where a program's values come from and go to.
+//! What programs write and read.
 use bl_base::{List, Pos, Var};
 
 /// A command and a variable.
