@@ -1,6 +1,7 @@
 //! Which variables may hold what comes of a guess, where a set of sites is protected.
 #![tactic(auto)]
 
+pub mod laws;
 mod transient;
 
 pub use transient::FlowVerdict;
