@@ -1,3 +1,5 @@
+pub mod Choosing
 pub mod Cutting
 pub mod Hot
+pub mod Marking
 pub mod Walks
