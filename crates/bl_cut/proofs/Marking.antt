@@ -56,3 +56,18 @@ performs_any set b program (Some command) s = performs set b program command s
 
 pub steps_same : (set : ℕ → Bool) (program : Program) (s : Plain) → plain_step (protected set program) s ≡ plain_step program s
 steps_same set program s = ap (λ o. perform (protected set program) o s) (command_is set program s.position) ∙ performs_any set (set s.position) program (command_at program s.position) s
+
+-- protects change no plain run
+pub run_same : (set : ℕ → Bool) (program : Program) (function : ℕ) (start : Rattle.bl_base.specs.declared.start.Start.Start) (steps : ℕ) (outcome : Rattle.bl_base.specs.Runs.Outcome)
+    → plain (protected set program) function start steps outcome → plain program function start steps outcome
+run_same set program function start steps outcome run = record {
+  start_fits = record { defined = run.start_fits.defined; exists = run.start_fits.exists; fits = run.start_fits.fits };
+  run = subst (λ step. EndsAfter step steps (opening program function start) outcome) (λ i s. steps_same set program s i) run.run;
+}
+
+pub run_back : (set : ℕ → Bool) (program : Program) (function : ℕ) (start : Rattle.bl_base.specs.declared.start.Start.Start) (steps : ℕ) (outcome : Rattle.bl_base.specs.Runs.Outcome)
+    → plain program function start steps outcome → plain (protected set program) function start steps outcome
+run_back set program function start steps outcome run = record {
+  start_fits = record { defined = run.start_fits.defined; exists = run.start_fits.exists; fits = run.start_fits.fits };
+  run = subst (λ step. EndsAfter step steps (opening program function start) outcome) (sym (λ i s. steps_same set program s i)) run.run;
+}
