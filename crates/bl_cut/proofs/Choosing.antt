@@ -25,7 +25,7 @@ use Rattle.bl_cut.specs.Choices.{IsMaxFlow, KnowsSinks, sites_in, positions, las
 use Rattle.bl_cut.specs.Least.{Least}
 use Rattle.bl_cut.specs.Network.{IsNetwork}
 use Rattle.bl_cut.proofs.Cutting.{cut_weighs, passing_cut, cut_sites, cut_passes}
-use Rattle.bl_cut.proofs.Walks.{near_trans, near_var, walk_chain}
+use Rattle.bl_cut.proofs.Walking.{near_trans, near_var, walk_chain}
 
 pub last_at : (xs : List ℕ) (e : ℕ) → slice_index (xs ++ e ∷ []) (length xs) ≡ e
 last_at [] e = refl

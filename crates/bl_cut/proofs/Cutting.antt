@@ -22,7 +22,7 @@ use Rattle.bl_transient.proofs.Typings.{passes_if}
 use Rattle.bl_cut.specs.Choices.{sites_in}
 use Rattle.bl_cut.specs.Network.{ArcKind, write, read, IsNetwork}
 use Rattle.bl_cut.proofs.Hot.{no_var}
-use Rattle.bl_cut.proofs.Walks.{walk_chain, near_trans, filtered_in}
+use Rattle.bl_cut.proofs.Walking.{walk_chain, near_trans, filtered_in}
 
 module _ (program : Program) (is : AreInRange program) (n : Network) (net : IsNetwork program n) where
   arc_within : (arc : Arc) → ArcKind program arc.from arc.to → (arc.from < commands program + variables program) × (arc.to < commands program + variables program)

@@ -1,6 +1,11 @@
+pub mod Answering
 pub mod Choosing
 pub mod Cutting
 pub mod Hot
 pub mod Marked
 pub mod Marking
-pub mod Walks
+pub mod Networks
+pub mod Remarking
+pub mod Sets
+pub mod Sinks
+pub mod Walking

@@ -1,6 +1,6 @@
 -- What a maximum flow in a program's network says, and how its walks are read back.
 use Rattle.std.specs.Prelude.{◌≡◌, ◌+◌, ◌-◌, ◌<◌, ◌≤◌, ℕ, Bool, Some, List, length, filter, map, nat_lt, slice_index}
-use Rattle.std.specs.List.{All}
+use Rattle.std.specs.List.{All, Contains}
 use Rattle.bl_base.specs.declared.number.Pos.{Pos}
 use Rattle.bl_cmd.specs.Sites.{SinkReads}
 use Rattle.bl_cmd.specs.declared.definitions.ProgramParts.{ProgramParts as Program}
@@ -9,7 +9,10 @@ use Rattle.bl_flow.specs.Cuts.{IsCut, IsNearSide, LiesNear, cut_of, cut_weight}
 use Rattle.bl_flow.specs.declared.network.FlowResult.{FlowResult}
 use Rattle.bl_flow.specs.declared.network.Network.{Network}
 use Rattle.bl_flow.specs.declared.network.NodePath.{NodePath}
+use Rattle.bl_graph.specs.Graphs.{use_of}
 use Rattle.bl_graph.specs.declared.certificate.FlowPath.{FlowPath}
+use Rattle.bl_graph.specs.declared.facts.Use.{Use}
+use Rattle.bl_cut.specs.Network.{IsNetwork}
 
 -- a maximum flow with the cut nearest the starts
 pub record IsMaxFlow (n : Network) (r : FlowResult) : Type 0 where
@@ -50,3 +53,13 @@ pub record EndsAtVar (n vars : ℕ) (nodes : List ℕ) : Type 0 where
   pub some : 0 < length nodes
   pub behind : n ≤ slice_index nodes (length nodes - 1)
   pub within : last_var n nodes < vars
+
+-- for each variable that one of the sinks reads the position of such a one
+abbrev pub KnowsIn : List Use → List ℕ → Type 0
+KnowsIn sinks sink_of = (position x : ℕ) → Contains sinks (use_of position x) → Contains sinks (use_of (slice_index sink_of x) x)
+
+-- a maximum flow in the program's network
+pub record IsFlowOf (program : Program) (r : FlowResult) : Type 0 where
+  pub network : Network
+  pub is : IsNetwork program network
+  pub flow : IsMaxFlow network r

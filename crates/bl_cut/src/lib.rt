@@ -3,5 +3,10 @@
 #![tactic(auto)]
 
 mod choice;
+pub mod laws;
+mod marks;
+mod network;
+mod walks;
 
-pub use choice::Choice;
+pub use choice::{Choice, least_protects};
+pub use marks::protect;

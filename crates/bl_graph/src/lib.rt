@@ -12,4 +12,4 @@ mod writes;
 pub use certificate::{Certificate, FlowPath};
 pub use facts::{Graph, Read, SinkUse, Use, Write};
 pub use listing::graph;
-pub use writes::variables;
+pub use writes::{ranges, variables};

@@ -4,7 +4,7 @@ ghost use Rattle.bl_cmd.specs.Layout.{command_at, entry_of, statics, Holds};
 ghost use Rattle.bl_cmd.specs.Rules.{IsWellFormed};
 ghost use Rattle.bl_cmd.specs.Sites.{written_by, Writes};
 ghost use Rattle.bl_graph.specs.Graphs.{AreUses};
-ghost use Rattle.bl_graph.specs.Ranges.{variables};
+ghost use Rattle.bl_graph.specs.Ranges.{AreInRange, variables};
 ghost use Rattle.bl_graph.specs.Firsts.{IsRunning, firsts_from};
 ghost use Rattle.bl_graph.specs.Rows.{AddsRow, AreBelow};
 
@@ -23,6 +23,13 @@ pub fn variables(program: &WellFormed) -> u32
         count += function.vars;
     }
     count
+}
+
+/// Makes known that positions, variables and weights of the program lie in their ranges; does nothing else.
+pub fn ranges(program: &WellFormed)
+    ensures { AreInRange program.now }
+{
+    let _parts = program.program().parts();
 }
 
 /// A function of a program.
