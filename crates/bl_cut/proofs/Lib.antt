@@ -1,7 +1,10 @@
 pub mod Answering
 pub mod Choosing
 pub mod Cutting
+pub mod Existing
+pub mod Feeding
 pub mod Hot
+pub mod Leaving
 pub mod Marked
 pub mod Marking
 pub mod Networks

@@ -433,3 +433,8 @@ module _ (set : ℕ → Bool) (program : Program) where
         flow = h.flow ∙ sym (weighs set);
         weight = h.weight;
       })
+
+-- the parts with other commands
+pub made_is : (set : ℕ → Bool) (program parts : Program) (commands : List Command) → parts ≡ program → commands ≡ marked_from set 0 program.commands
+    → (let made : Program = record parts { commands = commands } in made) ≡ protected set program
+made_is set program parts commands e f = ap (λ (p : Program). record p { commands = commands }) e ∙ ap (λ l. record program { commands = l }) f
