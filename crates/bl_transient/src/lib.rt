@@ -2,6 +2,8 @@
 #![tactic(auto)]
 
 pub mod laws;
+mod moves;
+mod search;
 mod transient;
 
-pub use transient::FlowVerdict;
+pub use transient::{FlowVerdict, flows};
