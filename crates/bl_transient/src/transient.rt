@@ -36,10 +36,11 @@ pub fn flows(
     ranges(program);
     let graph = graph(alloc, program)?;
     let marks = transients(alloc, program, &graph, protects)?;
-    match first_sink(&marks, graph.sinks.as_slice()) {
-        Some(position) => Ok(FlowVerdict::No(Pos(position))),
-        None => Ok(FlowVerdict::Yes(flow_types(alloc, &marks)?)),
+    if let Some(position) = first_sink(&marks, graph.sinks.as_slice()) {
+        return Ok(FlowVerdict::No(Pos(position)));
     }
+    let flows = flow_types(alloc, &marks)?;
+    Ok(FlowVerdict::Yes(flows))
 }
 
 /// For each variable whether it is transient.
@@ -58,7 +59,8 @@ fn transients(
     let roots = roots_of(alloc, graph.loads.as_slice(), &written)?;
     let moves = moves_of(alloc, graph.reads.as_slice(), &written)?;
     let rows = rows_of(alloc, &moves, variables(program))?;
-    reached(alloc, &rows, &roots)
+    let marks = reached(alloc, &rows, &roots)?;
+    Ok(marks)
 }
 
 /// The flow types of marks.

@@ -16,7 +16,25 @@ loop-write-init c = record {
 }
 
 pub loop-write-preserved : goal.loop-write-preserved
-loop-write-preserved c = ?
+loop-write-preserved c =
+    let loop = c.loop-write in
+    let chosen : ℕ → Bool = fin.contains c.args.protects.now in
+    let lt = c.loop-write-test.true in
+    let inside = c.requires.within loop.write-index (use_of 0 0) lt in
+    let places = loop.invariant.places in
+    elim c.if-not-contains.branch [
+      | then-not-contains w ↦
+          rw (w.written-is) (record {
+            places = length-set loop.written.items (slice_index_or c.args.writes.now loop.write-index (use_of 0 0)).at.0 _ ∙ places;
+            free = free_yes c.args.writes.now chosen loop.write-index (use_of 0 0) lt loop.written.items loop.invariant.free
+                (not_from_false (chosen (slice_index_or c.args.writes.now loop.write-index (use_of 0 0)).at.0) (sym c.contains.ensures ∙ w.if-not-contains.true)) (omega arith) c.requires.one;
+          })
+      | else-not-contains w ↦
+          rw (w.written-is) (record {
+            places = places;
+            free = free_no c.args.writes.now chosen loop.write-index (use_of 0 0) lt loop.written.items loop.invariant.free (sym c.contains.ensures ∙ w.if-not-contains.false);
+          })
+    ]
 
 pub returns : goal.returns
 returns c =

@@ -40,7 +40,7 @@ visit-requires-in-loop-next c = λ k d within.
     c.deref.ensures.value ∙ ap (λ r. r.items) c.index-rows-node.is ∙ sym (get_or-map (λ r. r.items) c.args.rows.now c.index.result.now c.index-rows-node.result [] below) in
     let there : Contains (row_at (rows_in c.args.rows.now) c.index.result.now) (slice_index_or c.deref.result.now k d) =
     subst (λ r. Contains r (slice_index_or c.deref.result.now k d)) row (Contains-get_or c.deref.result.now k d within) in
-    let inside = c.requires.nodes c.index.result.now (slice_index_or c.deref.result.now k d) there in
+    let inside = c.requires.within c.index.result.now (slice_index_or c.deref.result.now k d) there in
     let value = ap length c.deref_mut-in-loop-next.ensures.value in
     omega arith
 
