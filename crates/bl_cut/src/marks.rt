@@ -45,7 +45,12 @@ fn marked(command: Command, protect: bool) -> Command
 {
     match command {
         Command::Set {
-            mark, op, to, a, b, c,
+            mark,
+            op,
+            to,
+            a,
+            b,
+            c,
         } => Command::Set {
             mark: guarded(mark, protect),
             op,

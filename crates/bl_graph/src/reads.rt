@@ -4,7 +4,6 @@ ghost use Rattle.bl_cmd.specs.Sites.{Among, Loads, Names, is_division, moved_by,
 ghost use Rattle.bl_graph.specs.Graphs.{AreUses};
 ghost use Rattle.bl_graph.specs.Rows.{AddsPlace, AddsRow, ArePlacesBelow, IsLeastFrom, LoadAt, OperandAt, lower_of};
 
-
 use crate::facts::Use;
 use bl_base::{List, NoMemory, Pos, Var};
 use bl_cmd::{Command, Operand};

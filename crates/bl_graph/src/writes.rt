@@ -125,7 +125,9 @@ fn written(running: &Running, at: u32, command: Command) -> Option<Var>
         Command::Test { .. } => None,
         Command::Jump { .. } => None,
         Command::Arg {
-            function, index, ..
+            function,
+            index,
+            ..
         } => Some(Var(running.firsts[function as usize] + index)),
         Command::Call { .. } => None,
         Command::Out { index, .. } => Some(Var(running.results + index)),

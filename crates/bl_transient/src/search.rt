@@ -15,11 +15,7 @@ pub(crate) struct Move {
 }
 
 /// For each variable those to which a move leads from it.
-pub(crate) fn rows_of(
-    alloc: Global,
-    moves: &[Move],
-    count: u32,
-) -> Result<Vec<Vec<u32>>, NoMemory>
+pub(crate) fn rows_of(alloc: Global, moves: &[Move], count: u32) -> Result<Vec<Vec<u32>>, NoMemory>
     requires { All (λ step. step.from < count) moves.now }
     ensures places { IfOk result (λ rows. length rows.items ≡ count) }
     ensures rows { IfOk result (λ rows. RowsOf moves.now (map (λ row. row.items) rows.items)) }

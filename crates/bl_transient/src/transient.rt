@@ -69,11 +69,7 @@ fn flow_types(alloc: Global, marks: &[bool]) -> Result<List<Flow>, NoMemory>
 {
     let mut flows = List::new(alloc);
     for mark in marks {
-        flows.push(if *mark {
-            Flow::Transient
-        } else {
-            Flow::Stable
-        })?;
+        flows.push(if *mark { Flow::Transient } else { Flow::Stable })?;
     }
     Ok(flows)
 }
