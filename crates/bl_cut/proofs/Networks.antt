@@ -68,8 +68,10 @@ module _ (program : Program) (g : Graph) (lists : IsGraph program g) where
         size_is = places ∙ ap (λ m. m + variables program) e;
         weights = weigh;
         arcs = λ u v. ((λ h. arc_kind u v (subst (λ l. Contains l (record { from = u; to = v })) all h)), (λ h. subst (λ l. Contains l (record { from = u; to = v })) (sym all) (arc_of u v h)));
-        starts = λ s. ((λ h. start_kind s (subst (λ l. Contains l s) starts_are h)),
-        (λ h. subst (λ l. Contains l s) (sym starts_are) (in_map (λ (load : Pos). load.0) g.loads (record { 0 = s }) ((lists.loads s).1 h))));
+        starts = λ s. (
+          (λ h. start_kind s (subst (λ l. Contains l s) starts_are h)),
+          (λ h. subst (λ l. Contains l s) (sym starts_are) (in_map (λ (load : Pos). load.0) g.loads (record { 0 = s }) ((lists.loads s).1 h))),
+        );
         ends = λ v. ((λ h. end_kind v (subst (λ l. Contains l v) last h)), (λ h. subst (λ l. Contains l v) (sym last) (end_of v h)));
       }
 

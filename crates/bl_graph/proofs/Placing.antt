@@ -85,10 +85,10 @@ module _ (program : Program) (facts : IsProgram program) where
       let all : number ≡ length program.functions = omega arith in
       let end : entry_of program number ≡ entry_of program (length program.functions) = ap (entry_of program) all in
       all_below (Writes program) entry writes (λ position x h.
-          let found = there (command_at program position) (λ command. written_by program position command ≡ Some x) h in
-          let lt = slice_get_within program.commands position found.0 found.1 in
-          let count = facts.lengths in
-          omega arith) below
+      let found = there (command_at program position) (λ command. written_by program position command ≡ Some x) h in
+      let lt = slice_get_within program.commands position found.0 found.1 in
+      let count = facts.lengths in
+      omega arith) below
 
   module _ (rules : IsWellFormed program) (number : ℕ) (f : FunctionDef) (item : slice_get program.functions number ≡ Some f) where
     room : length f.params ≤ f.vars

@@ -97,9 +97,11 @@ site_writes program s some = by (command_at program s) refl
     which (Out _ index value) mark e = (result program (running program s) index, refl)
     which Ret mark e = absurd (none-some mark e)
     which (Trap kind) mark e = absurd (none-some mark e)
+
     some_mark : (o : Option Mark) → IsSome (option_map (λ mark. unwrap_or (listed program.weights s) (10 ^ mark.depth)) o) → (mark : Mark) × (o ≡ Some mark)
     some_mark None h = absurd (false≢true h)
     some_mark (Some mark) h = (mark, refl)
+
     by : (o : Option Command) → command_at program s ≡ o → (x : ℕ) × Writes program s x
     by None e =
         let none : mark_at program s ≡ None = ap (option_and_then mark_of) e in

@@ -40,8 +40,8 @@ mapped_rises position [] rise = λ i j d lt low. absurd (omega arith)
 mapped_rises position (x ∷ row) rise =
     AllPairs-cons Precedes (use_of position x) (map (use_of position) row)
     (all_from (Precedes (use_of position x)) (map (use_of position) row) (λ u h.
-        let found = from_map (use_of position) row u h in
-        subst (Precedes (use_of position x)) found.2 (inr (refl, subst (λ y. x < y) found.1.2 (rise zero (suc found.1.0) found.0 (omega arith) (let lt = found.1.1 in omega arith))))))
+    let found = from_map (use_of position) row u h in
+    subst (Precedes (use_of position x)) found.2 (inr (refl, subst (λ y. x < y) found.1.2 (rise zero (suc found.1.0) found.0 (omega arith) (let lt = found.1.1 in omega arith))))))
     (mapped_rises position row (λ i j d lt low. rise (suc i) (suc j) d (omega arith) (omega arith)))
 
 module _ (Relates : ℕ → ℕ → Type 0) where

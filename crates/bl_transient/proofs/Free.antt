@@ -74,10 +74,11 @@ module _ (writes : List Use) (chosen : ℕ → Bool) (i : ℕ) (d : Use) (lt : i
               let value : noted (set written next.at.0 (Some next.var.0)) s ≡ Some next.var.0 =
               noted_or (set written next.at.0 (Some next.var.0)) s ∙ (ap (λ k. get_or (set written next.at.0 (Some next.var.0)) k None) same ∙ get_or-set_same written next.at.0 (Some next.var.0) None within) in (
                 (λ h.
-                    let var : next.var.0 ≡ x = some_same next.var.0 x (sym value ∙ h) in
-                    (subst (λ l. Contains l (use_of s x)) (sym more) (subst (λ v. Contains (take i writes ++ next ∷ []) (use_of s v)) var
-                    (subst (λ p. Contains (take i writes ++ next ∷ []) (use_of p next.var.0)) (sym same) (Contains-push (take i writes) next))),
-                    ap (λ p. not (chosen p)) same ∙ e)),
+                    let var : next.var.0 ≡ x = some_same next.var.0 x (sym value ∙ h) in (
+                      subst (λ l. Contains l (use_of s x)) (sym more) (subst (λ v. Contains (take i writes ++ next ∷ []) (use_of s v)) var
+                          (subst (λ p. Contains (take i writes ++ next ∷ []) (use_of p next.var.0)) (sym same) (Contains-push (take i writes) next))),
+                      ap (λ p. not (chosen p)) same ∙ e,
+                    )),
                 (λ h. value ∙ ap Some (one s next.var.0 x (subst (λ p. Contains writes (use_of p next.var.0)) (sym same) (Contains-get_or writes i d lt)) (in_take writes (i + 1) (use_of s x) h.0))),
               )
           | inr other ↦
