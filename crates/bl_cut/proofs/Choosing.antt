@@ -1,0 +1,147 @@
+-- The cut nearest the starts is the least choice, and its paths certify it.
+use Rattle.std.proofs.Common.{◌≡◌, ℕ, ◌+◌, ◌-◌, ◌*◌, ◌<◌, ◌≤◌, Bool, List, [], ◌∷◌, ◌++◌, length, Some, refl, sym, ap, subst, ◌∙◌, arith, nat_eq, nat_lt, slice_index}
+use Rattle.std.specs.Prelude.{IsSome, map}
+use Rattle.std.specs.List.{All, count_by}
+use Rattle.std.proofs.lemmas.Bool.{eqb-true, lt-ltb}
+use Rattle.std.proofs.lemmas.List.Elements.{All-contains}
+use Rattle.bl_base.specs.declared.number.Pos.{Pos}
+use Rattle.bl_cmd.specs.Sites.{SinkReads, site_weight, weight_of}
+use Rattle.bl_cmd.specs.declared.definitions.ProgramParts.{ProgramParts as Program}
+use Rattle.bl_flow.specs.declared.network.NodePath.{NodePath}
+use Rattle.bl_flow.specs.declared.network.FlowResult.{FlowResult}
+use Rattle.bl_flow.specs.declared.network.Network.{Network}
+use Rattle.bl_flow.specs.Networks.{IsPath, load, carried}
+use Rattle.bl_flow.specs.Cuts.{cut_of, cut_weight}
+use Rattle.bl_graph.specs.Certificates.{sites_of, flow_through, flow_of, IsFlowPath, CertifiesSet}
+use Rattle.bl_graph.specs.Chains.{IsChain}
+use Rattle.bl_graph.specs.Ranges.{commands, AreSites, AreInRange}
+use Rattle.bl_graph.specs.declared.certificate.FlowPath.{FlowPath}
+use Rattle.bl_graph.specs.declared.certificate.Certificate.{Certificate}
+use Rattle.bl_graph.proofs.Chaining.{all_from, amount_of, chain_sites, crossed_most}
+use Rattle.bl_graph.proofs.Counting.{crossed_once, any_counted, count_filter, sum_map, sum_alike}
+use Rattle.bl_graph.proofs.Members.{from_map}
+use Rattle.bl_transient.proofs.Meeting.{chain_met}
+use Rattle.bl_cut.specs.Choices.{IsMaxFlow, KnowsSinks, sites_in, positions, last_var, path_of}
+use Rattle.bl_cut.specs.Least.{Least}
+use Rattle.bl_cut.specs.Network.{IsNetwork}
+use Rattle.bl_cut.proofs.Cutting.{cut_weighs, passing_cut, cut_sites, cut_passes}
+use Rattle.bl_cut.proofs.Walking.{near_trans, near_var, walk_chain}
+
+pub last_at : (xs : List ℕ) (e : ℕ) → slice_index (xs ++ e ∷ []) (length xs) ≡ e
+last_at [] e = refl
+last_at (x ∷ xs) e = last_at xs e
+
+pub last_place : (xs : List ℕ) (e : ℕ) → length (xs ++ e ∷ []) - 1 ≡ length xs
+last_place xs e = let sum = Rattle.std.proofs.Math.ListN.length-append xs (e ∷ []) in omega arith
+
+pub numbers_back : (xs : List ℕ) → map (λ (s : Pos). s.0) (positions xs) ≡ xs
+numbers_back [] = refl
+numbers_back (x ∷ xs) = ap (λ l. x ∷ l) (numbers_back xs)
+
+module _ (program : Program) (is : AreInRange program) (n : Network) (net : IsNetwork program n) (r : FlowResult) (flow : IsMaxFlow n r) where
+  sites_ : AreSites program (cut_of r)
+  sites_ = cut_sites program is n net (cut_of r) flow.cut
+
+  -- the cut is the least choice
+  pub is_least : Least program (cut_of r)
+  is_least =
+      let own = cut_weighs program is n net (cut_of r) in
+      let worth = flow.weight in
+      record {
+        sites = sites_;
+        passes = cut_passes program is n net (cut_of r) flow.cut;
+        lightest = λ other are passes.
+            let theirs = cut_weighs program is n net other in
+            let most = flow.least other (passing_cut program is n net other are passes) in
+            omega arith;
+        nearest = λ other are passes same x t.
+            let theirs = cut_weighs program is n net other in
+            let weighs : cut_weight n other ≡ carried r.paths = omega arith in
+            let lies = flow.nearest other (passing_cut program is n net other are passes) weighs in
+            near_var program is n net other x
+            (lies.in_parts (commands program + x) ((flow.near.in_parts (commands program + x)).1 (near_trans program is n net (cut_of r) sites_ x t)));
+      }
+
+  module _ (sink_of : List ℕ) (knows : KnowsSinks program sink_of) where
+    abbrev back : NodePath → FlowPath
+    back path = path_of (commands program) sink_of path
+
+    same_sites : (path : NodePath) → sites_of (back path) ≡ sites_in (commands program) path.nodes
+    same_sites path = numbers_back (sites_in (commands program) path.nodes)
+
+    -- a path read back is a chain
+    back_chain : (path : NodePath) → IsPath n path → IsChain program (sites_of (back path)) (back path).sink.0
+    back_chain path p =
+        let end = (net.ends p.last).0 p.to_an_end in
+        let z : ℕ = end.0 in
+        let e : p.last ≡ commands program + z = end.1 in
+        let last_node : slice_index path.nodes (length path.nodes - 1) ≡ p.last =
+        ap (λ nodes. slice_index nodes (length nodes - 1)) p.nodes ∙ (ap (slice_index (p.before ++ p.last ∷ [])) (last_place p.before p.last) ∙ last_at p.before p.last) in
+        let last : last_var (commands program) path.nodes ≡ z = omega arith in
+        let chain = walk_chain program is n net (slice_index sink_of z) p.start p.last z p.before ((net.starts p.start).0 p.from_a_start) e (knows.each end.2.0 z end.2.1) p.walk in
+        subst (λ l. IsChain program l (back path).sink.0) (sym (same_sites path))
+        (subst (λ x. IsChain program (sites_in (commands program) path.nodes) (slice_index sink_of x)) (sym last)
+        (subst (λ nodes. IsChain program (sites_in (commands program) nodes) (slice_index sink_of z)) (sym p.nodes) chain))
+
+    abbrev pub paths : List FlowPath
+    paths = map back r.paths
+
+    each_back : (P : FlowPath → Type 0) → ((path : NodePath) → IsPath n path → P (back path)) → All P paths
+    each_back P each = all_from P paths (λ q h.
+        let found = from_map back r.paths q h in
+        subst P found.2 (each found.0 (All-contains (IsPath n) r.paths found.0 flow.paths found.1)))
+
+    -- the same flows through a site
+    same_load : (s : ℕ) → s < commands program → flow_through paths s ≡ load r.paths s
+    same_load s lt =
+        sum_map (λ p. p.amount * count_by (λ t. nat_eq t s) (sites_of p)) back r.paths
+        ∙ sum_alike (λ path. path.amount * count_by (λ t. nat_eq t s) (sites_of (back path))) (λ path. path.amount * count_by (λ t. nat_eq t s) path.nodes)
+        (λ path. ap (λ l. path.amount * count_by (λ t. nat_eq t s) l) (same_sites path)
+        ∙ ap (λ c. path.amount * c)
+        (count_filter (λ t. nat_eq t s) (λ v. nat_lt v (commands program)) (λ v e. let same = eqb-true v s e in lt-ltb v (commands program) (omega arith)) path.nodes)) r.paths
+
+    pub same_flow : flow_of paths ≡ carried r.paths
+    same_flow = sum_map (λ p. p.amount) back r.paths
+
+    fits : (s w : ℕ) → site_weight program s ≡ Some w → flow_through paths s ≤ w
+    fits s w e =
+        let lt = is.sites s (subst (λ o. IsSome o) (sym e) refl) in
+        let same = same_load s lt in
+        let most = flow.loads s w (net.weights s ∙ e) in
+        omega arith
+
+    within : All (λ p. All (λ s. s < commands program) (sites_of p)) paths
+    within = each_back (λ p. All (λ s. s < commands program) (sites_of p)) (λ path p. chain_sites program is (sites_of (back path)) (back path).sink.0 (back_chain path p))
+
+    met : All (λ p. 1 ≤ count_by (cut_of r) (sites_of p)) paths
+    met = each_back (λ p. 1 ≤ count_by (cut_of r) (sites_of p)) (λ path p.
+        any_counted (cut_of r) (sites_of (back path))
+        (chain_met program (cut_of r) (cut_passes program is n net (cut_of r) flow.cut) (sites_of (back path)) (back path).sink.0 (back_chain path p)))
+
+    some : All (λ p. 0 < p.amount) paths
+    some = each_back (λ p. 0 < p.amount) (λ path p. p.amount)
+
+    worth : weight_of program (cut_of r) ≡ flow_of paths
+    worth = sym (cut_weighs program is n net (cut_of r)) ∙ (flow.weight ∙ sym same_flow)
+
+    once : All (λ p. count_by (cut_of r) (sites_of p) ≡ 1) paths
+    once =
+        let most = crossed_most program (cut_of r) sites_ paths fits within in
+        let same = worth in
+        crossed_once amount_of sites_of (cut_of r) paths some met (omega arith)
+
+    -- the paths read back certify the cut
+    pub certified : CertifiesSet program (cut_of r) (record { paths = paths; weight = flow_of paths })
+    certified = record {
+      paths = all_from (IsFlowPath program (cut_of r)) paths (λ q h.
+          let found = from_map back r.paths q h in
+          let p = All-contains (IsPath n) r.paths found.0 flow.paths found.1 in
+          record {
+            chain = subst (λ q. IsChain program (sites_of q) q.sink.0) found.2 (back_chain found.0 p);
+            amount = All-contains (λ p. 0 < p.amount) paths q some h;
+            once = All-contains (λ p. count_by (cut_of r) (sites_of p) ≡ 1) paths q once h;
+          });
+      fits = fits;
+      flow = sym worth;
+      weight = refl;
+    }

@@ -1,0 +1,14 @@
+pub mod Answering
+pub mod Choosing
+pub mod Cutting
+pub mod Existing
+pub mod Feeding
+pub mod Hot
+pub mod Leaving
+pub mod Marked
+pub mod Marking
+pub mod Networks
+pub mod Remarking
+pub mod Sets
+pub mod Sinks
+pub mod Walking

@@ -1,0 +1,160 @@
+-- The network that is made of a graph's lists is the program's.
+use Rattle.std.proofs.Common.{◌≡◌, ℕ, zero, suc, ◌+◌, ◌^◌, ◌<◌, ◌≤◌, List, [], ◌∷◌, ◌++◌, length, take, set, get_or, replicate, Option, Some, None, slice_get, unwrap_or, refl, sym, ap, subst, ◌∙◌, arith, ◌⊎◌, inl, inr}
+use Rattle.std.specs.Prelude.{◌↔◌, IsSome, map}
+use Rattle.std.specs.List.{All, Contains, slice_index_or}
+use Rattle.std.proofs.lemmas.Bool.{cases_eq, cases_lt, false≢true}
+use Rattle.std.proofs.lemmas.List.{take_more, get_or-set_same, get_or-set_other, get_or-replicate, get_or_past, length-replicate, take_all}
+use Rattle.std.proofs.lemmas.List.Elements.{Contains-append_left, Contains-append_right, Contains-append_cases, Contains-push_cases, Contains-get_or}
+use Rattle.bl_base.specs.declared.number.Pos.{Pos}
+use Rattle.bl_cmd.specs.Sites.{site_weight, IsSite, IsLoad, Writes, Reads, SinkReads}
+use Rattle.bl_cmd.specs.declared.definitions.ProgramParts.{ProgramParts as Program}
+use Rattle.bl_flow.specs.declared.network.Arc.{Arc}
+use Rattle.bl_flow.specs.declared.network.Network.{Network}
+use Rattle.bl_graph.specs.Graphs.{use_of, IsGraph}
+use Rattle.bl_graph.specs.Ranges.{commands, variables, AreInRange}
+use Rattle.bl_graph.specs.declared.facts.Use.{Use}
+use Rattle.bl_graph.specs.declared.facts.Graph.{Graph}
+use Rattle.bl_graph.proofs.Chaining.{all_from}
+use Rattle.bl_graph.proofs.Members.{in_map, from_map, none_in}
+use Rattle.bl_graph.proofs.Ranging.{site_writes}
+use Rattle.bl_cut.specs.Network.{ArcKind, write, read, IsEnd, IsNetwork, write_arc, read_arc, sink_node, noted}
+
+module _ (program : Program) (g : Graph) (lists : IsGraph program g) where
+  arc_kind : (u v : ℕ) → Contains (map (write_arc (commands program)) g.writes ++ map (read_arc (commands program)) g.reads) (record { from = u; to = v }) → ArcKind program u v
+  arc_kind u v h =
+      elim (Contains-append_cases (map (write_arc (commands program)) g.writes) (map (read_arc (commands program)) g.reads) (record { from = u; to = v }) h) as (λ _. ArcKind program u v) [
+        | inl w ↦
+            let found = from_map (write_arc (commands program)) g.writes (record { from = u; to = v }) w in
+            let from : found.0.at.0 ≡ u = ap (λ (a : Arc). a.from) found.2 in
+            let to : commands program + found.0.var.0 ≡ v = ap (λ (a : Arc). a.to) found.2 in
+            write found.0.var.0 (subst (λ s. Writes program s found.0.var.0) from ((lists.writes.each found.0.at.0 found.0.var.0).0 found.1)) (sym to)
+        | inr r ↦
+            let found = from_map (read_arc (commands program)) g.reads (record { from = u; to = v }) r in
+            let from : commands program + found.0.var.0 ≡ u = ap (λ (a : Arc). a.from) found.2 in
+            let to : found.0.at.0 ≡ v = ap (λ (a : Arc). a.to) found.2 in
+            read found.0.var.0 (subst (λ s. Reads program s found.0.var.0) to ((lists.reads.each found.0.at.0 found.0.var.0).0 found.1)) (sym from)
+      ]
+
+  arc_of : (u v : ℕ) → ArcKind program u v → Contains (map (write_arc (commands program)) g.writes ++ map (read_arc (commands program)) g.reads) (record { from = u; to = v })
+  arc_of u v (write x writes e) =
+      subst (λ w. Contains (map (write_arc (commands program)) g.writes ++ map (read_arc (commands program)) g.reads) (record { from = u; to = w })) (sym e)
+      (Contains-append_left (map (write_arc (commands program)) g.writes) (map (read_arc (commands program)) g.reads) (record { from = u; to = commands program + x })
+      (in_map (write_arc (commands program)) g.writes (use_of u x) ((lists.writes.each u x).1 writes)))
+  arc_of u v (read x reads e) =
+      subst (λ w. Contains (map (write_arc (commands program)) g.writes ++ map (read_arc (commands program)) g.reads) (record { from = w; to = v })) (sym e)
+      (Contains-append_right (map (write_arc (commands program)) g.writes) (map (read_arc (commands program)) g.reads) (record { from = commands program + x; to = v })
+      (in_map (read_arc (commands program)) g.reads (use_of v x) ((lists.reads.each v x).1 reads)))
+
+  end_kind : (v : ℕ) → Contains (map (sink_node (commands program)) g.sinks) v → IsEnd program v
+  end_kind v h =
+      let found = from_map (sink_node (commands program)) g.sinks v h in
+      (found.0.var.0, sym found.2, (found.0.at.0, (lists.sinks.each found.0.at.0 found.0.var.0).0 found.1))
+
+  end_of : (v : ℕ) → IsEnd program v → Contains (map (sink_node (commands program)) g.sinks) v
+  end_of v end =
+      subst (Contains (map (sink_node (commands program)) g.sinks)) (sym end.1)
+      (in_map (sink_node (commands program)) g.sinks (use_of end.2.0 end.0) ((lists.sinks.each end.2.0 end.0).1 end.2.1))
+
+  start_kind : (s : ℕ) → Contains (map (λ (load : Pos). load.0) g.loads) s → IsLoad program s
+  start_kind s h = let found = from_map (λ (load : Pos). load.0) g.loads s h in subst (IsLoad program) found.2 ((lists.loads found.0.0).0 found.1)
+
+  pub made_network : (n : ℕ) (weights : List (Option ℕ)) (arcs : List Arc) (starts ends : List ℕ) → n ≡ commands program → length weights ≡ n + variables program
+      → ((v : ℕ) → noted weights v ≡ site_weight program v) → arcs ≡ map (write_arc n) g.writes ++ map (read_arc n) g.reads → starts ≡ map (λ (load : Pos). load.0) g.loads
+      → ends ≡ map (sink_node n) g.sinks → IsNetwork program (record { weights = weights; arcs = arcs; starts = starts; ends = ends })
+  made_network n weights arcs starts ends e places weigh arcs_are starts_are ends_are =
+      let all : arcs ≡ map (write_arc (commands program)) g.writes ++ map (read_arc (commands program)) g.reads = arcs_are ∙ ap (λ m. map (write_arc m) g.writes ++ map (read_arc m) g.reads) e in
+      let last : ends ≡ map (sink_node (commands program)) g.sinks = ends_are ∙ ap (λ m. map (sink_node m) g.sinks) e in
+      record {
+        size_is = places ∙ ap (λ m. m + variables program) e;
+        weights = weigh;
+        arcs = λ u v. ((λ h. arc_kind u v (subst (λ l. Contains l (record { from = u; to = v })) all h)), (λ h. subst (λ l. Contains l (record { from = u; to = v })) (sym all) (arc_of u v h)));
+        starts = λ s. (
+          (λ h. start_kind s (subst (λ l. Contains l s) starts_are h)),
+          (λ h. subst (λ l. Contains l s) (sym starts_are) (in_map (λ (load : Pos). load.0) g.loads (record { 0 = s }) ((lists.loads s).1 h))),
+        );
+        ends = λ v. ((λ h. end_kind v (subst (λ l. Contains l v) last h)), (λ h. subst (λ l. Contains l v) (sym last) (end_of v h)));
+      }
+
+  module _ (is : AreInRange program) (n : ℕ) (e : n ≡ commands program) where
+    pub write_nodes : All (λ w. n + w.var.0 < 2 ^ 32) g.writes
+    write_nodes = all_from (λ w. n + w.var.0 < 2 ^ 32) g.writes (λ w h. let lt = (is.writes w.at.0 w.var.0 ((lists.writes.each w.at.0 w.var.0).0 h)).1 in let small = is.numbers in omega arith)
+
+    pub read_nodes : All (λ r. n + r.var.0 < 2 ^ 32) g.reads
+    read_nodes = all_from (λ r. n + r.var.0 < 2 ^ 32) g.reads (λ r h. let lt = (is.reads r.at.0 r.var.0 ((lists.reads.each r.at.0 r.var.0).0 h)).1 in let small = is.numbers in omega arith)
+
+    pub sink_numbers : All (λ s. n + s.var.0 < 2 ^ 32) g.sinks
+    sink_numbers = all_from (λ s. n + s.var.0 < 2 ^ 32) g.sinks (λ s h. let lt = (is.sinks s.at.0 s.var.0 ((lists.sinks.each s.at.0 s.var.0).0 h)).1 in let small = is.numbers in omega arith)
+
+    pub sink_vars : (count : ℕ) → count ≡ variables program → All (λ s. s.var.0 < count) g.sinks
+    sink_vars count f = all_from (λ s. s.var.0 < count) g.sinks (λ s h. let lt = (is.sinks s.at.0 s.var.0 ((lists.sinks.each s.at.0 s.var.0).0 h)).1 in omega arith)
+
+    pub write_sites : All (λ w. IsSite program w.at.0) g.writes
+    write_sites = all_from (λ w. IsSite program w.at.0) g.writes (λ w h. (is.writes w.at.0 w.var.0 ((lists.writes.each w.at.0 w.var.0).0 h)).0)
+
+    pub write_places : (nodes : ℕ) → nodes ≡ n + variables program → All (λ w. w.at.0 < nodes) g.writes
+    write_places nodes f = all_from (λ w. w.at.0 < nodes) g.writes (λ w h.
+        let lt = is.sites w.at.0 (is.writes w.at.0 w.var.0 ((lists.writes.each w.at.0 w.var.0).0 h)).0 in omega arith)
+
+  pub each_writes : (s : ℕ) → IsSite program s → (x : ℕ) × Contains g.writes (use_of s x)
+  each_writes s some = let found = site_writes program s some in (found.0, (lists.writes.each s found.0).1 found.1)
+
+-- ---- the weights of nodes, write by write
+
+-- of the first so many writes each one's site has its weight, and no other node has one
+abbrev pub NotedFirst : Program → List Use → ℕ → List (Option ℕ) → Type 0
+NotedFirst program writes i weights = (v : ℕ) → (noted weights v ≡ site_weight program v) ⊎ ((noted weights v ≡ None) × ((x : ℕ) → Contains (take i writes) (use_of v x) → ⊥))
+
+noted_or : (weights : List (Option ℕ)) (v : ℕ) → noted weights v ≡ get_or weights v None
+noted_or [] v = refl
+noted_or (w ∷ weights) zero = refl
+noted_or (w ∷ weights) (suc v) = noted_or weights v
+
+pub noted_none : (program : Program) (writes : List Use) (count : ℕ) (weights : List (Option ℕ)) → weights ≡ replicate count None → NotedFirst program writes 0 weights
+noted_none program writes count weights e v = inr (
+  noted_or weights v ∙ (ap (λ l. get_or l v None) e ∙ nothing),
+  λ x h. none_in (use_of v x) h,
+)
+  where
+    nothing : get_or {A = Option ℕ} (replicate count None) v None ≡ None
+    nothing =
+        elim (cases_lt v count) as (λ _. get_or {A = Option ℕ} (replicate count None) v None ≡ None) [
+          | inl lt ↦ get_or-replicate count v None None lt
+          | inr past ↦ get_or_past (replicate count None) v None (let e = length-replicate {A = Option ℕ} count None in omega arith)
+        ]
+
+pub noted_more : (program : Program) (writes : List Use) (i w : ℕ) (weights : List (Option ℕ)) (d : Use) → i < length writes → (slice_index_or writes i d).at.0 < length weights
+    → site_weight program (slice_index_or writes i d).at.0 ≡ Some w → NotedFirst program writes i weights → NotedFirst program writes (i + 1) (set weights (slice_index_or writes i d).at.0 (Some w))
+noted_more program writes i w weights d lt within is so_far v =
+    let next : Use = slice_index_or writes i d in
+    let new : List (Option ℕ) = set weights next.at.0 (Some w) in
+    elim (cases_eq v next.at.0) as (λ _. (noted new v ≡ site_weight program v) ⊎ ((noted new v ≡ None) × ((x : ℕ) → Contains (take (i + 1) writes) (use_of v x) → ⊥))) [
+      | inl same ↦
+          let value : noted new v ≡ Some w = noted_or new v ∙ (ap (λ k. get_or new k None) same ∙ get_or-set_same weights next.at.0 (Some w) None within) in
+          inl (value ∙ (sym is ∙ ap (site_weight program) (sym same)))
+      | inr other ↦
+          let value : noted new v ≡ noted weights v = noted_or new v ∙ (get_or-set_other weights next.at.0 v (Some w) None other ∙ sym (noted_or weights v)) in
+          elim (so_far v) as (λ _. (noted new v ≡ site_weight program v) ⊎ ((noted new v ≡ None) × ((x : ℕ) → Contains (take (i + 1) writes) (use_of v x) → ⊥))) [
+            | inl had ↦ inl (value ∙ had)
+            | inr none ↦ inr (
+              value ∙ none.0,
+              λ x h. elim (Contains-push_cases (take i writes) next (use_of v x) (subst (λ l. Contains l (use_of v x)) (take_more writes i d lt) h)) as (λ _. ⊥) [
+                | inl there ↦ none.1 x there
+                | inr e ↦ other (sym (ap (λ (u : Use). u.at.0) e))
+              ],
+            )
+          ]
+    ]
+
+pub noted_all : (program : Program) (writes : List Use) (i : ℕ) (weights : List (Option ℕ)) → length writes ≤ i → ((s : ℕ) → IsSite program s → (x : ℕ) × Contains writes (use_of s x))
+    → NotedFirst program writes i weights → (v : ℕ) → noted weights v ≡ site_weight program v
+noted_all program writes i weights past sites so_far v =
+    elim (so_far v) as (λ _. noted weights v ≡ site_weight program v) [
+      | inl had ↦ had
+      | inr none ↦ none.0 ∙ sym (by (site_weight program v) refl none.1)
+    ]
+  where
+    by : (o : Option ℕ) → site_weight program v ≡ o → ((x : ℕ) → Contains (take i writes) (use_of v x) → ⊥) → o ≡ None
+    by None e never = refl
+    by (Some w) e never =
+        let found = sites v (subst (λ o. IsSome o) (sym e) refl) in
+        absurd (never found.0 (subst (λ l. Contains l (use_of v found.0)) (sym (take_all i writes past)) found.1))

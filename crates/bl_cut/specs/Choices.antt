@@ -1,0 +1,65 @@
+-- What a maximum flow in a program's network says, and how its walks are read back.
+use Rattle.std.specs.Prelude.{◌≡◌, ◌+◌, ◌-◌, ◌<◌, ◌≤◌, ℕ, Bool, Some, List, length, filter, map, nat_lt, slice_index}
+use Rattle.std.specs.List.{All, Contains}
+use Rattle.bl_base.specs.declared.number.Pos.{Pos}
+use Rattle.bl_cmd.specs.Sites.{SinkReads}
+use Rattle.bl_cmd.specs.declared.definitions.ProgramParts.{ProgramParts as Program}
+use Rattle.bl_flow.specs.Networks.{weight_at, IsPath, load, carried}
+use Rattle.bl_flow.specs.Cuts.{IsCut, IsNearSide, LiesNear, cut_of, cut_weight}
+use Rattle.bl_flow.specs.declared.network.FlowResult.{FlowResult}
+use Rattle.bl_flow.specs.declared.network.Network.{Network}
+use Rattle.bl_flow.specs.declared.network.NodePath.{NodePath}
+use Rattle.bl_graph.specs.Graphs.{use_of}
+use Rattle.bl_graph.specs.declared.certificate.FlowPath.{FlowPath}
+use Rattle.bl_graph.specs.declared.facts.Use.{Use}
+use Rattle.bl_cut.specs.Network.{IsNetwork}
+
+-- a maximum flow with the cut nearest the starts
+pub record IsMaxFlow (n : Network) (r : FlowResult) : Type 0 where
+  pub paths : All (IsPath n) r.paths
+  pub loads : (v w : ℕ) → weight_at n v ≡ Some w → load r.paths v ≤ w
+  pub cut : IsCut n (cut_of r)
+  pub weight : cut_weight n (cut_of r) ≡ carried r.paths
+  pub least : (cut : ℕ → Bool) → IsCut n cut → carried r.paths ≤ cut_weight n cut
+  pub near : IsNearSide n (cut_of r) r.near_in r.near_out
+  pub nearest : (cut : ℕ → Bool) → IsCut n cut → cut_weight n cut ≡ carried r.paths → LiesNear n cut r.near_in r.near_out
+
+-- for each variable that a sink reads the position of such a sink
+pub record KnowsSinks (program : Program) (sink_of : List ℕ) : Type 0 where
+  pub each : (position x : ℕ) → SinkReads program position x → SinkReads program (slice_index sink_of x) x
+
+-- the sites among the nodes of a walk
+abbrev pub sites_in : ℕ → List ℕ → List ℕ
+sites_in n nodes = filter (λ v. nat_lt v n) nodes
+
+-- positions by their numbers
+abbrev pub positions : List ℕ → List Pos
+positions numbers = map (λ s. record { 0 = s }) numbers
+
+-- the variable at the end of a walk
+abbrev pub last_var : ℕ → List ℕ → ℕ
+last_var n nodes = slice_index nodes (length nodes - 1) - n
+
+-- a walk read back, where a sink is known for each variable at an end
+abbrev pub path_of : ℕ → List ℕ → NodePath → FlowPath
+path_of n sink_of path = record {
+  sites = positions (sites_in n path.nodes);
+  sink = record { 0 = slice_index sink_of (last_var n path.nodes) };
+  amount = path.amount;
+}
+
+-- a walk's last node is that of a variable
+pub record EndsAtVar (n vars : ℕ) (nodes : List ℕ) : Type 0 where
+  pub some : 0 < length nodes
+  pub behind : n ≤ slice_index nodes (length nodes - 1)
+  pub within : last_var n nodes < vars
+
+-- for each variable that one of the sinks reads the position of such a one
+abbrev pub KnowsIn : List Use → List ℕ → Type 0
+KnowsIn sinks sink_of = (position x : ℕ) → Contains sinks (use_of position x) → Contains sinks (use_of (slice_index sink_of x) x)
+
+-- a maximum flow in the program's network
+pub record IsFlowOf (program : Program) (r : FlowResult) : Type 0 where
+  pub network : Network
+  pub is : IsNetwork program network
+  pub flow : IsMaxFlow network r

@@ -1,0 +1,4 @@
+pub mod Choices
+pub mod Least
+pub mod Marks
+pub mod Network

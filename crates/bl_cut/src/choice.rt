@@ -1,0 +1,109 @@
+//! The least choice of protects.
+ghost use Rattle.std.specs.Prelude.{◌≡◌, ◌<◌, ◌≤◌, ◌^◌, ◌&&◌, ℕ, IfOk, length, nat_lt, not};
+ghost use Rattle.std.specs.FinSet as fin;
+ghost use Rattle.bl_cmd.specs.Sites.{weight_of};
+ghost use Rattle.bl_flow.specs.Cuts.{at_place};
+ghost use Rattle.bl_graph.specs.Certificates.{Certifies, flow_of};
+ghost use Rattle.bl_graph.specs.Graphs.{IsGraph};
+ghost use Rattle.bl_cut.specs.Choices.{IsFlowOf};
+ghost use Rattle.bl_cut.specs.Least.{Least};
+ghost use Rattle.bl_cut.specs.Marks.{protected};
+
+use crate::network::network;
+use crate::walks::{read_back, sinks_by_variable};
+use bl_base::{List, NoMemory, Pos, SiteSet};
+use bl_cmd::WellFormed;
+use bl_flow::{FlowResult, max_flow};
+use bl_graph::{Certificate, FlowPath, Graph, graph, ranges, variables};
+use std::alloc::Global;
+
+/// A set of sites to protect, its weight, and a flow that shows that no set of less weight passes.
+#[derive(Drop)]
+pub struct Choice {
+    /// The sites.
+    pub protects: SiteSet,
+    /// Their weights together.
+    pub weight: u64,
+    /// The flow.
+    pub certificate: Certificate,
+}
+
+/// The passing set of least weight whose transient variables are contained in those of every other one of that weight. Marks
+/// that stand in the program are ignored. Costs a maximum flow in a network that is linear in the program. Want of memory is
+/// the only error.
+pub fn least_protects(alloc: Global, program: &WellFormed) -> Result<Choice, NoMemory>
+    ensures least { IfOk result (λ choice. Least program.now (fin.contains choice.protects)) }
+    ensures weight { IfOk result (λ choice. choice.weight ≡ weight_of program.now (fin.contains choice.protects)) }
+    ensures certificate { IfOk result (λ choice. Certifies (protected (fin.contains choice.protects) program.now) choice.certificate) }
+{
+    ranges(program);
+    let graph = graph(alloc, program)?;
+    let network = network(alloc, program, &graph)?;
+    let flow = max_flow(alloc, &network)?;
+    choice_of(alloc, program, &graph, &flow)
+}
+
+/// The choice that a maximum flow in the program's network shows.
+fn choice_of(
+    alloc: Global,
+    program: &WellFormed,
+    graph: &Graph,
+    flow: &FlowResult,
+) -> Result<Choice, NoMemory>
+    requires graph { IsGraph program.now graph.now }
+    requires flow { IsFlowOf program.now flow.now }
+    ensures least { IfOk result (λ choice. Least program.now (fin.contains choice.protects)) }
+    ensures weight { IfOk result (λ choice. choice.weight ≡ weight_of program.now (fin.contains choice.protects)) }
+    ensures certificate { IfOk result (λ choice. Certifies (protected (fin.contains choice.protects) program.now) choice.certificate) }
+{
+    let commands = program.program().parts().commands.len() as u32;
+    let sink_of = sinks_by_variable(alloc, variables(program), graph.sinks.as_slice())?;
+    let paths = read_back(alloc, commands, &sink_of, flow.paths.as_slice())?;
+    let weight = total(&paths);
+    let protects = cut_sites(
+        alloc,
+        commands,
+        flow.near_in.as_slice(),
+        flow.near_out.as_slice(),
+    )?;
+    Ok(Choice {
+        protects,
+        weight,
+        certificate: Certificate {
+            paths: List::of(paths),
+            weight,
+        },
+    })
+}
+
+/// How much flows.
+fn total(paths: &[FlowPath]) -> u64
+    requires { flow_of paths.now < 2 ^ 64 }
+    ensures { result ≡ flow_of paths.now }
+{
+    let mut sum = 0;
+    for path in paths {
+        sum += path.amount;
+    }
+    sum
+}
+
+/// The sites whose in part is near and whose out part isn't.
+fn cut_sites(
+    alloc: Global,
+    commands: u32,
+    near_in: &[bool],
+    near_out: &[bool],
+) -> Result<SiteSet, NoMemory>
+    requires ins { commands ≤ length near_in.now }
+    requires outs { commands ≤ length near_out.now }
+    ensures { IfOk result (λ set. (s : ℕ) → fin.contains set s ≡ (nat_lt s commands && (at_place near_in.now s && not (at_place near_out.now s)))) }
+{
+    let mut set = SiteSet::new(alloc);
+    for s in 0..commands {
+        if near_in[s as usize] && !near_out[s as usize] {
+            set.insert(Pos(s))?;
+        }
+    }
+    Ok(set)
+}

@@ -1,0 +1,52 @@
+//! Laws of least sets, of cuts and of marks. Each function is its contract alone.
+ghost use Rattle.std.specs.Prelude.{◌≡◌, ◌↔◌, ◌+◌, ℕ, Bool, IsTrue, false};
+ghost use Rattle.bl_base.specs.Runs.{Outcome};
+ghost use Rattle.bl_base.specs.declared.start.Start.{Start};
+ghost use Rattle.bl_cmd.specs.Outcomes.{plain};
+ghost use Rattle.bl_cmd.specs.Sites.{IsSite, Writes, is_protected, weight_of};
+ghost use Rattle.bl_cmd.specs.declared.definitions.ProgramParts.{ProgramParts};
+ghost use Rattle.bl_flow.specs.Cuts.{IsCut, NearIn, cut_weight};
+ghost use Rattle.bl_flow.specs.declared.network.Network.{Network as Net};
+ghost use Rattle.bl_graph.specs.Ranges.{AreInRange, AreSites, commands};
+ghost use Rattle.bl_transient.specs.Transient.{IsFed, Passes, Trans};
+ghost use Rattle.bl_cut.specs.Least.{Least};
+ghost use Rattle.bl_cut.specs.Marks.{protected};
+ghost use Rattle.bl_cut.specs.Network.{IsNetwork};
+
+/// A least set holds exactly the loads, and the sites that read a transient variable, that write one which isn't transient.
+pub fn least_by_trans()
+    ensures { (program : ProgramParts) (set : ℕ → Bool) → AreInRange program → Least program set → (s : ℕ)
+        → IsTrue (set s) ↔ (IsFed program set s × ((x : ℕ) × Writes program s x × (Trans program set x → ⊥))) }
+{}
+
+/// No two sets are least.
+pub fn at_most_one_least()
+    ensures { (program : ProgramParts) (one other : ℕ → Bool) → AreInRange program → Least program one → Least program other → (s : ℕ) → one s ≡ other s }
+{}
+
+/// Some set is least. So exactly one is.
+pub fn some_set_is_least()
+    ensures { (program : ProgramParts) → AreInRange program → (set : ℕ → Bool) × Least program set }
+{}
+
+/// The cuts of a program's network are the passing sets of sites, with the same weights; the near side of a cut holds the
+/// transient variables.
+pub fn cuts_are_passing_sets()
+    ensures passing { (program : ProgramParts) (n : Net) (set : ℕ → Bool) → AreInRange program → IsNetwork program n → AreSites program set → Passes program set → IsCut n set }
+    ensures sites { (program : ProgramParts) (n : Net) (set : ℕ → Bool) → AreInRange program → IsNetwork program n → IsCut n set → AreSites program set × Passes program set }
+    ensures weight { (program : ProgramParts) (n : Net) (set : ℕ → Bool) → AreInRange program → IsNetwork program n → cut_weight n set ≡ weight_of program set }
+    ensures near { (program : ProgramParts) (n : Net) (set : ℕ → Bool) → AreInRange program → IsNetwork program n → AreSites program set
+        → (x : ℕ) → NearIn n set (commands program + x) ↔ Trans program set x }
+{}
+
+/// In a program that was protected exactly the sites of the set are.
+pub fn marks_are_the_set()
+    ensures sites { (program : ProgramParts) (set : ℕ → Bool) (s : ℕ) → IsSite program s → is_protected (protected set program) s ≡ set s }
+    ensures others { (program : ProgramParts) (set : ℕ → Bool) (s : ℕ) → (IsSite program s → ⊥) → is_protected (protected set program) s ≡ false }
+{}
+
+/// Protects change no plain run.
+pub fn marks_are_silent()
+    ensures { (program : ProgramParts) (set : ℕ → Bool) (function : ℕ) (start : Start) (steps : ℕ) (outcome : Outcome)
+        → plain (protected set program) function start steps outcome ↔ plain program function start steps outcome }
+{}

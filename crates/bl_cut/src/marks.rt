@@ -1,0 +1,105 @@
+//! Programs with other protects.
+ghost use Rattle.std.specs.Prelude.{◌≡◌, ◌<◌, ◌^◌, length};
+ghost use Rattle.std.specs.FinSet as fin;
+ghost use Rattle.bl_cut.specs.Marks.{guarded, marked, marked_from, protected};
+
+use bl_base::{List, Pos, SiteSet};
+use bl_cmd::{Command, Mark, Program, ProgramParts, WellFormed};
+
+/// The program in which exactly the sites of the set are protected; all else stays. What is no site is passed over. Linear in
+/// the commands but for the logarithm of the set's size; takes no memory.
+pub fn protect(program: WellFormed, protects: &SiteSet) -> WellFormed
+    ensures { result ≡ protected (fin.contains protects.now) program }
+{
+    let parts = program.into_program().into_parts();
+    let mut commands = parts.commands.into_vec();
+    mark_all(&mut commands, protects);
+    let marked = Program::of(ProgramParts {
+        globals: parts.globals,
+        memories: parts.memories,
+        functions: parts.functions,
+        exports: parts.exports,
+        commands: List::of(commands),
+        demands: parts.demands,
+        weights: parts.weights,
+    });
+    match marked {
+        Ok(program) => WellFormed::of(program),
+        Err(_) => unreachable!(),
+    }
+}
+
+/// Protects exactly those commands whose positions are in the set.
+fn mark_all(commands: &mut [Command], protects: &SiteSet)
+    requires { length commands.old < 2 ^ 32 }
+    ensures { commands.new ≡ marked_from (fin.contains protects.now) 0 commands.old }
+{
+    for at in 0..commands.len() {
+        commands[at] = marked(commands[at], protects.contains(Pos(at as u32)));
+    }
+}
+
+/// The command, with a protect or without one where it is one of a site.
+fn marked(command: Command, protect: bool) -> Command
+    ensures { result ≡ marked protect command }
+{
+    match command {
+        Command::Set {
+            mark,
+            op,
+            to,
+            a,
+            b,
+            c,
+        } => Command::Set {
+            mark: guarded(mark, protect),
+            op,
+            to,
+            a,
+            b,
+            c,
+        },
+        Command::Load {
+            mark,
+            kind,
+            memory,
+            to,
+            offset,
+            address,
+        } => Command::Load {
+            mark: guarded(mark, protect),
+            kind,
+            memory,
+            to,
+            offset,
+            address,
+        },
+        Command::Arg {
+            mark,
+            function,
+            index,
+            value,
+        } => Command::Arg {
+            mark: guarded(mark, protect),
+            function,
+            index,
+            value,
+        },
+        Command::Out { mark, index, value } => Command::Out {
+            mark: guarded(mark, protect),
+            index,
+            value,
+        },
+        other => other,
+    }
+}
+
+/// The mark with a protect or without one.
+fn guarded(mark: Mark, protect: bool) -> Mark
+    ensures { result ≡ guarded protect mark }
+{
+    Mark {
+        depth: mark.depth,
+        protect,
+    }
+}

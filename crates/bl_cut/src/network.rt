@@ -1,0 +1,120 @@
+//! The network of a program.
+ghost use Rattle.std.specs.Prelude.{◌≡◌, ◌+◌, ◌++◌, ◌<◌, ◌^◌, ℕ, All, Contains, IfOk, None, OnOk, length, map, replicate};
+ghost use Rattle.bl_cmd.specs.Sites.{IsSite, site_weight};
+ghost use Rattle.bl_graph.specs.Graphs.{IsGraph, use_of};
+ghost use Rattle.bl_cut.specs.Network.{IsNetwork, noted, read_arc, sink_node, write_arc};
+
+use bl_base::{List, NoMemory, Pos};
+use bl_cmd::{WellFormed, site_weight};
+use bl_flow::{Arc, Network};
+use bl_graph::{Graph, Read, SinkUse, Write, variables};
+use std::alloc::Global;
+
+/// A node for each position, with the weight of its site, and behind them one without weight for each variable. An arc leads
+/// from a site to what it writes, and from a variable to each site that reads it. Walks begin at the loads, and end at the
+/// variables that sinks read.
+pub(crate) fn network(
+    alloc: Global,
+    program: &WellFormed,
+    graph: &Graph,
+) -> Result<Network, NoMemory>
+    requires { IsGraph program.now graph.now }
+    ensures { IfOk result (λ network. IsNetwork program.now network) }
+{
+    let commands = program.program().parts().commands.len() as u32;
+    let nodes = commands + variables(program);
+    let mut arcs = Vec::new(alloc);
+    push_writes(&mut arcs, commands, graph.writes.as_slice())?;
+    push_reads(&mut arcs, commands, graph.reads.as_slice())?;
+    let weights = node_weights(alloc, program, graph.writes.as_slice(), nodes)?;
+    let starts = load_nodes(alloc, graph.loads.as_slice())?;
+    let ends = sink_nodes(alloc, commands, graph.sinks.as_slice())?;
+    Ok(Network {
+        weights: List::of(weights),
+        arcs: List::of(arcs),
+        starts: List::of(starts),
+        ends: List::of(ends),
+    })
+}
+
+/// For each node the weight of the site, where it is one.
+fn node_weights(
+    alloc: Global,
+    program: &WellFormed,
+    writes: &[Write],
+    nodes: u32,
+) -> Result<Vec<Option<u64>>, NoMemory>
+    requires sites { All (λ w. IsSite program.now w.at.0) writes.now }
+    requires within { All (λ w. w.at.0 < nodes) writes.now }
+    requires all { (s : ℕ) → IsSite program.now s → (x : ℕ) × Contains writes.now (use_of s x) }
+    ensures places { IfOk result (λ weights. length weights.items ≡ nodes) }
+    ensures weights { IfOk result (λ weights. (v : ℕ) → noted weights.items v ≡ site_weight program.now v) }
+{
+    let mut weights = no_weights(alloc, nodes)?;
+    for write in writes {
+        weights[write.at.0 as usize] = Some(site_weight(program, write.at));
+    }
+    Ok(weights)
+}
+
+/// No weight for so many nodes.
+fn no_weights(alloc: Global, count: u32) -> Result<Vec<Option<u64>>, NoMemory>
+    ensures { IfOk result (λ weights. weights.items ≡ replicate count None) }
+{
+    let mut weights = Vec::new(alloc);
+    for _ in 0..count {
+        weights.push(None)?;
+    }
+    Ok(weights)
+}
+
+/// Appends an arc from each site to what it writes.
+fn push_writes(arcs: &mut Vec<Arc>, commands: u32, writes: &[Write]) -> Result<(), NoMemory>
+    requires { All (λ w. commands + w.var.0 < 2 ^ 32) writes.now }
+    ensures { OnOk result (arcs.new.items ≡ arcs.old.items ++ map (write_arc commands) writes.now) }
+{
+    for write in writes {
+        arcs.push(Arc {
+            from: write.at.0,
+            to: commands + write.var.0,
+        })?;
+    }
+    Ok(())
+}
+
+/// Appends an arc to each site from what it reads.
+fn push_reads(arcs: &mut Vec<Arc>, commands: u32, reads: &[Read]) -> Result<(), NoMemory>
+    requires { All (λ r. commands + r.var.0 < 2 ^ 32) reads.now }
+    ensures { OnOk result (arcs.new.items ≡ arcs.old.items ++ map (read_arc commands) reads.now) }
+{
+    for read in reads {
+        arcs.push(Arc {
+            from: commands + read.var.0,
+            to: read.at.0,
+        })?;
+    }
+    Ok(())
+}
+
+/// The nodes of the loads.
+fn load_nodes(alloc: Global, loads: &[Pos]) -> Result<Vec<u32>, NoMemory>
+    ensures { IfOk result (λ nodes. nodes.items ≡ map (λ load. load.0) loads.now) }
+{
+    let mut nodes = Vec::new(alloc);
+    for load in loads {
+        nodes.push(load.0)?;
+    }
+    Ok(nodes)
+}
+
+/// The nodes of the variables that sinks read.
+fn sink_nodes(alloc: Global, commands: u32, sinks: &[SinkUse]) -> Result<Vec<u32>, NoMemory>
+    requires { All (λ s. commands + s.var.0 < 2 ^ 32) sinks.now }
+    ensures { IfOk result (λ nodes. nodes.items ≡ map (sink_node commands) sinks.now) }
+{
+    let mut nodes = Vec::new(alloc);
+    for sink in sinks {
+        nodes.push(commands + sink.var.0)?;
+    }
+    Ok(nodes)
+}

@@ -1,0 +1,75 @@
+//! Walks in the network, read back as chains of sites.
+ghost use Rattle.std.specs.Prelude.{◌≡◌, ◌<◌, All, IfOk, length, map};
+ghost use Rattle.bl_cut.specs.Choices.{EndsAtVar, KnowsIn, path_of, positions, sites_in};
+
+use bl_base::{List, NoMemory, Pos};
+use bl_flow::NodePath;
+use bl_graph::{FlowPath, SinkUse};
+use std::alloc::Global;
+
+/// For each variable the position of a sink that reads it; 0 where none does.
+pub(crate) fn sinks_by_variable(
+    alloc: Global,
+    count: u32,
+    sinks: &[SinkUse],
+) -> Result<Vec<u32>, NoMemory>
+    requires { All (λ s. s.var.0 < count) sinks.now }
+    ensures places { IfOk result (λ found. length found.items ≡ count) }
+    ensures some { IfOk result (λ found. KnowsIn sinks.now found.items) }
+{
+    let mut found = vec![in alloc; 0u32; count as usize]?;
+    for sink in sinks {
+        found[sink.var.0 as usize] = sink.at.0;
+    }
+    Ok(found)
+}
+
+/// The walks of a flow as chains of sites.
+pub(crate) fn read_back(
+    alloc: Global,
+    commands: u32,
+    sink_of: &[u32],
+    paths: &[NodePath],
+) -> Result<Vec<FlowPath>, NoMemory>
+    requires { All (λ path. EndsAtVar commands (length sink_of.now) path.nodes) paths.now }
+    ensures { IfOk result (λ all. all.items ≡ map (path_of commands sink_of.now) paths.now) }
+{
+    let mut all = Vec::new(alloc);
+    for path in paths {
+        all.push(chain_of(alloc, commands, sink_of, path)?)?;
+    }
+    Ok(all)
+}
+
+/// A walk as a chain of sites.
+fn chain_of(
+    alloc: Global,
+    commands: u32,
+    sink_of: &[u32],
+    path: &NodePath,
+) -> Result<FlowPath, NoMemory>
+    requires { EndsAtVar commands (length sink_of.now) path.now.nodes }
+    ensures { IfOk result (λ chain. chain ≡ path_of commands sink_of.now path.now) }
+{
+    let nodes = path.nodes.as_slice();
+    let variable = nodes[nodes.len() - 1] - commands;
+    let sites = sites_among(alloc, commands, nodes)?;
+    Ok(FlowPath {
+        sites: List::of(sites),
+        sink: Pos(sink_of[variable as usize]),
+        amount: path.amount,
+    })
+}
+
+/// The sites among a walk's nodes.
+fn sites_among(alloc: Global, commands: u32, nodes: &[u32]) -> Result<Vec<Pos>, NoMemory>
+    ensures { IfOk result (λ sites. sites.items ≡ positions (sites_in commands nodes.now)) }
+{
+    let mut sites = Vec::new(alloc);
+    for node in nodes {
+        if *node < commands {
+            sites.push(Pos(*node))?;
+        }
+    }
+    Ok(sites)
+}

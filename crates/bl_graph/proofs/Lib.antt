@@ -1,0 +1,10 @@
+pub mod Chaining
+pub mod Counting
+pub mod Firsts
+pub mod Members
+pub mod Placing
+pub mod Ranging
+pub mod Reasons
+pub mod Rows
+pub mod Summing
+pub mod Unique

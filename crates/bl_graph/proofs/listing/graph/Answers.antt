@@ -1,0 +1,10 @@
+use Rattle.std.proofs.Common.{◌∙◌, ap}
+use Rattle.bl_cmd.specs.declared.definitions.ProgramParts.{ProgramParts}
+use Rattle.bl_graph.proofs.Placing.{made_graph}
+use Rattle.bl_graph.proofs.listing.graph.Goals as goal
+
+pub returns : goal.returns
+returns c =
+    made_graph c.args.program.now c.as_slice-commands.result.now c.in_ok-loads.loads c.in_ok-writes.writes c.in_ok-reads.reads c.in_ok-sinks.sinks
+    (c.as_slice-commands.ensures ∙ ap (λ (p : ProgramParts). p.commands) (c.parts.ensures.same ∙ c.program.ensures.same))
+    c.in_ok-loads.ensures c.in_ok-writes.ensures c.in_ok-reads.ensures c.in_ok-sinks.ensures

@@ -1,0 +1,6 @@
+use Rattle.bl_cmd.specs.Sites.{Writes}
+use Rattle.bl_graph.specs.Rows.{AreBelow}
+use Rattle.bl_graph.proofs.writes.push_writes.Given as goal
+
+abbrev pub invariant-loop-at : goal.invariant-loop-at
+invariant-loop-at l = AreBelow (Writes l.running.parts.now) l.at l.writes

@@ -1,0 +1,7 @@
+use Rattle.std.proofs.Common.{subst}
+use Rattle.bl_cmd.specs.Programs.{IsProgram}
+use Rattle.bl_graph.proofs.Ranging.{in_range}
+use Rattle.bl_graph.proofs.writes.ranges.Goals as goal
+
+pub returns : goal.returns
+returns c = in_range c.args.program.now (subst IsProgram c.program.ensures.same c.parts-parts.ensures.facts) c.program.ensures.rules

@@ -1,0 +1,15 @@
+//! Where a program's values come from and go to: its loads, what its sites write and read, and what its sinks read; chains of
+//! sites from loads to sinks, and certificates of flow along them.
+#![tactic(auto)]
+
+mod certificate;
+mod facts;
+pub mod laws;
+mod listing;
+mod reads;
+mod writes;
+
+pub use certificate::{Certificate, FlowPath};
+pub use facts::{Graph, Read, SinkUse, Use, Write};
+pub use listing::graph;
+pub use writes::{ranges, variables};

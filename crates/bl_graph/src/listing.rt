@@ -1,0 +1,27 @@
+//! The graph of a program.
+ghost use Rattle.std.specs.Prelude.{IfOk};
+ghost use Rattle.bl_graph.specs.Graphs.{IsGraph};
+
+use crate::facts::Graph;
+use crate::reads::{loads_of, reads_of, sinks_of};
+use crate::writes::writes_of;
+use bl_base::NoMemory;
+use bl_cmd::WellFormed;
+use std::alloc::Global;
+
+/// The graph of a program, exactly. Linear in the program. Want of memory is the only error.
+pub fn graph(alloc: Global, program: &WellFormed) -> Result<Graph, NoMemory>
+    ensures { IfOk result (λ graph. IsGraph program.now graph) }
+{
+    let commands = program.program().parts().commands.as_slice();
+    let loads = loads_of(alloc, commands)?;
+    let writes = writes_of(alloc, program)?;
+    let reads = reads_of(alloc, commands)?;
+    let sinks = sinks_of(alloc, commands)?;
+    Ok(Graph {
+        loads,
+        writes,
+        reads,
+        sinks,
+    })
+}

@@ -1,0 +1,176 @@
+//! What commands read.
+ghost use Rattle.std.specs.Prelude.{◌≡◌, ◌↔◌, ◌<◌, ◌^◌, ℕ, IfOk, IsTrue, OnOk, length, option_map};
+ghost use Rattle.bl_cmd.specs.Sites.{Among, Loads, Names, is_division, moved_by, sunk_by};
+ghost use Rattle.bl_graph.specs.Graphs.{AreUses};
+ghost use Rattle.bl_graph.specs.Rows.{AddsPlace, AddsRow, ArePlacesBelow, IsLeastFrom, LoadAt, OperandAt, lower_of};
+
+use crate::facts::Use;
+use bl_base::{List, NoMemory, Pos, Var};
+use bl_cmd::{Command, Operand};
+use bl_ops::Op;
+use std::alloc::Global;
+
+/// The positions of the Loads.
+pub(crate) fn loads_of(alloc: Global, commands: &[Command]) -> Result<List<Pos>, NoMemory>
+    requires { length commands.now < 2 ^ 32 }
+    ensures { IfOk result (λ loads. ArePlacesBelow (LoadAt commands.now) (length commands.now) loads) }
+{
+    let mut loads = List::new(alloc);
+    for (at, command) in commands.iter().enumerate() {
+        push_load(&mut loads, at as u32, *command)?;
+    }
+    Ok(loads)
+}
+
+/// Appends the position of the command if it is a Load.
+fn push_load(loads: &mut List<Pos>, at: u32, command: Command) -> Result<(), NoMemory>
+    ensures { OnOk result (AddsPlace (Loads command) at loads.old loads.new) }
+{
+    if is_load(command) {
+        loads.push(Pos(at))?;
+    }
+    Ok(())
+}
+
+/// Whether the command is a Load.
+fn is_load(command: Command) -> bool
+    ensures { IsTrue result ↔ Loads command }
+{
+    match command {
+        Command::Load { .. } => true,
+        Command::Set { .. } => false,
+        Command::Store { .. } => false,
+        Command::Test { .. } => false,
+        Command::Jump { .. } => false,
+        Command::Arg { .. } => false,
+        Command::Call { .. } => false,
+        Command::Out { .. } => false,
+        Command::Ret => false,
+        Command::Trap { .. } => false,
+    }
+}
+
+/// What each Set, Arg and Out reads.
+pub(crate) fn reads_of(alloc: Global, commands: &[Command]) -> Result<List<Use>, NoMemory>
+    requires { length commands.now < 2 ^ 32 }
+    ensures { IfOk result (λ reads. AreUses (OperandAt moved_by commands.now) reads) }
+{
+    let mut reads = List::new(alloc);
+    for (at, command) in commands.iter().enumerate() {
+        push_row(&mut reads, at as u32, &moved(*command))?;
+    }
+    Ok(reads)
+}
+
+/// What sinks read.
+pub(crate) fn sinks_of(alloc: Global, commands: &[Command]) -> Result<List<Use>, NoMemory>
+    requires { length commands.now < 2 ^ 32 }
+    ensures { IfOk result (λ sinks. AreUses (OperandAt sunk_by commands.now) sinks) }
+{
+    let mut sinks = List::new(alloc);
+    for (at, command) in commands.iter().enumerate() {
+        push_row(&mut sinks, at as u32, &sunk(*command))?;
+    }
+    Ok(sinks)
+}
+
+/// An operand that names no variable.
+const NONE: Operand = Operand::Const(0);
+
+/// The operands that a Set, an Arg or an Out makes its value of, and others that name no variable.
+fn moved(command: Command) -> [Operand; 3]
+    ensures { (x : ℕ) → Among result x ↔ Among (moved_by command) x }
+{
+    match command {
+        Command::Set { a, b, c, .. } => [a, b, c],
+        Command::Load { .. } => [NONE; 3],
+        Command::Store { .. } => [NONE; 3],
+        Command::Test { .. } => [NONE; 3],
+        Command::Jump { .. } => [NONE; 3],
+        Command::Arg { value, .. } => [value, NONE, NONE],
+        Command::Call { .. } => [NONE; 3],
+        Command::Out { value, .. } => [value, NONE, NONE],
+        Command::Ret => [NONE; 3],
+        Command::Trap { .. } => [NONE; 3],
+    }
+}
+
+/// The operands at sinks, and others that name no variable.
+fn sunk(command: Command) -> [Operand; 3]
+    ensures { (x : ℕ) → Among result x ↔ Among (sunk_by command) x }
+{
+    match command {
+        Command::Set { op, a, b, .. } => {
+            if is_division(op) {
+                [a, b, NONE]
+            } else {
+                [NONE; 3]
+            }
+        }
+        Command::Load { address, .. } => [address, NONE, NONE],
+        Command::Store { address, .. } => [address, NONE, NONE],
+        Command::Test { cond, .. } => [cond, NONE, NONE],
+        Command::Jump { .. } => [NONE; 3],
+        Command::Arg { .. } => [NONE; 3],
+        Command::Call { .. } => [NONE; 3],
+        Command::Out { .. } => [NONE; 3],
+        Command::Ret => [NONE; 3],
+        Command::Trap { .. } => [NONE; 3],
+    }
+}
+
+/// Whether the operator gives a quotient or a remainder.
+fn is_division(op: Op) -> bool
+    ensures { result ≡ is_division op }
+{
+    match op {
+        Op::I32DivS | Op::I32DivU | Op::I32RemS | Op::I32RemU => true,
+        Op::I64DivS | Op::I64DivU | Op::I64RemS | Op::I64RemU => true,
+        _ => false,
+    }
+}
+
+/// Appends the position with each variable among the operands, by rising variables.
+fn push_row(uses: &mut List<Use>, at: u32, operands: &[Operand]) -> Result<(), NoMemory>
+    ensures { OnOk result (AddsRow (Among operands.now) at uses.old uses.new) }
+{
+    let mut bound = 0;
+    while let Some(var) = least_from(operands, bound) {
+        uses.push(Use { at: Pos(at), var })?;
+        bound = u64::from(var.0) + 1;
+    }
+    Ok(())
+}
+
+/// The least variable among the operands whose number is at least that bound.
+fn least_from(operands: &[Operand], bound: u64) -> Option<Var>
+    ensures { IsLeastFrom (Among operands.now) bound (option_map (λ var. var.0) result) }
+{
+    let mut least = None;
+    for operand in operands {
+        least = lower(least, variable_from(*operand, bound));
+    }
+    least
+}
+
+/// The variable that the operand is, where its number is at least that bound.
+fn variable_from(operand: Operand, bound: u64) -> Option<Var>
+    ensures { IsLeastFrom (Names operand) bound (option_map (λ var. var.0) result) }
+{
+    match operand {
+        Operand::Var(var) if u64::from(var.0) >= bound => Some(var),
+        Operand::Var(_) => None,
+        Operand::Const(_) => None,
+    }
+}
+
+/// The lesser of two variables, where there are some.
+fn lower(one: Option<Var>, other: Option<Var>) -> Option<Var>
+    ensures { option_map (λ var. var.0) result ≡ lower_of (option_map (λ var. var.0) one) (option_map (λ var. var.0) other) }
+{
+    match (one, other) {
+        (Some(x), Some(y)) => Some(Var(x.0.min(y.0))),
+        (Some(x), None) => Some(x),
+        (None, other) => other,
+    }
+}

@@ -1,0 +1,137 @@
+//! What sites write.
+ghost use Rattle.std.specs.Prelude.{◌≡◌, IfOk, OnOk, Some, option_map, suc};
+ghost use Rattle.bl_cmd.specs.Layout.{command_at, entry_of, statics, Holds};
+ghost use Rattle.bl_cmd.specs.Rules.{IsWellFormed};
+ghost use Rattle.bl_cmd.specs.Sites.{written_by, Writes};
+ghost use Rattle.bl_graph.specs.Graphs.{AreUses};
+ghost use Rattle.bl_graph.specs.Ranges.{AreInRange, variables};
+ghost use Rattle.bl_graph.specs.Firsts.{IsRunning, firsts_from};
+ghost use Rattle.bl_graph.specs.Rows.{AddsRow, AreBelow};
+
+use crate::facts::Use;
+use bl_base::{List, NoMemory, Pos, Var};
+use bl_cmd::{Command, ProgramParts, WellFormed};
+use std::alloc::Global;
+
+/// The number of a program's variables. Linear in its functions; takes no memory.
+pub fn variables(program: &WellFormed) -> u32
+    ensures { result ≡ variables program.now }
+{
+    let parts = program.program().parts();
+    let mut count = (parts.globals.len() + parts.memories.len()) as u32;
+    for function in parts.functions.as_slice() {
+        count += function.vars;
+    }
+    count
+}
+
+/// Makes known that positions, variables and weights of the program lie in their ranges; does nothing else.
+pub fn ranges(program: &WellFormed)
+    ensures { AreInRange program.now }
+{
+    let _parts = program.program().parts();
+}
+
+/// A function of a program.
+#[derive(Clone, Copy)]
+pub(crate) struct Running<'p> {
+    /// The program.
+    parts: &'p ProgramParts,
+    /// The first variable of each function.
+    firsts: &'p [u32],
+    /// The number of the function.
+    number: usize,
+    /// The variable of its first result.
+    results: u32,
+}
+
+/// What each site writes.
+pub(crate) fn writes_of(alloc: Global, program: &WellFormed) -> Result<List<Use>, NoMemory>
+    ensures { IfOk result (λ writes. AreUses (Writes program.now) writes) }
+{
+    let parts = program.program().parts();
+    let firsts = firsts_of(alloc, parts)?;
+    let mut writes = List::new(alloc);
+    let mut entry = 7;
+    for (number, function) in parts.functions.as_slice().iter().enumerate() {
+        let running = Running {
+            parts,
+            firsts: &firsts,
+            number,
+            results: firsts[number] + function.params.len() as u32,
+        };
+        let end = entry + function.length;
+        push_writes(&mut writes, &running, entry, end)?;
+        entry = end;
+    }
+    Ok(writes)
+}
+
+/// The first variable of each function.
+fn firsts_of(alloc: Global, parts: &ProgramParts) -> Result<Vec<u32>, NoMemory>
+    requires { IsWellFormed parts.now }
+    ensures { IfOk result (λ firsts. firsts.items ≡ firsts_from (statics parts.now) parts.now.functions) }
+{
+    let mut firsts = Vec::new(alloc);
+    let mut first = (parts.globals.len() + parts.memories.len()) as u32;
+    for function in parts.functions.as_slice() {
+        firsts.push(first)?;
+        first += function.vars;
+    }
+    Ok(firsts)
+}
+
+/// Appends what the sites of a function write, from its entry to its end.
+fn push_writes(
+    writes: &mut List<Use>,
+    running: &Running,
+    entry: u32,
+    end: u32,
+) -> Result<(), NoMemory>
+    requires running { IsRunning running.now }
+    requires entry { entry ≡ entry_of running.now.parts.now running.now.number }
+    requires end { end ≡ entry_of running.now.parts.now (suc running.now.number) }
+    requires below { AreBelow (Writes running.now.parts.now) entry writes.old }
+    ensures { OnOk result (AreBelow (Writes running.now.parts.now) end writes.new) }
+{
+    for at in entry..end {
+        let command = running.parts.commands.as_slice()[at as usize];
+        push_write(writes, at, written(running, at, command))?;
+    }
+    Ok(())
+}
+
+/// Appends the position with the variable, where there is one.
+fn push_write(writes: &mut List<Use>, at: u32, var: Option<Var>) -> Result<(), NoMemory>
+    ensures { OnOk result (AddsRow (λ x. option_map (λ var. var.0) var ≡ Some x) at writes.old writes.new) }
+{
+    if let Some(var) = var {
+        writes.push(Use { at: Pos(at), var })?;
+    }
+    Ok(())
+}
+
+/// The variable that a command of the function writes, where it writes one.
+fn written(running: &Running, at: u32, command: Command) -> Option<Var>
+    requires running { IsRunning running.now }
+    requires holds { Holds running.now.parts.now running.now.number at }
+    requires stands { command_at running.now.parts.now at ≡ Some command }
+    ensures { option_map (λ var. var.0) result ≡ written_by running.now.parts.now at command }
+{
+    match command {
+        Command::Set { to, .. } => Some(to),
+        Command::Load { to, .. } => Some(to),
+        Command::Store { .. } => None,
+        Command::Test { .. } => None,
+        Command::Jump { .. } => None,
+        Command::Arg {
+            function,
+            index,
+            ..
+        } => Some(Var(running.firsts[function as usize] + index)),
+        Command::Call { .. } => None,
+        Command::Out { index, .. } => Some(Var(running.results + index)),
+        Command::Ret => None,
+        Command::Trap { .. } => None,
+    }
+}

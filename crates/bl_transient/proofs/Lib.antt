@@ -1,0 +1,8 @@
+pub mod Firsts
+pub mod Free
+pub mod Judging
+pub mod Marks
+pub mod Meeting
+pub mod RowLists
+pub mod Tests
+pub mod Typings

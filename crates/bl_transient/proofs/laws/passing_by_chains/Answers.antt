@@ -1,0 +1,5 @@
+use Rattle.bl_transient.proofs.Meeting.{chain_met, passes_where_met}
+use Rattle.bl_transient.proofs.laws.passing_by_chains.Goals as goal
+
+pub returns : goal.returns
+returns c = λ program set. (chain_met program set, passes_where_met program set)

@@ -1,0 +1,9 @@
+use Rattle.std.proofs.Common.{◌+◌, ◌-◌, length, map}
+use Rattle.bl_transient.specs.Reaching.{Searching, unmarked}
+use Rattle.bl_transient.proofs.search.reached.Given as goal
+
+abbrev pub invariant-loop-next : goal.invariant-loop-next
+invariant-loop-next l = Searching (map (λ row. row.items) l.rows) l.roots l.marks.items l.queue.items l.next
+
+abbrev pub decreases-loop-next : goal.decreases-loop-next
+decreases-loop-next l = unmarked l.marks.items + length l.queue.items - l.next

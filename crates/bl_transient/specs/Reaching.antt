@@ -1,0 +1,102 @@
+-- What a list of roots reaches by rows, and a search for it.
+use Rattle.std.specs.Prelude.{◌≡◌, ◌↔◌, ℕ, ◌+◌, ◌<◌, ◌≤◌, ◌⊎◌, Bool, true, false, not, List, [], ◌∷◌, ◌++◌, length, map, slice_index, IsTrue, count_by, min, Option, Some, None, slice_get, unwrap_or, if◌then◌else◌}
+use Rattle.std.specs.List.{Contains, slice_index_or}
+use Rattle.bl_base.specs.declared.names.Flow.{Flow}
+use Rattle.bl_base.specs.declared.names.Flow.TheVariants.{Stable, Transient}
+use Rattle.bl_base.specs.declared.number.Pos.{Pos}
+use Rattle.bl_graph.specs.Graphs.{use_of}
+use Rattle.bl_graph.specs.declared.facts.Use.{Use}
+use Rattle.bl_transient.specs.declared.search.Move.{Move}
+
+-- a list's answer at a place; no past its end
+abbrev pub is_in : List Bool → ℕ → Bool
+is_in marks v = slice_index_or marks v false
+
+-- the row at a place; an empty one past the end
+abbrev pub row_at : List (List ℕ) → ℕ → List ℕ
+row_at rows v = slice_index_or rows v []
+
+-- a root, or what the row of something reached has
+pub data Reached (rows : List (List ℕ)) (roots : List ℕ) : ℕ → Type 0 where
+  root : (v : ℕ) → Contains roots v → Reached rows roots v
+  step : (u v : ℕ) → Reached rows roots u → Contains (row_at rows u) v → Reached rows roots v
+
+-- each row has exactly the variables to which a move leads from its own
+pub record RowsOf (moves : List Move) (rows : List (List ℕ)) : Type 0 where
+  pub sound : (u v : ℕ) → Contains (row_at rows u) v → Contains moves (record { from = u; to = v })
+  pub full : (u v : ℕ) → Contains moves (record { from = u; to = v }) → Contains (row_at rows u) v
+
+-- how many places are not marked
+abbrev pub unmarked : List Bool → ℕ
+unmarked marks = count_by (λ b. not b) marks
+
+-- what a row has is marked and queued, where it wasn't marked
+pub record IsVisited (row : List ℕ) (old new : List Bool) (queue more : List ℕ) : Type 0 where
+  pub places : length new ≡ length old
+  pub kept : (v : ℕ) → IsTrue (is_in old v) → IsTrue (is_in new v)
+  pub taken : (v : ℕ) → Contains row v → IsTrue (is_in new v)
+  pub from : (v : ℕ) → IsTrue (is_in new v) → IsTrue (is_in old v) ⊎ Contains row v
+  pub front : (added : List ℕ) × (more ≡ queue ++ added)
+  pub queued : ((v : ℕ) → Contains queue v → IsTrue (is_in old v)) → (v : ℕ) → Contains more v → IsTrue (is_in new v)
+  pub back : ((v : ℕ) → IsTrue (is_in old v) → Contains queue v) → (v : ℕ) → IsTrue (is_in new v) → Contains more v
+  pub counts : unmarked new + length more ≡ unmarked old + length queue
+
+-- a search on its way: the rows of what is queued before a place are marked
+pub record Searching (rows : List (List ℕ)) (roots : List ℕ) (marks : List Bool) (queue : List ℕ) (next : ℕ) : Type 0 where
+  pub places : length marks ≡ length rows
+  pub in_order : next ≤ length queue
+  pub begun : (v : ℕ) → Contains roots v → IsTrue (is_in marks v)
+  pub queued : (v : ℕ) → Contains queue v → IsTrue (is_in marks v)
+  pub back : (v : ℕ) → IsTrue (is_in marks v) → Contains queue v
+  pub done : (place : ℕ) → place < next → (v : ℕ) → Contains (row_at rows (slice_index queue place)) v → IsTrue (is_in marks v)
+  pub sound : (v : ℕ) → IsTrue (is_in marks v) → Reached rows roots v
+
+-- the least position of a sink that reads a marked variable
+pub record IsFirstOf (typing : ℕ → Type 0) (sinks : List Use) (position : ℕ) : Type 0 where
+  pub var : ℕ
+  pub sink : Contains sinks (use_of position var)
+  pub hot : typing var
+  pub least : (other x : ℕ) → Contains sinks (use_of other x) → typing x → position ≤ other
+
+abbrev pub FirstSink : List Bool → List Use → Option ℕ → Type 0
+FirstSink marks sinks None = (position x : ℕ) → Contains sinks (use_of position x) → IsTrue (is_in marks x) → ⊥
+FirstSink marks sinks (Some position) = IsFirstOf (λ x. IsTrue (is_in marks x)) sinks position
+
+-- the lower of two positions, where there is a first one
+abbrev pub IsLower : Option ℕ → ℕ → ℕ → Type 0
+IsLower None position result = result ≡ position
+IsLower (Some first) position result = result ≡ min first position
+
+-- ---- from a graph's lists to roots and moves
+
+-- what is noted for a position
+abbrev pub noted : List (Option ℕ) → ℕ → Option ℕ
+noted written s = unwrap_or (slice_get written s) None
+
+-- the variable, where there is one
+abbrev pub listed : Option ℕ → List ℕ
+listed None = []
+listed (Some x) = x ∷ []
+
+-- the move from a variable, where there is one
+abbrev pub moved_to : ℕ → Option ℕ → List Move
+moved_to x None = []
+moved_to x (Some y) = record { from = x; to = y } ∷ []
+
+-- what the loads that aren't protected write
+abbrev pub roots_from : List (Option ℕ) → List Pos → List ℕ
+roots_from written [] = []
+roots_from written (load ∷ loads) = listed (noted written load.0) ++ roots_from written loads
+
+-- from what the sites that aren't protected read to what they write
+abbrev pub moves_from : List (Option ℕ) → List Use → List Move
+moves_from written [] = []
+moves_from written (read ∷ reads) = moved_to read.var.0 (noted written read.at.0) ++ moves_from written reads
+
+-- for each position the variable that the site there writes, where it isn't in the set
+pub record AreFree (writes : List Use) (set : ℕ → Bool) (written : List (Option ℕ)) : Type 0 where
+  pub each : (s x : ℕ) → (noted written s ≡ Some x) ↔ (Contains writes (use_of s x) × IsTrue (not (set s)))
+
+-- the flow type of a mark
+abbrev pub flow_type : Bool → Flow
+flow_type mark = if mark then Transient else Stable

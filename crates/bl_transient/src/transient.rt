@@ -1,0 +1,99 @@
+//! Which variables are transient, where a set of sites is protected.
+ghost use Rattle.std.specs.Prelude.{◌≡◌, ◌<◌, ◌↔◌, ℕ, All, IsTrue, IfOk, length, map, option_map};
+ghost use Rattle.std.specs.FinSet as fin;
+ghost use Rattle.bl_graph.specs.Graphs.{IsGraph};
+ghost use Rattle.bl_graph.specs.Ranges.{variables};
+ghost use Rattle.bl_transient.specs.Reaching.{FirstSink, IsLower, flow_type, is_in};
+ghost use Rattle.bl_transient.specs.Transient.{Trans};
+ghost use Rattle.bl_transient.specs.Verdicts.{Judges};
+
+use crate::moves::{moves_of, roots_of, written_free};
+use crate::search::{reached, rows_of};
+use bl_base::{Flow, List, NoMemory, Pos, SiteSet};
+use bl_cmd::WellFormed;
+use bl_graph::{Graph, SinkUse, graph, ranges, variables};
+use std::alloc::Global;
+
+/// Whether a set of protected sites keeps transient values from every sink.
+#[derive(Debug, Drop)]
+pub enum FlowVerdict {
+    /// For each variable its flow type; no sink reads a transient one.
+    Yes(List<Flow>),
+    /// The least position of a sink that reads a transient variable.
+    No(Pos),
+}
+
+/// The least flow typing where the sites of the set are protected; where a sink reads a variable that is transient in it, so
+/// that no typing keeps the rules, the least position of such a sink. Linear in the program but for the logarithm of the set's
+/// size. Want of memory is the only error.
+pub fn flows(
+    alloc: Global,
+    program: &WellFormed,
+    protects: &SiteSet,
+) -> Result<FlowVerdict, NoMemory>
+    ensures { IfOk result (λ verdict. Judges program.now (fin.contains protects.now) verdict) }
+{
+    ranges(program);
+    let graph = graph(alloc, program)?;
+    let marks = transients(alloc, program, &graph, protects)?;
+    if let Some(position) = first_sink(&marks, graph.sinks.as_slice()) {
+        return Ok(FlowVerdict::No(Pos(position)));
+    }
+    let flows = flow_types(alloc, &marks)?;
+    Ok(FlowVerdict::Yes(flows))
+}
+
+/// For each variable whether it is transient.
+fn transients(
+    alloc: Global,
+    program: &WellFormed,
+    graph: &Graph,
+    protects: &SiteSet,
+) -> Result<Vec<bool>, NoMemory>
+    requires { IsGraph program.now graph.now }
+    ensures places { IfOk result (λ marks. length marks.items ≡ variables program.now) }
+    ensures exact { IfOk result (λ marks. (x : ℕ) → IsTrue (is_in marks.items x) ↔ Trans program.now (fin.contains protects.now) x) }
+{
+    let count = program.program().parts().commands.len();
+    let written = written_free(alloc, count, graph.writes.as_slice(), protects)?;
+    let roots = roots_of(alloc, graph.loads.as_slice(), &written)?;
+    let moves = moves_of(alloc, graph.reads.as_slice(), &written)?;
+    let rows = rows_of(alloc, &moves, variables(program))?;
+    let marks = reached(alloc, &rows, &roots)?;
+    Ok(marks)
+}
+
+/// The flow types of marks.
+fn flow_types(alloc: Global, marks: &[bool]) -> Result<List<Flow>, NoMemory>
+    ensures { IfOk result (λ flows. flows ≡ map flow_type marks.now) }
+{
+    let mut flows = List::new(alloc);
+    for mark in marks {
+        flows.push(if *mark { Flow::Transient } else { Flow::Stable })?;
+    }
+    Ok(flows)
+}
+
+/// The least position of a sink that reads a marked variable.
+fn first_sink(marks: &[bool], sinks: &[SinkUse]) -> Option<u32>
+    requires { All (λ s. s.var.0 < length marks.now) sinks.now }
+    ensures { FirstSink marks.now sinks.now result }
+{
+    let mut first = None;
+    for sink in sinks {
+        if marks[sink.var.0 as usize] {
+            first = Some(lower(first, sink.at.0));
+        }
+    }
+    first
+}
+
+/// The lower of two positions, where there is a first one.
+fn lower(first: Option<u32>, at: u32) -> u32
+    ensures { IsLower first at result }
+{
+    match first {
+        None => at,
+        Some(position) => position.min(at),
+    }
+}
