@@ -2,8 +2,6 @@
 #![tactic(auto)]
 
 #[cfg(test)]
-mod cmd;
-#[cfg(test)]
 mod image;
 #[cfg(test)]
 mod seq;
