@@ -1,6 +1,6 @@
 -- Bytes that are written over others, and bytes as numbers.
-use Rattle.std.proofs.Common.{◌≡◌, ℕ, zero, suc, ◌+◌, ◌-◌, ◌*◌, ◌/◌, ◌%◌, ◌<◌, ◌≤◌, List, [], ◌∷◌, ◌++◌, length, take, drop, set, get_or, refl, sym, ap, ◌∙◌, arith, length-append}
-use Rattle.std.proofs.lemmas.List.{length-take, length-drop, take-append-drop}
+use Rattle.std.proofs.Common.{◌≡◌, ℕ, zero, suc, ◌+◌, ◌-◌, ◌*◌, ◌/◌, ◌%◌, ◌<◌, ◌≤◌, List, [], ◌∷◌, ◌++◌, length, take, drop, set, get_or, refl, ap, arith, length-append}
+use Rattle.std.proofs.lemmas.List.{length-take, length-drop}
 use Rattle.bl_base.specs.Bytes.{number_of, bytes_of}
 use Rattle.bl_reduce.proofs.MemoryItems.{length-bytes_of}
 use Rattle.bl_machine.specs.Spaces.{over}
