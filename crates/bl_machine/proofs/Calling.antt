@@ -168,7 +168,7 @@ module _ (tree : Tree) where
         from false e =
             subst (λ b. simulates tree (trapped trap_kind.StackExhausted m)
             (if b then goes (entering state.store number (operands (length type.params) state) (caller (length type.params) state ∷ state.callers)) else trap trap_kind.StackExhausted state))
-            (sym (by_depth false e)) (ap (trapped_with trap_kind.StackExhausted) is.memories)
+            (sym (by_depth false e)) (ap (trapped_with trap_kind.StackExhausted) (sym is.memories))
 
     -- the operands of a call are there
     abbrev pub HasOperands : Type 0

@@ -246,7 +246,7 @@ module _ (tree : Tree) where
       resuming : (frames : List Frame) (others : List Activation) → AreActivations tree frames others is.lower → simulates tree (resumed (bare_with (reverse others))) (return_to frames results state.store)
       resuming [] [] h =
           let values : is.lower.values ++ reverse results ≡ reverse results = ap (λ v. v ++ reverse results) h.values in
-          ap (λ memories. returned_with (reverse results) memories) is.memories ∙ ap (λ v. returned_with v []) (sym values)
+          ap (λ memories. returned_with (reverse results) memories) (sym is.memories) ∙ ap (λ v. returned_with v m.memories) (sym values)
       resuming [] (a ∷ others) h = absurd h
       resuming (frame ∷ frames) [] h = absurd h
       resuming (frame ∷ frames) (a ∷ others) h =

@@ -5,8 +5,11 @@ pub mod Driving
 pub mod Jumping
 pub mod Landing
 pub mod Leaving
+pub mod Memories
 pub mod Operators
+pub mod Patching
 pub mod Piles
 pub mod Simulation
 pub mod Typed
 pub mod Values
+pub mod Writes

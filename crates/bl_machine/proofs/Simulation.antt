@@ -20,6 +20,7 @@ use Rattle.bl_reduce.specs.TypedConfigurations.{IsRest, IsRunning, IsTyped, AreL
 use Rattle.bl_reduce.proofs.Places.{next_place, at_last}
 use Rattle.bl_reduce.proofs.Soundness.{progress as has_step}
 use Rattle.bl_base.proofs.Lists.{all_get}
+use Rattle.bl_machine.specs.Bodies.{body_of, prepared_of}
 use Rattle.bl_machine.specs.Jumps.{counts_of, counts_of_type, jumps_of}
 use Rattle.bl_machine.specs.Machines.{running as on, at_place}
 use Rattle.bl_machine.specs.MatchStates.{IsState, match_states, simulates}
@@ -31,6 +32,7 @@ use Rattle.bl_machine.specs.declared.machine.Progress.TheVariants.{Running, Ente
 use Rattle.bl_machine.proofs.Blocks.{HasCounts, block_simulates, loop_simulates, if_simulates, else_simulates, end_simulates}
 use Rattle.bl_machine.proofs.Calling.{bodies, body_got, enter_simulates, call_simulates}
 use Rattle.bl_machine.proofs.Landing.{IsJump, behind, item_there, none_there, jump_there, counts_there}
+use Rattle.bl_machine.proofs.Memories.{load_simulates, store_simulates, size_simulates, grow_simulates}
 use Rattle.bl_machine.proofs.Leaving.{branch_simulates, branch_if_simulates, branch_by_simulates, return_simulates}
 use Rattle.bl_machine.proofs.Operators.{operate_simulates}
 use Rattle.bl_machine.proofs.Typed.{Typed, enough, enough_below, chosen, none_seen, counts_are, returns_are_there, branches_are_there, operands_are_there, operator_operands}
@@ -45,17 +47,16 @@ record Stands (tree : Tree) (type : Signature) (open_ones : List Open) (from : L
   arity : state.frame.arity ≡ length type.results
   labels_are : AreLabels (context tree type state.frame.function) state.frame.function.code.items open_ones state.frame.labels
   values : Typed from state.frame.values
-  memory : IfSome state.frame.function.memory (λ number. number < length tree.memories)
   table : IfSome state.frame.function.table (λ number. number < length tree.tables)
 
-module _ (tree : Tree) (linked : IsLinked tree) (no_memories : tree.memories ≡ []) (no_tables : tree.tables ≡ []) where
+module _ (tree : Tree) (linked : IsLinked tree) (no_tables : tree.tables ≡ []) where
   module _ (type : Signature) (open_ones : List Open) where
     abbrev Simulated : Instr → ℕ → Jump → Machine → State → Type 0
-    Simulated item place jump m state = Then tree (executed (bodies tree) place jump item m) (execute tree item state)
+    Simulated item place jump m state = Then tree (executed tree (prepared_of tree) (body_of tree state.frame.function) place jump item m) (execute tree item state)
 
     plain_simulates : (item : Instr) (from to : List WasmType) (place : ℕ) (jump : Jump) (m : Machine) (state : State) → Plain (context tree type state.frame.function) (labels (context tree type state.frame.function) open_ones) item from to
         → Stands tree type open_ones from item place jump m state → Simulated item place jump m state
-    plain_simulates Unreachable from to place jump m state h s = λ has. ap (trapped_with trap_kind.Unreachable) s.is.memories
+    plain_simulates Unreachable from to place jump m state h s = λ has. ap (trapped_with trap_kind.Unreachable) (sym s.is.memories)
     plain_simulates Nop from to place jump m state h s = λ has. s.is
     plain_simulates (Br l) from to place jump m state h s =
         branch_simulates tree m state l s.is
@@ -80,10 +81,10 @@ module _ (tree : Tree) (linked : IsLinked tree) (no_memories : tree.memories ≡
     plain_simulates (LocalTee x) from to place jump m state h s = local_tee_simulates tree m state x s.is
     plain_simulates (GlobalGet x) from to place jump m state h s = global_get_simulates tree m state x s.is
     plain_simulates (GlobalSet x) from to place jump m state h s = global_set_simulates tree m state x s.is
-    plain_simulates (Load kind argument) from to place jump m state h s = absurd (none_seen state.frame.function.memory tree.memories no_memories s.memory h.2)
-    plain_simulates (Store kind argument) from to place jump m state h s = absurd (none_seen state.frame.function.memory tree.memories no_memories s.memory h.2)
-    plain_simulates MemorySize from to place jump m state h s = absurd (none_seen state.frame.function.memory tree.memories no_memories s.memory h.0)
-    plain_simulates MemoryGrow from to place jump m state h s = absurd (none_seen state.frame.function.memory tree.memories no_memories s.memory h.0)
+    plain_simulates (Load kind argument) from to place jump m state h s = load_simulates tree kind argument m state s.is
+    plain_simulates (Store kind argument) from to place jump m state h s = store_simulates tree kind argument m state s.is
+    plain_simulates MemorySize from to place jump m state h s = size_simulates tree m state s.is
+    plain_simulates MemoryGrow from to place jump m state h s = grow_simulates tree m state s.is
     plain_simulates (I32Const n) from to place jump m state h s = push_simulates tree m state n s.is
     plain_simulates (I64Const n) from to place jump m state h s = push_simulates tree m state n s.is
     plain_simulates (Integer op) from to place jump m state h s =
@@ -153,13 +154,13 @@ module _ (tree : Tree) (linked : IsLinked tree) (no_memories : tree.memories ≡
     }
 
     at_item : (item : Instr) (rest : List Instr) → state.frame.rest ≡ item ∷ rest → HasStep (frame_step tree (item ∷ rest) state)
-        → simulates tree (executed_at (bodies tree) (jumps_of tree.types items) (slice_get items m.current.place) m) (frame_step tree (item ∷ rest) state)
+        → simulates tree (executed_at tree (prepared_of tree) (body_of tree state.frame.function) (slice_get items m.current.place) m) (frame_step tree (item ∷ rest) state)
     at_item item rest e has =
         let left : item ∷ rest ≡ drop m.current.place items = sym e ∙ is.current.place in
         let begins = subst (IsRest (context tree typed.type state.frame.function) items typed.open_ones typed.stack) e typed.begins in
         let next = next_place (context tree typed.type state.frame.function) items item rest typed.open_ones typed.stack begins in
         let jump : Jump = get_or (jumps_of tree.types items) m.current.place no_jump in
-        subst (λ o. simulates tree (executed_at (bodies tree) (jumps_of tree.types items) o m) (frame_step tree (item ∷ rest) state)) (sym (item_there item rest m.current.place items left))
+        subst (λ o. simulates tree (executed_at tree (prepared_of tree) (body_of tree state.frame.function) o m) (frame_step tree (item ∷ rest) state)) (sym (item_there item rest m.current.place items left))
         (item_simulates typed.type typed.open_ones item typed.stack next.0 next.1 m.current.place jump (at_place (m.current.place + 1) m) (with_rest rest state) next.2 (record {
           is = behind_it item rest e;
           jumps = jump_there tree.types m.current.place items item rest no_jump left;
@@ -168,33 +169,32 @@ module _ (tree : Tree) (linked : IsLinked tree) (no_memories : tree.memories ≡
           arity = typed.frame_is.arity;
           labels_are = typed.frame_is.labels;
           values = typed.frame_is.values;
-          memory = function_is.memory;
           table = function_is.table;
         }) has)
 
-    at_the_end : state.frame.rest ≡ [] → simulates tree (executed_at (bodies tree) (jumps_of tree.types items) (slice_get items m.current.place) m) (frame_step tree [] state)
+    at_the_end : state.frame.rest ≡ [] → simulates tree (executed_at tree (prepared_of tree) (body_of tree state.frame.function) (slice_get items m.current.place) m) (frame_step tree [] state)
     at_the_end e =
         let begins = subst (IsRest (context tree typed.type state.frame.function) items typed.open_ones typed.stack) e typed.begins in
         let last = at_last (context tree typed.type state.frame.function) items typed.open_ones typed.stack begins in
-        subst (λ o. simulates tree (executed_at (bodies tree) (jumps_of tree.types items) o m) (frame_step tree [] state)) (sym (none_there m.current.place items (sym e ∙ is.current.place)))
+        subst (λ o. simulates tree (executed_at tree (prepared_of tree) (body_of tree state.frame.function) o m) (frame_step tree [] state)) (sym (none_there m.current.place items (sym e ∙ is.current.place)))
         (return_simulates tree m state is
         (returns_are_there tree typed.type state typed.frame_is.arity typed.stack [] last.1 typed.frame_is.values))
 
     frame_simulates : (rest : List Instr) → state.frame.rest ≡ rest → HasStep (frame_step tree rest state)
-        → simulates tree (executed_at (bodies tree) (jumps_of tree.types items) (slice_get items m.current.place) m) (frame_step tree rest state)
+        → simulates tree (executed_at tree (prepared_of tree) (body_of tree state.frame.function) (slice_get items m.current.place) m) (frame_step tree rest state)
     frame_simulates [] e has = at_the_end e
     frame_simulates (item ∷ rest) e has = at_item item rest e has
 
-    state_simulates : HasStep (source_step tree (running state)) → simulates tree (advanced tree.functions (bodies tree) Running m) (source_step tree (running state))
+    state_simulates : HasStep (source_step tree (running state)) → simulates tree (advanced tree (prepared_of tree) Running m) (source_step tree (running state))
     state_simulates has =
-        subst (λ n. simulates tree (executed_in (bodies tree) (slice_get tree.functions n) (slice_get (bodies tree) n) m) (source_step tree (running state))) (sym is.current.number)
-        (subst (λ o. simulates tree (executed_in (bodies tree) o (slice_get (bodies tree) state.frame.number) m) (source_step tree (running state))) (sym is.current.exists)
-        (subst (λ o. simulates tree (executed_in (bodies tree) (Some state.frame.function) o m) (source_step tree (running state))) (sym (body_got tree state.frame.number state.frame.function is.current.exists))
+        subst (λ n. simulates tree (executed_in tree (prepared_of tree) (slice_get tree.functions n) (slice_get (bodies tree) n) m) (source_step tree (running state))) (sym is.current.number)
+        (subst (λ o. simulates tree (executed_in tree (prepared_of tree) o (slice_get (bodies tree) state.frame.number) m) (source_step tree (running state))) (sym is.current.exists)
+        (subst (λ o. simulates tree (executed_in tree (prepared_of tree) (Some state.frame.function) o m) (source_step tree (running state))) (sym (body_got tree state.frame.number state.frame.function is.current.exists))
         (frame_simulates state.frame.rest refl has)))
 
   -- a step of the machine follows one of the rules
   pub step_simulates : (results : List ValueType) (progress : Progress) (m : Machine) (config : Config) → match_states tree progress m config → IsTyped tree results config
-      → simulates tree (advanced tree.functions (bodies tree) progress m) (source_step tree config)
+      → simulates tree (advanced tree (prepared_of tree) progress m) (source_step tree config)
   step_simulates results Running m (running state) is typed = state_simulates results m state is typed (has_step tree linked results (running state) typed)
   step_simulates results (Entering called) m (entering store number arguments callers) is typed =
       subst (λ n. simulates tree (entered_at (slice_get (bodies tree) n) n m) (source_step tree (entering store number arguments callers))) (sym is.0)

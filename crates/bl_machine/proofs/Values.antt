@@ -99,7 +99,7 @@ module _ (tree : Tree) where
 
   give_simulates : (m : Machine) (state : State) (kind : Option Trap) (value : ℕ) → IsState tree m state → simulates tree (give kind value m) (give_value kind value state)
   give_simulates m state None value is = pushed m state value is
-  give_simulates m state (Some kind) value is = ap (trapped_with kind) is.memories
+  give_simulates m state (Some kind) value is = ap (trapped_with kind) (sym is.memories)
 
   pub one_operand : (op : Op) (m : Machine) (state : State) → IsState tree m state → 1 ≤ length state.frame.values
       → simulates tree (operated_on op 1 m) (apply op (take 1 state.frame.values) (with_values (drop 1 state.frame.values) state))

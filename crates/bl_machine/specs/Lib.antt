@@ -3,4 +3,5 @@ pub mod Interpreting
 pub mod Jumps
 pub mod Machines
 pub mod MatchStates
+pub mod Spaces
 pub mod Transitions

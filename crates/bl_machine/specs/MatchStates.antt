@@ -72,7 +72,7 @@ AreActivations tree frames others upper = ⊥
 
 -- a function executes
 pub record IsState (tree : Tree) (m : Machine) (state : State) : Type 0 where
-  pub memories : state.store.memories ≡ []
+  pub memories : m.memories ≡ state.store.memories
   pub globals : m.globals ≡ state.store.globals
   pub lower : Pile
   pub current : IsActivation tree state.frame m.current lower (pile_of m)
@@ -80,7 +80,7 @@ pub record IsState (tree : Tree) (m : Machine) (state : State) : Type 0 where
 
 -- a function is about to be entered, whose arguments are the topmost locals
 pub record IsEntry (tree : Tree) (m : Machine) (store : Store) (arguments : List ℕ) (callers : List Frame) : Type 0 where
-  pub memories : store.memories ≡ []
+  pub memories : m.memories ≡ store.memories
   pub globals : m.globals ≡ store.globals
   pub lower : Pile
   pub values : m.stack ≡ lower.values
@@ -98,8 +98,8 @@ match_states tree progress m config = ⊥
 abbrev pub Leads : Tree → Progress → Machine → Next Config → Type 0
 Leads tree Running m (goes config) = match_states tree Running m config
 Leads tree (Entering number) m (goes config) = match_states tree (Entering number) m config
-Leads tree Returned m (ends outcome) = outcome ≡ returned m.stack []
-Leads tree (Trapped kind) m (ends outcome) = outcome ≡ trapped kind []
+Leads tree Returned m (ends outcome) = outcome ≡ returned m.stack m.memories
+Leads tree (Trapped kind) m (ends outcome) = outcome ≡ trapped kind m.memories
 Leads tree progress m next = ⊥
 
 abbrev pub simulates : Tree → Stepped → Next Config → Type 0

@@ -1,24 +1,25 @@
 //! Runs of linked trees.
-ghost use Rattle.std.specs.Prelude.{◌≡◌, ℕ, [], IfOk, IsTrue, map};
-ghost use Rattle.bl_base.specs.Runs.{Tells};
+ghost use Rattle.std.specs.Prelude.{◌≡◌, ℕ, [], IfOk, IsTrue, length, map};
+ghost use Rattle.bl_base.specs.Runs.{Tells, outcome_of};
 ghost use Rattle.bl_wasm.specs.Linked.{IsLinked};
 ghost use Rattle.bl_reduce.specs.Outcomes.{IsStart, source};
-ghost use Rattle.bl_machine.specs.Bodies.{body_of};
-ghost use Rattle.bl_machine.specs.Interpreting.{Drives, has_ended, memories_in, run_of, starting};
+ghost use Rattle.bl_machine.specs.Bodies.{prepared_of};
+ghost use Rattle.bl_machine.specs.Interpreting.{Drives, TellsMemories, has_ended, memories_in, starting, told};
 ghost use Rattle.bl_machine.specs.Machines.{Gives};
 ghost use Rattle.bl_machine.specs.Transitions.{advanced};
 
-use crate::body::{Body, bodies};
+use crate::body::{Prepared, prepare};
 use crate::items::{enter, step_in};
 use crate::machine::{Activation, Machine, Progress};
+use crate::spaces::Spaces;
 use crate::stack::Stack;
 use bl_base::{List, NoMemory, Run, Start};
-use bl_wasm::{Function, Linked, Tree};
+use bl_wasm::{Linked, Tree};
 use std::alloc::Global;
 
 /// The outcome of a function's run from a start within so many steps of the reduction rules (WebAssembly 1.0, section
-/// 4); Spent where there is none. The tree has neither memories nor tables. Linear in the tree and in the steps; the
-/// memory that it takes doesn't grow with the steps.
+/// 4); Spent where there is none. The tree has no tables. Linear in the tree, its memories' bytes and the steps; beside the
+/// pages of memories that grow, the memory that it takes doesn't grow with the steps.
 pub fn interp(
     alloc: Global,
     tree: &Linked,
@@ -27,20 +28,21 @@ pub fn interp(
     steps: u64,
 ) -> Result<Run, NoMemory>
     requires start { IsStart tree.now function start.now }
-    requires memories { tree.now.memories ≡ [] }
     requires tables { tree.now.tables ≡ [] }
     ensures answers { IfOk result (λ run. Tells (source tree.now function start.now) steps run) }
-    ensures memories { IfOk result (λ run. memories_in run ≡ []) }
+    ensures memories { IfOk result (λ run. TellsMemories (length tree.now.memories) run) }
+    ensures bare { IfOk result (λ run. tree.now.memories ≡ [] → memories_in run ≡ []) }
 {
     let tree = tree.tree();
-    let bodies = bodies(alloc, tree)?;
+    let prepared = prepare(alloc, tree)?;
     let mut machine = begin(alloc, tree, start)?;
-    let progress = drive(&mut machine, tree, &bodies, function, start, steps)?;
-    Ok(finish(alloc, machine, progress))
+    let progress = drive(&mut machine, tree, &prepared, function, start, steps)?;
+    finish(alloc, machine, progress)
 }
 
 /// The machine before the first step: the arguments are its locals.
 pub fn begin(alloc: Global, tree: &Tree, start: &Start) -> Result<Machine, NoMemory>
+    requires { IsLinked tree.now }
     ensures { IfOk result (λ machine. machine ≡ starting tree.now start.now) }
 {
     let mut locals = Stack::new(alloc);
@@ -49,6 +51,8 @@ pub fn begin(alloc: Global, tree: &Tree, start: &Start) -> Result<Machine, NoMem
     for global in tree.globals.as_slice() {
         globals.push(global.first)?;
     }
+    let mut memories = Spaces::of(alloc, tree.memories.as_slice())?;
+    memories.patch(start.patches.as_slice());
     Ok(Machine {
         stack: Stack::new(alloc),
         locals,
@@ -63,6 +67,7 @@ pub fn begin(alloc: Global, tree: &Tree, start: &Start) -> Result<Machine, NoMem
         },
         callers: Stack::new(alloc),
         globals,
+        memories,
     })
 }
 
@@ -70,22 +75,21 @@ pub fn begin(alloc: Global, tree: &Tree, start: &Start) -> Result<Machine, NoMem
 fn drive(
     machine: &mut Machine,
     tree: &Tree,
-    bodies: &[Body],
+    prepared: &Prepared,
     function: u32,
     start: &Start,
     steps: u64,
 ) -> Result<Progress, NoMemory>
     requires linked { IsLinked tree.now }
     requires start { IsStart tree.now function start.now }
-    requires memories { tree.now.memories ≡ [] }
     requires tables { tree.now.tables ≡ [] }
-    requires bodies { bodies.now ≡ map (body_of tree.now) tree.now.functions }
+    requires prepared { prepared.now ≡ prepared_of tree.now }
     requires begun { machine.old ≡ starting tree.now start.now }
     ensures { IfOk result (λ progress. Drives tree.now function start.now steps progress machine.new) }
 {
     let mut progress = Progress::Entering(function);
     for _ in 0..steps {
-        progress = advance(machine, tree.functions.as_slice(), bodies, progress)?;
+        progress = advance(machine, tree, prepared, progress)?;
         if ended(progress) {
             return Ok(progress);
         }
@@ -96,15 +100,15 @@ fn drive(
 /// A step.
 pub fn advance(
     machine: &mut Machine,
-    functions: &[Function],
-    bodies: &[Body],
+    tree: &Tree,
+    prepared: &Prepared,
     progress: Progress,
 ) -> Result<Progress, NoMemory>
-    ensures { Gives result machine.new (advanced functions.now bodies.now progress machine.old) }
+    ensures { Gives result machine.new (advanced tree.now prepared.now progress machine.old) }
 {
     match progress {
-        Progress::Running => step_in(machine, functions, bodies),
-        Progress::Entering(number) => enter(machine, bodies, number),
+        Progress::Running => step_in(machine, tree, prepared),
+        Progress::Entering(number) => enter(machine, prepared.bodies.as_slice(), number),
         other => Ok(other),
     }
 }
@@ -117,18 +121,18 @@ pub fn ended(progress: Progress) -> bool
 }
 
 /// The outcome of a machine that has come so far.
-fn finish(alloc: Global, machine: Machine, progress: Progress) -> Run
-    ensures { result ≡ run_of progress machine }
+fn finish(alloc: Global, machine: Machine, progress: Progress) -> Result<Run, NoMemory>
+    ensures { IfOk result (λ run. outcome_of run ≡ told progress machine) }
 {
     match progress {
-        Progress::Returned => Run::Returned {
+        Progress::Returned => Ok(Run::Returned {
             values: List::of(machine.stack.into_vec()),
-            memories: List::new(alloc),
-        },
-        Progress::Trapped(kind) => Run::Trapped {
+            memories: machine.memories.into_pages(alloc)?,
+        }),
+        Progress::Trapped(kind) => Ok(Run::Trapped {
             kind,
-            memories: List::new(alloc),
-        },
-        _ => Run::Spent,
+            memories: machine.memories.into_pages(alloc)?,
+        }),
+        _ => Ok(Run::Spent),
     }
 }

@@ -6,6 +6,8 @@ mod interpreter;
 mod items;
 mod jumps;
 mod machine;
+mod space;
+mod spaces;
 mod stack;
 
 pub use interpreter::interp;

@@ -1,10 +1,15 @@
 //! The machine: one stack for each kind of thing, whose parts belong to the functions that have been entered.
 ghost use Rattle.std.specs.Prelude.{◌≡◌, OnOk, length, nat_lt};
-ghost use Rattle.bl_machine.specs.Machines.{Becomes, Gives, at_place, called, closed, entered, give, global_at, label_at, local_at, most_callers, opened, popped, push, resumed, returned, running, to_label, top, with_global, with_local};
+ghost use Rattle.bl_machine.specs.Machines.{Becomes, Gives, at_place, called, closed, entered, give, global_at, grown, label_at, load_from, local_at, memory_at, most_callers, opened, popped, push, resumed, returned, running, store_to, to_label, top, with_global, with_local};
 
 use crate::body::Body;
+use crate::spaces::Spaces;
 use crate::stack::Stack;
 use bl_base::{NoMemory, Trap};
+use bl_ops::AccessKind;
+
+/// What memory.grow answers where a memory doesn't grow.
+const REFUSED: u64 = 0xFFFF_FFFF;
 
 /// The most functions that wait for one that they called.
 const MOST_CALLERS: usize = 1_023;
@@ -65,6 +70,8 @@ pub struct Machine {
     pub callers: Stack<Activation>,
     /// The values of the globals.
     pub globals: Stack<u64>,
+    /// The memories.
+    pub memories: Spaces,
 }
 
 impl Machine {
@@ -134,6 +141,66 @@ impl Machine {
         ensures { self.new ≡ with_global x value self.old }
     {
         self.globals.put(x as usize, value);
+    }
+
+    // ---- memories
+
+    /// The pages of a memory.
+    pub fn pages(&self, number: usize) -> u32
+        ensures { result ≡ (memory_at number self.now).pages }
+    {
+        self.memories.pages(number)
+    }
+
+    /// Loads from a memory: the effective address is the topmost value plus the offset, without wrapping.
+    pub fn load(
+        &mut self,
+        kind: AccessKind,
+        offset: u32,
+        number: usize,
+    ) -> Result<Progress, NoMemory>
+        ensures { Gives result self.new (load_from kind offset number self.old) }
+    {
+        let address = self.pop();
+        if !self
+            .memories
+            .has_room(number, address, offset, u64::from(kind.width()))
+        {
+            return Ok(Progress::Trapped(Trap::OutOfBounds));
+        }
+        let value = self
+            .memories
+            .load(number, kind, address as usize + offset as usize);
+        self.push(value)
+    }
+
+    /// Stores the topmost value in a memory; the address lies below it.
+    pub fn store(&mut self, kind: AccessKind, offset: u32, number: usize) -> Progress
+        ensures { Becomes result self.new (store_to kind offset number self.old) }
+    {
+        let value = self.pop();
+        let address = self.pop();
+        if !self
+            .memories
+            .has_room(number, address, offset, u64::from(kind.width()))
+        {
+            return Progress::Trapped(Trap::OutOfBounds);
+        }
+        self.memories
+            .store(number, kind, address as usize + offset as usize, value);
+        Progress::Running
+    }
+
+    /// Grows a memory of that reserve by so many pages, where they are within it.
+    pub fn grow(&mut self, reserve: u32, delta: u64, number: usize) -> Result<Progress, NoMemory>
+        ensures { Gives result self.new (grown reserve delta number self.old) }
+    {
+        let pages = self.pages(number);
+        if pages > reserve || delta > u64::from(reserve - pages) {
+            return self.push(REFUSED);
+        }
+        self.memories.grow(number, delta as u32)?;
+        self.push(u64::from(pages))
     }
 
     // ---- labels

@@ -1,21 +1,29 @@
-use Rattle.std.proofs.Common.{◌≡◌, [], refl}
-use Rattle.bl_machine.specs.Interpreting.{memories_in, run_of}
-use Rattle.bl_machine.specs.declared.machine.Machine.{Machine}
-use Rattle.bl_machine.specs.declared.machine.Progress.{Progress}
-use Rattle.bl_machine.specs.declared.machine.Progress.TheVariants.{Running, Entering, Returned, Trapped}
-use Rattle.bl_machine.proofs.Driving.{answers}
+use Rattle.std.proofs.Common.{◌≡◌, [], length, sym, subst}
+use Rattle.bl_base.specs.Runs.{IsWithin, Tells}
+use Rattle.bl_reduce.specs.Outcomes.{source}
+use Rattle.bl_machine.specs.Interpreting.{TellsMemories, memories_in, told}
+use Rattle.bl_machine.proofs.Driving.{answers, tells_memories, tells_none, told_is}
 use Rattle.bl_machine.proofs.interpreter.interp.Goals as goal
 
-no_memories : (progress : Progress) (m : Machine) → memories_in (run_of progress m) ≡ []
-no_memories Running m = refl
-no_memories (Entering number) m = refl
-no_memories Returned m = refl
-no_memories (Trapped kind) m = refl
-
 pub returns-clause-answers : goal.returns-clause-answers
-returns-clause-answers c = rw c.finish.ensures
-    (answers c.args.tree.now c.args.function c.args.start.now c.args.steps c.in_ok-progress.progress c.drive.new.machine c.requires.start
-    (rw c.tree-tree.ensures.same at c.in_ok-progress.ensures))
+returns-clause-answers c =
+    let drives = rw c.tree-tree.ensures.same at c.in_ok-progress.ensures in
+    told_is (λ run. Tells (source c.args.tree.now c.args.function c.args.start.now) c.args.steps run) c.finish.result (told c.in_ok-progress.progress c.drive.new.machine)
+    (λ run e. subst (IsWithin (source c.args.tree.now c.args.function c.args.start.now) c.args.steps) (sym e)
+    (answers c.args.tree.now c.args.function c.args.start.now c.args.steps c.in_ok-progress.progress c.drive.new.machine c.requires.start drives))
+    c.finish.ensures
 
 pub returns-clause-memories : goal.returns-clause-memories
-returns-clause-memories c = rw c.finish.ensures (no_memories c.in_ok-progress.progress c.drive.new.machine)
+returns-clause-memories c =
+    let drives = rw c.tree-tree.ensures.same at c.in_ok-progress.ensures in
+    told_is (TellsMemories (length c.args.tree.now.memories)) c.finish.result (told c.in_ok-progress.progress c.drive.new.machine)
+    (λ run e. tells_memories c.args.tree.now c.args.function c.args.start.now c.args.steps c.in_ok-progress.progress c.drive.new.machine run e drives)
+    c.finish.ensures
+
+pub returns-clause-bare : goal.returns-clause-bare
+returns-clause-bare c =
+    let drives = rw c.tree-tree.ensures.same at c.in_ok-progress.ensures in
+    told_is (λ run. c.args.tree.now.memories ≡ [] → memories_in run ≡ []) c.finish.result (told c.in_ok-progress.progress c.drive.new.machine)
+    (λ run e none. tells_none c.args.tree.now run none
+    (tells_memories c.args.tree.now c.args.function c.args.start.now c.args.steps c.in_ok-progress.progress c.drive.new.machine run e drives))
+    c.finish.ensures
