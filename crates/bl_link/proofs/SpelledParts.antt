@@ -8,7 +8,7 @@ use Rattle.std.proofs.lemmas.List.{length-map}
 use Rattle.std.proofs.lemmas.List.Elements.{All-nil, All-cons, All-weaker}
 use Rattle.bl_base.specs.Quantity.{limit_of}
 use Rattle.bl_base.specs.declared.quantity.Quantity.{Quantity}
-use Rattle.bl_base.specs.declared.quantity.Quantity.TheVariants.{Functions, Locals, Memory, Results}
+use Rattle.bl_base.specs.declared.quantity.Quantity.TheVariants.{Functions, Locals, Memory, Results, Table}
 use Rattle.bl_labels.specs.Marked.{unlabelled}
 use Rattle.bl_wasm.specs.Limits.{Excess, above, first_excess, first_in, function_excess, local_count}
 use Rattle.bl_wasm.specs.Modules.{Spells}
@@ -95,7 +95,7 @@ part_from name bytes tree named spelled few none =
     let s = is_spelled bytes tree spelled in
     let functions = either_none (above Functions (length (functions_of tree))) _ none in
     let results = either_none (first_in (λ (type : FuncType). above Results (length type.results)) tree.types) _ functions.1 in
-    let tables = either_none _ _ results.1 in
+    let tables = either_none (first_in (λ (table : Limits). above Table table.min) tree.tables) _ results.1 in
     let memories = either_none (first_in (λ (limits : Limits). above Memory limits.min) tree.memories) _ tables.1 in
     record {
       name = named;

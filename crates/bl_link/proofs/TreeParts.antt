@@ -48,6 +48,6 @@ code_made tree wasm bodies marks spaces types functions functions_before types_b
     ∙ ap (λ (x : List Function). record tree { types = tree.types ++ map signature wasm.types; functions = x }) whole
 
 -- an error is passed on
-pub makes_err : {A B C D : Type 0} (e : LinkError) (x : A) (y : B) (a : Result A LinkError) (b : Result B LinkError) → (a ≡ Err e → b ≡ Err e) → Makes {B = C} (Err e) x a → Makes {B = D} (Err e) y b
-makes_err NoRoom x y a b f h = tt
-makes_err e x y a b f h = f h
+pub makes_err : {A B : Type 0} (C D : Type 0) (e : LinkError) (x : A) (y : B) (a : Result A LinkError) (b : Result B LinkError) → (a ≡ Err e → b ≡ Err e) → Makes {B = C} (Err e) x a → Makes {B = D} (Err e) y b
+makes_err C D NoRoom x y a b f h = tt
+makes_err C D e x y a b f h = f h

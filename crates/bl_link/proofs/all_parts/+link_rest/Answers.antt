@@ -18,5 +18,5 @@ link_rest-requires t c = (
 )
 
 pub returns-in-Err : goal.returns-in-Err
-returns-in-Err t c = makes_err c.in-Err.error c.link_part.new.store c.link_part.new.store (with_next (Ok c.args.store.now) (c.args.number, c.in-Some.part)) (fold with_next (Ok c.args.store.now) (enumerate_from c.args.number (into_iter_items c.args.rest)))
+returns-in-Err t c = makes_err Unit Unit c.in-Err.error c.link_part.new.store c.link_part.new.store (with_next (Ok c.args.store.now) (c.args.number, c.in-Some.part)) (fold with_next (Ok c.args.store.now) (enumerate_from c.args.number (into_iter_items c.args.rest)))
     (λ failed. fold_fails c.args.store.now c.args.number (into_iter_items c.args.rest) (into_iter_items c.next.new.self) c.in-Some.part c.in-Err.error c.in-Some.ensures.cases.0 failed) c.in-Err.ensures
