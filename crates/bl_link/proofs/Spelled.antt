@@ -27,7 +27,7 @@ each_all B P gives (x ∷ xs) bytes h = All-cons P x xs (gives x h.front h.first
 
 -- ---- a section of several
 
-section_length : {A : Type 0} (id : ℕ) (B : A → Spellings) → ((x : A) (bytes : List ℕ) → B x bytes → 1 ≤ length bytes) → (xs : List A) (bytes : List ℕ) → vec_section id B xs bytes → length xs ≤ length bytes
+pub section_length : {A : Type 0} (id : ℕ) (B : A → Spellings) → ((x : A) (bytes : List ℕ) → B x bytes → 1 ≤ length bytes) → (xs : List A) (bytes : List ℕ) → vec_section id B xs bytes → length xs ≤ length bytes
 section_length id B some xs bytes (inl h) =
     let contents = h.second.spelled in
     omega (
@@ -42,23 +42,23 @@ section_length id B some xs bytes (inl h) =
     )
 section_length id B some xs bytes (inr none) = omega (arith, ap length none.0)
 
-section_all : {A : Type 0} (id : ℕ) (B : A → Spellings) (P : A → Type 0) → ((x : A) (bytes : List ℕ) → B x bytes → P x) → (xs : List A) (bytes : List ℕ) → vec_section id B xs bytes → All P xs
+pub section_all : {A : Type 0} (id : ℕ) (B : A → Spellings) (P : A → Type 0) → ((x : A) (bytes : List ℕ) → B x bytes → P x) → (xs : List A) (bytes : List ℕ) → vec_section id B xs bytes → All P xs
 section_all id B P gives xs bytes (inl h) = each_all B P gives xs h.second.spelled.rest h.second.spelled.second
 section_all id B P gives xs bytes (inr none) = subst (All P) (sym none.0) (All-nil P)
 
 -- ---- the sections of a module
 
 -- a section, and what is behind it
-record Stands (Section : Spellings) (Behind : List CustomSection → Spellings) (whole : ℕ) : Type 0 where
-  section : List ℕ
-  spelled : Section section
-  within : length section ≤ whole
-  customs : List CustomSection
-  rest : List ℕ
-  behind : Behind customs rest
-  left : length rest ≤ whole
+pub record Stands (Section : Spellings) (Behind : List CustomSection → Spellings) (whole : ℕ) : Type 0 where
+  pub section : List ℕ
+  pub spelled : Section section
+  pub within : length section ≤ whole
+  pub customs : List CustomSection
+  pub rest : List ℕ
+  pub behind : Behind customs rest
+  pub left : length rest ≤ whole
 
-stands : {Section : Spellings} {Behind : List CustomSection → Spellings} (customs : List CustomSection) (bytes : List ℕ) (whole : ℕ) → length bytes ≤ whole → (Section ▷ Behind) customs bytes → Stands Section Behind whole
+pub stands : {Section : Spellings} {Behind : List CustomSection → Spellings} (customs : List CustomSection) (bytes : List ℕ) (whole : ℕ) → length bytes ≤ whole → (Section ▷ Behind) customs bytes → Stands Section Behind whole
 stands customs bytes whole most h =
     let s = h.spelled in
     let lengths : (length s.second.front ≤ whole) × (length s.second.rest ≤ whole) = (
@@ -77,12 +77,12 @@ stands customs bytes whole most h =
 
 -- ---- globals and exports
 
-global_spelled : (global : DefinedGlobal) (bytes : List ℕ) → global_entry global bytes → 1 ≤ length bytes
+pub global_spelled : (global : DefinedGlobal) (bytes : List ℕ) → global_entry global bytes → 1 ≤ length bytes
 global_spelled global bytes h =
     let last = h.second.1 in
     omega (arith, ap length h.whole, length-append h.front h.rest, ap length last.whole, length-append last.front last.rest, ap length last.second)
 
-export_spelled : (entry : Export) (bytes : List ℕ) → export_entry entry bytes → IsUtf8 entry.name
+pub export_spelled : (entry : Export) (bytes : List ℕ) → export_entry entry bytes → IsUtf8 entry.name
 export_spelled entry bytes h = h.first.0
 
 -- each global takes a byte, and the names are text

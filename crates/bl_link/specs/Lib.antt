@@ -1,1 +1,12 @@
 pub mod Alone
+pub mod CanLink
+pub mod Giving
+pub mod Growing
+pub mod HasRoom
+pub mod Linkable
+pub mod Links
+pub mod Matching
+pub mod Named
+pub mod NamedPairs
+pub mod Parts
+pub mod Stores

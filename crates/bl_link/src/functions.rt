@@ -68,7 +68,11 @@ fn demanded(alloc: Global, kind: Option<&FuncType>) -> Result<List<bool>, NoMemo
 }
 
 /// So many times one value.
-fn repeated<T: Copy + Drop>(alloc: Global, x: T, count: usize) -> Result<List<T>, NoMemory>
+pub(crate) fn repeated<T: Copy + Drop>(
+    alloc: Global,
+    x: T,
+    count: usize,
+) -> Result<List<T>, NoMemory>
     ensures { IfOk result (λ all. all ≡ replicate count x) }
 {
     let mut all = List::new(alloc);
@@ -79,7 +83,7 @@ fn repeated<T: Copy + Drop>(alloc: Global, x: T, count: usize) -> Result<List<T>
 }
 
 /// Reads the immediates of the items, whose types say that they are numbers of their widths.
-fn read_all(items: &[Instr])
+pub(crate) fn read_all(items: &[Instr])
     ensures { All HasImmediates items.now }
 {
     for item in items {

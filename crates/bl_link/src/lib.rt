@@ -1,8 +1,26 @@
 //! Linking: the modules of a request as one program (WebAssembly 1.0, section 4.5.4).
 #![tactic(auto)]
 
+mod all_parts;
 mod alone;
+mod bodies;
+mod defined;
+mod error;
 mod functions;
+mod given;
+pub mod laws;
+mod matching;
+mod named;
+mod names;
+mod part;
 mod parts;
+mod rename;
+mod segments;
+mod spaces;
+mod store;
+mod widths;
 
+pub use all_parts::link;
 pub use alone::link_alone;
+pub use error::LinkError;
+pub use part::Part;

@@ -22,7 +22,7 @@ pub(crate) fn signatures(alloc: Global, types: &[FuncType]) -> Result<List<Signa
 }
 
 /// A type of functions.
-fn signature(alloc: Global, kind: &FuncType) -> Result<Signature, NoMemory>
+pub(crate) fn signature(alloc: Global, kind: &FuncType) -> Result<Signature, NoMemory>
     ensures { IfOk result (λ signature. signature ≡ signature_of kind.now) }
 {
     let params = value_types(alloc, kind.params.as_slice())?;
@@ -42,7 +42,7 @@ fn value_types(alloc: Global, kinds: &[WasmType]) -> Result<List<ValueType>, NoM
 }
 
 /// A type of values; a float's is never asked for.
-fn value_type(kind: WasmType) -> ValueType
+pub(crate) fn value_type(kind: WasmType) -> ValueType
     ensures { result ≡ value_of kind }
 {
     match kind {

@@ -1,0 +1,12 @@
+-- The exports of parts: names with external values, in order.
+use Rattle.std.specs.Prelude.{ℕ, List, map, String, string_bytes}
+use Rattle.std.specs.declared.alloc.Global.{Global}
+use Rattle.bl_link.specs.declared.store.External.{External}
+
+-- each name with its value
+abbrev pub Values : Type 0
+Values = List (List ℕ × External)
+
+-- the pairs by the bytes of their names
+abbrev pub values_of : List (String Global × External) → Values
+values_of entries = map (λ entry. (string_bytes entry.0, entry.1)) entries

@@ -1,0 +1,52 @@
+//! The exports of all parts that are linked, by their names.
+ghost use Rattle.std.specs.Prelude.{◌≡◌, [], ◌∷◌, ◌++◌, None, OnOk, OnErr, string_bytes};
+ghost use Rattle.bl_link.specs.Named.{value_named};
+
+use crate::store::External;
+use bl_base::NoMemory;
+use indexmap::IndexMap;
+use std::alloc::Global;
+use std::marker::Model;
+
+/// Exports by their names in the tree, in order. Contracts see the list of the pairs of a name and a value.
+#[derive(Drop)]
+pub(crate) struct Named {
+    map: IndexMap<String, External>,
+}
+
+impl Model for Named {
+    ghost use Rattle.bl_link.specs.NamedPairs.{Values, values_of};
+
+    ghost Value = { Values };
+
+    ghost view = { λ e. values_of e.map.entries };
+}
+
+#[tactic(auto, using(crate::proofs::NamedLemmas::named_rules))]
+impl Named {
+    /// No names; takes no memory.
+    pub(crate) fn new(alloc: Global) -> Named
+        ensures { result ≡ [] }
+    {
+        Named {
+            map: IndexMap::new(alloc),
+        }
+    }
+
+    /// The value of that name. Takes no memory.
+    pub(crate) fn find(&self, name: &str) -> Option<External>
+        ensures { result ≡ value_named name.now self.now }
+    {
+        self.map.get(name).copied()
+    }
+
+    /// Adds a name that isn't there. A refusal leaves the names as they were.
+    pub(crate) fn add(&mut self, name: String, value: External) -> Result<(), NoMemory>
+        requires { value_named (string_bytes name) self.old ≡ None }
+        ensures ok { OnOk result (self.new ≡ self.old ++ (string_bytes name, value) ∷ []) }
+        ensures err { OnErr result (self.new ≡ self.old) }
+    {
+        self.map.insert(name, value)?;
+        Ok(())
+    }
+}

@@ -1,0 +1,98 @@
+//! The names of exports in the tree.
+ghost use Rattle.std.specs.Prelude.{◌≡◌, ◌++◌, ℕ, List as Listed, filter_map, map, IfOk, string_bytes};
+ghost use Rattle.std.specs.List.{All};
+ghost use Rattle.std.specs.Str.{IsUtf8};
+ghost use Rattle.bl_wasm.specs.Exports.{AreDistinct};
+ghost use Rattle.bl_link.specs.Alone.{qualified as qualified_of};
+ghost use Rattle.bl_link.specs.Links.{exported as exported_of, pair};
+ghost use Rattle.bl_link.specs.Parts.{space as space_of};
+ghost use Rattle.bl_link.specs.Stores.{AreApart};
+
+use crate::named::Named;
+use crate::rename::number;
+use crate::store::{External, Spaces};
+use bl_base::{List, NoMemory};
+use bl_wasm::{Export, ExportKind, Exports};
+use std::alloc::Global;
+
+/// The name of an export behind its part's: a solidus parts them.
+pub(crate) fn qualified(alloc: Global, part: &[u8], name: &[u8]) -> Result<String, NoMemory>
+    requires part { IsUtf8 part.now }
+    requires name { IsUtf8 name.now }
+    ensures { IfOk result (λ whole. string_bytes whole ≡ qualified_of part.now name.now) }
+{
+    let mut bytes = Vec::new(alloc);
+    bytes.extend_from_slice(part)?;
+    bytes.push(b'/')?;
+    bytes.extend_from_slice(name)?;
+    match String::from_utf8(bytes) {
+        Ok(whole) => Ok(whole),
+        Err(_) => unreachable!(),
+    }
+}
+
+/// The space of a kind.
+fn space(spaces: &Spaces, kind: ExportKind) -> &List<u32>
+    ensures { result.now ≡ space_of spaces.now kind }
+{
+    match kind {
+        ExportKind::Function => &spaces.functions,
+        ExportKind::Table => &spaces.tables,
+        ExportKind::Memory => &spaces.memories,
+        ExportKind::Global => &spaces.globals,
+    }
+}
+
+/// What is exported, by its number in the tree.
+fn external(spaces: &Spaces, entry: &Export) -> External
+    ensures { (name : Listed ℕ) → (exported_of name spaces.now entry.now).1 ≡ result }
+{
+    External {
+        kind: entry.kind,
+        number: number(space(spaces, entry.kind), entry.index),
+    }
+}
+
+/// The exports of all parts, behind those of the parts before.
+pub(crate) fn with_names(
+    alloc: Global,
+    before: Named,
+    part: &[u8],
+    spaces: &Spaces,
+    entries: &[Export],
+) -> Result<Named, NoMemory>
+    requires part { IsUtf8 part.now }
+    requires text { All (λ entry. IsUtf8 entry.name) entries.now }
+    requires apart { AreApart (λ value. value.0) (before ++ map (exported_of part.now spaces.now) entries.now) }
+    ensures { IfOk result (λ names. names ≡ before ++ map (exported_of part.now spaces.now) entries.now) }
+{
+    let mut names = before;
+    for entry in entries {
+        let name = qualified(alloc, part, entry.name.as_slice())?;
+        names.add(name, external(spaces, entry))?;
+    }
+    Ok(names)
+}
+
+/// The exported functions of all parts, behind those of the parts before.
+pub(crate) fn with_functions(
+    alloc: Global,
+    before: Exports,
+    part: &[u8],
+    spaces: &Spaces,
+    entries: &[Export],
+) -> Result<Exports, NoMemory>
+    requires part { IsUtf8 part.now }
+    requires text { All (λ entry. IsUtf8 entry.name) entries.now }
+    requires distinct { AreDistinct (before ++ filter_map (λ entry. pair (exported_of part.now spaces.now entry)) entries.now) }
+    ensures { IfOk result (λ all. all ≡ before ++ filter_map (λ entry. pair (exported_of part.now spaces.now entry)) entries.now) }
+{
+    let mut exports = before;
+    for entry in entries {
+        if entry.kind == ExportKind::Function {
+            let name = qualified(alloc, part, entry.name.as_slice())?;
+            exports.add(name, number(&spaces.functions, entry.index))?;
+        }
+    }
+    Ok(exports)
+}

@@ -1,0 +1,62 @@
+//! What the types of the code say of parts: their modules are typed, and their numbers are of their widths.
+ghost use Rattle.std.specs.Prelude.{◌≡◌};
+ghost use Rattle.std.specs.List.{All};
+ghost use Rattle.bl_base.specs.Fits.{AreBytes};
+ghost use Rattle.bl_wasm.specs.Linked.{HasImmediates};
+ghost use Rattle.bl_wasm.specs.Validity.{Typed};
+ghost use Rattle.bl_link.specs.Linkable.{HasWidths, IsSound};
+
+use crate::functions::read_all;
+use crate::part::Part;
+use bl_wasm::{Code, DataSegment, DefinedGlobal};
+
+/// Reads the numbers of bodies.
+fn read_bodies(bodies: &[Code])
+    ensures { All (λ code. All HasImmediates code.items) bodies.now }
+{
+    for code in bodies {
+        read_all(code.items.as_slice());
+    }
+}
+
+/// Reads the numbers of first values.
+fn read_firsts(globals: &[DefinedGlobal])
+    ensures { All (λ global. All HasImmediates global.first) globals.now }
+{
+    for global in globals {
+        read_all(global.first.as_slice());
+    }
+}
+
+/// Bytes are below 2^8.
+fn check_bytes(bytes: &[u8])
+    ensures { AreBytes bytes.now }
+{}
+
+/// Reads the bytes of segments.
+fn read_segments(segments: &[DataSegment])
+    ensures { All (λ segment. AreBytes segment.bytes) segments.now }
+{
+    for segment in segments {
+        check_bytes(segment.bytes.as_slice());
+    }
+}
+
+/// Reads the numbers of a part.
+fn check_part(part: &Part)
+    ensures { IsSound part.now }
+{
+    let wasm = part.wasm.module();
+    read_bodies(wasm.bodies.as_slice());
+    read_firsts(wasm.globals.as_slice());
+    read_segments(wasm.segments.as_slice());
+}
+
+/// Reads the numbers of all parts.
+pub(crate) fn check_parts(parts: &[Part])
+    ensures { All IsSound parts.now }
+{
+    for part in parts {
+        check_part(part);
+    }
+}
