@@ -4,9 +4,9 @@
 mod code;
 mod definitions;
 mod error;
-mod frames;
 mod functions;
 pub mod laws;
+mod layout;
 mod lowering;
 mod outline;
 mod program;
