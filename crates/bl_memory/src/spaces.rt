@@ -7,7 +7,7 @@ ghost use Rattle.bl_ops.specs.Access.{width_of};
 ghost use Rattle.bl_reduce.specs.Memory.{grow};
 ghost use Rattle.bl_reduce.specs.Outcomes.{first_memory};
 ghost use Rattle.bl_wasm.specs.Linked.{IsMemory};
-ghost use Rattle.bl_machine.specs.Spaces.{loaded_at, patched_all, patched_once, space_at, stored_at};
+ghost use Rattle.bl_memory.specs.Spaces.{loaded_at, patched_all, patched_once, space_at, stored_at};
 
 use crate::space::Space;
 use bl_base::{List, NoMemory, Pages, Patch};

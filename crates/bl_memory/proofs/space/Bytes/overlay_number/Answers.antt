@@ -1,9 +1,9 @@
 use Rattle.std.proofs.Common.{◌+◌, ◌-◌, ◌/◌, ◌%◌, length, ap, sym, ◌∙◌, arith}
 use Rattle.std.proofs.lemmas.List.{length-set}
 use Rattle.bl_base.specs.Bytes.{bytes_of}
-use Rattle.bl_machine.specs.Spaces.{over}
-use Rattle.bl_machine.proofs.Writes.{number_more, number_none}
-use Rattle.bl_machine.proofs.space.Bytes.overlay_number.Goals as goal
+use Rattle.bl_memory.specs.Spaces.{over}
+use Rattle.bl_memory.proofs.Writes.{number_more, number_none}
+use Rattle.bl_memory.proofs.space.Bytes.overlay_number.Goals as goal
 
 pub loop-i-preserved : goal.loop-i-preserved
 loop-i-preserved c = (

@@ -3,7 +3,7 @@ use Rattle.std.proofs.Common.{◌≡◌, ℕ, zero, suc, ◌+◌, ◌-◌, ◌*�
 use Rattle.std.proofs.lemmas.List.{length-take, length-drop}
 use Rattle.bl_base.specs.Bytes.{number_of, bytes_of}
 use Rattle.bl_reduce.proofs.MemoryItems.{length-bytes_of}
-use Rattle.bl_machine.specs.Spaces.{over}
+use Rattle.bl_memory.specs.Spaces.{over}
 
 -- ---- bytes over others
 

@@ -5,7 +5,7 @@ ghost use Rattle.bl_base.specs.Runs.{memory_of};
 ghost use Rattle.bl_ops.specs.Access.{extended, width_of};
 ghost use Rattle.bl_reduce.specs.Memory.{grow};
 ghost use Rattle.bl_reduce.specs.Outcomes.{first_memory};
-ghost use Rattle.bl_machine.specs.Spaces.{loaded_at, over, stored_at};
+ghost use Rattle.bl_memory.specs.Spaces.{loaded_at, over, stored_at};
 
 use bl_base::{NoMemory, Pages, Text};
 use bl_ops::{AccessKind, extend, narrow};

@@ -13,8 +13,8 @@ use Rattle.bl_base.proofs.Lists.{zip_get, zip_set, zip_map, zip_images}
 use Rattle.bl_wasm.specs.Linked.{IsMemory}
 use Rattle.bl_wasm.specs.declared.linked.Memory.{Memory}
 use Rattle.bl_reduce.specs.Outcomes.{first_memory}
-use Rattle.bl_machine.specs.Spaces.{no_memory, space_at, patched_once, patched_all}
-use Rattle.bl_machine.proofs.Writes.{over_length}
+use Rattle.bl_memory.specs.Spaces.{no_memory, space_at, patched_once, patched_all}
+use Rattle.bl_memory.proofs.Writes.{over_length}
 
 -- a memory has exactly the bytes of so many pages
 abbrev Sized : ℕ → MemoryState → Type 0

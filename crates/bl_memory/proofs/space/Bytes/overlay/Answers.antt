@@ -1,8 +1,8 @@
 use Rattle.std.proofs.Common.{◌+◌, drop, length, arith, ◌∙◌, refl, sym, ap}
 use Rattle.std.proofs.lemmas.List.{at_drop_all, length-set}
-use Rattle.bl_machine.specs.Spaces.{over}
-use Rattle.bl_machine.proofs.Writes.{over_more, over_none}
-use Rattle.bl_machine.proofs.space.Bytes.overlay.Goals as goal
+use Rattle.bl_memory.specs.Spaces.{over}
+use Rattle.bl_memory.proofs.Writes.{over_more, over_none}
+use Rattle.bl_memory.proofs.space.Bytes.overlay.Goals as goal
 
 pub loop-i-preserved : goal.loop-i-preserved
 loop-i-preserved c = (
