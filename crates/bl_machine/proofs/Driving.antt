@@ -26,7 +26,7 @@ use Rattle.bl_machine.specs.Transitions.{advanced}
 use Rattle.bl_machine.specs.declared.machine.Machine.{Machine}
 use Rattle.bl_machine.specs.declared.machine.Progress.{Progress}
 use Rattle.bl_machine.specs.declared.machine.Progress.TheVariants.{Running, Entering, Returned, Trapped}
-use Rattle.bl_machine.proofs.Patching.{patches_are}
+use Rattle.bl_memory.proofs.Patching.{patches_are}
 use Rattle.bl_machine.proofs.Simulation.{step_simulates}
 
 -- so many steps have come to a configuration that the machine stands for
@@ -90,11 +90,11 @@ module _ (tree : Tree) (function : ℕ) (start : Start) (steps : ℕ) (config : 
   led progress m next e typed leads = absurd leads
 
 pub stepped : (tree : Tree) (function : ℕ) (start : Start) (steps : ℕ) (progress : Progress) (m : Machine) (later : Progress) (n : Machine)
-    → IsLinked tree → tree.tables ≡ [] → Reached tree function start steps progress m
+    → IsLinked tree → Reached tree function start steps progress m
     → advanced tree (prepared_of tree) progress m ≡ record { progress = later; machine = n }
     → After tree function start (steps + 1) later n
-stepped tree function start steps progress m later n linked tables r e =
-    let follows = step_simulates tree linked tables r.results progress m r.config r.matches r.typed in
+stepped tree function start steps progress m later n linked r e =
+    let follows = step_simulates tree linked r.results progress m r.config r.matches r.typed in
     let P : Stepped → Type 0 = λ s. After tree function start (steps + 1) s.progress s.machine in
     let s = advanced tree (prepared_of tree) progress m in
     subst P e (led tree function start steps r.config r.comes r.results s.progress s.machine (source_step tree r.config) refl (preservation tree linked r.results r.config r.typed) follows)

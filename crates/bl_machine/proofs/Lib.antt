@@ -2,14 +2,14 @@ pub mod Blocks
 pub mod Calling
 pub mod Counting
 pub mod Driving
+pub mod Finding
 pub mod Jumping
 pub mod Landing
 pub mod Leaving
 pub mod Memories
 pub mod Operators
-pub mod Patching
 pub mod Piles
 pub mod Simulation
+pub mod Tables
 pub mod Typed
 pub mod Values
-pub mod Writes

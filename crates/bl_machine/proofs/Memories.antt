@@ -14,7 +14,7 @@ use Rattle.bl_reduce.specs.Configurations.{State, Config, go, trap, known, pop, 
 use Rattle.bl_reduce.specs.Memory.{read, grow, with_memory as with_memory_of, set_memory, load_at, load, store_at, store, memory_size, grow_within, memory_grow}
 use Rattle.bl_machine.specs.Machines.{Stepped, running, trapped, top, popped, push, memory_at, with_memory, loaded, stored, load_from, store_to, grown}
 use Rattle.bl_machine.specs.MatchStates.{IsState}
-use Rattle.bl_machine.specs.Spaces.{loaded_at, no_memory, stored_at}
+use Rattle.bl_memory.specs.Spaces.{loaded_at, no_memory, stored_at}
 use Rattle.bl_machine.specs.Transitions.{grown_within, reserve_of}
 use Rattle.bl_machine.specs.declared.machine.Machine.{Machine}
 use Rattle.bl_machine.proofs.Blocks.{either}

@@ -1,6 +1,6 @@
 -- The machine follows the rules.
-use Rattle.std.proofs.Common.{◌≡◌, ℕ, ◌+◌, ◌<◌, ◌≤◌, List, [], ◌∷◌, ◌++◌, length, map, drop, get_or, Some, slice_get, refl, sym, ap, ◌∙◌, subst, arith, length-append}
-use Rattle.std.specs.Prelude.{IfSome, unwrap_or}
+use Rattle.std.proofs.Common.{◌≡◌, ℕ, ◌+◌, ◌≤◌, List, [], ◌∷◌, ◌++◌, length, map, drop, get_or, Some, slice_get, refl, sym, ap, ◌∙◌, subst, arith, length-append}
+use Rattle.std.specs.Prelude.{unwrap_or}
 use Rattle.bl_base.specs.Runs.{HasStep, trapped as trapped_with}
 use Rattle.bl_base.specs.declared.names.ValueType.{ValueType}
 use Rattle.bl_base.specs.declared.trap.Trap.TheVariants as trap_kind
@@ -35,7 +35,8 @@ use Rattle.bl_machine.proofs.Landing.{IsJump, behind, item_there, none_there, ju
 use Rattle.bl_machine.proofs.Memories.{load_simulates, store_simulates, size_simulates, grow_simulates}
 use Rattle.bl_machine.proofs.Leaving.{branch_simulates, branch_if_simulates, branch_by_simulates, return_simulates}
 use Rattle.bl_machine.proofs.Operators.{operate_simulates}
-use Rattle.bl_machine.proofs.Typed.{Typed, enough, enough_below, chosen, none_seen, counts_are, returns_are_there, branches_are_there, operands_are_there, operator_operands}
+use Rattle.bl_machine.proofs.Typed.{Typed, enough, enough_below, chosen, counts_are, wanted_are_there, returns_are_there, branches_are_there, operands_are_there, operator_operands}
+use Rattle.bl_machine.proofs.Tables.{call_indirect_simulates}
 use Rattle.bl_machine.proofs.Values.{Then, push_simulates, drop_simulates, select_simulates, local_get_simulates, local_set_simulates, local_tee_simulates, global_get_simulates, global_set_simulates}
 
 -- a state at an item, behind which it stands, with what its typing says
@@ -47,9 +48,8 @@ record Stands (tree : Tree) (type : Signature) (open_ones : List Open) (from : L
   arity : state.frame.arity ≡ length type.results
   labels_are : AreLabels (context tree type state.frame.function) state.frame.function.code.items open_ones state.frame.labels
   values : Typed from state.frame.values
-  table : IfSome state.frame.function.table (λ number. number < length tree.tables)
 
-module _ (tree : Tree) (linked : IsLinked tree) (no_tables : tree.tables ≡ []) where
+module _ (tree : Tree) (linked : IsLinked tree) where
   module _ (type : Signature) (open_ones : List Open) where
     abbrev Simulated : Instr → ℕ → Jump → Machine → State → Type 0
     Simulated item place jump m state = Then tree (executed tree (prepared_of tree) (body_of tree state.frame.function) place jump item m) (execute tree item state)
@@ -73,7 +73,9 @@ module _ (tree : Tree) (linked : IsLinked tree) (no_tables : tree.tables ≡ [])
         λ has. return_simulates tree m state s.is (returns_are_there tree type state s.arity from h.lower h.before s.values)
     plain_simulates (Call number) from to place jump m state h s =
         call_simulates tree m state s.is number (operands_are_there tree type state s.arity number h.0 from h.2.lower h.1 h.2.before s.values)
-    plain_simulates (CallIndirect index) from to place jump m state h s = absurd (none_seen state.frame.function.table tree.tables no_tables s.table h.2)
+    plain_simulates (CallIndirect index) from to place jump m state h s =
+        call_indirect_simulates tree index m state s.is (λ v vs e.
+        wanted_are_there tree index h.0 vs h.1 (enough_below from h.3.lower h.0.params v vs state.frame.values h.3.before s.values e))
     plain_simulates Drop from to place jump m state h s = drop_simulates tree m state s.is
     plain_simulates Select from to place jump m state h s = select_simulates tree m state s.is
     plain_simulates (LocalGet x) from to place jump m state h s = local_get_simulates tree m state x s.is
@@ -169,7 +171,6 @@ module _ (tree : Tree) (linked : IsLinked tree) (no_tables : tree.tables ≡ [])
           arity = typed.frame_is.arity;
           labels_are = typed.frame_is.labels;
           values = typed.frame_is.values;
-          table = function_is.table;
         }) has)
 
     at_the_end : state.frame.rest ≡ [] → simulates tree (executed_at tree (prepared_of tree) (body_of tree state.frame.function) (slice_get items m.current.place) m) (frame_step tree [] state)

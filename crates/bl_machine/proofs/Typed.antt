@@ -1,13 +1,13 @@
 -- What a typing says of the values that an item takes: they are there.
-use Rattle.std.proofs.Common.{◌≡◌, ℕ, zero, suc, ◌≤◌, ◌<◌, List, [], ◌∷◌, ◌++◌, length, map, reverse, replicate, Option, Some, None, slice_get, ◌⊎◌, inl, inr, refl, sym, ap, ◌∙◌, subst, arith, length-append}
-use Rattle.std.specs.Prelude.{IfSome, option_and_then, unwrap_or}
+use Rattle.std.proofs.Common.{◌≡◌, ℕ, zero, suc, ◌≤◌, List, [], ◌∷◌, ◌++◌, length, map, reverse, replicate, Some, slice_get, ◌⊎◌, inl, inr, refl, sym, ap, ◌∙◌, subst, arith, length-append}
+use Rattle.std.specs.Prelude.{option_and_then, unwrap_or}
 use Rattle.std.specs.List.{All, AllZip}
 use Rattle.std.proofs.lemmas.List.{length-map, length-reverse, length-replicate}
 use Rattle.std.proofs.lemmas.List.Elements.{All-drop, All-get_or}
 use Rattle.bl_ops.specs.Table.{row_of}
 use Rattle.bl_ops.specs.declared.op.Op.{Op}
 use Rattle.bl_ops.specs.declared.op.OpRow.{OpRow}
-use Rattle.bl_wasm.specs.Linked.{context, function_type, seen}
+use Rattle.bl_wasm.specs.Linked.{context, function_type}
 use Rattle.bl_wasm.specs.Typing.{Context, Open, HasType, expanded, integer, labels}
 use Rattle.bl_wasm.specs.declared.types.BlockType.{BlockType}
 use Rattle.bl_wasm.specs.declared.types.BlockType.TheVariants.{Empty, Value, Index}
@@ -58,10 +58,14 @@ module _ (types : List Signature) where
       let t = mapped_get function_type types number type e in
       subst (λ o. Counted (counted o) type) (sym t.1) (subst (Counted (counted (Some t.0))) t.2 (sym (length-map t.0.params integer), sym (length-map t.0.results integer)))
 
--- no memory or table of a function where the tree has none
-pub none_seen : {A : Type 0} (o : Option ℕ) (xs : List A) → xs ≡ [] → IfSome o (λ number. number < length xs) → 1 ≤ seen o → ⊥
-none_seen None xs e h le = omega (arith, le)
-none_seen (Some number) xs e h le = omega (arith, h, ap length e)
+-- the operands of a function of a type of the tree
+pub wanted_are_there : (tree : Tree) (index : ℕ) (type : FuncType) (values : List ℕ) → slice_get (map function_type tree.types) index ≡ Some type → length type.params ≤ length values
+    → (wanted : Signature) → slice_get tree.types index ≡ Some wanted → length wanted.params ≤ length values
+wanted_are_there tree index type values e room wanted got =
+    let t = mapped_get function_type tree.types index type e in
+    let same : wanted ≡ t.0 = some_same wanted t.0 (sym got ∙ t.1) in
+    let long : length type.params ≡ length wanted.params = ap (λ type. length type.params) (sym t.2) ∙ length-map t.0.params integer ∙ ap (λ s. length s.params) (sym same) in
+    omega (arith, room, long)
 
 module _ (tree : Tree) (type : Signature) (state : State) (arity : state.frame.arity ≡ length type.results) where
   abbrev c : Context

@@ -9,7 +9,7 @@ use Rattle.bl_wasm.specs.declared.linked.Tree.{Tree}
 use Rattle.bl_reduce.specs.Configurations.{Config}
 use Rattle.bl_reduce.specs.Outcomes.{first_memory, opening}
 use Rattle.bl_reduce.specs.Steps.{source_step}
-use Rattle.bl_machine.specs.Spaces.{patched_all}
+use Rattle.bl_memory.specs.Spaces.{patched_all}
 use Rattle.bl_machine.specs.declared.machine.Machine.{Machine}
 use Rattle.bl_machine.specs.declared.machine.Progress.{Progress}
 use Rattle.bl_machine.specs.declared.machine.Progress.TheVariants.{Running, Entering, Returned, Trapped}

@@ -3,5 +3,4 @@ pub mod Interpreting
 pub mod Jumps
 pub mod Machines
 pub mod MatchStates
-pub mod Spaces
 pub mod Transitions

@@ -11,15 +11,15 @@ ghost use Rattle.bl_machine.specs.Transitions.{advanced};
 use crate::body::{Prepared, prepare};
 use crate::items::{enter, step_in};
 use crate::machine::{Activation, Machine, Progress};
-use crate::spaces::Spaces;
 use crate::stack::Stack;
 use bl_base::{List, NoMemory, Run, Start};
+use bl_memory::Spaces;
 use bl_wasm::{Linked, Tree};
 use std::alloc::Global;
 
 /// The outcome of a function's run from a start within so many steps of the reduction rules (WebAssembly 1.0, section
-/// 4); Spent where there is none. The tree has no tables. Linear in the tree, its memories' bytes and the steps; beside the
-/// pages of memories that grow, the memory that it takes doesn't grow with the steps.
+/// 4); Spent where there is none. Linear in the tree, its memories' bytes and the steps; beside the pages of memories that grow,
+/// the memory that it takes doesn't grow with the steps.
 pub fn interp(
     alloc: Global,
     tree: &Linked,
@@ -28,7 +28,6 @@ pub fn interp(
     steps: u64,
 ) -> Result<Run, NoMemory>
     requires start { IsStart tree.now function start.now }
-    requires tables { tree.now.tables ≡ [] }
     ensures answers { IfOk result (λ run. Tells (source tree.now function start.now) steps run) }
     ensures memories { IfOk result (λ run. TellsMemories (length tree.now.memories) run) }
     ensures bare { IfOk result (λ run. tree.now.memories ≡ [] → memories_in run ≡ []) }
@@ -82,7 +81,6 @@ fn drive(
 ) -> Result<Progress, NoMemory>
     requires linked { IsLinked tree.now }
     requires start { IsStart tree.now function start.now }
-    requires tables { tree.now.tables ≡ [] }
     requires prepared { prepared.now ≡ prepared_of tree.now }
     requires begun { machine.old ≡ starting tree.now start.now }
     ensures { IfOk result (λ progress. Drives tree.now function start.now steps progress machine.new) }

@@ -5,9 +5,8 @@ mod body;
 mod interpreter;
 mod items;
 mod jumps;
+mod kinds;
 mod machine;
-mod space;
-mod spaces;
 mod stack;
 
 pub use interpreter::interp;

@@ -3,9 +3,9 @@ ghost use Rattle.std.specs.Prelude.{◌≡◌, OnOk, length, nat_lt};
 ghost use Rattle.bl_machine.specs.Machines.{Becomes, Gives, at_place, called, closed, entered, give, global_at, grown, label_at, load_from, local_at, memory_at, most_callers, opened, popped, push, resumed, returned, running, store_to, to_label, top, with_global, with_local};
 
 use crate::body::Body;
-use crate::spaces::Spaces;
 use crate::stack::Stack;
 use bl_base::{NoMemory, Trap};
+use bl_memory::Spaces;
 use bl_ops::AccessKind;
 
 /// What memory.grow answers where a memory doesn't grow.

@@ -1,0 +1,2 @@
+pub mod MemoryTrees
+pub mod TableTrees

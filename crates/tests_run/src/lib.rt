@@ -5,3 +5,7 @@
 mod link;
 #[cfg(test)]
 mod machine;
+#[cfg(test)]
+mod memory;
+#[cfg(test)]
+mod table;

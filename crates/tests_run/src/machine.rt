@@ -1,8 +1,11 @@
 //! Runs of function 0 of small modules. The results are those that node v20.20's WebAssembly gives; the steps are counted by hand:
 //! one for the entering of a function, for each item that is executed and for the return at its end.
+ghost use Rattle.std.specs.Prelude.{◌≡◌, IfOk, map};
+
 use crate::link::linked;
 use bl_base::{List, NoMemory, Run, Start, Trap, fits};
 use bl_machine::interp;
+use bl_wasm::{Linked, Memory};
 use std::alloc::Global;
 use std::test::Fail;
 
@@ -15,26 +18,42 @@ fn start_of(alloc: Global, args: &[u64]) -> Result<Start, NoMemory> {
     })
 }
 
-/// The outcome of function 0 of a module within so many steps; None where the module can't be linked or the arguments don't fit.
-fn run(alloc: Global, wasm: &[u8], args: &[u64], steps: u64) -> Result<Option<Run>, Fail> {
-    let Some(linked) = linked(alloc, wasm)? else {
-        return Ok(None);
-    };
+/// The first pages of memories.
+fn sizes(alloc: Global, memories: &[Memory]) -> Result<Vec<u32>, NoMemory>
+    ensures { IfOk result (λ sizes. sizes.items ≡ map (λ memory. memory.pages) memories.now) }
+{
+    Ok(memories.iter().map(|memory| memory.pages).collect(alloc)?)
+}
+
+/// The outcome of a function of a tree within so many steps; None where there is no such function, or the start doesn't fit.
+pub fn run_linked(
+    alloc: Global,
+    linked: &Linked,
+    number: u32,
+    start: &Start,
+    steps: u64,
+) -> Result<Option<Run>, NoMemory> {
     let tree = linked.tree();
-    if !tree.memories.is_empty() || !tree.tables.is_empty() {
-        return Ok(None);
-    }
-    let Some(function) = tree.functions.as_slice().first() else {
+    let Some(function) = tree.functions.as_slice().get(number as usize) else {
         return Ok(None);
     };
     let Some(kind) = tree.types.as_slice().get(function.type_index as usize) else {
         return Ok(None);
     };
-    let start = start_of(alloc, args)?;
-    if !fits(kind.params.as_slice(), &[], &start) {
+    let sizes = sizes(alloc, tree.memories.as_slice())?;
+    if !fits(kind.params.as_slice(), &sizes, start) {
         return Ok(None);
     }
-    Ok(Some(interp(alloc, &linked, 0, &start, steps)?))
+    Ok(Some(interp(alloc, linked, number, start, steps)?))
+}
+
+/// The outcome of function 0 of a module within so many steps; None where the module can't be linked or the arguments don't fit.
+fn run(alloc: Global, wasm: &[u8], args: &[u64], steps: u64) -> Result<Option<Run>, Fail> {
+    let Some(linked) = linked(alloc, wasm)? else {
+        return Ok(None);
+    };
+    let start = start_of(alloc, args)?;
+    Ok(run_linked(alloc, &linked, 0, &start, steps)?)
 }
 
 /// Whether the function returns these values within so many steps.
@@ -148,6 +167,11 @@ static BRANCHING: &[u8] =
 static CHOOSING: &[u8] =
     b"\0asm\x01\0\0\0\x01\x06\x01`\x01\x7f\x01\x7f\x03\x02\x01\0\n\x1d\x01\x1b\0A\x09 \0\x04\x7f\x02@\x0bA\x03\x05\x02@A\x08A\x04\x0c\x01\x0bA\x05\x0bk\x0b";
 
+/// [i32 i32 i32] -> [i32 i64] with a global i32 that is 7 at first: nop, local.get 0, local.get 1, local.get 2, select, global.get 0,
+/// i32.add, global.set 0, global.get 0, i64.const -2.
+static SELECT_AND_ADD: &[u8] =
+    b"\0asm\x01\0\0\0\x01\x09\x01`\x03\x7f\x7f\x7f\x02\x7f~\x03\x02\x01\0\x06\x06\x01\x7f\x01A\x07\x0b\n\x15\x01\x13\0\x01 \0 \x01 \x02\x1b#\0j$\0#\0B~\x0b";
+
 /// [] -> []: no items.
 static NOTHING: &[u8] = b"\0asm\x01\0\0\0\x01\x04\x01`\0\0\x03\x02\x01\0\n\x04\x01\x02\0\x0b";
 
@@ -191,6 +215,16 @@ fn a_branch_carries_several_results(rt: HostRuntime) -> Result<(), Fail> {
     assert!(rt; returns(a, NESTED, &[1], &[8, 10])?);
     assert!(rt; returns(a, NESTED, &[2], &[8, 9])?);
     assert!(rt; returns(a, NESTED, &[9], &[8, 9])?);
+    Ok(())
+}
+
+#[test]
+fn a_value_is_selected_and_kept_in_a_global(rt: HostRuntime) -> Result<(), Fail> {
+    let a = rt.alloc();
+    let minus_two = 18_446_744_073_709_551_614;
+    assert!(rt; returns(a, SELECT_AND_ADD, &[3, 4, 1], &[10, minus_two])?);
+    assert!(rt; returns(a, SELECT_AND_ADD, &[3, 4, 0], &[11, minus_two])?);
+    assert!(rt; returns(a, SELECT_AND_ADD, &[3, 4, 4_294_967_295], &[10, minus_two])?);
     Ok(())
 }
 

@@ -9,13 +9,13 @@ pub loop-preserved : goal.loop-preserved
 loop-preserved c =
     goes_on c.args.tree.now c.args.function c.args.start.now (c.loop.counter + 1) c.in_ok-progress.progress c.advance.new.machine (sym c.ended.ensures ∙ c.if-ended.false)
     (stepped c.args.tree.now c.args.function c.args.start.now c.loop.counter c.loop.progress c.loop.machine c.in_ok-progress.progress c.advance.new.machine
-    c.requires.linked c.requires.tables c.loop.invariant (rw c.requires.prepared at c.in_ok-progress.ensures))
+    c.requires.linked c.loop.invariant (rw c.requires.prepared at c.in_ok-progress.ensures))
 
 pub returns-then-ended : goal.returns-then-ended
 returns-then-ended c =
     is_over c.args.tree.now c.args.function c.args.start.now (c.loop.counter + 1) c.args.steps c.in_ok-progress.progress c.advance.new.machine (sym c.ended.ensures ∙ c.if-ended.true) (omega arith)
     (stepped c.args.tree.now c.args.function c.args.start.now c.loop.counter c.loop.progress c.loop.machine c.in_ok-progress.progress c.advance.new.machine
-    c.requires.linked c.requires.tables c.loop.invariant (rw c.requires.prepared at c.in_ok-progress.ensures))
+    c.requires.linked c.loop.invariant (rw c.requires.prepared at c.in_ok-progress.ensures))
 
 pub returns : goal.returns
 returns c = is_spent c.args.tree.now c.args.function c.args.start.now c.loop.counter c.args.steps c.loop.progress c.loop.machine (omega arith) c.loop.invariant

@@ -1,0 +1,201 @@
+-- Kinds that are found by the texts of types.
+use Rattle.std.proofs.Common.{◌≡◌, ℕ, zero, suc, ◌+◌, ◌<◌, ◌≤◌, Bool, true, false, List, [], ◌∷◌, ◌++◌, length, map, take, drop, get_or, Option, Some, None, slice_get, refl, sym, ap, ◌∙◌, subst, arith}
+use Rattle.std.specs.Prelude.{nat_lt, if◌then◌else◌, unwrap_or}
+use Rattle.std.specs.Str.{bytes_eq}
+use Rattle.std.proofs.lemmas.Bool.{false≢true, lt-ltb, le-ltb, ltb-true, ltb-false}
+use Rattle.std.proofs.lemmas.Slice.Eq.{bytes_eq-Decides}
+use Rattle.bl_base.specs.declared.names.ValueType.{ValueType}
+use Rattle.bl_base.specs.declared.names.ValueType.TheVariants.{I32, I64}
+use Rattle.bl_base.proofs.Lists.{some_same}
+use Rattle.bl_wasm.specs.Exports.{Pairs, number_of}
+use Rattle.bl_wasm.specs.declared.linked.Signature.{Signature}
+use Rattle.bl_wasm.proofs.ExportLemmas.{number-pairs, pairs-insert}
+use Rattle.bl_reduce.specs.Calls.{is_same_type}
+use Rattle.bl_reduce.proofs.CallItems.{same_type}
+use Rattle.bl_machine.specs.Bodies.{first_of, letter, spelled, with_number}
+use Rattle.bl_machine.proofs.Tables.{same_as_itself}
+
+pub ruleset known_rules = (number-pairs, pairs-insert)
+
+-- ---- texts of types
+
+same_letter : (a b : ValueType) → letter a ≡ letter b → a ≡ b
+same_letter I32 I32 e = refl
+same_letter I32 I64 e = absurd (omega (arith, e))
+same_letter I64 I32 e = absurd (omega (arith, e))
+same_letter I64 I64 e = refl
+
+first_is : (a b : ℕ) (xs ys : List ℕ) → a ∷ xs ≡ b ∷ ys → a ≡ b
+first_is a b xs ys e = ap (λ l. get_or l 0 0) e
+
+same_letters : (xs ys : List ValueType) → map letter xs ≡ map letter ys → xs ≡ ys
+same_letters [] [] e = refl
+same_letters [] (y ∷ ys) e = cc
+same_letters (x ∷ xs) [] e = cc
+same_letters (x ∷ xs) (y ∷ ys) e =
+    let first = same_letter x y (first_is (letter x) (letter y) (map letter xs) (map letter ys) e) in
+    let later = same_letters xs ys (ap (drop 1) e) in
+    λ i. first i ∷ later i
+
+not_colon : (x : ValueType) → letter x ≡ 58 → ⊥
+not_colon I32 e = omega (arith, e)
+not_colon I64 e = omega (arith, e)
+
+same_parts : (xs ys us vs : List ValueType) → map letter xs ++ 58 ∷ map letter us ≡ map letter ys ++ 58 ∷ map letter vs → (xs ≡ ys) × (us ≡ vs)
+same_parts [] [] us vs e = (refl, same_letters us vs (ap (drop 1) e))
+same_parts [] (y ∷ ys) us vs e = absurd (not_colon y (sym (first_is 58 (letter y) (map letter us) (map letter ys ++ 58 ∷ map letter vs) e)))
+same_parts (x ∷ xs) [] us vs e = absurd (not_colon x (first_is (letter x) 58 (map letter xs ++ 58 ∷ map letter us) (map letter vs) e))
+same_parts (x ∷ xs) (y ∷ ys) us vs e =
+    let first = same_letter x y (first_is (letter x) (letter y) (map letter xs ++ 58 ∷ map letter us) (map letter ys ++ 58 ∷ map letter vs) e) in
+    let later = same_parts xs ys us vs (ap (drop 1) e) in
+    ((λ i. first i ∷ later.0 i), later.1)
+
+spelled_alike : (a b : Signature) → spelled a ≡ spelled b → a ≡ b
+spelled_alike a b e =
+    let both = same_parts a.params b.params a.results b.results e in
+    λ i. record { params = both.0 i; results = both.1 i }
+
+-- ---- the first equal type
+
+first_at : (types : List Signature) (type : Signature) (i : ℕ) → slice_get types i ≡ Some type → first_of types type ≤ i
+first_at [] type i e = cc
+first_at (other ∷ types) type i e = from (first_at types type) (is_same_type other type) refl i e
+  where
+    from : ((i : ℕ) → slice_get types i ≡ Some type → first_of types type ≤ i) → (b : Bool) → is_same_type other type ≡ b
+        → (i : ℕ) → slice_get (other ∷ types) i ≡ Some type → (if b then 0 else suc (first_of types type)) ≤ i
+    from later true same i e = omega arith
+    from later false other_one zero e = absurd (false≢true (sym other_one ∙ ap (λ t. is_same_type other t) (sym (some_same other type e)) ∙ same_as_itself other))
+    from later false other_one (suc i) e = omega (arith, later i e)
+
+first_there : (types : List Signature) (type : Signature) → first_of types type < length types → slice_get types (first_of types type) ≡ Some type
+first_there [] type lt = absurd (omega (arith, lt))
+first_there (other ∷ types) type lt = from (first_there types type) (is_same_type other type) refl lt
+  where
+    from : (first_of types type < length types → slice_get types (first_of types type) ≡ Some type) → (b : Bool) → is_same_type other type ≡ b
+        → (if b then 0 else suc (first_of types type)) < length (other ∷ types) → slice_get (other ∷ types) (if b then 0 else suc (first_of types type)) ≡ Some type
+    from later true same lt = ap Some (same_type other type same)
+    from later false other_one lt = later (omega (arith, lt))
+
+inside : (types : List Signature) (i : ℕ) (type : Signature) → slice_get types i ≡ Some type → i < length types
+inside [] i type e = cc
+inside (other ∷ types) zero type e = omega arith
+inside (other ∷ types) (suc i) type e = omega (arith, inside types i type e)
+
+-- ---- a number, where it is below another
+
+abbrev pub below : ℕ → ℕ → Option ℕ
+below n i = if nat_lt n i then Some n else None
+
+is_below : (n i : ℕ) → n < i → below n i ≡ Some n
+is_below n i lt = ap (λ (b : Bool). if b then Some n else None) (lt-ltb n i lt)
+
+not_below : (n i : ℕ) → i ≤ n → below n i ≡ None
+not_below n i le = ap (λ (b : Bool). if b then Some n else None) (le-ltb n i le)
+
+got_below : (n i m : ℕ) → below n i ≡ Some m → (m ≡ n) × (n < i)
+got_below n i m e = from (nat_lt n i) refl e
+  where
+    from : (b : Bool) → nat_lt n i ≡ b → (if b then Some n else None) ≡ Some m → (m ≡ n) × (n < i)
+    from true t e = (sym (some_same n m e), ltb-true n i t)
+    from false t e = cc
+
+none_below : (n i : ℕ) → below n i ≡ None → i ≤ n
+none_below n i e = from (nat_lt n i) refl e
+  where
+    from : (b : Bool) → nat_lt n i ≡ b → (if b then Some n else None) ≡ None → i ≤ n
+    from true t e = cc
+    from false t e = ltb-false n i t
+
+wider : (n i : ℕ) → (n ≡ i → ⊥) → below n i ≡ below n (i + 1)
+wider n i other = from (nat_lt n i) refl (nat_lt i n) refl
+  where
+    from : (b : Bool) → nat_lt n i ≡ b → (c : Bool) → nat_lt i n ≡ c → below n i ≡ below n (i + 1)
+    from true t c u =
+        let lt = ltb-true n i t in
+        is_below n i lt ∙ sym (is_below n (i + 1) (omega (arith, lt)))
+    from false t true u =
+        let lt = ltb-true i n u in
+        not_below n i (omega (arith, lt)) ∙ sym (not_below n (i + 1) (omega (arith, lt)))
+    from false t false u = absurd (other (omega (arith, ltb-false n i t, ltb-false i n u)))
+
+-- ---- names behind others
+
+abbrev either : Option ℕ → Option ℕ → Option ℕ
+either (Some n) o = Some n
+either None o = o
+
+either_none : (o : Option ℕ) → either o None ≡ o
+either_none (Some n) = refl
+either_none None = refl
+
+abbrev named : List ℕ → List ℕ → ℕ → Option ℕ
+named text name n = if bytes_eq text name then Some n else None
+
+found_behind : (text name : List ℕ) (n : ℕ) (pairs : Pairs) → number_of text (pairs ++ (name, n) ∷ []) ≡ either (number_of text pairs) (named text name n)
+found_behind text name n [] = refl
+found_behind text name n (pair ∷ pairs) = from (bytes_eq text pair.0) (found_behind text name n pairs)
+  where
+    from : (b : Bool) → number_of text (pairs ++ (name, n) ∷ []) ≡ either (number_of text pairs) (named text name n)
+        → (if b then Some pair.1 else number_of text (pairs ++ (name, n) ∷ [])) ≡ either (if b then Some pair.1 else number_of text pairs) (named text name n)
+    from true e = refl
+    from false e = e
+
+-- ---- types that are known
+
+-- of the first so many types, and of no other, the first equal one is known by its text
+pub record Knows (types : List Signature) (i : ℕ) (pairs : Pairs) : Type 0 where
+  pub found : (type : Signature) → number_of (spelled type) pairs ≡ below (first_of types type) i
+
+pub knows_none : (types : List Signature) → Knows types 0 []
+knows_none types = record { found = λ type. sym (not_below (first_of types type) 0 (omega arith)) }
+
+module _ (types : List Signature) (i : ℕ) (type : Signature) (pairs : Pairs) (here : slice_get types i ≡ Some type) (knows : Knows types i pairs) where
+  is_here : (other : Signature) → first_of types other ≡ i → other ≡ type
+  is_here other e =
+      let there = first_there types other (omega (arith, e, inside types i type here)) in
+      some_same other type (sym there ∙ ap (slice_get types) e ∙ here)
+
+  -- a type that was met before
+  pub met_again : (n : ℕ) → number_of (spelled type) pairs ≡ Some n → (n ≡ first_of types type) × Knows types (i + 1) pairs
+  met_again n e =
+      let b = got_below (first_of types type) i n (sym (knows.found type) ∙ e) in (
+        b.0,
+        record {
+          found = λ other. knows.found other ∙ wider (first_of types other) i (λ same. omega (arith, b.1, same, ap (first_of types) (is_here other same)));
+        },
+      )
+
+  -- a type that is new
+  pub met_first : number_of (spelled type) pairs ≡ None → (i ≡ first_of types type) × Knows types (i + 1) (pairs ++ (spelled type, i) ∷ [])
+  met_first e = (first, record { found = λ other. found_behind (spelled other) (spelled type) i pairs ∙ of other (bytes_eq (spelled other) (spelled type)) refl })
+    where
+      first : i ≡ first_of types type
+      first = omega (arith, none_below (first_of types type) i (sym (knows.found type) ∙ e), first_at types type i here)
+
+      of : (other : Signature) (b : Bool) → bytes_eq (spelled other) (spelled type) ≡ b
+          → either (number_of (spelled other) pairs) (if b then Some i else None) ≡ below (first_of types other) (i + 1)
+      of other true same =
+          let one = spelled_alike other type ((bytes_eq-Decides (spelled other) (spelled type)).0 same) in
+          subst (λ t. either (number_of (spelled t) pairs) (Some i) ≡ below (first_of types t) (i + 1)) (sym one)
+          (ap (λ o. either o (Some i)) e ∙ ap Some first ∙ sym (is_below (first_of types type) (i + 1) (omega (arith, first))))
+      of other false not_same =
+          either_none (number_of (spelled other) pairs) ∙ knows.found other ∙ wider (first_of types other) i (λ same.
+          false≢true (sym not_same ∙ (bytes_eq-Decides (spelled other) (spelled type)).1 (ap spelled (is_here other same))))
+
+  pub met : (o : Option ℕ) → number_of (spelled type) pairs ≡ o → (unwrap_or o i ≡ first_of types type) × Knows types (i + 1) (with_number o (spelled type) i pairs)
+  met (Some n) e = met_again n e
+  met None e = met_first e
+
+-- ---- numbers so far
+
+more : (f : Signature → ℕ) (types : List Signature) (i : ℕ) (type : Signature) → slice_get types i ≡ Some type
+    → map f (take i types) ++ f type ∷ [] ≡ map f (take (suc i) types)
+more f [] i type e = cc
+more f (other ∷ types) zero type e = ap (λ t. f t ∷ []) (sym (some_same other type e))
+more f (other ∷ types) (suc i) type e = ap (λ ns. f other ∷ ns) (more f types i type e)
+
+pub one_more : (f : Signature → ℕ) (types : List Signature) (i : ℕ) (type : Signature) (numbers : List ℕ) (n : ℕ) → slice_get types i ≡ Some type
+    → numbers ≡ map f (take i types) → n ≡ f type → numbers ++ n ∷ [] ≡ map f (take (i + 1) types)
+one_more f types i type numbers n here so_far is =
+    let next : suc i ≡ i + 1 = omega arith in
+    (λ k. so_far k ++ is k ∷ []) ∙ more f types i type here ∙ ap (λ j. map f (take j types)) next

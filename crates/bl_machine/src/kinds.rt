@@ -1,0 +1,99 @@
+//! Kinds of types: equal types are of one kind.
+ghost use Rattle.std.specs.Prelude.{◌≡◌, [], ◌∷◌, ◌++◌, IfOk, None, OnOk, map, string_bytes, unwrap_or};
+ghost use Rattle.bl_wasm.specs.Exports.{number_of};
+ghost use Rattle.bl_machine.specs.Bodies.{kinds_of, letter, spelled, with_number};
+
+use bl_base::{List, NoMemory, ValueType};
+use bl_wasm::Signature;
+use indexmap::IndexMap;
+use std::alloc::Global;
+use std::marker::Model;
+
+/// The types that were met, as texts, each with its number.
+#[derive(Drop)]
+struct Known {
+    map: IndexMap<String, usize>,
+}
+
+impl Model for Known {
+    ghost use Rattle.bl_wasm.specs.Exports.{Pairs, pairs_of};
+
+    ghost Value = { Pairs };
+
+    ghost view = { λ known. pairs_of known.map.entries };
+}
+
+#[tactic(auto, using(crate::proofs::Finding::known_rules))]
+impl Known {
+    fn new(alloc: Global) -> Known
+        ensures { result ≡ [] }
+    {
+        Known {
+            map: IndexMap::new(alloc),
+        }
+    }
+
+    fn find(&self, text: &str) -> Option<usize>
+        ensures { result ≡ number_of text.now self.now }
+    {
+        self.map.get(text).copied()
+    }
+
+    fn add(&mut self, text: String, number: usize) -> Result<(), NoMemory>
+        requires { number_of (string_bytes text) self.old ≡ None }
+        ensures { OnOk result (self.new ≡ self.old ++ (string_bytes text, number) ∷ []) }
+    {
+        self.map.insert(text, number)?;
+        Ok(())
+    }
+
+    /// The number of a text; where it had none, the next one, which it has then.
+    fn number(&mut self, text: String, next: usize) -> Result<usize, NoMemory>
+        ensures value { IfOk result (λ number. number ≡ unwrap_or (number_of (string_bytes text) self.old) next) }
+        ensures after { OnOk result (self.new ≡ with_number (number_of (string_bytes text) self.old) (string_bytes text) next self.old) }
+    {
+        if let Some(number) = self.find(&text) {
+            return Ok(number);
+        }
+        self.add(text, next)?;
+        Ok(next)
+    }
+}
+
+/// For each type the number of the first one that is equal to it. Linear in the types.
+pub fn kinds(alloc: Global, types: &[Signature]) -> Result<List<usize>, NoMemory>
+    ensures { IfOk result (λ kinds. kinds ≡ kinds_of types.now) }
+{
+    let mut known = Known::new(alloc);
+    let mut kinds = Vec::new(alloc);
+    for (i, kind) in types.iter().enumerate() {
+        let text = text_of(alloc, kind)?;
+        let number = known.number(text, i)?;
+        kinds.push(number)?;
+    }
+    Ok(List::of(kinds))
+}
+
+/// A type as a text.
+fn text_of(alloc: Global, kind: &Signature) -> Result<String, NoMemory>
+    ensures { IfOk result (λ text. string_bytes text ≡ spelled kind.now) }
+{
+    let mut text = String::new(alloc);
+    push_letters(&mut text, kind.params.as_slice())?;
+    text.push_str(":")?;
+    push_letters(&mut text, kind.results.as_slice())?;
+    Ok(text)
+}
+
+/// Puts a letter for each of these types behind a text.
+fn push_letters(text: &mut String, types: &[ValueType]) -> Result<(), NoMemory>
+    ensures { OnOk result (string_bytes text.new ≡ string_bytes text.old ++ map letter types.now) }
+{
+    for kind in types {
+        match kind {
+            ValueType::I32 => text.push_str("i")?,
+            ValueType::I64 => text.push_str("l")?,
+        }
+    }
+    Ok(())
+}
