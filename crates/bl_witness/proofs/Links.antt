@@ -1,0 +1,31 @@
+-- Links of a chain, in a graph's lists and in its program.
+use Rattle.std.proofs.Common.{◌≡◌, ℕ, List, [], ◌∷◌}
+use Rattle.std.specs.Prelude.{◌↔◌}
+use Rattle.bl_cmd.specs.Sites.{SinkReads, Reads, Writes}
+use Rattle.bl_cmd.specs.declared.definitions.ProgramParts.{ProgramParts as Program}
+use Rattle.bl_graph.specs.Chains.{Carries, IsChain}
+use Rattle.bl_graph.specs.Graphs.{AreUses, IsGraph}
+use Rattle.bl_graph.specs.declared.facts.Graph.{Graph}
+use Rattle.bl_graph.specs.declared.facts.Use.{Use}
+use Rattle.bl_graph.proofs.Ranging.{writes_one}
+use Rattle.bl_witness.specs.Lookups.{IsLinked, IsOrdered, Leads}
+
+module _ (program : Program) (graph : Graph) (is : IsGraph program graph) where
+  pub ordered : IsOrdered graph
+  ordered = record {
+    writes = is.writes.rise;
+    reads = is.reads.rise;
+    sinks = is.sinks.rise;
+    one = λ s x y one other. writes_one program s x y ((is.writes.each s x).0 one) ((is.writes.each s y).0 other);
+  }
+
+  pub leads_on : (s : ℕ) (rest : List ℕ) (sink : ℕ) → Leads graph s rest sink ↔ ((x : ℕ) × Writes program s x × Carries program x rest sink)
+  leads_on s [] sink = (
+    λ h. (h.0, (is.writes.each s h.0).0 h.1, (is.sinks.each sink h.0).0 h.2),
+    λ h. (h.0, (is.writes.each s h.0).1 h.1, (is.sinks.each sink h.0).1 h.2),
+  )
+  leads_on s (t ∷ rest) sink =
+      let more = leads_on t rest sink in (
+        λ h. (h.0.0, (is.writes.each s h.0.0).0 h.0.1, ((is.reads.each t h.0.0).0 h.0.2, more.0 h.1)),
+        λ h. ((h.0, (is.writes.each s h.0).1 h.1, (is.reads.each t h.0).1 h.2.0), more.1 h.2.1),
+      )
