@@ -1,7 +1,7 @@
 #!/usr/bin/env python3
-"""Prints the programs that src/ tests, as images, and what is expected of each: the sites of the least protects and their weight,
-found by trying every set of sites, and for a weight of 1 every certificate of one path. It knows the rules of sites, sinks and
-transient variables, and the grammar of images, and shares no code with Blade. usage: python3 least.py"""
+"""Prints the programs of src/images.rt, and what src/rows.rt and src/drawn.rt expect of them: the sites of the least protects and
+their weight, found by trying every set of sites, and for a weight of 1 every certificate of one path. It knows the rules of sites,
+sinks and transient variables, and the grammar of images, and shares no code with Blade. usage: python3 least.py"""
 import itertools
 import random
 
@@ -192,20 +192,24 @@ def guarded(at, depth, test, to, address, offset=0):
 
 def rows():
     load_of_load = [('jump', 0, 8), ('set', 0, MOVE, 3, 1), *guarded(9, 0, 4, 5, 3), *guarded(12, 0, 6, 7, 5), ('out', 0, 0, 7), ('ret', 0)]
-    yield 'a load of a load', Program([Function(1, 1, load_of_load)])
-    yield 'a load of a load, weight 5', Program([Function(1, 1, load_of_load)], {11: 5})
-    yield 'a sum of two loads', Program([Function(2, 1, [
+    yield 'LOADS', 'A load of a load', Program([Function(1, 1, load_of_load)])
+    yield 'WEIGHTED', 'The same with weight 5 listed at 11', Program([Function(1, 1, load_of_load)], {11: 5})
+    yield 'SUM', 'A load of the sum of two loads', Program([Function(2, 1, [
         ('jump', 0, 8), ('set', 0, MOVE, 4, 1), *guarded(9, 0, 5, 6, 4), ('set', 0, MOVE, 7, 2), *guarded(13, 0, 8, 9, 7),
         ('set', 0, ADD, 10, 6, 9), *guarded(17, 0, 11, 12, 10), ('out', 0, 0, 12), ('ret', 0)])])
-    yield 'two loads by one load', Program([Function(1, 1, [
+    yield 'TWICE', 'Two loads by what one load gives', Program([Function(1, 1, [
         ('set', 0, MOVE, 3, Const(0)), ('jump', 0, 9), ('set', 0, MOVE, 4, 1), *guarded(10, 0, 5, 6, 4), ('set', 0, MOVE, 3, 6),
         *guarded(14, 0, 7, 8, 6), ('set', 0, MOVE, 9, 3), *guarded(18, 0, 10, 11, 9, 4), ('set', 0, ADD, 12, 8, 11), ('out', 0, 0, 12), ('ret', 0)])])
-    yield 'a load before a loop', Program([Function(1, 0, [
+    yield 'BEFORE_LOOP', 'A load before a loop, in which a load reads what it gives', Program([Function(1, 0, [
         ('set', 0, MOVE, 2, Const(0)), ('jump', 0, 9), ('set', 0, MOVE, 3, 1), *guarded(10, 0, 4, 5, 3), ('set', 0, MOVE, 2, 5), ('jump', 0, 15),
         ('set', 1, MOVE, 6, 2), *guarded(16, 1, 7, 8, 6), ('jump', 1, 20), ('jump', 1, 21), ('ret', 0)])])
-    yield 'a load in a loop', Program([Function(1, 1, [
+    yield 'IN_LOOP', 'A load in a loop, behind which a load reads what it gives', Program([Function(1, 1, [
         ('set', 0, MOVE, 3, Const(0)), ('jump', 0, 9), ('jump', 0, 10), ('set', 1, MOVE, 4, 1), *guarded(11, 1, 5, 6, 4), ('set', 1, MOVE, 3, 6),
         ('jump', 1, 16), ('set', 0, MOVE, 7, 3), *guarded(17, 0, 8, 9, 7), ('out', 0, 0, 9), ('ret', 0)])])
+
+
+    yield 'DOUBLED', 'What a load gives, doubled in a loop', Program([Function(1, 0, [
+        ('set', 0, MOVE, 3, 1), *guarded(8, 1, 4, 5, 3), ('set', 1, MOVE, 2, 5), ('set', 1, ADD, 2, 2, 2), ('test', 1, 2, 12, 14), ('ret', 0)])])
 
 
 def drawn(seed):
@@ -226,6 +230,8 @@ def drawn(seed):
         loop = draw.randrange(1, 4)
         for step in range(4):
             depth = 1 if step >= loop else 0
+            if step == loop:
+                head = at
             kind = draw.choice(['move', 'add', 'add', 'load', 'load', 'divide', 'test'])
             if number == 1 and step == 2:
                 kind = 'call'
@@ -256,6 +262,7 @@ def drawn(seed):
                 known.append(x)
                 x += 1
         put(('set', 1, MOVE, known[draw.randrange(1, len(known))] if len(known) > 1 else x, known[-1]))
+        put(('test', 1, draw.choice(known), head, at + 1))
         put(('out', 0, 0, draw.choice(known)))
         put(('ret', 0))
         functions.append(Function(params, results, commands))
@@ -263,22 +270,27 @@ def drawn(seed):
     return Program(functions)
 
 
-def show(name, program):
+def literal(image):
+    return ''.join(chr(byte) if 0x20 <= byte < 0x7F and chr(byte) not in '"\\' else '\\x%02x' % byte for byte in image)
+
+
+def show(name, text, program):
     protects, weight = program.least()
-    print('%s: commands %d sites %d protects %s weight %d' % (name, 7 + len(program.commands), len(program.sites()), list(protects), weight))
-    print('    ' + ' '.join('%02X' % byte for byte in program.image()))
-    return protects, weight
+    print('/// %s: %d commands, %d sites.' % (text, 7 + len(program.commands), len(program.sites())))
+    print('pub(crate) static %s: &[u8] =\n    b"%s";' % (name, literal(program.image())))
+    print('// protects %s weight %d' % (list(protects), weight))
 
 
 if __name__ == '__main__':
-    for name, program in rows():
-        if show(name, program)[1] == 1:
-            for text in program.certificates():
-                print('    ' + text)
+    for name, text, program in rows():
+        show(name, text, program)
+        if program.least()[1] == 1:
+            for certificate in program.certificates():
+                print('// ' + certificate)
     seed, shown = 0, 0
     while shown < 20:
         program = drawn(seed)
         if len(program.sites()) <= 16 and program.least()[1] > 0:
-            show('drawn %d' % seed, program)
+            show('DRAWN_%d' % seed, 'Drawn from %d' % seed, program)
             shown += 1
         seed += 1

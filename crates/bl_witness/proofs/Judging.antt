@@ -1,5 +1,5 @@
 -- The parts of a verdict, put together.
-use Rattle.std.proofs.Common.{◌≡◌, ◌∙◌, ℕ, ◌-◌, ◌^◌, ◌<◌, ◌≤◌, Bool, true, List, length, Some, None, unwrap_or, sym, ap, subst, refl, arith, min, slice_index}
+use Rattle.std.proofs.Common.{cond, ◌≡◌, ◌∙◌, ℕ, ◌-◌, ◌^◌, ◌<◌, ◌≤◌, Bool, true, false, List, length, Some, None, unwrap_or, sym, ap, subst, refl, arith, min, slice_index}
 use Rattle.std.specs.Prelude.{IsSome}
 use Rattle.bl_base.specs.Sums.{sum_below}
 use Rattle.bl_base.proofs.Sums.{sum_le, sum_term}

@@ -1,3 +1,8 @@
 pub mod Items
+pub mod Judging
+pub mod Links
+pub mod Marked
+pub mod Places
 pub mod Reading
+pub mod Sums
 pub mod Texts

@@ -1,6 +1,8 @@
 -- Links of a chain, in a graph's lists and in its program.
-use Rattle.std.proofs.Common.{◌≡◌, ℕ, List, [], ◌∷◌}
+use Rattle.std.proofs.Common.{◌≡◌, ℕ, ◌+◌, ◌<◌, ◌≤◌, List, [], ◌∷◌, length, map, drop, get_or, subst, sym}
 use Rattle.std.specs.Prelude.{◌↔◌}
+use Rattle.std.proofs.lemmas.List.{drop_all, drop_more}
+use Rattle.bl_base.specs.declared.number.Pos.{Pos}
 use Rattle.bl_cmd.specs.Sites.{SinkReads, Reads, Writes}
 use Rattle.bl_cmd.specs.declared.definitions.ProgramParts.{ProgramParts as Program}
 use Rattle.bl_graph.specs.Chains.{Carries, IsChain}
@@ -9,6 +11,28 @@ use Rattle.bl_graph.specs.declared.facts.Graph.{Graph}
 use Rattle.bl_graph.specs.declared.facts.Use.{Use}
 use Rattle.bl_graph.proofs.Ranging.{writes_one}
 use Rattle.bl_witness.specs.Lookups.{IsLinked, IsOrdered, Leads}
+
+-- ---- a chain's rest
+
+abbrev numbers : List Pos → List ℕ
+numbers sites = map (λ (s : Pos). s.0) sites
+
+module _ (graph : Graph) (former : ℕ) (rest : List Pos) (i sink : ℕ) where
+  abbrev On : List Pos → Type 0
+  On sites = Leads graph former (numbers sites) sink
+
+  pub leads_next : (d : Pos) → i < length rest
+      → Leads graph former (numbers (drop i rest)) sink ↔ (IsLinked graph.writes graph.reads former (get_or rest i d).0 × Leads graph (get_or rest i d).0 (numbers (drop (i + 1) rest)) sink)
+  leads_next d lt =
+      let left : drop i rest ≡ get_or rest i d ∷ drop (i + 1) rest = drop_more rest i d lt in
+      (λ h. subst On left h, λ h. subst On (sym left) h)
+
+  pub leads_end : length rest ≤ i → Leads graph former (numbers (drop i rest)) sink ↔ IsLinked graph.writes graph.sinks former sink
+  leads_end past =
+      let left : drop i rest ≡ [] = drop_all i rest past in
+      (λ h. subst On left h, λ h. subst On (sym left) h)
+
+-- ---- in its program
 
 module _ (program : Program) (graph : Graph) (is : IsGraph program graph) where
   pub ordered : IsOrdered graph

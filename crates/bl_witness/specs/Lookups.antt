@@ -1,8 +1,8 @@
 -- What the check looks up, and what it sums.
-use Rattle.std.specs.Prelude.{◌≡◌, ◌×◌, ◌<◌, ◌≤◌, ℕ, List, [], ◌∷◌, Option, Some, None, take, slice_get, slice_index}
+use Rattle.std.specs.Prelude.{◌≡◌, ◌<◌, ◌≤◌, ℕ, List, [], ◌∷◌, length, Option, Some, None, take, slice_get, slice_index}
 use Rattle.std.specs.List.{AllPairs, Contains}
 use Rattle.bl_base.specs.declared.number.Var.{Var}
-use Rattle.bl_cmd.specs.Sites.{site_weight}
+use Rattle.bl_cmd.specs.Sites.{is_protected, site_weight}
 use Rattle.bl_cmd.specs.declared.definitions.ProgramParts.{ProgramParts as Program}
 use Rattle.bl_graph.specs.Certificates.{IsFlowPath}
 use Rattle.bl_graph.specs.Graphs.{Precedes, use_of}
@@ -10,7 +10,6 @@ use Rattle.bl_graph.specs.declared.certificate.FlowPath.{FlowPath}
 use Rattle.bl_graph.specs.declared.facts.Graph.{Graph}
 use Rattle.bl_graph.specs.declared.facts.Use.{Use}
 use Rattle.bl_witness.specs.Verdicts.{ArePaths, BreaksPath}
-use Rattle.bl_cmd.specs.Sites.{is_protected}
 
 -- ---- places in rising lists
 
@@ -56,7 +55,7 @@ JudgesPaths program paths (Some found) = (path : FlowPath) × (slice_get paths f
 
 -- the first site with more flow than its weight, where there is one
 abbrev pub JudgesLoads : Program → List ℕ → Option ℕ → Type 0
-JudgesLoads program loads None = (s w : ℕ) → s < Rattle.std.specs.Prelude.length loads → site_weight program s ≡ Some w → slice_index loads s ≤ w
+JudgesLoads program loads None = (s w : ℕ) → s < length loads → site_weight program s ≡ Some w → slice_index loads s ≤ w
 JudgesLoads program loads (Some position) =
     ((s w : ℕ) → s < position → site_weight program s ≡ Some w → slice_index loads s ≤ w)
     × ((w : ℕ) × (site_weight program position ≡ Some w) × (w < slice_index loads position))

@@ -62,7 +62,7 @@ fn written_at(writes: &List<Use>, at: Pos) -> Option<Var>
     ensures { IsWritten writes.now at.0 result }
 {
     let place = place_of(writes, Use { at, var: Var(0) });
-    match writes.as_slice().get(place) {
+    match use_at(writes, place) {
         Some(found) if found.at.0 == at.0 => Some(found.var),
         Some(_) => None,
         None => None,
@@ -74,10 +74,27 @@ fn is_listed(uses: &List<Use>, one: Use) -> bool
     requires { AllPairs Precedes uses.now }
     ensures { IsTrue result ↔ Contains uses.now one }
 {
-    match uses.as_slice().get(place_of(uses, one)) {
-        Some(found) => found.at.0 == one.at.0 && found.var.0 == one.var.0,
+    match use_at(uses, place_of(uses, one)) {
+        Some(found) => is_same(found, one),
         None => false,
     }
+}
+
+/// The use at a place of a list.
+fn use_at(uses: &List<Use>, place: usize) -> Option<Use>
+    ensures { result ≡ slice_get uses.now place }
+{
+    match uses.as_slice().get(place) {
+        Some(found) => Some(*found),
+        None => None,
+    }
+}
+
+/// Whether two uses are the same.
+fn is_same(one: Use, other: Use) -> bool
+    ensures { IsTrue result ↔ (one ≡ other) }
+{
+    one.at.0 == other.at.0 && one.var.0 == other.var.0
 }
 
 /// How many uses of a list stand before that one. A binary search.
@@ -86,12 +103,12 @@ fn place_of(uses: &List<Use>, one: Use) -> usize
     ensures within { result ≤ length uses.now }
     ensures place { IsPlaceOf uses.now one result }
 {
-    let uses = uses.as_slice();
+    let items = uses.as_slice();
     let mut low = 0;
-    let mut high = uses.len();
+    let mut high = items.len();
     while low < high {
         let middle = low + (high - low) / 2;
-        if precedes(uses[middle], one) {
+        if precedes(items[middle], one) {
             low = middle + 1;
         } else {
             high = middle;

@@ -1,10 +1,15 @@
 //! Certificates that a program's protects are the least: their check, and their text.
 #![tactic(auto)]
 
+mod chains;
 mod error;
+mod loads;
+mod protects;
 mod read;
+mod verdict;
 mod write;
 
 pub use error::CertError;
 pub use read::from_json;
+pub use verdict::{CertVerdict, check_certificate};
 pub use write::to_json;
