@@ -1,3 +1,4 @@
+pub mod Firsts
 pub mod Items
 pub mod Judging
 pub mod Links

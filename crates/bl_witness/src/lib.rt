@@ -3,6 +3,7 @@
 
 mod chains;
 mod error;
+pub mod laws;
 mod loads;
 mod protects;
 mod read;
