@@ -37,7 +37,10 @@ const CERTIFICATE: &str = "{\"paths\":[{\"amount\":1,\"sink\":14,\"sites\":[11]}
 
 #[test]
 fn one_certificate_of_the_loads_is_lawful(rt: HostRuntime) -> Result<(), Fail> {
-    assert_eq!(rt; verdict(rt.alloc(), LOADS, &[11], CERTIFICATE)?, CertVerdict::Yes);
+    assert_eq!(rt;
+        verdict(rt.alloc(), LOADS, &[11], CERTIFICATE)?,
+        CertVerdict::Yes
+    );
     Ok(())
 }
 
@@ -54,13 +57,22 @@ fn the_first_broken_rule_is_named(rt: HostRuntime) -> Result<(), Fail> {
     assert!(rt; breaks(rt.alloc(), LOADS, &[11], no_amount, (2, 0))?);
     assert!(rt; breaks(rt.alloc(), LOADS, &[], CERTIFICATE, (3, 0))?);
     assert!(rt; breaks(rt.alloc(), LOADS, &[11], twice, (4, 11))?);
-    assert!(rt; breaks(rt.alloc(), LOADS, &[11], "{\"paths\":[],\"weight\":0}", (5, 0))?);
+    assert!(rt;
+        breaks(
+            rt.alloc(),
+            LOADS,
+            &[11],
+            "{\"paths\":[],\"weight\":0}",
+            (5, 0)
+        )?
+    );
     Ok(())
 }
 
 #[test]
 fn two_paths_through_one_sum_are_too_many(rt: HostRuntime) -> Result<(), Fail> {
-    let paths = "{\"paths\":[{\"amount\":1,\"sink\":19,\"sites\":[11,16]},{\"amount\":1,\"sink\":19,\"sites\":[15,16]}],\"weight\":2}";
+    let paths =
+        "{\"paths\":[{\"amount\":1,\"sink\":19,\"sites\":[11,16]},{\"amount\":1,\"sink\":19,\"sites\":[15,16]}],\"weight\":2}";
     assert!(rt; breaks(rt.alloc(), SUM, &[11, 15], paths, (4, 16))?);
     Ok(())
 }
@@ -92,7 +104,13 @@ fn a_text_that_is_no_certificate(rt: HostRuntime) -> Result<(), Fail> {
     assert!(rt; fails(rt.alloc(), "{\"paths\":[],\"weight\":01}", not_json));
     assert!(rt; fails(rt.alloc(), "{}", shape));
     assert!(rt; fails(rt.alloc(), "{\"paths\":[],\"weight\":1.0}", shape));
-    assert!(rt; fails(rt.alloc(), "{\"paths\":[],\"weight\":18446744073709551616}", shape));
+    assert!(rt;
+        fails(
+            rt.alloc(),
+            "{\"paths\":[],\"weight\":18446744073709551616}",
+            shape
+        )
+    );
     assert!(rt; fails(rt.alloc(), "{\"paths\":[],\"weight\":0,\"more\":0}", shape));
     let far = "{\"paths\":[{\"amount\":1,\"sink\":4294967296,\"sites\":[]}],\"weight\":1}";
     assert!(rt; fails(rt.alloc(), far, shape));
