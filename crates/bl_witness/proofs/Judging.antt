@@ -1,7 +1,6 @@
 -- The parts of a verdict, put together.
-use Rattle.std.proofs.Common.{cond, ◌≡◌, ◌∙◌, ℕ, ◌-◌, ◌^◌, ◌<◌, ◌≤◌, Bool, true, false, List, length, take, Some, None, slice_get, unwrap_or, sym, ap, subst, refl, arith, min, slice_index}
+use Rattle.std.proofs.Common.{cond, ◌≡◌, ◌∙◌, ℕ, ◌-◌, ◌^◌, ◌<◌, ◌≤◌, Bool, true, false, List, length, Some, None, unwrap_or, sym, ap, subst, refl, arith, min, slice_index}
 use Rattle.std.specs.Prelude.{IsSome}
-use Rattle.bl_base.specs.Sums.{sum_below}
 use Rattle.bl_base.proofs.Sums.{sum_le, sum_term}
 use Rattle.bl_cmd.specs.Sites.{is_protected, site_weight, weight_of}
 use Rattle.bl_cmd.specs.declared.definitions.ProgramParts.{ProgramParts as Program}
@@ -12,7 +11,7 @@ use Rattle.bl_graph.specs.declared.certificate.Certificate.{Certificate}
 use Rattle.bl_graph.proofs.Chaining.{none_lighter}
 use Rattle.bl_transient.proofs.Meeting.{chain_met}
 use Rattle.bl_witness.specs.Lookups.{JudgesLoads, JudgesPaths}
-use Rattle.bl_witness.specs.Verdicts.{AreLightest, ArePaths, Breaks, Checks, Fits, Means, at_path, at_position, at_sums}
+use Rattle.bl_witness.specs.Verdicts.{ArePaths, Breaks, Checks, Fits, Means, at_path, at_position, at_sums}
 use Rattle.bl_witness.specs.declared.verdict.CertVerdict.{CertVerdict}
 use Rattle.bl_witness.specs.declared.verdict.CertVerdict.TheVariants.{Yes, No}
 

@@ -3,12 +3,11 @@ use Rattle.std.proofs.Common.{◌≡◌, ℕ, ◌+◌, ◌<◌, ◌≤◌, List,
 use Rattle.std.specs.Prelude.{◌↔◌}
 use Rattle.std.proofs.lemmas.List.{drop_all, drop_more}
 use Rattle.bl_base.specs.declared.number.Pos.{Pos}
-use Rattle.bl_cmd.specs.Sites.{SinkReads, Reads, Writes}
+use Rattle.bl_cmd.specs.Sites.{Writes}
 use Rattle.bl_cmd.specs.declared.definitions.ProgramParts.{ProgramParts as Program}
-use Rattle.bl_graph.specs.Chains.{Carries, IsChain}
-use Rattle.bl_graph.specs.Graphs.{AreUses, IsGraph}
+use Rattle.bl_graph.specs.Chains.{Carries}
+use Rattle.bl_graph.specs.Graphs.{IsGraph}
 use Rattle.bl_graph.specs.declared.facts.Graph.{Graph}
-use Rattle.bl_graph.specs.declared.facts.Use.{Use}
 use Rattle.bl_graph.proofs.Ranging.{writes_one}
 use Rattle.bl_witness.specs.Lookups.{IsLinked, IsOrdered, Leads}
 

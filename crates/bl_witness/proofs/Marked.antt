@@ -1,6 +1,6 @@
 -- What is protected is a site, of a weight below 2^63.
-use Rattle.std.proofs.Common.{◌≡◌, ◌∙◌, ℕ, ◌^◌, ◌<◌, Bool, true, false, Option, Some, None, unwrap_or, length, sym, ap, subst, refl, arith, min}
-use Rattle.std.specs.Prelude.{IsSome, IsTrue, if◌then◌else◌, option_and_then, option_map}
+use Rattle.std.proofs.Common.{◌≡◌, ◌∙◌, ℕ, ◌^◌, ◌<◌, true, false, Option, Some, None, unwrap_or, length, ap, refl, arith, min}
+use Rattle.std.specs.Prelude.{IsSome, if◌then◌else◌, option_and_then, option_map}
 use Rattle.std.proofs.lemmas.Bool.{false≢true}
 use Rattle.std.proofs.lemmas.Option.{none-some, slice_get_within}
 use Rattle.bl_base.proofs.Sums.{sum_term}

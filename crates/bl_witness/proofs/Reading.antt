@@ -1,5 +1,5 @@
 -- The value of a certificate is read as that certificate.
-use Rattle.std.proofs.Common.{◌≡◌, ◌∙◌, ◌<◌, ◌≤◌, ◌^◌, ap, sym, refl, ℕ, List, [], ◌∷◌, map, Option, Some, None, arith, lt-ltb}
+use Rattle.std.proofs.Common.{◌≡◌, ◌∙◌, ◌<◌, ◌≤◌, ◌^◌, ap, sym, refl, ℕ, List, [], ◌∷◌, map, Some, None, arith, lt-ltb}
 use Rattle.std.specs.Prelude.{Ok, Err, Result, IsUtf8}
 use Rattle.std.specs.List.{All}
 use Rattle.std.proofs.lemmas.Bool.{cond-true}

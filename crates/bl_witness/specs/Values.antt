@@ -1,5 +1,5 @@
 -- The JSON value of a certificate.
-use Rattle.std.specs.Prelude.{◌<◌, ◌^◌, ℕ, List, map, codes}
+use Rattle.std.specs.Prelude.{◌<◌, ◌^◌, ℕ, map, codes}
 use Rattle.std.specs.List.{All}
 use Rattle.serde_json.specs.Data.{Data, number, array, object, member, no_members, unsigned}
 use Rattle.serde_json.specs.View.{items_of}

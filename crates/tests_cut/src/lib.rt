@@ -6,7 +6,7 @@ mod certificates;
 #[cfg(test)]
 mod drawn;
 #[cfg(test)]
-mod hardened;
+mod least;
 #[cfg(test)]
 mod images;
 #[cfg(test)]

@@ -1,5 +1,5 @@
 //! Programs whose least protects were found by hand, and by `least.py`.
-use crate::hardened::{is_certified_by, is_least};
+use crate::least::{is_certified_by, is_least};
 use crate::images::{BEFORE_LOOP, DOUBLED, IN_LOOP, LOADS, SUM, TWICE, WEIGHTED};
 use std::test::Fail;
 

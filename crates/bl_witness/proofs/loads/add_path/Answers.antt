@@ -1,4 +1,4 @@
-use Rattle.std.proofs.Common.{◌≡◌, ◌<◌, ◌∙◌, ◌+◌, ◌*◌, ◌-◌, ◌^◌, ℕ, List, map, get_or, length, arith, ap, min, nat_eq, slice_index}
+use Rattle.std.proofs.Common.{◌<◌, ◌∙◌, ◌+◌, ◌*◌, ◌-◌, ◌^◌, ℕ, List, map, get_or, length, arith, ap, min, nat_eq, slice_index}
 use Rattle.std.specs.List.{count_by}
 use Rattle.std.proofs.lemmas.List.{get_or-map, length-map, take_all}
 use Rattle.bl_base.specs.declared.number.Pos.{Pos}

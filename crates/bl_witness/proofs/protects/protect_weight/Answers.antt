@@ -1,4 +1,4 @@
-use Rattle.std.proofs.Common.{◌<◌, ℕ, length, arith, ap, refl}
+use Rattle.std.proofs.Common.{length, arith, ap, refl}
 use Rattle.bl_cmd.specs.Sites.{is_protected}
 use Rattle.bl_cmd.specs.declared.definitions.ProgramParts.{ProgramParts}
 use Rattle.bl_cmd.proofs.Totals.{weight_next}

@@ -1,4 +1,4 @@
-use Rattle.std.proofs.Common.{◌≡◌, ◌∙◌, sym, ap, true}
+use Rattle.std.proofs.Common.{◌∙◌, sym, ap}
 use Rattle.bl_cmd.specs.Sites.{is_protected}
 use Rattle.bl_witness.proofs.Marked.{protect_weighs, protected_site}
 use Rattle.bl_witness.proofs.protects.weight_within.Goals as goal

@@ -1,4 +1,4 @@
-use Rattle.std.proofs.Common.{◌≡◌, ◌≤◌, ◌∙◌, ap, sym, subst, Some}
+use Rattle.std.proofs.Common.{◌≤◌, ◌∙◌, ap, sym, subst, Some}
 use Rattle.std.specs.Prelude.{string_bytes}
 use Rattle.std.proofs.lemmas.Str.{IsUtf8-string_bytes}
 use Rattle.serde_json.specs.Data.{depth}

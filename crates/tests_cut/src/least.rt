@@ -9,7 +9,7 @@ use std::test::Fail;
 
 /// The least protects of a program, and what is said of them.
 #[derive(Drop)]
-pub(crate) struct Hardened {
+pub(crate) struct Found {
     /// Their positions, rising.
     pub(crate) protects: List<Pos>,
     /// Their weight.
@@ -23,7 +23,7 @@ pub(crate) struct Hardened {
 }
 
 /// The least protects of the program that the bytes are the image of.
-pub(crate) fn hardened(alloc: Global, image: &[u8]) -> Result<Hardened, Fail> {
+pub(crate) fn least(alloc: Global, image: &[u8]) -> Result<Found, Fail> {
     let program = decode_image(alloc, image)?;
     let choice = least_protects(alloc, &program)?;
     let text = to_json(alloc, &choice.certificate)?;
@@ -31,7 +31,7 @@ pub(crate) fn hardened(alloc: Global, image: &[u8]) -> Result<Hardened, Fail> {
     let protected = protect(program, &choice.protects);
     let verdict = check_certificate(alloc, &protected, &certificate)?;
     let flow = flows(alloc, &protected, &choice.protects)?;
-    Ok(Hardened {
+    Ok(Found {
         protects: positions(alloc, &choice.protects)?,
         weight: choice.weight,
         text,
@@ -58,7 +58,7 @@ pub(crate) fn is_least(
     protects: &[u32],
     weight: u64,
 ) -> Result<bool, Fail> {
-    let found = hardened(alloc, image)?;
+    let found = least(alloc, image)?;
     if found.weight != weight || found.protects.len() != protects.len() {
         return Ok(false);
     }
@@ -72,7 +72,7 @@ pub(crate) fn is_least(
 
 /// Whether the certificate's text is one of those.
 pub(crate) fn is_certified_by(alloc: Global, image: &[u8], texts: &[&str]) -> Result<bool, Fail> {
-    let found = hardened(alloc, image)?;
+    let found = least(alloc, image)?;
     for text in texts {
         if found.text.as_slice() == text.as_bytes() {
             return Ok(true);
