@@ -1,0 +1,5 @@
+pub mod Lookups
+pub mod Shapes
+pub mod Texts
+pub mod Values
+pub mod Verdicts

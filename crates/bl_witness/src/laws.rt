@@ -1,0 +1,13 @@
+//! Laws of verdicts on certificates. Each function is its contract alone.
+ghost use Rattle.std.specs.Prelude.{◌≡◌, ℕ};
+ghost use Rattle.bl_cmd.specs.declared.definitions.ProgramParts.{ProgramParts};
+ghost use Rattle.bl_graph.specs.Certificates.{Certifies};
+ghost use Rattle.bl_graph.specs.declared.certificate.Certificate.{Certificate};
+ghost use Rattle.bl_witness.specs.Verdicts.{Breaks};
+
+/// A certificate with a broken rule doesn't keep the rules, and the first broken rule is one, with its index. So a certificate
+/// has one verdict.
+pub fn one_verdict()
+    ensures broken { (program : ProgramParts) (c : Certificate) (rule index : ℕ) → Breaks program c rule index → Certifies program c → ⊥ }
+    ensures first { (program : ProgramParts) (c : Certificate) (one other i j : ℕ) → Breaks program c one i → Breaks program c other j → (one ≡ other) × (i ≡ j) }
+{}
