@@ -17,7 +17,6 @@ use Rattle.bl_reduce.specs.Outcomes.{IsStart, first_store, patched}
 use Rattle.bl_trace.specs.Answers.{answer_of, IsAnswer}
 use Rattle.bl_trace.specs.declared.error.StartError.{StartError}
 use Rattle.bl_trace.specs.declared.error.StartError.TheVariants.{Line, Count, Memory}
-use Rattle.bl_app.specs.Form.{StandsAlone}
 use Rattle.bl_app.specs.Interpreting.{HasRun, preparing}
 use Rattle.bl_app.specs.Jobs.{saying}
 use Rattle.bl_app.specs.Loading.{Part, parts_of}
@@ -70,20 +69,20 @@ module _ (request : InterpRequest) (name : List ℕ) (start bytes : List ℕ) wh
   part = record { name = name; bytes = bytes }
 
   -- a module that is refused
-  pub module_refused : (refusal : Refusal) → (of_module StandsAlone).Refuses part refusal → (preparing request start).Refuses (part ∷ []) refusal
-  module_refused refusal r = at_first (one_refused StandsAlone part refusal r)
+  pub module_refused : (refusal : Refusal) → of_module.Refuses part refusal → (preparing request start).Refuses (part ∷ []) refusal
+  module_refused refusal r = at_first (one_refused part refusal r)
 
-  module _ (wasm : Module) (tree : Tree) (passed : (of_module StandsAlone).Passes part (record { name = name; tree = wasm })) (same : tree ≡ alone name wasm) where
+  module _ (wasm : Module) (tree : Tree) (passed : of_module.Passes part (record { name = name; tree = wasm })) (same : tree ≡ alone name wasm) where
     -- an export or a start that is refused
     pub start_not_opened : (refusal : Refusal) → (opening request.export start).Refuses tree refusal → (preparing request start).Refuses (part ∷ []) refusal
-    start_not_opened refusal r = at_second tree (one_loaded StandsAlone part (record { name = name; tree = wasm }) tree passed same) r
+    start_not_opened refusal r = at_second tree (one_loaded part (record { name = name; tree = wasm }) tree passed same) r
 
     -- what was run
     pub has_run : (contents : List (List ℕ)) (opened : Opened) (plan : PlanMade) → parts_of request.modules contents ≡ part ∷ [] → opened.tree ≡ tree → (opening request.export start).Passes tree opened
         → IsTold opened request.steps plan → HasRun request start contents (plan_in plan)
     has_run contents opened plan parts here opens told = record {
       opened = opened;
-      prepared = subst (λ parts. (preparing request start).Passes parts opened) (sym parts) (tree, one_loaded StandsAlone part (record { name = name; tree = wasm }) tree passed same, opens);
+      prepared = subst (λ parts. (preparing request start).Passes parts opened) (sym parts) (tree, one_loaded part (record { name = name; tree = wasm }) tree passed same, opens);
       outcome = told.outcome;
       within = told.within;
       is_plan = told.is_plan ∙ ap (λ memories. saying (outcome_status told.outcome) (outcome_text opened.type.results memories request.steps told.outcome))

@@ -9,7 +9,7 @@ ghost use Rattle.bl_app.specs.Words.{interp_in};
 ghost use Rattle.bl_app.specs.Working.{IsStaged, IsTold, IsWork, contents_in, opened_in, read_in};
 
 use crate::job::{Plan, Read};
-use crate::module::{Form, module_read, read_module};
+use crate::module::{module_read, read_module};
 use crate::outcome::{outcome_status, outcome_text};
 use crate::refusal::{Refusal, WorkError};
 use crate::start::of_start;
@@ -59,7 +59,7 @@ pub fn interpret<'a>(
         unreachable!()
     };
     let name = module_name(words.wasm);
-    let wasm = match read_module(alloc, Form::Alone, name, bytes) {
+    let wasm = match read_module(alloc, name, bytes) {
         Ok(wasm) => wasm,
         Err(error) => return Err(error),
     };

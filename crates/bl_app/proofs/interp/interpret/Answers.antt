@@ -1,6 +1,5 @@
 use Rattle.std.proofs.Common.{◌≡◌, ◌≤◌, ◌∙◌, None, [], ◌∷◌, ap, length, subst, sym, arith}
 use Rattle.std.specs.Prelude.{Err}
-use Rattle.bl_app.specs.Form.{StandsAlone}
 use Rattle.bl_app.specs.Interpreting.{interp_job}
 use Rattle.bl_app.specs.Jobs.{AreRead}
 use Rattle.bl_app.specs.Loading.{parts_of}
@@ -34,7 +33,7 @@ link_alone-requires c =
     let fits : length c.bytes-item.result.items ≤ 4194304 = read.1.0.short in
     let short : length c.deref.result.now ≤ 4194304 = omega (arith, fits, ap length c.deref.ensures.value) in
     let name = c.module_name-name.result.now in
-    record { alone = accepted_alone c.deref.result.now c.in-Ok.wasm short (accepted_of StandsAlone (record { name = name; bytes = c.deref.result.now }) (record { name = name; tree = c.in-Ok.wasm }) c.in-Ok.ensures) }
+    record { alone = accepted_alone c.deref.result.now c.in-Ok.wasm short (accepted_of (record { name = name; bytes = c.deref.result.now }) (record { name = name; tree = c.in-Ok.wasm }) c.in-Ok.ensures) }
 
 pub returns-in-Err-prepare : goal.returns-in-Err-prepare
 returns-in-Err-prepare c =
