@@ -21,9 +21,8 @@ use Rattle.bl_lower.specs.Trees.{low_tree}
 use Rattle.bl_lower.proofs.Opening.{ends_after, plain_ended}
 use Rattle.bl_app.specs.Building.{AreCompiled, Builds, BuildingRefuses, Built, building, command_count, compiling, long_image, many_commands}
 use Rattle.bl_app.specs.Form.{StandsAlone}
-use Rattle.bl_app.specs.Hardening.{module_read}
 use Rattle.bl_app.specs.Jobs.{AreRead}
-use Rattle.bl_app.specs.Loading.{Named, Part, loading, parts_of}
+use Rattle.bl_app.specs.Loading.{Named, Part, loading, module_read, parts_of}
 use Rattle.bl_app.specs.Meaning.{SameOutcomes}
 use Rattle.bl_app.specs.Refusals.{Refusal, limit}
 use Rattle.bl_app.specs.Stages.{IsLawfulStage, at_first, at_second}

@@ -11,13 +11,13 @@ use Rattle.std.proofs.lemmas.Slice.Eq.{bytes_eq-Decides}
 use Rattle.bl_outside.specs.Shelf.{Files, with_file}
 use Rattle.bl_cmd.specs.Sites.{is_protected}
 use Rattle.bl_lower.proofs.Unprotected.{unprotected}
-use Rattle.bl_app.specs.Building.{compiling}
+use Rattle.bl_app.specs.Building.{Built, Makes, compiling, compiling_job}
 use Rattle.bl_app.specs.Causes.{IsDone}
 use Rattle.bl_app.specs.Commands.{job_of}
-use Rattle.bl_app.specs.Hardening.{HardenDoes, Hardens, harden_job}
-use Rattle.bl_app.specs.Jobs.{AreRead, FileIs, IsLawful, Job}
+use Rattle.bl_app.specs.Hardening.{Hardens, harden_job, harden_plan}
+use Rattle.bl_app.specs.Jobs.{AreRead, FileIs, IsLawful, Job, Plan}
 use Rattle.bl_app.specs.Loading.{Part, parts_of}
-use Rattle.bl_app.specs.Lowering.{LowerDoes, Lowers, lower_job}
+use Rattle.bl_app.specs.Lowering.{Lowers, lower_job, lower_plan}
 use Rattle.bl_app.specs.Refusals.{Refusal}
 use Rattle.bl_app.specs.Requests.{HardenRequest, LowerRequest, Request, harden, lower, request_of}
 use Rattle.bl_app.specs.Status.{kind_of}
@@ -27,6 +27,7 @@ use Rattle.bl_app.specs.Worlds.{World, took, with_files}
 use Rattle.bl_app.specs.declared.refusal.WorkError.{WorkError}
 use Rattle.bl_app.specs.declared.refusal.WorkError.TheVariants as error
 use Rattle.bl_app.specs.declared.status.Status.{Status}
+use Rattle.bl_app.specs.declared.status.Status.TheVariants.{Done}
 use Rattle.bl_app.proofs.BuildLemmas.{are_compiled, compiling_lawful}
 use Rattle.bl_app.proofs.WordsLemmas.{request_differs}
 
@@ -40,23 +41,24 @@ not_compiled job parts contents against error.Memory r = tt
 
 -- ---- the laws
 
+-- where what is planned is always done, and keeps the files that are named
+compiling_lawful_job : (words keeps : List (List ℕ)) (plan_of : Built → Plan) → ((built : Built) → (plan_of built).status ≡ Done) → ((built : Built) → map (λ keep. keep.0) (plan_of built).keeps ≡ keeps)
+    → IsLawful (compiling_job words keeps plan_of)
+compiling_lawful_job words keeps plan_of done named =
+    let status : (contents : List (List ℕ)) (plan : Plan) → Makes words plan_of contents plan → plan.status ≡ Done = λ contents plan d. ap (λ p. p.status) d.is_plan ∙ done d.built in
+    record {
+      one_refusal = λ contents a b h k. compiling_lawful.one_refusal (parts_of words contents) a b h k;
+      none_beside_a_deed = λ contents refusal plan h d. compiling_lawful.not_both (parts_of words contents) d.built refusal d.compiled h;
+      one_status = λ contents p q d e. status contents p d ∙ sym (status contents q e);
+      status_of_deed = λ contents plan d. ap kind_of (status contents plan d);
+      keeps_named = λ contents plan d. ap (λ p. map (λ keep. keep.0) p.keeps) d.is_plan ∙ named d.built;
+    }
+
 pub harden_lawful : (request : HardenRequest) → IsLawful (harden_job request)
-harden_lawful request = record {
-  one_refusal = λ contents a b h k. compiling_lawful.one_refusal (parts_of request.modules contents) a b h k;
-  none_beside_a_deed = λ contents refusal plan h d. compiling_lawful.not_both (parts_of request.modules contents) d.built refusal d.compiled h;
-  one_status = λ contents p q d e. ap (λ plan. plan.status) d.is_plan ∙ sym (ap (λ plan. plan.status) e.is_plan);
-  status_of_deed = λ contents plan d. ap (λ plan. kind_of plan.status) d.is_plan;
-  keeps_named = λ contents plan d. ap (λ plan. map (λ keep. keep.0) plan.keeps) d.is_plan;
-}
+harden_lawful request = compiling_lawful_job request.modules (request.certificate ∷ request.image ∷ []) (harden_plan request) (λ built. refl) (λ built. refl)
 
 pub lower_lawful : (request : LowerRequest) → IsLawful (lower_job request)
-lower_lawful request = record {
-  one_refusal = λ contents a b h k. compiling_lawful.one_refusal (parts_of request.modules contents) a b h k;
-  none_beside_a_deed = λ contents refusal plan h d. compiling_lawful.not_both (parts_of request.modules contents) d.built refusal d.compiled h;
-  one_status = λ contents p q d e. ap (λ plan. plan.status) d.is_plan ∙ sym (ap (λ plan. plan.status) e.is_plan);
-  status_of_deed = λ contents plan d. ap (λ plan. kind_of plan.status) d.is_plan;
-  keeps_named = λ contents plan d. ap (λ plan. map (λ keep. keep.0) plan.keeps) d.is_plan;
-}
+lower_lawful request = compiling_lawful_job request.modules (request.image ∷ []) (lower_plan request) (λ built. refl) (λ built. refl)
 
 -- ---- the files
 
@@ -83,7 +85,7 @@ kept_still (Some files) name bytes other those differ is =
 pub hardens : (words : List (List ℕ)) (request : HardenRequest) (old new : World) (status : Status) → request_of words ≡ Some (harden request) → IsDone job_of (request_of words) old new status → Hardens request old new
 hardens words request old new status is d =
     let same : d.request ≡ harden request = let theirs = d.is_request in cc in
-    let does : HardenDoes request d.contents d.plan = subst (λ r. (job_of r).Does d.contents d.plan) same d.does in
+    let does : Makes request.modules (harden_plan request) d.contents d.plan = subst (λ r. (job_of r).Does d.contents d.plan) same d.does in
     let read = subst (λ r. AreRead old.files (job_of r).reads d.contents) same d.read in
     let files = d.kept ∙ ap (λ plan. with_files old.files plan.keeps) does.is_plan in
     let image = does.built.image in
@@ -104,7 +106,7 @@ hardens words request old new status is d =
 pub lowers : (asked : Option Request) (request : LowerRequest) (old new : World) (status : Status) → asked ≡ Some (lower request) → IsDone job_of asked old new status → Lowers request old new
 lowers asked request old new status is d =
     let same : d.request ≡ lower request = let theirs = d.is_request in cc in
-    let does : LowerDoes request d.contents d.plan = subst (λ r. (job_of r).Does d.contents d.plan) same d.does in
+    let does : Makes request.modules (lower_plan request) d.contents d.plan = subst (λ r. (job_of r).Does d.contents d.plan) same d.does in
     let read = subst (λ r. AreRead old.files (job_of r).reads d.contents) same d.read in
     let files = d.kept ∙ ap (λ plan. with_files old.files plan.keeps) does.is_plan in
     record {

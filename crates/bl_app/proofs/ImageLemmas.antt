@@ -1,25 +1,22 @@
 -- An image runs as the modules do that it was made of.
 use Rattle.std.proofs.Common.{◌≡◌, ℕ, ◌*◌, ◌≤◌, List, [], ◌∷◌, map, cond, Option, Some, None, slice_get, refl, sym, ap, ◌∙◌, subst, arith}
-use Rattle.std.specs.Prelude.{Ok, option_and_then, option_map}
+use Rattle.std.specs.Prelude.{Ok}
 use Rattle.std.specs.List.{fold}
 use Rattle.std.specs.Str.{bytes_eq}
 use Rattle.std.proofs.Math.Nat.{mul-le-mul_left}
-use Rattle.std.proofs.lemmas.Option.{slice_get-map}
 use Rattle.bl_base.specs.Bytes.{patched}
 use Rattle.bl_base.specs.Runs.{MemoryState, Outcome, returned, trapped}
 use Rattle.bl_base.specs.declared.names.ValueType.{ValueType}
-use Rattle.bl_base.proofs.Lists.{all_get, mapped_get, some_same}
+use Rattle.bl_base.proofs.Lists.{some_same}
 use Rattle.bl_wasm.specs.Exports.{Pairs, number_of}
-use Rattle.bl_wasm.specs.Linked.{IsFunction, IsLinked}
-use Rattle.bl_wasm.specs.declared.linked.Function.{Function}
 use Rattle.bl_wasm.specs.declared.linked.Signature.{Signature}
 use Rattle.bl_wasm.specs.declared.linked.Tree.{Tree}
 use Rattle.bl_reduce.specs.Outcomes.{first_memory, first_store, source}
 use Rattle.bl_cmd.specs.Outcomes.{first_memories, first_memory as memory_at_first, plain}
-use Rattle.bl_cmd.specs.declared.definitions.FunctionDef.{FunctionDef}
 use Rattle.bl_image.proofs.Prefixes.{one_program}
-use Rattle.bl_lower.specs.Trees.{export_def, function_def, low_tree, memory_def, results_by, step_bound}
-use Rattle.bl_lower.proofs.Parts.{map_map, params_of_type}
+use Rattle.bl_lower.specs.Trees.{export_def, low_tree, memory_def, step_bound}
+use Rattle.bl_lower.proofs.Defined.{IsDefined, has_type, is_defined}
+use Rattle.bl_lower.proofs.Parts.{map_map}
 use Rattle.bl_lower.proofs.WellFormed.{rules}
 use Rattle.bl_trace.specs.Answers.{answer_of}
 use Rattle.bl_app.specs.Building.{AreCompiled, Built}
@@ -36,38 +33,11 @@ use Rattle.bl_app.specs.declared.status.Status.TheVariants.{Spent}
 use Rattle.bl_app.proofs.LoadingLemmas.{linked_of, loading_lawful}
 use Rattle.bl_app.proofs.RunLemmas.{entering_lawful, passes_here}
 
--- ---- exports and types
+-- ---- exports
 
 same_exports : (name : List ℕ) (pairs : Pairs) → function_named name (map export_def pairs) ≡ number_of name pairs
 same_exports name [] = refl
 same_exports name (pair ∷ pairs) = ap (cond (bytes_eq name pair.0) (Some pair.1)) (same_exports name pairs)
-
--- what a program says of a function of that type
-record IsDefined (tree : Tree) (number : ℕ) (type : Signature) : Type 0 where
-  defined : FunctionDef
-  exists : slice_get (low_tree tree).functions number ≡ Some defined
-  kinds : kinds_of defined ≡ type.params
-  results : defined.results ≡ type.results
-
-module _ (tree : Tree) (linked : IsLinked tree) where
-  is_defined : (number : ℕ) (type : Signature) → type_of tree number ≡ Some type → IsDefined tree number type
-  is_defined number type typed = by (slice_get tree.functions number) refl typed
-    where
-      by : (o : Option Function) → slice_get tree.functions number ≡ o → option_and_then (λ f. slice_get tree.types f.type_index) o ≡ Some type → IsDefined tree number type
-      by None e typed = cc
-      by (Some function) e typed = record {
-        defined = function_def tree function;
-        exists = slice_get-map (function_def tree) tree.functions number ∙ ap (option_map (function_def tree)) e;
-        kinds = params_of_type tree linked function type (all_get (IsFunction tree) tree.functions number function linked.functions e) typed;
-        results = ap results_by typed;
-      }
-
-  -- a function of the program has a type
-  has_type : (number : ℕ) (defined : FunctionDef) → slice_get (low_tree tree).functions number ≡ Some defined → (type : Signature) × (type_of tree number ≡ Some type)
-  has_type number defined e =
-      let found = mapped_get (function_def tree) tree.functions number defined e in
-      let is = all_get (IsFunction tree) tree.functions number found.0 linked.functions found.1 in
-      (is.type, ap (option_and_then (λ f. slice_get tree.types f.type_index)) found.1 ∙ is.exists)
 
 -- ---- runs
 
@@ -111,7 +81,7 @@ module _ (request : InterpRequest) (image_name start_name start : List ℕ) (con
     same_plan : (outcome : Outcome) (m n : ℕ) → saying (outcome_status (Some outcome)) (printed_of opened n (Some outcome)) ≡ saying (outcome_status (Some outcome)) (plain_text entered m (Some outcome))
     same_plan outcome m n =
         ap (saying (outcome_status (Some outcome)))
-        ((λ i. outcome_text (d.results (~ i)) (same_memories (~ i)) n (Some outcome)) ∙ steps_aside outcome d.defined.results (first_memories (low_tree tree) opened.start) n m)
+        (sym (λ i. outcome_text (d.results i) (same_memories i) n (Some outcome)) ∙ steps_aside outcome d.defined.results (first_memories (low_tree tree) opened.start) n m)
 
   within_bound : (m n : ℕ) → m ≤ step_bound tree * n → n ≤ request.steps → m ≤ step_bound tree * request.steps
   within_bound m n bound few = let more : step_bound tree * n ≤ step_bound tree * request.steps = mul-le-mul_left (step_bound tree) few in omega (arith, bound, more)

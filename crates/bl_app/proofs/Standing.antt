@@ -2,30 +2,20 @@
 use Rattle.std.proofs.Common.{◌≡◌, refl, ℕ, ◌<◌, ◌≤◌, ◌^◌, List, [], ◌∷◌, length, length-append, Option, Some, None, arith}
 use Rattle.std.specs.List.{All, zip}
 use Rattle.std.specs.Option.{option_or}
-use Rattle.std.proofs.lemmas.List.Elements.{All-nil, All-cons, All-head, All-map, All-tail, All-weaker}
-use Rattle.bl_base.specs.Fits.{ArgumentFits}
+use Rattle.std.proofs.lemmas.List.Elements.{All-nil, All-cons, All-weaker}
 use Rattle.bl_base.specs.Quantity.{limit_of}
 use Rattle.bl_base.specs.declared.quantity.Quantity.{Quantity}
 use Rattle.bl_base.specs.declared.quantity.Quantity.TheVariants as quantity
 use Rattle.bl_wasm.specs.Limits.{Excess, above, first_excess, first_in, function_excess, local_count}
-use Rattle.bl_wasm.specs.Linked.{HasImmediates, IsLinked}
+use Rattle.bl_wasm.specs.Linked.{IsLinked}
 use Rattle.bl_wasm.specs.Modules.{Spells}
-use Rattle.bl_wasm.specs.Validity.{IsFirst, function_of, functions_of, global_of, imported}
-use Rattle.bl_wasm.specs.declared.instruction.Instr.{Instr}
-use Rattle.bl_wasm.specs.declared.instruction.Instr.TheVariants as wasm
-use Rattle.bl_wasm.specs.declared.linked.Function.{Function}
-use Rattle.bl_wasm.specs.declared.linked.Global.{Global}
+use Rattle.bl_wasm.specs.Validity.{function_of, functions_of, imported}
 use Rattle.bl_wasm.specs.declared.module.Code.{Code}
-use Rattle.bl_wasm.specs.declared.module.DefinedGlobal.{DefinedGlobal}
 use Rattle.bl_wasm.specs.declared.module.Module.{Module}
 use Rattle.bl_wasm.specs.declared.types.FuncType.{FuncType}
-use Rattle.bl_wasm.specs.declared.types.GlobalType.{GlobalType}
-use Rattle.bl_wasm.specs.declared.types.WasmType.{WasmType}
-use Rattle.bl_wasm.specs.declared.types.WasmType.TheVariants.{F32, F64, I32, I64}
-use Rattle.bl_link.specs.Alone.{IsAlone, alone, first_value, function, global, value_of}
+use Rattle.bl_link.specs.Alone.{IsAlone, alone}
 use Rattle.bl_link.proofs.Spelled.{alone_from}
-use Rattle.bl_link.proofs.TreeLemmas.{is_linked}
-use Rattle.bl_link.proofs.Widths.{widths}
+use Rattle.bl_link.proofs.Widths.{spelled_linked}
 use Rattle.bl_app.specs.Form.{StandsAlone}
 use Rattle.bl_app.specs.Loading.{Accepted}
 
@@ -88,39 +78,6 @@ accepted_alone bytes tree short a = alone_of bytes tree short a.spelled a.within
 
 -- ---- the trees that they are linked to
 
--- what holds of each body holds of it beside its index
-with_indices : (P : Code → Type 0) (indices : List ℕ) (bodies : List Code) → All P bodies → All (λ (pair : ℕ × Code). P pair.1) (zip indices bodies)
-with_indices P [] bodies all = All-nil (λ (pair : ℕ × Code). P pair.1)
-with_indices P (index ∷ indices) [] all = All-nil (λ (pair : ℕ × Code). P pair.1)
-with_indices P (index ∷ indices) (code ∷ bodies) all =
-    All-cons (λ (pair : ℕ × Code). P pair.1) (index, code) (zip indices bodies) (All-head P code bodies all) (with_indices P indices bodies (All-tail P code bodies all))
-
-zero_fits : (kind : WasmType) → ArgumentFits (value_of kind) 0
-zero_fits I32 = omega arith
-zero_fits I64 = omega arith
-zero_fits F32 = omega arith
-zero_fits F64 = omega arith
-
--- the first value of a global is one of its type
-first_fits : (imports : List GlobalType) (kind : WasmType) (items : List Instr) → IsFirst imports kind items → All HasImmediates items → ArgumentFits (value_of kind) (first_value items)
-first_fits imports kind [] first all = zero_fits kind
-first_fits imports kind (item ∷ []) first all =
-    (elim item as (λ k. IsFirst imports kind (k ∷ []) → HasImmediates k → ArgumentFits (value_of kind) (first_value (k ∷ []))) [
-      | wasm.I32Const n ↦ elim kind as (λ t. IsFirst imports t (wasm.I32Const n ∷ []) → n < 2 ^ 32 → ArgumentFits (value_of t) n) [ I32 ↦ λ h wide. wide | _ ↦ λ h wide. absurd h ]
-      | wasm.I64Const n ↦ elim kind as (λ t. IsFirst imports t (wasm.I64Const n ∷ []) → n < 2 ^ 64 → ArgumentFits (value_of t) n) [ I64 ↦ λ h wide. wide | _ ↦ λ h wide. absurd h ]
-      | _ ↦ λ h wide. zero_fits kind
-    ]) first (All-head HasImmediates item [] all)
-first_fits imports kind (item ∷ next ∷ items) first all = elim item as (λ k. ArgumentFits (value_of kind) (first_value (k ∷ next ∷ items))) [ _ ↦ zero_fits kind ]
-
 -- an accepted module is linked to a tree that can be run
 pub accepted_linked : (name bytes : List ℕ) (tree : Module) → length bytes ≤ limit_of quantity.Module → Accepted StandsAlone bytes tree → IsLinked (alone name tree)
-accepted_linked name bytes tree short a =
-    let wide = widths bytes tree a.spelled in
-    let firsts : All (λ (one : DefinedGlobal). IsFirst (imported global_of tree) one.kind.kind one.first × All HasImmediates one.first) tree.globals =
-    λ k d below. (a.valid.rules.firsts k d below, wide.firsts k d below) in
-    is_linked name tree a.valid (accepted_alone bytes tree short a)
-    (All-map (λ (one : Global). ArgumentFits one.kind one.first) global tree.globals
-    (All-weaker (λ (one : DefinedGlobal). IsFirst (imported global_of tree) one.kind.kind one.first × All HasImmediates one.first) (λ (one : DefinedGlobal). ArgumentFits (global one).kind (global one).first)
-    (λ one h. first_fits (imported global_of tree) one.kind.kind one.first h.0 h.1) tree.globals firsts))
-    (All-map (λ (one : Function). All HasImmediates one.code.items) (function tree.types) (zip tree.functions tree.bodies)
-    (with_indices (λ code. All HasImmediates code.items) tree.functions tree.bodies wide.bodies))
+accepted_linked name bytes tree short a = spelled_linked name bytes tree a.spelled a.valid (accepted_alone bytes tree short a)

@@ -1,5 +1,5 @@
 -- From the bytes of modules to the image of their program: they are linked, and the linked tree is lowered.
-use Rattle.std.specs.Prelude.{◌≡◌, ℕ, ◌-◌, ◌^◌, ◌<◌, ◌≤◌, List, length, min}
+use Rattle.std.specs.Prelude.{◌≡◌, ℕ, ◌-◌, ◌^◌, ◌<◌, ◌≤◌, List, length, map, min}
 use Rattle.bl_base.specs.Quantity.{limit_of}
 use Rattle.bl_base.specs.declared.quantity.Quantity.TheVariants as quantity
 use Rattle.bl_wasm.specs.Linked.{IsLinked}
@@ -8,7 +8,8 @@ use Rattle.bl_cmd.specs.declared.definitions.ProgramParts.{ProgramParts as Progr
 use Rattle.bl_image.specs.Image.{Image}
 use Rattle.bl_lower.specs.Trees.{low_tree}
 use Rattle.bl_app.specs.Form.{StandsAlone}
-use Rattle.bl_app.specs.Loading.{Part, loading, parts_of}
+use Rattle.bl_app.specs.Jobs.{Job, Plan}
+use Rattle.bl_app.specs.Loading.{Part, loading, module_read, parts_of}
 use Rattle.bl_app.specs.Meaning.{SameOutcomes}
 use Rattle.bl_app.specs.Refusals.{Refusal, limit}
 use Rattle.bl_app.specs.Stages.{Stage, chain}
@@ -44,6 +45,21 @@ building = record { Passes = Builds; Refuses = BuildingRefuses }
 -- that of modules which stand alone
 abbrev pub compiling : Stage (List Part) Built
 compiling = chain (loading StandsAlone) building
+
+-- nothing is refused of the modules in these files, and the plan is made of their program
+pub record Makes (words : List (List ℕ)) (plan_of : Built → Plan) (contents : List (List ℕ)) (plan : Plan) : Type 0 where
+  pub built : Built
+  pub compiled : compiling.Passes (parts_of words contents) built
+  pub is_plan : plan ≡ plan_of built
+
+-- reading modules, and doing what is planned of their program
+abbrev pub compiling_job : List (List ℕ) → List (List ℕ) → (Built → Plan) → Job
+compiling_job words keeps plan_of = record {
+  reads = map module_read words;
+  keeps = keeps;
+  Against = λ contents refusal. compiling.Refuses (parts_of words contents) refusal;
+  Does = Makes words plan_of;
+}
 
 -- the contents of the files of modules are those of modules that are linked to a tree, which is lowered; the program ends exactly as
 -- the tree does

@@ -3,9 +3,8 @@ ghost use Rattle.std.specs.Prelude.{◌≡◌, ◌∷◌, ◌≤◌, [], None, l
 ghost use Rattle.bl_base.specs.Quantity.{limit_of};
 ghost use Rattle.bl_base.specs.declared.quantity.Quantity.TheVariants as quantity;
 ghost use Rattle.bl_app.specs.Building.{building, compiling};
-ghost use Rattle.bl_app.specs.Hardening.{module_read};
 ghost use Rattle.bl_app.specs.Jobs.{AreRead};
-ghost use Rattle.bl_app.specs.Loading.{parts_of};
+ghost use Rattle.bl_app.specs.Loading.{module_read, parts_of};
 ghost use Rattle.bl_app.specs.Working.{IsStaged, built_in, contents_in};
 
 use crate::module::read_module;

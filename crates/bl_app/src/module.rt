@@ -2,7 +2,7 @@
 ghost use Rattle.std.specs.Prelude.{◌≡◌, ◌↔◌, ◌≤◌, IsTrue, codes, length};
 ghost use Rattle.bl_base.specs.Quantity.{limit_of};
 ghost use Rattle.bl_app.specs.Form.{StandsAlone};
-ghost use Rattle.bl_app.specs.Hardening.{module_read as read_of};
+ghost use Rattle.bl_app.specs.Loading.{module_read as read_of};
 ghost use Rattle.bl_app.specs.Working.{IsStaged, decoding_error, of_module, read_in, validation_error};
 
 use crate::job::Read;

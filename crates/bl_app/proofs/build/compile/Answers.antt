@@ -1,8 +1,7 @@
 use Rattle.std.proofs.Common.{◌≡◌, ◌≤◌, ◌∙◌, None, [], ◌∷◌, ap, length, subst, sym, arith}
 use Rattle.bl_app.specs.Building.{compiling}
-use Rattle.bl_app.specs.Hardening.{module_read}
 use Rattle.bl_app.specs.Jobs.{AreRead}
-use Rattle.bl_app.specs.Loading.{parts_of}
+use Rattle.bl_app.specs.Loading.{module_read, parts_of}
 use Rattle.bl_app.specs.Working.{IsStaged, built_in, contents_in}
 use Rattle.bl_app.proofs.WorkLemmas.{one_content}
 use Rattle.bl_app.proofs.build.compile.Goals as goal
