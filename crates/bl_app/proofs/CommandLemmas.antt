@@ -6,18 +6,19 @@ use Rattle.bl_app.specs.Causes.{Causes, NoneRose}
 use Rattle.bl_app.specs.Commands.{job_of}
 use Rattle.bl_app.specs.Jobs.{AreRead, FirstRefusal, IsLawful, Plan}
 use Rattle.bl_app.specs.Refusals.{Refusal}
-use Rattle.bl_app.specs.Requests.{Request, harden, interp, run}
+use Rattle.bl_app.specs.Requests.{Request, harden, interp, lower, run}
 use Rattle.bl_app.specs.Worlds.{World}
 use Rattle.bl_app.specs.Status.{code_of, kind_of, of_deed, of_refusal}
 use Rattle.bl_app.specs.declared.status.Status.{Status}
 use Rattle.bl_app.specs.declared.status.Status.TheVariants as status
-use Rattle.bl_app.proofs.HardenLemmas.{harden_lawful}
+use Rattle.bl_app.proofs.HardenLemmas.{harden_lawful, lower_lawful}
 use Rattle.bl_app.proofs.InterpLemmas.{interp_lawful}
 use Rattle.bl_app.proofs.JobLemmas.{done_not_refused, one_first}
 use Rattle.bl_app.proofs.RunLemmas.{run_lawful}
 
 pub laws_of : (request : Request) → IsLawful (job_of request)
 laws_of (harden request) = harden_lawful request
+laws_of (lower request) = lower_lawful request
 laws_of (interp request) = interp_lawful request
 laws_of (run request) = run_lawful request
 

@@ -1,4 +1,4 @@
-pub mod Bodies
+pub mod Building
 pub mod Causes
 pub mod Commands
 pub mod Ends
@@ -6,21 +6,18 @@ pub mod Entering
 pub mod Executing
 pub mod Form
 pub mod Hardening
-pub mod Image
 pub mod Interpreting
 pub mod Jobs
 pub mod Loading
 pub mod Lowering
 pub mod Meaning
 pub mod Outcomes
-pub mod Plain
 pub mod Refusals
 pub mod Requests
 pub mod Running
 pub mod Stages
 pub mod Status
 pub mod Texts
-pub mod Typing
 pub mod Words
 pub mod Working
 pub mod Worlds

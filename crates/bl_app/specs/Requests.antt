@@ -11,6 +11,11 @@ pub record HardenRequest : Type 0 where
   pub certificate : List ℕ
   pub modules : List (List ℕ)
 
+-- `lower`: the file that is written, and the modules that are read
+pub record LowerRequest : Type 0 where
+  pub image : List ℕ
+  pub modules : List (List ℕ)
+
 -- `interp`: the name of an exported function, the start file and the modules that are read, and the most steps
 pub record InterpRequest : Type 0 where
   pub export : List ℕ
@@ -28,6 +33,7 @@ pub record RunRequest : Type 0 where
 -- what a call is asked for
 pub data Request : Type 0 where
   harden : HardenRequest → Request
+  lower : LowerRequest → Request
   interp : InterpRequest → Request
   run : RunRequest → Request
 
@@ -121,6 +127,14 @@ harden_of arguments values = None
 abbrev pub harden_request : Parts → Option Request
 harden_request parts = harden_of parts.arguments parts.steps_values
 
+-- what `lower` asks for: an image, and one module
+abbrev pub lower_of : List (List ℕ) → List (List ℕ) → Option Request
+lower_of (image ∷ wasm ∷ []) [] = Some (lower (record { image = image; modules = wasm ∷ [] }))
+lower_of arguments values = None
+
+abbrev pub lower_request : Parts → Option Request
+lower_request parts = lower_of parts.arguments parts.steps_values
+
 -- what `interp` asks for: an export, a start file and one module, and the most steps
 abbrev pub interp_of : List (List ℕ) → List (List ℕ) → Option Request
 interp_of (export ∷ start ∷ wasm ∷ []) values =
@@ -143,6 +157,7 @@ run_request parts = run_of parts.arguments parts.steps_values
 abbrev pub request_of : List (List ℕ) → Option Request
 request_of (program ∷ command ∷ words) =
     (if bytes_eq command (codes "harden") then option_and_then harden_request (parts_of words)
+    else if bytes_eq command (codes "lower") then option_and_then lower_request (parts_of words)
     else if bytes_eq command (codes "interp") then option_and_then interp_request (parts_of words)
     else if bytes_eq command (codes "run") then option_and_then run_request (parts_of words)
     else None)

@@ -21,7 +21,7 @@ pub enum Refusal<'a> {
     InvalidFunction(&'a str, u32),
     /// Each function of a module has a typing, and the module breaks another rule.
     InvalidModule(&'a str),
-    /// A module has something that isn't supported, or it is outside the form.
+    /// A module has something that isn't supported, or it doesn't stand alone.
     Unsupported(&'a str),
     /// A file or a module is too large.
     Limit {

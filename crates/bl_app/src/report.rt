@@ -1,18 +1,21 @@
 //! The report of a program.
 ghost use Rattle.std.specs.Prelude.{◌≡◌, IfOk, string_bytes, count_by};
-ghost use Rattle.bl_app.specs.Texts.{is_site, report_text};
+ghost use Rattle.std.specs.Option.{is_some};
+ghost use Rattle.bl_cmd.specs.Sites.{mark_of};
+ghost use Rattle.bl_app.specs.Texts.{report_text};
 
-use crate::program::{Command, Program};
 use bl_base::NoMemory;
+use bl_cmd::{Command, WellFormed};
 use std::alloc::Global;
 
 /// The report of a program that has no protects and declares no secret. Linear in the commands.
-pub fn report(alloc: Global, program: &Program) -> Result<String, NoMemory>
+pub fn report(alloc: Global, program: &WellFormed) -> Result<String, NoMemory>
     ensures { IfOk result (λ text. string_bytes text ≡ report_text program.now) }
 {
-    let functions = program.functions.len();
-    let commands = program.commands.len();
-    let sites = site_count(program.commands.as_slice());
+    let parts = program.program().parts();
+    let functions = parts.functions.len();
+    let commands = parts.commands.len();
+    let sites = site_count(parts.commands.as_slice());
     let text = format!(in alloc;
         "functions {functions}\ncommands {commands}\nsites {sites}\nprotects 0 weight 0\nconstant-time yes\n"
     )?;
@@ -21,7 +24,7 @@ pub fn report(alloc: Global, program: &Program) -> Result<String, NoMemory>
 
 /// The number of commands that write a variable whose value can be protected.
 fn site_count(commands: &[Command]) -> usize
-    ensures { result ≡ count_by is_site commands.now }
+    ensures { result ≡ count_by (λ command. is_some (mark_of command)) commands.now }
 {
     commands
         .iter()
@@ -31,7 +34,10 @@ fn site_count(commands: &[Command]) -> usize
 
 /// Whether a command writes a variable whose value can be protected.
 fn is_site_command(command: &Command) -> bool
-    ensures { result ≡ is_site command.now }
+    ensures { result ≡ is_some (mark_of command.now) }
 {
-    matches!(command, Command::Set { .. } | Command::Out { .. })
+    matches!(
+        command,
+        Command::Set { .. } | Command::Load { .. } | Command::Arg { .. } | Command::Out { .. }
+    )
 }

@@ -2,7 +2,7 @@
 ghost use Rattle.std.specs.Prelude.{◌≡◌, IfOk, map, nat_eq, string_bytes, if◌then◌else◌, drop};
 ghost use Rattle.std.specs.Option.{option_map};
 ghost use Rattle.std.specs.List.{after_last};
-ghost use Rattle.bl_app.specs.Requests.{parts_of, harden_request, interp_request, run_request, request_of, begins_with_dash as word_begins_with_dash, is_option, is_steps_value, number_of_steps, steps_of, module_name as module_name_of, without_ending as name_without_ending};
+ghost use Rattle.bl_app.specs.Requests.{parts_of, harden_request, interp_request, lower_request, run_request, request_of, begins_with_dash as word_begins_with_dash, is_option, is_steps_value, number_of_steps, steps_of, module_name as module_name_of, without_ending as name_without_ending};
 ghost use Rattle.bl_app.specs.Words.{parts_in, request_in};
 
 use bl_base::NoMemory;
@@ -16,6 +16,8 @@ const DEFAULT_STEPS: u64 = 1_000_000;
 pub enum Request<'a> {
     /// To write the image and the certificate of a module.
     Harden(HardenWords<'a>),
+    /// To write the image of a module.
+    Lower(LowerWords<'a>),
     /// To run an exported function of a module.
     Interp(InterpWords<'a>),
     /// To run an exported function of an image.
@@ -29,6 +31,15 @@ pub struct HardenWords<'a> {
     pub image: &'a str,
     /// The file of the certificate, which is written.
     pub certificate: &'a str,
+    /// The file of the module, which is read.
+    pub wasm: &'a str,
+}
+
+/// The words of a `lower`.
+#[derive(Clone, Copy)]
+pub struct LowerWords<'a> {
+    /// The file of the image, which is written.
+    pub image: &'a str,
     /// The file of the module, which is read.
     pub wasm: &'a str,
 }
@@ -87,6 +98,7 @@ pub fn read_words(alloc: Global, words: &[String]) -> Result<Option<Request<'_>>
     };
     match command.as_str() {
         "harden" => Ok(take_apart(alloc, words)?.and_then(|parts| harden_words(&parts))),
+        "lower" => Ok(take_apart(alloc, words)?.and_then(|parts| lower_words(&parts))),
         "interp" => Ok(take_apart(alloc, words)?.and_then(|parts| interp_words(&parts))),
         "run" => Ok(take_apart(alloc, words)?.and_then(|parts| run_words(&parts))),
         _ => Ok(None),
@@ -140,6 +152,19 @@ fn harden_words<'a>(parts: &Parts<'a>) -> Option<Request<'a>>
                 wasm: *wasm,
             }))
         }
+        _ => None,
+    }
+}
+
+/// What `lower` asks for with these parts: two arguments, and no `--steps`.
+fn lower_words<'a>(parts: &Parts<'a>) -> Option<Request<'a>>
+    ensures { option_map request_in result ≡ lower_request (parts_in parts.now) }
+{
+    match (parts.arguments.as_slice(), parts.steps_values.as_slice()) {
+        ([image, wasm], []) => Some(Request::Lower(LowerWords {
+            image: *image,
+            wasm: *wasm,
+        })),
         _ => None,
     }
 }

@@ -3,3 +3,4 @@ pub mod ExportNames
 pub mod Pairing
 pub mod Spelled
 pub mod TreeLemmas
+pub mod Widths

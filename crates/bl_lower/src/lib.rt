@@ -2,4 +2,9 @@
 #![tactic(auto)]
 
 mod definitions;
+mod error;
 pub mod laws;
+mod lowering;
+
+pub use error::LowerError;
+pub use lowering::lower;
