@@ -3,6 +3,7 @@ mod greatest;
 mod interp;
 mod lower;
 mod run;
+mod spec;
 mod words;
 
 use bl_app::blade;
