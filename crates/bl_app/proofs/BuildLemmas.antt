@@ -71,11 +71,8 @@ module _ (tree : Tree) (program : Program) (same : program ≡ low_tree tree) (r
   here : Image (low_tree tree) image
   here = subst (λ p. Image p image) same is
 
-  pub was_built : length image ≤ limit_of quantity.Image → Builds tree (record { program = program; image = image })
-  was_built short = record { is_program = same; few = few; image = here; short = short }
-
-  pub too_long : limit_of quantity.Image < length image → BuildingRefuses tree (limit quantity.Image (length image))
-  too_long long = long_image image few here long refl
+  pub too_long : (value : ℕ) → value ≡ length image → limit_of quantity.Image < value → BuildingRefuses tree (limit quantity.Image value)
+  too_long value e long = long_image image few here (omega (arith, e, long)) (ap (limit quantity.Image) e)
 
 -- ---- one module
 

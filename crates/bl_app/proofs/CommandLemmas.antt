@@ -64,16 +64,5 @@ with_request request old new c = let none = c.usage_only refl in cc
 
 -- the number 0 says that the work was done
 pub done_by_zero : (s : Status) → code_of s ≡ 0 → kind_of s ≡ of_deed
-done_by_zero status.Done e = refl
-done_by_zero status.Usage e = absurd (omega (arith, e))
-done_by_zero status.ReadFault e = absurd (omega (arith, e))
-done_by_zero status.WriteFault e = absurd (omega (arith, e))
-done_by_zero status.Malformed e = absurd (omega (arith, e))
-done_by_zero status.Invalid e = absurd (omega (arith, e))
-done_by_zero status.Unsupported e = absurd (omega (arith, e))
-done_by_zero status.Limit e = absurd (omega (arith, e))
-done_by_zero status.Memory e = absurd (omega (arith, e))
-done_by_zero status.Image e = absurd (omega (arith, e))
-done_by_zero status.Start e = absurd (omega (arith, e))
-done_by_zero status.Trapped e = refl
-done_by_zero status.Spent e = refl
+done_by_zero s =
+    elim s as (λ t. code_of t ≡ 0 → kind_of t ≡ of_deed) [ status.Done ↦ λ e. refl | status.Trapped ↦ λ e. refl | status.Spent ↦ λ e. refl | _ ↦ λ e. absurd (omega (arith, e)) ]

@@ -15,7 +15,7 @@ use Rattle.bl_link.specs.Alone.{alone}
 use Rattle.bl_access.specs.Templates.{jump_to, move, out_of, set, variable}
 use Rattle.bl_lower.specs.Trees.{low_tree, step_bound}
 use Rattle.bl_app.specs.Requests.{harden, lower, module_name, request_of}
-use Rattle.bl_app.specs.Texts.{commands_text, report_text}
+use Rattle.bl_app.specs.Texts.{commands_text, is_site, report_text}
 
 abbrev add_one : Module
 add_one = record {
@@ -50,7 +50,7 @@ bound : step_bound tree ≡ 4
 bound = refl
 
 report : report_text (low_tree tree) ≡ codes "functions 1" ++ 10 ∷ [] ++ codes "commands 13" ++ 10 ∷ [] ++ codes "sites 4" ++ 10 ∷ [] ++ codes "protects 0 weight 0" ++ 10 ∷ [] ++ codes "constant-time yes" ++ 10 ∷ []
-unfolding digits
+unfolding digits is_site
 report = refl
 
 counted : commands_text (low_tree tree) ≡ codes "commands 13" ++ 10 ∷ []

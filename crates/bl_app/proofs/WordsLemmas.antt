@@ -7,9 +7,11 @@ use Rattle.std.proofs.lemmas.Bool.{cond-false, eqb-true, false_from_ne_true}
 use Rattle.std.proofs.lemmas.Bool.Decides.{not_from_Decides}
 use Rattle.std.proofs.lemmas.List.{take-append-drop}
 use Rattle.std.proofs.lemmas.Slice.Eq.{bytes_eq-Decides}
-use Rattle.bl_app.specs.Requests.{HardenRequest, Parts, Request, harden, harden_of, harden_request, interp, interp_of, interp_request, lower, lower_of, lower_request, parts_behind_steps, parts_of, request_of, run, run_of, run_request, steps_of}
+use Rattle.bl_app.specs.Requests.{HardenRequest, Parts, Request, command_named, harden, harden_of, interp, interp_of, lower, lower_of, parts_behind_steps, parts_of, request_by, request_of, run, run_of, steps_of}
 use Rattle.bl_app.specs.Requests.{BeginsWithDash, IsOption, IsTakenApart, no_words, options_end, argument, value_in_next_word, value_in_same_word}
 use Rattle.bl_app.specs.Requests.{begins_with_dash, is_option, is_steps_value, with_argument, with_steps}
+use Rattle.bl_app.specs.declared.words.Command.{Command}
+use Rattle.bl_app.specs.declared.words.Command.TheVariants.{Harden, Interp, Lower, Run}
 
 -- the tests of a word say what they are named for
 begins : (word : List ℕ) → begins_with_dash word ≡ true → BeginsWithDash word
@@ -111,13 +113,9 @@ KeepsApart (lower request) = Unit {0}
 KeepsApart (interp request) = Unit {0}
 KeepsApart (run request) = Unit {0}
 
-apart_if : (test : Bool) (a b : Option Request) → IfSome a KeepsApart → IfSome b KeepsApart → IfSome (cond test a b) KeepsApart
-apart_if true a b h k = h
-apart_if false a b h k = k
-
-apart_parts : (ask : Parts → Option Request) (found : Option Parts) → ((parts : Parts) → IfSome (ask parts) KeepsApart) → IfSome (option_and_then ask found) KeepsApart
-apart_parts ask None h = tt
-apart_parts ask (Some parts) h = h parts
+apart_then : {A : Type 0} (ask : A → Option Request) (found : Option A) → ((a : A) → IfSome (ask a) KeepsApart) → IfSome (option_and_then ask found) KeepsApart
+apart_then ask None h = tt
+apart_then ask (Some a) h = h a
 
 apart_steps : (made : ℕ → Request) (steps : Option ℕ) → ((n : ℕ) → KeepsApart (made n)) → IfSome (option_map made steps) KeepsApart
 apart_steps made None h = tt
@@ -143,13 +141,16 @@ run_apart : (arguments values : List (List ℕ)) → IfSome (run_of arguments va
 run_apart (image ∷ export ∷ start ∷ []) values = apart_steps _ (steps_of values) (λ n. tt)
 run_apart _ values = tt
 
-request_apart : (words : List (List ℕ)) → IfSome (request_of words) KeepsApart
-request_apart (program ∷ command ∷ words) =
-    apart_if (bytes_eq command (codes "harden")) _ _ (apart_parts harden_request (parts_of words) (λ parts. harden_apart parts.arguments parts.steps_values))
-    (apart_if (bytes_eq command (codes "lower")) _ _ (apart_parts lower_request (parts_of words) (λ parts. lower_apart parts.arguments parts.steps_values))
-    (apart_if (bytes_eq command (codes "interp")) _ _ (apart_parts interp_request (parts_of words) (λ parts. interp_apart parts.arguments parts.steps_values))
-    (apart_if (bytes_eq command (codes "run")) _ _ (apart_parts run_request (parts_of words) (λ parts. run_apart parts.arguments parts.steps_values)) tt)))
-request_apart _ = tt
+request_apart : (command : Command) (parts : Parts) → IfSome (request_by command parts) KeepsApart
+request_apart Harden parts = harden_apart parts.arguments parts.steps_values
+request_apart Lower parts = lower_apart parts.arguments parts.steps_values
+request_apart Interp parts = interp_apart parts.arguments parts.steps_values
+request_apart Run parts = run_apart parts.arguments parts.steps_values
+
+words_apart : (words : List (List ℕ)) → IfSome (request_of words) KeepsApart
+words_apart (program ∷ word ∷ words) =
+    apart_then (λ command. option_and_then (request_by command) (parts_of words)) (command_named word) (λ command. apart_then (request_by command) (parts_of words) (request_apart command))
+words_apart _ = tt
 
 pub request_differs : (words : List (List ℕ)) (request : HardenRequest) → request_of words ≡ Some (harden request) → bytes_eq request.image request.certificate ≡ false
-request_differs words request e = subst (λ asked. IfSome asked KeepsApart) e (request_apart words)
+request_differs words request e = subst (λ asked. IfSome asked KeepsApart) e (words_apart words)

@@ -4,6 +4,8 @@ use Rattle.std.specs.List.{after_last}
 use Rattle.std.specs.Option.{option_map}
 use Rattle.std.specs.Str.{bytes_eq}
 use Rattle.bl_trace.specs.Digits.{decimal_below}
+use Rattle.bl_app.specs.declared.words.Command.{Command}
+use Rattle.bl_app.specs.declared.words.Command.TheVariants.{Harden, Interp, Lower, Run}
 
 -- `harden`: the files that are written, and the modules that are read
 pub record HardenRequest : Type 0 where
@@ -153,14 +155,25 @@ run_of arguments values = None
 abbrev pub run_request : Parts → Option Request
 run_request parts = run_of parts.arguments parts.steps_values
 
+-- the command that a word names
+abbrev pub command_named : List ℕ → Option Command
+command_named word =
+    (if bytes_eq word (codes "harden") then Some Harden
+    else if bytes_eq word (codes "lower") then Some Lower
+    else if bytes_eq word (codes "interp") then Some Interp
+    else if bytes_eq word (codes "run") then Some Run
+    else None)
+
+-- what a command asks for with these parts
+abbrev pub request_by : Command → Parts → Option Request
+request_by Harden parts = harden_request parts
+request_by Lower parts = lower_request parts
+request_by Interp parts = interp_request parts
+request_by Run parts = run_request parts
+
 -- the request of all words, the program's own name first, and then the command
 abbrev pub request_of : List (List ℕ) → Option Request
-request_of (program ∷ command ∷ words) =
-    (if bytes_eq command (codes "harden") then option_and_then harden_request (parts_of words)
-    else if bytes_eq command (codes "lower") then option_and_then lower_request (parts_of words)
-    else if bytes_eq command (codes "interp") then option_and_then interp_request (parts_of words)
-    else if bytes_eq command (codes "run") then option_and_then run_request (parts_of words)
-    else None)
+request_of (program ∷ word ∷ words) = option_and_then (λ command. option_and_then (request_by command) (parts_of words)) (command_named word)
 request_of words = None
 
 -- a name without one final `.wasm`

@@ -1,18 +1,23 @@
 -- The texts that are printed and written. Every line ends with a line feed.
-use Rattle.std.specs.Prelude.{ℕ, List, [], ◌∷◌, ◌++◌, length, codes, count_by}
+use Rattle.std.specs.Prelude.{ℕ, Bool, List, [], ◌∷◌, ◌++◌, length, codes, count_by}
 use Rattle.std.specs.Fmt.{decimal}
 use Rattle.std.specs.Option.{is_some}
 use Rattle.bl_base.specs.Quantity.{word_of}
 use Rattle.bl_cmd.specs.Sites.{mark_of}
+use Rattle.bl_cmd.specs.declared.command.Command.{Command}
 use Rattle.bl_cmd.specs.declared.definitions.ProgramParts.{ProgramParts as Program}
 use Rattle.bl_app.specs.Refusals.{Refusal, malformed, invalid_function, invalid_module, unsupported, limit, not_an_image, broken_rule, no_export, bad_line, few_arguments}
 
 abbrev pub line : List ℕ → List ℕ
 line text = text ++ 10 ∷ []
 
--- the number of sites of a program: commands that write a variable whose value can be protected
+-- a command that writes a variable whose value can be protected
+unfoldable pub is_site : Command → Bool
+is_site command = is_some (mark_of command)
+
+-- the number of sites of a program
 abbrev pub sites : Program → ℕ
-sites program = count_by (λ command. is_some (mark_of command)) program.commands
+sites program = count_by is_site program.commands
 
 -- the report of a program that has no protects and declares no secret
 abbrev pub report_text : Program → List ℕ

@@ -2,7 +2,7 @@
 ghost use Rattle.std.specs.Prelude.{◌≡◌, IfOk, map, nat_eq, string_bytes, if◌then◌else◌, drop};
 ghost use Rattle.std.specs.Option.{option_map};
 ghost use Rattle.std.specs.List.{after_last};
-ghost use Rattle.bl_app.specs.Requests.{parts_of, harden_request, interp_request, lower_request, run_request, request_of, begins_with_dash as word_begins_with_dash, is_option, is_steps_value, number_of_steps, steps_of, module_name as module_name_of, without_ending as name_without_ending};
+ghost use Rattle.bl_app.specs.Requests.{parts_of, command_named, request_by, harden_request, interp_request, lower_request, run_request, request_of, begins_with_dash as word_begins_with_dash, is_option, is_steps_value, number_of_steps, steps_of, module_name as module_name_of, without_ending as name_without_ending};
 ghost use Rattle.bl_app.specs.Words.{parts_in, request_in};
 
 use bl_base::NoMemory;
@@ -70,6 +70,19 @@ pub struct RunWords<'a> {
     pub steps: u64,
 }
 
+/// A command, by the word that names it.
+#[derive(Clone, Copy, Debug, PartialEq, Eq)]
+pub enum Command {
+    /// `harden`
+    Harden,
+    /// `lower`
+    Lower,
+    /// `interp`
+    Interp,
+    /// `run`
+    Run,
+}
+
 /// A command's words taken apart.
 #[derive(Drop)]
 struct Parts<'a> {
@@ -96,12 +109,34 @@ pub fn read_words(alloc: Global, words: &[String]) -> Result<Option<Request<'_>>
     let [_, command, words @ ..] = words else {
         return Ok(None);
     };
-    match command.as_str() {
-        "harden" => Ok(take_apart(alloc, words)?.and_then(|parts| harden_words(&parts))),
-        "lower" => Ok(take_apart(alloc, words)?.and_then(|parts| lower_words(&parts))),
-        "interp" => Ok(take_apart(alloc, words)?.and_then(|parts| interp_words(&parts))),
-        "run" => Ok(take_apart(alloc, words)?.and_then(|parts| run_words(&parts))),
-        _ => Ok(None),
+    let Some(command) = command_named(command.as_str()) else {
+        return Ok(None);
+    };
+    Ok(take_apart(alloc, words)?.and_then(|parts| request_by(command, &parts)))
+}
+
+/// The command that a word names, spelled exactly.
+fn command_named(word: &str) -> Option<Command>
+    ensures { result ≡ command_named word.now }
+{
+    match word {
+        "harden" => Some(Command::Harden),
+        "lower" => Some(Command::Lower),
+        "interp" => Some(Command::Interp),
+        "run" => Some(Command::Run),
+        _ => None,
+    }
+}
+
+/// What a command asks for with these parts.
+fn request_by<'a>(command: Command, parts: &Parts<'a>) -> Option<Request<'a>>
+    ensures { option_map request_in result ≡ request_by command (parts_in parts.now) }
+{
+    match command {
+        Command::Harden => harden_words(parts),
+        Command::Lower => lower_words(parts),
+        Command::Interp => interp_words(parts),
+        Command::Run => run_words(parts),
     }
 }
 

@@ -227,10 +227,10 @@ fn of_operator(
     operator: u8,
     kind: u8,
     two: bool,
-    result: u8,
+    given: u8,
 ) -> Result<Vec<u8>, Fail> {
-    let types: [u8; 10] = [0x01, 0x07, 0x01, 0x60, 0x02, kind, kind, 0x01, result, 0x03];
-    let one: [u8; 9] = [0x01, 0x06, 0x01, 0x60, 0x01, kind, 0x01, result, 0x03];
+    let types: [u8; 10] = [0x01, 0x07, 0x01, 0x60, 0x02, kind, kind, 0x01, given, 0x03];
+    let one: [u8; 9] = [0x01, 0x06, 0x01, 0x60, 0x01, kind, 0x01, given, 0x03];
     let mut bytes = module_of(alloc, if two { &types } else { &one })?;
     bytes.extend_from_slice(&[
         0x02, 0x01, 0x00, 0x07, 0x05, 0x01, 0x01, 0x66, 0x00, 0x00, 0x0A,
@@ -248,7 +248,7 @@ fn of_operator(
 fn each_operator_runs_alike_lowered_and_not(rt: HostRuntime) -> Result<(), Fail> {
     let alloc = rt.alloc();
     let mut count = 0u32;
-    for (first, last, kind, operands, result) in &OPERATORS {
+    for (first, last, kind, operands, given) in &OPERATORS {
         let two = *operands == 2;
         let start = if two {
             "arg 2147483653\narg 3\n"
@@ -256,7 +256,7 @@ fn each_operator_runs_alike_lowered_and_not(rt: HostRuntime) -> Result<(), Fail>
             "arg 2147483653\n"
         };
         for operator in *first..=*last {
-            let bytes = of_operator(alloc, operator, *kind, two, *result)?;
+            let bytes = of_operator(alloc, operator, *kind, two, *given)?;
             let mut shelf = shelf_of(alloc, &bytes, start.as_bytes())?;
             let (lowered, _) = say(alloc, &mut shelf, LOWER)?;
             let (ran, out) = say(alloc, &mut shelf, RUN)?;

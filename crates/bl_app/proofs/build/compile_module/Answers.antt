@@ -8,9 +8,8 @@ returns-in-Err c = not_loaded _ (λ tree. record { name = c.args.name.now; tree 
 
 pub link_alone-requires : goal.link_alone-requires
 link_alone-requires c =
-    let part = record { name = c.args.name.now; bytes = c.args.bytes.now } in
-    record { alone = accepted_alone c.args.bytes.now c.in-Ok.wasm c.requires (accepted_of part (record { name = c.args.name.now; tree = c.in-Ok.wasm }) c.in-Ok.ensures) }
+    record { alone = accepted_alone c.args.bytes.now c.in-Ok.wasm c.requires (accepted_of (record { name = c.args.name.now; bytes = c.args.bytes.now }) (record { name = c.args.name.now; tree = c.in-Ok.wasm }) c.in-Ok.ensures) }
 
-pub returns-in_ok-linked : goal.returns-in_ok-linked
-returns-in_ok-linked c =
+pub returns : goal.returns
+returns c =
     linked_builds (record { name = c.args.name.now; bytes = c.args.bytes.now }) c.in-Ok.wasm c.in_ok-linked.linked c.build.result c.in-Ok.ensures c.in_ok-linked.ensures c.build.ensures

@@ -2,7 +2,7 @@ use Rattle.std.proofs.Common.{◌≡◌, ℕ, List, [], ◌∷◌, ◌++◌, app
 use Rattle.std.specs.Prelude.{codes}
 use Rattle.std.specs.Fmt.{decimal}
 use Rattle.bl_app.specs.Texts.{line, sites}
-use Rattle.bl_app.proofs.report.report.Goals as goal
+use Rattle.bl_app.proofs.report.report_of.Goals as goal
 
 -- five lines from their pieces, with the line feed n
 regroup : (n a f b c d s e z : List ℕ) → a ++ (f ++ (n ++ (b ++ (c ++ (n ++ (d ++ (s ++ (n ++ (e ++ (n ++ (z ++ n)))))))))))
@@ -18,6 +18,6 @@ lines functions commands all f c s e₁ e₂ e₃ =
 
 pub returns : goal.returns
 returns c =
-    let program = c.args.program.now in
+    let program = c.args.parts.now in
     let same : c.site_count-sites.result ≡ sites program = rw c.as_slice.ensures at c.site_count-sites.ensures in
     c.in_ok-text.ensures.ok ∙ lines _ _ _ (length program.functions) (length program.commands) (sites program) c.len-functions.ensures c.len-commands.ensures same
