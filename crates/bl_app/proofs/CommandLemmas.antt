@@ -6,7 +6,7 @@ use Rattle.bl_app.specs.Causes.{Causes, NoneRose}
 use Rattle.bl_app.specs.Commands.{job_of}
 use Rattle.bl_app.specs.Jobs.{AreRead, FirstRefusal, IsLawful, Plan}
 use Rattle.bl_app.specs.Refusals.{Refusal}
-use Rattle.bl_app.specs.Requests.{Request, harden, interp, lower, run}
+use Rattle.bl_app.specs.Requests.{Request, harden, interp, lower, run, spec}
 use Rattle.bl_app.specs.Worlds.{World}
 use Rattle.bl_app.specs.Status.{code_of, kind_of, of_deed, of_refusal}
 use Rattle.bl_app.specs.declared.status.Status.{Status}
@@ -15,12 +15,14 @@ use Rattle.bl_app.proofs.HardenLemmas.{harden_lawful, lower_lawful}
 use Rattle.bl_app.proofs.InterpLemmas.{interp_lawful}
 use Rattle.bl_app.proofs.JobLemmas.{done_not_refused, one_first}
 use Rattle.bl_app.proofs.RunLemmas.{run_lawful}
+use Rattle.bl_app.proofs.SpecLemmas.{spec_lawful}
 
 pub laws_of : (request : Request) → IsLawful (job_of request)
 laws_of (harden request) = harden_lawful request
 laws_of (lower request) = lower_lawful request
 laws_of (interp request) = interp_lawful request
 laws_of (run request) = run_lawful request
+laws_of (spec request) = spec_lawful request
 
 pub one_refusal : (files : Files) (request : Request) (a b : Refusal) → FirstRefusal (job_of request) (Some files) a → FirstRefusal (job_of request) (Some files) b → a ≡ b
 one_refusal files request = one_first files (job_of request) (laws_of request)
@@ -55,9 +57,11 @@ module _ (old new : World) (none_rose : NoneRose old new) where
   without_request status.Limit c = absurd (not_refused_words status.Limit c refl)
   without_request status.Memory c = inr refl
   without_request status.Image c = absurd (not_refused_words status.Image c refl)
+  without_request status.Trace c = absurd (not_refused_words status.Trace c refl)
   without_request status.Start c = absurd (not_refused_words status.Start c refl)
   without_request status.Trapped c = absurd (not_done_words status.Trapped c refl)
   without_request status.Spent c = absurd (not_done_words status.Spent c refl)
+  without_request status.Stuck c = absurd (not_done_words status.Stuck c refl)
 
 pub with_request : (request : Request) (old new : World) → Causes job_of (Some request) old new status.Usage → ⊥
 with_request request old new c = let none = c.usage_only refl in cc

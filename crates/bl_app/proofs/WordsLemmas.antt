@@ -7,11 +7,11 @@ use Rattle.std.proofs.lemmas.Bool.{cond-false, eqb-true, false_from_ne_true}
 use Rattle.std.proofs.lemmas.Bool.Decides.{not_from_Decides}
 use Rattle.std.proofs.lemmas.List.{take-append-drop}
 use Rattle.std.proofs.lemmas.Slice.Eq.{bytes_eq-Decides}
-use Rattle.bl_app.specs.Requests.{HardenRequest, Parts, Request, command_named, harden, harden_of, interp, interp_of, lower, lower_of, parts_behind_steps, parts_of, request_by, request_of, run, run_of, steps_of}
+use Rattle.bl_app.specs.Requests.{HardenRequest, Parts, Request, command_named, harden, harden_of, interp, interp_of, lower, lower_of, parts_behind_steps, parts_of, request_by, request_of, run, run_of, spec, spec_of, steps_of}
 use Rattle.bl_app.specs.Requests.{BeginsWithDash, IsOption, IsTakenApart, no_words, options_end, argument, value_in_next_word, value_in_same_word}
 use Rattle.bl_app.specs.Requests.{begins_with_dash, is_option, is_steps_value, with_argument, with_steps}
 use Rattle.bl_app.specs.declared.words.Command.{Command}
-use Rattle.bl_app.specs.declared.words.Command.TheVariants.{Harden, Interp, Lower, Run}
+use Rattle.bl_app.specs.declared.words.Command.TheVariants.{Harden, Interp, Lower, Run, Spec}
 
 -- the tests of a word say what they are named for
 begins : (word : List ℕ) → begins_with_dash word ≡ true → BeginsWithDash word
@@ -112,6 +112,7 @@ KeepsApart (harden request) = bytes_eq request.image request.certificate ≡ fal
 KeepsApart (lower request) = Unit {0}
 KeepsApart (interp request) = Unit {0}
 KeepsApart (run request) = Unit {0}
+KeepsApart (spec request) = Unit {0}
 
 apart_then : {A : Type 0} (ask : A → Option Request) (found : Option A) → ((a : A) → IfSome (ask a) KeepsApart) → IfSome (option_and_then ask found) KeepsApart
 apart_then ask None h = tt
@@ -141,11 +142,16 @@ run_apart : (arguments values : List (List ℕ)) → IfSome (run_of arguments va
 run_apart (image ∷ export ∷ start ∷ []) values = apart_steps _ (steps_of values) (λ n. tt)
 run_apart _ values = tt
 
+spec_apart : (arguments values : List (List ℕ)) → IfSome (spec_of arguments values) KeepsApart
+spec_apart (image ∷ export ∷ trace ∷ start ∷ []) [] = tt
+spec_apart _ _ = tt
+
 request_apart : (command : Command) (parts : Parts) → IfSome (request_by command parts) KeepsApart
 request_apart Harden parts = harden_apart parts.arguments parts.steps_values
 request_apart Lower parts = lower_apart parts.arguments parts.steps_values
 request_apart Interp parts = interp_apart parts.arguments parts.steps_values
 request_apart Run parts = run_apart parts.arguments parts.steps_values
+request_apart Spec parts = spec_apart parts.arguments parts.steps_values
 
 words_apart : (words : List (List ℕ)) → IfSome (request_of words) KeepsApart
 words_apart (program ∷ word ∷ words) =

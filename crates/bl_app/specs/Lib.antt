@@ -15,6 +15,7 @@ pub mod Outcomes
 pub mod Refusals
 pub mod Requests
 pub mod Running
+pub mod Speculating
 pub mod Stages
 pub mod Status
 pub mod Texts

@@ -5,7 +5,7 @@ use Rattle.std.specs.Option.{option_map}
 use Rattle.std.specs.Str.{bytes_eq}
 use Rattle.bl_trace.specs.Digits.{decimal_below}
 use Rattle.bl_app.specs.declared.words.Command.{Command}
-use Rattle.bl_app.specs.declared.words.Command.TheVariants.{Harden, Interp, Lower, Run}
+use Rattle.bl_app.specs.declared.words.Command.TheVariants.{Harden, Interp, Lower, Run, Spec}
 
 -- `harden`: the files that are written, and the modules that are read
 pub record HardenRequest : Type 0 where
@@ -32,12 +32,20 @@ pub record RunRequest : Type 0 where
   pub start : List ℕ
   pub steps : ℕ
 
+-- `spec`: the image that is read, the name of an exported function, and the trace file and the start file that are read
+pub record SpecRequest : Type 0 where
+  pub image : List ℕ
+  pub export : List ℕ
+  pub trace : List ℕ
+  pub start : List ℕ
+
 -- what a call is asked for
 pub data Request : Type 0 where
   harden : HardenRequest → Request
   lower : LowerRequest → Request
   interp : InterpRequest → Request
   run : RunRequest → Request
+  spec : SpecRequest → Request
 
 -- a word that begins with `-`
 pub record BeginsWithDash (word : List ℕ) : Type 0 where
@@ -155,6 +163,14 @@ run_of arguments values = None
 abbrev pub run_request : Parts → Option Request
 run_request parts = run_of parts.arguments parts.steps_values
 
+-- what `spec` asks for: an image, an export, a trace file and a start file
+abbrev pub spec_of : List (List ℕ) → List (List ℕ) → Option Request
+spec_of (image ∷ export ∷ trace ∷ start ∷ []) [] = Some (spec (record { image = image; export = export; trace = trace; start = start }))
+spec_of arguments values = None
+
+abbrev pub spec_request : Parts → Option Request
+spec_request parts = spec_of parts.arguments parts.steps_values
+
 -- the command that a word names
 abbrev pub command_named : List ℕ → Option Command
 command_named word =
@@ -162,6 +178,7 @@ command_named word =
     else if bytes_eq word (codes "lower") then Some Lower
     else if bytes_eq word (codes "interp") then Some Interp
     else if bytes_eq word (codes "run") then Some Run
+    else if bytes_eq word (codes "spec") then Some Spec
     else None)
 
 -- what a command asks for with these parts
@@ -170,6 +187,7 @@ request_by Harden parts = harden_request parts
 request_by Lower parts = lower_request parts
 request_by Interp parts = interp_request parts
 request_by Run parts = run_request parts
+request_by Spec parts = spec_request parts
 
 -- the request of all words, the program's own name first, and then the command
 abbrev pub request_of : List (List ℕ) → Option Request

@@ -6,7 +6,7 @@ use Rattle.bl_base.specs.Quantity.{word_of}
 use Rattle.bl_cmd.specs.Sites.{mark_of}
 use Rattle.bl_cmd.specs.declared.command.Command.{Command}
 use Rattle.bl_cmd.specs.declared.definitions.ProgramParts.{ProgramParts as Program}
-use Rattle.bl_app.specs.Refusals.{Refusal, malformed, invalid_function, invalid_module, unsupported, limit, not_an_image, broken_rule, no_export, bad_line, few_arguments}
+use Rattle.bl_app.specs.Refusals.{Refusal, malformed, invalid_function, invalid_module, unsupported, limit, not_an_image, broken_rule, no_export, bad_directive, bad_line, few_arguments}
 
 abbrev pub line : List ℕ → List ℕ
 line text = text ++ 10 ∷ []
@@ -49,6 +49,7 @@ refusal_text (limit which value) = line (codes "limit: " ++ word_of which ++ cod
 refusal_text not_an_image = line (codes "image: not an image")
 refusal_text (broken_rule rule position) = line (codes "image: rule " ++ decimal rule ++ codes " at " ++ decimal position)
 refusal_text no_export = line (codes "start: export")
+refusal_text (bad_directive number) = line (codes "trace: line " ++ decimal number)
 refusal_text (bad_line number) = line (codes "start: line " ++ decimal number)
 refusal_text (few_arguments count) = line (codes "start: arguments " ++ decimal count)
 

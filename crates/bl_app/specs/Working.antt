@@ -1,8 +1,10 @@
 -- What the functions of the work answer.
-use Rattle.std.specs.Prelude.{◌≡◌, ℕ, List, [], ◌∷◌, map, Option, Result, Ok, Err, Vec}
+use Rattle.std.specs.Prelude.{◌≡◌, ◌≤◌, ℕ, length, List, [], ◌∷◌, map, Option, Result, Ok, Err, Vec}
 use Rattle.std.proofs.Common.{Bor}
 use Rattle.std.specs.declared.alloc.Global.{Global}
+use Rattle.bl_base.specs.Quantity.{limit_of}
 use Rattle.bl_base.specs.Runs.{Outcome}
+use Rattle.bl_base.specs.declared.quantity.Quantity.TheVariants as quantity
 use Rattle.bl_base.specs.declared.start.Start.{Start}
 use Rattle.bl_cmd.specs.declared.definitions.ProgramParts.{ProgramParts as Program}
 use Rattle.bl_image.specs.declared.error.ImageError.{ImageError}
@@ -14,8 +16,13 @@ use Rattle.bl_decode.specs.declared.error.DecodeError.{DecodeError}
 use Rattle.bl_decode.specs.declared.error.DecodeError.TheVariants as decode
 use Rattle.bl_validate.specs.declared.verdict.Invalid.{Invalid}
 use Rattle.bl_validate.specs.declared.verdict.Invalid.TheVariants as invalid
+use Rattle.bl_rob.specs.declared.directive.Directive.{Directive}
+use Rattle.bl_trace.specs.Lines.{lines_of}
+use Rattle.bl_trace.specs.Traces.{trace_of}
 use Rattle.bl_trace.specs.declared.error.StartError.{StartError}
 use Rattle.bl_trace.specs.declared.error.StartError.TheVariants as start
+use Rattle.bl_trace.specs.declared.error.TraceError.{TraceError}
+use Rattle.bl_trace.specs.declared.error.TraceError.TheVariants as trace
 use Rattle.bl_wasm.specs.declared.linked.Tree.{Tree}
 use Rattle.bl_app.specs.Building.{Built}
 use Rattle.bl_app.specs.Entering.{Entered, Entry}
@@ -25,8 +32,9 @@ use Rattle.bl_app.specs.Interpreting.{HasOutcome}
 use Rattle.bl_app.specs.Jobs.{AreRead, Job, Plan, Read, ReadsName, RefusesLength, saying}
 use Rattle.bl_app.specs.Loading.{Named, Part, decoding, of_form, validation}
 use Rattle.bl_app.specs.Outcomes.{outcome_status, outcome_text}
-use Rattle.bl_app.specs.Refusals.{Refusal, malformed, invalid_function, invalid_module, unsupported, limit, not_an_image, broken_rule, no_export, bad_line, few_arguments}
+use Rattle.bl_app.specs.Refusals.{Refusal, malformed, invalid_function, invalid_module, unsupported, limit, not_an_image, broken_rule, no_export, bad_directive, bad_line, few_arguments}
 use Rattle.bl_app.specs.Running.{Opened}
+use Rattle.bl_app.specs.Speculating.{Speculated, TracingRefuses}
 use Rattle.bl_app.specs.Stages.{Stage, chain}
 use Rattle.bl_app.specs.Status.{status_of}
 use Rattle.bl_app.specs.Texts.{read_fault_text, refusal_text}
@@ -67,6 +75,7 @@ refusal_in (told.Limit which value) = limit which value
 refusal_in told.NotAnImage = not_an_image
 refusal_in (told.BrokenRule rule position) = broken_rule rule position
 refusal_in told.NoExport = no_export
+refusal_in (told.BadDirective number) = bad_directive number
 refusal_in (told.BadLine number) = bad_line number
 refusal_in (told.FewArguments count) = few_arguments count
 
@@ -134,6 +143,11 @@ start_error (start.Line number) = error.Refused (told.BadLine number)
 start_error (start.Count count) = error.Refused (told.FewArguments count)
 start_error start.Memory = error.Memory
 
+-- an error of reading a trace file
+abbrev pub trace_error : TraceError → WorkError
+trace_error (trace.Line number) = error.Refused (told.BadDirective number)
+trace_error trace.Memory = error.Memory
+
 -- a function of a tree, its type and its start
 abbrev pub opened_in : Tree → Opening → Opened
 opened_in tree opening = record { tree = tree; function = opening.function; type = opening.kind.now; start = opening.start }
@@ -167,3 +181,15 @@ pub record IsTold (opened : Opened) (steps : ℕ) (plan : PlanMade) : Type 0 whe
 -- a program and its image
 abbrev pub built_in : BuiltMade → Built
 built_in built = record { program = built.program; image = built.image.items }
+
+-- ---- `spec`
+
+-- the directives of a trace file's bytes, or the refusal; nothing is said where there was no memory
+abbrev pub IsTraced : List ℕ → Result (List Directive) WorkError → Type 0
+IsTraced bytes (Ok directives) = (length (lines_of bytes) ≤ limit_of quantity.Directives) × (trace_of bytes ≡ Ok directives)
+IsTraced bytes (Err (error.Refused refusal)) = TracingRefuses bytes (refusal_in refusal)
+IsTraced bytes (Err error.Memory) = Unit {0}
+
+-- a function of a program, its start, and directives
+abbrev pub speculated_in : Entry → Start → List Directive → Speculated
+speculated_in entry start directives = record { entered = entered_in entry start; directives = directives }

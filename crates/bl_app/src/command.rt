@@ -11,6 +11,7 @@ use crate::job::{Plan, Read};
 use crate::lower::{lower, lower_reads};
 use crate::refusal::WorkError;
 use crate::run::{execute, run_reads};
+use crate::spec::{spec_reads, speculate};
 use crate::words::Request;
 use bl_base::NoMemory;
 use std::alloc::Global;
@@ -24,6 +25,7 @@ pub fn reads_of<'a>(alloc: Global, request: &Request<'a>) -> Result<Vec<Read<'a>
         Request::Lower(words) => lower_reads(alloc, words),
         Request::Interp(words) => interp_reads(alloc, words),
         Request::Run(words) => run_reads(alloc, words),
+        Request::Spec(words) => spec_reads(alloc, words),
     }
 }
 
@@ -41,5 +43,6 @@ pub fn work<'a>(
         Request::Lower(words) => lower(alloc, words, contents),
         Request::Interp(words) => interpret(alloc, words, contents),
         Request::Run(words) => execute(alloc, words, contents),
+        Request::Spec(words) => speculate(alloc, words, contents),
     }
 }

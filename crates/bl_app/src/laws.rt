@@ -9,7 +9,8 @@ ghost use Rattle.bl_app.specs.Executing.{RunDoes};
 ghost use Rattle.bl_app.specs.Interpreting.{InterpDoes};
 ghost use Rattle.bl_app.specs.Jobs.{AreRead, FirstRefusal, IsLawful, Plan};
 ghost use Rattle.bl_app.specs.Refusals.{Refusal};
-ghost use Rattle.bl_app.specs.Requests.{InterpRequest, IsTakenApart, Request, RunRequest, parts_of};
+ghost use Rattle.bl_app.specs.Requests.{InterpRequest, IsTakenApart, Request, RunRequest, SpecRequest, parts_of};
+ghost use Rattle.bl_app.specs.Speculating.{SpecDoes};
 ghost use Rattle.bl_app.specs.Worlds.{World};
 ghost use Rattle.bl_app.specs.declared.status.Status.{Status};
 ghost use Rattle.bl_app.specs.declared.status.Status.TheVariants as status;
@@ -35,6 +36,7 @@ pub fn what_can_be_done_is_not_refused()
 pub fn one_run()
     ensures interp { (request : InterpRequest) (contents : Listed (Listed ℕ)) (p q : Plan) → InterpDoes request contents p → InterpDoes request contents q → p ≡ q }
     ensures run { (request : RunRequest) (contents : Listed (Listed ℕ)) (p q : Plan) → RunDoes request contents p → RunDoes request contents q → p ≡ q }
+    ensures spec { (request : SpecRequest) (contents : Listed (Listed ℕ)) (p q : Plan) → SpecDoes request contents p → SpecDoes request contents q → p ≡ q }
 {}
 
 /// An image runs as the modules do that it was made of: where `interp` tells a return or a trap within its steps, `run` tells

@@ -18,6 +18,7 @@ mod output;
 mod refusal;
 mod report;
 mod run;
+mod spec;
 mod start;
 mod status;
 mod top;

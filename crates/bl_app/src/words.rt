@@ -2,7 +2,7 @@
 ghost use Rattle.std.specs.Prelude.{◌≡◌, IfOk, map, nat_eq, string_bytes, if◌then◌else◌, drop};
 ghost use Rattle.std.specs.Option.{option_map};
 ghost use Rattle.std.specs.List.{after_last};
-ghost use Rattle.bl_app.specs.Requests.{parts_of, command_named, request_by, harden_request, interp_request, lower_request, run_request, request_of, begins_with_dash as word_begins_with_dash, is_option, is_steps_value, number_of_steps, steps_of, module_name as module_name_of, without_ending as name_without_ending};
+ghost use Rattle.bl_app.specs.Requests.{parts_of, command_named, request_by, harden_request, interp_request, lower_request, run_request, spec_request, request_of, begins_with_dash as word_begins_with_dash, is_option, is_steps_value, number_of_steps, steps_of, module_name as module_name_of, without_ending as name_without_ending};
 ghost use Rattle.bl_app.specs.Words.{parts_in, request_in};
 
 use bl_base::NoMemory;
@@ -22,6 +22,8 @@ pub enum Request<'a> {
     Interp(InterpWords<'a>),
     /// To run an exported function of an image.
     Run(RunWords<'a>),
+    /// To take directives of a trace file on an exported function of an image.
+    Spec(SpecWords<'a>),
 }
 
 /// The words of a `harden`.
@@ -70,6 +72,19 @@ pub struct RunWords<'a> {
     pub steps: u64,
 }
 
+/// The words of a `spec`.
+#[derive(Clone, Copy)]
+pub struct SpecWords<'a> {
+    /// The file of the image, which is read.
+    pub image: &'a str,
+    /// The name of the exported function that is entered.
+    pub export: &'a str,
+    /// The trace file, which is read.
+    pub trace: &'a str,
+    /// The start file, which is read.
+    pub start: &'a str,
+}
+
 /// A command, by the word that names it.
 #[derive(Clone, Copy, Debug, PartialEq, Eq)]
 pub enum Command {
@@ -81,6 +96,8 @@ pub enum Command {
     Interp,
     /// `run`
     Run,
+    /// `spec`
+    Spec,
 }
 
 /// A command's words taken apart.
@@ -124,6 +141,7 @@ fn command_named(word: &str) -> Option<Command>
         "lower" => Some(Command::Lower),
         "interp" => Some(Command::Interp),
         "run" => Some(Command::Run),
+        "spec" => Some(Command::Spec),
         _ => None,
     }
 }
@@ -137,6 +155,7 @@ fn request_by<'a>(command: Command, parts: &Parts<'a>) -> Option<Request<'a>>
         Command::Lower => lower_words(parts),
         Command::Interp => interp_words(parts),
         Command::Run => run_words(parts),
+        Command::Spec => spec_words(parts),
     }
 }
 
@@ -234,6 +253,21 @@ fn run_words<'a>(parts: &Parts<'a>) -> Option<Request<'a>>
         start: *start,
         steps,
     }))
+}
+
+/// What `spec` asks for with these parts: four arguments, and no `--steps`.
+fn spec_words<'a>(parts: &Parts<'a>) -> Option<Request<'a>>
+    ensures { option_map request_in result ≡ spec_request (parts_in parts.now) }
+{
+    match (parts.arguments.as_slice(), parts.steps_values.as_slice()) {
+        ([image, export, trace, start], []) => Some(Request::Spec(SpecWords {
+            image: *image,
+            export: *export,
+            trace: *trace,
+            start: *start,
+        })),
+        _ => None,
+    }
 }
 
 /// The most steps, by the values that `--steps` is given: at most one may stand.

@@ -5,6 +5,7 @@ use Rattle.bl_app.proofs.CommandLemmas.{done_by_zero, laws_of}
 use Rattle.bl_app.proofs.HardenLemmas.{hardens, lowers}
 use Rattle.bl_app.proofs.InterpLemmas.{interprets}
 use Rattle.bl_app.proofs.RunLemmas.{runs}
+use Rattle.bl_app.proofs.SpecLemmas.{speculates}
 use Rattle.bl_app.proofs.top.blade.Goals as goal
 
 pub returns-clause-ends : goal.returns-clause-ends
@@ -31,4 +32,11 @@ returns-clause-runs g c = λ request asks. record {
   status = c.run.result;
   is_code = c.code.ensures;
   holds = λ deed. runs request _ _ _ c.run.result asks (was_done job_of laws_of _ _ _ _ c.run.ensures deed);
+}
+
+pub returns-clause-speculates : goal.returns-clause-speculates
+returns-clause-speculates g c = λ request asks. record {
+  status = c.run.result;
+  is_code = c.code.ensures;
+  holds = λ deed. speculates request _ _ _ c.run.result asks (was_done job_of laws_of _ _ _ _ c.run.ensures deed);
 }
