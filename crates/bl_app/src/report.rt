@@ -30,10 +30,13 @@ fn report_of(alloc: Global, parts: &ProgramParts) -> Result<String, NoMemory>
 fn site_count(commands: &[Command]) -> usize
     ensures { result ≡ count_by is_site commands.now }
 {
-    commands
-        .iter()
-        .filter(|command| is_site_command(command))
-        .count()
+    let mut count = 0;
+    for command in commands {
+        if is_site_command(command) {
+            count += 1;
+        }
+    }
+    count
 }
 
 /// Whether a command writes a variable whose value can be protected.

@@ -17,7 +17,7 @@ pub enum Status {
     Malformed,
     /// A module has no typing.
     Invalid,
-    /// A module has something that isn't supported, or is outside the form.
+    /// A module has something that isn't supported, or doesn't stand alone.
     Unsupported,
     /// A quantity exceeds its number.
     Limit,

@@ -30,8 +30,8 @@ use Rattle.bl_cmd.specs.declared.command.Operand.TheVariants.{Const}
 use Rattle.bl_lower.proofs.Laid.{HasAt}
 use Rattle.bl_lower.proofs.Machine.{Program, value_of, effective, place, plain_step, base, padded, space_of}
 use Rattle.bl_lower.proofs.Matching.{Holds, Layout, IsStore, Here, IsProgram}
-use Rattle.bl_lower.specs.Constructs.{Target, top}
-use Rattle.bl_lower.specs.Shapes.{bottom}
+use Rattle.bl_emit.specs.Constructs.{Target, top}
+use Rattle.bl_emit.specs.Shapes.{bottom}
 use Rattle.bl_lower.proofs.Branching.{IsSmall}
 use Rattle.bl_lower.proofs.Frames.{static_low, static_next, next_low, here_above, store_kept, frame_kept, callers_kept, Reaches, Then, reaches_later, popping, knowing, with_stack}
 use Rattle.bl_lower.proofs.Stepping.{LaidOut, arrives, pushes, raised}

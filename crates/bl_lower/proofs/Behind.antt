@@ -8,9 +8,9 @@ use Rattle.bl_reduce.specs.Control.{items_behind_end, items_of_else}
 use Rattle.bl_cmd.specs.declared.command.Operand.{Operand}
 use Rattle.bl_lower.proofs.Laid.{Code, live, dead, second_of, Laid, EndsAt, SecondAt, params_of, arity_of, operands_of}
 use Rattle.bl_lower.proofs.Machine.{Program}
-use Rattle.bl_lower.specs.Constructs.{Kind, whole, again, part, Target, as_whole, Point, point, behind, inside, reads, mark_of}
-use Rattle.bl_lower.specs.Items.{check_of, check_new, after}
-use Rattle.bl_lower.proofs.Ways.{shift_is}
+use Rattle.bl_emit.specs.Constructs.{Kind, whole, again, part, Target, as_whole, Point, point, behind, inside, reads, mark_of}
+use Rattle.bl_emit.specs.Items.{check_of, check_new, after}
+use Rattle.bl_emit.proofs.Lists.{shift_is}
 
 not_none : (inner : List Target) (t : Target) (open_ones : List Target) → inner ++ t ∷ open_ones ≡ [] → ⊥
 not_none [] t open_ones e = subst IsCons e tt

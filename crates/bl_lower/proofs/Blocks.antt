@@ -20,8 +20,8 @@ use Rattle.bl_cmd.specs.declared.command.Operand.TheVariants.{Var, Const}
 use Rattle.bl_lower.proofs.Laid.{HasAt, Fresh, AllUnder, floor, landing, live, Laid, EndsAt, Brings}
 use Rattle.bl_lower.proofs.Machine.{Program, plain_step}
 use Rattle.bl_lower.proofs.Matching.{Holds, AllHold, Layout, Here}
-use Rattle.bl_lower.specs.Constructs.{reads, moves, whole, again, part, mark_of, Target, as_whole, taken, first_to, behind, top, point, inside}
-use Rattle.bl_lower.specs.Shapes.{bottom}
+use Rattle.bl_emit.specs.Constructs.{reads, moves, whole, again, part, mark_of, Target, as_whole, taken, first_to, behind, top, point, inside}
+use Rattle.bl_emit.specs.Shapes.{bottom}
 use Rattle.bl_lower.proofs.Behind.{Behind, ends_here, Second, seconds_here}
 use Rattle.bl_lower.proofs.Branching.{IsSmall}
 use Rattle.bl_lower.proofs.Frames.{static_low, next_low, floor_is_above, store_kept, targets_later, locals_kept, callers_kept, Reaches, Then, popping}

@@ -12,11 +12,11 @@ use Rattle.bl_cmd.specs.declared.command.Command.{Command}
 use Rattle.bl_cmd.specs.declared.command.Command.TheVariants as command
 use Rattle.bl_cmd.specs.declared.command.Operand.{Operand}
 use Rattle.bl_access.specs.Templates.{shift, variable, test_of, jump_to, chain}
-use Rattle.bl_lower.specs.Shapes.{Shape, bottom}
-use Rattle.bl_lower.specs.Constructs.{reads, top, pad, moves, mark_of, Target, branched, Point, point}
-use Rattle.bl_lower.specs.Items.{left_new, check_of, check_new, count_of, branch_size, arms_from, after, to_label, arms, template, leaving}
-use Rattle.bl_lower.specs.Low.{takes_of, closed, Reached, on}
-use Rattle.bl_lower.specs.Trees.{blocks, shape}
+use Rattle.bl_emit.specs.Shapes.{Shape, bottom}
+use Rattle.bl_emit.specs.Constructs.{reads, top, pad, moves, mark_of, Target, branched, Point, point}
+use Rattle.bl_emit.specs.Items.{left_new, check_of, check_new, count_of, branch_size, arms_from, after, to_label, arms, template, leaving}
+use Rattle.bl_emit.specs.Low.{takes_of, closed, Reached, on}
+use Rattle.bl_emit.specs.Numbers.{blocks, shape}
 use Rattle.bl_lower.proofs.Chains.{chain_length, arms_from_length}
 use Rattle.bl_lower.proofs.Goods.{Good, simple_good, readable, Ready, AllReady, ReadyFor, ready_get, branched_simple, chain_simple}
 use Rattle.bl_lower.proofs.Leaving.{moves_length}
@@ -25,9 +25,9 @@ use Rattle.bl_lower.proofs.Pieces.{each_both}
 use Rattle.bl_lower.proofs.Ranged.{AllRanged, ranged_later, ranged_tail, ranged_top, ranged_pad}
 use Rattle.bl_lower.proofs.Sizes.{padded_length, branch_length, label_length, template_length, after_position, leaving_length}
 use Rattle.bl_lower.proofs.Sound.{Sound}
-use Rattle.bl_lower.proofs.Ways.{shift_is}
-use Rattle.bl_lower.specs.Constructs.{whole, again, part, inside, as_whole, behind}
-use Rattle.bl_lower.specs.Low.{calls_of, Body, done, step, leave, block, loop, choice, Extent, closed_size, closing, off, next_in, size_in, low, left_to}
+use Rattle.bl_emit.proofs.Lists.{shift_is}
+use Rattle.bl_emit.specs.Constructs.{whole, again, part, inside, as_whole, behind}
+use Rattle.bl_emit.specs.Low.{calls_of, Body, done, step, leave, block, loop, choice, Extent, closed_size, closing, off, next_in, size_in, low, left_to}
 use Rattle.bl_lower.proofs.Goods.{moved_simple}
 use Rattle.bl_lower.proofs.ItemRules.{template_good}
 use Rattle.bl_lower.proofs.Pieces.{all_of, singles, AllAt, all_at_front, all_at_back, all_at_both, closed_pieces, pieces, whole_is}

@@ -17,8 +17,8 @@ use Rattle.bl_cmd.specs.declared.command.Operand.TheVariants.{Const}
 use Rattle.bl_lower.proofs.Laid.{ToAt, TestsAt}
 use Rattle.bl_lower.proofs.Machine.{Program, value_of, plain_step}
 use Rattle.bl_lower.proofs.Matching.{Holds, Layout, Here}
-use Rattle.bl_lower.specs.Constructs.{Target, taken, first_to, start_of, mark_of, top}
-use Rattle.bl_lower.specs.Shapes.{bottom}
+use Rattle.bl_emit.specs.Constructs.{Target, taken, first_to, start_of, mark_of, top}
+use Rattle.bl_emit.specs.Shapes.{bottom}
 use Rattle.bl_lower.proofs.Frames.{static_low, static_next, Reaches, Then, popping, reaches_later, here_above}
 use Rattle.bl_lower.proofs.Stepping.{arrives, LaidOut, tests}
 use Rattle.bl_lower.proofs.Leaving.{lands, ToTarget, find_target}

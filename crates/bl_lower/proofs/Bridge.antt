@@ -14,8 +14,9 @@ use Rattle.bl_cmd.specs.declared.command.Command.{Command}
 use Rattle.bl_cmd.specs.declared.command.Command.TheVariants.{Set, Load, Store, Test, Jump, Arg, Call, Out, Ret, Trap}
 use Rattle.bl_cmd.specs.declared.command.Operand.{Operand}
 use Rattle.bl_cmd.specs.declared.command.Operand.TheVariants.{Var, Const}
-use Rattle.bl_lower.specs.Shapes.{Shape, result, param}
-use Rattle.bl_lower.specs.Trees.{global_def, memory_def, shape, low_tree}
+use Rattle.bl_emit.specs.Shapes.{Shape, result, param}
+use Rattle.bl_lower.specs.Trees.{global_def, memory_def, low_tree}
+use Rattle.bl_emit.specs.Numbers.{shape}
 use Rattle.bl_lower.proofs.Machine.{base, padded, space_of, place, value_of, results_from, states_from, states, effective, ret, perform, plain_step}
 use Rattle.bl_lower.proofs.Parts.{statics_are, entry_is, first_is, results_number, params_number}
 use Rattle.bl_lower.proofs.Placing.{shaped}

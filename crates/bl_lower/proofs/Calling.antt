@@ -24,8 +24,8 @@ use Rattle.bl_cmd.specs.declared.command.Operand.TheVariants.{Const}
 use Rattle.bl_lower.proofs.Laid.{HasAt, AreNot, Fresh, live, Laid, Calls}
 use Rattle.bl_lower.proofs.Machine.{Program, states, plain_step}
 use Rattle.bl_lower.proofs.Matching.{Holds, AllHold, Layout, AreCallers, Here, ArgumentsAt, IsEntry, IsLowered, IsProgram}
-use Rattle.bl_lower.specs.Constructs.{pad, reads, moves, args, mark_of, Target, point}
-use Rattle.bl_lower.specs.Shapes.{Shape, local, param, bottom, result_reads}
+use Rattle.bl_emit.specs.Constructs.{pad, reads, moves, args, mark_of, Target, point}
+use Rattle.bl_emit.specs.Shapes.{Shape, local, param, bottom, result_reads}
 use Rattle.bl_lower.proofs.Frames.{local_value, static_low, store_kept, frame_kept, callers_kept, Reaches, Then, knowing}
 use Rattle.bl_lower.proofs.Stepping.{arrives}
 use Rattle.bl_lower.proofs.Leaving.{pad_is_take, zip_take, taken_length, moves_length}

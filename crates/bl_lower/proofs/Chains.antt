@@ -4,10 +4,10 @@ use Rattle.bl_access.specs.Templates.{chain_from, missed, set as set_command, te
 use Rattle.bl_ops.specs.declared.op.Op.TheVariants as op
 use Rattle.bl_cmd.specs.declared.command.Operand.{Operand}
 use Rattle.bl_cmd.specs.declared.command.Operand.TheVariants.{Const}
-use Rattle.bl_lower.specs.Shapes.{Counts, Slot, armed, vacant, strange, Shape}
-use Rattle.bl_lower.specs.Constructs.{Target, mark_of}
-use Rattle.bl_lower.specs.Items.{branch_size, arms_from, arm_size, hits_from, hit_of, calls_in, results_in}
-use Rattle.bl_lower.specs.Low.{takes_of}
+use Rattle.bl_emit.specs.Shapes.{Counts, Slot, armed, vacant, strange, Shape}
+use Rattle.bl_emit.specs.Constructs.{Target, mark_of}
+use Rattle.bl_emit.specs.Items.{branch_size, arms_from, arm_size, hits_from, hit_of, calls_in, results_in}
+use Rattle.bl_emit.specs.Low.{takes_of}
 use Rattle.bl_lower.proofs.Laid.{tests, slot_tests, yes_of, no_of}
 
 pub chain_length : (index : Operand) (x j : ℕ) (those : List ℕ) (last at_ depth : ℕ) → length (chain_from index x j those last at_ depth) ≡ 2 * length those

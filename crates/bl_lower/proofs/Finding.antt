@@ -4,7 +4,8 @@ use Rattle.std.proofs.lemmas.Bool.{cases_lt}
 use Rattle.bl_cmd.specs.declared.command.Command.{Command}
 use Rattle.bl_lower.proofs.Laid.{HasAt}
 use Rattle.bl_lower.proofs.Pieces.{all_of, AllAt}
-use Rattle.bl_lower.proofs.Ways.{has_front, has_back, shift_is}
+use Rattle.bl_lower.proofs.Ways.{has_front, has_back}
+use Rattle.bl_emit.proofs.Lists.{shift_is}
 
 -- the piece of a list from a position on in which a position lies, and where it starts
 abbrev pub Found : ℕ → List (List Command) → ℕ → ℕ → List Command → Type 0

@@ -13,8 +13,8 @@ use Rattle.bl_cmd.specs.declared.command.Operand.{Operand}
 use Rattle.bl_lower.proofs.Laid.{floor}
 use Rattle.bl_lower.proofs.Machine.{Program, plain_step}
 use Rattle.bl_lower.proofs.Matching.{Holds, AllHold, IsOwn, Layout, IsStore, LocalsAt, AreTargets, IsFrame, Waits, AreCallers, Here, Matches}
-use Rattle.bl_lower.specs.Constructs.{Target, first_to, top}
-use Rattle.bl_lower.specs.Shapes.{Shape, local, bottom}
+use Rattle.bl_emit.specs.Constructs.{Target, first_to, top}
+use Rattle.bl_emit.specs.Shapes.{Shape, local, bottom}
 use Rattle.bl_lower.proofs.Ways.{Agree, all_later, Kept, at}
 
 -- ---- the variables of locals

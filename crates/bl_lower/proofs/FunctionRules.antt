@@ -11,10 +11,11 @@ use Rattle.bl_cmd.specs.declared.command.Command.{Command}
 use Rattle.bl_cmd.specs.declared.command.Operand.{Operand}
 use Rattle.bl_cmd.specs.declared.command.Operand.TheVariants.{Const}
 use Rattle.bl_access.specs.Templates.{jump_to}
-use Rattle.bl_lower.specs.Shapes.{Shape, bottom}
-use Rattle.bl_lower.specs.Constructs.{pad, moves, outs, Point}
-use Rattle.bl_lower.specs.Low.{Extent, Reached, on, off, next_in}
-use Rattle.bl_lower.specs.Trees.{blocks, shape, start_at, last, body_of, low_body, low_function, function_variables}
+use Rattle.bl_emit.specs.Shapes.{Shape, bottom}
+use Rattle.bl_emit.specs.Constructs.{pad, moves, outs, Point}
+use Rattle.bl_emit.specs.Low.{Extent, Reached, on, off, next_in}
+use Rattle.bl_lower.specs.Trees.{last, low_body, low_function}
+use Rattle.bl_emit.specs.Numbers.{blocks, shape, start_at, body_of, function_variables}
 use Rattle.bl_lower.proofs.BodyRules.{bodies, begins, EndsIn, StackIn}
 use Rattle.bl_lower.proofs.Finding.{Starts, all_start}
 use Rattle.bl_lower.proofs.Goods.{Good, simple_good, readables}
@@ -28,7 +29,7 @@ use Rattle.bl_lower.proofs.Sizes.{Size, Sized, ReachedAs, sizes, padded_length, 
 use Rattle.bl_lower.proofs.Sound.{Sound, Each, EachIn, all_sound, each_in}
 use Rattle.bl_lower.proofs.Templates.{within}
 use Rattle.bl_lower.proofs.Typings.{nested_body}
-use Rattle.bl_lower.proofs.Ways.{shift_is}
+use Rattle.bl_emit.proofs.Lists.{shift_is}
 
 -- the end of a function, where it is reached
 abbrev last_pieces : ℕ → Reached → List (List Command)

@@ -10,9 +10,10 @@ use Rattle.bl_cmd.specs.declared.command.Command.{Command}
 use Rattle.bl_cmd.specs.declared.command.Operand.{Operand}
 use Rattle.bl_cmd.specs.declared.command.Operand.TheVariants.{Var, Const}
 use Rattle.bl_access.specs.Templates.{shift, variable, jump_to, bounds, growth, chain_from, missed}
-use Rattle.bl_lower.specs.Shapes.{Shape, bottom}
-use Rattle.bl_lower.specs.Constructs.{reads, pad, moves, Target, taken, first_to, start_of, branched}
-use Rattle.bl_lower.specs.Trees.{blocks, shape, low_tree}
+use Rattle.bl_emit.specs.Shapes.{Shape, bottom}
+use Rattle.bl_emit.specs.Constructs.{reads, pad, moves, Target, taken, first_to, start_of, branched}
+use Rattle.bl_lower.specs.Trees.{low_tree}
+use Rattle.bl_emit.specs.Numbers.{blocks, shape}
 use Rattle.bl_lower.proofs.Leaving.{moves_length}
 use Rattle.bl_lower.proofs.Lawful.{new_local, Readable, reads_const, reads_own, AllReadable, Goes, Lawful, Simple, set_simple, two_padded, test_simple, jump_simple, moves_simple, outs_simple}
 use Rattle.bl_lower.proofs.Pieces.{EachAt, each_map, each_both}

@@ -19,9 +19,9 @@ use Rattle.bl_cmd.specs.declared.command.Operand.TheVariants.{Const}
 use Rattle.bl_lower.proofs.Laid.{HasAt, live, Laid, Indirect, SlotsFrom, SlotAt}
 use Rattle.bl_lower.proofs.Machine.{Program, value_of}
 use Rattle.bl_lower.proofs.Matching.{Holds, Layout, Here, IsProgram}
-use Rattle.bl_lower.specs.Constructs.{pad, reads, moves, args, mark_of, Target, top, point}
-use Rattle.bl_lower.specs.Shapes.{Slot, armed, strange, Counts, bottom, result_reads}
-use Rattle.bl_lower.specs.Trees.{slot_of, slot_by}
+use Rattle.bl_emit.specs.Constructs.{pad, reads, moves, args, mark_of, Target, top, point}
+use Rattle.bl_emit.specs.Shapes.{Slot, armed, strange, Counts, bottom, result_reads}
+use Rattle.bl_emit.specs.Numbers.{slot_of, slot_by}
 use Rattle.bl_lower.proofs.Branching.{IsSmall, equal_is_one, above_is_zero}
 use Rattle.bl_lower.proofs.Calling.{call_at_reaches, has_type, args_length}
 use Rattle.bl_lower.proofs.Frames.{static_low, static_next, here_above, Reaches, Then, reaches_later, popping, knowing}
@@ -29,7 +29,8 @@ use Rattle.bl_lower.proofs.Stepping.{LaidOut}
 use Rattle.bl_lower.proofs.Leaving.{moves_length}
 use Rattle.bl_lower.proofs.Operating.{zero_test, tries}
 use Rattle.bl_lower.proofs.States.{states_are}
-use Rattle.bl_lower.proofs.Ways.{Kept, at, does, holds_value, holds_later, kept_written, has_front, has_back, shift_is}
+use Rattle.bl_lower.proofs.Ways.{Kept, at, does, holds_value, holds_later, kept_written, has_front, has_back}
+use Rattle.bl_emit.proofs.Lists.{shift_is}
 
 pad_length : (count : ℕ) (stack : List Operand) → length (reverse (pad count stack)) ≡ count
 pad_length count stack = length-reverse (pad count stack) ∙ go count stack

@@ -15,10 +15,10 @@ use Rattle.bl_cmd.specs.declared.command.Command.TheVariants as command
 use Rattle.bl_cmd.specs.declared.command.Operand.{Operand}
 use Rattle.bl_cmd.specs.declared.command.Operand.TheVariants.{Const}
 use Rattle.bl_access.specs.Templates.{shift, variable, set_of, jump_to, set as set_command}
-use Rattle.bl_lower.specs.Shapes.{Slot, Shape, local, bottom, result_reads}
-use Rattle.bl_lower.specs.Constructs.{top, pad, moves, args, mark_of, Target, Point}
-use Rattle.bl_lower.specs.Items.{check_of, check_size, check_new, checks, count_of, left, right, arms_size, head_size, hits_from, calls_in, after, to_label, slot_arms, slot_head, template}
-use Rattle.bl_lower.specs.Trees.{blocks, shape}
+use Rattle.bl_emit.specs.Shapes.{Slot, Shape, local, bottom, result_reads}
+use Rattle.bl_emit.specs.Constructs.{top, pad, moves, args, mark_of, Target, Point}
+use Rattle.bl_emit.specs.Items.{check_of, check_size, check_new, checks, count_of, left, right, arms_size, head_size, hits_from, calls_in, after, to_label, slot_arms, slot_head, template}
+use Rattle.bl_emit.specs.Numbers.{blocks, shape}
 use Rattle.bl_lower.proofs.Chains.{hits_from_length}
 use Rattle.bl_lower.proofs.Goods.{Good, simple_good, readable, AllReady, ready_get, branched_simple, chain_simple}
 use Rattle.bl_lower.proofs.Lawful.{mark_small, new_local, Readable, reads_const, reads_static, Goes, Simple, Writes, set_simple, test_simple, jump_simple}
@@ -27,7 +27,7 @@ use Rattle.bl_lower.proofs.Placing.{arms_at}
 use Rattle.bl_lower.proofs.Ranged.{Ranged, AllRanged, ranged_tail, ranged_top, ranged_left, ranged_right}
 use Rattle.bl_lower.proofs.Sizes.{slot_head_length, template_length, after_position, checks_length}
 use Rattle.bl_lower.proofs.Sound.{Sound}
-use Rattle.bl_lower.proofs.Ways.{shift_is}
+use Rattle.bl_emit.proofs.Lists.{shift_is}
 use Rattle.bl_lower.proofs.Templates.{row_padded, check_fits, arms_exist, spans, local_own, local_read, functions_number, globals_number, size_static, checks_simple, called_simple, hits_into, slots_simple, one_good, move_good, load_good, store_good, grow_good}
 
 append_nil : (l : List Command) → l ++ [] ≡ l

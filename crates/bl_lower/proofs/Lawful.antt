@@ -15,9 +15,10 @@ use Rattle.bl_cmd.specs.declared.command.Command.TheVariants.{Call, Ret, Trap}
 use Rattle.bl_cmd.specs.declared.command.Operand.{Operand}
 use Rattle.bl_cmd.specs.declared.command.Operand.TheVariants.{Const}
 use Rattle.bl_access.specs.Templates.{variable, set_of, test_of, jump_to, arg_of, out_of, move}
-use Rattle.bl_lower.specs.Shapes.{Shape, result, bottom, result_reads}
-use Rattle.bl_lower.specs.Constructs.{moves, args, outs, mark_of, Target}
-use Rattle.bl_lower.specs.Trees.{shape, statics, low_tree, global_def}
+use Rattle.bl_emit.specs.Shapes.{Shape, result, bottom, result_reads}
+use Rattle.bl_emit.specs.Constructs.{moves, args, outs, mark_of, Target}
+use Rattle.bl_lower.specs.Trees.{low_tree, global_def}
+use Rattle.bl_emit.specs.Numbers.{shape, statics}
 use Rattle.bl_lower.proofs.Parts.{statics_are, first_is, results_number, params_number}
 use Rattle.bl_lower.proofs.Pieces.{EachAt}
 

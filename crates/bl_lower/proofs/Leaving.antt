@@ -15,8 +15,8 @@ use Rattle.bl_cmd.specs.declared.command.Operand.{Operand}
 use Rattle.bl_lower.proofs.Laid.{HasAt, Fresh, floor, live, Laid, EndsAt}
 use Rattle.bl_lower.proofs.Machine.{Program, plain_step}
 use Rattle.bl_lower.proofs.Matching.{Holds, AllHold, Layout, IsTarget, AreTargets, Here}
-use Rattle.bl_lower.specs.Constructs.{pad, reads, moves, Target, first_to, behind, point}
-use Rattle.bl_lower.specs.Shapes.{bottom}
+use Rattle.bl_emit.specs.Constructs.{pad, reads, moves, Target, first_to, behind, point}
+use Rattle.bl_emit.specs.Shapes.{bottom}
 use Rattle.bl_lower.proofs.Frames.{floor_is_above, static_low, store_kept, targets_later, locals_kept, callers_kept, Reaches, Then}
 use Rattle.bl_lower.proofs.Stepping.{arrives}
 use Rattle.bl_lower.proofs.Ways.{Agree, Kept, at, does, moved, held_values, all_later, has_front, has_back}

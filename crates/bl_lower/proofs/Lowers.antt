@@ -21,15 +21,15 @@ use Rattle.bl_cmd.specs.declared.command.Command.{Command}
 use Rattle.bl_cmd.specs.declared.command.Operand.{Operand}
 use Rattle.bl_lower.proofs.Laid.{HasAt, Fresh, live, dead, second_of, operands_of, Laid, OutsAt, ToAt, TestsAt, SecondAt, SlotsFrom, SlotAt, flat, code_of, tests, yes_of, slot_tests}
 use Rattle.bl_lower.proofs.Machine.{Program}
-use Rattle.bl_lower.specs.Constructs.{pad, reads, moves, outs, top, whole, again, part, Target, as_whole, taken, first_to, mark_of, Point, point, behind, inside, branched}
-use Rattle.bl_lower.specs.Items.{arms_from, checks, check_of, check_size, check_new, count_of, left, right, after, arm_size, branch_size, branch_most, branch_mosts, size_of, most_of, left_new, left_next, left_most, to_label, arms, slot_head, slot_arm, slot_arms, template, leaving}
-use Rattle.bl_lower.specs.Low.{Body, done, step, leave, block, loop, choice, Extent, closed_size, most_in, Reached, on, off, next_in, Lowered, closed, takes_of, size_in}
-use Rattle.bl_lower.specs.Shapes.{Slot, armed, vacant, strange, Counts, Shape}
+use Rattle.bl_emit.specs.Constructs.{pad, reads, moves, outs, top, whole, again, part, Target, as_whole, taken, first_to, mark_of, Point, point, behind, inside, branched}
+use Rattle.bl_emit.specs.Items.{arms_from, checks, check_of, check_size, check_new, count_of, left, right, after, arm_size, branch_size, branch_most, branch_mosts, size_of, most_of, left_new, left_next, left_most, to_label, arms, slot_head, slot_arm, slot_arms, template, leaving}
+use Rattle.bl_emit.specs.Low.{Body, done, step, leave, block, loop, choice, Extent, closed_size, most_in, Reached, on, off, next_in, Lowered, closed, takes_of, size_in}
+use Rattle.bl_emit.specs.Shapes.{Slot, armed, vacant, strange, Counts, Shape}
 use Rattle.bl_lower.proofs.Leaving.{moves_length}
 use Rattle.bl_lower.proofs.Sizes.{Low, Size, Sized, ReachedAs, sizes, part_length, padded_length, checks_length, label_length, template_length, after_position, after_next, calls, slot_arm_length, slot_head_length}
 use Rattle.bl_lower.proofs.Typings.{IsOrdinary, IsLeave, IsBody, arrow_lengths, leaves_enough, at_end, at_else, opens, stays}
 use Rattle.bl_lower.proofs.Walls.{Neat, neat_later, neat_tail, neat_new, neat_reads, neat_taken, neat_looped, new_fresh, avoids_fresh, branch_fresh}
-use Rattle.bl_lower.proofs.Ways.{shift_is}
+use Rattle.bl_emit.proofs.Lists.{shift_is}
 use Rattle.bl_lower.proofs.Chains.{chain_length, arms_from_length, tests_are, slot_tests_are}
 
 reads_count : (first count : ℕ) → length (reads first count) ≡ count

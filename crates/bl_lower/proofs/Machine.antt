@@ -11,7 +11,7 @@ use Rattle.bl_cmd.specs.declared.command.Command.{Command}
 use Rattle.bl_cmd.specs.declared.command.Command.TheVariants.{Set, Load, Store, Test, Jump, Arg, Call, Out, Ret, Trap}
 use Rattle.bl_cmd.specs.declared.command.Operand.{Operand}
 use Rattle.bl_cmd.specs.declared.command.Operand.TheVariants.{Var, Const}
-use Rattle.bl_lower.specs.Shapes.{Counts, Shape, param, result}
+use Rattle.bl_emit.specs.Shapes.{Counts, Shape, param, result}
 
 -- ---- all memories in one space of bytes, each at its base with room for its reserve
 

@@ -18,12 +18,12 @@ use Rattle.bl_cmd.specs.declared.command.Operand.{Operand}
 use Rattle.bl_cmd.specs.declared.command.Operand.TheVariants.{Var, Const}
 use Rattle.bl_lower.proofs.Laid.{HasAt, live, landing, floor, Laid, Stand}
 use Rattle.bl_lower.proofs.Machine.{space_of, Program}
-use Rattle.bl_lower.specs.Constructs.{reads, moves, mark_of, Target, point, taken, first_to}
-use Rattle.bl_lower.specs.Shapes.{Shape, local, param, result, bottom, result_reads}
+use Rattle.bl_emit.specs.Constructs.{reads, moves, mark_of, Target, point, taken, first_to}
+use Rattle.bl_emit.specs.Shapes.{Shape, local, param, result, bottom, result_reads}
 use Rattle.bl_reduce.specs.Configurations.{Store, Label, Frame, State, Config, entering, running}
 use Rattle.bl_base.specs.Runs.{MemoryState}
 use Rattle.bl_base.specs.Trap.{kinds}
-use Rattle.bl_lower.specs.Trees.{slot_of}
+use Rattle.bl_emit.specs.Numbers.{slot_of}
 
 -- what an operand reads: a constant, or a variable of these
 abbrev pub Holds : Registers → ℕ → ℕ → ℕ → Operand → ℕ → Type 0

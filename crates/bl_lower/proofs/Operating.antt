@@ -21,13 +21,14 @@ use Rattle.bl_cmd.specs.declared.command.Operand.TheVariants.{Const}
 use Rattle.bl_lower.proofs.Laid.{HasAt, Operates}
 use Rattle.bl_lower.proofs.Machine.{Program, value_of, states, plain_step}
 use Rattle.bl_lower.proofs.Matching.{Holds, AllHold, Layout, Here}
-use Rattle.bl_lower.specs.Constructs.{Target, point}
-use Rattle.bl_lower.specs.Items.{Check, free, nonzero, quotient, check_of, check_size, check_new, checks, count_of, left, right}
-use Rattle.bl_lower.specs.Shapes.{bottom}
+use Rattle.bl_emit.specs.Constructs.{Target, point}
+use Rattle.bl_emit.specs.Items.{Check, free, nonzero, quotient, check_of, check_size, check_new, checks, count_of, left, right}
+use Rattle.bl_emit.specs.Shapes.{bottom}
 use Rattle.bl_lower.proofs.Frames.{static_low, store_kept, next_low, here_above, Reaches, Then, reaches_later, with_stack, knowing}
 use Rattle.bl_lower.proofs.Stepping.{LaidOut, pushes, raised}
 use Rattle.bl_lower.proofs.States.{states_are}
-use Rattle.bl_lower.proofs.Ways.{Kept, at, does, sets, holds_value, value_is, holds_later, kept_written, read_written, shift_is}
+use Rattle.bl_lower.proofs.Ways.{Kept, at, does, sets, holds_value, value_is, holds_later, kept_written, read_written}
+use Rattle.bl_emit.proofs.Lists.{shift_is}
 
 -- ---- what the tests say of the traps
 

@@ -13,7 +13,8 @@ use Rattle.bl_wasm.specs.declared.linked.Signature.{Signature}
 use Rattle.bl_wasm.specs.declared.linked.Tree.{Tree}
 use Rattle.bl_cmd.specs.Layout.{sum_before, params_of, results_of, first_of, entry_of, statics as statics_of}
 use Rattle.bl_cmd.specs.declared.definitions.FunctionDef.{FunctionDef}
-use Rattle.bl_lower.specs.Trees.{counts_of, function_size, function_variables, total, shape, statics, global_def, memory_def, function_def, params_by, results_by, param_def, low_tree}
+use Rattle.bl_lower.specs.Trees.{global_def, memory_def, function_def, params_by, results_by, param_def, low_tree}
+use Rattle.bl_emit.specs.Numbers.{counts_of, function_size, function_variables, total, shape, statics}
 
 pub map_map : {A B C : Type 0} (f : A → B) (g : B → C) (xs : List A) → map g (map f xs) ≡ map (λ x. g (f x)) xs
 map_map f g [] = refl

@@ -4,10 +4,10 @@ use Rattle.std.proofs.Common.{◌≡◌, ℕ, zero, suc, ◌+◌, ◌≤◌, ◌
 use Rattle.bl_wasm.specs.declared.types.BlockType.{BlockType}
 use Rattle.bl_cmd.specs.declared.command.Command.{Command}
 use Rattle.bl_access.specs.Templates.{shift, test_of, jump_to}
-use Rattle.bl_lower.specs.Shapes.{Counts, Shape}
-use Rattle.bl_lower.specs.Constructs.{reads, top, pad, moves, whole, again, part, Target, inside, as_whole, mark_of, Point, point, behind}
-use Rattle.bl_lower.specs.Items.{after, template, leaving}
-use Rattle.bl_lower.specs.Low.{Body, done, step, leave, block, loop, choice, closed_size, Reached, on, off, next_in, closed, takes_of, size_in, low}
+use Rattle.bl_emit.specs.Shapes.{Counts, Shape}
+use Rattle.bl_emit.specs.Constructs.{reads, top, pad, moves, whole, again, part, Target, inside, as_whole, mark_of, Point, point, behind}
+use Rattle.bl_emit.specs.Items.{after, template, leaving}
+use Rattle.bl_emit.specs.Low.{Body, done, step, leave, block, loop, choice, closed_size, Reached, on, off, next_in, closed, takes_of, size_in, low}
 use Rattle.bl_lower.proofs.Laid.{HasAt}
 
 -- ---- lists of pieces

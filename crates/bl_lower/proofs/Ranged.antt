@@ -3,8 +3,8 @@ use Rattle.std.proofs.Common.{◌≡◌, ℕ, zero, suc, ◌+◌, ◌<◌, ◌�
 use Rattle.bl_cmd.specs.declared.command.Operand.{Operand}
 use Rattle.bl_cmd.specs.declared.command.Operand.TheVariants.{Var, Const}
 use Rattle.bl_access.specs.Templates.{variable}
-use Rattle.bl_lower.specs.Constructs.{pad, reads, top}
-use Rattle.bl_lower.specs.Items.{left, right}
+use Rattle.bl_emit.specs.Constructs.{pad, reads, top}
+use Rattle.bl_emit.specs.Items.{left, right}
 use Rattle.bl_lower.proofs.Walls.{reverse_step}
 
 module _ (low : ℕ) where

@@ -15,8 +15,8 @@ use Rattle.bl_cmd.specs.declared.command.Operand.{Operand}
 use Rattle.bl_lower.proofs.Laid.{HasAt, AreNot, Fresh, floor, OutsAt, LeavesAt}
 use Rattle.bl_lower.proofs.Machine.{Program, value_of, results_from, states, plain_step, ret}
 use Rattle.bl_lower.proofs.Matching.{Holds, AllHold, Layout, IsStore, IsFrame, AreCallers, Here}
-use Rattle.bl_lower.specs.Constructs.{reads, moves, mark_of, Target}
-use Rattle.bl_lower.specs.Shapes.{Shape, result, bottom, result_reads}
+use Rattle.bl_emit.specs.Constructs.{reads, moves, mark_of, Target}
+use Rattle.bl_emit.specs.Shapes.{Shape, result, bottom, result_reads}
 use Rattle.bl_lower.proofs.Frames.{floor_is_above, static_low, store_kept, frame_kept, callers_kept, Reaches, reaches_later}
 use Rattle.bl_lower.proofs.Stepping.{arrives}
 use Rattle.bl_lower.proofs.Leaving.{pad_is_take, zip_take, taken_length}

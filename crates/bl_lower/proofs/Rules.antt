@@ -13,7 +13,8 @@ use Rattle.bl_cmd.specs.Rules.{Rule4, Rule5, Rule6, GoesTo, Reach, reach_of}
 use Rattle.bl_cmd.specs.declared.command.Command.{Command}
 use Rattle.bl_cmd.specs.declared.command.Command.TheVariants.{Set, Load, Store, Test, Jump, Arg, Call, Out, Ret, Trap}
 use Rattle.bl_cmd.proofs.Layouts.{holds_apart, held_by}
-use Rattle.bl_lower.specs.Trees.{shape, low_tree, low_function, function_def, function_size}
+use Rattle.bl_lower.specs.Trees.{low_tree, low_function, function_def}
+use Rattle.bl_emit.specs.Numbers.{shape, function_size}
 use Rattle.bl_lower.proofs.Finding.{Found, Bounds, bounds_of, found_same, found_other, found_at, find, starts_found, found_stands}
 use Rattle.bl_lower.proofs.FunctionRules.{function_pieces, function_whole, B, all_good}
 use Rattle.bl_lower.proofs.Goods.{Good}

@@ -17,8 +17,8 @@ use Rattle.bl_cmd.specs.declared.command.Operand.TheVariants.{Const}
 use Rattle.bl_lower.proofs.Laid.{live, second_of, operands_of, Laid, Gives}
 use Rattle.bl_lower.proofs.Machine.{Program}
 use Rattle.bl_lower.proofs.Matching.{Here, IsProgram, Matches}
-use Rattle.bl_lower.specs.Constructs.{mark_of, Target, point}
-use Rattle.bl_lower.specs.Items.{after}
+use Rattle.bl_emit.specs.Constructs.{mark_of, Target, point}
+use Rattle.bl_emit.specs.Items.{after}
 use Rattle.bl_lower.proofs.Accessing.{load_reaches, store_reaches, size_reaches, grow_reaches}
 use Rattle.bl_lower.proofs.Blocks.{block_reaches, loop_reaches, if_reaches, end_reaches, else_reaches}
 use Rattle.bl_lower.proofs.Branching.{IsSmall, branch_reaches, branch_if_reaches, table_reaches}

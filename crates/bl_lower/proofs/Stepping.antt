@@ -19,8 +19,8 @@ use Rattle.bl_cmd.specs.declared.command.Operand.TheVariants.{Const}
 use Rattle.bl_lower.proofs.Laid.{live, Laid}
 use Rattle.bl_lower.proofs.Machine.{Program, value_of, plain_step}
 use Rattle.bl_lower.proofs.Matching.{Layout, LocalsAt, Here}
-use Rattle.bl_lower.specs.Constructs.{Target, top, point}
-use Rattle.bl_lower.specs.Shapes.{bottom, local}
+use Rattle.bl_emit.specs.Constructs.{Target, top, point}
+use Rattle.bl_emit.specs.Shapes.{bottom, local}
 use Rattle.bl_lower.proofs.Frames.{is_local, locals_apart, frame_kept, static_low, static_next, next_low, store_kept, frame_later, callers_kept, here_above, Reaches, Then, with_stack, popping, knowing}
 use Rattle.bl_lower.proofs.Ways.{at, does, sets, place_static, value_is, holds_value, all_later, kept_written, read_written, read_other, read_deeper, move_is}
 

@@ -25,11 +25,12 @@ use Rattle.bl_cmd.specs.declared.command.Command.TheVariants as command
 use Rattle.bl_cmd.specs.declared.command.Operand.{Operand}
 use Rattle.bl_cmd.specs.declared.command.Operand.TheVariants.{Var, Const}
 use Rattle.bl_access.specs.Templates.{shift, variable, load_of, jump_to, set as set_command, move, bounds, growth}
-use Rattle.bl_lower.specs.Shapes.{Counts, Slot, armed, vacant, strange, Shape, local, bottom, result_reads}
-use Rattle.bl_lower.specs.Constructs.{pad, moves, args, mark_of, Target}
-use Rattle.bl_lower.specs.Items.{Check, free, nonzero, quotient, check_of, check_size, check_new, checks, count_of, right, branch_size, branch_sizes, arms_from, arm_size, arms_size, hits_from, calls_in, to_label, arms, slot_arm, slot_arms}
-use Rattle.bl_lower.specs.Low.{takes_of}
-use Rattle.bl_lower.specs.Trees.{blocks, shape, statics, low_tree, function_def, global_def, memory_def, counts, counts_of, memory_in, reserve_in, locals_in, slot_by, slot_of, slots_in, slots_at}
+use Rattle.bl_emit.specs.Shapes.{Counts, Slot, armed, vacant, strange, Shape, local, bottom, result_reads}
+use Rattle.bl_emit.specs.Constructs.{pad, moves, args, mark_of, Target}
+use Rattle.bl_emit.specs.Items.{Check, free, nonzero, quotient, check_of, check_size, check_new, checks, count_of, right, branch_size, branch_sizes, arms_from, arm_size, arms_size, hits_from, calls_in, to_label, arms, slot_arm, slot_arms}
+use Rattle.bl_emit.specs.Low.{takes_of}
+use Rattle.bl_lower.specs.Trees.{low_tree, function_def, global_def, memory_def}
+use Rattle.bl_emit.specs.Numbers.{blocks, shape, statics, counts, counts_of, memory_in, reserve_in, locals_in, slot_by, slot_of, slots_in, slots_at}
 use Rattle.bl_lower.proofs.Frames.{is_local}
 use Rattle.bl_lower.proofs.Goods.{accesses, grows, Good, simple_good, readable, readables, AllReady, ready_get, branched_simple, AllInto}
 use Rattle.bl_lower.proofs.Leaving.{moves_length}

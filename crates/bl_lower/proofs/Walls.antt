@@ -5,7 +5,7 @@ use Rattle.bl_access.specs.Templates.{variable}
 use Rattle.bl_cmd.specs.declared.command.Operand.{Operand}
 use Rattle.bl_cmd.specs.declared.command.Operand.TheVariants.{Var, Const}
 use Rattle.bl_lower.proofs.Laid.{AreNot, Fresh}
-use Rattle.bl_lower.specs.Constructs.{pad, reads, Kind, whole, again, part, Target, taken, first_to}
+use Rattle.bl_emit.specs.Constructs.{pad, reads, Kind, whole, again, part, Target, taken, first_to}
 use Rattle.bl_lower.proofs.Sizes.{padded_length}
 
 -- ---- the order of operands

@@ -15,7 +15,7 @@ use Rattle.bl_cmd.specs.declared.command.Operand.TheVariants.{Var, Const}
 use Rattle.bl_lower.proofs.Laid.{HasAt, IsNot, AreNot, Fresh}
 use Rattle.bl_lower.proofs.Machine.{Program, place, value_of, perform, plain_step}
 use Rattle.bl_lower.proofs.Matching.{Holds, AllHold}
-use Rattle.bl_lower.specs.Constructs.{reads, moves}
+use Rattle.bl_emit.specs.Constructs.{reads, moves}
 
 both_true : (a b : Bool) (x y : ℕ) → a ≡ true → b ≡ true → cond (a && b) x y ≡ x
 both_true a b x y e f = ap (λ c. cond (c && b) x y) e ∙ ap (λ c. cond c x y) f
@@ -26,10 +26,6 @@ first_false a b x y e = ap (λ c. cond (c && b) x y) e
 second_false : (a b : Bool) (x y : ℕ) → b ≡ false → cond (a && b) x y ≡ y
 second_false true b x y e = ap (λ c. cond c x y) e
 second_false false b x y e = refl
-
-pub shift_is : (n k : ℕ) → shift n k ≡ k + n
-shift_is zero k = omega arith
-shift_is (suc n) k = let h = shift_is n (suc k) in omega (arith, h)
 
 -- what was written is read there
 pub read_written : (r : Registers) (d v n : ℕ) → written r d v n d v ≡ n

@@ -1,7 +1,8 @@
-pub mod Constructs
-pub mod Items
-pub mod Low
+pub mod Counting
+pub mod Emitting
 pub mod Lowering
-pub mod Nest
-pub mod Shapes
+pub mod Outlines
+pub mod Rooms
+pub mod Tables
 pub mod Trees
+pub mod Working

@@ -1,7 +1,8 @@
 //! The parts of a program that are copied from the linked tree.
 ghost use Rattle.std.specs.Prelude.{◌≡◌, ◌+◌, ◌*◌, ◌<◌, ◌≤◌, ◌^◌, ◌++◌, [], map, drop, take, length, IfOk, OnOk};
 ghost use Rattle.std.specs.List.{All, filter, range_with_len, zip};
-ghost use Rattle.bl_lower.specs.Trees.{demanded_from, demanded_results, export_def as export_of, function_def as function_of, function_size, function_variables, global_def as global_of, is_filled as filled_of, memory_def as memory_of, param_def as param_of, row_at, rows_of};
+ghost use Rattle.bl_lower.specs.Trees.{demanded_from, demanded_results, export_def as export_of, function_def as function_of, global_def as global_of, is_filled as filled_of, memory_def as memory_of, param_def as param_of, row_at, rows_of};
+ghost use Rattle.bl_emit.specs.Numbers.{function_size, function_variables};
 ghost use Rattle.bl_cmd.specs.declared.definitions.Demand.TheVariants as demand;
 
 use bl_base::{Label, List, NoMemory, Text, ValueType};
