@@ -6,20 +6,23 @@ use Rattle.bl_app.specs.Causes.{Causes, NoneRose}
 use Rattle.bl_app.specs.Commands.{job_of}
 use Rattle.bl_app.specs.Jobs.{AreRead, FirstRefusal, IsLawful, Plan}
 use Rattle.bl_app.specs.Refusals.{Refusal}
-use Rattle.bl_app.specs.Requests.{Request, harden, interp, run}
+use Rattle.bl_app.specs.Requests.{Request, harden, interp, lower, run, spec}
 use Rattle.bl_app.specs.Worlds.{World}
 use Rattle.bl_app.specs.Status.{code_of, kind_of, of_deed, of_refusal}
 use Rattle.bl_app.specs.declared.status.Status.{Status}
 use Rattle.bl_app.specs.declared.status.Status.TheVariants as status
-use Rattle.bl_app.proofs.HardenLemmas.{harden_lawful}
+use Rattle.bl_app.proofs.HardenLemmas.{harden_lawful, lower_lawful}
 use Rattle.bl_app.proofs.InterpLemmas.{interp_lawful}
 use Rattle.bl_app.proofs.JobLemmas.{done_not_refused, one_first}
 use Rattle.bl_app.proofs.RunLemmas.{run_lawful}
+use Rattle.bl_app.proofs.SpecLemmas.{spec_lawful}
 
 pub laws_of : (request : Request) → IsLawful (job_of request)
 laws_of (harden request) = harden_lawful request
+laws_of (lower request) = lower_lawful request
 laws_of (interp request) = interp_lawful request
 laws_of (run request) = run_lawful request
+laws_of (spec request) = spec_lawful request
 
 pub one_refusal : (files : Files) (request : Request) (a b : Refusal) → FirstRefusal (job_of request) (Some files) a → FirstRefusal (job_of request) (Some files) b → a ≡ b
 one_refusal files request = one_first files (job_of request) (laws_of request)
@@ -54,25 +57,16 @@ module _ (old new : World) (none_rose : NoneRose old new) where
   without_request status.Limit c = absurd (not_refused_words status.Limit c refl)
   without_request status.Memory c = inr refl
   without_request status.Image c = absurd (not_refused_words status.Image c refl)
+  without_request status.Trace c = absurd (not_refused_words status.Trace c refl)
   without_request status.Start c = absurd (not_refused_words status.Start c refl)
   without_request status.Trapped c = absurd (not_done_words status.Trapped c refl)
   without_request status.Spent c = absurd (not_done_words status.Spent c refl)
+  without_request status.Stuck c = absurd (not_done_words status.Stuck c refl)
 
 pub with_request : (request : Request) (old new : World) → Causes job_of (Some request) old new status.Usage → ⊥
 with_request request old new c = let none = c.usage_only refl in cc
 
 -- the number 0 says that the work was done
 pub done_by_zero : (s : Status) → code_of s ≡ 0 → kind_of s ≡ of_deed
-done_by_zero status.Done e = refl
-done_by_zero status.Usage e = absurd (omega (arith, e))
-done_by_zero status.ReadFault e = absurd (omega (arith, e))
-done_by_zero status.WriteFault e = absurd (omega (arith, e))
-done_by_zero status.Malformed e = absurd (omega (arith, e))
-done_by_zero status.Invalid e = absurd (omega (arith, e))
-done_by_zero status.Unsupported e = absurd (omega (arith, e))
-done_by_zero status.Limit e = absurd (omega (arith, e))
-done_by_zero status.Memory e = absurd (omega (arith, e))
-done_by_zero status.Image e = absurd (omega (arith, e))
-done_by_zero status.Start e = absurd (omega (arith, e))
-done_by_zero status.Trapped e = refl
-done_by_zero status.Spent e = refl
+done_by_zero s =
+    elim s as (λ t. code_of t ≡ 0 → kind_of t ≡ of_deed) [ status.Done ↦ λ e. refl | status.Trapped ↦ λ e. refl | status.Spent ↦ λ e. refl | _ ↦ λ e. absurd (omega (arith, e)) ]

@@ -14,9 +14,10 @@ use Rattle.bl_validate.specs.declared.verdict.Invalid.{Invalid}
 use Rattle.bl_validate.specs.declared.verdict.Invalid.TheVariants as reason
 use Rattle.bl_validate.proofs.Reasons.{one_reason}
 use Rattle.bl_link.specs.Alone.{alone}
+use Rattle.bl_app.specs.Form.{StandsAlone}
 use Rattle.bl_app.specs.Loading.{Accepted, Decodes, DecodingRefuses, FormRefuses, IsPassed, IsRefusalOf, LinksAlone, Named, Part, ValidationRefuses, decoding, excess, linking, loading, no_module, not_supported, of_form, validation}
 use Rattle.bl_app.specs.Refusals.{Refusal, invalid_function, limit, unsupported}
-use Rattle.bl_app.specs.Stages.{AllPass, IsLawfulStage, at_first, at_second, each, chain}
+use Rattle.bl_app.specs.Stages.{AllPass, IsLawfulStage, Stage, at_first, at_second, each, chain}
 use Rattle.bl_app.specs.Working.{of_module}
 use Rattle.bl_app.proofs.StageLemmas.{chain_lawful, each_lawful}
 
@@ -121,16 +122,16 @@ loading_lawful Form =
 
 -- ---- one module
 
-module _ (Form : Module → Type 0) (part : Part) where
-  pub one_loaded : (named : Named) (tree : Tree) → (of_module Form).Passes part named → tree ≡ alone named.name named.tree → (loading Form).Passes (part ∷ []) tree
+module _ (part : Part) where
+  pub one_loaded : (named : Named) (tree : Tree) → of_module.Passes part named → tree ≡ alone named.name named.tree → (loading StandsAlone).Passes (part ∷ []) tree
   one_loaded named tree p e = (p.0 ∷ [], (p.1, tt), (p.2.0 ∷ [], (p.2.1, tt), (named ∷ [], (p.2.2, tt), record { only = named; is_only = refl; is_tree = e })))
 
-  pub one_refused : (refusal : Refusal) → (of_module Form).Refuses part refusal → (loading Form).Refuses (part ∷ []) refusal
+  pub one_refused : (refusal : Refusal) → of_module.Refuses part refusal → (loading StandsAlone).Refuses (part ∷ []) refusal
   one_refused refusal (at_first x) = at_first (inl x)
   one_refused refusal (at_second n p (at_first x)) = at_second (n ∷ []) (p, tt) (at_first (inl x))
   one_refused refusal (at_second n p (at_second m q x)) = at_second (n ∷ []) (p, tt) (at_second (m ∷ []) (q, tt) (at_first (inl x)))
 
-  pub accepted_of : (named : Named) → (of_module Form).Passes part named → Accepted Form part.bytes named.tree
+  pub accepted_of : (named : Named) → of_module.Passes part named → Accepted StandsAlone part.bytes named.tree
   accepted_of named p =
       let formed = ap (λ n. n.tree) (sym p.2.2.same) in
       let same = ap (λ n. n.tree) (sym p.2.1.same) ∙ formed in
@@ -139,21 +140,33 @@ module _ (Form : Module → Type 0) (part : Part) where
         supported = subst IsSupported same p.1.supported;
         within = subst (λ tree. first_excess tree ≡ None) same p.1.within;
         valid = subst Typed same p.2.1.holds;
-        form = subst Form formed p.2.2.holds;
+        form = subst StandsAlone formed p.2.2.holds;
       }
 
--- the one module of a linked tree
-pub record IsLinkedOf (Form : Module → Type 0) (tree : Tree) : Type 0 where
+-- one that passes a stage alone was alone before it
+only_one : {A B : Type 0} (stage : Stage A B) (xs : List A) (y : B) → AllPass stage xs (y ∷ []) → (x : A) × (xs ≡ x ∷ []) × stage.Passes x y
+only_one stage [] y p = absurd p
+only_one stage (x ∷ []) y p = (x, refl, p.0)
+only_one stage (x ∷ next ∷ xs) y p = absurd p.1
+
+-- the one part of a linked tree, and its module
+pub record IsLinkedOf (parts : List Part) (tree : Tree) : Type 0 where
+  pub part : Part
+  pub is_part : parts ≡ part ∷ []
   pub only : Named
-  pub form : Form only.tree
+  pub accepted : Accepted StandsAlone part.bytes only.tree
   pub is_tree : tree ≡ alone only.name only.tree
 
-formed_one : (Form : Module → Type 0) (named : List Named) (only : Named) → AllPass (of_form Form) named (only ∷ []) → Form only.tree
-formed_one Form [] only p = absurd p
-formed_one Form (x ∷ named) only p = subst Form (ap (λ n. n.tree) (sym p.0.same)) p.0.holds
-
-pub linked_of : (Form : Module → Type 0) (parts : List Part) (tree : Tree) → (loading Form).Passes parts tree → IsLinkedOf Form tree
-linked_of Form parts tree p =
-    let last = p.2.2 in
-    let link = last.2 in
-    record { only = link.only; form = formed_one Form p.2.0 link.only (subst (AllPass (of_form Form) p.2.0) link.is_only last.1); is_tree = link.is_tree }
+pub linked_of : (parts : List Part) (tree : Tree) → (loading StandsAlone).Passes parts tree → IsLinkedOf parts tree
+linked_of parts tree p =
+    let link = p.2.2.2 in
+    let formed = only_one (of_form StandsAlone) p.2.0 link.only (subst (AllPass (of_form StandsAlone) p.2.0) link.is_only p.2.2.1) in
+    let valid = only_one validation p.0 formed.0 (subst (AllPass validation p.0) formed.1 p.2.1) in
+    let decoded = only_one decoding parts valid.0 (subst (AllPass decoding parts) valid.1 p.1) in
+    record {
+      part = decoded.0;
+      is_part = decoded.1;
+      only = link.only;
+      accepted = accepted_of decoded.0 link.only (valid.0, decoded.2, (formed.0, valid.2, formed.2));
+      is_tree = link.is_tree;
+    }

@@ -9,18 +9,19 @@ use Rattle.bl_decode.specs.declared.error.DecodeError.TheVariants as decode
 use Rattle.bl_validate.specs.Verdicts.{IsReason}
 use Rattle.bl_validate.specs.declared.verdict.Invalid.{Invalid}
 use Rattle.bl_validate.specs.declared.verdict.Invalid.TheVariants as invalid
+use Rattle.bl_app.specs.Form.{StandsAlone}
 use Rattle.bl_app.specs.Loading.{Decodes, Named, Part, excess, no_module, not_supported}
 use Rattle.bl_app.specs.Refusals.{unsupported}
 use Rattle.bl_app.specs.Stages.{at_first, at_second}
 use Rattle.bl_app.specs.Working.{IsStaged, decoding_error, of_module, validation_error}
 use Rattle.bl_app.specs.declared.refusal.WorkError.{WorkError}
 
-module _ (Form : Module → Type 0) (name : Bor (List ℕ)) (bytes : List ℕ) where
+module _ (name : Bor (List ℕ)) (bytes : List ℕ) where
   abbrev part : Part
   part = record { name = name.now; bytes = bytes }
 
   abbrev IsModule : Result Module WorkError → Type 0
-  IsModule result = IsStaged (of_module Form) (λ tree. record { name = name.now; tree = tree }) part result
+  IsModule result = IsStaged of_module (λ tree. record { name = name.now; tree = tree }) part result
 
   -- bytes that aren't decoded
   pub decoded : (error : DecodeError) → Answers bytes (Err error) → IsModule (Err (decoding_error name error))
@@ -42,10 +43,10 @@ module _ (Form : Module → Type 0) (name : Bor (List ℕ)) (bytes : List ℕ) w
     validated invalid.Module why = at_second named decodes (at_first (record { reason = invalid.Module; is_reason = why; is_refusal = refl }))
     validated invalid.Memory why = tt
 
-    -- a module of another form
-    pub of_other_form : Typed tree → (Form tree → ⊥) → (of_module Form).Refuses part (unsupported name.now)
-    of_other_form valid not = at_second named decodes (at_second named (record { same = refl; holds = valid }) (record { other = not; is_refusal = refl }))
+    -- a module that doesn't stand alone
+    pub not_alone : Typed tree → (StandsAlone tree → ⊥) → of_module.Refuses part (unsupported name.now)
+    not_alone valid not = at_second named decodes (at_second named (record { same = refl; holds = valid }) (record { other = not; is_refusal = refl }))
 
-    -- a module of the form
-    pub of_the_form : Typed tree → Form tree → (of_module Form).Passes part named
-    of_the_form valid form = (named, decodes, (named, record { same = refl; holds = valid }, record { same = refl; holds = form }))
+    -- one that does
+    pub stands_alone : Typed tree → StandsAlone tree → of_module.Passes part named
+    stands_alone valid form = (named, decodes, (named, record { same = refl; holds = valid }, record { same = refl; holds = form }))

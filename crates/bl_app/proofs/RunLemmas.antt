@@ -111,7 +111,7 @@ module _ (bytes : List ℕ) (entry : Entry) where
 pub starting_lawful : (bytes : List ℕ) → IsLawfulStage (starting bytes)
 starting_lawful bytes = record { one_result = one_start bytes; one_refusal = start_refusal bytes; not_both = start_not_both bytes }
 
-entering_lawful : (export start : List ℕ) → IsLawfulStage (entering export start)
+pub entering_lawful : (export start : List ℕ) → IsLawfulStage (entering export start)
 entering_lawful export start =
     chain_lawful imaging (chain (finding export) (starting start)) imaging_lawful (chain_lawful (finding export) (starting start) (finding_lawful export) (starting_lawful start))
 
@@ -149,7 +149,7 @@ module _ (request : RunRequest) where
         subst (λ s. (entering request.export s).Refuses image refusal) same.1
         (subst (λ i. (entering request.export h.start).Refuses i refusal) same.0 h.refuses)
 
-    passes_here : (image start : List ℕ) (plan : Plan) → contents ≡ image ∷ start ∷ [] → (h : RunDoes request contents plan)
+    pub passes_here : (image start : List ℕ) (plan : Plan) → contents ≡ image ∷ start ∷ [] → (h : RunDoes request contents plan)
         → (entering request.export start).Passes image h.entered
     passes_here image start plan are h =
         let same = same_two h.image h.start image start (sym h.are ∙ are) in

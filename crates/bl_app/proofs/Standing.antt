@@ -1,4 +1,4 @@
--- A module that is run by itself, and is within the limits, can be linked alone.
+-- A module that is run by itself, and is within the limits, can be linked alone, to a tree that can be run.
 use Rattle.std.proofs.Common.{◌≡◌, refl, ℕ, ◌<◌, ◌≤◌, ◌^◌, List, [], ◌∷◌, length, length-append, Option, Some, None, arith}
 use Rattle.std.specs.List.{All, zip}
 use Rattle.std.specs.Option.{option_or}
@@ -6,15 +6,17 @@ use Rattle.std.proofs.lemmas.List.Elements.{All-nil, All-cons, All-weaker}
 use Rattle.bl_base.specs.Quantity.{limit_of}
 use Rattle.bl_base.specs.declared.quantity.Quantity.{Quantity}
 use Rattle.bl_base.specs.declared.quantity.Quantity.TheVariants as quantity
-use Rattle.bl_wasm.specs.declared.types.FuncType.{FuncType}
-use Rattle.bl_wasm.specs.declared.module.Code.{Code}
-use Rattle.bl_wasm.specs.declared.module.Module.{Module}
 use Rattle.bl_wasm.specs.Limits.{Excess, above, first_excess, first_in, function_excess, local_count}
+use Rattle.bl_wasm.specs.Linked.{IsLinked}
 use Rattle.bl_wasm.specs.Modules.{Spells}
 use Rattle.bl_wasm.specs.Validity.{function_of, functions_of, imported}
-use Rattle.bl_link.specs.Alone.{IsAlone}
+use Rattle.bl_wasm.specs.declared.module.Code.{Code}
+use Rattle.bl_wasm.specs.declared.module.Module.{Module}
+use Rattle.bl_wasm.specs.declared.types.FuncType.{FuncType}
+use Rattle.bl_link.specs.Alone.{IsAlone, alone}
 use Rattle.bl_link.proofs.Spelled.{alone_from}
-use Rattle.bl_app.specs.Form.{IsForm, StandsAlone}
+use Rattle.bl_link.proofs.Widths.{spelled_linked}
+use Rattle.bl_app.specs.Form.{StandsAlone}
 use Rattle.bl_app.specs.Loading.{Accepted}
 
 -- ---- the limits
@@ -70,13 +72,12 @@ alone_of bytes tree short spelled within alone =
     let defined : length tree.functions ≤ limit_of quantity.Functions = omega (arith, limits.functions, length-append (imported function_of tree) tree.functions) in
     alone_from bytes tree spelled (omega (arith, short)) alone.imports alone.tables alone.memories defined limits.results limits.locals
 
--- one of the form stands alone
-pub form_alone : (tree : Module) → IsForm tree → StandsAlone tree
-form_alone tree form = form.bare.alone
-
 -- accepted modules can be linked by themselves
 pub accepted_alone : (bytes : List ℕ) (tree : Module) → length bytes ≤ limit_of quantity.Module → Accepted StandsAlone bytes tree → IsAlone tree
 accepted_alone bytes tree short a = alone_of bytes tree short a.spelled a.within a.form
 
-pub accepted_form_alone : (bytes : List ℕ) (tree : Module) → length bytes ≤ limit_of quantity.Module → Accepted IsForm bytes tree → IsAlone tree
-accepted_form_alone bytes tree short a = alone_of bytes tree short a.spelled a.within (form_alone tree a.form)
+-- ---- the trees that they are linked to
+
+-- an accepted module is linked to a tree that can be run
+pub accepted_linked : (name bytes : List ℕ) (tree : Module) → length bytes ≤ limit_of quantity.Module → Accepted StandsAlone bytes tree → IsLinked (alone name tree)
+accepted_linked name bytes tree short a = spelled_linked name bytes tree a.spelled a.valid (accepted_alone bytes tree short a)

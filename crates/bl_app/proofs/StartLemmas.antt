@@ -18,16 +18,19 @@ use Rattle.bl_trace.specs.Answers.{answer_of, IsAnswer}
 use Rattle.bl_trace.specs.declared.error.StartError.{StartError}
 use Rattle.bl_trace.specs.declared.error.StartError.TheVariants.{Line, Count, Memory}
 use Rattle.bl_app.specs.Form.{StandsAlone}
-use Rattle.bl_app.specs.Interpreting.{HasRun, preparing}
+use Rattle.bl_app.specs.Interpreting.{InterpDoes, interp_job, preparing}
 use Rattle.bl_app.specs.Jobs.{saying}
-use Rattle.bl_app.specs.Loading.{Part, parts_of}
+use Rattle.bl_app.specs.Loading.{Part, loading, parts_of}
 use Rattle.bl_app.specs.Outcomes.{outcome_status, outcome_text}
 use Rattle.bl_app.specs.Refusals.{Refusal}
 use Rattle.bl_app.specs.Requests.{InterpRequest}
 use Rattle.bl_app.specs.Running.{Opened, line_is_bad, opening, sizes_of, too_few, type_of}
 use Rattle.bl_app.specs.Stages.{at_first, at_second}
-use Rattle.bl_app.specs.Working.{IsStaged, IsTold, of_module, plan_in, start_error}
+use Rattle.bl_app.specs.Working.{IsStaged, IsTold, IsWork, of_module, opened_in, plan_in, refusal_in, start_error}
+use Rattle.bl_app.specs.declared.interp.Opening.{Opening}
 use Rattle.bl_app.specs.declared.job.Plan.{Plan as PlanMade}
+use Rattle.bl_app.specs.declared.refusal.WorkError.{WorkError}
+use Rattle.bl_app.specs.declared.refusal.WorkError.TheVariants as error
 use Rattle.bl_app.proofs.LoadingLemmas.{one_loaded, one_refused}
 
 -- the number under a name is one of those that are listed
@@ -65,27 +68,35 @@ no_memories [] = refl
 no_memories (patch ∷ patches) = no_memories patches
 
 -- the work of `interp`, by its stages
-module _ (request : InterpRequest) (name : List ℕ) (start bytes : List ℕ) where
+module _ (request : InterpRequest) (name start bytes : List ℕ) (parts : parts_of request.modules (bytes ∷ []) ≡ record { name = name; bytes = bytes } ∷ []) where
   abbrev part : Part
   part = record { name = name; bytes = bytes }
 
-  -- a module that is refused
-  pub module_refused : (refusal : Refusal) → (of_module StandsAlone).Refuses part refusal → (preparing request start).Refuses (part ∷ []) refusal
-  module_refused refusal r = at_first (one_refused StandsAlone part refusal r)
+  refused : (refusal : Refusal) → (preparing request start).Refuses (part ∷ []) refusal → (interp_job request).Against (start ∷ bytes ∷ []) refusal
+  refused refusal r = subst (λ these. (preparing request start).Refuses these refusal) (sym parts) r
 
-  module _ (wasm : Module) (tree : Tree) (passed : (of_module StandsAlone).Passes part (record { name = name; tree = wasm })) (same : tree ≡ alone name wasm) where
+  -- a module that is refused
+  pub not_run : (e : WorkError) → IsStaged of_module (λ tree. record { name = name; tree = tree }) part (Err e) → IsWork (interp_job request) (start ∷ bytes ∷ []) (Err e)
+  not_run (error.Refused refusal) r = refused (refusal_in refusal) (at_first (one_refused part (refusal_in refusal) r))
+  not_run error.Memory r = tt
+
+  module _ (wasm : Module) (tree : Tree) (passed : of_module.Passes part (record { name = name; tree = wasm })) (same : tree ≡ alone name wasm) where
+    abbrev loaded : (loading StandsAlone).Passes (part ∷ []) tree
+    loaded = one_loaded part (record { name = name; tree = wasm }) tree passed same
+
     -- an export or a start that is refused
-    pub start_not_opened : (refusal : Refusal) → (opening request.export start).Refuses tree refusal → (preparing request start).Refuses (part ∷ []) refusal
-    start_not_opened refusal r = at_second tree (one_loaded StandsAlone part (record { name = name; tree = wasm }) tree passed same) r
+    pub not_opened : (e : WorkError) → IsStaged (opening request.export start) (opened_in tree) tree (Err e) → IsWork (interp_job request) (start ∷ bytes ∷ []) (Err e)
+    not_opened (error.Refused refusal) r = refused (refusal_in refusal) (at_second tree loaded r)
+    not_opened error.Memory r = tt
 
     -- what was run
-    pub has_run : (contents : List (List ℕ)) (opened : Opened) (plan : PlanMade) → parts_of request.modules contents ≡ part ∷ [] → opened.tree ≡ tree → (opening request.export start).Passes tree opened
-        → IsTold opened request.steps plan → HasRun request start contents (plan_in plan)
-    has_run contents opened plan parts here opens told = record {
-      opened = opened;
-      prepared = subst (λ parts. (preparing request start).Passes parts opened) (sym parts) (tree, one_loaded StandsAlone part (record { name = name; tree = wasm }) tree passed same, opens);
+    pub was_run : (opened : Opening) (plan : PlanMade) → (opening request.export start).Passes tree (opened_in tree opened) → IsTold (opened_in tree opened) request.steps plan
+        → InterpDoes request (start ∷ bytes ∷ []) (plan_in plan)
+    was_run opened plan opens told = record {
+      opened = opened_in tree opened;
+      prepared = subst (λ these. (preparing request start).Passes these (opened_in tree opened)) (sym parts) (tree, loaded, opens);
       outcome = told.outcome;
       within = told.within;
-      is_plan = told.is_plan ∙ ap (λ memories. saying (outcome_status told.outcome) (outcome_text opened.type.results memories request.steps told.outcome))
-          (sym (ap (λ t. (first_store t opened.start).memories) (here ∙ same) ∙ no_memories opened.start.patches));
+      is_plan = told.is_plan ∙ ap (λ memories. saying (outcome_status told.outcome) (outcome_text opened.kind.now.results memories request.steps told.outcome))
+          (sym (ap (λ t. (first_store t opened.start).memories) same ∙ no_memories opened.start.patches));
     }

@@ -8,7 +8,7 @@ use Rattle.bl_outside.specs.Shelf.{ReadFails, WriteFails}
 use Rattle.bl_app.specs.Causes.{IsDone, IsKeepFault, IsReadFault, IsRefused, NoFault}
 use Rattle.bl_app.specs.Ends.{Delivers, Ends, PlanFor, all_kept, as_planned, done, no_memory, no_memory_to_keep, not_kept, not_read, refused, usage}
 use Rattle.bl_app.specs.Jobs.{IsLawful, Job, Plan, ReadsName, saying}
-use Rattle.bl_app.specs.Refusals.{Refusal, malformed, invalid_function, invalid_module, unsupported, limit, not_an_image, broken_rule, no_export, bad_line, few_arguments}
+use Rattle.bl_app.specs.Refusals.{Refusal, malformed}
 use Rattle.bl_app.specs.Status.{Kind, kind_of, of_deed, of_memory, of_read_fault, of_refusal, of_usage, of_write_fault, status_of}
 use Rattle.bl_app.specs.Texts.{read_fault_text, refusal_text, usage_text, write_fault_text}
 use Rattle.bl_app.specs.Worlds.{Said, Whole, World, cut, took, whole, with_files}
@@ -16,16 +16,7 @@ use Rattle.bl_app.specs.declared.status.Status.{Status}
 use Rattle.bl_app.specs.declared.status.Status.TheVariants.{Memory, ReadFault, Usage, WriteFault}
 
 pub kind_of_refusal : (refusal : Refusal) → kind_of (status_of refusal) ≡ of_refusal
-kind_of_refusal (malformed name) = refl
-kind_of_refusal (invalid_function name index) = refl
-kind_of_refusal (invalid_module name) = refl
-kind_of_refusal (unsupported name) = refl
-kind_of_refusal (limit which value) = refl
-kind_of_refusal not_an_image = refl
-kind_of_refusal (broken_rule rule position) = refl
-kind_of_refusal no_export = refl
-kind_of_refusal (bad_line number) = refl
-kind_of_refusal (few_arguments count) = refl
+kind_of_refusal refusal = elim refusal as (λ r. kind_of (status_of r) ≡ of_refusal) [ malformed name ↦ refl | _ ↦ refl ]
 
 -- an entry's name is one of the names
 name_kept : (keeps : List (List ℕ × List ℕ)) (before : ℕ) (keep : List ℕ × List ℕ) → slice_get keeps before ≡ Some keep → Contains (map (λ each. each.0) keeps) keep.0

@@ -1,15 +1,17 @@
 -- How the words of a command are taken apart, and what those of a request say of its files.
 use Rattle.std.proofs.Common.{◌≡◌, ◌∙◌, ap, sym, ℕ, Bool, true, false, cond, List, [], ◌∷◌, ◌++◌, drop, Option, Some, None, refl, subst}
-use Rattle.std.specs.Prelude.{⊤, Decides, codes, option_and_then}
+use Rattle.std.specs.Prelude.{⊤, Decides, IfSome, codes, option_and_then}
 use Rattle.std.specs.Option.{option_map}
 use Rattle.std.specs.Str.{bytes_eq}
 use Rattle.std.proofs.lemmas.Bool.{cond-false, eqb-true, false_from_ne_true}
 use Rattle.std.proofs.lemmas.Bool.Decides.{not_from_Decides}
 use Rattle.std.proofs.lemmas.List.{take-append-drop}
 use Rattle.std.proofs.lemmas.Slice.Eq.{bytes_eq-Decides}
-use Rattle.bl_app.specs.Requests.{HardenRequest, InterpRequest, Parts, harden, interp, request_of, parts_of, parts_behind_steps, steps_of, harden_of, harden_request, interp_of, interp_request, RunRequest, run, run_of, run_request}
+use Rattle.bl_app.specs.Requests.{HardenRequest, Parts, Request, command_named, harden, harden_of, interp, interp_of, lower, lower_of, parts_behind_steps, parts_of, request_by, request_of, run, run_of, spec, spec_of, steps_of}
 use Rattle.bl_app.specs.Requests.{BeginsWithDash, IsOption, IsTakenApart, no_words, options_end, argument, value_in_next_word, value_in_same_word}
 use Rattle.bl_app.specs.Requests.{begins_with_dash, is_option, is_steps_value, with_argument, with_steps}
+use Rattle.bl_app.specs.declared.words.Command.{Command}
+use Rattle.bl_app.specs.declared.words.Command.TheVariants.{Harden, Interp, Lower, Run, Spec}
 
 -- the tests of a word say what they are named for
 begins : (word : List ℕ) → begins_with_dash word ≡ true → BeginsWithDash word
@@ -104,59 +106,57 @@ parts_found _ _ _ (value_in_next_word value words arguments values plain apart) 
 parts_found _ _ _ (value_in_same_word value words arguments values apart) =
     ap (option_map (with_steps value)) (parts_found words arguments values apart)
 
--- a request keeps two files
-some_request : (b : Bool) (r s : HardenRequest) → cond b None (Some (harden r)) ≡ Some (harden s) → (b ≡ false) × (r ≡ s)
-some_request true r s e = cc
-some_request false r s e = (refl, cc)
+-- the files that a `harden` keeps differ
+abbrev KeepsApart : Request → Type 0
+KeepsApart (harden request) = bytes_eq request.image request.certificate ≡ false
+KeepsApart (lower request) = Unit {0}
+KeepsApart (interp request) = Unit {0}
+KeepsApart (run request) = Unit {0}
+KeepsApart (spec request) = Unit {0}
 
-two_files : (arguments values : List (List ℕ)) (request : HardenRequest) → harden_of arguments values ≡ Some (harden request) → bytes_eq request.image request.certificate ≡ false
-two_files (image ∷ certificate ∷ wasm ∷ []) [] request e =
-    let made : HardenRequest = record { image = image; certificate = certificate; modules = wasm ∷ [] } in
-    let passed = some_request (bytes_eq image certificate) made request e in
-    subst (λ r. bytes_eq r.image r.certificate ≡ false) passed.1 passed.0
-two_files _ _ request e = cc
+apart_then : {A : Type 0} (ask : A → Option Request) (found : Option A) → ((a : A) → IfSome (ask a) KeepsApart) → IfSome (option_and_then ask found) KeepsApart
+apart_then ask None h = tt
+apart_then ask (Some a) h = h a
 
--- an `interp` is no `harden`, nor is a `run`
-of_steps : (made : ℕ → InterpRequest) (steps : Option ℕ) (request : HardenRequest) → option_map (λ n. interp (made n)) steps ≡ Some (harden request) → ⊥
-of_steps made None request e = cc
-of_steps made (Some steps) request e = cc
+apart_steps : (made : ℕ → Request) (steps : Option ℕ) → ((n : ℕ) → KeepsApart (made n)) → IfSome (option_map made steps) KeepsApart
+apart_steps made None h = tt
+apart_steps made (Some n) h = h n
 
-no_files : (arguments values : List (List ℕ)) (request : HardenRequest) → interp_of arguments values ≡ Some (harden request) → ⊥
-no_files (export ∷ start ∷ wasm ∷ []) values request e =
-    of_steps (λ n. record { export = export; start = start; modules = wasm ∷ []; steps = n }) (steps_of values) request e
-no_files _ values request e = cc
+two_files : (made : HardenRequest) (same : Bool) → bytes_eq made.image made.certificate ≡ same → IfSome (cond same None (Some (harden made))) KeepsApart
+two_files made true is = tt
+two_files made false is = is
 
-of_harden : (found : Option Parts) (request : HardenRequest) → option_and_then harden_request found ≡ Some (harden request) → bytes_eq request.image request.certificate ≡ false
-of_harden None request e = cc
-of_harden (Some parts) request e = two_files parts.arguments parts.steps_values request e
+harden_apart : (arguments values : List (List ℕ)) → IfSome (harden_of arguments values) KeepsApart
+harden_apart (image ∷ certificate ∷ wasm ∷ []) [] = two_files (record { image = image; certificate = certificate; modules = wasm ∷ [] }) (bytes_eq image certificate) refl
+harden_apart _ _ = tt
 
-of_interp : (found : Option Parts) (request : HardenRequest) → option_and_then interp_request found ≡ Some (harden request) → ⊥
-of_interp None request e = cc
-of_interp (Some parts) request e = no_files parts.arguments parts.steps_values request e
+lower_apart : (arguments values : List (List ℕ)) → IfSome (lower_of arguments values) KeepsApart
+lower_apart (image ∷ wasm ∷ []) [] = tt
+lower_apart _ _ = tt
 
-of_image : (made : ℕ → RunRequest) (steps : Option ℕ) (request : HardenRequest) → option_map (λ n. run (made n)) steps ≡ Some (harden request) → ⊥
-of_image made None request e = cc
-of_image made (Some steps) request e = cc
+interp_apart : (arguments values : List (List ℕ)) → IfSome (interp_of arguments values) KeepsApart
+interp_apart (export ∷ start ∷ wasm ∷ []) values = apart_steps _ (steps_of values) (λ n. tt)
+interp_apart _ values = tt
 
-no_modules : (arguments values : List (List ℕ)) (request : HardenRequest) → run_of arguments values ≡ Some (harden request) → ⊥
-no_modules (image ∷ export ∷ start ∷ []) values request e =
-    of_image (λ n. record { image = image; export = export; start = start; steps = n }) (steps_of values) request e
-no_modules _ values request e = cc
+run_apart : (arguments values : List (List ℕ)) → IfSome (run_of arguments values) KeepsApart
+run_apart (image ∷ export ∷ start ∷ []) values = apart_steps _ (steps_of values) (λ n. tt)
+run_apart _ values = tt
 
-of_run : (found : Option Parts) (request : HardenRequest) → option_and_then run_request found ≡ Some (harden request) → ⊥
-of_run None request e = cc
-of_run (Some parts) request e = no_modules parts.arguments parts.steps_values request e
+spec_apart : (arguments values : List (List ℕ)) → IfSome (spec_of arguments values) KeepsApart
+spec_apart (image ∷ export ∷ trace ∷ start ∷ []) [] = tt
+spec_apart _ _ = tt
 
-of_command : (is_harden is_interp is_run : Bool) (found : Option Parts) (request : HardenRequest) →
-    cond is_harden (option_and_then harden_request found) (cond is_interp (option_and_then interp_request found)
-    (cond is_run (option_and_then run_request found) None)) ≡ Some (harden request) →
-    bytes_eq request.image request.certificate ≡ false
-of_command true is_interp is_run found request e = of_harden found request e
-of_command false true is_run found request e = absurd (of_interp found request e)
-of_command false false true found request e = absurd (of_run found request e)
-of_command false false false found request e = cc
+request_apart : (command : Command) (parts : Parts) → IfSome (request_by command parts) KeepsApart
+request_apart Harden parts = harden_apart parts.arguments parts.steps_values
+request_apart Lower parts = lower_apart parts.arguments parts.steps_values
+request_apart Interp parts = interp_apart parts.arguments parts.steps_values
+request_apart Run parts = run_apart parts.arguments parts.steps_values
+request_apart Spec parts = spec_apart parts.arguments parts.steps_values
+
+words_apart : (words : List (List ℕ)) → IfSome (request_of words) KeepsApart
+words_apart (program ∷ word ∷ words) =
+    apart_then (λ command. option_and_then (request_by command) (parts_of words)) (command_named word) (λ command. apart_then (request_by command) (parts_of words) (request_apart command))
+words_apart _ = tt
 
 pub request_differs : (words : List (List ℕ)) (request : HardenRequest) → request_of words ≡ Some (harden request) → bytes_eq request.image request.certificate ≡ false
-request_differs (program ∷ command ∷ words) request e =
-    of_command (bytes_eq command (codes "harden")) (bytes_eq command (codes "interp")) (bytes_eq command (codes "run")) (parts_of words) request e
-request_differs _ request e = cc
+request_differs words request e = subst (λ asked. IfSome asked KeepsApart) e (words_apart words)

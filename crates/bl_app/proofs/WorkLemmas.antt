@@ -1,29 +1,7 @@
--- The work of each command, by its stages.
-use Rattle.std.proofs.Common.{◌≡◌, ℕ, ◌<◌, ◌≤◌, List, [], ◌∷◌, length, get_or, refl, ap, sym, ◌∙◌, subst, arith}
-use Rattle.std.specs.Prelude.{Ok, Err, Vec, string_bytes}
+-- The contents of one file, and of two.
+use Rattle.std.proofs.Common.{◌≡◌, ℕ, ◌<◌, ◌≤◌, List, [], ◌∷◌, length, get_or, ap, sym, arith}
+use Rattle.std.specs.Prelude.{Vec}
 use Rattle.std.specs.declared.alloc.Global.{Global}
-use Rattle.bl_link.specs.Alone.{alone}
-use Rattle.bl_wasm.specs.declared.linked.Tree.{Tree}
-use Rattle.bl_wasm.specs.declared.module.Module.{Module}
-use Rattle.bl_app.specs.Form.{IsForm, StandsAlone}
-use Rattle.bl_app.specs.Hardening.{HardenDoes, harden_job}
-use Rattle.bl_app.specs.Interpreting.{InterpDoes, interp_job, preparing}
-use Rattle.bl_app.specs.Loading.{Named, Part, loading, parts_of}
-use Rattle.bl_app.specs.Refusals.{Refusal}
-use Rattle.bl_app.specs.Requests.{HardenRequest, InterpRequest}
-use Rattle.bl_app.specs.Running.{opening}
-use Rattle.bl_app.specs.Texts.{empty_certificate}
-use Rattle.bl_app.specs.Working.{IsHardened, IsProgram, IsStaged, IsTold, IsWork, of_module, opened_in, plan_in, refusal_in}
-use Rattle.bl_app.specs.declared.harden.Hardened.{Hardened}
-use Rattle.bl_app.specs.declared.interp.Opening.{Opening}
-use Rattle.bl_app.specs.declared.job.Plan.{Plan as PlanMade}
-use Rattle.bl_app.specs.declared.refusal.WorkError.{WorkError}
-use Rattle.bl_app.specs.declared.refusal.WorkError.TheVariants as error
-use Rattle.bl_app.specs.declared.status.Status.TheVariants.{Done}
-use Rattle.bl_app.proofs.LoadingLemmas.{one_refused}
-use Rattle.bl_app.proofs.StartLemmas.{has_run, module_refused, start_not_opened}
-
--- ---- the contents
 
 pub one_content : (contents : List (Vec ℕ Global)) (item : Vec ℕ Global) → 1 ≤ length contents → length contents < 2 → item ≡ get_or contents 0 item → contents ≡ item ∷ []
 one_content [] item low high is = absurd (omega (arith, low))
@@ -36,55 +14,3 @@ two_contents [] first second low high is these = absurd (omega (arith, low))
 two_contents (x ∷ []) first second low high is these = absurd (omega (arith, low))
 two_contents (x ∷ y ∷ []) first second low high is these = λ i. sym is i ∷ (sym these i ∷ [])
 two_contents (x ∷ y ∷ z ∷ contents) first second low high is these = absurd (omega (arith, high))
-
--- ---- `harden`
-
--- a module that is refused is not hardened
-pub not_hardened : (part : Part) (value : Module → Named) (e : WorkError) → IsStaged (of_module IsForm) value part (Err e) → IsHardened part (Err e)
-not_hardened part value (error.Refused refusal) r = one_refused IsForm part _ r
-not_hardened part value error.Memory r = tt
-
-module _ (request : HardenRequest) (contents : List (List ℕ)) (part : Part) (parts : parts_of request.modules contents ≡ part ∷ []) where
-  -- what is done with a module that is hardened
-  pub harden_done : (hardened : Hardened) (plan : PlanMade) → IsProgram part hardened
-      → plan_in plan ≡ record { status = Done; keeps = (request.certificate, empty_certificate) ∷ (request.image, hardened.image.items) ∷ []; text = string_bytes hardened.report }
-      → HardenDoes request contents (plan_in plan)
-  harden_done hardened plan p made = record {
-    tree = p.tree;
-    loaded = subst (λ these. (loading IsForm).Passes these p.tree) (sym parts) p.loaded;
-    is_plan = made ∙ (λ i. record { status = Done; keeps = (request.certificate, empty_certificate) ∷ (request.image, p.is_image i) ∷ []; text = p.is_report i });
-  }
-
-  -- what is not
-  pub harden_not_done : (e : WorkError) → IsHardened part (Err e) → IsWork (harden_job request) contents (Err e)
-  harden_not_done (error.Refused refusal) r = subst (λ these. (loading IsForm).Refuses these (refusal_in refusal)) (sym parts) r
-  harden_not_done error.Memory r = tt
-
--- ---- `interp`
-
-module _ (request : InterpRequest) (start name bytes : List ℕ) (contents : List (List ℕ)) (shape : contents ≡ start ∷ bytes ∷ []) where
-  abbrev only : Part
-  only = record { name = name; bytes = bytes }
-
-  module _ (parts : parts_of request.modules (bytes ∷ []) ≡ only ∷ []) where
-    -- a refusal of the stages is one of the job
-    refused_so : (refusal : Refusal) → (preparing request start).Refuses (only ∷ []) refusal → (interp_job request).Against contents refusal
-    refused_so refusal r =
-        subst (λ these. (interp_job request).Against these refusal) (sym shape) (subst (λ these. (preparing request start).Refuses these refusal) (sym parts) r)
-
-    -- a module that is refused
-    pub not_run : (e : WorkError) → IsStaged (of_module StandsAlone) (λ tree. record { name = name; tree = tree }) only (Err e) → IsWork (interp_job request) contents (Err e)
-    not_run (error.Refused refusal) r = refused_so (refusal_in refusal) (module_refused request name start bytes (refusal_in refusal) r)
-    not_run error.Memory r = tt
-
-    module _ (wasm : Module) (tree : Tree) (passed : (of_module StandsAlone).Passes only (record { name = name; tree = wasm })) (same : tree ≡ alone name wasm) where
-      -- an export or a start that is refused
-      pub not_opened : (e : WorkError) → IsStaged (opening request.export start) (opened_in tree) tree (Err e) → IsWork (interp_job request) contents (Err e)
-      not_opened (error.Refused refusal) r = refused_so (refusal_in refusal) (start_not_opened request name start bytes wasm tree passed same (refusal_in refusal) r)
-      not_opened error.Memory r = tt
-
-      -- what was run
-      pub was_run : (opened : Opening) (plan : PlanMade) → (opening request.export start).Passes tree (opened_in tree opened) → IsTold (opened_in tree opened) request.steps plan
-          → InterpDoes request contents (plan_in plan)
-      was_run opened plan opens told =
-          subst (λ these. InterpDoes request these (plan_in plan)) (sym shape) (has_run request name start bytes wasm tree passed same (bytes ∷ []) (opened_in tree opened) plan parts refl opens told)

@@ -4,9 +4,8 @@ use Rattle.bl_base.specs.Runs.{IsWithin, Outcome}
 use Rattle.bl_base.specs.declared.quantity.Quantity.TheVariants as quantity
 use Rattle.bl_reduce.specs.Outcomes.{first_store, source}
 use Rattle.bl_app.specs.Form.{StandsAlone}
-use Rattle.bl_app.specs.Hardening.{module_read}
 use Rattle.bl_app.specs.Jobs.{AreRead, Job, Plan, Read, saying}
-use Rattle.bl_app.specs.Loading.{Part, loading, parts_of}
+use Rattle.bl_app.specs.Loading.{Part, loading, module_read, parts_of}
 use Rattle.bl_app.specs.Outcomes.{outcome_status, outcome_text}
 use Rattle.bl_app.specs.Refusals.{Refusal}
 use Rattle.bl_app.specs.Requests.{InterpRequest}

@@ -3,6 +3,7 @@
 use Rattle.std.specs.Prelude.{◌≡◌, ℕ, List, [], ◌∷◌, map, Option, Some, None, Result, Ok, Err}
 use Rattle.std.specs.List.{zip}
 use Rattle.bl_base.specs.declared.quantity.Quantity.{Quantity}
+use Rattle.bl_base.specs.declared.quantity.Quantity.TheVariants as quantity
 use Rattle.bl_wasm.specs.Modules.{Spells}
 use Rattle.bl_wasm.specs.Validity.{Typed}
 use Rattle.bl_wasm.specs.declared.linked.Tree.{Tree}
@@ -13,6 +14,7 @@ use Rattle.bl_validate.specs.Verdicts.{IsReason}
 use Rattle.bl_validate.specs.declared.verdict.Invalid.{Invalid}
 use Rattle.bl_validate.specs.declared.verdict.Invalid.TheVariants as reason
 use Rattle.bl_link.specs.Alone.{alone}
+use Rattle.bl_app.specs.Jobs.{Read}
 use Rattle.bl_app.specs.Refusals.{Refusal, malformed, invalid_function, invalid_module, unsupported, limit}
 use Rattle.bl_app.specs.Requests.{module_name}
 use Rattle.bl_app.specs.Stages.{Stage, chain, each}
@@ -30,6 +32,10 @@ parts_of words contents = map (λ each. record { name = module_name each.0; byte
 pub record Named : Type 0 where
   pub name : List ℕ
   pub tree : Module
+
+-- the file of a module
+abbrev pub module_read : List ℕ → Read
+module_read word = record { name = word; quantity = quantity.Module }
 
 -- ---- the stages of one module
 

@@ -19,6 +19,8 @@ pub data Refusal : Type 0 where
   broken_rule : (rule position : ℕ) → Refusal
   -- no function is exported under the name
   no_export : Refusal
+  -- a line of the trace file is no directive
+  bad_directive : (number : ℕ) → Refusal
   -- a line of the start file is bad
   bad_line : (number : ℕ) → Refusal
   -- the start file has too few arguments

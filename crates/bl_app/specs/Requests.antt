@@ -4,11 +4,18 @@ use Rattle.std.specs.List.{after_last}
 use Rattle.std.specs.Option.{option_map}
 use Rattle.std.specs.Str.{bytes_eq}
 use Rattle.bl_trace.specs.Digits.{decimal_below}
+use Rattle.bl_app.specs.declared.words.Command.{Command}
+use Rattle.bl_app.specs.declared.words.Command.TheVariants.{Harden, Interp, Lower, Run, Spec}
 
 -- `harden`: the files that are written, and the modules that are read
 pub record HardenRequest : Type 0 where
   pub image : List ℕ
   pub certificate : List ℕ
+  pub modules : List (List ℕ)
+
+-- `lower`: the file that is written, and the modules that are read
+pub record LowerRequest : Type 0 where
+  pub image : List ℕ
   pub modules : List (List ℕ)
 
 -- `interp`: the name of an exported function, the start file and the modules that are read, and the most steps
@@ -25,11 +32,20 @@ pub record RunRequest : Type 0 where
   pub start : List ℕ
   pub steps : ℕ
 
+-- `spec`: the image that is read, the name of an exported function, and the trace file and the start file that are read
+pub record SpecRequest : Type 0 where
+  pub image : List ℕ
+  pub export : List ℕ
+  pub trace : List ℕ
+  pub start : List ℕ
+
 -- what a call is asked for
 pub data Request : Type 0 where
   harden : HardenRequest → Request
+  lower : LowerRequest → Request
   interp : InterpRequest → Request
   run : RunRequest → Request
+  spec : SpecRequest → Request
 
 -- a word that begins with `-`
 pub record BeginsWithDash (word : List ℕ) : Type 0 where
@@ -121,6 +137,14 @@ harden_of arguments values = None
 abbrev pub harden_request : Parts → Option Request
 harden_request parts = harden_of parts.arguments parts.steps_values
 
+-- what `lower` asks for: an image, and one module
+abbrev pub lower_of : List (List ℕ) → List (List ℕ) → Option Request
+lower_of (image ∷ wasm ∷ []) [] = Some (lower (record { image = image; modules = wasm ∷ [] }))
+lower_of arguments values = None
+
+abbrev pub lower_request : Parts → Option Request
+lower_request parts = lower_of parts.arguments parts.steps_values
+
 -- what `interp` asks for: an export, a start file and one module, and the most steps
 abbrev pub interp_of : List (List ℕ) → List (List ℕ) → Option Request
 interp_of (export ∷ start ∷ wasm ∷ []) values =
@@ -139,13 +163,35 @@ run_of arguments values = None
 abbrev pub run_request : Parts → Option Request
 run_request parts = run_of parts.arguments parts.steps_values
 
+-- what `spec` asks for: an image, an export, a trace file and a start file
+abbrev pub spec_of : List (List ℕ) → List (List ℕ) → Option Request
+spec_of (image ∷ export ∷ trace ∷ start ∷ []) [] = Some (spec (record { image = image; export = export; trace = trace; start = start }))
+spec_of arguments values = None
+
+abbrev pub spec_request : Parts → Option Request
+spec_request parts = spec_of parts.arguments parts.steps_values
+
+-- the command that a word names
+abbrev pub command_named : List ℕ → Option Command
+command_named word =
+    (if bytes_eq word (codes "harden") then Some Harden
+    else if bytes_eq word (codes "lower") then Some Lower
+    else if bytes_eq word (codes "interp") then Some Interp
+    else if bytes_eq word (codes "run") then Some Run
+    else if bytes_eq word (codes "spec") then Some Spec
+    else None)
+
+-- what a command asks for with these parts
+abbrev pub request_by : Command → Parts → Option Request
+request_by Harden parts = harden_request parts
+request_by Lower parts = lower_request parts
+request_by Interp parts = interp_request parts
+request_by Run parts = run_request parts
+request_by Spec parts = spec_request parts
+
 -- the request of all words, the program's own name first, and then the command
 abbrev pub request_of : List (List ℕ) → Option Request
-request_of (program ∷ command ∷ words) =
-    (if bytes_eq command (codes "harden") then option_and_then harden_request (parts_of words)
-    else if bytes_eq command (codes "interp") then option_and_then interp_request (parts_of words)
-    else if bytes_eq command (codes "run") then option_and_then run_request (parts_of words)
-    else None)
+request_of (program ∷ word ∷ words) = option_and_then (λ command. option_and_then (request_by command) (parts_of words)) (command_named word)
 request_of words = None
 
 -- a name without one final `.wasm`

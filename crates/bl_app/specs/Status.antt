@@ -1,8 +1,8 @@
 -- The exit statuses: their numbers, and what each says of a call.
 use Rattle.std.specs.Prelude.{◌≡◌, ℕ}
-use Rattle.bl_app.specs.Refusals.{Refusal, malformed, invalid_function, invalid_module, unsupported, limit, not_an_image, broken_rule, no_export, bad_line, few_arguments}
+use Rattle.bl_app.specs.Refusals.{Refusal, malformed, invalid_function, invalid_module, unsupported, limit, not_an_image, broken_rule, no_export, bad_directive, bad_line, few_arguments}
 use Rattle.bl_app.specs.declared.status.Status.{Status}
-use Rattle.bl_app.specs.declared.status.Status.TheVariants.{Done, Usage, ReadFault, WriteFault, Malformed, Invalid, Unsupported, Limit, Memory, Image, Start, Trapped, Spent}
+use Rattle.bl_app.specs.declared.status.Status.TheVariants.{Done, Usage, ReadFault, WriteFault, Malformed, Invalid, Unsupported, Limit, Memory, Image, Trace, Start, Trapped, Spent, Stuck}
 
 abbrev pub code_of : Status → ℕ
 code_of Done = 0
@@ -15,9 +15,11 @@ code_of Unsupported = 7
 code_of Limit = 8
 code_of Memory = 11
 code_of Image = 12
+code_of Trace = 14
 code_of Start = 15
 code_of Trapped = 16
 code_of Spent = 17
+code_of Stuck = 18
 
 -- the status of a refusal
 abbrev pub status_of : Refusal → Status
@@ -29,6 +31,7 @@ status_of (limit which value) = Limit
 status_of not_an_image = Image
 status_of (broken_rule rule position) = Image
 status_of no_export = Start
+status_of (bad_directive number) = Trace
 status_of (bad_line number) = Start
 status_of (few_arguments count) = Start
 
@@ -53,9 +56,11 @@ kind_of Unsupported = of_refusal
 kind_of Limit = of_refusal
 kind_of Memory = of_memory
 kind_of Image = of_refusal
+kind_of Trace = of_refusal
 kind_of Start = of_refusal
 kind_of Trapped = of_deed
 kind_of Spent = of_deed
+kind_of Stuck = of_deed
 
 -- the number is that of a status with that property
 pub record IsStatus (code : ℕ) (P : Status → Type 0) : Type 0 where

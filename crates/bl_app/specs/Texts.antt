@@ -1,22 +1,19 @@
 -- The texts that are printed and written. Every line ends with a line feed.
-use Rattle.std.specs.Prelude.{ℕ, Bool, true, false, List, [], ◌∷◌, ◌++◌, length, codes, count_by}
+use Rattle.std.specs.Prelude.{ℕ, Bool, List, [], ◌∷◌, ◌++◌, length, codes, count_by}
 use Rattle.std.specs.Fmt.{decimal}
+use Rattle.std.specs.Option.{is_some}
 use Rattle.bl_base.specs.Quantity.{word_of}
-use Rattle.bl_app.specs.Refusals.{Refusal, malformed, invalid_function, invalid_module, unsupported, limit, not_an_image, broken_rule, no_export, bad_line, few_arguments}
-use Rattle.bl_app.specs.declared.program.Command.{Command}
-use Rattle.bl_app.specs.declared.program.Command.TheVariants.{Set, Jump, Out, Ret, Trap}
-use Rattle.bl_app.specs.declared.program.Program.{Program}
+use Rattle.bl_cmd.specs.Sites.{mark_of}
+use Rattle.bl_cmd.specs.declared.command.Command.{Command}
+use Rattle.bl_cmd.specs.declared.definitions.ProgramParts.{ProgramParts as Program}
+use Rattle.bl_app.specs.Refusals.{Refusal, malformed, invalid_function, invalid_module, unsupported, limit, not_an_image, broken_rule, no_export, bad_directive, bad_line, few_arguments}
 
 abbrev pub line : List ℕ → List ℕ
 line text = text ++ 10 ∷ []
 
 -- a command that writes a variable whose value can be protected
-abbrev pub is_site : Command → Bool
-is_site (Set mark operator to a b) = true
-is_site (Out mark index value) = true
-is_site (Jump to) = false
-is_site Ret = false
-is_site (Trap kind) = false
+unfoldable pub is_site : Command → Bool
+is_site command = is_some (mark_of command)
 
 -- the number of sites of a program
 abbrev pub sites : Program → ℕ
@@ -30,6 +27,10 @@ report_text program =
     ++ line (codes "sites " ++ decimal (sites program))
     ++ line (codes "protects 0 weight 0")
     ++ line (codes "constant-time yes")
+
+-- the number of a program's commands
+abbrev pub commands_text : Program → List ℕ
+commands_text program = line (codes "commands " ++ decimal (length program.commands))
 
 -- the certificate without paths
 abbrev pub empty_certificate : List ℕ
@@ -48,6 +49,7 @@ refusal_text (limit which value) = line (codes "limit: " ++ word_of which ++ cod
 refusal_text not_an_image = line (codes "image: not an image")
 refusal_text (broken_rule rule position) = line (codes "image: rule " ++ decimal rule ++ codes " at " ++ decimal position)
 refusal_text no_export = line (codes "start: export")
+refusal_text (bad_directive number) = line (codes "trace: line " ++ decimal number)
 refusal_text (bad_line number) = line (codes "start: line " ++ decimal number)
 refusal_text (few_arguments count) = line (codes "start: arguments " ++ decimal count)
 

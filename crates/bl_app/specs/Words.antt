@@ -1,12 +1,14 @@
 -- The words of a call as the code keeps them.
 use Rattle.std.specs.Prelude.{map, [], ◌∷◌}
-use Rattle.bl_app.specs.Requests.{Request, HardenRequest, InterpRequest, RunRequest, Parts as PartsOf, harden, interp, run}
+use Rattle.bl_app.specs.Requests.{Request, HardenRequest, InterpRequest, LowerRequest, RunRequest, SpecRequest, Parts as PartsOf, harden, interp, lower, run, spec}
 use Rattle.bl_app.specs.declared.words.HardenWords.{HardenWords}
 use Rattle.bl_app.specs.declared.words.InterpWords.{InterpWords}
+use Rattle.bl_app.specs.declared.words.LowerWords.{LowerWords}
 use Rattle.bl_app.specs.declared.words.RunWords.{RunWords}
+use Rattle.bl_app.specs.declared.words.SpecWords.{SpecWords}
 use Rattle.bl_app.specs.declared.words.Parts.{Parts}
 use Rattle.bl_app.specs.declared.words.Request.{Request as RequestWords}
-use Rattle.bl_app.specs.declared.words.Request.TheVariants.{Harden, Interp, Run}
+use Rattle.bl_app.specs.declared.words.Request.TheVariants.{Harden, Interp, Lower, Run, Spec}
 
 -- the parts that borrowed words are
 abbrev pub parts_in : Parts → PartsOf
@@ -16,13 +18,21 @@ parts_in parts = record { arguments = map (λ word. word.now) parts.arguments.it
 abbrev pub harden_in : HardenWords → HardenRequest
 harden_in words = record { image = words.image.now; certificate = words.certificate.now; modules = words.wasm.now ∷ [] }
 
+abbrev pub lower_in : LowerWords → LowerRequest
+lower_in words = record { image = words.image.now; modules = words.wasm.now ∷ [] }
+
 abbrev pub interp_in : InterpWords → InterpRequest
 interp_in words = record { export = words.export.now; start = words.start.now; modules = words.wasm.now ∷ []; steps = words.steps }
 
 abbrev pub run_in : RunWords → RunRequest
 run_in words = record { image = words.image.now; export = words.export.now; start = words.start.now; steps = words.steps }
 
+abbrev pub spec_in : SpecWords → SpecRequest
+spec_in words = record { image = words.image.now; export = words.export.now; trace = words.trace.now; start = words.start.now }
+
 abbrev pub request_in : RequestWords → Request
 request_in (Harden words) = harden (harden_in words)
+request_in (Lower words) = lower (lower_in words)
 request_in (Interp words) = interp (interp_in words)
 request_in (Run words) = run (run_in words)
+request_in (Spec words) = spec (spec_in words)

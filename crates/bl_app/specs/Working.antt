@@ -1,8 +1,10 @@
 -- What the functions of the work answer.
-use Rattle.std.specs.Prelude.{◌≡◌, ℕ, List, [], ◌∷◌, map, Option, Result, Ok, Err, Vec, string_bytes}
+use Rattle.std.specs.Prelude.{◌≡◌, ◌≤◌, ℕ, length, List, [], ◌∷◌, map, Option, Result, Ok, Err, Vec}
 use Rattle.std.proofs.Common.{Bor}
 use Rattle.std.specs.declared.alloc.Global.{Global}
+use Rattle.bl_base.specs.Quantity.{limit_of}
 use Rattle.bl_base.specs.Runs.{Outcome}
+use Rattle.bl_base.specs.declared.quantity.Quantity.TheVariants as quantity
 use Rattle.bl_base.specs.declared.start.Start.{Start}
 use Rattle.bl_cmd.specs.declared.definitions.ProgramParts.{ProgramParts as Program}
 use Rattle.bl_image.specs.declared.error.ImageError.{ImageError}
@@ -14,33 +16,35 @@ use Rattle.bl_decode.specs.declared.error.DecodeError.{DecodeError}
 use Rattle.bl_decode.specs.declared.error.DecodeError.TheVariants as decode
 use Rattle.bl_validate.specs.declared.verdict.Invalid.{Invalid}
 use Rattle.bl_validate.specs.declared.verdict.Invalid.TheVariants as invalid
+use Rattle.bl_rob.specs.declared.directive.Directive.{Directive}
+use Rattle.bl_trace.specs.Lines.{lines_of}
+use Rattle.bl_trace.specs.Traces.{trace_of}
 use Rattle.bl_trace.specs.declared.error.StartError.{StartError}
 use Rattle.bl_trace.specs.declared.error.StartError.TheVariants as start
+use Rattle.bl_trace.specs.declared.error.TraceError.{TraceError}
+use Rattle.bl_trace.specs.declared.error.TraceError.TheVariants as trace
 use Rattle.bl_wasm.specs.declared.linked.Tree.{Tree}
-use Rattle.bl_wasm.specs.declared.module.Module.{Module}
+use Rattle.bl_app.specs.Building.{Built}
 use Rattle.bl_app.specs.Entering.{Entered, Entry}
 use Rattle.bl_app.specs.Executing.{HasPlainOutcome, plain_text}
-use Rattle.bl_app.specs.Form.{IsForm, StandsAlone}
-use Rattle.bl_app.specs.Image.{image_of}
+use Rattle.bl_app.specs.Form.{StandsAlone}
 use Rattle.bl_app.specs.Interpreting.{HasOutcome}
 use Rattle.bl_app.specs.Jobs.{AreRead, Job, Plan, Read, ReadsName, RefusesLength, saying}
-use Rattle.bl_app.specs.Loading.{Named, Part, decoding, loading, of_form, validation}
-use Rattle.bl_app.specs.Lowering.{low}
+use Rattle.bl_app.specs.Loading.{Named, Part, decoding, of_form, validation}
 use Rattle.bl_app.specs.Outcomes.{outcome_status, outcome_text}
-use Rattle.bl_app.specs.Refusals.{Refusal, malformed, invalid_function, invalid_module, unsupported, limit, not_an_image, broken_rule, no_export, bad_line, few_arguments}
+use Rattle.bl_app.specs.Refusals.{Refusal, malformed, invalid_function, invalid_module, unsupported, limit, not_an_image, broken_rule, no_export, bad_directive, bad_line, few_arguments}
 use Rattle.bl_app.specs.Running.{Opened}
+use Rattle.bl_app.specs.Speculating.{Speculated, TracingRefuses}
 use Rattle.bl_app.specs.Stages.{Stage, chain}
 use Rattle.bl_app.specs.Status.{status_of}
-use Rattle.bl_app.specs.Texts.{read_fault_text, refusal_text, report_text}
+use Rattle.bl_app.specs.Texts.{read_fault_text, refusal_text}
 use Rattle.bl_app.specs.Worlds.{Said, SaidIfRoom, SameShelf, Stream, Unchanged, World}
+use Rattle.bl_app.specs.declared.build.Built.{Built as BuiltMade}
 use Rattle.bl_app.specs.declared.entry.Entry.{Entry as EntryFound}
-use Rattle.bl_app.specs.declared.harden.Hardened.{Hardened}
 use Rattle.bl_app.specs.declared.interp.Opening.{Opening}
 use Rattle.bl_app.specs.declared.job.Keep.{Keep}
 use Rattle.bl_app.specs.declared.job.Plan.{Plan as PlanMade}
 use Rattle.bl_app.specs.declared.job.Read.{Read as ReadAsked}
-use Rattle.bl_app.specs.declared.module.Form.{Form}
-use Rattle.bl_app.specs.declared.module.Form.TheVariants.{Additions, Alone}
 use Rattle.bl_app.specs.declared.refusal.Refusal.{Refusal as RefusalTold}
 use Rattle.bl_app.specs.declared.refusal.Refusal.TheVariants as told
 use Rattle.bl_app.specs.declared.refusal.WorkError.{WorkError}
@@ -71,6 +75,7 @@ refusal_in (told.Limit which value) = limit which value
 refusal_in told.NotAnImage = not_an_image
 refusal_in (told.BrokenRule rule position) = broken_rule rule position
 refusal_in told.NoExport = no_export
+refusal_in (told.BadDirective number) = bad_directive number
 refusal_in (told.BadLine number) = bad_line number
 refusal_in (told.FewArguments count) = few_arguments count
 
@@ -115,14 +120,9 @@ IsWork job contents (Ok plan) = job.Does contents (plan_in plan)
 IsWork job contents (Err (error.Refused refusal)) = job.Against contents (refusal_in refusal)
 IsWork job contents (Err error.Memory) = Unit {0}
 
--- the modules of a form
-abbrev pub is_of : Form → Module → Type 0
-is_of Additions = IsForm
-is_of Alone = StandsAlone
-
 -- the stages of one module by itself
-abbrev pub of_module : (Module → Type 0) → Stage Part Named
-of_module Form = chain decoding (chain validation (of_form Form))
+abbrev pub of_module : Stage Part Named
+of_module = chain decoding (chain validation (of_form StandsAlone))
 
 -- an error of decoding a module of that name
 abbrev pub decoding_error : Bor (List ℕ) → DecodeError → WorkError
@@ -142,6 +142,11 @@ abbrev pub start_error : StartError → WorkError
 start_error (start.Line number) = error.Refused (told.BadLine number)
 start_error (start.Count count) = error.Refused (told.FewArguments count)
 start_error start.Memory = error.Memory
+
+-- an error of reading a trace file
+abbrev pub trace_error : TraceError → WorkError
+trace_error (trace.Line number) = error.Refused (told.BadDirective number)
+trace_error trace.Memory = error.Memory
 
 -- a function of a tree, its type and its start
 abbrev pub opened_in : Tree → Opening → Opened
@@ -173,14 +178,18 @@ pub record IsTold (opened : Opened) (steps : ℕ) (plan : PlanMade) : Type 0 whe
   pub within : HasOutcome opened steps outcome
   pub is_plan : plan_in plan ≡ saying (outcome_status outcome) (outcome_text opened.type.results [] steps outcome)
 
--- the image and the report of the program of a module of the form
-pub record IsProgram (part : Part) (hardened : Hardened) : Type 0 where
-  pub tree : Tree
-  pub loaded : (loading IsForm).Passes (part ∷ []) tree
-  pub is_image : hardened.image.items ≡ image_of (low tree)
-  pub is_report : string_bytes hardened.report ≡ report_text (low tree)
+-- a program and its image
+abbrev pub built_in : BuiltMade → Built
+built_in built = record { program = built.program; image = built.image.items }
 
-abbrev pub IsHardened : Part → Result Hardened WorkError → Type 0
-IsHardened part (Ok hardened) = IsProgram part hardened
-IsHardened part (Err (error.Refused refusal)) = (loading IsForm).Refuses (part ∷ []) (refusal_in refusal)
-IsHardened part (Err error.Memory) = Unit {0}
+-- ---- `spec`
+
+-- the directives of a trace file's bytes, or the refusal; nothing is said where there was no memory
+abbrev pub IsTraced : List ℕ → Result (List Directive) WorkError → Type 0
+IsTraced bytes (Ok directives) = (length (lines_of bytes) ≤ limit_of quantity.Directives) × (trace_of bytes ≡ Ok directives)
+IsTraced bytes (Err (error.Refused refusal)) = TracingRefuses bytes (refusal_in refusal)
+IsTraced bytes (Err error.Memory) = Unit {0}
+
+-- a function of a program, its start, and directives
+abbrev pub speculated_in : Entry → Start → List Directive → Speculated
+speculated_in entry start directives = record { entered = entered_in entry start; directives = directives }

@@ -8,8 +8,10 @@ ghost use Rattle.bl_app.specs.Working.{IsWork, contents_in, read_in};
 use crate::harden::{harden, harden_reads};
 use crate::interp::{interp_reads, interpret};
 use crate::job::{Plan, Read};
+use crate::lower::{lower, lower_reads};
 use crate::refusal::WorkError;
 use crate::run::{execute, run_reads};
+use crate::spec::{spec_reads, speculate};
 use crate::words::Request;
 use bl_base::NoMemory;
 use std::alloc::Global;
@@ -20,8 +22,10 @@ pub fn reads_of<'a>(alloc: Global, request: &Request<'a>) -> Result<Vec<Read<'a>
 {
     match request {
         Request::Harden(words) => harden_reads(alloc, words),
+        Request::Lower(words) => lower_reads(alloc, words),
         Request::Interp(words) => interp_reads(alloc, words),
         Request::Run(words) => run_reads(alloc, words),
+        Request::Spec(words) => spec_reads(alloc, words),
     }
 }
 
@@ -36,7 +40,9 @@ pub fn work<'a>(
 {
     match request {
         Request::Harden(words) => harden(alloc, words, contents),
+        Request::Lower(words) => lower(alloc, words, contents),
         Request::Interp(words) => interpret(alloc, words, contents),
         Request::Run(words) => execute(alloc, words, contents),
+        Request::Spec(words) => speculate(alloc, words, contents),
     }
 }

@@ -1,36 +1,22 @@
-//! `harden`: from modules' bytes to an image and a report.
-ghost use Rattle.std.specs.Prelude.{◌≡◌, ◌≤◌, ◌∷◌, [], None, IfOk, length, map, string_bytes};
-ghost use Rattle.bl_base.specs.Quantity.{limit_of};
-ghost use Rattle.bl_base.specs.declared.quantity.Quantity.TheVariants as quantity;
-ghost use Rattle.bl_app.specs.Hardening.{harden_job};
+//! `harden`: from modules' bytes to an image, a certificate and a report.
+ghost use Rattle.std.specs.Prelude.{◌≡◌, None, IfOk, map};
+ghost use Rattle.bl_app.specs.Hardening.{harden_job, harden_plan};
 ghost use Rattle.bl_app.specs.Jobs.{AreRead};
-ghost use Rattle.bl_app.specs.Texts.{empty_certificate};
 ghost use Rattle.bl_app.specs.Words.{harden_in};
-ghost use Rattle.bl_app.specs.Working.{IsHardened, IsWork, contents_in, plan_in, read_in};
+ghost use Rattle.bl_app.specs.Working.{IsWork, built_in, contents_in, plan_in, read_in};
 
-use crate::image::encode;
+use crate::build::{Built, compile};
 use crate::job::{Keep, Plan, Read};
-use crate::lower::lower;
-use crate::module::{Form, module_read, read_module};
+use crate::module::module_read;
 use crate::refusal::WorkError;
 use crate::report::report;
 use crate::status::Status;
-use crate::words::{HardenWords, module_name};
+use crate::words::HardenWords;
 use bl_base::NoMemory;
-use bl_link::link_alone;
 use std::alloc::Global;
 
 /// The text of the certificate without paths.
 const EMPTY_CERTIFICATE: &[u8] = b"{\"paths\":[],\"weight\":0}";
-
-/// What is written of modules.
-#[derive(Drop)]
-pub struct Hardened {
-    /// The image's bytes.
-    pub image: Vec<u8>,
-    /// The report's text.
-    pub report: String,
-}
 
 /// The files that `harden` reads.
 pub fn harden_reads<'a>(alloc: Global, words: &HardenWords<'a>) -> Result<Vec<Read<'a>>, NoMemory>
@@ -42,7 +28,7 @@ pub fn harden_reads<'a>(alloc: Global, words: &HardenWords<'a>) -> Result<Vec<Re
 }
 
 /// Keeping the certificate and then the image of a module's bytes, and printing the report; Refused exactly where the bytes are
-/// refused. Linear in the bytes.
+/// refused. Linear in the bytes and in the image. The module has no memory, so nothing is loaded, and no protect is needed.
 pub fn harden<'a>(
     alloc: Global,
     words: &HardenWords<'a>,
@@ -51,41 +37,21 @@ pub fn harden<'a>(
     requires { AreRead None (harden_job (harden_in words.now)).reads (contents_in contents.now) }
     ensures { IsWork (harden_job (harden_in words.now)) (contents_in contents.now) result }
 {
-    let [bytes] = contents else { unreachable!() };
-    match harden_module(alloc, module_name(words.wasm), bytes) {
-        Ok(hardened) => Ok(plan_of(alloc, words, hardened)?),
+    match compile(alloc, words.wasm, contents) {
+        Ok(built) => Ok(plan_of(alloc, words, built)?),
         Err(error) => Err(error),
     }
 }
 
-/// The image and the report of a module's bytes, under the module's name; Refused exactly where the bytes are refused.
-fn harden_module<'a>(alloc: Global, name: &'a str, bytes: &[u8]) -> Result<Hardened, WorkError<'a>>
-    requires { length bytes.now ≤ limit_of quantity.Module }
-    ensures { IsHardened (record { name = name.now; bytes = bytes.now }) result }
-{
-    let wasm = match read_module(alloc, Form::Additions, name, bytes) {
-        Ok(wasm) => wasm,
-        Err(error) => return Err(error),
-    };
-    let linked = link_alone(alloc, name, wasm)?;
-    let program = lower(alloc, &linked)?;
-    let image = encode(alloc, &program)?;
-    let report = report(alloc, &program)?;
-    Ok(Hardened { image, report })
-}
-
-/// The plan of an image and a report.
+/// The plan of a program and its image.
 fn plan_of<'a>(
     alloc: Global,
     words: &HardenWords<'a>,
-    hardened: Hardened,
+    built: Built,
 ) -> Result<Plan<'a>, NoMemory>
-    ensures { IfOk result (λ plan. plan_in plan ≡ record {
-      status = Status.Done;
-      keeps = (words.now.certificate.now, empty_certificate) ∷ (words.now.image.now, hardened.image.items) ∷ [];
-      text = string_bytes hardened.report;
-    }) }
+    ensures { IfOk result (λ plan. plan_in plan ≡ harden_plan (harden_in words.now) (built_in built)) }
 {
+    let text = report(alloc, &built.program)?;
     let certificate = EMPTY_CERTIFICATE.to_vec(alloc)?;
     let mut keeps = Vec::new(alloc);
     keeps.push(Keep {
@@ -94,11 +60,11 @@ fn plan_of<'a>(
     })?;
     keeps.push(Keep {
         name: words.image,
-        bytes: hardened.image,
+        bytes: built.image,
     })?;
     Ok(Plan {
         status: Status::Done,
         keeps,
-        text: hardened.report.into_bytes(),
+        text: text.into_bytes(),
     })
 }

@@ -1,5 +1,7 @@
 //! `interp`: from a start file's bytes and modules' to the text of the run's outcome.
-ghost use Rattle.std.specs.Prelude.{◌≡◌, ◌<◌, [], None, IfOk, length, map};
+ghost use Rattle.std.specs.Prelude.{◌≡◌, ◌<◌, ◌≤◌, ◌∷◌, [], None, IfOk, length, map};
+ghost use Rattle.bl_base.specs.Quantity.{limit_of};
+ghost use Rattle.bl_base.specs.declared.quantity.Quantity.TheVariants as quantity;
 ghost use Rattle.bl_wasm.specs.Linked.{IsLinked};
 ghost use Rattle.bl_reduce.specs.Outcomes.{IsStart};
 ghost use Rattle.bl_app.specs.Interpreting.{interp_job};
@@ -9,7 +11,7 @@ ghost use Rattle.bl_app.specs.Words.{interp_in};
 ghost use Rattle.bl_app.specs.Working.{IsStaged, IsTold, IsWork, contents_in, opened_in, read_in};
 
 use crate::job::{Plan, Read};
-use crate::module::{Form, module_read, read_module};
+use crate::module::{module_read, read_module};
 use crate::outcome::{outcome_status, outcome_text};
 use crate::refusal::{Refusal, WorkError};
 use crate::start::of_start;
@@ -58,8 +60,21 @@ pub fn interpret<'a>(
     let [start, bytes] = contents else {
         unreachable!()
     };
+    interpret_module(alloc, words, start, bytes)
+}
+
+/// The same, by the bytes of the start file and those of the module.
+fn interpret_module<'a>(
+    alloc: Global,
+    words: &InterpWords<'a>,
+    start: &[u8],
+    bytes: &[u8],
+) -> Result<Plan<'a>, WorkError<'a>>
+    requires { length bytes.now ≤ limit_of quantity.Module }
+    ensures { IsWork (interp_job (interp_in words.now)) (start.now ∷ bytes.now ∷ []) result }
+{
     let name = module_name(words.wasm);
-    let wasm = match read_module(alloc, Form::Alone, name, bytes) {
+    let wasm = match read_module(alloc, name, bytes) {
         Ok(wasm) => wasm,
         Err(error) => return Err(error),
     };

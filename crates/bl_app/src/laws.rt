@@ -1,16 +1,16 @@
 //! Laws of the definitions. Each function is its contract alone.
-ghost use Rattle.std.specs.Prelude.{◌≡◌, ◌↔◌, ◌⊎◌, ℕ, ◌^◌, ◌<◌, List as Listed, None, Some};
+ghost use Rattle.std.specs.Prelude.{◌≡◌, ◌↔◌, ◌⊎◌, ℕ, ◌*◌, List as Listed, [], ◌∷◌, None, Some};
 ghost use Rattle.bl_outside.specs.Shelf.{Files};
-ghost use Rattle.bl_leb.specs.Numbers.{IsUnsigned};
-ghost use Rattle.bl_leb.specs.Spellings.{IsShortest};
+ghost use Rattle.bl_lower.specs.Trees.{step_bound};
+ghost use Rattle.bl_app.specs.Building.{AreCompiled, Built};
 ghost use Rattle.bl_app.specs.Causes.{Causes, NoneRose};
 ghost use Rattle.bl_app.specs.Commands.{job_of};
 ghost use Rattle.bl_app.specs.Executing.{RunDoes};
-ghost use Rattle.bl_app.specs.Image.{leb};
 ghost use Rattle.bl_app.specs.Interpreting.{InterpDoes};
 ghost use Rattle.bl_app.specs.Jobs.{AreRead, FirstRefusal, IsLawful, Plan};
 ghost use Rattle.bl_app.specs.Refusals.{Refusal};
-ghost use Rattle.bl_app.specs.Requests.{InterpRequest, IsTakenApart, Request, RunRequest, parts_of};
+ghost use Rattle.bl_app.specs.Requests.{InterpRequest, IsTakenApart, Request, RunRequest, SpecRequest, parts_of};
+ghost use Rattle.bl_app.specs.Speculating.{SpecDoes};
 ghost use Rattle.bl_app.specs.Worlds.{World};
 ghost use Rattle.bl_app.specs.declared.status.Status.{Status};
 ghost use Rattle.bl_app.specs.declared.status.Status.TheVariants as status;
@@ -36,6 +36,20 @@ pub fn what_can_be_done_is_not_refused()
 pub fn one_run()
     ensures interp { (request : InterpRequest) (contents : Listed (Listed ℕ)) (p q : Plan) → InterpDoes request contents p → InterpDoes request contents q → p ≡ q }
     ensures run { (request : RunRequest) (contents : Listed (Listed ℕ)) (p q : Plan) → RunDoes request contents p → RunDoes request contents q → p ≡ q }
+    ensures spec { (request : SpecRequest) (contents : Listed (Listed ℕ)) (p q : Plan) → SpecDoes request contents p → SpecDoes request contents q → p ≡ q }
+{}
+
+/// An image runs as the modules do that it was made of: where `interp` tells a return or a trap within its steps, `run` tells
+/// the same of the image within k times as many, k being the most commands of one source step; and where `run` does, `interp`
+/// does within the same number of steps.
+pub fn images_run_as_their_modules()
+    ensures forward { (request : InterpRequest) (image_name start_name start : Listed ℕ) (contents : Listed (Listed ℕ)) (built : Built) (plan : Plan)
+        → (compiled : AreCompiled request.modules contents built) → InterpDoes request (start ∷ contents) plan → (plan.status ≡ status.Spent → ⊥)
+        → RunDoes (record { image = image_name; export = request.export; start = start_name; steps = step_bound compiled.tree * request.steps }) (built.image ∷ start ∷ []) plan }
+    ensures backward { (request : InterpRequest) (image_name start_name start : Listed ℕ) (contents : Listed (Listed ℕ)) (built : Built) (plan : Plan)
+        → AreCompiled request.modules contents built
+        → RunDoes (record { image = image_name; export = request.export; start = start_name; steps = request.steps }) (built.image ∷ start ∷ []) plan → (plan.status ≡ status.Spent → ⊥)
+        → InterpDoes request (start ∷ contents) plan }
 {}
 
 /// No status but that of want of memory can be the answer to all calls: where no count of faults rises, words that are no
@@ -43,11 +57,6 @@ pub fn one_run()
 pub fn no_status_answers_all()
     ensures without_request { (old new : World) (answer : Status) → Causes job_of None old new answer → NoneRose old new → (answer ≡ status.Usage) ⊎ (answer ≡ status.Memory) }
     ensures with_request { (request : Request) (old new : World) → Causes job_of (Some request) old new status.Usage → ⊥ }
-{}
-
-/// An image spells each number by its shortest spelling in LEB128.
-pub fn shortest_numbers()
-    ensures { (n : ℕ) → n < 2 ^ 64 → IsShortest (IsUnsigned 64) (leb n) n }
 {}
 
 /// The words behind a command have those parts exactly where the rules take them apart so.

@@ -1,37 +1,38 @@
 //! From a module's bytes to the valid module.
-ghost use Rattle.std.specs.Prelude.{◌≡◌, ◌↔◌, ◌≤◌, IsTrue, length};
+ghost use Rattle.std.specs.Prelude.{◌≡◌, ◌↔◌, ◌≤◌, IsTrue, codes, length};
 ghost use Rattle.bl_base.specs.Quantity.{limit_of};
-ghost use Rattle.bl_app.specs.Hardening.{module_read as read_of};
-ghost use Rattle.bl_app.specs.Working.{IsStaged, decoding_error, is_of, of_module, read_in, validation_error};
+ghost use Rattle.bl_app.specs.Form.{StandsAlone};
+ghost use Rattle.bl_app.specs.Loading.{module_read as read_of};
+ghost use Rattle.bl_app.specs.Working.{IsStaged, decoding_error, of_module, read_in, validation_error};
 
-use crate::form::{is_form, stands_alone};
 use crate::job::Read;
 use crate::refusal::{Refusal, WorkError};
 use bl_base::Quantity;
 use bl_decode::{DecodeError, decode};
 use bl_validate::{Invalid, ValidModule, validate};
-use bl_wasm::Module;
+use bl_wasm::{CustomSection, Module};
 use std::alloc::Global;
 
-/// The modules that a command takes.
-#[derive(Clone, Copy, Debug, PartialEq, Eq)]
-pub enum Form {
-    /// At most one function, of additions alone.
-    Additions,
-    /// A module that imports nothing, and has no table, no memory and no section of labels.
-    Alone,
+/// Whether a module is taken by itself: it imports nothing, and has no table, no memory and no section of labels.
+/// Linear in the custom sections.
+fn stands_alone(tree: &Module) -> bool
+    ensures { IsTrue result ↔ StandsAlone tree.now }
+{
+    tree.imports.is_empty()
+        && tree.tables.is_empty()
+        && tree.memories.is_empty()
+        && tree
+            .customs
+            .as_slice()
+            .iter()
+            .all(|custom| is_no_label_section(custom))
 }
 
-impl Form {
-    /// Whether a module is of the form.
-    fn holds(self, tree: &Module) -> bool
-        ensures { IsTrue result ↔ is_of self tree.now }
-    {
-        match self {
-            Form::Additions => is_form(tree),
-            Form::Alone => stands_alone(tree),
-        }
-    }
+/// Whether a custom section isn't that of labels.
+fn is_no_label_section(custom: &CustomSection) -> bool
+    ensures { IsTrue result ↔ (custom.now.name ≡ codes "blade.labels" → ⊥) }
+{
+    custom.name.as_slice() != b"blade.labels".as_slice()
 }
 
 /// The file of a module, of at most 4,194,304 bytes.
@@ -44,16 +45,15 @@ pub fn module_read(word: &str) -> Read<'_>
     }
 }
 
-/// The valid module of the form that the bytes spell; Refused exactly where the bytes are refused: they spell no module, or
-/// the module isn't supported, exceeds a limit, isn't valid or is of another form.
+/// The valid module that the bytes spell and that stands alone; Refused exactly where the bytes are refused: they spell no module, or
+/// the module isn't supported, exceeds a limit, isn't valid or doesn't stand alone.
 pub fn read_module<'a>(
     alloc: Global,
-    form: Form,
     name: &'a str,
     bytes: &[u8],
 ) -> Result<ValidModule, WorkError<'a>>
     requires { length bytes.now ≤ limit_of Quantity.Module }
-    ensures { IsStaged (of_module (is_of form)) (λ tree. record { name = name.now; tree = tree }) (record { name = name.now; bytes = bytes.now }) result }
+    ensures { IsStaged of_module (λ tree. record { name = name.now; tree = tree }) (record { name = name.now; bytes = bytes.now }) result }
 {
     let tree = match decode(alloc, bytes) {
         Ok(tree) => tree,
@@ -63,7 +63,7 @@ pub fn read_module<'a>(
         Ok(wasm) => wasm,
         Err((_, reason)) => return Err(of_validation(name, reason)),
     };
-    if form.holds(wasm.module()) {
+    if stands_alone(wasm.module()) {
         Ok(wasm)
     } else {
         Err(WorkError::Refused(Refusal::Unsupported(name)))

@@ -21,7 +21,7 @@ pub enum Refusal<'a> {
     InvalidFunction(&'a str, u32),
     /// Each function of a module has a typing, and the module breaks another rule.
     InvalidModule(&'a str),
-    /// A module has something that isn't supported, or it is outside the form.
+    /// A module has something that isn't supported, or it doesn't stand alone.
     Unsupported(&'a str),
     /// A file or a module is too large.
     Limit {
@@ -41,6 +41,8 @@ pub enum Refusal<'a> {
     },
     /// No function is exported under the name.
     NoExport,
+    /// A line of the trace file is no directive: the first one's number, from 1.
+    BadDirective(u64),
     /// A line of the start file is bad: the first one's number, from 1.
     BadLine(u64),
     /// The start file has too few arguments: how many there are.
@@ -77,6 +79,7 @@ impl<'a> Refusal<'a> {
             Refusal::Unsupported(_) => Status::Unsupported,
             Refusal::Limit { .. } => Status::Limit,
             Refusal::NotAnImage | Refusal::BrokenRule { .. } => Status::Image,
+            Refusal::BadDirective(_) => Status::Trace,
             Refusal::NoExport | Refusal::BadLine(_) | Refusal::FewArguments(_) => Status::Start,
         }
     }
@@ -94,6 +97,9 @@ impl<'a> Refusal<'a> {
             Refusal::NotAnImage => Ok(b"image: not an image\n".to_vec(alloc)?),
             Refusal::BrokenRule { rule, position } => rule_line(alloc, rule, position),
             Refusal::NoExport => Ok(b"start: export\n".to_vec(alloc)?),
+            Refusal::BadDirective(number) => Ok(format!(in alloc;
+                "trace: line {number}\n"
+            )?.into_bytes()),
             Refusal::BadLine(number) => Ok(format!(in alloc;
                 "start: line {number}\n"
             )?.into_bytes()),

@@ -17,7 +17,7 @@ pub enum Status {
     Malformed,
     /// A module has no typing.
     Invalid,
-    /// A module has something that isn't supported, or is outside the form.
+    /// A module has something that isn't supported, or doesn't stand alone.
     Unsupported,
     /// A quantity exceeds its number.
     Limit,
@@ -25,12 +25,16 @@ pub enum Status {
     Memory,
     /// The bytes are no image, or the image is not well-formed.
     Image,
+    /// A line of the trace file is no directive.
+    Trace,
     /// The export is absent, a line of the start file is bad, or there are too few arguments.
     Start,
     /// The run ended by a trap.
     Trapped,
     /// The run had not ended when its steps were spent.
     Spent,
+    /// A directive isn't enabled.
+    Stuck,
 }
 
 impl Status {
@@ -49,9 +53,11 @@ impl Status {
             Status::Limit => 8,
             Status::Memory => 11,
             Status::Image => 12,
+            Status::Trace => 14,
             Status::Start => 15,
             Status::Trapped => 16,
             Status::Spent => 17,
+            Status::Stuck => 18,
         }
     }
 }

@@ -6,7 +6,9 @@ ghost use Rattle.bl_app.specs.Ends.{Ends};
 ghost use Rattle.bl_app.specs.Executing.{Runs};
 ghost use Rattle.bl_app.specs.Hardening.{Hardens};
 ghost use Rattle.bl_app.specs.Interpreting.{Interprets};
-ghost use Rattle.bl_app.specs.Requests.{HardenRequest, InterpRequest, RunRequest, harden, interp, request_of, run as run_image};
+ghost use Rattle.bl_app.specs.Lowering.{Lowers};
+ghost use Rattle.bl_app.specs.Requests.{HardenRequest, InterpRequest, LowerRequest, RunRequest, SpecRequest, harden, interp, lower, request_of, run as run_image, spec};
+ghost use Rattle.bl_app.specs.Speculating.{Speculates};
 ghost use Rattle.bl_app.specs.Status.{IsStatus, kind_of, of_deed};
 ghost use Rattle.bl_app.specs.Words.{request_in};
 ghost use Rattle.bl_app.specs.Worlds.{world};
@@ -24,9 +26,10 @@ use std::alloc::Global;
 
 /// Runs the program on its words, the program's own name first, and answers its exit status: 0 done,
 /// 2 no request, 3 a file could not be read, 4 a file or the sink could not be written, 5 the module's bytes spell none, 6 it
-/// has no typing, 7 it has something that isn't supported or is outside the form, 8 a quantity exceeds its number, 11 memory
-/// ran out, 12 the bytes are no image or the image isn't well-formed, 15 the export is absent, a line of the start file is bad, or
-/// there are too few arguments, 16 the run trapped, 17 its steps were spent. All text goes to the sink.
+/// has no typing, 7 it has something that isn't supported or doesn't stand alone, 8 a quantity exceeds its number, 11 memory
+/// ran out, 12 the bytes are no image or the image isn't well-formed, 14 a line of the trace file is no directive, 15 the export is
+/// absent, a line of the start file is bad, or there are too few arguments, 16 the run trapped, 17 its steps were spent, 18 a
+/// directive isn't enabled. All text goes to the sink.
 pub fn blade<F: Shelf, O: Sink>(alloc: Global, words: &[String], files: &mut F, out: &mut O) -> u8
     // How the call ends, whatever fails.
     ensures ends { IsStatus result (Ends job_of (request_of (map string_bytes words.now))
@@ -40,12 +43,20 @@ pub fn blade<F: Shelf, O: Sink>(alloc: Global, words: &[String], files: &mut F, 
     ensures hardens { (request : HardenRequest) → request_of (map string_bytes words.now) ≡ Some (harden request) → result ≡ 0 → Hardens request
         (world F.files F.faults O.taken O.faults files.old out.old) (world F.files F.faults O.taken O.faults files.new out.new) }
 
+    // What status 0 says of `lower`: the same of its image.
+    ensures lowers { (request : LowerRequest) → request_of (map string_bytes words.now) ≡ Some (lower request) → result ≡ 0 → Lowers request
+        (world F.files F.faults O.taken O.faults files.old out.old) (world F.files F.faults O.taken O.faults files.new out.new) }
+
     // What statuses 0, 16 and 17 say of `interp`: the text is that of the modules' outcome within the steps.
     ensures interprets { (request : InterpRequest) → request_of (map string_bytes words.now) ≡ Some (interp request) → IsStatus result (λ status. kind_of status ≡ of_deed → Interprets request
         (world F.files F.faults O.taken O.faults files.old out.old) (world F.files F.faults O.taken O.faults files.new out.new) status) }
 
     // What statuses 0, 16 and 17 say of `run`: the text is that of the outcome of the image's program within the steps.
     ensures runs { (request : RunRequest) → request_of (map string_bytes words.now) ≡ Some (run_image request) → IsStatus result (λ status. kind_of status ≡ of_deed → Runs request
+        (world F.files F.faults O.taken O.faults files.old out.old) (world F.files F.faults O.taken O.faults files.new out.new) status) }
+
+    // What statuses 0 and 18 say of `spec`: the lines are those of what is observed of the directives.
+    ensures speculates { (request : SpecRequest) → request_of (map string_bytes words.now) ≡ Some (spec request) → IsStatus result (λ status. kind_of status ≡ of_deed → Speculates request
         (world F.files F.faults O.taken O.faults files.old out.old) (world F.files F.faults O.taken O.faults files.new out.new) status) }
 {
     run(alloc, words, files, out).code()

@@ -2,7 +2,7 @@
 ghost use Rattle.std.specs.Prelude.{◌≡◌, IfOk, map, nat_eq, string_bytes, if◌then◌else◌, drop};
 ghost use Rattle.std.specs.Option.{option_map};
 ghost use Rattle.std.specs.List.{after_last};
-ghost use Rattle.bl_app.specs.Requests.{parts_of, harden_request, interp_request, run_request, request_of, begins_with_dash as word_begins_with_dash, is_option, is_steps_value, number_of_steps, steps_of, module_name as module_name_of, without_ending as name_without_ending};
+ghost use Rattle.bl_app.specs.Requests.{parts_of, command_named, request_by, harden_request, interp_request, lower_request, run_request, spec_request, request_of, begins_with_dash as word_begins_with_dash, is_option, is_steps_value, number_of_steps, steps_of, module_name as module_name_of, without_ending as name_without_ending};
 ghost use Rattle.bl_app.specs.Words.{parts_in, request_in};
 
 use bl_base::NoMemory;
@@ -16,10 +16,14 @@ const DEFAULT_STEPS: u64 = 1_000_000;
 pub enum Request<'a> {
     /// To write the image and the certificate of a module.
     Harden(HardenWords<'a>),
+    /// To write the image of a module.
+    Lower(LowerWords<'a>),
     /// To run an exported function of a module.
     Interp(InterpWords<'a>),
     /// To run an exported function of an image.
     Run(RunWords<'a>),
+    /// To take directives of a trace file on an exported function of an image.
+    Spec(SpecWords<'a>),
 }
 
 /// The words of a `harden`.
@@ -29,6 +33,15 @@ pub struct HardenWords<'a> {
     pub image: &'a str,
     /// The file of the certificate, which is written.
     pub certificate: &'a str,
+    /// The file of the module, which is read.
+    pub wasm: &'a str,
+}
+
+/// The words of a `lower`.
+#[derive(Clone, Copy)]
+pub struct LowerWords<'a> {
+    /// The file of the image, which is written.
+    pub image: &'a str,
     /// The file of the module, which is read.
     pub wasm: &'a str,
 }
@@ -59,6 +72,34 @@ pub struct RunWords<'a> {
     pub steps: u64,
 }
 
+/// The words of a `spec`.
+#[derive(Clone, Copy)]
+pub struct SpecWords<'a> {
+    /// The file of the image, which is read.
+    pub image: &'a str,
+    /// The name of the exported function that is entered.
+    pub export: &'a str,
+    /// The trace file, which is read.
+    pub trace: &'a str,
+    /// The start file, which is read.
+    pub start: &'a str,
+}
+
+/// A command, by the word that names it.
+#[derive(Clone, Copy, Debug, PartialEq, Eq)]
+pub enum Command {
+    /// `harden`
+    Harden,
+    /// `lower`
+    Lower,
+    /// `interp`
+    Interp,
+    /// `run`
+    Run,
+    /// `spec`
+    Spec,
+}
+
 /// A command's words taken apart.
 #[derive(Drop)]
 struct Parts<'a> {
@@ -85,11 +126,36 @@ pub fn read_words(alloc: Global, words: &[String]) -> Result<Option<Request<'_>>
     let [_, command, words @ ..] = words else {
         return Ok(None);
     };
-    match command.as_str() {
-        "harden" => Ok(take_apart(alloc, words)?.and_then(|parts| harden_words(&parts))),
-        "interp" => Ok(take_apart(alloc, words)?.and_then(|parts| interp_words(&parts))),
-        "run" => Ok(take_apart(alloc, words)?.and_then(|parts| run_words(&parts))),
-        _ => Ok(None),
+    let Some(command) = command_named(command.as_str()) else {
+        return Ok(None);
+    };
+    Ok(take_apart(alloc, words)?.and_then(|parts| request_by(command, &parts)))
+}
+
+/// The command that a word names, spelled exactly.
+fn command_named(word: &str) -> Option<Command>
+    ensures { result ≡ command_named word.now }
+{
+    match word {
+        "harden" => Some(Command::Harden),
+        "lower" => Some(Command::Lower),
+        "interp" => Some(Command::Interp),
+        "run" => Some(Command::Run),
+        "spec" => Some(Command::Spec),
+        _ => None,
+    }
+}
+
+/// What a command asks for with these parts.
+fn request_by<'a>(command: Command, parts: &Parts<'a>) -> Option<Request<'a>>
+    ensures { option_map request_in result ≡ request_by command (parts_in parts.now) }
+{
+    match command {
+        Command::Harden => harden_words(parts),
+        Command::Lower => lower_words(parts),
+        Command::Interp => interp_words(parts),
+        Command::Run => run_words(parts),
+        Command::Spec => spec_words(parts),
     }
 }
 
@@ -144,6 +210,19 @@ fn harden_words<'a>(parts: &Parts<'a>) -> Option<Request<'a>>
     }
 }
 
+/// What `lower` asks for with these parts: two arguments, and no `--steps`.
+fn lower_words<'a>(parts: &Parts<'a>) -> Option<Request<'a>>
+    ensures { option_map request_in result ≡ lower_request (parts_in parts.now) }
+{
+    match (parts.arguments.as_slice(), parts.steps_values.as_slice()) {
+        ([image, wasm], []) => Some(Request::Lower(LowerWords {
+            image: *image,
+            wasm: *wasm,
+        })),
+        _ => None,
+    }
+}
+
 /// What `interp` asks for with these parts: three arguments, and at most one `--steps`.
 fn interp_words<'a>(parts: &Parts<'a>) -> Option<Request<'a>>
     ensures { option_map request_in result ≡ interp_request (parts_in parts.now) }
@@ -174,6 +253,21 @@ fn run_words<'a>(parts: &Parts<'a>) -> Option<Request<'a>>
         start: *start,
         steps,
     }))
+}
+
+/// What `spec` asks for with these parts: four arguments, and no `--steps`.
+fn spec_words<'a>(parts: &Parts<'a>) -> Option<Request<'a>>
+    ensures { option_map request_in result ≡ spec_request (parts_in parts.now) }
+{
+    match (parts.arguments.as_slice(), parts.steps_values.as_slice()) {
+        ([image, export, trace, start], []) => Some(Request::Spec(SpecWords {
+            image: *image,
+            export: *export,
+            trace: *trace,
+            start: *start,
+        })),
+        _ => None,
+    }
 }
 
 /// The most steps, by the values that `--steps` is given: at most one may stand.

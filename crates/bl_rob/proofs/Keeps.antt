@@ -356,10 +356,15 @@ module _ (Q : Program) (from : Plain) where
   pub kept_consistent : (s : State) → Kept s → IsConsistent Q from s
   kept_consistent s k = finish s k.config s.buffer (end_in s) k.inv.registers k.inv.space k.inv.tracks refl k.ran
 
+-- the opening is where the plain run begins
+pub opening_kept : (program : Program) (function : ℕ) (start : Start) → Kept program (plain_opening program function start) (opening program function start)
+opening_kept program function start =
+    let from = plain_opening program function start in
+    record { config = config_of from; inv = record { registers = refl; space = refl; tracks = refl }; ran = runs from refl refl }
+
 pub consistent : (most : ℕ) (program : Program) (function : ℕ) (start : Start) (directives : List Directive)
     → IsConsistent program (plain_opening program function start) (reached most program function start directives)
 consistent most program function start directives =
     let from = plain_opening program function start in
     kept_consistent program from (reached most program function start directives)
-    (all_kept program from most directives (opening program function start)
-    (record { config = config_of from; inv = record { registers = refl; space = refl; tracks = refl }; ran = runs from refl refl }))
+    (all_kept program from most directives (opening program function start) (opening_kept program function start))

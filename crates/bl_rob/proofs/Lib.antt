@@ -2,8 +2,11 @@ pub mod Beginning
 pub mod Entries
 pub mod Keeps
 pub mod Masks
+pub mod Observing
 pub mod Plainly
+pub mod Reaching
 pub mod Rooms
+pub mod Seeing
 pub mod Stepping
 pub mod Tracks
 pub mod Worked

@@ -114,10 +114,6 @@ module _ (most : ℕ) where
   steps_fit program old new d (Err NotEnabled) fits h = subst Fits (sym h.1) fits
   steps_fit program old new d (Err Memory) fits h = subst Fits (sym h.1) fits
 
-  pub executes_fit : (program : Program) (old new : State) (n : ℕ) (result : Option Observation) → Fits old → Executes program n old result new → Fits new
-  executes_fit program old new n None fits h = subst Fits (sym h.1) fits
-  executes_fit program old new n (Some observation) fits h = subst (Holds Fits) h (exec_fits program old n (slice_get old.buffer n) refl fits)
-
   -- what executing has come to, as a step
   pub executes : (program : Program) (old new : State) (n : ℕ) (result : Option Observation) (answer : Result Observation StepError) → Executes program n old result new
       → answer ≡ ok_or result NotEnabled → Steps most program (Exec n) old answer new

@@ -8,6 +8,7 @@ use Rattle.bl_cmd.specs.declared.command.Command.{Command}
 use Rattle.bl_cmd.specs.declared.definitions.ProgramParts.{ProgramParts as Program}
 use Rattle.bl_seq.specs.Filled.{register_at}
 use Rattle.bl_rob.specs.Machines.{State, Fetched, Straight, Branch, Nowhere, has_room, act, turned, exec_entry, directive_step, end_in, outcome_by}
+use Rattle.bl_rob.specs.Observed.{Observed}
 use Rattle.bl_rob.specs.declared.directive.Directive.{Directive}
 use Rattle.bl_rob.specs.declared.directive.Directive.TheVariants.{Fetch, Predict, Exec, Retire}
 use Rattle.bl_rob.specs.declared.directive.End.{End}
@@ -23,6 +24,7 @@ use Rattle.bl_rob.specs.declared.entry.Work.{Work}
 use Rattle.bl_rob.specs.declared.entry.Work.TheVariants.{Nop, Assign, Load, Held, Done, Store, Ready, Guard, Fail}
 use Rattle.bl_rob.specs.declared.front.Front.{Front}
 use Rattle.bl_rob.specs.declared.machine.Machine.{Machine}
+use Rattle.bl_rob.specs.declared.observe.Seen.{Seen}
 
 -- the state that a machine stands for
 abbrev pub shown : Machine → State
@@ -33,6 +35,10 @@ shown machine = record {
   space = machine.space;
   retired = machine.retired;
 }
+
+-- what is observed of directives
+abbrev pub seen_in : Seen → Observed
+seen_in seen = record { made = seen.made; refused = seen.refused }
 
 -- ---- steps
 

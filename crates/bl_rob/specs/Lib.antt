@@ -1,5 +1,7 @@
 pub mod Answers
 pub mod Effects
+pub mod LastWriters
 pub mod Machines
 pub mod Observed
+pub mod Reached
 pub mod Robs

@@ -9,9 +9,11 @@ mod fetch;
 mod front;
 pub mod laws;
 mod machine;
+mod observe;
 mod rob;
 mod steps;
 mod visible;
 
 pub use directive::{Directive, End, Kind, Observation, StepError};
+pub use observe::Seen;
 pub use rob::Rob;

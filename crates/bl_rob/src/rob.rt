@@ -27,13 +27,16 @@ pub struct Rob<'p, const W: usize> {
 impl<'p, const W: usize> Model for Rob<'p, W> {
     ghost use Rattle.std.specs.Prelude.{◌≤◌, length};
     ghost use Rattle.bl_seq.specs.Layouts.{IsLayout};
+    ghost use Rattle.bl_rob.specs.Answers.{shown};
+    ghost use Rattle.bl_rob.specs.Reached.{IsReached};
     ghost use Rattle.bl_rob.specs.Robs.{RobView};
 
     ghost Value = { RobView };
 
     ghost view = { λ rob. record { program = rob.layout.parts.now; machine = rob.machine } };
 
-    ghost invariant = { λ rob. IsLayout rob.layout × (length rob.machine.entries.items ≤ W) × (W ≤ 64) };
+    ghost invariant = { λ rob. IsLayout rob.layout × (length rob.machine.entries.items ≤ W) × (W ≤ 64)
+        × IsReached W rob.layout.parts.now (shown rob.machine) };
 }
 
 impl<'p, const W: usize> Rob<'p, W> {

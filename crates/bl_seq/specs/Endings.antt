@@ -2,7 +2,13 @@
 use Rattle.std.specs.Prelude.{◌≡◌, ◌≤◌, ◌*◌, ℕ, List, length, take, drop}
 use Rattle.std.specs.List.{All}
 use Rattle.bl_base.specs.Runs.{MemoryState, Outcome, returned, trapped, Next, goes, ends, stuck}
-use Rattle.bl_cmd.specs.Steps.{Plain}
+use Rattle.bl_cmd.specs.Layout.{size_of}
+use Rattle.bl_cmd.specs.Steps.{Plain, Registers, states_from}
+use Rattle.bl_cmd.specs.declared.definitions.ProgramParts.{ProgramParts as Program}
+
+-- the memories that registers and bytes tell
+abbrev pub memories_of : Program → Registers → List ℕ → List MemoryState
+memories_of program registers space = states_from registers space (size_of program 0) 0 program.memories
 
 -- a memory of so many pages whose bytes begin there
 abbrev pub pages_at : List ℕ → ℕ → ℕ → MemoryState

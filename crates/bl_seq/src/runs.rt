@@ -1,11 +1,9 @@
 //! Plain runs.
-ghost use Rattle.std.specs.Prelude.{◌≡◌, ◌*◌, IfOk, drop, map, take};
+ghost use Rattle.std.specs.Prelude.{◌≡◌, IfOk, map};
 ghost use Rattle.std.specs.List.{All};
 ghost use Rattle.bl_base.specs.Runs.{Tells, memory_of, outcome_of};
-ghost use Rattle.bl_cmd.specs.Layout.{size_of};
 ghost use Rattle.bl_cmd.specs.Outcomes.{IsStart, plain};
-ghost use Rattle.bl_cmd.specs.Steps.{states, states_from};
-ghost use Rattle.bl_seq.specs.Endings.{EndsWhole, IsWhole, pages_at};
+ghost use Rattle.bl_seq.specs.Endings.{EndsWhole, IsWhole, memories_of, pages_at};
 ghost use Rattle.bl_seq.specs.Filled.{register_at};
 ghost use Rattle.bl_seq.specs.Layouts.{IsLayout};
 ghost use Rattle.bl_seq.specs.Machines.{next_of, results_at, shown, told};
@@ -15,7 +13,7 @@ use crate::opening::begin;
 use crate::registers::Registers;
 use crate::space::Space;
 use crate::state::{Machine, Progress};
-use bl_base::{List, NoMemory, Pages, Run, Start, Text};
+use bl_base::{List, NoMemory, Pages, Run, Start};
 use bl_cmd::WellFormed;
 use std::alloc::Global;
 
@@ -51,11 +49,11 @@ fn finish(
     match progress {
         Progress::Returned => Ok(Run::Returned {
             values: results(alloc, layout, &machine.registers, machine.position)?,
-            memories: ended_memories(alloc, layout, machine)?,
+            memories: memories(alloc, layout, &machine.registers, &machine.space)?,
         }),
         Progress::Trapped(kind) => Ok(Run::Trapped {
             kind,
-            memories: ended_memories(alloc, layout, machine)?,
+            memories: memories(alloc, layout, &machine.registers, &machine.space)?,
         }),
         Progress::Running | Progress::Stuck => Ok(Run::Spent),
     }
@@ -80,72 +78,34 @@ pub fn results(
     Ok(values)
 }
 
-/// The memories of a machine that has ended, which have all their bytes.
-fn ended_memories(
-    alloc: Global,
-    layout: &Layout,
-    machine: &Machine,
-) -> Result<List<Pages>, NoMemory>
-    requires layout { IsLayout layout.now }
-    requires whole { All IsWhole (states layout.now.parts.now (shown machine.now)) }
-    ensures { IfOk result (λ memories. map memory_of memories ≡ states layout.now.parts.now (shown machine.now)) }
-{
-    let globals = layout.parts.globals.len();
-    let mut memories = List::new(alloc);
-    let mut from = 0;
-    for (number, memory) in layout.parts.memories.as_slice().iter().enumerate() {
-        let pages = machine.registers.at(0, globals + number);
-        memories.push(copied(alloc, machine, pages, from)?)?;
-        from += memory.reserve as usize * 65_536;
-    }
-    Ok(memories)
-}
-
-/// So many pages from a place on.
-fn copied(alloc: Global, machine: &Machine, pages: u64, from: usize) -> Result<Pages, NoMemory>
-    requires { IsWhole (pages_at machine.now.space from pages) }
-    ensures { IfOk result (λ memory. memory_of memory ≡ pages_at machine.now.space from pages) }
-{
-    let pages = pages as u32;
-    let bytes = machine.space.part(alloc, from, pages as usize * 65_536)?;
-    Ok(Pages { pages, bytes })
-}
-
-/// The memories that registers and bytes tell; want of memory too where one has more pages than there are bytes.
+/// The memories that registers and bytes tell, where each has all its bytes.
 pub fn memories(
     alloc: Global,
     layout: &Layout,
     registers: &Registers,
     space: &Space,
 ) -> Result<List<Pages>, NoMemory>
-    requires { IsLayout layout.now }
-    ensures { IfOk result (λ memories. map memory_of memories
-        ≡ states_from (λ depth x. register_at registers.now depth x) space.now (size_of layout.now.parts.now 0) 0 layout.now.parts.now.memories) }
+    requires layout { IsLayout layout.now }
+    requires whole { All IsWhole (memories_of layout.now.parts.now (λ depth x. register_at registers.now depth x) space.now) }
+    ensures { IfOk result (λ memories. map memory_of memories ≡ memories_of layout.now.parts.now (λ depth x. register_at registers.now depth x) space.now) }
 {
     let globals = layout.parts.globals.len();
     let mut memories = List::new(alloc);
     let mut from = 0;
     for (number, memory) in layout.parts.memories.as_slice().iter().enumerate() {
         let pages = registers.at(0, globals + number);
-        memories.push(copied_within(alloc, space.as_slice(), pages, from)?)?;
+        memories.push(copied(alloc, space, pages, from)?)?;
         from += memory.reserve as usize * 65_536;
     }
     Ok(memories)
 }
 
-/// So many pages from a place on, if there are so many.
-fn copied_within(alloc: Global, bytes: &[u8], pages: u64, from: usize) -> Result<Pages, NoMemory>
-    ensures { IfOk result (λ memory. memory_of memory ≡ record { pages = pages; bytes = take (pages * 65536) (drop from bytes.now) }) }
+/// So many pages from a place on.
+fn copied(alloc: Global, space: &Space, pages: u64, from: usize) -> Result<Pages, NoMemory>
+    requires { IsWhole (pages_at space.now from pages) }
+    ensures { IfOk result (λ memory. memory_of memory ≡ pages_at space.now from pages) }
 {
-    let Ok(pages) = u32::try_from(pages) else {
-        return Err(NoMemory);
-    };
-    let count = pages as usize * 65_536;
-    if from > bytes.len() || count > bytes.len() - from {
-        return Err(NoMemory);
-    }
-    Ok(Pages {
-        pages,
-        bytes: Text::of(bytes[from..from + count].to_vec(alloc)?),
-    })
+    let pages = pages as u32;
+    let bytes = space.part(alloc, from, pages as usize * 65_536)?;
+    Ok(Pages { pages, bytes })
 }

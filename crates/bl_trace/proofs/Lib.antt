@@ -3,5 +3,7 @@ pub mod Fitting
 pub mod HexBytes
 pub mod Operands
 pub mod Parts
+pub mod Pieces
 pub mod Saying
 pub mod Telling
+pub mod Tracing

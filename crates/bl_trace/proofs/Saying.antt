@@ -59,7 +59,7 @@ line_of_some [] some = absurd (omega (arith, some))
 line_of_some (byte ∷ bytes) some = first_line byte bytes
 
 -- the line from a place on, and the lines behind it
-line_at : (bytes : List ℕ) (at place : ℕ) → at < length bytes →
+pub line_at : (bytes : List ℕ) (at place : ℕ) → at < length bytes →
     place ≡ position_or_len (λ b. b == 10) (take (length bytes - at) (drop at bytes)) →
     lines_of (drop at bytes) ≡ take (at + place - at) (drop at bytes) ∷ lines_of (drop (at + place + 1) bytes)
 line_at bytes at place inside is =

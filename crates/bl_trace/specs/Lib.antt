@@ -1,5 +1,7 @@
 pub mod Answers
 pub mod Digits
 pub mod Lines
+pub mod Observations
 pub mod Reading
 pub mod Told
+pub mod Traces

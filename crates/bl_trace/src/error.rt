@@ -1,6 +1,7 @@
-//! Why a start file gives no start.
+//! Why a file gives no start, or no directives.
 ghost use Rattle.std.specs.Prelude.{◌≡◌};
-ghost use Rattle.bl_trace.specs.declared.error.StartError.TheVariants.{Memory};
+ghost use Rattle.bl_trace.specs.declared.error.StartError.TheVariants as start;
+ghost use Rattle.bl_trace.specs.declared.error.TraceError.TheVariants as trace;
 
 use bl_base::NoMemory;
 use thiserror::Error;
@@ -21,9 +22,28 @@ pub enum StartError {
 }
 
 impl From<NoMemory> for StartError {
-    ghost from_gives = { λ _ e. e ≡ Memory };
+    ghost from_gives = { λ _ e. e ≡ start.Memory };
 
     fn from(_e: NoMemory) -> StartError {
         StartError::Memory
+    }
+}
+
+/// Why a trace file gives no directives.
+#[derive(Clone, Copy, Debug, PartialEq, Eq, Error)]
+pub enum TraceError {
+    /// The first line that is no directive, counted from 1.
+    #[error("bad line {0}")]
+    Line(u64),
+    /// Memory ran out.
+    #[error("out of memory")]
+    Memory,
+}
+
+impl From<NoMemory> for TraceError {
+    ghost from_gives = { λ _ e. e ≡ trace.Memory };
+
+    fn from(_e: NoMemory) -> TraceError {
+        TraceError::Memory
     }
 }

@@ -3,10 +3,12 @@ ghost use Rattle.std.specs.Prelude.{◌≡◌, ◌↔◌, ℕ, List as Listed, R
 ghost use Rattle.bl_base.specs.Fits.{Fits};
 ghost use Rattle.bl_base.specs.declared.names.ValueType.{ValueType};
 ghost use Rattle.bl_base.specs.declared.start.Start.{Start};
+ghost use Rattle.bl_rob.specs.declared.directive.Directive.{Directive};
 ghost use Rattle.bl_trace.specs.declared.error.StartError.{StartError};
 ghost use Rattle.bl_trace.specs.Answers.{answer_of};
 ghost use Rattle.bl_trace.specs.Lines.{lines_of};
 ghost use Rattle.bl_trace.specs.Told.{Tells};
+ghost use Rattle.bl_trace.specs.Traces.{TellsTrace, trace_of};
 
 /// A start that a file asks for fits the function.
 pub fn what_is_asked_for_fits()
@@ -18,4 +20,9 @@ pub fn what_is_asked_for_fits()
 pub fn what_lines_tell()
     ensures { (params : Listed ValueType) (sizes bytes : Listed ℕ) (answer : Either Start StartError) →
         answer_of params sizes bytes ≡ answer ↔ Tells params sizes (lines_of bytes) answer }
+{}
+
+/// A trace file has the directives of its lines, where each line says one; else the number of the first one that says none.
+pub fn what_traces_tell()
+    ensures { (bytes : Listed ℕ) (answer : Either (Listed Directive) ℕ) → trace_of bytes ≡ answer ↔ TellsTrace (lines_of bytes) answer }
 {}

@@ -1,4 +1,5 @@
-//! Start files: the arguments of the function that is entered, and patches of memories' first contents.
+//! Texts of runs: start files, which have the arguments of the function that is entered and patches of memories' first contents;
+//! trace files, which have the directives of the buffer machine; and the lines of observations.
 #![tactic(auto)]
 
 mod digits;
@@ -6,7 +7,11 @@ mod entry;
 mod error;
 pub mod laws;
 mod line;
+mod observation;
 mod read;
+mod trace;
 
-pub use error::StartError;
+pub use error::{StartError, TraceError};
+pub use observation::print_observation;
 pub use read::read_start;
+pub use trace::{count_lines, read_trace};

@@ -1,7 +1,9 @@
 mod blocks;
 mod greatest;
 mod interp;
+mod lower;
 mod run;
+mod spec;
 mod words;
 
 use bl_app::blade;
@@ -248,16 +250,27 @@ fn function_of(alloc: Global, sections: &[u8]) -> Result<Vec<u8>, Fail> {
 }
 
 #[test]
-fn modules_without_a_typing_are_named_before_the_form(rt: HostRuntime) -> Result<(), Fail> {
+fn modules_without_a_typing_are_named_before_those_that_do_not_stand_alone(
+    rt: HostRuntime,
+) -> Result<(), Fail> {
     let alloc = rt.alloc();
-    let cases: [(&[u8], u8, &str); 3] = [
+    let cases: [(&[u8], u8, &str); 4] = [
         (
             &[0x0A, 0x05, 0x01, 0x03, 0x00, 0x6A, 0x0B],
             6,
             "invalid: inc function 0\n",
         ),
         (
-            &[0x0A, 0x06, 0x01, 0x04, 0x00, 0x00, 0x6A, 0x0B],
+            &[
+                0x05, 0x03, 0x01, 0x00, 0x01, 0x0A, 0x05, 0x01, 0x03, 0x00, 0x6A, 0x0B,
+            ],
+            6,
+            "invalid: inc function 0\n",
+        ),
+        (
+            &[
+                0x05, 0x03, 0x01, 0x00, 0x01, 0x0A, 0x06, 0x01, 0x04, 0x00, 0x00, 0x6A, 0x0B,
+            ],
             7,
             "unsupported: inc\n",
         ),

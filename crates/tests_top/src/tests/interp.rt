@@ -33,7 +33,7 @@ pub(super) fn call(
 pub(super) const RUN: [&str; 5] = ["blade", "interp", "m/f", "start", "m.wasm"];
 
 /// The sections of a function of two parameters that applies that operator to them.
-const fn of_two(operator: u8) -> [u8; 31] {
+pub(super) const fn of_two(operator: u8) -> [u8; 31] {
     [
         0x01, 0x07, 0x01, 0x60, 0x02, 0x7F, 0x7F, 0x01, 0x7F, 0x03, 0x02, 0x01, 0x00, 0x07, 0x05,
         0x01, 0x01, 0x66, 0x00, 0x00, 0x0A, 0x09, 0x01, 0x07, 0x00, 0x20, 0x00, 0x20, 0x01,
@@ -42,64 +42,23 @@ const fn of_two(operator: u8) -> [u8; 31] {
 }
 
 /// A function that calls itself with one less until its parameter is 0.
-const COUNT_DOWN: [u8; 40] = [
+pub(super) const COUNT_DOWN: [u8; 40] = [
     0x01, 0x06, 0x01, 0x60, 0x01, 0x7F, 0x01, 0x7F, 0x03, 0x02, 0x01, 0x00, 0x07, 0x05, 0x01, 0x01,
     0x66, 0x00, 0x00, 0x0A, 0x13, 0x01, 0x11, 0x00, 0x20, 0x00, 0x04, 0x40, 0x20, 0x00, 0x41, 0x01,
     0x6B, 0x10, 0x00, 0x1A, 0x0B, 0x41, 0x07, 0x0B,
 ];
 
 /// A function whose addition can't be reached.
-const UNREACHABLE: [u8; 26] = [
+pub(super) const UNREACHABLE: [u8; 26] = [
     0x01, 0x05, 0x01, 0x60, 0x00, 0x01, 0x7F, 0x03, 0x02, 0x01, 0x00, 0x07, 0x05, 0x01, 0x01, 0x66,
     0x00, 0x00, 0x0A, 0x06, 0x01, 0x04, 0x00, 0x00, 0x6A, 0x0B,
 ];
 
 /// A function that adds without operands.
-const UNTYPED: [u8; 25] = [
+pub(super) const UNTYPED: [u8; 25] = [
     0x01, 0x05, 0x01, 0x60, 0x00, 0x01, 0x7F, 0x03, 0x02, 0x01, 0x00, 0x07, 0x05, 0x01, 0x01, 0x66,
     0x00, 0x00, 0x0A, 0x05, 0x01, 0x03, 0x00, 0x6A, 0x0B,
 ];
-
-#[test]
-fn outcomes_of_divisions_calls_and_code_that_is_not_reached(rt: HostRuntime) -> Result<(), Fail> {
-    let alloc = rt.alloc();
-    let cases: [(&[u8], &str, u8, &str); 7] = [
-        (
-            &of_two(0x6D),
-            "arg 2147483648\narg 4294967295\n",
-            16,
-            "trapped integer overflow\n",
-        ),
-        (
-            &of_two(0x6D),
-            "arg 1\narg 0\n",
-            16,
-            "trapped integer divide by zero\n",
-        ),
-        (
-            &of_two(0x6F),
-            "arg 2147483648\narg 4294967295\n",
-            0,
-            "returned i32 0\n",
-        ),
-        (&COUNT_DOWN, "arg 1023\n", 0, "returned i32 7\n"),
-        (
-            &COUNT_DOWN,
-            "arg 1024\n",
-            16,
-            "trapped call stack exhausted\n",
-        ),
-        (&UNREACHABLE, "", 16, "trapped unreachable\n"),
-        (&UNTYPED, "", 6, "invalid: m function 0\n"),
-    ];
-    for (sections, start, status, text) in cases {
-        let bytes = module_of(alloc, sections)?;
-        let (answer, out) = call(alloc, &RUN, (&bytes, start.as_bytes()), None)?;
-        assert_eq!(rt; answer, status);
-        assert_eq!(rt; out.bytes(), text.as_bytes());
-    }
-    Ok(())
-}
 
 /// A function that loops for ever.
 const ENDLESS: [u8; 28] = [

@@ -1,5 +1,6 @@
 use Rattle.bl_app.proofs.InterpLemmas.{one_run as one_of_interp}
 use Rattle.bl_app.proofs.RunLemmas.{one_run as one_of_run}
+use Rattle.bl_app.proofs.SpecLemmas.{one_plan}
 use Rattle.bl_app.proofs.laws.one_run.Goals as goal
 
 pub returns-clause-interp : goal.returns-clause-interp
@@ -7,3 +8,6 @@ returns-clause-interp c = one_of_interp
 
 pub returns-clause-run : goal.returns-clause-run
 returns-clause-run c = one_of_run
+
+pub returns-clause-spec : goal.returns-clause-spec
+returns-clause-spec c = one_plan

@@ -1,15 +1,22 @@
 use Rattle.std.proofs.Common.{subst}
 use Rattle.bl_rob.specs.Answers.{Executes, shown}
 use Rattle.bl_rob.specs.Robs.{RobView}
-use Rattle.bl_rob.proofs.Rooms.{executes, executes_fit}
+use Rattle.bl_rob.specs.declared.directive.Directive.TheVariants.{Exec}
+use Rattle.bl_rob.proofs.Reaching.{steps_reach}
+use Rattle.bl_rob.proofs.Rooms.{executes, steps_fit}
 use Rattle.bl_rob.proofs.rob.Rob.exec.Goals as goal
 
 pub invariant_of-self : goal.invariant_of-self
-invariant_of-self g c = (
-  c.self.invariant.0,
-  executes_fit g.row.W c.self.inside.layout.parts.now (shown c.self.inside.machine) (shown c.exec.new.self) c.args.n c.exec.result c.self.invariant.1 c.exec.ensures,
-  c.self.invariant.2,
-)
+invariant_of-self g c =
+    let parts = c.self.inside.layout.parts.now in
+    let old = shown c.self.inside.machine in
+    let new = shown c.exec.new.self in
+    let steps = executes g.row.W parts old new c.args.n c.exec.result c.ok_or.result c.exec.ensures c.ok_or.ensures.value in (
+      c.self.invariant.0,
+      steps_fit g.row.W parts old new (Exec c.args.n) c.ok_or.result c.self.invariant.1 steps,
+      c.self.invariant.2,
+      steps_reach g.row.W parts old new (Exec c.args.n) c.ok_or.result c.self.invariant.3 steps,
+    )
 
 pub returns-clause-step : goal.returns-clause-step
 returns-clause-step g c =

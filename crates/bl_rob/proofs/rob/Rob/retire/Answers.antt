@@ -2,16 +2,20 @@ use Rattle.std.proofs.Common.{subst}
 use Rattle.bl_rob.specs.Answers.{Steps, shown}
 use Rattle.bl_rob.specs.Robs.{RobView}
 use Rattle.bl_rob.specs.declared.directive.Directive.TheVariants.{Retire}
+use Rattle.bl_rob.proofs.Reaching.{steps_reach}
 use Rattle.bl_rob.proofs.Rooms.{steps_fit}
 use Rattle.bl_rob.proofs.rob.Rob.retire.Goals as goal
 
 pub invariant_of-self : goal.invariant_of-self
-invariant_of-self g c = (
-  c.self.invariant.0,
-  steps_fit g.row.W c.self.inside.layout.parts.now (shown c.self.inside.machine) (shown c.retire.new.self) Retire c.retire.result c.self.invariant.1
-      (c.retire.ensures g.row.W),
-  c.self.invariant.2,
-)
+invariant_of-self g c =
+    let parts = c.self.inside.layout.parts.now in
+    let old = shown c.self.inside.machine in
+    let new = shown c.retire.new.self in (
+      c.self.invariant.0,
+      steps_fit g.row.W parts old new Retire c.retire.result c.self.invariant.1 (c.retire.ensures g.row.W),
+      c.self.invariant.2,
+      steps_reach g.row.W parts old new Retire c.retire.result c.self.invariant.3 (c.retire.ensures g.row.W),
+    )
 
 pub returns-clause-step : goal.returns-clause-step
 returns-clause-step g c =

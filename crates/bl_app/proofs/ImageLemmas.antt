@@ -1,0 +1,153 @@
+-- An image runs as the modules do that it was made of.
+use Rattle.std.proofs.Common.{◌≡◌, ℕ, ◌*◌, ◌≤◌, List, [], ◌∷◌, map, cond, Option, Some, None, slice_get, refl, sym, ap, ◌∙◌, subst, arith}
+use Rattle.std.specs.Prelude.{Ok}
+use Rattle.std.specs.List.{fold}
+use Rattle.std.specs.Str.{bytes_eq}
+use Rattle.std.proofs.Math.Nat.{mul-le-mul_left}
+use Rattle.bl_base.specs.Bytes.{patched}
+use Rattle.bl_base.specs.Runs.{MemoryState, Outcome, returned, trapped}
+use Rattle.bl_base.specs.declared.names.ValueType.{ValueType}
+use Rattle.bl_base.proofs.Lists.{some_same}
+use Rattle.bl_wasm.specs.Exports.{Pairs, number_of}
+use Rattle.bl_wasm.specs.declared.linked.Signature.{Signature}
+use Rattle.bl_wasm.specs.declared.linked.Tree.{Tree}
+use Rattle.bl_reduce.specs.Outcomes.{first_memory, first_store, source}
+use Rattle.bl_cmd.specs.Outcomes.{first_memories, first_memory as memory_at_first, plain}
+use Rattle.bl_image.proofs.Prefixes.{one_program}
+use Rattle.bl_lower.specs.Trees.{export_def, low_tree, memory_def, step_bound}
+use Rattle.bl_lower.proofs.Defined.{IsDefined, has_type, is_defined}
+use Rattle.bl_lower.proofs.Parts.{map_map}
+use Rattle.bl_lower.proofs.WellFormed.{rules}
+use Rattle.bl_trace.specs.Answers.{answer_of}
+use Rattle.bl_app.specs.Building.{AreCompiled, Built}
+use Rattle.bl_app.specs.Entering.{Entered, entering, function_named, kinds_of, pages_of}
+use Rattle.bl_app.specs.Executing.{HasPlainOutcome, RunDoes, plain_text}
+use Rattle.bl_app.specs.Form.{StandsAlone}
+use Rattle.bl_app.specs.Interpreting.{HasOutcome, HasRun, printed_of}
+use Rattle.bl_app.specs.Jobs.{Plan, saying}
+use Rattle.bl_app.specs.Loading.{parts_of}
+use Rattle.bl_app.specs.Outcomes.{outcome_status, outcome_text}
+use Rattle.bl_app.specs.Requests.{InterpRequest, RunRequest}
+use Rattle.bl_app.specs.Running.{Opened, Opens, sizes_of, type_of}
+use Rattle.bl_app.specs.declared.status.Status.TheVariants.{Spent}
+use Rattle.bl_app.proofs.LoadingLemmas.{linked_of, loading_lawful}
+use Rattle.bl_app.proofs.RunLemmas.{entering_lawful, passes_here}
+
+-- ---- exports
+
+same_exports : (name : List ℕ) (pairs : Pairs) → function_named name (map export_def pairs) ≡ number_of name pairs
+same_exports name [] = refl
+same_exports name (pair ∷ pairs) = ap (cond (bytes_eq name pair.0) (Some pair.1)) (same_exports name pairs)
+
+-- ---- runs
+
+-- the text of a run that ended doesn't tell its steps
+steps_aside : (outcome : Outcome) (kinds : List ValueType) (memories : List MemoryState) (m n : ℕ) → outcome_text kinds memories m (Some outcome) ≡ outcome_text kinds memories n (Some outcome)
+steps_aside (returned values after) kinds memories m n = refl
+steps_aside (trapped kind after) kinds memories m n = refl
+
+module _ (request : InterpRequest) (image_name start_name start : List ℕ) (contents : List (List ℕ)) (built : Built) (compiled : AreCompiled request.modules contents built) where
+  abbrev tree : Tree
+  tree = compiled.tree
+
+  abbrev run_of : ℕ → RunRequest
+  run_of steps = record { image = image_name; export = request.export; start = start_name; steps = steps }
+
+  -- what is opened of the tree is entered of its image
+  module _ (opened : Opened) (o : Opens request.export start tree opened) where
+    abbrev d : IsDefined tree opened.function opened.type
+    d = is_defined tree compiled.linked opened.function opened.type o.typed
+
+    abbrev entered : Entered
+    entered = record { entry = record { program = low_tree tree; function = opened.function; defined = d.defined }; start = opened.start }
+
+    passes : (entering request.export start).Passes built.image entered
+    passes = (
+      low_tree tree,
+      record { image = compiled.builds.image; rules = rules tree compiled.linked compiled.builds.few },
+      (
+        entered.entry,
+        record { same_program = refl; exported = same_exports request.export tree.exports ∙ o.exported; defined = d.exists },
+        record { same_entry = refl; read = (λ i. answer_of (d.kinds i) (map_map memory_def (λ memory. memory.pages) tree.memories i) start) ∙ o.read },
+      ),
+    )
+
+    same_memories : first_memories (low_tree tree) opened.start ≡ (first_store opened.tree opened.start).memories
+    same_memories =
+        let bare : tree.memories ≡ [] = ap (λ t. t.memories) (linked_of (parts_of request.modules contents) tree compiled.loaded).is_tree in
+        ap (λ those. fold patched (map memory_at_first (map memory_def those)) opened.start.patches) bare
+        ∙ sym (ap (λ those. fold patched (map first_memory those) opened.start.patches) bare) ∙ ap (λ t. (first_store t opened.start).memories) (sym o.same_tree)
+
+    same_plan : (outcome : Outcome) (m n : ℕ) → saying (outcome_status (Some outcome)) (printed_of opened n (Some outcome)) ≡ saying (outcome_status (Some outcome)) (plain_text entered m (Some outcome))
+    same_plan outcome m n =
+        ap (saying (outcome_status (Some outcome)))
+        (sym (λ i. outcome_text (d.results i) (same_memories i) n (Some outcome)) ∙ steps_aside outcome d.defined.results (first_memories (low_tree tree) opened.start) n m)
+
+  within_bound : (m n : ℕ) → m ≤ step_bound tree * n → n ≤ request.steps → m ≤ step_bound tree * request.steps
+  within_bound m n bound few = let more : step_bound tree * n ≤ step_bound tree * request.steps = mul-le-mul_left (step_bound tree) few in omega (arith, bound, more)
+
+  -- `interp` told an end
+  ran_as : (plan : Plan) (opened : Opened) (o : Opens request.export start tree opened) (outcome : Option Outcome) → HasOutcome opened request.steps outcome
+      → plan ≡ saying (outcome_status outcome) (printed_of opened request.steps outcome) → (plan.status ≡ Spent → ⊥) → RunDoes (run_of (step_bound tree * request.steps)) (built.image ∷ start ∷ []) plan
+  ran_as plan opened o None within is_plan ended = absurd (ended (ap (λ p. p.status) is_plan))
+  ran_as plan opened o (Some outcome) within is_plan ended =
+      let source_run = subst (λ t. source t opened.function opened.start within.0 outcome) o.same_tree within.1 in
+      let f = compiled.same_outcomes.follows opened.function opened.start outcome within.0 source_run in
+      record {
+        image = built.image;
+        start = start;
+        are = refl;
+        entered = entered opened o;
+        prepared = passes opened o;
+        outcome = Some outcome;
+        within = (f.0, subst (λ p. plain p opened.function opened.start f.0 outcome) compiled.builds.is_program f.1, within_bound f.0 within.0 f.3 within.2);
+        is_plan = is_plan ∙ same_plan opened o outcome (step_bound tree * request.steps) request.steps;
+      }
+
+  pub forward : (plan : Plan) → HasRun request start contents plan → (plan.status ≡ Spent → ⊥) → RunDoes (run_of (step_bound tree * request.steps)) (built.image ∷ start ∷ []) plan
+  forward plan h ended =
+      let same = (loading_lawful StandsAlone).one_result (parts_of request.modules contents) h.prepared.0 tree h.prepared.1 compiled.loaded in
+      ran_as plan h.opened (subst (λ t. Opens request.export start t h.opened) same h.prepared.2) h.outcome h.within h.is_plan ended
+
+  -- what is entered of the image was opened of the tree
+  is_opened : (found : Entered) → (entering request.export start).Passes built.image found → (type : Signature) × Opens request.export start tree (record { tree = tree; function = found.entry.function; type = type; start = found.start })
+  is_opened found p =
+      let program : p.0 ≡ low_tree tree = one_program p.0 (low_tree tree) built.image p.1.image compiled.builds.image in
+      let entry = ap (λ e. e.function) p.2.2.same_entry in
+      let number = p.2.0.function in
+      let exists = subst (λ q. slice_get q.functions number ≡ Some p.2.0.defined) program p.2.1.defined in
+      let typed = has_type tree compiled.linked number p.2.0.defined exists in
+      let d = is_defined tree compiled.linked number typed.0 typed.1 in
+      let kinds : kinds_of p.2.0.defined ≡ typed.0.params = ap kinds_of (some_same p.2.0.defined d.defined (sym exists ∙ d.exists)) ∙ d.kinds in
+      let pages : pages_of p.2.0.program ≡ sizes_of tree = ap pages_of (p.2.1.same_program ∙ program) ∙ map_map memory_def (λ memory. memory.pages) tree.memories in (
+        typed.0,
+        record {
+          same_tree = refl;
+          exported = sym (same_exports request.export tree.exports) ∙ subst (λ q. function_named request.export q.exports ≡ Some number) program p.2.1.exported ∙ ap Some (sym entry);
+          typed = ap (type_of tree) entry ∙ typed.1;
+          read = sym (λ i. answer_of (kinds i) (pages i) start) ∙ p.2.2.read;
+        },
+      )
+
+  -- `run` told an end
+  told_as : (plan : Plan) (found : Entered) (opened : Opened) (o : Opens request.export start tree opened) → found ≡ entered opened o → (outcome : Option Outcome) → HasPlainOutcome found request.steps outcome
+      → plan ≡ saying (outcome_status outcome) (plain_text found request.steps outcome) → (plan.status ≡ Spent → ⊥) → HasRun request start contents plan
+  told_as plan found opened o same None within is_plan ended = absurd (ended (ap (λ p. p.status) is_plan))
+  told_as plan found opened o same (Some outcome) within is_plan ended =
+      let here = subst (λ e. plain e.entry.program e.entry.function e.start within.0 outcome) same within.1 in
+      let f = compiled.same_outcomes.comes_from opened.function opened.start outcome within.0 (subst (λ p. plain p opened.function opened.start within.0 outcome) (sym compiled.builds.is_program) here) in
+      record {
+        opened = opened;
+        prepared = (tree, compiled.loaded, o);
+        outcome = Some outcome;
+        within = (f.0, subst (λ t. source t opened.function opened.start f.0 outcome) (sym o.same_tree) f.1, omega (arith, f.2, within.2));
+        is_plan = is_plan ∙ ap (λ e. saying (outcome_status (Some outcome)) (plain_text e request.steps (Some outcome))) same ∙ sym (same_plan opened o outcome request.steps request.steps);
+      }
+
+  pub backward : (plan : Plan) → RunDoes (run_of request.steps) (built.image ∷ start ∷ []) plan → (plan.status ≡ Spent → ⊥) → HasRun request start contents plan
+  backward plan h ended =
+      let there = passes_here (run_of request.steps) (built.image ∷ start ∷ []) built.image start plan refl h in
+      let is = is_opened h.entered there in
+      let opened : Opened = record { tree = tree; function = h.entered.entry.function; type = is.0; start = h.entered.start } in
+      let same = (entering_lawful request.export start).one_result built.image h.entered (entered opened is.1) there (passes opened is.1) in
+      told_as plan h.entered opened is.1 same h.outcome h.within h.is_plan ended

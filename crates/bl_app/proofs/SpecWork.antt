@@ -1,0 +1,100 @@
+-- The work of `spec`, by its stages.
+use Rattle.std.proofs.Common.{◌≡◌, ℕ, ◌≤◌, ◌+◌, List, [], ◌∷◌, length, get_or, Option, Some, None, refl, ap, sym, ◌∙◌, subst, arith}
+use Rattle.std.specs.Prelude.{Ok, Err, IsSome, Result, Vec}
+use Rattle.std.specs.declared.alloc.Global.{Global}
+use Rattle.bl_base.specs.Quantity.{limit_of}
+use Rattle.bl_base.specs.Runs.{Outcome}
+use Rattle.bl_base.specs.declared.quantity.Quantity.TheVariants as quantity
+use Rattle.bl_base.specs.declared.start.Start.{Start}
+use Rattle.bl_cmd.specs.declared.definitions.ProgramParts.{ProgramParts as Program}
+use Rattle.bl_rob.specs.Machines.{State, opening}
+use Rattle.bl_rob.specs.Observed.{Observed, Observes, observed, reached}
+use Rattle.bl_rob.specs.declared.directive.Directive.{Directive}
+use Rattle.bl_trace.specs.Lines.{lines_of}
+use Rattle.bl_trace.specs.Traces.{IsTrace, trace_of}
+use Rattle.bl_trace.specs.declared.error.TraceError.{TraceError}
+use Rattle.bl_trace.specs.declared.error.TraceError.TheVariants as trace_reason
+use Rattle.bl_app.specs.Entering.{Entered, Entry, Finds, IsImaged, Starts, function_named, imaging, starting}
+use Rattle.bl_app.specs.Executing.{plain_text}
+use Rattle.bl_app.specs.Requests.{SpecRequest}
+use Rattle.bl_app.specs.Speculating.{end_text, no_directive, spec_job, spec_plan}
+use Rattle.bl_app.specs.Stages.{at_first, at_second}
+use Rattle.bl_app.specs.Working.{IsStaged, IsTraced, IsWork, entered_in, plan_in, speculated_in, trace_error}
+use Rattle.bl_app.specs.declared.job.Plan.{Plan as PlanMade}
+use Rattle.bl_app.specs.declared.refusal.Refusal.TheVariants as told
+use Rattle.bl_app.specs.declared.refusal.WorkError.{WorkError}
+use Rattle.bl_app.specs.declared.refusal.WorkError.TheVariants as error
+
+pub three_contents : (contents : List (Vec ℕ Global)) (first second third : Vec ℕ Global) → 3 ≤ length contents → length contents ≤ 3 → first ≡ get_or contents 0 first
+    → second ≡ get_or contents 1 second → third ≡ get_or contents 2 third → contents ≡ first ∷ second ∷ third ∷ []
+three_contents [] first second third low high is these those = absurd (omega (arith, low))
+three_contents (x ∷ []) first second third low high is these those = absurd (omega (arith, low))
+three_contents (x ∷ y ∷ []) first second third low high is these those = absurd (omega (arith, low))
+three_contents (x ∷ y ∷ z ∷ []) first second third low high is these those = λ i. sym is i ∷ (sym these i ∷ (sym those i ∷ []))
+three_contents (x ∷ y ∷ z ∷ w ∷ contents) first second third low high is these those = absurd (omega (arith, high))
+
+-- an error of reading a trace file is why it is refused
+pub not_traced : (bytes : List ℕ) (e : TraceError) → length (lines_of bytes) ≤ limit_of quantity.Directives → IsTrace (trace_of bytes) (Err e)
+    → IsTraced bytes (Err (trace_error e))
+not_traced bytes (trace_reason.Line number) few is = no_directive number few is refl
+not_traced bytes trace_reason.Memory few is = tt
+
+-- what is said of an outcome that there is
+pub said_of : (entered : Entered) (outcome : Option Outcome) → IsSome outcome → plain_text entered 0 outcome ≡ end_text entered outcome
+said_of entered (Some outcome) some = refl
+said_of entered None some = absurd some
+
+-- what is observed from the opening is what is observed of the function's run
+pub observed_so : (most : ℕ) (program q : Program) (function : ℕ) (start : Start) (directives : List Directive) (old new : State) (seen : Observed) → q ≡ program
+    → old ≡ opening program function start → Observes most q directives old seen new
+    → (seen ≡ observed most program function start directives) × (new ≡ reached most program function start directives)
+observed_so most program q function start directives old new seen same is o =
+    let h : Observes most program directives (opening program function start) seen new
+    = subst (λ p. Observes most p directives (opening program function start) seen new) same (subst (λ s. Observes most q directives s seen new) is o) in
+    (h.observed, h.leads)
+
+module _ (request : SpecRequest) (image trace start : List ℕ) where
+  -- an image that is refused
+  pub image_refused : (e : WorkError) → IsStaged imaging (λ (p : Program). p) image (Err e) → IsWork (spec_job request) (image ∷ trace ∷ start ∷ []) (Err e)
+  image_refused (error.Refused refusal) r = record { image = image; trace = trace; start = start; are = refl; refuses = at_first r }
+  image_refused error.Memory r = tt
+
+  module _ (program : Program) (imaged : IsImaged image program) where
+    -- an export that is absent
+    pub not_exported : function_named request.export program.exports ≡ None → IsWork (spec_job request) (image ∷ trace ∷ start ∷ []) (Err (error.Refused told.NoExport))
+    not_exported none =
+        record { image = image; trace = trace; start = start; are = refl; refuses = at_second program imaged (at_first (record { not_exported = none; is_refusal = refl })) }
+
+    module _ (entry : Entry) (found : Finds request.export program entry) where
+      -- a trace file that is refused
+      pub trace_refused : (e : WorkError) → IsTraced trace (Err e) → IsWork (spec_job request) (image ∷ trace ∷ start ∷ []) (Err e)
+      trace_refused (error.Refused refusal) r =
+          record { image = image; trace = trace; start = start; are = refl; refuses = at_second program imaged (at_second entry found (at_first r)) }
+      trace_refused error.Memory r = tt
+
+      module _ (directives : List Directive) (traced : IsTraced trace (Ok directives)) where
+        -- a start file that is refused
+        pub start_refused : (e : WorkError) → IsStaged (starting start) (entered_in entry) entry (Err e) → IsWork (spec_job request) (image ∷ trace ∷ start ∷ []) (Err e)
+        start_refused (error.Refused refusal) r = record {
+          image = image;
+          trace = trace;
+          start = start;
+          are = refl;
+          refuses = at_second program imaged (at_second entry found (at_second (record { entry = entry; directives = directives })
+              (record { same_entry = refl; few = traced.0; read = traced.1 }) r));
+        }
+        start_refused error.Memory r = tt
+
+        -- what was observed
+        pub was_observed : (s : Start) (plan : PlanMade) → Starts start entry (entered_in entry s) → plan_in plan ≡ spec_plan (speculated_in entry s directives)
+            → IsWork (spec_job request) (image ∷ trace ∷ start ∷ []) (Ok plan)
+        was_observed s plan starts is = record {
+          image = image;
+          trace = trace;
+          start = start;
+          are = refl;
+          speculated = speculated_in entry s directives;
+          prepared = (program, imaged, (entry, found, (record { entry = entry; directives = directives }, record { same_entry = refl; few = traced.0; read = traced.1 },
+              record { same_directives = refl; starts = starts })));
+          is_plan = is;
+        }

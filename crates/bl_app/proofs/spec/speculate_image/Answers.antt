@@ -1,0 +1,19 @@
+use Rattle.bl_app.specs.Words.{spec_in}
+use Rattle.bl_app.specs.Working.{entry_in}
+use Rattle.bl_app.proofs.SpecWork.{image_refused, not_exported, start_refused, trace_refused, was_observed}
+use Rattle.bl_app.proofs.spec.speculate_image.Goals as goal
+
+pub returns-in-Err : goal.returns-in-Err
+returns-in-Err c = image_refused (spec_in c.args.words.now) c.args.image.now c.args.trace.now c.args.start.now c.in-Err.error c.in-Err.ensures
+
+pub returns-in_default : goal.returns-in_default
+returns-in_default c = not_exported (spec_in c.args.words.now) c.args.image.now c.args.trace.now c.args.start.now c.in-Ok.program c.in-Ok.ensures c.in_default.ensures
+
+pub returns-in-Err-read_directives : goal.returns-in-Err-read_directives
+returns-in-Err-read_directives c = ?
+
+pub returns-in-Err-read_entry_start : goal.returns-in-Err-read_entry_start
+returns-in-Err-read_entry_start c = ?
+
+pub returns-in-Ok-observe : goal.returns-in-Ok-observe
+returns-in-Ok-observe c = ?

@@ -1,0 +1,71 @@
+-- From the bytes of modules to the image of their program: they are linked, and the linked tree is lowered.
+use Rattle.std.specs.Prelude.{◌≡◌, ℕ, ◌-◌, ◌^◌, ◌<◌, ◌≤◌, List, length, map, min}
+use Rattle.bl_base.specs.Quantity.{limit_of}
+use Rattle.bl_base.specs.declared.quantity.Quantity.TheVariants as quantity
+use Rattle.bl_wasm.specs.Linked.{IsLinked}
+use Rattle.bl_wasm.specs.declared.linked.Tree.{Tree}
+use Rattle.bl_cmd.specs.declared.definitions.ProgramParts.{ProgramParts as Program}
+use Rattle.bl_image.specs.Image.{Image}
+use Rattle.bl_lower.specs.Trees.{low_tree}
+use Rattle.bl_app.specs.Form.{StandsAlone}
+use Rattle.bl_app.specs.Jobs.{Job, Plan}
+use Rattle.bl_app.specs.Loading.{Part, loading, module_read, parts_of}
+use Rattle.bl_app.specs.Meaning.{SameOutcomes}
+use Rattle.bl_app.specs.Refusals.{Refusal, limit}
+use Rattle.bl_app.specs.Stages.{Stage, chain}
+
+-- a program and its image
+pub record Built : Type 0 where
+  pub program : Program
+  pub image : List ℕ
+
+-- how many commands the program of a linked tree has
+abbrev pub command_count : Tree → ℕ
+command_count tree = length (low_tree tree).commands
+
+-- the program is that of the linked tree, and has few enough commands; the image is the program's, and has few enough bytes
+pub record Builds (tree : Tree) (built : Built) : Type 0 where
+  pub is_program : built.program ≡ low_tree tree
+  pub few : command_count tree ≤ limit_of quantity.Commands
+  pub image : Image (low_tree tree) built.image
+  pub short : length built.image ≤ limit_of quantity.Image
+
+pub data BuildingRefuses (tree : Tree) (refusal : Refusal) : Type 0 where
+  -- the program has too many commands; their number is told, or the greatest of 64 bits where it is greater
+  many_commands : limit_of quantity.Commands < command_count tree → refusal ≡ limit quantity.Commands (min (command_count tree) (2 ^ 64 - 1))
+      → BuildingRefuses tree refusal
+  -- it has few enough, and its image has too many bytes; their number is told
+  long_image : (image : List ℕ) → command_count tree ≤ limit_of quantity.Commands → Image (low_tree tree) image
+      → limit_of quantity.Image < length image → refusal ≡ limit quantity.Image (length image) → BuildingRefuses tree refusal
+
+-- the program of a linked tree, with its image
+abbrev pub building : Stage Tree Built
+building = record { Passes = Builds; Refuses = BuildingRefuses }
+
+-- that of modules which stand alone
+abbrev pub compiling : Stage (List Part) Built
+compiling = chain (loading StandsAlone) building
+
+-- nothing is refused of the modules in these files, and the plan is made of their program
+pub record Makes (words : List (List ℕ)) (plan_of : Built → Plan) (contents : List (List ℕ)) (plan : Plan) : Type 0 where
+  pub built : Built
+  pub compiled : compiling.Passes (parts_of words contents) built
+  pub is_plan : plan ≡ plan_of built
+
+-- reading modules, and doing what is planned of their program
+abbrev pub compiling_job : List (List ℕ) → List (List ℕ) → (Built → Plan) → Job
+compiling_job words keeps plan_of = record {
+  reads = map module_read words;
+  keeps = keeps;
+  Against = λ contents refusal. compiling.Refuses (parts_of words contents) refusal;
+  Does = Makes words plan_of;
+}
+
+-- the contents of the files of modules are those of modules that are linked to a tree, which is lowered; the program ends exactly as
+-- the tree does
+pub record AreCompiled (words contents : List (List ℕ)) (built : Built) : Type 0 where
+  pub tree : Tree
+  pub loaded : (loading StandsAlone).Passes (parts_of words contents) tree
+  pub linked : IsLinked tree
+  pub builds : Builds tree built
+  pub same_outcomes : SameOutcomes tree built.program

@@ -1,0 +1,5 @@
+use Rattle.bl_rob.proofs.Seeing.{sees_last}
+use Rattle.bl_rob.proofs.laws.what_is_visible.Goals as goal
+
+pub returns : goal.returns
+returns c = sees_last

@@ -1,0 +1,16 @@
+use Rattle.bl_rob.specs.Answers.{shown}
+use Rattle.bl_rob.specs.declared.directive.Directive.TheVariants.{Fetch}
+use Rattle.bl_rob.proofs.Reaching.{steps_reach}
+use Rattle.bl_rob.proofs.Rooms.{steps_fit}
+use Rattle.bl_rob.proofs.rob.Rob.fetch.Goals as goal
+
+pub invariant_of-self : goal.invariant_of-self
+invariant_of-self g c =
+    let parts = c.self.inside.layout.parts.now in
+    let old = shown c.self.inside.machine in
+    let new = shown c.fetch.new.self in (
+      c.self.invariant.0,
+      steps_fit g.row.W parts old new Fetch c.fetch.result c.self.invariant.1 c.fetch.ensures,
+      c.self.invariant.2,
+      steps_reach g.row.W parts old new Fetch c.fetch.result c.self.invariant.3 c.fetch.ensures,
+    )

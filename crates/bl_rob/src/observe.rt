@@ -1,0 +1,44 @@
+//! Lists of directives.
+ghost use Rattle.std.specs.Prelude.{◌≡◌, IfOk};
+ghost use Rattle.bl_rob.specs.Answers.{seen_in, shown};
+ghost use Rattle.bl_rob.specs.Observed.{Observes};
+
+use crate::directive::{Directive, Observation, StepError};
+use crate::rob::Rob;
+use bl_base::{List, NoMemory};
+use std::alloc::Global;
+
+/// What is observed of a list of directives.
+#[derive(Debug, Drop)]
+pub struct Seen {
+    /// What is observed of each one, up to the first that isn't enabled.
+    pub made: List<Observation>,
+    /// The place of that one, from 1; None where each is enabled.
+    pub refused: Option<u64>,
+}
+
+impl<'p, const W: usize> Rob<'p, W> {
+    /// Takes directives in order, up to the first one that isn't enabled.
+    pub fn observe(&mut self, alloc: Global, directives: &[Directive]) -> Result<Seen, NoMemory>
+        ensures same { self.new.program ≡ self.old.program }
+        ensures seen { IfOk result (λ seen. Observes W self.old.program directives.now (shown self.old.machine) (seen_in seen) (shown self.new.machine)) }
+    {
+        let mut made = List::new(alloc);
+        for (i, directive) in directives.iter().enumerate() {
+            match self.step(alloc, *directive) {
+                Ok(observation) => made.push(observation)?,
+                Err(StepError::NotEnabled) => {
+                    return Ok(Seen {
+                        made,
+                        refused: Some(i as u64 + 1),
+                    });
+                }
+                Err(StepError::Memory) => return Err(NoMemory),
+            }
+        }
+        Ok(Seen {
+            made,
+            refused: None,
+        })
+    }
+}

@@ -1,0 +1,76 @@
+//! A trace file, read line by line.
+ghost use Rattle.std.specs.Prelude.{◌≡◌, length};
+ghost use Rattle.bl_trace.specs.Lines.{lines_of};
+ghost use Rattle.bl_trace.specs.Traces.{IsTrace, directive_of, executed, trace_of};
+
+use crate::digits::read_decimal;
+use crate::error::TraceError;
+use crate::line::place_of;
+use bl_base::List;
+use bl_rob::Directive;
+use std::alloc::Global;
+
+/// The number of lines of a file: each ends with LF, which the last one may lack. Takes no memory.
+pub fn count_lines(bytes: &[u8]) -> u64
+    ensures { result ≡ length (lines_of bytes.now) }
+{
+    let mut at = 0;
+    let mut count = 0u64;
+    while at < bytes.len() {
+        count += 1;
+        let end = at + place_of(&bytes[at..], b'\n');
+        at = end + 1;
+    }
+    count
+}
+
+/// The directives of a trace file.
+///
+/// Each line is `fetch`; `fetch 1`, which predicts that the condition of a Test isn't 0, or `fetch 0`; `exec N`, N being
+/// decimal digits, leading zeros among them, of a number below 2^32; or `retire`. A line ends with LF, which the last one may lack.
+/// Line where a line is another one: the first one's number, from 1. Linear in the bytes, of which no copy is made.
+pub fn read_trace(alloc: Global, bytes: &[u8]) -> Result<List<Directive>, TraceError>
+    ensures { IsTrace (trace_of bytes.now) result }
+{
+    let mut directives = List::new(alloc);
+    let mut at = 0;
+    let mut number = 0u64;
+    while at < bytes.len() {
+        number += 1;
+        let end = at + place_of(&bytes[at..], b'\n');
+        let Some(directive) = read_directive(&bytes[at..end]) else {
+            return Err(TraceError::Line(number));
+        };
+        directives.push(directive)?;
+        at = end + 1;
+    }
+    Ok(directives)
+}
+
+/// The directive that a line says.
+fn read_directive(line: &[u8]) -> Option<Directive>
+    ensures { result ≡ directive_of line.now }
+{
+    if line == b"fetch".as_slice() {
+        return Some(Directive::Fetch);
+    }
+    if line == b"fetch 0".as_slice() {
+        return Some(Directive::Predict(false));
+    }
+    if line == b"fetch 1".as_slice() {
+        return Some(Directive::Predict(true));
+    }
+    if line == b"retire".as_slice() {
+        return Some(Directive::Retire);
+    }
+    read_exec(line).map(Directive::Exec)
+}
+
+/// The entry that a line `exec N` names.
+fn read_exec(line: &[u8]) -> Option<u32>
+    ensures { result ≡ executed line.now }
+{
+    let digits = line.strip_prefix(b"exec ".as_slice())?;
+    let entry = read_decimal(digits, u64::from(u32::MAX))?;
+    Some(entry as u32)
+}
