@@ -106,7 +106,15 @@ pub fn levels(alloc: Global, r: &Residual) -> Result<List<Option<u64>>, NoMemory
     ensures { IfOk result (λ levels. AreLevelsOf r.now levels) }
 {
     let source = 2 * r.network.weights.as_slice().len();
-    let found = part_levels(alloc, &r.links, &r.rows, &r.capacities, source, source + 1)?;
+    let found = part_levels(
+        alloc,
+        &r.links,
+        &r.rows,
+        &r.capacities,
+        source,
+        source + 1,
+        false,
+    )?;
     let list = place_levels(alloc, &found, source)?;
     Ok(list)
 }
@@ -220,6 +228,6 @@ fn flow_on(
     ensures unchanged { OnErr result (capacities.new ≡ capacities.old) }
 {
     let source = 2 * n.weights.as_slice().len();
-    let levels = part_levels(alloc, links, rows, capacities, source, source + 1)?;
+    let levels = part_levels(alloc, links, rows, capacities, source, source + 1, false)?;
     block_graph(alloc, n, links, rows, capacities, &levels, amount)
 }

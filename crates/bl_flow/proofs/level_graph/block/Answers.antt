@@ -1,7 +1,7 @@
 use Rattle.std.proofs.Common.{arith, ◌≡◌, ◌<◌, ◌≤◌, ◌+◌, ◌-◌, ◌*◌, ◌/◌, ℕ, length, take, sym, ap, subst, ◌∙◌, refl}
 use Rattle.bl_flow.specs.Networks.{size, total_weight}
 use Rattle.bl_flow.specs.Rows.{reversed}
-use Rattle.bl_flow.specs.Levels.{AreLevels, IsShortest}
+use Rattle.bl_flow.specs.Levels.{AreLevelsToEnd, IsShortest}
 use Rattle.bl_flow.proofs.Parts.{from_within, to_within}
 use Rattle.bl_flow.proofs.Filling.{at_most_total, halves_fit, capacities_of}
 use Rattle.bl_flow.proofs.Wiring.{rows_both, all_to}
@@ -33,7 +33,7 @@ whole : (c : In_default) → IsBlocked c.args.links.now c.args.levels.now (2 * s
 whole c =
     subst (λ p. IsBlocked c.args.links.now c.args.levels.now (2 * p) (2 * p + 1) c.loop-count.capacities c.args.amount c.loop-count.total) c.len-source.ensures
     (phase_ends c.args.n.now c.args.links.now (reversed (length c.args.links.now / 2) c.args.rows.now) c.args.levels.now (2 * c.len-source.result) (2 * c.len-source.result + 1) (length c.args.rows.now) c.args.amount c.args.capacities.now c.loop-count.capacities c.loop-count.total c.loop-count.passed c.next_augmenting_path.new.passed c.loop-count.invariant.phase
-    (subst (λ p. AreLevels c.args.links.now c.args.capacities.now (2 * p) (2 * p + 1) c.args.levels.now) (sym c.len-source.ensures) c.requires.levels_hold)
+    (subst (λ p. AreLevelsToEnd c.args.links.now c.args.capacities.now (2 * p) (2 * p + 1) c.args.levels.now) (sym c.len-source.ensures) c.requires.levels_hold)
     (rows_both c.args.n.now c.args.links.now c.args.rows.now c.requires.links_hold c.requires.rows_hold) c.in_default.ensures.passed (c.in_default.ensures.none refl))
 
 pub returns-in_default-clause-some : goal.returns-in_default-clause-some

@@ -1,4 +1,4 @@
-use Rattle.std.proofs.Common.{arith, ◌≡◌, ◌+◌, ◌*◌, length, ap, subst, ◌∙◌}
+use Rattle.std.proofs.Common.{arith, ◌≡◌, ◌+◌, ◌*◌, length, refl, ap, subst, ◌∙◌}
 use Rattle.bl_flow.specs.Networks.{size}
 use Rattle.bl_flow.specs.Split.{both_ways, links_of, in_part, out_part}
 use Rattle.bl_flow.specs.Levels.{level_at, AreLevels}
@@ -20,7 +20,7 @@ returns c =
     let are : AreLevels (both_ways (links_of c.r.inside.network)) c.r.inside.capacities.items (in_part (size c.r.inside.network)) (out_part (size c.r.inside.network)) c.in_ok-found.found.items =
     subst (λ p. AreLevels (both_ways (links_of c.r.inside.network)) c.r.inside.capacities.items (2 * p) (2 * p + 1) c.in_ok-found.found.items) len
     (subst (λ capacities. AreLevels (both_ways (links_of c.r.inside.network)) capacities (2 * length c.as_slice.result.now) (2 * length c.as_slice.result.now + 1) c.in_ok-found.found.items) c.deref-2.ensures.value
-    (subst (λ l. AreLevels l c.deref-2.result.now (2 * length c.as_slice.result.now) (2 * length c.as_slice.result.now + 1) c.in_ok-found.found.items) (c.deref.ensures.value ∙ c.r.invariant.links_) c.in_ok-found.ensures.least)) in
+    (subst (λ l. AreLevels l c.deref-2.result.now (2 * length c.as_slice.result.now) (2 * length c.as_slice.result.now + 1) c.in_ok-found.found.items) (c.deref.ensures.value ∙ c.r.invariant.links_) (c.in_ok-found.ensures.least refl))) in
     subst (λ v. AreLevelsOf v c.in_ok-list.list) c.r.view_is
     (levels_out c.r.inside.network c.r.invariant.in_range c.r.inside.capacities.items c.r.inside.amount c.r.invariant.flow
     (packed_small c.r.inside.network c.r.inside.links.items c.r.inside.rows c.r.inside.capacities.items c.r.inside.amount c.r.invariant) c.in_ok-found.found.items c.in_ok-list.list are
