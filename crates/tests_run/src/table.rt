@@ -84,17 +84,23 @@ fn functions(alloc: Global) -> Result<List<Function>, NoMemory>
 }
 
 /// The tree: its table has the functions 1 and 2, an empty slot, and function 3.
-fn linked(alloc: Global) -> Result<Linked, NoMemory> {
+fn tree_of(alloc: Global) -> Result<Tree, NoMemory>
+    ensures { IfOk result (λ tree. tree ≡ table_tree) }
+{
     let slots = vec![in alloc; Some(1), Some(2), None, Some(3)]?;
     let tables = vec![in alloc; List::of(slots)]?;
-    let tree = Tree {
+    Ok(Tree {
         types: types(alloc)?,
         functions: functions(alloc)?,
         globals: List::new(alloc),
         memories: List::new(alloc),
         tables: List::of(tables),
         exports: Exports::new(alloc),
-    };
+    })
+}
+
+fn linked(alloc: Global) -> Result<Linked, NoMemory> {
+    let tree = tree_of(alloc)?;
     Ok(Linked::of(tree))
 }
 
