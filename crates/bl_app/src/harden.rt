@@ -44,11 +44,7 @@ pub fn harden<'a>(
 }
 
 /// The plan of a program and its image.
-fn plan_of<'a>(
-    alloc: Global,
-    words: &HardenWords<'a>,
-    built: Built,
-) -> Result<Plan<'a>, NoMemory>
+fn plan_of<'a>(alloc: Global, words: &HardenWords<'a>, built: Built) -> Result<Plan<'a>, NoMemory>
     ensures { IfOk result (λ plan. plan_in plan ≡ harden_plan (harden_in words.now) (built_in built)) }
 {
     let text = report(alloc, &built.program)?;

@@ -29,8 +29,11 @@ fn say(alloc: Global, shelf: &mut MemoryShelf, line: &str) -> Result<(u8, Memory
 }
 
 const LOWER: &str = "blade lower i.img m.wasm";
+
 const HARDEN: &str = "blade harden i.img i.json m.wasm";
+
 const RUN: &str = "blade run i.img m/f start";
+
 const INTERP: &str = "blade interp m/f start m.wasm";
 
 #[test]
@@ -113,11 +116,7 @@ fn commands_and_sites_are_counted(rt: HostRuntime) -> Result<(), Fail> {
     let alloc = rt.alloc();
     let none = "protects 0 weight 0\nconstant-time yes\n";
     let cases: [(&[u8], &str, &str); 4] = [
-        (
-            &[],
-            "commands 7\n",
-            "functions 0\ncommands 7\nsites 0\n",
-        ),
+        (&[], "commands 7\n", "functions 0\ncommands 7\nsites 0\n"),
         (
             &of_one(0x7F, 0xC0),
             "commands 12\n",
