@@ -1,6 +1,5 @@
 -- An image runs as the modules do that it was made of.
 use Rattle.std.proofs.Common.{◌≡◌, ℕ, ◌*◌, ◌≤◌, List, [], ◌∷◌, map, cond, Option, Some, None, slice_get, refl, sym, ap, ◌∙◌, subst, arith}
-use Rattle.std.specs.Prelude.{Ok}
 use Rattle.std.specs.List.{fold}
 use Rattle.std.specs.Str.{bytes_eq}
 use Rattle.std.proofs.Math.Nat.{mul-le-mul_left}

@@ -1,5 +1,5 @@
 -- An exported function, its start and the outcome of its run are one; the job of `interp` keeps the laws.
-use Rattle.std.proofs.Common.{◌≡◌, ℕ, List, [], ◌∷◌, Option, Some, None, refl, ap, sym, ◌∙◌, subst, map}
+use Rattle.std.proofs.Common.{◌≡◌, ℕ, List, [], ◌∷◌, Option, Some, ap, sym, ◌∙◌, subst, map}
 use Rattle.std.specs.Prelude.{Result, Ok, Err}
 use Rattle.bl_base.specs.Runs.{Outcome}
 use Rattle.bl_base.specs.declared.start.Start.{Start}

@@ -15,8 +15,8 @@ use Rattle.bl_validate.specs.declared.verdict.Invalid.TheVariants as reason
 use Rattle.bl_validate.proofs.Reasons.{one_reason}
 use Rattle.bl_link.specs.Alone.{alone}
 use Rattle.bl_app.specs.Form.{StandsAlone}
-use Rattle.bl_app.specs.Loading.{Accepted, Decodes, DecodingRefuses, FormRefuses, IsPassed, IsRefusalOf, LinksAlone, Named, Part, ValidationRefuses, decoding, excess, linking, loading, no_module, not_supported, of_form, validation}
-use Rattle.bl_app.specs.Refusals.{Refusal, invalid_function, limit, unsupported}
+use Rattle.bl_app.specs.Loading.{Accepted, Decodes, DecodingRefuses, IsPassed, IsRefusalOf, Named, Part, decoding, excess, linking, loading, no_module, not_supported, of_form, validation}
+use Rattle.bl_app.specs.Refusals.{Refusal, invalid_function, limit}
 use Rattle.bl_app.specs.Stages.{AllPass, IsLawfulStage, Stage, at_first, at_second, each, chain}
 use Rattle.bl_app.specs.Working.{of_module}
 use Rattle.bl_app.proofs.StageLemmas.{chain_lawful, each_lawful}

@@ -1,13 +1,12 @@
--- The texts and statuses of some outcomes, worked out.
+-- The texts of some outcomes, worked out.
 use Rattle.std.proofs.Common.{◌≡◌, [], ◌∷◌, ◌++◌, refl}
 use Rattle.std.specs.Prelude.{codes, replicate, Some, None}
 use Rattle.std.specs.Fmt.{digits}
 use Rattle.bl_base.specs.Runs.{MemoryState, returned, trapped}
 use Rattle.bl_base.specs.declared.names.ValueType.TheVariants.{I32, I64}
 use Rattle.bl_base.specs.declared.trap.Trap.TheVariants.{Overflow}
-use Rattle.bl_app.specs.Outcomes.{outcome_status, outcome_text}
+use Rattle.bl_app.specs.Outcomes.{outcome_text}
 use Rattle.bl_app.specs.Texts.{line}
-use Rattle.bl_app.specs.declared.status.Status.TheVariants.{Done, Trapped, Spent}
 
 -- 16 bytes of 0, as a memory whose pages are shorter than any
 abbrev small : MemoryState
@@ -21,16 +20,9 @@ grown = record { pages = 2; bytes = replicate 16 0 ++ 1 ∷ replicate 15 0 }
 abbrev marked : MemoryState
 marked = record { pages = 2; bytes = replicate 30 0 ++ 171 ∷ 0 ∷ [] }
 
-no_memory : outcome_text (I32 ∷ []) [] 5 (Some (returned (0 ∷ []) [])) ≡ line (codes "returned i32 0")
-unfolding digits
-no_memory = refl
-
 two_results : outcome_text (I32 ∷ I64 ∷ []) [] 9 (Some (returned (4294967295 ∷ 7 ∷ []) [])) ≡ line (codes "returned i32 4294967295 i64 7")
 unfolding digits
 two_results = refl
-
-without_results : outcome_text [] [] 2 (Some (returned [] [])) ≡ line (codes "returned")
-without_results = refl
 
 spent : outcome_text (I32 ∷ []) [] 4 None ≡ line (codes "spent 4")
 unfolding digits
@@ -57,6 +49,3 @@ hexadecimal : outcome_text [] (grown ∷ []) 9 (Some (returned [] (marked ∷ []
     ≡ line (codes "returned") ++ line (codes "memory 0 pages 2") ++ line (codes "row 0 16 0000000000000000000000000000ab00")
 unfolding digits
 hexadecimal = refl
-
-statuses : (outcome_status (Some (returned [] [])) ≡ Done) × (outcome_status (Some (trapped Overflow [])) ≡ Trapped) × (outcome_status None ≡ Spent)
-statuses = (refl, refl, refl)

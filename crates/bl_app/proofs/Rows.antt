@@ -1,5 +1,5 @@
 -- The definitions on one worked module: a function that adds 1 to its parameter.
-use Rattle.std.proofs.Common.{◌≡◌, List, [], ◌∷◌, ◌++◌, refl}
+use Rattle.std.proofs.Common.{◌≡◌, [], ◌∷◌, ◌++◌, refl}
 use Rattle.std.specs.Fmt.{digits}
 use Rattle.std.specs.Prelude.{codes, Some, None}
 use Rattle.bl_base.specs.declared.trap.Trap.TheVariants as kind

@@ -1,21 +1,19 @@
 -- An image, an exported function of its program, a start and the outcome of the run are one; the job of `run` keeps the laws.
-use Rattle.std.proofs.Common.{◌≡◌, ℕ, ◌≤◌, List, [], ◌∷◌, Option, Some, None, refl, ap, sym, ◌∙◌, subst, map, arith}
+use Rattle.std.proofs.Common.{◌≡◌, ℕ, List, [], ◌∷◌, Option, Some, None, refl, ap, sym, ◌∙◌, subst, map, arith}
 use Rattle.std.specs.Prelude.{Ok, Err, slice_get}
 use Rattle.bl_base.specs.Runs.{IsWithin, Outcome, returned, trapped}
 use Rattle.bl_base.proofs.Lists.{some_same}
 use Rattle.bl_base.proofs.RunLemmas.{run_unique}
 use Rattle.bl_cmd.specs.Outcomes.{opening, plain}
-use Rattle.bl_cmd.specs.Rules.{IsFirstBroken, IsWellFormed}
+use Rattle.bl_cmd.specs.Rules.{IsFirstBroken}
 use Rattle.bl_cmd.specs.Steps.{plain_step}
 use Rattle.bl_cmd.specs.declared.definitions.ProgramParts.{ProgramParts as Program}
 use Rattle.bl_cmd.proofs.Faults.{unbroken}
-use Rattle.bl_image.specs.Image.{Image}
 use Rattle.bl_image.proofs.Prefixes.{one_program}
-use Rattle.bl_trace.specs.Answers.{answer_of}
 use Rattle.bl_trace.specs.declared.error.StartError.TheVariants.{Line, Count}
 use Rattle.bl_app.specs.Causes.{IsDone}
 use Rattle.bl_app.specs.Commands.{job_of}
-use Rattle.bl_app.specs.Entering.{Entered, Entry, Finds, FindingRefuses, ImagingRefuses, IsImaged, Starts, StartingRefuses, entering, finding, function_named, ill_formed, imaging, kinds_of, line_is_bad, no_image, pages_of, starting, too_few}
+use Rattle.bl_app.specs.Entering.{Entered, Entry, Finds, FindingRefuses, ImagingRefuses, IsImaged, Starts, StartingRefuses, entering, finding, ill_formed, imaging, line_is_bad, no_image, starting, too_few}
 use Rattle.bl_app.specs.Executing.{HasPlainOutcome, RunDoes, RunRefuses, Runs, plain_text, run_job}
 use Rattle.bl_app.specs.Jobs.{AreRead, IsLawful, Plan, saying}
 use Rattle.bl_app.specs.Outcomes.{outcome_status}

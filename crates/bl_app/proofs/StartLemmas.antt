@@ -1,6 +1,6 @@
 -- Exported functions exist; what a start file that is refused says; what was run.
 use Rattle.std.proofs.Common.{◌≡◌, ℕ, ◌<◌, Bool, true, false, cond, List, [], ◌∷◌, Option, Some, None, refl, sym, ap, ◌∙◌, subst}
-use Rattle.std.specs.Prelude.{Ok, Err, slice_get, option_and_then}
+use Rattle.std.specs.Prelude.{Err, slice_get, option_and_then}
 use Rattle.std.specs.List.{All, fold}
 use Rattle.std.specs.Str.{bytes_eq}
 use Rattle.std.proofs.lemmas.List.Elements.{All-head, All-tail}

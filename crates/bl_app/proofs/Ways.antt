@@ -1,5 +1,5 @@
 -- The ways in which a call ends, by the kinds of their statuses.
-use Rattle.std.proofs.Common.{◌≡◌, ◌<◌, ℕ, List, [], ◌∷◌, Option, Some, None, refl, ap, sym, ◌∙◌, subst, inl, inr, map, arith}
+use Rattle.std.proofs.Common.{◌≡◌, ℕ, List, Option, Some, None, refl, ap, sym, ◌∙◌, subst, inl, inr, map, arith}
 use Rattle.std.specs.Prelude.{slice_get, Contains, ◌⊎◌}
 use Rattle.std.proofs.lemmas.List.{get_or-map, length-map}
 use Rattle.std.proofs.lemmas.Option.{get_or_from_slice_get, slice_get_within}
@@ -7,10 +7,10 @@ use Rattle.bl_outside.specs.Faults.{Rose}
 use Rattle.bl_outside.specs.Shelf.{ReadFails, WriteFails}
 use Rattle.bl_app.specs.Causes.{IsDone, IsKeepFault, IsReadFault, IsRefused, NoFault}
 use Rattle.bl_app.specs.Ends.{Delivers, Ends, PlanFor, all_kept, as_planned, done, no_memory, no_memory_to_keep, not_kept, not_read, refused, usage}
-use Rattle.bl_app.specs.Jobs.{IsLawful, Job, Plan, ReadsName, saying}
+use Rattle.bl_app.specs.Jobs.{IsLawful, Job, Plan, ReadsName}
 use Rattle.bl_app.specs.Refusals.{Refusal, malformed}
 use Rattle.bl_app.specs.Status.{Kind, kind_of, of_deed, of_memory, of_read_fault, of_refusal, of_usage, of_write_fault, status_of}
-use Rattle.bl_app.specs.Texts.{read_fault_text, refusal_text, usage_text, write_fault_text}
+use Rattle.bl_app.specs.Texts.{read_fault_text, write_fault_text}
 use Rattle.bl_app.specs.Worlds.{Said, Whole, World, cut, took, whole, with_files}
 use Rattle.bl_app.specs.declared.status.Status.{Status}
 use Rattle.bl_app.specs.declared.status.Status.TheVariants.{Memory, ReadFault, Usage, WriteFault}

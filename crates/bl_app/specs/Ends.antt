@@ -1,5 +1,5 @@
 -- How a call ends.
-use Rattle.std.specs.Prelude.{◌≡◌, ℕ, List, [], Option, Some, None, slice_get, take}
+use Rattle.std.specs.Prelude.{◌≡◌, ℕ, List, Option, Some, None, slice_get, take}
 use Rattle.bl_outside.specs.Shelf.{Files, ReadFails, WriteFails}
 use Rattle.bl_app.specs.Jobs.{AreRead, FirstRefusal, Job, Plan, ReadsName, saying}
 use Rattle.bl_app.specs.Refusals.{Refusal}

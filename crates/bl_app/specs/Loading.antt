@@ -1,6 +1,6 @@
 -- From the bytes of modules to the linked tree, in stages: all are decoded, then all validated, then the form of each is tested, and
 -- then they are linked.
-use Rattle.std.specs.Prelude.{◌≡◌, ℕ, List, [], ◌∷◌, map, Option, Some, None, Result, Ok, Err}
+use Rattle.std.specs.Prelude.{◌≡◌, ℕ, List, [], ◌∷◌, map, Some, None}
 use Rattle.std.specs.List.{zip}
 use Rattle.bl_base.specs.declared.quantity.Quantity.{Quantity}
 use Rattle.bl_base.specs.declared.quantity.Quantity.TheVariants as quantity

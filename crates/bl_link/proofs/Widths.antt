@@ -1,5 +1,5 @@
 -- The immediates of a module that bytes spell are numbers of their widths, so the tree that it is linked to can be run.
-use Rattle.std.proofs.Common.{◌≡◌, ℕ, ◌<◌, ◌^◌, inl, inr, List, [], ◌∷◌, map, sym, subst, arith}
+use Rattle.std.proofs.Common.{ℕ, ◌<◌, ◌^◌, inl, inr, List, [], ◌∷◌, sym, subst, arith}
 use Rattle.std.specs.Prelude.{ℤ, pos, negsuc}
 use Rattle.std.specs.List.{All, zip}
 use Rattle.std.proofs.lemmas.List.Elements.{All-nil, All-cons, All-head, All-map, All-tail, All-weaker}

@@ -1,4 +1,4 @@
-use Rattle.std.proofs.Common.{◌≡◌, ◌∙◌, ◌+◌, ◌<◌, suc, Bool, true, false, ap, arith, drop, get_or, length, sym}
+use Rattle.std.proofs.Common.{◌≡◌, ◌∙◌, ◌+◌, suc, true, false, ap, arith, drop, get_or, sym}
 use Rattle.std.specs.Str.{bytes_eq}
 use Rattle.bl_app.specs.Entering.{function_named}
 use Rattle.bl_app.proofs.EntryLemmas.{named_behind, named_here}

@@ -1,6 +1,6 @@
 use Rattle.std.proofs.Common.{◌≡◌, ◌∙◌, ap, subst, sym}
 use Rattle.std.specs.Prelude.{Err}
-use Rattle.bl_app.specs.Entering.{kinds_of, pages_of, starting}
+use Rattle.bl_app.specs.Entering.{pages_of, starting}
 use Rattle.bl_app.specs.Working.{IsStaged, entered_in, entry_in}
 use Rattle.bl_app.proofs.RunWork.{not_started}
 use Rattle.bl_app.proofs.entry.read_entry_start.Goals as goal

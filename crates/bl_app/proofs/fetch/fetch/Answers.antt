@@ -1,6 +1,5 @@
-use Rattle.std.proofs.Common.{◌<◌, ◌≤◌, length, refl, subst, arith}
+use Rattle.std.proofs.Common.{◌<◌, ◌≤◌, length, refl, arith}
 use Rattle.bl_base.specs.Quantity.{limit_of}
-use Rattle.bl_outside.specs.Shelf.{Gives}
 use Rattle.bl_app.proofs.FetchLemmas.{long_refused, not_read, short_fetched}
 use Rattle.bl_app.proofs.fetch.fetch.Goals as goal
 

@@ -1,4 +1,4 @@
-use Rattle.std.proofs.Common.{◌≡◌, [], ◌∷◌, ◌++◌, ◌∙◌, ap, true, false}
+use Rattle.std.proofs.Common.{[], ◌∷◌, ◌++◌, ◌∙◌, ap}
 use Rattle.std.specs.List.{flat_map}
 use Rattle.bl_app.specs.Outcomes.{bytes_at, hex_text}
 use Rattle.bl_app.proofs.MemoryTexts.{row_other, row_same}

@@ -1,4 +1,4 @@
-use Rattle.std.proofs.Common.{◌≡◌, ◌+◌, ◌-◌, ◌*◌, ◌/◌, ◌++◌, ◌∙◌, ap, arith, length}
+use Rattle.std.proofs.Common.{◌+◌, ◌-◌, ◌*◌, ◌/◌, ◌++◌, ◌∙◌, ap, arith, length}
 use Rattle.std.specs.List.{flat_map, range_with_len}
 use Rattle.bl_app.specs.Outcomes.{row_text}
 use Rattle.bl_app.proofs.MemoryTexts.{pieces_all, pieces_next}

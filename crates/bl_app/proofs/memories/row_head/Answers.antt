@@ -1,4 +1,4 @@
-use Rattle.std.proofs.Common.{[], ◌∷◌, ◌∙◌, ap, codes}
+use Rattle.std.proofs.Common.{◌∙◌, ap, codes}
 use Rattle.std.specs.Fmt.{decimal}
 use Rattle.bl_app.proofs.MemoryTexts.{two_numbers}
 use Rattle.bl_app.proofs.memories.row_head.Goals as goal

@@ -1,4 +1,4 @@
-use Rattle.std.proofs.Common.{◌≡◌, ◌+◌, ◌++◌, ◌∙◌, ap, arith, map}
+use Rattle.std.proofs.Common.{◌+◌, ◌++◌, ◌∙◌, ap, arith, map}
 use Rattle.bl_base.specs.Runs.{memory_of}
 use Rattle.bl_app.specs.Outcomes.{memory_text}
 use Rattle.bl_app.proofs.MemoryTexts.{texts_all, texts_from, texts_next}

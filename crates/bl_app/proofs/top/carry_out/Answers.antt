@@ -1,4 +1,4 @@
-use Rattle.std.proofs.Common.{◌≡◌, ◌∙◌, None, Err, ap, map, refl, subst, sym}
+use Rattle.std.proofs.Common.{◌∙◌, None, Err, ap, map, refl, subst, sym}
 use Rattle.bl_app.specs.Commands.{job_of}
 use Rattle.bl_app.specs.Jobs.{AreRead}
 use Rattle.bl_app.specs.Words.{request_in}
