@@ -1,12 +1,14 @@
 -- The work of `spec`, by its stages.
-use Rattle.std.proofs.Common.{◌≡◌, ℕ, ◌≤◌, ◌+◌, List, [], ◌∷◌, length, get_or, Option, Some, None, refl, ap, sym, ◌∙◌, subst, arith}
-use Rattle.std.specs.Prelude.{Ok, Err, IsSome, Result, Vec}
+use Rattle.std.proofs.Common.{◌≡◌, ℕ, ◌<◌, ◌≤◌, List, [], ◌∷◌, length, get_or, Option, Some, None, refl, ap, sym, ◌∙◌, subst, arith}
+use Rattle.std.specs.Prelude.{Ok, Err, IfOk, IsSome, Result, Vec}
 use Rattle.std.specs.declared.alloc.Global.{Global}
 use Rattle.bl_base.specs.Quantity.{limit_of}
-use Rattle.bl_base.specs.Runs.{Outcome}
+use Rattle.bl_base.specs.Runs.{Outcome, outcome_of}
 use Rattle.bl_base.specs.declared.quantity.Quantity.TheVariants as quantity
+use Rattle.bl_base.specs.declared.run.Run.{Run}
 use Rattle.bl_base.specs.declared.start.Start.{Start}
 use Rattle.bl_cmd.specs.declared.definitions.ProgramParts.{ProgramParts as Program}
+use Rattle.bl_rob.specs.Answers.{Told}
 use Rattle.bl_rob.specs.Machines.{State, opening}
 use Rattle.bl_rob.specs.Observed.{Observed, Observes, observed, reached}
 use Rattle.bl_rob.specs.declared.directive.Directive.{Directive}
@@ -17,7 +19,7 @@ use Rattle.bl_trace.specs.declared.error.TraceError.TheVariants as trace_reason
 use Rattle.bl_app.specs.Entering.{Entered, Entry, Finds, IsImaged, Starts, function_named, imaging, starting}
 use Rattle.bl_app.specs.Executing.{plain_text}
 use Rattle.bl_app.specs.Requests.{SpecRequest}
-use Rattle.bl_app.specs.Speculating.{end_text, no_directive, spec_job, spec_plan}
+use Rattle.bl_app.specs.Speculating.{end_text, last_text, no_directive, spec_job, spec_plan}
 use Rattle.bl_app.specs.Stages.{at_first, at_second}
 use Rattle.bl_app.specs.Working.{IsStaged, IsTraced, IsWork, entered_in, plan_in, speculated_in, trace_error}
 use Rattle.bl_app.specs.declared.job.Plan.{Plan as PlanMade}
@@ -25,7 +27,7 @@ use Rattle.bl_app.specs.declared.refusal.Refusal.TheVariants as told
 use Rattle.bl_app.specs.declared.refusal.WorkError.{WorkError}
 use Rattle.bl_app.specs.declared.refusal.WorkError.TheVariants as error
 
-pub three_contents : (contents : List (Vec ℕ Global)) (first second third : Vec ℕ Global) → 3 ≤ length contents → length contents ≤ 3 → first ≡ get_or contents 0 first
+pub three_contents : (contents : List (Vec ℕ Global)) (first second third : Vec ℕ Global) → 3 ≤ length contents → length contents < 4 → first ≡ get_or contents 0 first
     → second ≡ get_or contents 1 second → third ≡ get_or contents 2 third → contents ≡ first ∷ second ∷ third ∷ []
 three_contents [] first second third low high is these those = absurd (omega (arith, low))
 three_contents (x ∷ []) first second third low high is these those = absurd (omega (arith, low))
@@ -42,7 +44,14 @@ not_traced bytes trace_reason.Memory few is = tt
 -- what is said of an outcome that there is
 pub said_of : (entered : Entered) (outcome : Option Outcome) → IsSome outcome → plain_text entered 0 outcome ≡ end_text entered outcome
 said_of entered (Some outcome) some = refl
-said_of entered None some = absurd some
+said_of entered None some = cc
+
+-- the text of a run that is told is what is said last, where each directive is enabled
+pub said_run : {E : Type 0} (result : Result (Vec ℕ Global) E) (entered : Entered) (outcome : Option Outcome) (run : Run) (refused : Option ℕ) → refused ≡ None
+    → Told outcome (Some run) → IfOk result (λ text. text.items ≡ plain_text entered 0 (outcome_of run)) → IfOk result (λ text. text.items ≡ last_text entered outcome refused)
+said_run (Err e) entered outcome run refused none told h = tt
+said_run (Ok text) entered outcome run refused none told h =
+    h ∙ ap (plain_text entered 0) told.0 ∙ said_of entered outcome told.1 ∙ ap (last_text entered outcome) (sym none)
 
 -- what is observed from the opening is what is observed of the function's run
 pub observed_so : (most : ℕ) (program q : Program) (function : ℕ) (start : Start) (directives : List Directive) (old new : State) (seen : Observed) → q ≡ program
@@ -94,7 +103,18 @@ module _ (request : SpecRequest) (image trace start : List ℕ) where
           start = start;
           are = refl;
           speculated = speculated_in entry s directives;
-          prepared = (program, imaged, (entry, found, (record { entry = entry; directives = directives }, record { same_entry = refl; few = traced.0; read = traced.1 },
-              record { same_directives = refl; starts = starts })));
+          prepared = (
+            program,
+            imaged,
+            (
+              entry,
+              found,
+              (
+                record { entry = entry; directives = directives },
+                record { same_entry = refl; few = traced.0; read = traced.1 },
+                record { same_directives = refl; starts = starts },
+              ),
+            ),
+          );
           is_plan = is;
         }

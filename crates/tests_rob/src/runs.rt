@@ -22,7 +22,13 @@ fn a_buffer_of_one_entry_has_no_room_for_a_second(rt: HostRuntime) -> Result<(),
         args,
         patches: List::new(alloc),
     };
-    let twice = seen_in_one(alloc, &program, 0, &start, &[Directive::Fetch, Directive::Fetch])?;
+    let twice = seen_in_one(
+        alloc,
+        &program,
+        0,
+        &start,
+        &[Directive::Fetch, Directive::Fetch],
+    )?;
     assert_eq!(rt; twice.made.len(), 1);
     assert_eq!(rt; twice.refused, Some(2));
     let in_turn = [

@@ -174,11 +174,23 @@ fn traces_exports_and_starts_that_are_refused(rt: HostRuntime) -> Result<(), Fai
     let lines = vec![in alloc; b'\n'; 1_000_001]?;
     let bytes = vec![in alloc; b'\n'; 16_777_217]?;
     let cases: [(&str, &[u8], &str, u8, &str); 10] = [
-        ("inc/inc", b"fetch\nretire\nexec 0\n", "arg 1", 18, "none\nnone\nstuck 3\n"),
+        (
+            "inc/inc",
+            b"fetch\nretire\nexec 0\n",
+            "arg 1",
+            18,
+            "none\nnone\nstuck 3\n",
+        ),
         ("inc/inc", b"", "arg 1", 0, "pending\n"),
         ("inc/inc", b"fetch\nleap", "arg 1", 14, "trace: line 2\n"),
         ("inc/inc", b"fetch 00\n", "arg 1", 14, "trace: line 1\n"),
-        ("inc/inc", b"exec 4294967295\nexec 4294967296\n", "arg 1", 14, "trace: line 2\n"),
+        (
+            "inc/inc",
+            b"exec 4294967295\nexec 4294967296\n",
+            "arg 1",
+            14,
+            "trace: line 2\n",
+        ),
         ("inc/inc", &lines, "arg 1", 8, "limit: directives 1000001\n"),
         ("inc/inc", &bytes, "arg 1", 8, "limit: trace 16777217\n"),
         ("inc/dec", b"leap", "", 15, "start: export\n"),

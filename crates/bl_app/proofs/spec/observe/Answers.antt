@@ -1,4 +1,22 @@
+use Rattle.std.proofs.Common.{◌≡◌, ◌++◌, ◌∙◌, ap, map}
+use Rattle.std.specs.List.{flat_map}
+use Rattle.bl_rob.specs.Answers.{outcome_in, seen_in, shown}
+use Rattle.bl_rob.specs.Observed.{Observed}
+use Rattle.bl_trace.specs.Observations.{observation_text}
+use Rattle.bl_app.specs.Speculating.{last_text, spec_status}
+use Rattle.bl_app.specs.Working.{entered_in, entry_in, keep_in}
+use Rattle.bl_app.proofs.SpecWork.{observed_so}
 use Rattle.bl_app.proofs.spec.observe.Goals as goal
 
 pub returns : goal.returns
-returns c = ?
+returns c =
+    let entered = entered_in (entry_in c.args.program.now c.args.entry.now) c.args.start.now in
+    let new = c.observe.new.self in
+    let both = observed_so 64 c.args.program.now c.in_ok-rob.rob.program c.args.entry.now.function c.args.start.now c.args.directives.now (shown c.in_ok-rob.rob.machine)
+    (shown new.machine) (seen_in c.in_ok-seen.seen) c.in_ok-rob.ensures.0 c.in_ok-rob.ensures.1 c.in_ok-seen.ensures.seen in
+    let same : new.program ≡ c.args.program.now = c.in_ok-seen.ensures.same ∙ c.in_ok-rob.ensures.0 in
+    let refused = ap (λ (o : Observed). o.refused) both.0 in
+    let first = c.in_ok-text.ensures ∙ ap (flat_map observation_text) (c.as_slice.ensures ∙ ap (λ (o : Observed). o.made) both.0) in
+    let last = c.deref.ensures.value ∙ (c.in_ok-last.ensures ∙ (λ i. last_text entered (outcome_in (same i) (both.1 i)) (refused i))) in
+    let text = c.in_ok-extend_from_slice.ensures.items ∙ (λ i. first i ++ last i) in
+    λ i. record { status = (c.spec_status.ensures ∙ ap spec_status refused) i; keeps = map keep_in (c.new.ensures.items i); text = text i }
