@@ -15,7 +15,7 @@ use Rattle.bl_wasm.specs.declared.module.Module.{Module}
 use Rattle.bl_wasm.specs.declared.types.FuncType.{FuncType}
 use Rattle.bl_link.specs.Alone.{IsAlone, alone}
 use Rattle.bl_link.proofs.Spelled.{alone_from}
-use Rattle.bl_link.proofs.Widths.{spelled_linked}
+use Rattle.bl_link.proofs.SpelledAlone.{spelled_linked}
 use Rattle.bl_app.specs.Form.{StandsAlone}
 use Rattle.bl_app.specs.Loading.{Accepted}
 

@@ -22,4 +22,4 @@ pub mod PartLemmas
 pub mod SpelledParts
 pub mod Reading
 pub mod TreeParts
-pub mod Widths
+pub mod SpelledAlone
