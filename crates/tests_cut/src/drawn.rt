@@ -1,11 +1,11 @@
 //! The least protects of programs with loops and calls, whose commands were drawn at random. `least.py` found what is expected, by
 //! trying every set of sites.
-use crate::least::is_least;
 use crate::images::{
     DRAWN_0, DRAWN_1, DRAWN_2, DRAWN_3, DRAWN_4, DRAWN_7, DRAWN_9, DRAWN_10, DRAWN_11, DRAWN_12,
     DRAWN_14, DRAWN_15, DRAWN_16, DRAWN_17, DRAWN_18, DRAWN_19, DRAWN_20, DRAWN_21, DRAWN_23,
     DRAWN_24,
 };
+use crate::least::is_least;
 use std::test::Fail;
 
 #[test]

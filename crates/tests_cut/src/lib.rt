@@ -6,8 +6,8 @@ mod certificates;
 #[cfg(test)]
 mod drawn;
 #[cfg(test)]
-mod least;
-#[cfg(test)]
 mod images;
+#[cfg(test)]
+mod least;
 #[cfg(test)]
 mod rows;

@@ -1,6 +1,6 @@
 //! Programs whose least protects were found by hand, and by `least.py`.
-use crate::least::{is_certified_by, is_least};
 use crate::images::{BEFORE_LOOP, DOUBLED, IN_LOOP, LOADS, SUM, TWICE, WEIGHTED};
+use crate::least::{is_certified_by, is_least};
 use std::test::Fail;
 
 #[test]

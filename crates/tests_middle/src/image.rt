@@ -66,7 +66,12 @@ fn no_proper_prefix_is_an_image(rt: HostRuntime) -> Result<(), Fail> {
 }
 
 /// Whether an image with one byte changed is answered so.
-fn answers(rt: &HostRuntime, image: &[u8], change: (usize, u8), error: ImageError) -> Result<bool, Fail> {
+fn answers(
+    rt: &HostRuntime,
+    image: &[u8],
+    change: (usize, u8),
+    error: ImageError,
+) -> Result<bool, Fail> {
     let (at, byte) = change;
     let mut bytes = image.to_vec(rt.alloc())?;
     if at < bytes.len() {
