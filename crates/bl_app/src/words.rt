@@ -129,7 +129,10 @@ pub fn read_words(alloc: Global, words: &[String]) -> Result<Option<Request<'_>>
     let Some(command) = command_named(command.as_str()) else {
         return Ok(None);
     };
-    Ok(take_apart(alloc, words)?.and_then(|parts| request_by(command, &parts)))
+    let Some(parts) = take_apart(alloc, words)? else {
+        return Ok(None);
+    };
+    Ok(request_by(command, &parts))
 }
 
 /// The command that a word names, spelled exactly.
