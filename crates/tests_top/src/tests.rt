@@ -3,7 +3,6 @@ mod greatest;
 mod interp;
 mod lower;
 mod run;
-mod spec;
 mod words;
 
 use bl_app::blade;
