@@ -16,6 +16,7 @@ use Rattle.bl_wasm.specs.Validity.{functions_of}
 use Rattle.bl_wasm.specs.declared.module.Module.{Module}
 
 pub is_name : IsName (0x6D ∷ [])
+unfolding lib.Utf8.encode
 is_name = record {
   text = (0x6D ∷ [], (refl, refl));
   solidus = All-cons (λ byte. byte ≡ 0x2F → ⊥) 0x6D [] (λ e. omega (arith, e)) (All-nil (λ byte. byte ≡ 0x2F → ⊥));
