@@ -1,11 +1,12 @@
 -- A module that its bytes spell, under the name "m", is a part that can be linked by itself.
-use Rattle.std.proofs.Common.{◌≡◌, ℕ, ◌<◌, ◌≤◌, ◌^◌, zero, suc, List, [], ◌∷◌, length, Option, Some, None, slice_get, refl, arith}
+use Rattle.std.proofs.Common.{◌≡◌, ℕ, ◌<◌, ◌≤◌, ◌^◌, zero, suc, List, [], ◌∷◌, length, Option, Some, None, slice_get, refl, sym, subst, arith}
 use Rattle.std.specs.List.{All}
 use Rattle.std.specs.Str.{IsUtf8}
 use Rattle.std.proofs.lemmas.List.Elements.{All-nil, All-cons}
 use Rattle.std.proofs.lemmas.Option.{none-some}
 use Rattle.bl_base.specs.Quantity.{limit_of}
 use Rattle.bl_labels.specs.Marked.{unlabelled}
+use Rattle.bl_labels.specs.declared.labels.Labels.{Labels}
 use Rattle.bl_link.specs.Linkable.{AreParts, IsName, IsPart}
 use Rattle.bl_link.specs.Links.{part_of}
 use Rattle.bl_link.specs.declared.part.Part.{Part}
@@ -24,6 +25,14 @@ is_name = record {
 
 pub good : (bytes : List ℕ) (tree : Module) → Spells bytes tree → length bytes ≤ 1000 → first_excess tree ≡ None → IsPart (part_of (0x6D ∷ []) tree unlabelled)
 good bytes tree spelled short none = part_from (0x6D ∷ []) bytes tree is_name spelled (omega (arith, short)) none
+
+-- the same of what is equal to that part's
+pub good_as : (name bytes : List ℕ) (tree wasm : Module) (labels : Labels) → name ≡ 0x6D ∷ [] → wasm ≡ tree → labels ≡ unlabelled
+    → Spells bytes tree → length bytes ≤ 1000 → first_excess tree ≡ None → IsPart (part_of name wasm labels)
+good_as name bytes tree wasm labels named same none spelled short few =
+    subst (λ n. IsPart (part_of n wasm labels)) (sym named)
+    (subst (λ w. IsPart (part_of (0x6D ∷ []) w labels)) (sym same)
+    (subst (λ l. IsPart (part_of (0x6D ∷ []) tree l)) (sym none) (good bytes tree spelled short few)))
 
 pub few_functions : (bytes : List ℕ) (tree : Module) → Spells bytes tree → length bytes ≤ 1000 → first_excess tree ≡ None → length (functions_of tree) < 2 ^ 32
 few_functions bytes tree spelled short none = omega (arith, (good bytes tree spelled short none).functions)
