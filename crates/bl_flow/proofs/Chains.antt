@@ -1,5 +1,5 @@
 -- Rows made of chains of links.
-use Rattle.std.proofs.Common.{◌≡◌, ℕ, suc, ◌+◌, ◌-◌, ◌<◌, ◌≤◌, List, [], ◌∷◌, ◌++◌, Option, Some, None, length, drop, set, refl, sym, ap, subst, ◌∙◌, arith, inl, inr, slice_index, slice_index_or, replicate, length-append, length-set, length-drop}
+use Rattle.std.proofs.Common.{◌≡◌, ℕ, suc, ◌+◌, ◌-◌, ◌^◌, ◌<◌, ◌≤◌, List, [], ◌∷◌, ◌++◌, Option, Some, None, length, drop, set, refl, sym, ap, subst, ◌∙◌, arith, inl, inr, slice_index, slice_index_or, replicate, length-append, length-set, length-drop}
 use Rattle.std.specs.List.{Contains}
 use Rattle.std.proofs.lemmas.Bool.{cases_lt, cases_eq}
 use Rattle.std.proofs.lemmas.List.{get_or-take, get_or-drop, get_or_append_left, get_or_push, get_or-set_same, get_or-set_other, get_or-replicate, get_or_past, length-replicate, length-take-le, get_or_default}
@@ -176,6 +176,7 @@ pub record RowsTo (links : List Link) (parts : ℕ) (offsets entries : List ℕ)
   pub rise : (part : ℕ) → part < parts → slice_index offsets part ≤ slice_index offsets (part + 1)
   pub within : (part : ℕ) → slice_index offsets part ≤ length entries
   pub last : slice_index offsets parts ≡ length entries
+  pub small : length entries < 2 ^ 32
   pub sound : (part place : ℕ) → part < parts → slice_index offsets part ≤ place → place < slice_index offsets (part + 1) →
       (slice_index entries place < length links) × ((link_at links (slice_index entries place)).from ≡ part)
   pub full : (part k : ℕ) → part < parts → k < length links → (link_at links k).from ≡ part → StandsIn entries (slice_index offsets part) (slice_index offsets (part + 1)) k
@@ -189,13 +190,15 @@ no_rows links = record {
     | inr high ↦ let z : slice_index (0 ∷ []) part ≡ 0 = get_or_past (0 ∷ []) part 0 high in omega arith
   ];
   last = refl;
+  small = omega arith;
   sound = λ part place lt. absurd (omega arith);
   full = λ part k lt. absurd (omega arith);
 }
 
 pub row_more : (links : List Link) (parts : ℕ) (offsets entries after : List ℕ) → RowsTo links parts offsets entries → AppendsRow links parts (length links) entries after
-    → RowsTo links (parts + 1) (offsets ++ length after ∷ []) after
-row_more links parts offsets entries after so_far row = record {
+    → length after < 2 ^ 32 → RowsTo links (parts + 1) (offsets ++ length after ∷ []) after
+row_more links parts offsets entries after so_far row small = record {
+  small = small;
   places = let c = length-append offsets (length after ∷ []) in let p = so_far.places in omega arith;
   rise = λ part lt.
       elim (cases_lt part parts) as (λ _. slice_index more part ≤ slice_index more (part + 1)) [
@@ -254,6 +257,7 @@ are_offsets links parts offsets entries to = record {
   some = let p = to.places in omega arith;
   rise = λ part lt. to.rise part (let p = to.places in omega arith);
   within = to.within;
+  small = to.small;
 }
 
 pub are_rows : (links : List Link) (parts : ℕ) (offsets entries : List ℕ) → RowsTo links parts offsets entries → ((k : ℕ) → k < length links → (link_at links k).from < parts) → AreRows links (rows_from offsets entries)
@@ -315,12 +319,12 @@ row_bounds offsets entries rows part view are lt =
 pub row_next : (links : List Link) (parts part : ℕ) (last before before_now : List (Option ℕ)) (first : Option ℕ) (offsets entries after : List ℕ) → AreChained links parts (length links) last before → part < parts → before_now ≡ before
     → first ≡ slice_index_or last part None → RowsTo links part offsets entries
     → ((some : List Link) (p : ℕ) → AreBefore some before_now → IsLast some p (length before_now) first → AppendsRow some p (length before_now) entries after)
-    → RowsTo links (part + 1) (offsets ++ length after ∷ []) after
-row_next links parts part last before before_now first offsets entries after chained lt same is so_far appends =
+    → length after < 2 ^ 32 → RowsTo links (part + 1) (offsets ++ length after ∷ []) after
+row_next links parts part last before before_now first offsets entries after chained lt same is so_far appends small =
     let count : length before_now ≡ length links = ap length same ∙ chained.count_ in
     row_more links part offsets entries after so_far
     (subst (λ m. AppendsRow links part m entries after) count
-    (appends links part (subst (AreBefore links) (sym same) chained.before_) (subst (λ m. IsLast links part m first) (sym count) (subst (IsLast links part (length links)) (sym is) (chained.last_ part lt)))))
+    (appends links part (subst (AreBefore links) (sym same) chained.before_) (subst (λ m. IsLast links part m first) (sym count) (subst (IsLast links part (length links)) (sym is) (chained.last_ part lt))))) small
 
 -- no row is longer than the entries
 pub rows_short : (offsets entries : List ℕ) (rows : List (List ℕ)) → rows_from offsets entries ≡ rows → AreOffsets offsets (length entries) → (part most : ℕ) → length entries < most → length (row_at rows part) < most

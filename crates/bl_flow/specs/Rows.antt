@@ -1,14 +1,15 @@
 -- Compressed rows, and the chains of links that they are made of.
-use Rattle.std.specs.Prelude.{◌≡◌, ℕ, ◌+◌, ◌-◌, ◌<◌, ◌≤◌, List, Option, Some, None, length, map, take, drop, slice_index, slice_index_or, if◌then◌else◌, nat_lt}
+use Rattle.std.specs.Prelude.{◌≡◌, ℕ, ◌+◌, ◌-◌, ◌^◌, ◌<◌, ◌≤◌, List, Option, Some, None, length, map, take, drop, slice_index, slice_index_or, if◌then◌else◌, nat_lt}
 use Rattle.std.specs.List.{range_with_len}
 use Rattle.bl_flow.specs.declared.split.Link.{Link}
 use Rattle.bl_flow.specs.Split.{link_at}
 
--- where the rows begin: in order, and within the entries
+-- where the rows begin: in order, and within the entries, whose number is one of 32 bits
 pub record AreOffsets (offsets : List ℕ) (count : ℕ) : Type 0 where
   pub some : 0 < length offsets
   pub rise : (part : ℕ) → part + 1 < length offsets → slice_index offsets part ≤ slice_index offsets (part + 1)
   pub within : (part : ℕ) → slice_index offsets part ≤ count
+  pub small : count < 2 ^ 32
 
 -- a part's row
 abbrev pub row_from : List ℕ → List ℕ → ℕ → List ℕ

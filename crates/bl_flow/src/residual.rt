@@ -8,6 +8,7 @@ ghost use Rattle.bl_flow.specs.Residuals.{IsLawful, amount_of, AreLevelsOf, Reac
 
 use crate::level_graph::{block_graph, part_levels};
 use crate::network::Network;
+use crate::optional::OptionalNumber;
 use crate::rows::{Rows, rows_of};
 use crate::split::{Link, empty_capacities, links_both_ways};
 use bl_base::{List, NoMemory};
@@ -122,7 +123,7 @@ pub fn levels(alloc: Global, r: &Residual) -> Result<List<Option<u64>>, NoMemory
 /// The levels of the first so many parts, counted from the starts' in places.
 fn place_levels(
     alloc: Global,
-    levels: &[Option<u32>],
+    levels: &[OptionalNumber],
     places: usize,
 ) -> Result<List<Option<u64>>, NoMemory>
     requires { places ≤ length levels.now }
@@ -131,7 +132,7 @@ fn place_levels(
 {
     let mut list = Vec::new(alloc);
     for p in 0..places {
-        list.push(lower(levels[p]))?;
+        list.push(lower(levels[p].get()))?;
     }
     Ok(List::of(list))
 }

@@ -4,6 +4,7 @@ ghost use Rattle.bl_flow.specs.Split.{link_at};
 ghost use Rattle.bl_flow.specs.Searches.{AreRows, row_at};
 ghost use Rattle.bl_flow.specs.Rows.{reversed, AreChained, AreBefore, IsLast, AppendsRow};
 
+use crate::optional::{OptionalNumber, no_numbers};
 use crate::split::{Link, number_of, reverse_of};
 use bl_base::NoMemory;
 use std::alloc::Global;
@@ -41,7 +42,7 @@ impl Rows {
     pub fn row(&self, part: usize) -> &[u32]
         requires { part < length self.now }
         ensures row { result.now ≡ row_at self.now part }
-        ensures small { (p : ℕ) → length (row_at self.now p) < 2 ^ 63 }
+        ensures small { (p : ℕ) → length (row_at self.now p) < 2 ^ 32 }
     {
         let start = self.offsets[part];
         let end = self.offsets[part + 1];
@@ -61,7 +62,7 @@ impl Rows {
     pub fn link_from(&self, part: usize, place: usize) -> Option<usize>
         requires { part < length self.now }
         ensures link { result ≡ slice_get (row_at self.now part) place }
-        ensures small { (p : ℕ) → length (row_at self.now p) < 2 ^ 63 }
+        ensures small { (p : ℕ) → length (row_at self.now p) < 2 ^ 32 }
     {
         let link = self.row(part).get(place)?;
         Some(*link as usize)
@@ -73,7 +74,7 @@ impl Rows {
         requires part { part < length self.now }
         requires half { half < 2 ^ 63 }
         ensures link { result ≡ slice_get (row_at (reversed half self.now) part) place }
-        ensures small { (p : ℕ) → length (row_at (reversed half self.now) p) < 2 ^ 63 }
+        ensures small { (p : ℕ) → length (row_at (reversed half self.now) p) < 2 ^ 32 }
     {
         let link = self.link_from(part, place)?;
         Some(reverse_of(half, link))
@@ -84,8 +85,8 @@ impl Rows {
 /// the same part.
 #[derive(Drop)]
 struct Chains {
-    last: Vec<Option<u32>>,
-    before: Vec<Option<u32>>,
+    last: Vec<OptionalNumber>,
+    before: Vec<OptionalNumber>,
 }
 
 /// For each part the links from it. More links than have numbers of 32 bits are too many for memory.
@@ -99,7 +100,7 @@ pub fn rows_of(alloc: Global, links: &[Link], parts: usize) -> Result<Rows, NoMe
     let mut entries = Vec::with_capacity(alloc, links.len())?;
     offsets.push(0)?;
     for part in 0..parts {
-        push_chain(&chains.before, chains.last[part], &mut entries)?;
+        push_chain(&chains.before, chains.last[part].get(), &mut entries)?;
         let end = number_of(entries.len())?;
         offsets.push(end)?;
     }
@@ -111,30 +112,23 @@ fn chains_of(alloc: Global, links: &[Link], parts: usize) -> Result<Chains, NoMe
     requires { (k : ℕ) → k < length links.now → (link_at links.now k).from < parts }
     ensures { IfOk result (λ chains. AreChained links.now parts (length links.now) chains.last.items chains.before.items) }
 {
-    let mut last = no_links(alloc, parts)?;
+    let mut last = no_numbers(alloc, parts)?;
     let mut before = Vec::with_capacity(alloc, links.len())?;
     for (k, link) in links.iter().enumerate() {
         let number = number_of(k)?;
+        // A last number of 32 bits would be one more than an optional number can be.
+        if number == u32::MAX {
+            return Err(NoMemory);
+        }
         before.push(last[link.from as usize])?;
-        last[link.from as usize] = Some(number);
+        last[link.from as usize] = OptionalNumber::of(number);
     }
     Ok(Chains { last, before })
 }
 
-/// No part has a link.
-fn no_links(alloc: Global, parts: usize) -> Result<Vec<Option<u32>>, NoMemory>
-    ensures { IfOk result (λ last. last.items ≡ replicate parts None) }
-{
-    let mut last = Vec::with_capacity(alloc, parts)?;
-    for _ in 0..parts {
-        last.push(None)?;
-    }
-    Ok(last)
-}
-
 /// Appends the links of a chain, the last first.
 fn push_chain(
-    before: &[Option<u32>],
+    before: &[OptionalNumber],
     last: Option<u32>,
     entries: &mut Vec<u32>,
 ) -> Result<(), NoMemory>
@@ -146,7 +140,7 @@ fn push_chain(
     let mut next = last;
     while let Some(link) = next {
         entries.push(link)?;
-        next = before[link as usize];
+        next = before[link as usize].get();
     }
     Ok(())
 }

@@ -13,6 +13,6 @@ loop-k-preserved c =
     let places = loop.invariant.places in
     let got : c.index.result.now ≡ slice_index_or loop.last.items from None = c.index.ensures ∙ get_or_default loop.last.items from _ None (omega arith) in
     let more = chain_more c.args.links.now c.args.parts loop.k loop.last.items loop.before.items loop.invariant inside in
-    rw c.in_ok-push.ensures.items
+    rw (c.in_ok-push.ensures.items, c.of.ensures)
     (subst (λ o. AreChained c.args.links.now c.args.parts (loop.k + 1) (set loop.last.items from (Some c.in_ok-number.number)) (loop.before.items ++ o ∷ [])) (sym got)
-    (subst (λ number. AreChained c.args.links.now c.args.parts (loop.k + 1) (set loop.last.items from (Some number)) (loop.before.items ++ slice_index_or loop.last.items from None ∷ [])) (sym c.in_ok-number.ensures) more))
+    (subst (λ number. AreChained c.args.links.now c.args.parts (loop.k + 1) (set loop.last.items from (Some number)) (loop.before.items ++ slice_index_or loop.last.items from None ∷ [])) (sym c.in_ok-number.ensures.number) more))

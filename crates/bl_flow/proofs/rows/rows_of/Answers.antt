@@ -14,10 +14,11 @@ loop-part-preserved c =
     let places = chained.places in
     let part = c.loop-part.part in
     let lt = c.loop-part-test.true in
-    let first : c.index.result.now ≡ slice_index_or c.in_ok-chains.chains.last.items part None = c.index.ensures ∙ get_or_default c.in_ok-chains.chains.last.items part _ None (omega arith) in
-    let more = row_next c.args.links.now c.args.parts part c.in_ok-chains.chains.last.items c.in_ok-chains.chains.before.items c.deref.result.now c.index.result.now c.loop-part.offsets.items c.loop-part.entries.items c.push_chain.new.entries.items
-    chained lt c.deref.ensures.value first c.loop-part.invariant c.in_ok-push_chain.ensures in
-    let len : c.in_ok-end.end ≡ length c.push_chain.new.entries.items = c.in_ok-end.ensures ∙ (let e = c.len.ensures in let ok = c.push_chain.new.entries.ok.0 in omega arith) in
+    let first : c.get.result ≡ slice_index_or c.in_ok-chains.chains.last.items part None = c.get.ensures ∙ c.index.ensures ∙ get_or_default c.in_ok-chains.chains.last.items part _ None (omega arith) in
+    let len : c.in_ok-end.end ≡ length c.push_chain.new.entries.items = c.in_ok-end.ensures.number ∙ (let e = c.len.ensures in let ok = c.push_chain.new.entries.ok.0 in omega arith) in
+    let small = c.in_ok-end.ensures.small in
+    let more = row_next c.args.links.now c.args.parts part c.in_ok-chains.chains.last.items c.in_ok-chains.chains.before.items c.deref.result.now c.get.result c.loop-part.offsets.items c.loop-part.entries.items c.push_chain.new.entries.items
+    chained lt c.deref.ensures.value first c.loop-part.invariant c.in_ok-push_chain.ensures (omega arith) in
     rw c.in_ok-push-2.ensures.items (subst (λ x. RowsTo c.args.links.now (part + 1) (c.loop-part.offsets.items ++ x ∷ []) c.push_chain.new.entries.items) (sym len) more)
 
 pub returns-clause-places : goal.returns-clause-places

@@ -7,7 +7,7 @@ use Rattle.bl_flow.proofs.Blocking.{at_place}
 use Rattle.bl_flow.proofs.Wiring.{reversed_row}
 use Rattle.bl_flow.proofs.rows.Rows.link_to.Goals as goal
 
-short : (half : ℕ) (rows : List (List ℕ)) (p : ℕ) → length (row_at rows p) < 2 ^ 63 → length (row_at (reversed half rows) p) < 2 ^ 63
+short : (half : ℕ) (rows : List (List ℕ)) (p : ℕ) → length (row_at rows p) < 2 ^ 32 → length (row_at (reversed half rows) p) < 2 ^ 32
 short half rows p small =
     let same = ap length (reversed_row half rows p) in
     let count = length-map (row_at rows p) (reverse_place half) in omega arith

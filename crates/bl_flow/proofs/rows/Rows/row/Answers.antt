@@ -65,5 +65,4 @@ returns-clause-row c =
 
 pub returns-clause-small : goal.returns-clause-small
 returns-clause-small c = λ p.
-    rows_short c.self.inside.offsets.items c.self.inside.entries.items c.args.self.now c.self.view_is c.self.invariant p (2 ^ 63)
-    (let ok = c.self.inside.entries.ok.0 in let small = c.self.inside.entries.small in omega arith)
+    rows_short c.self.inside.offsets.items c.self.inside.entries.items c.args.self.now c.self.view_is c.self.invariant p (2 ^ 32) c.self.invariant.small
