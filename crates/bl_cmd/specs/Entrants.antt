@@ -12,7 +12,8 @@ Goes commands from to = IsSomeAnd (slice_get commands from) (λ command. GoesTo 
 -- what is kept of those that go to a position: nothing where there are none, else the least and the greatest
 abbrev pub Spans : (ℕ → Type 0) → Option Entrants → Type 0
 Spans Goes None = (from : ℕ) → Goes from → ⊥
-Spans Goes (Some entrants) = Goes entrants.least × Goes entrants.greatest × ((from : ℕ) → Goes from → (entrants.least ≤ from) × (from ≤ entrants.greatest))
+Spans Goes (Some entrants) =
+    Goes entrants.least × Goes entrants.greatest × ((from : ℕ) → Goes from → (entrants.least ≤ from) × (from ≤ entrants.greatest))
 
 -- what is kept of each position, where it is known of two positions whether the first one goes to the second
 abbrev pub AreNoted : (ℕ → ℕ → Type 0) → List (Option Entrants) → Type 0

@@ -66,7 +66,8 @@ pub record Rule2 (program : Program) : Type 0 where
 
 -- no two names are equal, and what they name exists
 pub record Rule3 (program : Program) : Type 0 where
-  pub distinct : (i j : ℕ) (a b : ExportDef) → slice_get program.exports i ≡ Some a → slice_get program.exports j ≡ Some b → a.name ≡ b.name → i ≡ j
+  pub distinct : (i j : ℕ) (a b : ExportDef) → slice_get program.exports i ≡ Some a → slice_get program.exports j ≡ Some b
+      → a.name ≡ b.name → i ≡ j
   pub exist : All (λ entry. entry.function < length program.functions) program.exports
 
 -- ---- rule 4: variables
@@ -167,7 +168,8 @@ Rule6 program function (Load mark kind memory to offset address) = IsMark mark �
 Rule6 program function (Store kind memory offset address value) = memory < length program.memories
 Rule6 program function (Test cond one other) = Unit {0}
 Rule6 program function (Jump to) = Unit {0}
-Rule6 program function (Arg mark callee index value) = IsMark mark × (callee < length program.functions) × (index < params_of program callee)
+Rule6 program function (Arg mark callee index value) =
+    IsMark mark × (callee < length program.functions) × (index < params_of program callee)
 Rule6 program function (Call callee) = callee < length program.functions
 Rule6 program function (Out mark index value) = IsMark mark × (index < results_of program function)
 Rule6 program function Ret = Unit {0}
@@ -280,7 +282,8 @@ pub record IsGrowth (program : Program) (function position memory : ℕ) (delta 
 abbrev pub Rule8 : Program → ℕ → ℕ → Command → Type 0
 Rule8 program function position (Set mark op to a b c) = (memory : ℕ) → memory < length program.memories → to.0 ≡ size_of program memory
     → IsSum program memory op a c × IsGrowth program function position memory b
-Rule8 program function position (Load mark kind memory to offset address) = (any : ℕ) → any < length program.memories → to.0 ≡ size_of program any → ⊥
+Rule8 program function position (Load mark kind memory to offset address) =
+    (any : ℕ) → any < length program.memories → to.0 ≡ size_of program any → ⊥
 Rule8 program function position (Store kind memory offset address value) = Unit {0}
 Rule8 program function position (Test cond one other) = Unit {0}
 Rule8 program function position (Jump to) = Unit {0}
@@ -322,7 +325,9 @@ pub record Rule9 (program : Program) : Type 0 where
 
 -- what holds of each command of a function at a position
 abbrev pub AtCommand : Program → ℕ → (ℕ → Command → Type 0) → Type 0
-AtCommand program position Keeps = (function : ℕ) (command : Command) → Holds program function position → command_at program position ≡ Some command → Keeps function command
+AtCommand program position Keeps =
+    (function : ℕ) (command : Command) → Holds program function position → command_at program position ≡ Some command
+    → Keeps function command
 
 -- a rule holds at a position; rules 1 to 3 and 9 have position 0
 abbrev pub Rule4At : Program → ℕ → Type 0

@@ -45,16 +45,20 @@ pub record KeepsRules (program : Program) (function position : ℕ) (command : C
 -- the first of them that is broken
 pub data BreaksRule (program : Program) (function position : ℕ) (command : Command) (rule : ℕ) : Type 0 where
   variables : rule ≡ 4 → (Rule4 program function command → ⊥) → BreaksRule program function position command rule
-  targets : rule ≡ 5 → Rule4 program function command → (Rule5 program function position command → ⊥) → BreaksRule program function position command rule
-  ranges : rule ≡ 6 → Rule4 program function command → Rule5 program function position command → (Rule6 program function command → ⊥) → BreaksRule program function position command rule
+  targets : rule ≡ 5 → Rule4 program function command → (Rule5 program function position command → ⊥)
+      → BreaksRule program function position command rule
+  ranges : rule ≡ 6 → Rule4 program function command → Rule5 program function position command
+      → (Rule6 program function command → ⊥) → BreaksRule program function position command rule
   accesses : rule ≡ 7 → Rule4 program function command → Rule5 program function position command → Rule6 program function command
       → (Rule7 program function position command → ⊥) → BreaksRule program function position command rule
   growths : rule ≡ 8 → Rule4 program function command → Rule5 program function position command → Rule6 program function command
-      → Rule7 program function position command → (Rule8 program function position command → ⊥) → BreaksRule program function position command rule
+      → Rule7 program function position command → (Rule8 program function position command → ⊥)
+          → BreaksRule program function position command rule
 
 -- the commands of a function below a position keep the rules
 abbrev pub KeepsBelow : Program → ℕ → ℕ → Type 0
-KeepsBelow program function high = (position : ℕ) (command : Command) → Holds program function position → position < high → command_at program position ≡ Some command
+KeepsBelow program function high =
+    (position : ℕ) (command : Command) → Holds program function position → position < high → command_at program position ≡ Some command
     → KeepsRules program function position command
 
 -- the first fault among a function's commands

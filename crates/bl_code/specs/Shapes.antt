@@ -78,11 +78,15 @@ IsBareCode code = (code ≤ 1) ⊎ (code ≡ 5) ⊎ (code ≡ 0x0B) ⊎ (code �
 
 -- the codes of no instruction with immediates
 abbrev pub IsOtherCode : ℕ → Type 0
-IsOtherCode code = (code ≤ 1) ⊎ ((5 ≤ code) × (code ≤ 0x0B)) ⊎ (code ≡ 0x0F) ⊎ ((0x12 ≤ code) × (code ≤ 0x1F)) ⊎ ((0x25 ≤ code) × (code ≤ 0x27)) ⊎ (0x45 ≤ code)
+IsOtherCode code =
+    (code ≤ 1) ⊎ ((5 ≤ code) × (code ≤ 0x0B)) ⊎ (code ≡ 0x0F) ⊎ ((0x12 ≤ code) × (code ≤ 0x1F)) ⊎ ((0x25 ≤ code) × (code ≤ 0x27))
+    ⊎ (0x45 ≤ code)
 
 -- the codes of no instruction but numeric ones
 abbrev pub IsNumericCode : ℕ → Type 0
-IsNumericCode code = ((6 ≤ code) × (code ≤ 0x0A)) ⊎ ((0x12 ≤ code) × (code ≤ 0x19)) ⊎ ((0x1C ≤ code) × (code ≤ 0x1F)) ⊎ ((0x25 ≤ code) × (code ≤ 0x27)) ⊎ (0x45 ≤ code)
+IsNumericCode code =
+    ((6 ≤ code) × (code ≤ 0x0A)) ⊎ ((0x12 ≤ code) × (code ≤ 0x19)) ⊎ ((0x1C ≤ code) × (code ≤ 0x1F))
+    ⊎ ((0x25 ≤ code) × (code ≤ 0x27)) ⊎ (0x45 ≤ code)
 
 -- the codes of instructions with such immediates are among these
 abbrev pub IsCodeOf : Shape → ℕ → Type 0

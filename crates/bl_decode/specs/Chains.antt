@@ -33,9 +33,12 @@ pub record CustomFirst (Behind : List CustomSection → Spellings) (customs : Li
 -- Sections to the end of a module, with custom sections among them: they begin with a custom section, or with a section
 -- whose id isn't below the least one; and bytes spell them in one way.
 pub record IsTail {A : Type 0} (least : ℕ) (Q : A → List CustomSection → Spellings) : Type 0 where
-  pub begins : (x : A) (customs : List CustomSection) (bytes : List ℕ) → Q x customs bytes → (bytes ≡ []) ⊎ ((id : ℕ) × Begins id bytes × ((id ≡ 0) ⊎ (least ≤ id)))
-  pub customs_first : (x : A) (customs : List CustomSection) (bytes : List ℕ) → Q x customs bytes → Begins 0 bytes → CustomFirst (Q x) customs bytes
-  pub one : (x y : A) (customs others : List CustomSection) (bytes : List ℕ) → Q x customs bytes → Q y others bytes → (x ≡ y) × (customs ≡ others)
+  pub begins : (x : A) (customs : List CustomSection) (bytes : List ℕ) → Q x customs bytes
+      → (bytes ≡ []) ⊎ ((id : ℕ) × Begins id bytes × ((id ≡ 0) ⊎ (least ≤ id)))
+  pub customs_first : (x : A) (customs : List CustomSection) (bytes : List ℕ) → Q x customs bytes → Begins 0 bytes
+      → CustomFirst (Q x) customs bytes
+  pub one : (x y : A) (customs others : List CustomSection) (bytes : List ℕ) → Q x customs bytes → Q y others bytes
+      → (x ≡ y) × (customs ≡ others)
 
 -- a section of an id above 0, and behind it what begins with ids above its own
 pub record IsLink {A B : Type 0} (id least : ℕ) (S : A → Spellings) (R : B → List CustomSection → Spellings) : Type 0 where
@@ -47,7 +50,8 @@ pub record IsLink {A B : Type 0} (id least : ℕ) (S : A → Spellings) (R : B �
 -- A reader gives a section where one stands, and else what is missing; or it says why it gives nothing.
 abbrev pub ReadsSection : {A : Type 0} → ℕ → (A → Spellings) → List ℕ → ℕ → Result (A × ℕ) CodeError → Type 0
 ReadsSection {A} id S bytes start (Ok found) = IsAt S bytes start found.1 found.0 × (slice_get bytes start ≡ Some id → start < found.1)
-ReadsSection {A} id S bytes start (Err Malformed) = (slice_get bytes start ≡ Some id) × ((x : A) (end : ℕ) → start < end → IsAt S bytes start end x → ⊥)
+ReadsSection {A} id S bytes start (Err Malformed) =
+    (slice_get bytes start ≡ Some id) × ((x : A) (end : ℕ) → start < end → IsAt S bytes start end x → ⊥)
 ReadsSection {A} id S bytes start (Err Memory) = Unit {0}
 
 -- custom sections that stand there, behind the old ones
@@ -78,14 +82,16 @@ ReadsCustoms bytes start old new (Err Malformed) = CustomMalformed bytes start
 ReadsCustoms bytes start old new (Err Memory) = Unit {0}
 
 -- the bytes from a place to their end spell it, with the custom sections behind the old ones
-pub record TailRead {A : Type 0} (Q : A → List CustomSection → Spellings) (bytes : List ℕ) (start : ℕ) (old new : List CustomSection) (x : A) : Type 0 where
+pub record TailRead {A : Type 0} (Q : A → List CustomSection → Spellings) (bytes : List ℕ) (start : ℕ)
+    (old new : List CustomSection) (x : A) : Type 0 where
   pub customs : List CustomSection
   pub appended : new ≡ old ++ customs
   pub spelled : Q x customs (drop start bytes)
 
 -- A reader gives what the bytes from a place to their end spell, and appends the custom sections; or it says why it
 -- gives nothing.
-abbrev pub ReadsTail : {A : Type 0} → (A → List CustomSection → Spellings) → List ℕ → ℕ → List CustomSection → List CustomSection → Result A CodeError → Type 0
+abbrev pub ReadsTail : {A : Type 0} → (A → List CustomSection → Spellings) → List ℕ → ℕ → List CustomSection → List CustomSection
+    → Result A CodeError → Type 0
 ReadsTail {A} Q bytes start old new (Ok x) = TailRead Q bytes start old new x
 ReadsTail {A} Q bytes start old new (Err Malformed) = (x : A) (customs : List CustomSection) → Q x customs (drop start bytes) → ⊥
 ReadsTail {A} Q bytes start old new (Err Memory) = Unit {0}

@@ -27,11 +27,14 @@ use Rattle.bl_code.proofs.Nesting.{expression_one}
 
 -- one after another
 pub seq_one : {A B : Type 0} {F : A → Spellings} {S : B → Spellings} → IsOne F → IsOne S → IsOne (λ (t : A × B). F t.0 ⨾ S t.1)
-seq_one first second = record { same = λ s t. seq_same (first.same s.0 t.0) (λ e. then_same (λ f. ap₂ (λ x y. (x, y)) e f) (second.same s.1 t.1)) }
+seq_one first second =
+    record { same = λ s t. seq_same (first.same s.0 t.0) (λ e. then_same (λ f. ap₂ (λ x y. (x, y)) e f) (second.same s.1 t.1)) }
 
 -- what has the parts of another thing
-pub parts_one : {A T : Type 0} (B : A → Spellings) (parts : T → A) (whole : A → T) → ((x : T) → whole (parts x) ≡ x) → IsOne B → IsOne (λ x. B (parts x))
-parts_one B parts whole back one = record { same = λ x y. then_same (λ e. sym (back x) ∙ ap whole e ∙ back y) (one.same (parts x) (parts y)) }
+pub parts_one : {A T : Type 0} (B : A → Spellings) (parts : T → A) (whole : A → T) → ((x : T) → whole (parts x) ≡ x) → IsOne B
+    → IsOne (λ x. B (parts x))
+parts_one B parts whole back one =
+    record { same = λ x y. then_same (λ e. sym (back x) ∙ ap whole e ∙ back y) (one.same (parts x) (parts y)) }
 
 -- a byte that says nothing more
 pub mark_one : (n : ℕ) → IsOne (λ (x : Unit {0}). byte n)
@@ -43,7 +46,8 @@ marked_one n B one = record { same = λ x y. seq_same (byte_same n n) (λ e. one
 
 pub function_type_one : IsOne function_type
 function_type_one = marked_one 0x60 (λ (type : FuncType). vec value_type type.params ⨾ vec value_type type.results)
-    (parts_one (λ (t : List _ × List _). vec value_type t.0 ⨾ vec value_type t.1) (λ (type : FuncType). (type.params, type.results)) (λ t. record { params = t.0; results = t.1 }) (λ x. refl)
+    (parts_one (λ (t : List _ × List _). vec value_type t.0 ⨾ vec value_type t.1) (λ (type : FuncType). (type.params, type.results))
+        (λ t. record { params = t.0; results = t.1 }) (λ x. refl)
     (seq_one (vec_one value_type_one) (vec_one value_type_one)))
 
 pub table_type_one : IsOne table_type
@@ -59,7 +63,9 @@ pub mutability_one : IsOne mutability
 mutability_one = record { same = mutability_same }
 
 pub global_type_one : IsOne global_type
-global_type_one = parts_one (λ t. value_type t.0 ⨾ mutability t.1) (λ (type : GlobalType). (type.kind, type.mutable)) (λ t. record { kind = t.0; mutable = t.1 }) (λ x. refl) (seq_one value_type_one mutability_one)
+global_type_one =
+    parts_one (λ t. value_type t.0 ⨾ mutability t.1) (λ (type : GlobalType). (type.kind, type.mutable))
+    (λ t. record { kind = t.0; mutable = t.1 }) (λ x. refl) (seq_one value_type_one mutability_one)
 
 import_kind_same : (x y : ImportKind) → Same (import_kind x) (import_kind y) (x ≡ y)
 import_kind_same (import.Function x) (import.Function y) = seq_same (byte_same 0 0) (λ e. then_same (ap import.Function) (u32_one.same x y))
@@ -77,16 +83,21 @@ import_kind_same (import.Memory x) (import.Global y) = seq_same (byte_same 2 3) 
 import_kind_same (import.Global x) (import.Function y) = seq_same (byte_same 3 0) (λ e. absurd (let no : ⊥ = cc in no))
 import_kind_same (import.Global x) (import.Table y) = seq_same (byte_same 3 1) (λ e. absurd (let no : ⊥ = cc in no))
 import_kind_same (import.Global x) (import.Memory y) = seq_same (byte_same 3 2) (λ e. absurd (let no : ⊥ = cc in no))
-import_kind_same (import.Global x) (import.Global y) = seq_same (byte_same 3 3) (λ e. then_same (ap import.Global) (global_type_one.same x y))
+import_kind_same (import.Global x) (import.Global y) =
+    seq_same (byte_same 3 3) (λ e. then_same (ap import.Global) (global_type_one.same x y))
 
 pub import_kind_one : IsOne import_kind
 import_kind_one = record { same = import_kind_same }
 
 pub import_entry_one : IsOne import_entry
-import_entry_one = parts_one (λ t. name t.0 ⨾ (name t.1.0 ⨾ import_kind t.1.1)) (λ (entry : Import). (entry.from, (entry.name, entry.kind))) (λ t. record { from = t.0; name = t.1.0; kind = t.1.1 }) (λ x. refl) (seq_one name_one (seq_one name_one import_kind_one))
+import_entry_one =
+    parts_one (λ t. name t.0 ⨾ (name t.1.0 ⨾ import_kind t.1.1)) (λ (entry : Import). (entry.from, (entry.name, entry.kind)))
+    (λ t. record { from = t.0; name = t.1.0; kind = t.1.1 }) (λ x. refl) (seq_one name_one (seq_one name_one import_kind_one))
 
 pub global_entry_one : IsOne global_entry
-global_entry_one = parts_one (λ t. global_type t.0 ⨾ expression t.1) (λ (global : DefinedGlobal). (global.kind, global.first)) (λ t. record { kind = t.0; first = t.1 }) (λ x. refl) (seq_one global_type_one expression_one)
+global_entry_one =
+    parts_one (λ t. global_type t.0 ⨾ expression t.1) (λ (global : DefinedGlobal). (global.kind, global.first))
+    (λ t. record { kind = t.0; first = t.1 }) (λ x. refl) (seq_one global_type_one expression_one)
 
 export_kind_same : (x y : ExportKind) → Same (export_kind x) (export_kind y) (x ≡ y)
 export_kind_same export.Function export.Function = then_same (λ e. refl) (byte_same 0 0)
@@ -110,16 +121,26 @@ pub export_kind_one : IsOne export_kind
 export_kind_one = record { same = export_kind_same }
 
 pub export_entry_one : IsOne export_entry
-export_entry_one = parts_one (λ t. name t.0 ⨾ (export_kind t.1.0 ⨾ u32 t.1.1)) (λ (entry : Export). (entry.name, (entry.kind, entry.index))) (λ t. record { name = t.0; kind = t.1.0; index = t.1.1 }) (λ x. refl) (seq_one name_one (seq_one export_kind_one u32_one))
+export_entry_one =
+    parts_one (λ t. name t.0 ⨾ (export_kind t.1.0 ⨾ u32 t.1.1)) (λ (entry : Export). (entry.name, (entry.kind, entry.index)))
+    (λ t. record { name = t.0; kind = t.1.0; index = t.1.1 }) (λ x. refl) (seq_one name_one (seq_one export_kind_one u32_one))
 
 pub element_entry_one : IsOne element_entry
-element_entry_one = parts_one (λ t. u32 t.0 ⨾ (expression t.1.0 ⨾ vec u32 t.1.1)) (λ (segment : ElementSegment). (segment.table, (segment.offset, segment.functions))) (λ t. record { table = t.0; offset = t.1.0; functions = t.1.1 }) (λ x. refl) (seq_one u32_one (seq_one expression_one (vec_one u32_one)))
+element_entry_one =
+    parts_one (λ t. u32 t.0 ⨾ (expression t.1.0 ⨾ vec u32 t.1.1))
+    (λ (segment : ElementSegment). (segment.table, (segment.offset, segment.functions)))
+    (λ t. record { table = t.0; offset = t.1.0; functions = t.1.1 }) (λ x. refl)
+    (seq_one u32_one (seq_one expression_one (vec_one u32_one)))
 
 pub local_run_one : IsOne local_run
-local_run_one = parts_one (λ t. u32 t.0 ⨾ value_type t.1) (λ (run : LocalRun). (run.count, run.kind)) (λ t. record { count = t.0; kind = t.1 }) (λ x. refl) (seq_one u32_one value_type_one)
+local_run_one =
+    parts_one (λ t. u32 t.0 ⨾ value_type t.1) (λ (run : LocalRun). (run.count, run.kind)) (λ t. record { count = t.0; kind = t.1 })
+    (λ x. refl) (seq_one u32_one value_type_one)
 
 code_parts_one : IsOne (λ (code : Code). vec local_run code.locals ⨾ expression code.items)
-code_parts_one = parts_one (λ t. vec local_run t.0 ⨾ expression t.1) (λ (code : Code). (code.locals, code.items)) (λ t. record { locals = t.0; items = t.1 }) (λ x. refl) (seq_one (vec_one local_run_one) expression_one)
+code_parts_one =
+    parts_one (λ t. vec local_run t.0 ⨾ expression t.1) (λ (code : Code). (code.locals, code.items))
+    (λ t. record { locals = t.0; items = t.1 }) (λ x. refl) (seq_one (vec_one local_run_one) expression_one)
 
 pub function_code_one : IsOne function_code
 function_code_one = record { same = λ x y. given_same (code_parts_one.same x y) }
@@ -128,4 +149,7 @@ pub code_entry_one : IsOne code_entry
 code_entry_one = sized_one function_code_one
 
 pub data_entry_one : IsOne data_entry
-data_entry_one = parts_one (λ t. u32 t.0 ⨾ (expression t.1.0 ⨾ byte_vec t.1.1)) (λ (segment : DataSegment). (segment.memory, (segment.offset, segment.bytes))) (λ t. record { memory = t.0; offset = t.1.0; bytes = t.1.1 }) (λ x. refl) (seq_one u32_one (seq_one expression_one byte_vec_one))
+data_entry_one =
+    parts_one (λ t. u32 t.0 ⨾ (expression t.1.0 ⨾ byte_vec t.1.1))
+    (λ (segment : DataSegment). (segment.memory, (segment.offset, segment.bytes)))
+    (λ t. record { memory = t.0; offset = t.1.0; bytes = t.1.1 }) (λ x. refl) (seq_one u32_one (seq_one expression_one byte_vec_one))

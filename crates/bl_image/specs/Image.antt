@@ -194,7 +194,8 @@ definitions one = vec global one.globals ⨾ vec memory one.memories ⨾ vec fun
 
 -- the parts of an image in their order; the commands are those of all functions, without positions 0 to 6
 abbrev pub image : Program → Spellings
-image one = header (version one.demands one.weights) ⨾ definitions one ⨾ additions one.demands one.weights ⨾ each command (drop 7 one.commands)
+image one =
+    header (version one.demands one.weights) ⨾ definitions one ⨾ additions one.demands one.weights ⨾ each command (drop 7 one.commands)
 
 -- the bytes are the image of a program
 pub record Image (program : Program) (bytes : List ℕ) : Type 0 where

@@ -106,6 +106,7 @@ HasEqualObservations program = (most : ℕ) → 1 ≤ most → most ≤ 64
     → AreAlike most program function directives a b
 
 -- what is observed of directives from a state on, and the state that they lead to
-pub record Observes (most : ℕ) (program : Program) (directives : List Directive) (old : State) (seen : Observed) (new : State) : Type 0 where
+pub record Observes (most : ℕ) (program : Program) (directives : List Directive) (old : State) (seen : Observed)
+    (new : State) : Type 0 where
   pub observed : seen ≡ observed_from most program 1 directives old
   pub leads : new ≡ after most program directives old

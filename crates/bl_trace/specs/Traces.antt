@@ -48,5 +48,6 @@ IsTrace asked (Err Memory) = Unit {0}
 -- what lines tell: each is a directive; or those before one are, and that one is none
 pub data TellsTrace (lines : List (List ℕ)) : Result (List Directive) ℕ → Type 0 where
   trace : (directives : List Directive) → map directive_of lines ≡ map Some directives → TellsTrace lines (Ok directives)
-  bad_line : (before : List (List ℕ)) (line : List ℕ) (behind : List (List ℕ)) (directives : List Directive) → lines ≡ before ++ line ∷ behind →
+  bad_line : (before : List (List ℕ)) (line : List ℕ) (behind : List (List ℕ)) (directives : List Directive)
+      → lines ≡ before ++ line ∷ behind →
       map directive_of before ≡ map Some directives → directive_of line ≡ None → TellsTrace lines (Err (length before + 1))

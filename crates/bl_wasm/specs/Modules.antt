@@ -15,7 +15,8 @@ abbrev pub version : Spellings
 version = exactly (0x01 ∷ 0x00 ∷ 0x00 ∷ 0x00 ∷ [])
 
 -- customsec*, a section, and then what follows it; the custom sections are those before the section and those behind it
-pub record ◌▷◌ (Section : Spellings) (Behind : List CustomSection → Spellings) (customs : List CustomSection) (bytes : List ℕ) : Type 0 where
+pub record ◌▷◌ (Section : Spellings) (Behind : List CustomSection → Spellings) (customs : List CustomSection)
+    (bytes : List ℕ) : Type 0 where
   pub before : List CustomSection
   pub after : List CustomSection
   pub all : customs ≡ before ++ after

@@ -51,7 +51,8 @@ JudgesPath program path (Some rule) = BreaksPath program path rule
 -- the first path that breaks one of rules 1 to 3, and that rule, where one does
 abbrev pub JudgesPaths : Program → List FlowPath → Option (ℕ × ℕ) → Type 0
 JudgesPaths program paths None = ArePaths program paths
-JudgesPaths program paths (Some found) = (path : FlowPath) × (slice_get paths found.1 ≡ Some path) × ArePaths program (take found.1 paths) × BreaksPath program path found.0
+JudgesPaths program paths (Some found) =
+    (path : FlowPath) × (slice_get paths found.1 ≡ Some path) × ArePaths program (take found.1 paths) × BreaksPath program path found.0
 
 -- the first site with more flow than its weight, where there is one
 abbrev pub JudgesLoads : Program → List ℕ → Option ℕ → Type 0

@@ -16,7 +16,8 @@ use Rattle.bl_witness.specs.declared.verdict.CertVerdict.TheVariants.{Yes, No}
 pub data BreaksPath (program : Program) (path : FlowPath) (rule : ℕ) : Type 0 where
   no_chain : rule ≡ 1 → (IsChain program (sites_of path) path.sink.0 → ⊥) → BreaksPath program path rule
   no_amount : rule ≡ 2 → IsChain program (sites_of path) path.sink.0 → path.amount ≡ 0 → BreaksPath program path rule
-  not_once : rule ≡ 3 → IsChain program (sites_of path) path.sink.0 → 0 < path.amount → (count_by (is_protected program) (sites_of path) ≡ 1 → ⊥) → BreaksPath program path rule
+  not_once : rule ≡ 3 → IsChain program (sites_of path) path.sink.0 → 0 < path.amount
+      → (count_by (is_protected program) (sites_of path) ≡ 1 → ⊥) → BreaksPath program path rule
 
 -- the paths keep rules 1 to 3
 abbrev pub ArePaths : Program → List FlowPath → Type 0
@@ -28,8 +29,10 @@ Fits program c s = (w : ℕ) → site_weight program s ≡ Some w → flow_throu
 
 -- the first rule that is broken: of rules 1 to 3 at the path of that index, of rule 4 at the position of that number, or rule 5
 pub data Breaks (program : Program) (c : Certificate) (rule index : ℕ) : Type 0 where
-  at_path : (path : FlowPath) → slice_get c.paths index ≡ Some path → ArePaths program (take index c.paths) → BreaksPath program path rule → Breaks program c rule index
-  at_position : (w : ℕ) → rule ≡ 4 → ArePaths program c.paths → ((s : ℕ) → s < index → Fits program c s) → site_weight program index ≡ Some w → w < flow_through c.paths index
+  at_path : (path : FlowPath) → slice_get c.paths index ≡ Some path → ArePaths program (take index c.paths)
+      → BreaksPath program path rule → Breaks program c rule index
+  at_position : (w : ℕ) → rule ≡ 4 → ArePaths program c.paths → ((s : ℕ) → s < index → Fits program c s)
+      → site_weight program index ≡ Some w → w < flow_through c.paths index
       → Breaks program c rule index
   at_sums : rule ≡ 5 → index ≡ 0 → ArePaths program c.paths → ((s : ℕ) → Fits program c s)
       → ((flow_of c.paths ≡ weight_of program (is_protected program)) × (flow_of c.paths ≡ c.weight) → ⊥) → Breaks program c rule index
@@ -41,7 +44,8 @@ Checks program c (No rule index) = Breaks program c rule index
 
 -- no passing set of sites weighs less than the program's protects
 pub record AreLightest (program : Program) : Type 0 where
-  pub lightest : (other : ℕ → Bool) → AreSites program other → Passes program other → weight_of program (is_protected program) ≤ weight_of program other
+  pub lightest : (other : ℕ → Bool) → AreSites program other → Passes program other
+      → weight_of program (is_protected program) ≤ weight_of program other
 
 -- what a verdict says of the program's protects
 abbrev pub Means : Program → CertVerdict → Type 0
