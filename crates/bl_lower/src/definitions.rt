@@ -205,7 +205,8 @@ pub(crate) fn demands(
     requires results { All (λ function. length function.demanded < 2 ^ 32) functions.now }
     requires functions { length functions.now < 2 ^ 32 }
     requires globals { length globals.now < 2 ^ 32 }
-    ensures { IfOk result (λ all. all ≡ demanded_results 0 functions.now ++ demanded_from demand.Global 0 (map (λ global. global.demanded) globals.now)) }
+    ensures { IfOk result (λ all. all ≡ demanded_results 0 functions.now
+        ++ demanded_from demand.Global 0 (map (λ global. global.demanded) globals.now)) }
 {
     let mut all = List::new(alloc);
     for number in 0..functions.len() as u32 {
