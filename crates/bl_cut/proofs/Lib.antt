@@ -8,6 +8,7 @@ pub mod Leaving
 pub mod Marked
 pub mod Marking
 pub mod Networks
+pub mod Passing
 pub mod Remarking
 pub mod Sets
 pub mod Sinks

@@ -103,7 +103,7 @@ loads_same b (Out mark index value) h = h
 loads_same b Ret h = h
 loads_same b (Trap kind) h = h
 
-moved_same : (b : Bool) (command : Command) → moved_by (marked b command) ≡ moved_by command
+pub moved_same : (b : Bool) (command : Command) → moved_by (marked b command) ≡ moved_by command
 moved_same b (Set mark op to a c d) = refl
 moved_same b (Load mark kind memory to offset address) = refl
 moved_same b (Store kind memory offset address value) = refl
@@ -115,7 +115,7 @@ moved_same b (Out mark index value) = refl
 moved_same b Ret = refl
 moved_same b (Trap kind) = refl
 
-sunk_same : (b : Bool) (command : Command) → sunk_by (marked b command) ≡ sunk_by command
+pub sunk_same : (b : Bool) (command : Command) → sunk_by (marked b command) ≡ sunk_by command
 sunk_same b (Set mark op to a c d) = refl
 sunk_same b (Load mark kind memory to offset address) = refl
 sunk_same b (Store kind memory offset address value) = refl
@@ -145,7 +145,7 @@ module _ (set : ℕ → Bool) (program : Program) where
   abbrev pub after : Program
   after = protected set program
 
-  written_same : (b : Bool) (s : ℕ) (command : Command) → written_by after s (marked b command) ≡ written_by program s command
+  pub written_same : (b : Bool) (s : ℕ) (command : Command) → written_by after s (marked b command) ≡ written_by program s command
   written_same b s (Set mark op to a c d) = refl
   written_same b s (Load mark kind memory to offset address) = refl
   written_same b s (Store kind memory offset address value) = refl

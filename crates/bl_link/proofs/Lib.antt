@@ -1,6 +1,7 @@
 pub mod Contexts
 pub mod Counted
 pub mod ExportNames
+pub mod FaultLemmas
 pub mod Linking
 pub mod Matched
 pub mod NamedLemmas

@@ -1,5 +1,6 @@
 pub mod Alone
 pub mod CanLink
+pub mod Faults
 pub mod Giving
 pub mod Growing
 pub mod HasRoom

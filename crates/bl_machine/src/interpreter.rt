@@ -1,8 +1,10 @@
 //! Runs of linked trees.
 ghost use Rattle.std.specs.Prelude.{◌≡◌, ℕ, [], IfOk, IsTrue, length, map};
-ghost use Rattle.bl_base.specs.Runs.{Tells, outcome_of};
+ghost use Rattle.std.specs.List.{All};
+ghost use Rattle.bl_base.specs.Fits.{PatchFits};
+ghost use Rattle.bl_base.specs.Runs.{Tells, memory_of, outcome_of};
 ghost use Rattle.bl_wasm.specs.Linked.{IsLinked};
-ghost use Rattle.bl_reduce.specs.Outcomes.{IsStart, source};
+ghost use Rattle.bl_reduce.specs.Outcomes.{IsStart, first_store, source};
 ghost use Rattle.bl_machine.specs.Bodies.{prepared_of};
 ghost use Rattle.bl_machine.specs.Interpreting.{Drives, TellsMemories, has_ended, memories_in, starting, told};
 ghost use Rattle.bl_machine.specs.Machines.{Gives};
@@ -12,7 +14,7 @@ use crate::body::{Prepared, prepare};
 use crate::items::{enter, step_in};
 use crate::machine::{Activation, Machine, Progress};
 use crate::stack::Stack;
-use bl_base::{List, NoMemory, Run, Start};
+use bl_base::{List, NoMemory, Pages, Run, Start};
 use bl_memory::Spaces;
 use bl_wasm::{Linked, Tree};
 use std::alloc::Global;
@@ -37,6 +39,17 @@ pub fn interp(
     let mut machine = begin(alloc, tree, start)?;
     let progress = drive(&mut machine, tree, &prepared, function, start, steps)?;
     finish(alloc, machine, progress)
+}
+
+/// The memories before the first step: their first contents, with the patches of the start. Linear in their bytes and in the
+/// patches.
+pub fn first_memories(alloc: Global, tree: &Linked, start: &Start) -> Result<List<Pages>, NoMemory>
+    requires { All (PatchFits (map (λ memory. memory.pages) tree.now.memories)) start.now.patches }
+    ensures { IfOk result (λ pages. map memory_of pages ≡ (first_store tree.now start.now).memories) }
+{
+    let mut memories = Spaces::of(alloc, tree.tree().memories.as_slice())?;
+    memories.patch(start.patches.as_slice());
+    memories.into_pages(alloc)
 }
 
 /// The machine before the first step: the arguments are its locals.

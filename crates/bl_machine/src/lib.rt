@@ -9,4 +9,4 @@ mod kinds;
 mod machine;
 mod stack;
 
-pub use interpreter::interp;
+pub use interpreter::{first_memories, interp};

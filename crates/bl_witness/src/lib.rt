@@ -11,6 +11,7 @@ mod verdict;
 mod write;
 
 pub use error::CertError;
+pub use protects::is_protected;
 pub use read::from_json;
 pub use verdict::{CertVerdict, check_certificate};
 pub use write::to_json;

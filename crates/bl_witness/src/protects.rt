@@ -29,8 +29,8 @@ fn weight_within(program: &WellFormed, at: usize) -> u64
     }
 }
 
-/// Whether a protect stands at a position.
-pub(crate) fn is_protected(parts: &ProgramParts, at: usize) -> bool
+/// Whether a protect stands at a position. Takes no memory.
+pub fn is_protected(parts: &ProgramParts, at: usize) -> bool
     ensures { result ≡ is_protected parts.now at }
 {
     match mark_at(parts, at) {
