@@ -1,7 +1,8 @@
 -- A section's bytes are its version, and a vector up to their end.
-use Rattle.std.proofs.Common.{◌≡◌, ◌∙◌, ap, sym, refl, subst, ℕ, ◌≤◌, List, [], ◌++◌, append-nil, drop, length, arith, false, true, Bool}
-use Rattle.std.specs.Prelude.{IsTrue}
+use Rattle.std.proofs.Common.{◌≡◌, ◌∙◌, ap, sym, refl, subst, ℕ, ◌≤◌, List, [], ◌++◌, append-nil, drop, length, arith, false, true, Bool, ◌⊎◌, inl, inr}
+use Rattle.std.specs.Prelude.{IsTrue, nat_eq, ◌&&◌}
 use Rattle.std.proofs.Math.Seq.{drop-length}
+use Rattle.std.proofs.lemmas.Bool.Decides.{eqb_tells}
 use Rattle.bl_wasm.specs.Values.{Spellings, ◌⨾◌, byte, vec}
 use Rattle.bl_code.specs.Reading.{IsAt, NoneAt}
 use Rattle.bl_code.proofs.Places.{Stands, is_at, join, one_at, part, stands}
@@ -26,7 +27,7 @@ stands_whole S bytes k end h =
     let same : h.front ≡ bytes = sym (append-nil h.front) ∙ ap (λ t. h.front ++ t) (sym (ap (λ n. drop n bytes) end ∙ drop-length bytes)) ∙ sym h.whole in
     subst S same h.spelled
 
-pub section_read : (bytes : List ℕ) (j k version : ℕ) (entries : List Entry) → IsAt byte bytes 0 j version → IsAt (vec entry) bytes j k entries → k ≡ length bytes → has version entries ≡ true → section entries bytes
+section_read : (bytes : List ℕ) (j k version : ℕ) (entries : List Entry) → IsAt byte bytes 0 j version → IsAt (vec entry) bytes j k entries → k ≡ length bytes → has version entries ≡ true → section entries bytes
 section_read bytes j k version entries first all end known = record {
   version = version;
   known = known;
@@ -55,13 +56,35 @@ no_byte bytes none these s =
 pub no_vec : (bytes : List ℕ) (j version : ℕ) → IsAt byte bytes 0 j version → NoneAt (vec entry) bytes j → (these : List Entry) → section these bytes → ⊥
 no_vec bytes j version first none these s = none these (length bytes) (parts bytes j version these first s).all
 
-pub other_end : (bytes : List ℕ) (j k version : ℕ) (entries : List Entry) → IsAt byte bytes 0 j version → IsAt (vec entry) bytes j k entries → (k ≡ length bytes → ⊥) → (these : List Entry) → section these bytes → ⊥
+other_end : (bytes : List ℕ) (j k version : ℕ) (entries : List Entry) → IsAt byte bytes 0 j version → IsAt (vec entry) bytes j k entries → (k ≡ length bytes → ⊥) → (these : List Entry) → section these bytes → ⊥
 other_end bytes j k version entries first all other these s =
     other (one_at bytes j k (length bytes) entries these (vec_one entry_one) all (parts bytes j version these first s).all).0
 
-pub unknown : (bytes : List ℕ) (j k version : ℕ) (entries : List Entry) → IsAt byte bytes 0 j version → IsAt (vec entry) bytes j k entries → has version entries ≡ false → (these : List Entry) → section these bytes → ⊥
+unknown : (bytes : List ℕ) (j k version : ℕ) (entries : List Entry) → IsAt byte bytes 0 j version → IsAt (vec entry) bytes j k entries → has version entries ≡ false → (these : List Entry) → section these bytes → ⊥
 unknown bytes j k version entries first all not_known these s =
     let p = parts bytes j version these first s in
     let same = one_at bytes j k (length bytes) entries these (vec_one entry_one) all p.all in
     let both : true ≡ false = sym p.known ∙ ap (λ es. has version es) (sym same.1) ∙ not_known in
     cc
+
+-- ---- by the test of both
+
+-- whether a number is another one
+abbrev Tells : ℕ → ℕ → Type 0
+Tells a b = ((nat_eq a b ≡ true) × (a ≡ b)) ⊎ ((nat_eq a b ≡ false) × (a ≡ b → ⊥))
+
+pub whole_read : (bytes : List ℕ) (j k version : ℕ) (entries these : List Entry) → IsAt byte bytes 0 j version → IsAt (vec entry) bytes j k entries
+    → these ≡ entries → (nat_eq k (length bytes) && has version these) ≡ true → section entries bytes
+whole_read bytes j k version entries these first all same h = by_cases (eqb_tells k (length bytes))
+  where
+    by_cases : Tells k (length bytes) → section entries bytes
+    by_cases (inl p) = section_read bytes j k version entries first all p.1 (ap (has version) (sym same) ∙ ap (λ b. b && has version these) (sym p.0) ∙ h)
+    by_cases (inr p) = let clash : false ≡ true = ap (λ b. b && has version these) (sym p.0) ∙ h in absurd (cc)
+
+pub not_whole : (bytes : List ℕ) (j k version : ℕ) (entries these : List Entry) → IsAt byte bytes 0 j version → IsAt (vec entry) bytes j k entries
+    → these ≡ entries → (nat_eq k (length bytes) && has version these) ≡ false → (others : List Entry) → section others bytes → ⊥
+not_whole bytes j k version entries these first all same h = by_cases (eqb_tells k (length bytes))
+  where
+    by_cases : Tells k (length bytes) → (others : List Entry) → section others bytes → ⊥
+    by_cases (inl p) = unknown bytes j k version entries first all (ap (has version) (sym same) ∙ ap (λ b. b && has version these) (sym p.0) ∙ h)
+    by_cases (inr p) = other_end bytes j k version entries first all p.1

@@ -12,7 +12,9 @@ abbrev of_indices : ℕ → ℕ → Place
 of_indices function index = record { function = function; index = index }
 
 place_same : (x y : Place) → Same (place x) (place y) (x ≡ y)
-place_same x y = seq_same (u32_one.same x.function y.function) (λ f. then_same (λ i. ap (λ n. of_indices n x.index) f ∙ ap (of_indices y.function) i) (u32_one.same x.index y.index))
+place_same x y =
+    seq_same (u32_one.same x.function y.function)
+    (λ f. then_same (λ i. ap (λ n. of_indices n x.index) f ∙ ap (of_indices y.function) i) (u32_one.same x.index y.index))
 
 -- entries that begin with one byte
 named_same : (x y : Entry) → code_of x ≡ code_of y → Same (named x) (named y) (x ≡ y)

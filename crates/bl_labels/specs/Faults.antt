@@ -96,7 +96,8 @@ fault types spaces before (SecretGlobal global) =
     first_broken (nat_le (spaces.imported_globals + spaces.globals) global) (not (nat_le spaces.imported_globals global))
     (is_listed before.globals global) (is_listed before.demanded global)
 fault types spaces before (SecretMemory memory) =
-    first_broken (nat_le (spaces.imported_memories + spaces.memories) memory) (not (nat_le spaces.imported_memories memory)) (is_listed before.memories memory) false
+    first_broken (nat_le (spaces.imported_memories + spaces.memories) memory) (not (nat_le spaces.imported_memories memory))
+    (is_listed before.memories memory) false
 fault types spaces before (PublicResult found) =
     first_broken (nat_le (results_of types spaces found.function) found.index) (not (nat_le spaces.imported_functions found.function))
     (is_place before.results found.function found.index) false

@@ -5,7 +5,7 @@ use bl_base::NoMemory;
 use thiserror::Error;
 
 /// Why the labels of a module aren't read. Sections are counted first, then the bytes are read, and then the entries are tested in
-/// order, each by the rules in the order below from `OutOfRange` on. The first fault is the one that is given.
+/// order, each for `OutOfRange`, `OnImport`, `Twice` and `Both`, in this order. The first fault is the one that is given.
 #[derive(Clone, Copy, Debug, PartialEq, Eq, Error)]
 pub enum LabelError {
     /// The bytes of the section spell no entries.

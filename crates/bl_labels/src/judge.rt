@@ -69,11 +69,7 @@ fn fault(types: &[FuncType], spaces: &Spaces, before: &Marks, entry: Entry) -> O
 }
 
 /// The labels that entries give, or what is wrong with the first that something is wrong with.
-pub(crate) fn judge(
-    alloc: Global,
-    wasm: &Module,
-    entries: &[Entry],
-) -> Result<Labels, LabelError>
+pub(crate) fn judge(alloc: Global, wasm: &Module, entries: &[Entry]) -> Result<Labels, LabelError>
     ensures { Judges wasm.now entries.now result }
 {
     let Ok(spaces) = spaces_in(alloc, wasm) else {

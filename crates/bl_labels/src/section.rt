@@ -1,5 +1,5 @@
 //! The section of labels of a module.
-ghost use Rattle.std.specs.Prelude.{◌≡◌, ◌≤◌, [], drop, length, IfNone, IfOk, IfSome};
+ghost use Rattle.std.specs.Prelude.{◌≡◌, ◌≤◌, ◌&&◌, [], drop, length, nat_eq, IfNone, IfOk, IfSome};
 ghost use Rattle.std.specs.List.{list_all};
 ghost use Rattle.std.specs.Str.{bytes_eq};
 ghost use Rattle.bl_labels.specs.Entries.{has as has_of, is_secret as is_secret_of};
@@ -44,6 +44,13 @@ fn has(version: u8, entries: &[Entry]) -> bool
     version == 0x02 || (version == 0x01 && are_secret(entries))
 }
 
+/// Whether entries end where the section's bytes do, and its version has them.
+fn is_whole(bytes: &[u8], end: usize, version: u8, entries: &[Entry]) -> bool
+    ensures { result ≡ (nat_eq end (length bytes.now) && has_of version entries.now) }
+{
+    end == bytes.len() && has(version, entries)
+}
+
 /// Reads the entries of a section by its bytes behind the name.
 fn read_section(alloc: Global, bytes: &[u8]) -> Result<List<Entry>, LabelError>
     ensures { ReadsSection bytes.now result }
@@ -53,7 +60,7 @@ fn read_section(alloc: Global, bytes: &[u8]) -> Result<List<Entry>, LabelError>
     };
     match read_vec::<Entries>(alloc, bytes, first) {
         Ok((entries, end)) => {
-            if end == bytes.len() && has(version, entries.as_slice()) {
+            if is_whole(bytes, end, version, entries.as_slice()) {
                 Ok(entries)
             } else {
                 Err(LabelError::Malformed)

@@ -9,8 +9,7 @@ use Rattle.std.proofs.lemmas.List.Elements.{All-nil, All-cons, All-weaker}
 use Rattle.bl_base.specs.Quantity.{limit_of}
 use Rattle.bl_base.specs.declared.quantity.Quantity.{Quantity}
 use Rattle.bl_base.specs.declared.quantity.Quantity.TheVariants.{Functions, Locals, Memory, Results, Table}
-use Rattle.bl_labels.specs.Faults.{IsConsistent}
-use Rattle.bl_labels.specs.declared.labels.Labels.{Labels}
+use Rattle.bl_labels.specs.Marked.{unlabelled}
 use Rattle.bl_wasm.specs.Limits.{Excess, above, first_excess, first_in, function_excess, local_count}
 use Rattle.bl_wasm.specs.Modules.{Spells}
 use Rattle.bl_wasm.specs.Sections.{export_entry, global_entry, import_entry, import_kind}
@@ -90,9 +89,9 @@ all_none found (x ∷ xs) none =
 few_locals : (types : List FuncType) (defined : ℕ × Code) → function_excess types defined ≡ None → local_count types defined ≤ limit_of Locals
 few_locals types defined none = above_none Locals (local_count types defined) (either_none (above Locals (local_count types defined)) _ none).0
 
--- a part by its bytes
-pub part_from : (name bytes : List ℕ) (tree : Module) (labels : Labels) → IsName name → Spells bytes tree → length bytes < 2 ^ 25 → first_excess tree ≡ None → IsConsistent labels → IsPart (part_of name tree labels)
-part_from name bytes tree labels named spelled few none consistent =
+-- a part without labels, by its bytes
+pub part_from : (name bytes : List ℕ) (tree : Module) → IsName name → Spells bytes tree → length bytes < 2 ^ 25 → first_excess tree ≡ None → IsPart (part_of name tree unlabelled)
+part_from name bytes tree named spelled few none =
     let s = is_spelled bytes tree spelled in
     let functions = either_none (above Functions (length (functions_of tree))) _ none in
     let results = either_none (first_in (λ (type : FuncType). above Results (length type.results)) tree.types) _ functions.1 in
@@ -121,5 +120,5 @@ part_from name bytes tree labels named spelled few none consistent =
       import_modules = s.import_modules;
       import_names = s.import_names;
       export_names = s.export_names;
-      labels = consistent;
+      labels = λ index h. absurd (cc h);
     }
