@@ -1,8 +1,7 @@
 -- Entries are judged one after another.
-use Rattle.std.proofs.Common.{◌≡◌, ◌∙◌, ap, sym, refl, subst, ℕ, ◌+◌, ◌<◌, ◌≤◌, List, [], ◌∷◌, ◌++◌, append-nil, append_assoc, length, take, drop, get_or, arith, true, false, Bool, ◌⊎◌, inl, inr, Option, Some, None, Result, Ok, Err, filter_map}
+use Rattle.std.proofs.Common.{◌≡◌, ◌∙◌, ap, sym, refl, subst, ℕ, ◌+◌, ◌<◌, ◌≤◌, List, [], ◌∷◌, ◌++◌, append-nil, append_assoc, length, take, drop, get_or, true, false, Bool, ◌⊎◌, inl, inr, Option, Some, None, Result, Ok, Err, filter_map}
 use Rattle.std.specs.Prelude.{nat_eq, ◌||◌, IfOk}
 use Rattle.std.specs.Option.{option_or}
-use Rattle.std.specs.List.{list_any}
 use Rattle.std.proofs.lemmas.Bool.Decides.{eqb_tells}
 use Rattle.std.proofs.lemmas.List.{drop_all, drop_more, get_or_default, take_all, take_more}
 use Rattle.std.proofs.lemmas.List.Elements.{filter_map-append}
@@ -19,7 +18,6 @@ use Rattle.bl_labels.specs.declared.entry.Entry.TheVariants.{SecretParam, Secret
 use Rattle.bl_labels.specs.declared.error.LabelError.{LabelError}
 use Rattle.bl_labels.specs.declared.error.LabelError.TheVariants.{Malformed, Memory}
 use Rattle.bl_labels.specs.declared.labels.Labels.{Labels}
-use Rattle.bl_labels.specs.declared.labels.Place.{Place}
 use Rattle.bl_labels.specs.declared.spaces.Spaces.{Spaces}
 
 -- ---- one entry more

@@ -1,12 +1,10 @@
 -- Sets of what labels name, one element after another.
-use Rattle.std.proofs.Common.{◌≡◌, ◌∙◌, refl, sym, ap, subst, ℕ, ◌+◌, ◌*◌, ◌^◌, ◌<◌, ◌≤◌, ◌&&◌, List, [], ◌∷◌, ◌++◌, take, length, get_or, true, false, Bool, arith, ◌⊎◌, inl, inr}
+use Rattle.std.proofs.Common.{◌≡◌, ◌∙◌, refl, sym, ap, subst, ℕ, ◌^◌, ◌<◌, ◌≤◌, ◌&&◌, List, [], ◌∷◌, ◌++◌, true, false, Bool, arith, ◌⊎◌, inl, inr}
 use Rattle.std.specs.Prelude.{◌||◌, nat_eq}
-use Rattle.std.specs.List.{list_any}
 use Rattle.std.specs.Cmp.{nat_cmp_total}
-use Rattle.std.specs.FinSet.{FinSet, contains, empty, from_list, insert, contains-from_list, contains-empty, contains-from_list_nat, contains-insert}
+use Rattle.std.specs.FinSet.{FinSet, contains, empty, insert, contains-from_list, contains-empty, contains-from_list_nat, contains-insert}
 use Rattle.std.specs.Ordering.{eq_by_cmp, nat_cmp}
 use Rattle.std.proofs.lemmas.Bool.Decides.{eqb_tells}
-use Rattle.std.proofs.lemmas.List.{take_more}
 use Rattle.std.proofs.lemmas.List.Folds.{list_any-append}
 use Rattle.bl_labels.specs.Held.{HoldsNumbers, HoldsPlaces, key}
 use Rattle.bl_labels.specs.Marked.{is_listed, is_place}

@@ -1,6 +1,6 @@
 -- A section's bytes are its version, and a vector up to their end.
-use Rattle.std.proofs.Common.{◌≡◌, ◌∙◌, ap, sym, refl, subst, ℕ, ◌≤◌, List, [], ◌++◌, append-nil, drop, length, arith, false, true, Bool, ◌⊎◌, inl, inr}
-use Rattle.std.specs.Prelude.{IsTrue, nat_eq, ◌&&◌}
+use Rattle.std.proofs.Common.{◌≡◌, ◌∙◌, ap, sym, subst, ℕ, List, ◌++◌, append-nil, drop, length, arith, false, true, ◌⊎◌, inl, inr}
+use Rattle.std.specs.Prelude.{nat_eq, ◌&&◌}
 use Rattle.std.proofs.Math.Seq.{drop-length}
 use Rattle.std.proofs.lemmas.Bool.Decides.{eqb_tells}
 use Rattle.bl_wasm.specs.Values.{Spellings, ◌⨾◌, byte, vec}

@@ -1,4 +1,3 @@
-use Rattle.std.proofs.Common.{◌≡◌, ◌+◌, ◌≤◌, drop, filter_map, length}
 use Rattle.bl_wasm.specs.Validity.{memory_of}
 use Rattle.bl_labels.proofs.CountLemmas.{Counted}
 use Rattle.bl_labels.proofs.spaces.imported_memories.Given as goal
