@@ -1,10 +1,10 @@
-use Rattle.std.proofs.Common.{arith, ◌≡◌, ◌<◌, ◌≤◌, ◌+◌, ℕ, List, length, slice_index, take, drop, set, ◌++◌, [], None, Some, Option, refl, sym, ap, subst, ◌∙◌, ◌⊎◌, inl, inr, replicate, length-set}
+use Rattle.std.proofs.Common.{arith, ◌≡◌, ◌≤◌, ℕ, List, length, slice_index, take, drop, ◌++◌, None, Some, refl, sym, ap, subst, ◌∙◌, inl, inr, replicate, length-set}
 use Rattle.std.specs.List.{Contains}
 use Rattle.std.proofs.lemmas.List.{get_or_default, length-replicate, take-append-drop}
 use Rattle.std.proofs.lemmas.List.Elements.{Contains-append_left}
 use Rattle.bl_flow.specs.Split.{link_at}
 use Rattle.bl_flow.specs.Searches.{row_at}
-use Rattle.bl_flow.specs.Levels.{level_at, IsSteep, Levelling, Following, Spread}
+use Rattle.bl_flow.specs.Levels.{level_at, IsSteep, Following, Spread}
 use Rattle.bl_flow.proofs.Levelling.{first_level, root_sound, group_state, behind_sound, behind_full, steep_of, all_levels, levels_to_end}
 use Rattle.bl_flow.proofs.Wiring.{given_back}
 use Rattle.bl_flow.proofs.search.part_levels.Goals as goal

@@ -1,4 +1,4 @@
-use Rattle.std.proofs.Common.{◌≡◌, ◌+◌, ◌<◌, ◌≤◌, ℕ, length, slice_index, ◌⊎◌, Some}
+use Rattle.std.proofs.Common.{◌≡◌, ◌<◌, ◌≤◌, ℕ, length, slice_index, ◌⊎◌, Some}
 use Rattle.std.specs.List.{Contains}
 use Rattle.bl_flow.specs.Split.{link_at}
 use Rattle.bl_flow.specs.Levels.{Levelling, level_at}

@@ -1,4 +1,4 @@
-use Rattle.std.proofs.Common.{◌≡◌, ◌+◌, ◌-◌, ◌^◌, ℕ, length}
+use Rattle.std.proofs.Common.{◌+◌, ◌-◌, ◌^◌, length}
 use Rattle.bl_flow.specs.Levels.{Spread, distance}
 use Rattle.bl_flow.proofs.search.spread.Given as goal
 
