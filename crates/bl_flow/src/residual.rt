@@ -6,10 +6,11 @@ ghost use Rattle.bl_flow.specs.Levels.{level_at};
 ghost use Rattle.bl_flow.specs.Packed.{lowered, IsPacked, IsAdvanced};
 ghost use Rattle.bl_flow.specs.Residuals.{IsLawful, amount_of, AreLevelsOf, ReachesAnEnd, EndsHaveRisen};
 
-use crate::level_graph::{block_graph, part_levels};
+use crate::level_graph::block_graph;
 use crate::network::Network;
 use crate::optional::OptionalNumber;
 use crate::rows::{Rows, rows_of};
+use crate::search::part_levels;
 use crate::split::{Link, empty_capacities, links_both_ways};
 use bl_base::{List, NoMemory};
 use std::alloc::Global;
