@@ -281,7 +281,8 @@ impl Machine {
         ensures { shown self.new ≡ shown self.old }
     {
         let first = layout.frame(function).first;
-        self.registers.open(alloc, self.depth() as u32, first)
+        let depth = self.depth() as u32;
+        self.registers.open(alloc, depth, first)
     }
 
     /// Executes a Ret, and opens the page of the function that runs then.
@@ -290,7 +291,8 @@ impl Machine {
         ensures { IfOk result (λ progress. ret layout.now.parts.now self.old.chain (shown self.old) ≡ next_of layout.now.parts.now progress (shown self.new)) }
     {
         let progress = self.leave();
-        self.open_page(alloc, layout, layout.running(self.position))?;
+        let function = layout.running(self.position);
+        self.open_page(alloc, layout, function)?;
         Ok(progress)
     }
 
