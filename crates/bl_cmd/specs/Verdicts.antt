@@ -53,7 +53,7 @@ pub data BreaksRule (program : Program) (function position : ℕ) (command : Com
       → (Rule7 program function position command → ⊥) → BreaksRule program function position command rule
   growths : rule ≡ 8 → Rule4 program function command → Rule5 program function position command → Rule6 program function command
       → Rule7 program function position command → (Rule8 program function position command → ⊥)
-          → BreaksRule program function position command rule
+      → BreaksRule program function position command rule
 
 -- the commands of a function below a position keep the rules
 abbrev pub KeepsBelow : Program → ℕ → ℕ → Type 0

@@ -47,7 +47,7 @@ marked_one n B one = record { same = λ x y. seq_same (byte_same n n) (λ e. one
 pub function_type_one : IsOne function_type
 function_type_one = marked_one 0x60 (λ (type : FuncType). vec value_type type.params ⨾ vec value_type type.results)
     (parts_one (λ (t : List _ × List _). vec value_type t.0 ⨾ vec value_type t.1) (λ (type : FuncType). (type.params, type.results))
-        (λ t. record { params = t.0; results = t.1 }) (λ x. refl)
+    (λ t. record { params = t.0; results = t.1 }) (λ x. refl)
     (seq_one (vec_one value_type_one) (vec_one value_type_one)))
 
 pub table_type_one : IsOne table_type

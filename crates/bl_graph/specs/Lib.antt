@@ -2,5 +2,8 @@ pub mod Certificates
 pub mod Chains
 pub mod Firsts
 pub mod Graphs
+pub mod Labels
 pub mod Ranges
 pub mod Rows
+pub mod SecretChains
+pub mod Secrets

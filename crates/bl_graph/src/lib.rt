@@ -1,5 +1,5 @@
 //! Where a program's values come from and go to: its loads, what its sites write and read, and what its sinks read; chains of
-//! sites from loads to sinks, and certificates of flow along them.
+//! sites from loads to sinks, and certificates of flow along them; labels of variables, and ways of secrets.
 #![tactic(auto)]
 
 mod certificate;
@@ -7,9 +7,11 @@ mod facts;
 pub mod laws;
 mod listing;
 mod reads;
+mod secret;
 mod writes;
 
 pub use certificate::{Certificate, FlowPath};
 pub use facts::{Graph, Read, SinkUse, Use, Write};
 pub use listing::graph;
+pub use secret::{Origin, SecretChain};
 pub use writes::{ranges, variables};

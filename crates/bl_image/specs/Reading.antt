@@ -45,7 +45,7 @@ fields_behind code one = given (command_code one ≡ code) (given (IsCommand one
 abbrev pub operands_of : ℕ → Operand × (Operand × Operand) → Spellings
 operands_of count these =
     given ((count < 2 → IsZero these.1.0) × (count < 3 → IsZero these.1.1))
-        (each operand (take count (these.0 ∷ these.1.0 ∷ these.1.1 ∷ [])))
+    (each operand (take count (these.0 ∷ these.1.0 ∷ these.1.1 ∷ [])))
 
 -- demands and weights, of which the image has that version
 abbrev pub additions_of : ℕ → List Demand × Weights → Spellings
@@ -70,7 +70,7 @@ ReadsAll B start bytes (Err error) = RefusesAll B bytes error
 abbrev pub traps : List Command
 traps =
     Trap Unreachable ∷ Trap DivideByZero ∷ Trap Overflow ∷ Trap OutOfBounds ∷ Trap UndefinedElement ∷ Trap UninitializedElement
-        ∷ Trap TypeMismatch ∷ []
+    ∷ Trap TypeMismatch ∷ []
 
 -- bytes are an image of the parts, if they are a program's, and of no other program
 pub record Spells (bytes : List ℕ) (parts : Program) : Type 0 where

@@ -1,12 +1,10 @@
 -- Sets of what labels name, one element after another.
-use Rattle.std.proofs.Common.{◌≡◌, ◌∙◌, refl, sym, ap, subst, ℕ, ◌+◌, ◌*◌, ◌^◌, ◌<◌, ◌≤◌, ◌&&◌, List, [], ◌∷◌, ◌++◌, take, length, get_or, true, false, Bool, arith, ◌⊎◌, inl, inr}
+use Rattle.std.proofs.Common.{◌≡◌, ◌∙◌, refl, sym, ap, subst, ℕ, ◌^◌, ◌<◌, ◌≤◌, ◌&&◌, List, [], ◌∷◌, ◌++◌, true, false, Bool, arith, ◌⊎◌, inl, inr}
 use Rattle.std.specs.Prelude.{◌||◌, nat_eq}
-use Rattle.std.specs.List.{list_any}
 use Rattle.std.specs.Cmp.{nat_cmp_total}
-use Rattle.std.specs.FinSet.{FinSet, contains, empty, from_list, insert, contains-from_list, contains-empty, contains-from_list_nat, contains-insert}
+use Rattle.std.specs.FinSet.{FinSet, contains, empty, insert, contains-from_list, contains-empty, contains-from_list_nat, contains-insert}
 use Rattle.std.specs.Ordering.{eq_by_cmp, nat_cmp}
 use Rattle.std.proofs.lemmas.Bool.Decides.{eqb_tells}
-use Rattle.std.proofs.lemmas.List.{take_more}
 use Rattle.std.proofs.lemmas.List.Folds.{list_any-append}
 use Rattle.bl_labels.specs.Held.{HoldsNumbers, HoldsPlaces, key}
 use Rattle.bl_labels.specs.Marked.{is_listed, is_place}
@@ -72,7 +70,7 @@ and_false : (a b : Bool) → b ≡ false → (a && b) ≡ false
 and_false true b h = h
 and_false false b h = refl
 
-place_more : (set : FinSet nat_cmp) (places : List Place) (place : Place) → place.index < 2 ^ 32 → HoldsPlaces set places → HoldsPlaces (insert set (key place.function place.index)) (places ++ place ∷ [])
+pub place_more : (set : FinSet nat_cmp) (places : List Place) (place : Place) → place.index < 2 ^ 32 → HoldsPlaces set places → HoldsPlaces (insert set (key place.function place.index)) (places ++ place ∷ [])
 place_more set places place width h = record {
   near = λ function index below.
       contains-insert nat_cmp_total set (key place.function place.index) (key function index)
@@ -86,7 +84,7 @@ place_more set places place width h = record {
       ∙ ap (λ b. false || (b || false)) (and_false (nat_eq function place.function) (nat_eq index place.index) (far_other index place.index far width));
 }
 
-number_more : (set : FinSet nat_cmp) (numbers : List ℕ) (number : ℕ) → HoldsNumbers set numbers → HoldsNumbers (insert set number) (numbers ++ number ∷ [])
+pub number_more : (set : FinSet nat_cmp) (numbers : List ℕ) (number : ℕ) → HoldsNumbers set numbers → HoldsNumbers (insert set number) (numbers ++ number ∷ [])
 number_more set numbers number h = record {
   is = λ other.
       contains-insert nat_cmp_total set number other
@@ -96,13 +94,19 @@ number_more set numbers number h = record {
       ∙ sym (list_any-append (nat_eq other) numbers (number ∷ []));
 }
 
--- in a list, by places
-pub places_more : (old new : FinSet nat_cmp) (all : List Place) (i : ℕ) (place : Place) → i < length all → (get_or all i place).index < 2 ^ 32 → HoldsPlaces old (take i all)
-    → new ≡ insert old (key (get_or all i place).function (get_or all i place).index) → HoldsPlaces new (take (i + 1) all)
-places_more old new all i place below width so_far made =
-    subst (HoldsPlaces new) (sym (take_more all i place below)) (subst (λ s. HoldsPlaces s (take i all ++ get_or all i place ∷ [])) (sym made) (place_more old (take i all) (get_or all i place) width so_far))
+-- ---- a list with its set
 
-pub numbers_more : (old new : FinSet nat_cmp) (all : List ℕ) (i : ℕ) (number : ℕ) → i < length all → HoldsNumbers old (take i all)
-    → new ≡ insert old (get_or all i number) → HoldsNumbers new (take (i + 1) all)
-numbers_more old new all i number below so_far made =
-    subst (HoldsNumbers new) (sym (take_more all i number below)) (subst (λ s. HoldsNumbers s (take i all ++ get_or all i number ∷ [])) (sym made) (number_more old (take i all) (get_or all i number) so_far))
+pub places_none : (set : FinSet nat_cmp) (list : List Place) → set ≡ empty → list ≡ [] → HoldsPlaces set list
+places_none set list none bare = subst (HoldsPlaces set) (sym bare) (no_places none)
+
+pub numbers_none : (set : FinSet nat_cmp) (list : List ℕ) → set ≡ empty → list ≡ [] → HoldsNumbers set list
+numbers_none set list none bare = subst (HoldsNumbers set) (sym bare) (no_numbers none)
+
+pub places_with : (old new : FinSet nat_cmp) (list made : List Place) (place : Place) (number : ℕ) → place.index < 2 ^ 32 → HoldsPlaces old list → number ≡ key place.function place.index → new ≡ insert old number
+    → made ≡ list ++ place ∷ [] → HoldsPlaces new made
+places_with old new list made place number width held is added pushed =
+    subst (HoldsPlaces new) (sym pushed) (subst (λ s. HoldsPlaces s (list ++ place ∷ [])) (sym (added ∙ ap (insert old) is)) (place_more old list place width held))
+
+pub numbers_with : (old new : FinSet nat_cmp) (list made : List ℕ) (number : ℕ) → HoldsNumbers old list → new ≡ insert old number → made ≡ list ++ number ∷ [] → HoldsNumbers new made
+numbers_with old new list made number held added pushed =
+    subst (HoldsNumbers new) (sym pushed) (subst (λ s. HoldsNumbers s (list ++ number ∷ [])) (sym added) (number_more old list number held))

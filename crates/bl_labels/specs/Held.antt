@@ -19,10 +19,12 @@ pub record HoldsPlaces (set : FinSet nat_cmp) (places : List Place) : Type 0 whe
 pub record HoldsNumbers (set : FinSet nat_cmp) (numbers : List ℕ) : Type 0 where
   pub is : (number : ℕ) → contains set number ≡ is_listed numbers number
 
--- the sets have what the labels name
-pub record Holds (labels : Labels) (params globals memories results demanded : FinSet nat_cmp) : Type 0 where
-  pub params_held : HoldsPlaces params labels.params
-  pub globals_held : HoldsNumbers globals labels.globals
-  pub memories_held : HoldsNumbers memories labels.memories
-  pub results_held : HoldsPlaces results labels.results
-  pub demanded_held : HoldsNumbers demanded labels.demanded
+-- labels by their lists
+abbrev pub labels_with : List Place → List ℕ → List ℕ → List Place → List ℕ → Labels
+labels_with params globals memories results demanded = record {
+  params = params;
+  globals = globals;
+  memories = memories;
+  results = results;
+  demanded = demanded;
+}

@@ -11,7 +11,7 @@ local_get x state = known (slice_get state.frame.locals x) (λ value. push value
 abbrev pub set_local : ℕ → ℕ → State → Next Config
 set_local x value state =
     known (slice_get state.frame.locals x)
-        (λ old. go (record state { frame = record state.frame { locals = set state.frame.locals x value } }))
+    (λ old. go (record state { frame = record state.frame { locals = set state.frame.locals x value } }))
 
 -- local.set
 abbrev pub local_set : ℕ → State → Next Config
@@ -29,7 +29,7 @@ global_get x state = known (slice_get state.store.globals x) (λ value. push val
 abbrev pub set_global : ℕ → ℕ → State → Next Config
 set_global x value state =
     known (slice_get state.store.globals x)
-        (λ old. go (record state { store = record state.store { globals = set state.store.globals x value } }))
+    (λ old. go (record state { store = record state.store { globals = set state.store.globals x value } }))
 
 -- global.set
 abbrev pub global_set : ℕ → State → Next Config

@@ -1,0 +1,6 @@
+use Rattle.bl_wasm.specs.Validity.{memory_of}
+use Rattle.bl_labels.proofs.CountLemmas.{Counted}
+use Rattle.bl_labels.proofs.spaces.imported_memories.Given as goal
+
+abbrev pub invariant-loop-entry : goal.invariant-loop-entry
+invariant-loop-entry l = Counted memory_of l.imports l.entry-index l.count
