@@ -168,7 +168,7 @@ impl Machine {
                 self.hand_out(alloc, layout, index, value)?;
                 Ok(Progress::Running)
             }
-            Command::Ret => self.turn_back(alloc, layout),
+            Command::Ret => Ok(self.turn_back(alloc, layout)),
             Command::Trap { kind } => Ok(Progress::Trapped(kind)),
         }
     }
@@ -266,34 +266,29 @@ impl Machine {
         }
         self.chain.open(self.position + 1)?;
         self.position = layout.frame(function).entry;
-        self.open_page(alloc, layout, function)?;
+        self.open_page(alloc, layout, function);
         Ok(Progress::Running)
     }
 
-    /// Opens the page of a function's first variable at the running depth.
-    pub fn open_page(
-        &mut self,
-        alloc: Global,
-        layout: &Layout,
-        function: u32,
-    ) -> Result<(), NoMemory>
+    /// Opens the page of a function's first variable at the running depth. Where memory is wanting, none is open.
+    pub fn open_page(&mut self, alloc: Global, layout: &Layout, function: u32)
         requires { IsLayout layout.now }
         ensures { shown self.new ≡ shown self.old }
     {
         let first = layout.frame(function).first;
         let depth = self.depth() as u32;
-        self.registers.open(alloc, depth, first)
+        let _opened = self.registers.open(alloc, depth, first);
     }
 
     /// Executes a Ret, and opens the page of the function that runs then.
-    fn turn_back(&mut self, alloc: Global, layout: &Layout) -> Result<Progress, NoMemory>
+    fn turn_back(&mut self, alloc: Global, layout: &Layout) -> Progress
         requires { IsLayout layout.now }
-        ensures { IfOk result (λ progress. ret layout.now.parts.now self.old.chain (shown self.old) ≡ next_of layout.now.parts.now progress (shown self.new)) }
+        ensures { ret layout.now.parts.now self.old.chain (shown self.old) ≡ next_of layout.now.parts.now result (shown self.new) }
     {
         let progress = self.leave();
         let function = layout.running(self.position);
-        self.open_page(alloc, layout, function)?;
-        Ok(progress)
+        self.open_page(alloc, layout, function);
+        progress
     }
 
     /// Executes a Ret.
