@@ -255,8 +255,19 @@ impl Machine {
         self.write(alloc, self.depth() - 1, x, number)
     }
 
-    /// Executes a Call.
+    /// Executes a Call, and opens the page of the function that runs then.
     fn call(&mut self, alloc: Global, layout: &Layout, function: u32) -> Result<Progress, NoMemory>
+        requires layout { IsLayout layout.now }
+        requires position { self.old.position + 1 < 2 ^ 64 }
+        ensures { IfOk result (λ progress. call layout.now.parts.now function (shown self.old) ≡ next_of layout.now.parts.now progress (shown self.new)) }
+    {
+        let progress = self.enter(layout, function)?;
+        self.open_page(alloc, layout, function);
+        Ok(progress)
+    }
+
+    /// Executes a Call.
+    fn enter(&mut self, layout: &Layout, function: u32) -> Result<Progress, NoMemory>
         requires layout { IsLayout layout.now }
         requires position { self.old.position + 1 < 2 ^ 64 }
         ensures { IfOk result (λ progress. call layout.now.parts.now function (shown self.old) ≡ next_of layout.now.parts.now progress (shown self.new)) }
@@ -266,7 +277,6 @@ impl Machine {
         }
         self.chain.open(self.position + 1)?;
         self.position = layout.frame(function).entry;
-        self.open_page(alloc, layout, function);
         Ok(Progress::Running)
     }
 
