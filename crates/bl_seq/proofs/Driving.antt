@@ -24,6 +24,14 @@ on_written (Ok y) s position depth x number file at e =
     ∙ ap (λ p. goes (record s { position = p; registers = λ d v. register_at file d v })) next
 on_written (Err y) s position depth x number file at e = tt
 
+-- a state where registers have the same numbers
+abbrev pub state_of : ℕ → List ℕ → List ℕ → (ℕ → ℕ → ℕ) → Plain
+state_of position chain space registers = record { position = position; chain = chain; registers = registers; space = space }
+
+pub shown_same : (position : ℕ) (chain space : List ℕ) (old new : List Tree) → ((d v : ℕ) → register_at new d v ≡ register_at old d v)
+    → state_of position chain space (λ d v. register_at new d v) ≡ state_of position chain space (λ d v. register_at old d v)
+shown_same position chain space old new e = ap (λ r. state_of position chain space r) (fun_ext (λ d. fun_ext (λ v. e d v)))
+
 module _ (program : Program) (from : Plain) where
   -- so many steps and one more
   pub goes_on : (n : ℕ) (s t : Plain) → Comes (plain_step program) n from s → plain_step program s ≡ goes t → Comes (plain_step program) (n + 1) from t

@@ -23,12 +23,12 @@ module _ {A : Type 0} (blank : A) where
     | inr more ↦ get_or-append_right list (replicate n blank) (length list) j blank refl more ∙ of_blanks n (j - length list) ∙ sym (get_or_past list j blank more)
   ]
 
-  got_put : (list : List A) (i j : ℕ) (x : A) → j ≡ i → get_or (put blank list i x) j blank ≡ x
+  pub got_put : (list : List A) (i j : ℕ) (x : A) → j ≡ i → get_or (put blank list i x) j blank ≡ x
   got_put list i j x e =
       let room : i < length (list ++ replicate (i + 1 - length list) blank) = simp (length-append, length-replicate) (omega arith) in
       subst (λ k. get_or (put blank list i x) k blank ≡ x) (sym e) (get_or-set_same (list ++ replicate (i + 1 - length list) blank) i x blank room)
 
-  got_other : (list : List A) (i j : ℕ) (x : A) → j ≢ i → get_or (put blank list i x) j blank ≡ get_or list j blank
+  pub got_other : (list : List A) (i j : ℕ) (x : A) → j ≢ i → get_or (put blank list i x) j blank ≡ get_or list j blank
   got_other list i j x ne = get_or-set_other (list ++ replicate (i + 1 - length list) blank) i j x blank ne ∙ with_blanks list (i + 1 - length list) j
 
 -- ---- what is the same where a write was refused
@@ -120,7 +120,7 @@ in_other tree x v value ne =
     whole v x a b c = omega arith
 
 -- a number is another one where both tests hold, and else what it was
-by_tests : (b c : Bool) (new value old : ℕ) → (b ≡ true → c ≡ true → new ≡ value) → (b ≡ false → new ≡ old) → (b ≡ true → c ≡ false → new ≡ old)
+pub by_tests : (b c : Bool) (new value old : ℕ) → (b ≡ true → c ≡ true → new ≡ value) → (b ≡ false → new ≡ old) → (b ≡ true → c ≡ false → new ≡ old)
     → new ≡ (if b && c then value else old)
 by_tests true true new value old both first second = both refl refl
 by_tests true false new value old both first second = second refl refl
@@ -139,16 +139,16 @@ register_put file depth x value d v =
 -- ---- variables in a row
 
 module _ (registers : ℕ → ℕ → ℕ) (depth x number : ℕ) where
-  written_here : (v : ℕ) → v ≡ x → written registers depth x number depth v ≡ number
+  pub written_here : (v : ℕ) → v ≡ x → written registers depth x number depth v ≡ number
   written_here v e = rw (eq-eqb depth depth refl, eq-eqb v x e)
 
-  written_apart : (d v : ℕ) → d ≢ depth → written registers depth x number d v ≡ registers d v
+  pub written_apart : (d v : ℕ) → d ≢ depth → written registers depth x number d v ≡ registers d v
   written_apart d v ne = elim (eqb_tells d depth) as (λ _. written registers depth x number d v ≡ registers d v) [
     | inl same ↦ absurd (ne same.1)
     | inr other ↦ rw other.0
   ]
 
-  written_beside : (d v : ℕ) → v ≢ x → written registers depth x number d v ≡ registers d v
+  pub written_beside : (d v : ℕ) → v ≢ x → written registers depth x number d v ≡ registers d v
   written_beside d v ne = by (nat_eq d depth) (nat_eq v x) (λ e. ne (eqb-true v x e))
     where
       by : (b c : Bool) → (c ≡ true → ⊥) → (if b && c then number else registers d v) ≡ registers d v

@@ -9,3 +9,4 @@ pub mod OwnWrites
 pub mod Spaces
 pub mod Starting
 pub mod Telling
+pub mod Windowed

@@ -5,3 +5,4 @@ pub mod Machines
 pub mod Openings
 pub mod OwnMemory
 pub mod Taken
+pub mod Windows

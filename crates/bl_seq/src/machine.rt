@@ -29,6 +29,7 @@ impl Machine {
     }
 
     /// The number that an operand is.
+    #[inline(always)]
     fn value(&self, layout: &Layout, operand: Operand) -> u64
         requires { IsLayout layout.now }
         ensures { result ≡ value_of layout.now.parts.now operand (shown self.now) }
@@ -43,6 +44,7 @@ impl Machine {
     }
 
     /// Goes on at the next position with a number written at a depth.
+    #[inline(always)]
     fn write(&mut self, alloc: Global, depth: usize, x: usize, number: u64) -> Result<(), NoMemory>
         requires position { self.old.position + 1 < 2 ^ 64 }
         requires depth { depth < 2 ^ 63 }
@@ -54,6 +56,7 @@ impl Machine {
     }
 
     /// Goes on at the next position with a number written to a variable as the running frame finds it.
+    #[inline(always)]
     fn assign(
         &mut self,
         alloc: Global,
@@ -71,6 +74,7 @@ impl Machine {
     }
 
     /// Where an access begins.
+    #[inline(always)]
     fn effective(&self, layout: &Layout, memory: u32, offset: u32, address: Operand) -> usize
         requires { IsLayout layout.now }
         ensures place { result ≡ effective layout.now.parts.now memory offset (value_of layout.now.parts.now address (shown self.now)) }
@@ -81,6 +85,7 @@ impl Machine {
     }
 
     /// A step.
+    #[inline(always)]
     pub fn step(&mut self, alloc: Global, layout: &Layout) -> Result<Progress, NoMemory>
         requires { IsLayout layout.now }
         ensures { IfOk result (λ progress. plain_step layout.now.parts.now (shown self.old) ≡ next_of layout.now.parts.now progress (shown self.new)) }
@@ -92,6 +97,7 @@ impl Machine {
     }
 
     /// Executes the command at the position.
+    #[inline(always)]
     fn perform(
         &mut self,
         alloc: Global,
@@ -157,17 +163,18 @@ impl Machine {
                 self.pass(alloc, layout, function, index, value)?;
                 Ok(Progress::Running)
             }
-            Command::Call { function } => self.call(layout, function),
+            Command::Call { function } => self.call(alloc, layout, function),
             Command::Out { index, value, .. } => {
                 self.hand_out(alloc, layout, index, value)?;
                 Ok(Progress::Running)
             }
-            Command::Ret => Ok(self.leave()),
+            Command::Ret => Ok(self.turn_back(alloc, layout)),
             Command::Trap { kind } => Ok(Progress::Trapped(kind)),
         }
     }
 
     /// Executes a Set.
+    #[inline(always)]
     fn set(
         &mut self,
         alloc: Global,
@@ -248,8 +255,19 @@ impl Machine {
         self.write(alloc, self.depth() - 1, x, number)
     }
 
+    /// Executes a Call, and opens the page of the function that runs then.
+    fn call(&mut self, alloc: Global, layout: &Layout, function: u32) -> Result<Progress, NoMemory>
+        requires layout { IsLayout layout.now }
+        requires position { self.old.position + 1 < 2 ^ 64 }
+        ensures { IfOk result (λ progress. call layout.now.parts.now function (shown self.old) ≡ next_of layout.now.parts.now progress (shown self.new)) }
+    {
+        let progress = self.enter(layout, function)?;
+        self.open_page(alloc, layout, function);
+        Ok(progress)
+    }
+
     /// Executes a Call.
-    fn call(&mut self, layout: &Layout, function: u32) -> Result<Progress, NoMemory>
+    fn enter(&mut self, layout: &Layout, function: u32) -> Result<Progress, NoMemory>
         requires layout { IsLayout layout.now }
         requires position { self.old.position + 1 < 2 ^ 64 }
         ensures { IfOk result (λ progress. call layout.now.parts.now function (shown self.old) ≡ next_of layout.now.parts.now progress (shown self.new)) }
@@ -260,6 +278,27 @@ impl Machine {
         self.chain.open(self.position + 1)?;
         self.position = layout.frame(function).entry;
         Ok(Progress::Running)
+    }
+
+    /// Opens the page of a function's first variable at the running depth. Where memory is wanting, none is open.
+    pub fn open_page(&mut self, alloc: Global, layout: &Layout, function: u32)
+        requires { IsLayout layout.now }
+        ensures { shown self.new ≡ shown self.old }
+    {
+        let first = layout.frame(function).first;
+        let depth = self.depth() as u32;
+        let _opened = self.registers.open(alloc, depth, first);
+    }
+
+    /// Executes a Ret, and opens the page of the function that runs then.
+    fn turn_back(&mut self, alloc: Global, layout: &Layout) -> Progress
+        requires { IsLayout layout.now }
+        ensures { ret layout.now.parts.now self.old.chain (shown self.old) ≡ next_of layout.now.parts.now result (shown self.new) }
+    {
+        let progress = self.leave();
+        let function = layout.running(self.position);
+        self.open_page(alloc, layout, function);
+        progress
     }
 
     /// Executes a Ret.

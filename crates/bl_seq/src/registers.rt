@@ -1,11 +1,13 @@
 //! Registers, which take room as they are written.
-ghost use Rattle.std.specs.Prelude.{◌≡◌, ◌+◌, ◌^◌, ◌<◌, ◌++◌, ℕ, [], suc, ◌-◌, OnErr, OnOk, length, replicate, slice_index, slice_index_or};
+ghost use Rattle.std.specs.Prelude.{◌≡◌, ◌≤◌, ◌+◌, ◌^◌, ◌<◌, ◌++◌, ◌↔◌, ℕ, [], suc, ◌-◌, IfSome, IsTrue, OnErr, OnOk, length, replicate, slice_get, slice_index, slice_index_or};
 ghost use Rattle.bl_cmd.specs.Steps.{written};
-ghost use Rattle.bl_seq.specs.Filled.{AreSame, IsSameBranch, IsSameLeaf, IsSameTree, filled, in_tree, put, put_in, register_at};
+ghost use Rattle.bl_seq.specs.Filled.{AreSame, IsSameBranch, IsSameLeaf, IsSameTree, cell_of, filled, in_tree, put, put_in, register_at};
+ghost use Rattle.bl_seq.specs.Windows.{AreEqual, Holds, MaySet, SetsLeaf, leaf_at, page_in, put_leaf, put_page, seen};
 
 use bl_base::NoMemory;
 use std::alloc::Global;
 use std::marker::Model;
+use std::mem;
 
 /// The numbers of up to 1,024 variables, as far as they were written.
 #[derive(Debug, Drop)]
@@ -40,11 +42,39 @@ impl Leaf {
         }
     }
 
+    /// The number at a place, if it is one of the leaf's.
+    #[inline(always)]
+    fn get(&self, place: usize) -> Option<u64>
+        ensures { result ≡ slice_get self.now place }
+    {
+        self.cells.get(place).copied()
+    }
+
+    /// Whether it has no place.
+    fn is_empty(&self) -> bool
+        ensures { IsTrue result ↔ (self.now ≡ []) }
+    {
+        self.cells.is_empty()
+    }
+
+    /// Changes the number at a place, and says whether it is one of the leaf's.
+    #[inline(always)]
+    fn set(&mut self, place: usize, number: u64) -> bool
+        ensures { SetsLeaf result self.old self.new place number }
+    {
+        if place < self.cells.len() {
+            self.cells[place] = number;
+            return true;
+        }
+        false
+    }
+
     /// Makes the place one of the leaf's.
     fn reach(&mut self, place: usize) -> Result<(), NoMemory>
         requires { place < 2 ^ 63 }
         ensures ok { OnOk result (self.new ≡ self.old ++ replicate (place + 1 - length self.old) 0) }
         ensures err { OnErr result (IsSameLeaf self.old self.new) }
+        ensures kept { length self.old ≤ length self.new }
     {
         let missing = (place + 1).saturating_sub(self.cells.len());
         for _ in 0..missing {
@@ -58,6 +88,7 @@ impl Leaf {
         requires { place < 2 ^ 63 }
         ensures ok { OnOk result (self.new ≡ put 0 self.old place number) }
         ensures err { OnErr result (IsSameLeaf self.old self.new) }
+        ensures kept { length self.old ≤ length self.new }
     {
         self.reach(place)?;
         self.cells[place] = number;
@@ -121,6 +152,18 @@ impl Branch {
         self.reach(alloc, leaf)?;
         self.leaves[leaf].put(place, number)
     }
+
+    /// Exchanges the leaf of that number for another one.
+    fn swap(&mut self, alloc: Global, number: usize, leaf: &mut Leaf) -> Result<(), NoMemory>
+        requires { number < 2 ^ 63 }
+        ensures ok { OnOk result ((self.new ≡ put [] self.old number leaf.old) × (leaf.new ≡ slice_index_or self.old number [])) }
+        ensures err { OnErr result (IsSameBranch self.old self.new) }
+        ensures kept { OnErr result (leaf.new ≡ leaf.old) }
+    {
+        self.reach(alloc, number)?;
+        mem::swap(&mut self.leaves[number], leaf);
+        Ok(())
+    }
 }
 
 /// The numbers of the variables at a depth, as far as they were written.
@@ -179,35 +222,46 @@ impl Tree {
         self.reach(alloc, branch)?;
         self.branches[branch].put(alloc, x / 1024 % 1024, x % 1024, number)
     }
+
+    /// Exchanges the leaf of a page for another one.
+    #[tactic(auto, unfolding(crate::specs::Windows::put_page))]
+    fn swap(&mut self, alloc: Global, page: usize, leaf: &mut Leaf) -> Result<(), NoMemory>
+        ensures ok { OnOk result ((self.new ≡ put_page self.old page leaf.old) × (leaf.new ≡ page_in self.old page)) }
+        ensures err { OnErr result (IsSameTree self.old self.new) }
+        ensures kept { OnErr result (leaf.new ≡ leaf.old) }
+    {
+        let branch = page / 1024;
+        self.reach(alloc, branch)?;
+        self.branches[branch].swap(alloc, page % 1024, leaf)
+    }
 }
 
-/// The registers: a number for each depth and each variable, 0 where none was written. Room is taken as they are written:
-/// for a variable at most 8 KB, once for 1,024 variables in a row, and 24 KB, once for 2^20.
+/// The numbers of all depths, as far as they were written.
 #[derive(Debug, Drop)]
-pub struct Registers {
+struct Pages {
     depths: Vec<Tree>,
 }
 
-impl Model for Registers {
+impl Model for Pages {
     ghost use Rattle.std.specs.Prelude.{ℕ, List};
 
     ghost Value = { List (List (List (List ℕ))) };
 
-    ghost view = { λ registers. registers.depths.items };
+    ghost view = { λ pages. pages.depths.items };
 }
 
-impl Registers {
-    /// Registers of which none was written; takes no memory.
-    pub fn new(alloc: Global) -> Registers
+impl Pages {
+    /// None was written; takes no memory.
+    fn new(alloc: Global) -> Pages
         ensures { result ≡ [] }
     {
-        Registers {
+        Pages {
             depths: Vec::new(alloc),
         }
     }
 
     /// The number of a variable at a depth.
-    pub fn at(&self, depth: usize, x: usize) -> u64
+    fn at(&self, depth: usize, x: usize) -> u64
         ensures { result ≡ register_at self.now depth x }
     {
         match self.depths.get(depth) {
@@ -230,13 +284,7 @@ impl Registers {
     }
 
     /// Writes a variable at a depth. A refusal changes no number.
-    pub fn write(
-        &mut self,
-        alloc: Global,
-        depth: usize,
-        x: usize,
-        number: u64,
-    ) -> Result<(), NoMemory>
+    fn write(&mut self, alloc: Global, depth: usize, x: usize, number: u64) -> Result<(), NoMemory>
         requires { depth < 2 ^ 63 }
         ensures ok { OnOk result ((d v : ℕ) → register_at self.new d v ≡ written (λ d v. register_at self.old d v) depth x number d v) }
         ensures err { OnErr result ((d v : ℕ) → register_at self.new d v ≡ register_at self.old d v) }
@@ -252,6 +300,190 @@ impl Registers {
     {
         self.reach(alloc, depth)?;
         self.depths[depth].put(alloc, x, number)
+    }
+
+    /// Exchanges the leaf of a page at a depth for another one.
+    #[tactic(auto, unfolding(crate::specs::Windows::put_leaf))]
+    fn swap(
+        &mut self,
+        alloc: Global,
+        depth: usize,
+        page: usize,
+        leaf: &mut Leaf,
+    ) -> Result<(), NoMemory>
+        requires { depth < 2 ^ 63 }
+        ensures ok { OnOk result ((self.new ≡ put_leaf self.old depth page leaf.old) × (leaf.new ≡ leaf_at self.old depth page)) }
+        ensures err { OnErr result (AreSame self.old self.new) }
+        ensures kept { OnErr result (leaf.new ≡ leaf.old) }
+    {
+        self.reach(alloc, depth)?;
+        self.depths[depth].swap(alloc, page, leaf)
+    }
+}
+
+/// The leaf of one page at a depth, which is held beside the others; an empty one holds nothing.
+#[derive(Debug, Drop)]
+struct Window {
+    depth: u32,
+    page: usize,
+    leaf: Leaf,
+}
+
+impl Window {
+    /// Whether it holds the page of that variable at that depth.
+    fn holds(&self, depth: usize, x: usize) -> bool
+        ensures { IsTrue result ↔ Holds self.now depth x }
+    {
+        self.depth as usize == depth && self.page == x / 1024 && !self.leaf.is_empty()
+    }
+
+    /// The number of a variable at a depth, if it has a place here.
+    #[inline(always)]
+    fn get(&self, depth: usize, x: usize) -> Option<u64>
+        ensures { IfSome result (λ number. Holds self.now depth x × (number ≡ slice_index self.now.leaf (cell_of x))) }
+    {
+        if self.depth as usize == depth && self.page == x / 1024 {
+            return self.leaf.get(x % 1024);
+        }
+        None
+    }
+
+    /// Writes a variable at a depth, and says whether it has a place here.
+    #[inline(always)]
+    fn set(&mut self, depth: usize, x: usize, number: u64) -> bool
+        ensures { MaySet result self.old self.new depth x number }
+    {
+        self.depth as usize == depth && self.page == x / 1024 && self.leaf.set(x % 1024, number)
+    }
+}
+
+/// Puts the window's leaf among the pages; then it holds nothing.
+fn shut(alloc: Global, pages: &mut Pages, window: &mut Window) -> Result<(), NoMemory>
+    ensures ok { OnOk result ((pages.new ≡ seen pages.old window.old) × (window.new.leaf ≡ [])) }
+    ensures err { OnErr result (AreEqual (seen pages.old window.old) (seen pages.new window.new)) }
+{
+    if window.leaf.is_empty() {
+        return Ok(());
+    }
+    pages.swap(alloc, window.depth as usize, window.page, &mut window.leaf)?;
+    window.leaf = Leaf::new(alloc);
+    Ok(())
+}
+
+/// Takes the leaf of a page at a depth into the window, which held nothing.
+fn take(
+    alloc: Global,
+    pages: &mut Pages,
+    window: &mut Window,
+    depth: u32,
+    page: usize,
+) -> Result<(), NoMemory>
+    requires { window.old.leaf ≡ [] }
+    ensures { AreEqual pages.old (seen pages.new window.new) }
+{
+    pages.swap(alloc, depth as usize, page, &mut window.leaf)?;
+    window.depth = depth;
+    window.page = page;
+    window.leaf.reach(0)
+}
+
+/// The registers: a number for each depth and each variable, 0 where none was written. Room is taken as they are written:
+/// for a variable at most 8 KB, once for 1,024 variables in a row, and 24 KB, once for 2^20. One page of 1,024 variables at
+/// a depth is read and written fastest, the one that was opened last.
+#[derive(Debug, Drop)]
+pub struct Registers {
+    pages: Pages,
+    window: Window,
+}
+
+impl Model for Registers {
+    ghost use Rattle.std.specs.Prelude.{ℕ, List};
+    ghost use Rattle.bl_seq.specs.Windows.{seen};
+
+    ghost Value = { List (List (List (List ℕ))) };
+
+    ghost view = { λ registers. seen registers.pages registers.window };
+}
+
+impl Registers {
+    /// Registers of which none was written; takes no memory.
+    pub fn new(alloc: Global) -> Registers
+        ensures { result ≡ [] }
+    {
+        Registers {
+            pages: Pages::new(alloc),
+            window: Window {
+                depth: 0,
+                page: 0,
+                leaf: Leaf::new(alloc),
+            },
+        }
+    }
+
+    /// The number of a variable at a depth.
+    #[inline(always)]
+    pub fn at(&self, depth: usize, x: usize) -> u64
+        ensures { result ≡ register_at self.now depth x }
+    {
+        match self.window.get(depth, x) {
+            Some(number) => number,
+            None => self.find(depth, x),
+        }
+    }
+
+    /// The number of a variable at a depth, wherever it is.
+    #[cold]
+    #[inline(never)]
+    fn find(&self, depth: usize, x: usize) -> u64
+        ensures { result ≡ register_at self.now depth x }
+    {
+        if self.window.holds(depth, x) {
+            self.window.leaf.at(x % 1024)
+        } else {
+            self.pages.at(depth, x)
+        }
+    }
+
+    /// Opens the page of a variable at a depth. It changes no number.
+    pub fn open(&mut self, alloc: Global, depth: u32, x: usize) -> Result<(), NoMemory>
+        ensures { (d v : ℕ) → register_at self.new d v ≡ register_at self.old d v }
+    {
+        shut(alloc, &mut self.pages, &mut self.window)?;
+        take(alloc, &mut self.pages, &mut self.window, depth, x / 1024)
+    }
+
+    /// Writes a variable at a depth. A refusal changes no number.
+    #[inline(always)]
+    pub fn write(
+        &mut self,
+        alloc: Global,
+        depth: usize,
+        x: usize,
+        number: u64,
+    ) -> Result<(), NoMemory>
+        requires { depth < 2 ^ 63 }
+        ensures ok { OnOk result ((d v : ℕ) → register_at self.new d v ≡ written (λ d v. register_at self.old d v) depth x number d v) }
+        ensures err { OnErr result ((d v : ℕ) → register_at self.new d v ≡ register_at self.old d v) }
+    {
+        if self.window.set(depth, x, number) {
+            return Ok(());
+        }
+        self.put(alloc, depth, x, number)
+    }
+
+    /// Writes a variable at a depth, wherever it is.
+    #[cold]
+    #[inline(never)]
+    fn put(&mut self, alloc: Global, depth: usize, x: usize, number: u64) -> Result<(), NoMemory>
+        requires { depth < 2 ^ 63 }
+        ensures ok { OnOk result ((d v : ℕ) → register_at self.new d v ≡ written (λ d v. register_at self.old d v) depth x number d v) }
+        ensures err { OnErr result ((d v : ℕ) → register_at self.new d v ≡ register_at self.old d v) }
+    {
+        if self.window.holds(depth, x) {
+            self.window.leaf.put(x % 1024, number)
+        } else {
+            self.pages.write(alloc, depth, x, number)
+        }
     }
 
     /// Writes variables in a row at a depth.

@@ -31,6 +31,7 @@ pub fn run(
 {
     let layout = Layout::of(alloc, program.program().parts())?;
     let mut machine = begin(alloc, &layout, function, start)?;
+    machine.open_page(alloc, &layout, function);
     let progress = machine.drive(alloc, &layout, steps)?;
     finish(alloc, &layout, &machine, progress)
 }

@@ -1,8 +1,15 @@
-use Rattle.bl_seq.proofs.Filling.{refused, wrote}
+use Rattle.std.proofs.Common.{◌≡◌, ℕ, subst}
+use Rattle.bl_cmd.specs.Steps.{written}
+use Rattle.bl_seq.specs.Filled.{register_at}
+use Rattle.bl_seq.specs.Windows.{MaySet, Sets, seen}
+use Rattle.bl_seq.proofs.Windowed.{held_set}
 use Rattle.bl_seq.proofs.registers.Registers.write.Goals as goal
 
-pub returns-clause-ok : goal.returns-clause-ok
-returns-clause-ok c = wrote _ _ c.put.result c.args.depth c.args.x c.args.number c.put.ensures.ok
-
-pub returns-clause-err : goal.returns-clause-err
-returns-clause-err c = refused _ _ c.put.result c.put.ensures.err
+pub returns-then-set-clause-ok : goal.returns-then-set-clause-ok
+returns-then-set-clause-ok c =
+    let file = c.self.inside.pages in
+    let w = c.self.inside.window in
+    let new = c.set.new.self in
+    let sets : Sets w new c.args.depth c.args.x c.args.number = subst (λ b. MaySet b w new c.args.depth c.args.x c.args.number) c.if-set.true c.set.ensures in
+    subst (λ f. (d v : ℕ) → register_at (seen file new) d v ≡ written (λ d v. register_at f d v) c.args.depth c.args.x c.args.number d v)
+    c.self.view_is (held_set file w new c.args.depth c.args.x c.args.number sets)

@@ -1,7 +1,7 @@
 use Rattle.std.proofs.Common.{◌≡◌, ◌++◌, ◌∙◌, [], ap, replicate}
 use Rattle.bl_seq.specs.Filled.{AreSame, IsSameTree}
 use Rattle.bl_seq.proofs.Filling.{grown_same, on_err, same_tree}
-use Rattle.bl_seq.proofs.registers.Registers.reach.Goals as goal
+use Rattle.bl_seq.proofs.registers.Pages.reach.Goals as goal
 
 pub returns-in_err-push-clause-err : goal.returns-in_err-push-clause-err
 returns-in_err-push-clause-err c =
