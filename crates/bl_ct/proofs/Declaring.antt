@@ -1,17 +1,19 @@
 -- The lists of what a program declares, whole.
-use Rattle.std.proofs.Common.{◌≡◌, ◌↔◌, ◌⊎◌, inl, inr, ℕ, suc, ◌+◌, ◌^◌, ◌<◌, ◌≤◌, List, [], ◌∷◌, ◌++◌, length, map, Option, Some, None, slice_get, refl, sym, ap, subst, ◌∙◌, arith}
+use Rattle.std.proofs.Common.{◌≡◌, ◌↔◌, ◌⊎◌, inl, inr, ℕ, suc, ◌+◌, ◌^◌, ◌<◌, ◌≤◌, List, [], ◌∷◌, ◌++◌, length, get_or, map, Option, Some, None, slice_get, refl, sym, ap, subst, ◌∙◌, arith}
 use Rattle.std.specs.Prelude.{IsSomeAnd, option_map}
 use Rattle.std.specs.List.{Contains, slice_index_or}
-use Rattle.std.proofs.lemmas.Option.{none-some, slice_get_within}
-use Rattle.bl_base.proofs.Lists.{some_same, all_get}
+use Rattle.std.proofs.lemmas.Option.{none-some, slice_get_within, slice_get-get_or}
+use Rattle.bl_base.proofs.Lists.{some_same, all_get, within_get}
 use Rattle.bl_base.specs.declared.names.Label.{Label}
 use Rattle.bl_base.specs.declared.number.Var.{Var}
 use Rattle.bl_base.specs.declared.names.Label.TheVariants as label
-use Rattle.bl_cmd.specs.Layout.{command_at, first_of, param, result, results_of, statics}
+use Rattle.bl_cmd.specs.Layout.{command_at, first_of, param, params_of, results_of, statics}
 use Rattle.bl_cmd.specs.Rules.{IsFunction, IsWellFormed}
 use Rattle.bl_cmd.specs.declared.command.Command.{Command}
 use Rattle.bl_cmd.specs.declared.definitions.Demand.{Demand}
 use Rattle.bl_cmd.specs.declared.definitions.FunctionDef.{FunctionDef}
+use Rattle.bl_cmd.specs.declared.definitions.GlobalDef.{GlobalDef}
+use Rattle.bl_cmd.specs.declared.definitions.ParamDef.{ParamDef}
 use Rattle.bl_cmd.specs.declared.definitions.ProgramParts.{ProgramParts as Program}
 use Rattle.bl_graph.specs.Secrets.{Declares, LoadsSecret, Stores, Demands, GivesPublic, TakesSecret, demanded_by}
 use Rattle.bl_graph.specs.declared.facts.Use.{Use}
@@ -125,6 +127,31 @@ module _ (program : Program) where
       (gathers_as (λ store. (store.at.0 ≡ n) × (o ≡ Some store.var.0)) (StoreFits program n command) old new
       (λ store. ((λ h. (h.0, (same store.var.0).0 h.1)), (λ h. (h.0, (same store.var.0).1 h.1)))) step) before
 
+-- ---- the same for an item at its place
+
+module _ (program : Program) (ys : List Command) (e : ys ≡ program.commands) (n : ℕ) (d : Command) (lt : n < length ys) where
+  command_is : slice_get program.commands n ≡ Some (get_or ys n d)
+  command_is = subst (λ l. slice_get l n ≡ Some (get_or ys n d)) e (slice_get-get_or ys n d lt)
+
+  pub load_step : (o : Option ℕ) (old new : List SecretLoad) → ((number : ℕ) → (o ≡ Some number) ↔ TakesSecret program (get_or ys n d) number)
+      → Gathers (λ load. (load.at ≡ n) × (o ≡ Some load.memory)) old new
+      → Gathers (Below program.commands (LoadFits program) n) [] old → Gathers (Below program.commands (LoadFits program) (n + 1)) [] new
+  load_step o old new = load_next program n (get_or ys n d) o old new command_is
+
+  pub store_step : (o : Option ℕ) (old new : List Use) → ((x : ℕ) → (o ≡ Some x) ↔ GivesPublic program (get_or ys n d) x)
+      → Gathers (λ store. (store.at.0 ≡ n) × (o ≡ Some store.var.0)) old new
+      → Gathers (Below program.commands (StoreFits program) n) [] old → Gathers (Below program.commands (StoreFits program) (n + 1)) [] new
+  store_step o old new = store_next program n (get_or ys n d) o old new command_is
+
+pub global_step : (globals : List GlobalDef) (n : ℕ) (d : GlobalDef) (a b c : List Declared) → n < length globals → Gathers (GlobalFits n (get_or globals n d)) b c
+    → Gathers (Below globals GlobalFits n) a b → Gathers (Below globals GlobalFits (n + 1)) a c
+global_step globals n d a b c lt = gathers_next globals GlobalFits n (get_or globals n d) a b c (slice_get-get_or globals n d lt)
+
+pub param_step : (function first : ℕ) (params : List ParamDef) (n : ℕ) (d : ParamDef) (a b c : List Declared) → n < length params
+    → Gathers (ParamFits function first n (get_or params n d)) b c
+    → Gathers (Below params (ParamFits function first) n) a b → Gathers (Below params (ParamFits function first) (n + 1)) a c
+param_step function first params n d a b c lt = gathers_next params (ParamFits function first) n (get_or params n d) a b c (slice_get-get_or params n d lt)
+
 -- ---- one behind a list, where there is one
 
 pub load_one : (at_ : ℕ) (o : Option ℕ) (memory : ℕ) (old new : List SecretLoad) → o ≡ Some memory → new ≡ old ++ record { at = at_; memory = memory } ∷ []
@@ -189,19 +216,21 @@ module _ (program : Program) (rules : IsWellFormed program) where
       let most = rules.rule2.variables in
       omega arith
 
-  -- a result that is demanded: its function, and that its variable is in range
-  pub result_fits : (function index : ℕ) (defined : FunctionDef) → slice_get program.functions function ≡ Some defined → index < results_of program function
-      → first_of program function + length defined.params + index < 2 ^ 31
-  result_fits function index defined item low =
-      let within = slice_get_within program.functions function defined item in
-      let room = (all_get IsFunction program.functions function defined rules.rule2.each item).variables in
-      let results = number_is (λ (f : FunctionDef). length f.results) program.functions function defined item in
-      let next = next_first program function defined item in
+  pub params_small : (function : ℕ) (defined : FunctionDef) → slice_get program.functions function ≡ Some defined → length defined.params < 2 ^ 32
+  params_small function defined item = let fits = params_fit function defined item in omega arith
+
+  pub params_are : (function : ℕ) (defined : FunctionDef) → slice_get program.functions function ≡ Some defined → length defined.params ≡ params_of program function
+  params_are function defined item = sym (number_is (λ (f : FunctionDef). length f.params) program.functions function defined item)
+
+  -- the variable of a result that is demanded
+  pub demand_fits : (function index : ℕ) → function < length program.functions → index < results_of program function
+      → first_of program function + params_of program function + index < 2 ^ 31
+  demand_fits function index exists low =
+      let f = within_get program.functions function exists in
+      let room = (all_get IsFunction program.functions function f.0 rules.rule2.each f.1).variables in
+      let results = number_is (λ (f : FunctionDef). length f.results) program.functions function f.0 f.1 in
+      let params = number_is (λ (f : FunctionDef). length f.params) program.functions function f.0 f.1 in
+      let next = next_first program function f.0 f.1 in
       let up = first_below program (suc function) (omega arith) in
       let most = rules.rule2.variables in
       omega arith
-
-  pub result_is : (function index : ℕ) (defined : FunctionDef) → slice_get program.functions function ≡ Some defined
-      → first_of program function + length defined.params + index ≡ result program function index
-  result_is function index defined item =
-      let params = number_is (λ (f : FunctionDef). length f.params) program.functions function defined item in omega arith

@@ -13,7 +13,8 @@ use Rattle.bl_ct.specs.declared.search.Cause.TheVariants.{Declared, Loaded, Move
 use Rattle.bl_ct.specs.declared.verdict.Leak.{Leak}
 use Rattle.bl_cmd.specs.Sites.{Writes, Reads}
 use Rattle.bl_graph.specs.Secrets.{Demands, Declares}
-use Rattle.bl_ct.specs.Facts.{AreSecretsInRange}
+use Rattle.bl_ct.specs.Facts.{AreFacts, AreSecretsInRange}
+use Rattle.bl_ct.specs.declared.facts.Facts.{Facts}
 use Rattle.bl_graph.specs.Labels.{Labelled, Secret, declared, loaded, moved}
 use Rattle.bl_graph.specs.SecretChains.{Ends, sunk, stored, given}
 use Rattle.bl_ct.specs.Finding.{is_in, Has, StandsBy, Searched, AreEnds, IsLeak, end_at}
@@ -81,3 +82,10 @@ module _ (program : Program) (is : AreSecretsInRange program) (marks demanded : 
       | inr load ↦ inr (load.0, load.1, (exact found.0.var).0 load.2)
     ],
   )
+
+-- marks of a list of the demanded variables are those of the demanded variables
+pub demanded_exact : (program : Program) (facts : Facts) (are : AreFacts program facts) (marks : List Bool) (list : List ℕ) → list ≡ facts.demanded
+    → ((v : ℕ) → IsTrue (is_in marks v) ↔ Contains list v) → (x : ℕ) → IsTrue (is_in marks x) ↔ Demands program x
+demanded_exact program facts are marks list e exact x =
+    let listed : Contains list x ↔ Demands program x = subst (λ l. Contains l x ↔ Demands program x) (sym e) (are.demanded x) in
+    ((λ h. listed.0 ((exact x).0 h)), (λ d. (exact x).1 (listed.1 d)))

@@ -183,16 +183,16 @@ module _ (program : Program) (facts : Facts) (are : AreFacts program facts) (wri
       let row = f.2 in
       subst (λ s. StandsBy program q place s.var s.cause) (sym row.2) ((are.loads f.0).0 f.1, (writes f.0.at row.0).0 row.1)
 
-  pub search_begins : (none one two : List Bool) (first second : List Step) → none ≡ replicate variables program false
+  pub search_begins : (none one two : List Bool) (first second : List Step) → none ≡ replicate (variables program) false
       → Visits (Some_fits facts.declared (λ d step. step ≡ record { var = d.var; cause = Declared d.origin })) (Some_asks facts.declared (λ d v. v ≡ d.var)) none one [] first
       → Visits (Some_fits facts.loads (λ d. RowFits (row_at written d.at) (Loaded d.at d.memory))) (Some_asks facts.loads (λ d. RowAsks (row_at written d.at))) one two first second
       → Searching program two second 0
   search_begins none one two first second clear by_declared by_loaded =
-      let unmarked_ : (v : ℕ) → IsTrue (is_in none v) → ⊥ = λ v h. false≢true (sym (ap (λ l. is_in l v) clear ∙ nothing_marked variables program v) ∙ h) in
+      let unmarked_ : (v : ℕ) → IsTrue (is_in none v) → ⊥ = λ v h. false≢true (sym (ap (λ l. is_in l v) clear ∙ nothing_marked (variables program) v) ∙ h) in
       let queued_ = queued_more _ _ none one [] first by_declared (λ s h. absurd (none_in s h)) in
       let back_ = back_more _ _ none one [] first by_declared (λ v h. absurd (unmarked_ v h)) in
       record {
-        places = by_loaded.places ∙ (by_declared.places ∙ (ap length clear ∙ length-replicate {A = Bool} variables program false));
+        places = by_loaded.places ∙ (by_declared.places ∙ (ap length clear ∙ length-replicate {A = Bool} (variables program) false));
         in_order = omega arith;
         declared = λ x origin h. by_loaded.kept x (by_declared.taken x (record { var = x; origin = origin }, (are.declared (record { var = x; origin = origin })).1 h, refl));
         loaded = λ s memory x h w. by_loaded.taken x (record { at = s; memory = memory }, (are.loads (record { at = s; memory = memory })).1 h, (x, (writes s x).1 w, refl));

@@ -1,7 +1,7 @@
 //! What a program declares secret, and where it has to be public.
 ghost use Rattle.std.specs.Prelude.{◌≡◌, ◌↔◌, ◌+◌, ◌<◌, ◌^◌, ℕ, IfOk, IsSomeAnd, IsTrue, OnOk, Some, [], length, map, option_map, slice_get};
 ghost use Rattle.bl_base.specs.declared.names.Label.TheVariants as label_is;
-ghost use Rattle.bl_cmd.specs.Layout.{statics};
+ghost use Rattle.bl_cmd.specs.Layout.{params_of, statics};
 ghost use Rattle.bl_cmd.specs.Programs.{IsProgram};
 ghost use Rattle.bl_cmd.specs.Rules.{IsDemand, IsWellFormed};
 ghost use Rattle.bl_cmd.specs.Sites.{Names};
@@ -144,10 +144,9 @@ fn push_secret(all: &mut List<Declared>, label: Label, declared: Declared) -> Re
     ensures { OnOk result (Gathers (λ one. (label ≡ label_is.Secret) × (one ≡ declared)) all.old all.new) }
 {
     match label {
-        Label::Secret => all.push(declared)?,
-        Label::Public => (),
+        Label::Secret => all.push(declared),
+        Label::Public => Ok(()),
     }
-    Ok(())
 }
 
 /// The Loads of memories that are declared secret.
@@ -286,9 +285,17 @@ fn demanded_by(parts: &ProgramParts, firsts: &[u32], demand: Demand) -> u32
 {
     match demand {
         Demand::Result { function, index } => {
-            let params = parts.functions.as_slice()[function as usize].params.len() as u32;
-            firsts[function as usize] + params + index
+            firsts[function as usize] + params_of(parts, function) + index
         }
         Demand::Global(number) => number,
     }
+}
+
+/// The number of a function's parameters.
+fn params_of(parts: &ProgramParts, function: u32) -> u32
+    requires rules { IsWellFormed parts.now }
+    requires exists { function < length parts.now.functions }
+    ensures { result ≡ params_of parts.now function }
+{
+    parts.functions.as_slice()[function as usize].params.len() as u32
 }

@@ -13,7 +13,7 @@ pub giving_sites-requires-clause-sites : goal.giving_sites-requires-clause-sites
 giving_sites-requires-clause-sites c = λ k d lt.
     let u : Use = slice_index_or c.as_slice.result.now k d in
     let inside = (writes_in c.args.known.now c.requires.is u (elem c.as_slice.result.now c.args.known.now.graph.now.writes c.as_slice.ensures k d lt)).0 in
-    let count = c.command_count.ensures in
+    let count = c.command_count-count.ensures in
     omega arith
 
 pub giving_sites-requires-clause-vars : goal.giving_sites-requires-clause-vars
@@ -29,7 +29,7 @@ uses_at-requires c = λ k d lt.
     let inside = (reads_in c.args.known.now c.requires.is u (elem c.as_slice-2.result.now c.args.known.now.graph.now.reads c.as_slice-2.ensures k d lt)).0 in
     let places = c.in_ok-giving.ensures.places in
     let value = ap length c.deref.ensures.value in
-    let count = c.command_count.ensures in
+    let count = c.command_count-count.ensures in
     omega arith
 
 pub note-requires : goal.note-requires

@@ -1,8 +1,7 @@
 use Rattle.std.proofs.Common.{[], length, sym, ap, subst, arith}
 use Rattle.bl_cmd.specs.declared.command.Command.{Command}
-use Rattle.bl_graph.proofs.Summing.{item_at}
 use Rattle.bl_ct.specs.Facts.{Gathers, LoadFits}
-use Rattle.bl_ct.proofs.Declaring.{load_next}
+use Rattle.bl_ct.proofs.Declaring.{load_step}
 use Rattle.bl_ct.proofs.Gathering.{Below, gathers_begin, gathers_end}
 use Rattle.bl_ct.proofs.facts.loads_of.Goals as goal
 
@@ -13,9 +12,8 @@ loop-at-init c =
 
 pub loop-at-preserved : goal.loop-at-preserved
 loop-at-preserved c =
-    let item = item_at c.args.parts.now.commands _ _ _ c.as_slice-command-items.ensures c.loop-at-test.true c.command-item.is in
-    load_next c.args.parts.now c.loop-at.at c.command-item.result c.taken.result c.loop-at.loads c.push_load.new.loads item
-    c.taken.ensures c.in_ok-push_load.ensures c.loop-at.invariant
+    load_step c.args.parts.now c.as_slice-command-items.result.now c.as_slice-command-items.ensures c.loop-at.at _ c.loop-at-test.true
+    c.taken.result c.loop-at.loads c.push_load.new.loads c.taken.ensures c.in_ok-push_load.ensures c.loop-at.invariant
 
 pub returns : goal.returns
 returns c =

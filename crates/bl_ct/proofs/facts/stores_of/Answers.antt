@@ -2,9 +2,8 @@ use Rattle.std.proofs.Common.{[], length, sym, ap, subst, arith}
 use Rattle.std.specs.Prelude.{option_map}
 use Rattle.bl_base.specs.declared.number.Var.{Var}
 use Rattle.bl_cmd.specs.declared.command.Command.{Command}
-use Rattle.bl_graph.proofs.Summing.{item_at}
 use Rattle.bl_ct.specs.Facts.{Gathers, StoreFits}
-use Rattle.bl_ct.proofs.Declaring.{store_next}
+use Rattle.bl_ct.proofs.Declaring.{store_step}
 use Rattle.bl_ct.proofs.Gathering.{Below, gathers_begin, gathers_end}
 use Rattle.bl_ct.proofs.facts.stores_of.Goals as goal
 
@@ -15,9 +14,8 @@ loop-at-init c =
 
 pub loop-at-preserved : goal.loop-at-preserved
 loop-at-preserved c =
-    let item = item_at c.args.parts.now.commands _ _ _ c.as_slice-command-items.ensures c.loop-at-test.true c.command-item.is in
-    store_next c.args.parts.now c.loop-at.at c.command-item.result (option_map (λ (var : Var). var.0) c.given.result) c.loop-at.stores c.push_store.new.stores item
-    c.given.ensures c.in_ok-push_store.ensures c.loop-at.invariant
+    store_step c.args.parts.now c.as_slice-command-items.result.now c.as_slice-command-items.ensures c.loop-at.at _ c.loop-at-test.true
+    (option_map (λ (var : Var). var.0) c.given.result) c.loop-at.stores c.push_store.new.stores c.given.ensures c.in_ok-push_store.ensures c.loop-at.invariant
 
 pub returns : goal.returns
 returns c =

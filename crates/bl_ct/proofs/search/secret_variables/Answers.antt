@@ -10,7 +10,7 @@ pub rows_of-requires : goal.rows_of-requires
 rows_of-requires c =
     let same : c.deref.result.now ≡ map from_site c.args.known.now.graph.now.writes =
     c.deref.ensures.value ∙ (c.in_ok-site_arcs.ensures ∙ ap (map from_site) c.as_slice.ensures) in
-    sites_within c.args.known.now c.requires c.deref.result.now c.command_count.result same c.command_count.ensures
+    sites_within c.args.known.now c.requires c.deref.result.now c.command_count-count.result same c.command_count-count.ensures
 
 pub rows_of-requires-2 : goal.rows_of-requires-2
 rows_of-requires-2 c =
