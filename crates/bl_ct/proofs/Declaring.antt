@@ -234,3 +234,8 @@ module _ (program : Program) (rules : IsWellFormed program) where
       let up = first_below program (suc function) (omega arith) in
       let most = rules.rule2.variables in
       omega arith
+
+-- the function that is read at its place
+pub function_is : (program : Program) (ys : List FunctionDef) → ys ≡ program.functions → (function : ℕ) (d : FunctionDef) → function < length ys
+    → slice_get program.functions function ≡ Some (get_or ys function d)
+function_is program ys e function d lt = subst (λ l. slice_get l function ≡ Some (get_or ys function d)) e (slice_get-get_or ys function d lt)
