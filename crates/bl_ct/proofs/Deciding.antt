@@ -8,7 +8,7 @@ use Rattle.bl_cmd.specs.Sites.{Writes, Reads}
 use Rattle.bl_cmd.specs.declared.definitions.ProgramParts.{ProgramParts as Program}
 use Rattle.bl_graph.specs.Graphs.{use_of}
 use Rattle.bl_graph.specs.Labels.{Secret, declared, loaded, moved}
-use Rattle.bl_graph.specs.Secrets.{Declares, LoadsSecret}
+use Rattle.bl_graph.specs.Secrets.{LoadsSecret}
 use Rattle.bl_graph.specs.declared.facts.Use.{Use}
 use Rattle.bl_graph.proofs.Members.{first_in, later_in, in_cases, none_in, in_map, from_map}
 use Rattle.bl_ct.specs.declared.facts.Declared.{Declared}

@@ -1,12 +1,12 @@
 -- Secret variables are secret in each labelling, so that a chain leaves none that keeps the rules.
-use Rattle.std.proofs.Common.{◌≡◌, ℕ, Bool, true, false, List, [], ◌∷◌, ◌⊎◌, inl, inr, not}
+use Rattle.std.proofs.Common.{ℕ, Bool, true, false, List, [], ◌∷◌, inl, inr, not}
 use Rattle.std.specs.Prelude.{IsTrue}
 use Rattle.std.proofs.lemmas.Bool.{false≢true}
 use Rattle.bl_cmd.specs.declared.definitions.ProgramParts.{ProgramParts as Program}
 use Rattle.bl_graph.specs.declared.secret.Origin.{Origin}
 use Rattle.bl_graph.specs.declared.secret.Origin.TheVariants.{Parameter, Global, Memory}
 use Rattle.bl_graph.specs.Labels.{AssignsLabels, Labelled, Secret, declared, loaded, moved}
-use Rattle.bl_graph.specs.SecretChains.{Ends, sunk, stored, given, Leads, LeadsLoaded, IsChainFrom}
+use Rattle.bl_graph.specs.SecretChains.{Ends, sunk, stored, given, Leads, IsChainFrom}
 
 pub least : (program : Program) (labelling : ℕ → Bool) (x : ℕ) → AssignsLabels program labelling → Secret program x → IsTrue (labelling x)
 least program labelling x assigns (declared _ origin h) = assigns.declared x origin h

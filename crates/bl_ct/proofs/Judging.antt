@@ -1,21 +1,18 @@
 -- Verdicts from a whole search and a table of ends.
-use Rattle.std.proofs.Common.{◌≡◌, ℕ, zero, suc, ◌<◌, ◌≤◌, Bool, true, false, List, [], ◌∷◌, ◌++◌, length, refl, sym, ap, subst, ◌∙◌, arith, ◌⊎◌, inl, inr, not, Option, Some, None, map}
+use Rattle.std.proofs.Common.{◌≡◌, ℕ, zero, suc, Bool, true, false, List, [], ◌∷◌, refl, sym, ap, subst, ◌∙◌, inl, inr, not, Option, Some, None, map}
 use Rattle.std.specs.Prelude.{IsTrue, ◌↔◌, is_some}
 use Rattle.std.specs.List.{Contains, slice_index_or}
-use Rattle.std.proofs.lemmas.Bool.{cases_lt, false≢true, not_from_false, false_from_ne_true}
-use Rattle.std.proofs.lemmas.List.{get_or-map, get_or_past, length-map}
-use Rattle.bl_base.specs.declared.names.Label.{Label}
-use Rattle.bl_base.specs.declared.names.Label.TheVariants as label
+use Rattle.std.proofs.lemmas.Bool.{false≢true, not_from_false, false_from_ne_true}
+use Rattle.std.proofs.lemmas.List.{length-map}
 use Rattle.bl_cmd.specs.declared.definitions.ProgramParts.{ProgramParts as Program}
 use Rattle.bl_ct.specs.declared.search.Step.{Step}
 use Rattle.bl_ct.specs.declared.search.Cause.{Cause}
 use Rattle.bl_ct.specs.declared.search.Cause.TheVariants.{Declared, Loaded, Moved}
 use Rattle.bl_ct.specs.declared.verdict.Leak.{Leak}
-use Rattle.bl_cmd.specs.Sites.{Writes, Reads}
-use Rattle.bl_graph.specs.Secrets.{Demands, Declares}
+use Rattle.bl_graph.specs.Secrets.{Demands}
 use Rattle.bl_ct.specs.Facts.{AreFacts, AreSecretsInRange}
 use Rattle.bl_ct.specs.declared.facts.Facts.{Facts}
-use Rattle.bl_graph.specs.Labels.{Labelled, Secret, declared, loaded, moved}
+use Rattle.bl_graph.specs.Labels.{Secret, declared, loaded, moved}
 use Rattle.bl_graph.specs.SecretChains.{Ends, sunk, stored, given}
 use Rattle.bl_ct.specs.Finding.{is_in, Has, StandsBy, Searched, AreEnds, IsLeak, end_at}
 use Rattle.bl_ct.specs.Leaks.{LeakOf, LeakFound}

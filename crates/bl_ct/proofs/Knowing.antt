@@ -1,12 +1,12 @@
 -- In which ranges lies what is known of a program.
-use Rattle.std.proofs.Common.{◌≡◌, ◌⊎◌, inl, inr, ℕ, suc, ◌+◌, ◌<◌, ◌≤◌, List, length, Option, Some, None, slice_get, refl, sym, ap, subst, ◌∙◌, arith}
+use Rattle.std.proofs.Common.{◌≡◌, inl, inr, ℕ, suc, ◌<◌, length, Option, Some, None, slice_get, refl, sym, ap, subst, ◌∙◌, arith}
 use Rattle.std.specs.Prelude.{IsSomeAnd}
 use Rattle.std.specs.List.{Contains}
 use Rattle.std.proofs.lemmas.Option.{slice_get_within}
 use Rattle.bl_base.proofs.Lists.{some_same, all_get, within_get}
 use Rattle.bl_base.specs.declared.names.Label.{Label}
 use Rattle.bl_base.specs.declared.names.Label.TheVariants as label
-use Rattle.bl_cmd.specs.Layout.{command_at, first_of, statics, params_of, results_of, param, result}
+use Rattle.bl_cmd.specs.Layout.{command_at, statics, params_of, results_of, result}
 use Rattle.bl_cmd.specs.Programs.{IsProgram}
 use Rattle.bl_cmd.specs.Rules.{IsWellFormed, IsDemand, IsFunction, IsOwn, operands_of}
 use Rattle.bl_cmd.specs.Sites.{Among}
@@ -16,17 +16,15 @@ use Rattle.bl_cmd.specs.declared.definitions.Demand.{Demand}
 use Rattle.bl_cmd.specs.declared.definitions.Demand.TheVariants as demand
 use Rattle.bl_cmd.specs.declared.definitions.FunctionDef.{FunctionDef}
 use Rattle.bl_cmd.specs.declared.definitions.GlobalDef.{GlobalDef}
-use Rattle.bl_cmd.specs.declared.definitions.ParamDef.{ParamDef}
 use Rattle.bl_cmd.specs.declared.definitions.ProgramParts.{ProgramParts as Program}
 use Rattle.bl_cmd.proofs.Layouts.{first_below, first_above, next_first, number_is, own_apart, result_own}
-use Rattle.bl_graph.specs.Graphs.{IsGraph}
 use Rattle.bl_graph.specs.Ranges.{commands, variables, AreInRange}
-use Rattle.bl_graph.specs.Secrets.{IsSecretParam, IsSecretGlobal, Declares, LoadsSecret, Stores, Demands, GivesPublic, TakesSecret, demanded_by}
+use Rattle.bl_graph.specs.Secrets.{IsSecretParam, IsSecretGlobal, Declares, LoadsSecret, Stores, GivesPublic, TakesSecret, demanded_by}
 use Rattle.bl_graph.specs.declared.facts.Use.{Use}
 use Rattle.bl_graph.specs.declared.secret.Origin.{Origin}
 use Rattle.bl_graph.specs.declared.secret.Origin.TheVariants.{Parameter, Global, Memory}
 use Rattle.bl_graph.proofs.Ranging.{in_range, param_small, operand_small}
-use Rattle.bl_ct.specs.Facts.{AreFacts, AreSecretsInRange, IsKnown}
+use Rattle.bl_ct.specs.Facts.{AreSecretsInRange, IsKnown}
 use Rattle.bl_ct.specs.declared.facts.Declared.{Declared}
 use Rattle.bl_ct.specs.declared.facts.Known.{Known}
 use Rattle.bl_ct.specs.declared.facts.SecretLoad.{SecretLoad}

@@ -3,17 +3,15 @@ use Rattle.std.proofs.Common.{◌≡◌, ℕ, suc, zero, ◌+◌, ◌<◌, ◌�
 use Rattle.std.specs.Prelude.{IsTrue, ◌↔◌}
 use Rattle.std.specs.List.{Contains, slice_get, slice_index_or}
 use Rattle.std.proofs.lemmas.Bool.{cases_lt, cases_eq, false≢true}
-use Rattle.std.proofs.lemmas.List.{get_or-set_same, get_or-set_other, get_or_append_left, get_or-append-add, get_or_past, get_or-replicate, length-replicate, append_assoc, append-nil, get_or_default}
+use Rattle.std.proofs.lemmas.List.{get_or-set_same, get_or-set_other, get_or_append_left, get_or-append-add, get_or_past, get_or-replicate, length-replicate, append_assoc, append-nil}
 use Rattle.std.proofs.lemmas.List.Sums.{sum_by-set}
-use Rattle.std.proofs.lemmas.List.Elements.{Contains-push_cases, Contains-append_left, Contains-append_right, Contains-append_cases, Contains-push, Contains-get_or}
+use Rattle.std.proofs.lemmas.List.Elements.{Contains-push_cases, Contains-append_left, Contains-append_right, Contains-append_cases, Contains-push}
 use Rattle.std.proofs.lemmas.Option.{slice_get_within, get_or_from_slice_get, slice_get-get_or, same_Some}
 use Rattle.bl_cmd.specs.declared.definitions.ProgramParts.{ProgramParts as Program}
-use Rattle.bl_graph.specs.declared.secret.Origin.{Origin}
 use Rattle.bl_ct.specs.declared.search.Step.{Step}
 use Rattle.bl_ct.specs.declared.search.Cause.{Cause}
 use Rattle.bl_ct.specs.declared.search.Cause.TheVariants.{Declared, Loaded, Moved}
 use Rattle.bl_cmd.specs.Sites.{Writes, Reads}
-use Rattle.bl_graph.specs.Secrets.{Declares, LoadsSecret}
 use Rattle.bl_graph.specs.Labels.{Secret, declared, loaded, moved}
 use Rattle.bl_graph.specs.Ranges.{variables}
 use Rattle.bl_ct.specs.Facts.{AreFacts}

@@ -9,7 +9,7 @@ use Rattle.bl_cmd.specs.declared.definitions.FunctionDef.{FunctionDef}
 use Rattle.bl_cmd.specs.declared.definitions.GlobalDef.{GlobalDef}
 use Rattle.bl_cmd.specs.declared.definitions.ParamDef.{ParamDef}
 use Rattle.bl_cmd.specs.declared.definitions.ProgramParts.{ProgramParts as Program}
-use Rattle.bl_graph.specs.Graphs.{IsGraph, use_of}
+use Rattle.bl_graph.specs.Graphs.{IsGraph}
 use Rattle.bl_graph.specs.Ranges.{commands, variables}
 use Rattle.bl_graph.specs.Secrets.{Declares, LoadsSecret, Stores, Demands, TakesSecret, GivesPublic}
 use Rattle.bl_graph.specs.declared.facts.Use.{Use}

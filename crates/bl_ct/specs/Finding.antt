@@ -1,5 +1,5 @@
 -- The search for secret variables: each is found once, and how it was found stands in a queue.
-use Rattle.std.specs.Prelude.{◌≡◌, ◌↔◌, ℕ, ◌+◌, ◌<◌, ◌≤◌, ◌⊎◌, Bool, false, not, List, [], ◌++◌, Option, Some, None, is_some, Contains, length, slice_get, slice_index_or, IsTrue, count_by, Vec, map, reverse}
+use Rattle.std.specs.Prelude.{◌≡◌, ◌↔◌, ℕ, ◌+◌, ◌<◌, ◌≤◌, ◌⊎◌, Bool, false, not, List, [], ◌++◌, Option, Some, None, is_some, Contains, length, slice_get, slice_index_or, IsTrue, count_by, Vec, map}
 use Rattle.std.specs.declared.alloc.Global.{Global}
 use Rattle.bl_cmd.specs.Sites.{Writes, Reads}
 use Rattle.bl_cmd.specs.declared.definitions.ProgramParts.{ProgramParts as Program}
@@ -49,7 +49,8 @@ Has queue place step = slice_get queue place ≡ Some step
 abbrev pub StandsBy : Program → List Step → ℕ → ℕ → Cause → Type 0
 StandsBy program queue place x (Declared origin) = Declares program x origin
 StandsBy program queue place x (Loaded s memory) = LoadsSecret program s memory × Writes program s x
-StandsBy program queue place x (Moved s before) = (before < place) × ((former : Step) × Has queue before former × Reads program s former.var × Writes program s x)
+StandsBy program queue place x (Moved s before) =
+    (before < place) × ((former : Step) × Has queue before former × Reads program s former.var × Writes program s x)
 
 abbrev pub Stands : Program → List Step → Type 0
 Stands program queue = (place : ℕ) (step : Step) → Has queue place step → StandsBy program queue place step.var step.cause
@@ -88,7 +89,8 @@ pub record Searching (program : Program) (marks : List Bool) (queue : List Step)
   pub loaded : (s memory x : ℕ) → LoadsSecret program s memory → Writes program s x → IsTrue (is_in marks x)
   pub queued : (step : Step) → Contains queue step → IsTrue (is_in marks step.var)
   pub back : (v : ℕ) → IsTrue (is_in marks v) → (step : Step) × Contains queue step × (step.var ≡ v)
-  pub done : (place : ℕ) (step : Step) → place < next → Has queue place step → (s y : ℕ) → Reads program s step.var → Writes program s y → IsTrue (is_in marks y)
+  pub done : (place : ℕ) (step : Step) → place < next → Has queue place step → (s y : ℕ)
+      → Reads program s step.var → Writes program s y → IsTrue (is_in marks y)
   pub sound : Stands program queue
 
 -- a whole search
@@ -122,7 +124,8 @@ IsLeak program step end = Ends program step.var end ⊎ ((memory : ℕ) × (step
 
 -- the way from a step on
 abbrev pub LeadsOn : Program → Step → List ℕ → ℕ → Type 0
-LeadsOn program step rest end = Leads program step.var rest end ⊎ ((rest ≡ []) × ((memory : ℕ) × (step.cause ≡ Loaded end memory) × Demands program step.var))
+LeadsOn program step rest end =
+    Leads program step.var rest end ⊎ ((rest ≡ []) × ((memory : ℕ) × (step.cause ≡ Loaded end memory) × Demands program step.var))
 
 -- for each position whether it writes a marked variable
 abbrev pub Gives : List Use → List Bool → List Bool → Type 0

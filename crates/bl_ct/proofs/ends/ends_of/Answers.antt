@@ -1,7 +1,5 @@
-use Rattle.std.proofs.Common.{◌≡◌, ◌<◌, ℕ, List, length, arith, sym, subst, ap, ◌∙◌, replicate, None}
+use Rattle.std.proofs.Common.{length, arith, subst, ap, ◌∙◌, replicate, None}
 use Rattle.std.specs.List.{slice_index_or, Contains}
-use Rattle.std.proofs.lemmas.List.{length-replicate}
-use Rattle.bl_graph.specs.Ranges.{variables}
 use Rattle.bl_graph.specs.declared.facts.Use.{Use}
 use Rattle.bl_ct.specs.Finding.{Gives, KeptAt, IsNoted}
 use Rattle.bl_ct.proofs.Knowing.{writes_in, reads_in, sinks_in, stores_in}

@@ -1,11 +1,10 @@
-use Rattle.std.proofs.Common.{◌≡◌, ◌<◌, ◌≤◌, ◌+◌, ◌++◌, ◌∷◌, [], ℕ, List, Bool, true, false, None, length, slice_index, take, arith, sym, subst, ap, ◌∙◌, set, replicate, map, refl}
-use Rattle.std.specs.Prelude.{IsTrue, ◌↔◌}
-use Rattle.std.specs.List.{slice_index_or, Contains, All}
+use Rattle.std.proofs.Common.{◌≡◌, ◌+◌, ◌++◌, ◌∷◌, [], true, take, arith, subst, ◌∙◌}
+use Rattle.std.specs.List.{slice_index_or}
 use Rattle.std.proofs.lemmas.List.{take_more, take_all, length-set}
 use Rattle.bl_graph.specs.declared.facts.Use.{Use}
 use Rattle.bl_graph.specs.Graphs.{use_of}
-use Rattle.bl_ct.specs.Finding.{is_in, Gives, KeptAt, IsNoted}
-use Rattle.bl_ct.proofs.Ending.{marked_more, note_more, kept_yes, kept_no, gives_yes, gives_no}
+use Rattle.bl_ct.specs.Finding.{Gives}
+use Rattle.bl_ct.proofs.Ending.{gives_yes, gives_no}
 use Rattle.bl_ct.proofs.ends.giving_sites.Goals as goal
 use Rattle.bl_ct.proofs.ends.giving_sites.Goals.{then-demanded-write, else-demanded-write}
 

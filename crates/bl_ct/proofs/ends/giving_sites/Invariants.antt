@@ -1,4 +1,4 @@
-use Rattle.std.proofs.Common.{◌≡◌, ℕ, length, take}
+use Rattle.std.proofs.Common.{◌≡◌, length, take}
 use Rattle.bl_ct.specs.Finding.{Gives}
 use Rattle.bl_ct.proofs.ends.giving_sites.Given as goal
 

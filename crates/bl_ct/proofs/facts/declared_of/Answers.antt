@@ -1,4 +1,4 @@
-use Rattle.std.proofs.Common.{◌≡◌, ◌<◌, ◌^◌, Some, slice_get, [], length, sym, ap, subst, ◌∙◌, arith}
+use Rattle.std.proofs.Common.{◌≡◌, ◌<◌, ◌^◌, Some, slice_get, [], length, sym, ap, subst, arith}
 use Rattle.std.specs.List.{slice_index_or}
 use Rattle.bl_cmd.specs.Layout.{first_of}
 use Rattle.bl_cmd.specs.declared.definitions.FunctionDef.{FunctionDef}

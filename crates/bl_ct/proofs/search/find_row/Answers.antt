@@ -1,7 +1,5 @@
-use Rattle.std.proofs.Common.{◌≡◌, ◌<◌, ◌≤◌, ◌+◌, ◌++◌, ◌∷◌, [], ℕ, List, Bool, true, false, None, length, slice_index, take, arith, sym, subst, ap, ◌∙◌, set, replicate, map}
-use Rattle.std.specs.List.{slice_index_or, Contains}
-use Rattle.std.proofs.lemmas.List.{take_more, take_all, length-set, length-map, map-set, get_or-map}
-use Rattle.bl_ct.specs.declared.search.Step.{Step}
+use Rattle.std.proofs.Common.{◌≡◌, ◌+◌, ◌++◌, ◌∷◌, [], ℕ, slice_index, take, arith, subst}
+use Rattle.std.proofs.lemmas.List.{take_more, take_all}
 use Rattle.bl_ct.specs.Finding.{Visits, RowFits, RowAsks}
 use Rattle.bl_ct.proofs.Visiting.{visits_none, visits_push}
 use Rattle.bl_ct.proofs.search.find_row.Goals as goal

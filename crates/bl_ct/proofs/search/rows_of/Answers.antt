@@ -1,11 +1,7 @@
-use Rattle.std.proofs.Common.{◌≡◌, ◌<◌, ◌≤◌, ◌+◌, ◌++◌, ◌∷◌, [], ℕ, List, Bool, true, false, None, length, slice_index, take, arith, sym, subst, ap, ◌∙◌, set, replicate, map, refl}
-use Rattle.std.specs.List.{slice_index_or, Contains, All}
-use Rattle.std.proofs.lemmas.List.{take_more, take_all, length-set, length-map, map-set, get_or-map}
-use Rattle.std.proofs.lemmas.List.Elements.{Contains-get_or}
-use Rattle.bl_ct.specs.declared.search.Step.{Step}
-use Rattle.bl_ct.specs.declared.search.Cause.TheVariants as cause_
-use Rattle.bl_ct.specs.Finding.{Visits, RowFits, RowAsks, Some_fits, Some_asks, rows_in, row_at}
-use Rattle.bl_ct.proofs.Visiting.{visits_none, visits_push}
+use Rattle.std.proofs.Common.{◌≡◌, ◌<◌, ◌+◌, ◌++◌, ◌∷◌, [], List, length, take, arith, sym, subst, ap, ◌∙◌, set}
+use Rattle.std.specs.List.{slice_index_or}
+use Rattle.std.proofs.lemmas.List.{take_more, length-set, length-map, map-set, get_or-map}
+use Rattle.bl_ct.specs.Finding.{rows_in, row_at}
 use Rattle.bl_ct.specs.declared.search.Arc.{Arc}
 use Rattle.bl_ct.specs.Finding.{RowsOf}
 use Rattle.bl_ct.proofs.RowLists.{row_yes}

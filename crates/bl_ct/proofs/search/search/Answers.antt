@@ -1,4 +1,4 @@
-use Rattle.std.proofs.Common.{◌≡◌, ◌<◌, ◌≤◌, ◌+◌, [], ℕ, List, Bool, false, Some, length, arith, sym, subst, ap, ◌∙◌, replicate}
+use Rattle.std.proofs.Common.{◌≡◌, ◌<◌, ◌≤◌, [], ℕ, List, Bool, false, Some, length, arith, sym, subst, ap, ◌∙◌, replicate}
 use Rattle.std.specs.Prelude.{◌↔◌}
 use Rattle.std.specs.List.{slice_index_or, Contains}
 use Rattle.std.proofs.lemmas.List.{get_or-map, length-replicate}

@@ -1,12 +1,11 @@
-use Rattle.std.proofs.Common.{◌≡◌, ◌<◌, ℕ, List, Bool, length, arith, sym, subst, ap, ◌∙◌, map}
+use Rattle.std.proofs.Common.{ℕ, List, Bool, length, arith, sym, subst, ap, ◌∙◌, map}
 use Rattle.std.specs.Prelude.{◌↔◌, IsTrue}
-use Rattle.std.specs.List.{slice_index_or, Contains}
+use Rattle.std.specs.List.{slice_index_or}
 use Rattle.std.specs.declared.option.Option.TheVariants as option_
 use Rattle.bl_cmd.specs.Programs.{IsProgram}
 use Rattle.bl_cmd.specs.declared.definitions.ProgramParts.{ProgramParts as Program}
 use Rattle.bl_graph.specs.SecretChains.{IsSecretChain}
 use Rattle.bl_graph.specs.Secrets.{Demands}
-use Rattle.bl_ct.specs.declared.facts.Facts.{Facts}
 use Rattle.bl_ct.specs.declared.search.Step.{Step}
 use Rattle.bl_ct.specs.Facts.{AreFacts}
 use Rattle.bl_ct.specs.Finding.{is_in, AreEnds, Searched, Has, IsLeak, Stands}

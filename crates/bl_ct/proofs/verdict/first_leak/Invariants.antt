@@ -1,5 +1,4 @@
 use Rattle.std.proofs.Common.{◌≤◌, ◌-◌, None, length, take}
-use Rattle.std.specs.List.{Contains}
 use Rattle.bl_ct.specs.Leaks.{LeakFound}
 use Rattle.bl_ct.proofs.verdict.first_leak.Given as goal
 

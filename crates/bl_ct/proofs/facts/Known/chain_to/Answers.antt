@@ -1,13 +1,11 @@
-use Rattle.std.proofs.Common.{◌≡◌, ◌<◌, ◌≤◌, ◌+◌, ◌*◌, ◌++◌, ◌∷◌, [], ℕ, List, Some, None, length, arith, sym, subst, ap, ◌∙◌, reverse, map, refl, inl, inr}
-use Rattle.std.specs.List.{slice_get, slice_index_or}
+use Rattle.std.proofs.Common.{◌≡◌, [], sym, subst, ap, ◌∙◌, reverse, map, refl, inl, inr}
 use Rattle.std.proofs.lemmas.Option.{slice_get_within, get_or_from_slice_get}
-use Rattle.std.proofs.lemmas.List.{get_or_default}
 use Rattle.bl_base.specs.declared.number.Pos.{Pos}
 use Rattle.bl_ct.specs.declared.search.Step.{Step}
 use Rattle.bl_ct.specs.declared.search.Cause.TheVariants as cause_
 use Rattle.bl_graph.specs.declared.secret.Origin.TheVariants.{Memory}
-use Rattle.bl_graph.specs.SecretChains.{IsChainFrom, Leads}
-use Rattle.bl_ct.specs.Finding.{Has, LeadsOn, IsLeak}
+use Rattle.bl_graph.specs.SecretChains.{IsChainFrom}
+use Rattle.bl_ct.specs.Finding.{Has, LeadsOn}
 use Rattle.bl_ct.proofs.Leading.{back, back_moved, back_loaded, back_declared}
 use Rattle.bl_ct.proofs.facts.Known.chain_to.Goals as goal
 
