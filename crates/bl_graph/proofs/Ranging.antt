@@ -209,7 +209,7 @@ module _ (program : Program) (facts : IsProgram program) (rules : IsWellFormed p
       nothing kind (inl marked) = none-some marked.0 marked.1
       nothing kind (inr among) = among.1
 
-  operand_small : (s : ℕ) (command : Command) (x : ℕ) → command_at program s ≡ Some command → Among (operands_of command) x → x < variables program
+  pub operand_small : (s : ℕ) (command : Command) (x : ℕ) → command_at program s ≡ Some command → Among (operands_of command) x → x < variables program
   operand_small s command x at among =
       let function = held s command at (inr (x, among)) in
       readable_small function.0 x ((rules.rule4 s function.0 command function.1 at).reads x among)

@@ -14,4 +14,4 @@ pub use certificate::{Certificate, FlowPath};
 pub use facts::{Graph, Read, SinkUse, Use, Write};
 pub use listing::graph;
 pub use secret::{Origin, SecretChain};
-pub use writes::{ranges, variables};
+pub use writes::{firsts_of, ranges, variables};

@@ -67,8 +67,8 @@ pub(crate) fn writes_of(alloc: Global, program: &WellFormed) -> Result<List<Use>
     Ok(writes)
 }
 
-/// The first variable of each function.
-fn firsts_of(alloc: Global, parts: &ProgramParts) -> Result<Vec<u32>, NoMemory>
+/// The first variable of each function. Linear in the functions. Want of memory is the only error.
+pub fn firsts_of(alloc: Global, parts: &ProgramParts) -> Result<Vec<u32>, NoMemory>
     requires { IsWellFormed parts.now }
     ensures { IfOk result (λ firsts. firsts.items ≡ firsts_from (statics parts.now) parts.now.functions) }
 {

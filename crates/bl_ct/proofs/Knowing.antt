@@ -1,0 +1,177 @@
+-- In which ranges lies what is known of a program.
+use Rattle.std.proofs.Common.{◌≡◌, ◌⊎◌, inl, inr, ℕ, suc, ◌+◌, ◌<◌, ◌≤◌, List, length, Option, Some, None, slice_get, refl, sym, ap, subst, ◌∙◌, arith}
+use Rattle.std.specs.Prelude.{IsSomeAnd}
+use Rattle.std.specs.List.{Contains}
+use Rattle.std.proofs.lemmas.Option.{slice_get_within}
+use Rattle.bl_base.proofs.Lists.{some_same, all_get, within_get}
+use Rattle.bl_base.specs.declared.names.Label.{Label}
+use Rattle.bl_base.specs.declared.names.Label.TheVariants as label
+use Rattle.bl_cmd.specs.Layout.{command_at, first_of, statics, params_of, results_of, param, result}
+use Rattle.bl_cmd.specs.Programs.{IsProgram}
+use Rattle.bl_cmd.specs.Rules.{IsWellFormed, IsDemand, IsFunction, IsOwn, operands_of}
+use Rattle.bl_cmd.specs.Sites.{Among}
+use Rattle.bl_cmd.specs.declared.command.Command.{Command}
+use Rattle.bl_cmd.specs.declared.command.Command.TheVariants.{Set, Load, Store, Test, Jump, Arg, Call, Out, Ret, Trap}
+use Rattle.bl_cmd.specs.declared.definitions.Demand.{Demand}
+use Rattle.bl_cmd.specs.declared.definitions.Demand.TheVariants as demand
+use Rattle.bl_cmd.specs.declared.definitions.FunctionDef.{FunctionDef}
+use Rattle.bl_cmd.specs.declared.definitions.GlobalDef.{GlobalDef}
+use Rattle.bl_cmd.specs.declared.definitions.ParamDef.{ParamDef}
+use Rattle.bl_cmd.specs.declared.definitions.ProgramParts.{ProgramParts as Program}
+use Rattle.bl_cmd.proofs.Layouts.{first_below, first_above, next_first, number_is, own_apart, result_own}
+use Rattle.bl_graph.specs.Graphs.{IsGraph}
+use Rattle.bl_graph.specs.Ranges.{commands, variables, AreInRange}
+use Rattle.bl_graph.specs.Secrets.{IsSecretParam, IsSecretGlobal, Declares, LoadsSecret, Stores, Demands, GivesPublic, TakesSecret, demanded_by}
+use Rattle.bl_graph.specs.declared.facts.Use.{Use}
+use Rattle.bl_graph.specs.declared.secret.Origin.{Origin}
+use Rattle.bl_graph.specs.declared.secret.Origin.TheVariants.{Parameter, Global, Memory}
+use Rattle.bl_graph.proofs.Ranging.{in_range, param_small, operand_small}
+use Rattle.bl_ct.specs.Facts.{AreFacts, AreSecretsInRange, IsKnown}
+use Rattle.bl_ct.specs.declared.facts.Declared.{Declared}
+use Rattle.bl_ct.specs.declared.facts.Known.{Known}
+use Rattle.bl_ct.specs.declared.facts.SecretLoad.{SecretLoad}
+
+-- what stands there
+pub found : {A : Type 0} (o : Option A) (P : A → Type 0) → IsSomeAnd o P → (x : A) × (o ≡ Some x) × P x
+found None P h = absurd h
+found (Some x) P h = (x, refl, h)
+
+abbrev IsSecretLabel : Label → Type 0
+IsSecretLabel label.Public = ⊥
+IsSecretLabel label.Secret = Unit {0}
+
+pub secret_public : label.Secret ≡ label.Public → ⊥
+secret_public e = subst IsSecretLabel e tt
+
+module _ (program : Program) (facts : IsProgram program) (rules : IsWellFormed program) where
+  -- a parameter that is declared secret is one of its function's
+  param_own : (function index : ℕ) → IsSecretParam program function index → (function < length program.functions) × (index < params_of program function)
+  param_own function index h =
+      let f = found (slice_get program.functions function) (λ defined. IsSomeAnd (slice_get defined.params index) (λ one. one.label ≡ label.Secret)) h in
+      let p = found (slice_get f.0.params index) (λ one. one.label ≡ label.Secret) f.2 in
+      let low = slice_get_within f.0.params index p.0 p.1 in
+      let count = number_is (λ (g : FunctionDef). length g.params) program.functions function f.0 f.1 in
+      (slice_get_within program.functions function f.0 f.1, omega arith)
+
+  global_static : (number : ℕ) → IsSecretGlobal program number → number < statics program
+  global_static number h =
+      let g = found (slice_get program.globals number) (λ global. global.label ≡ label.Secret) h in
+      let low = slice_get_within program.globals number g.0 g.1 in
+      omega arith
+
+  static_small : (x : ℕ) → x < statics program → x < variables program
+  static_small x low = let up = first_above program (length program.functions) in omega arith
+
+  declared_small : (x : ℕ) (origin : Origin) → Declares program x origin → x < variables program
+  declared_small x (Parameter function index) h =
+      let own = param_own function index h.0 in subst (λ y. y < variables program) h.1 (param_small program facts rules function index own.0 own.1)
+  declared_small x (Global number) h = subst (λ y. y < variables program) h.1 (static_small number (global_static number h.0))
+  declared_small x (Memory number) h = absurd h
+
+  given_among : (command : Command) (x : ℕ) → GivesPublic program command x → Among (operands_of command) x
+  given_among (Set mark op to a b c) x h = absurd h
+  given_among (Load mark kind memory to offset address) x h = absurd h
+  given_among (Store kind memory offset address value) x h = inr (inl h.1)
+  given_among (Test cond one other) x h = absurd h
+  given_among (Jump to) x h = absurd h
+  given_among (Arg mark function index value) x h = absurd h
+  given_among (Call function) x h = absurd h
+  given_among (Out mark index value) x h = absurd h
+  given_among Ret x h = absurd h
+  given_among (Trap kind) x h = absurd h
+
+  stored_small : (position x : ℕ) → Stores program position x → x < variables program
+  stored_small position x h =
+      let stands = found (command_at program position) (λ command. GivesPublic program command x) h in
+      operand_small program facts rules position stands.0 x stands.1 (given_among stands.0 x stands.2)
+
+  loads_low : (s memory : ℕ) → LoadsSecret program s memory → s < commands program
+  loads_low s memory h =
+      let stands = found (command_at program s) (λ command. TakesSecret program command memory) h in
+      slice_get_within program.commands s stands.0 stands.1
+
+  -- a result that is demanded is one of its function's
+  demand_own : (function index : ℕ) → index < results_of program function → IsOwn program function (result program function index)
+  demand_own function index low = result_own program function (result program function index) rules.rule2 (omega arith, omega arith)
+
+  demand_small : (one : Demand) → IsDemand program one → demanded_by program one < variables program
+  demand_small (demand.Result function index) h =
+      let own = demand_own function index h.1 in let up = first_below program (suc function) (let e = h.0 in omega arith) in let high = own.1 in omega arith
+  demand_small (demand.Global number) h =
+      let g = found (slice_get program.globals number) (λ global. global.label ≡ label.Public) h in
+      let low = slice_get_within program.globals number g.0 g.1 in
+      static_small number (omega arith)
+
+  -- what is declared secret isn't demanded to be public
+  one_apart : (origin : Origin) (one : Demand) (x : ℕ) → Declares program x origin → IsDemand program one → demanded_by program one ≡ x → ⊥
+  one_apart (Parameter function index) (demand.Result other place) x h d e =
+      let own = param_own function index h.0 in
+      let other_own = demand_own other place d.1 in
+      let up = first_below program (suc function) (let lt = own.0 in omega arith) in
+      let f = within_get program.functions function own.0 in
+      let next = next_first program function f.0 f.1 in
+      let count = number_is (λ (g : FunctionDef). length g.params) program.functions function f.0 f.1 in
+      let room = (all_get IsFunction program.functions function f.0 rules.rule2.each f.1).variables in
+      let low = own.1 in
+      let is = h.1 in
+      let same : function ≡ other = own_apart program function other x (omega arith, omega arith) (subst (IsOwn program other) e other_own) in
+      let place_is : result program function place ≡ x = ap (λ g. result program g place) same ∙ e in
+      omega arith
+  one_apart (Parameter function index) (demand.Global number) x h d e =
+      let g = found (slice_get program.globals number) (λ global. global.label ≡ label.Public) d in
+      let low = slice_get_within program.globals number g.0 g.1 in
+      let above = first_above program function in
+      let is = h.1 in
+      omega arith
+  one_apart (Global number) (demand.Result other place) x h d e =
+      let low = global_static number h.0 in
+      let own = (demand_own other place d.1).0 in
+      let above = first_above program other in
+      let is = h.1 in
+      omega arith
+  one_apart (Global number) (demand.Global other) x h d e =
+      let g = found (slice_get program.globals number) (λ global. global.label ≡ label.Secret) h.0 in
+      let k = found (slice_get program.globals other) (λ global. global.label ≡ label.Public) d in
+      let same : number ≡ other = h.1 ∙ sym e in
+      let one : g.0 ≡ k.0 = some_same g.0 k.0 (sym g.1 ∙ (ap (slice_get program.globals) same ∙ k.1)) in
+      secret_public (sym g.2 ∙ (ap (λ (d : GlobalDef). d.label) one ∙ k.2))
+  one_apart (Memory number) one x h d e = h
+
+  is_demand : (one : Demand) → Contains program.demands one → IsDemand program one
+  is_demand one h = subst (IsDemand program) h.2 (rules.rule9.demands h.0 one h.1)
+
+  pub secrets_in_range : AreSecretsInRange program
+  secrets_in_range = record {
+    declared = declared_small;
+    loads = loads_low;
+    stores = stored_small;
+    demanded = λ x h. subst (λ y. y < variables program) h.2 (demand_small h.0 (is_demand h.0 h.1));
+    apart = λ x origin h d. one_apart origin d.0 x h (is_demand d.0 d.1) d.2;
+  }
+
+-- ---- the lists of what is known
+
+module _ (known : Known) (is : IsKnown known) where
+  pub range : AreInRange known.program.now
+  range = in_range known.program.now is.is_program is.rules
+
+  pub secret_range : AreSecretsInRange known.program.now
+  secret_range = secrets_in_range known.program.now is.is_program is.rules
+
+  pub writes_in : (u : Use) → Contains known.graph.now.writes u → (u.at.0 < commands known.program.now) × (u.var.0 < variables known.program.now)
+  writes_in u h = let low = range.writes u.at.0 u.var.0 ((is.graph.writes.each u.at.0 u.var.0).0 h) in (range.sites u.at.0 low.0, low.1)
+
+  pub reads_in : (u : Use) → Contains known.graph.now.reads u → (u.at.0 < commands known.program.now) × (u.var.0 < variables known.program.now)
+  reads_in u h = let low = range.reads u.at.0 u.var.0 ((is.graph.reads.each u.at.0 u.var.0).0 h) in (range.sites u.at.0 low.0, low.1)
+
+  pub sinks_in : (u : Use) → Contains known.graph.now.sinks u → u.var.0 < variables known.program.now
+  sinks_in u h = (range.sinks u.at.0 u.var.0 ((is.graph.sinks.each u.at.0 u.var.0).0 h)).1
+
+  pub stores_in : (u : Use) → Contains known.facts.now.stores u → u.var.0 < variables known.program.now
+  stores_in u h = secret_range.stores u.at.0 u.var.0 ((is.facts.stores u).0 h)
+
+  pub declared_in : (one : Declared) → Contains known.facts.now.declared one → one.var < variables known.program.now
+  declared_in one h = secret_range.declared one.var one.origin ((is.facts.declared one).0 h)
+
+  pub loads_in : (load : SecretLoad) → Contains known.facts.now.loads load → load.at < commands known.program.now
+  loads_in load h = secret_range.loads load.at load.memory ((is.facts.loads load).0 h)

@@ -1,0 +1,14 @@
+pub mod Deciding
+pub mod Declaring
+pub mod Ending
+pub mod Excluding
+pub mod Existing
+pub mod Gathering
+pub mod Judging
+pub mod Knowing
+pub mod Leading
+pub mod Listing
+pub mod Reaching
+pub mod RowLists
+pub mod Rowing
+pub mod Visiting

@@ -1,0 +1,275 @@
+-- A search with a queue of steps, one visit at a time.
+use Rattle.std.proofs.Common.{◌≡◌, ℕ, suc, zero, ◌+◌, ◌<◌, ◌≤◌, ◌-◌, Bool, true, false, List, [], ◌∷◌, ◌++◌, length, set, cond, refl, sym, ap, subst, ◌∙◌, arith, ◌⊎◌, inl, inr, not, Some, replicate, length-append, length-set}
+use Rattle.std.specs.Prelude.{IsTrue, ◌↔◌}
+use Rattle.std.specs.List.{Contains, slice_get, slice_index_or}
+use Rattle.std.proofs.lemmas.Bool.{cases_lt, cases_eq, false≢true}
+use Rattle.std.proofs.lemmas.List.{get_or-set_same, get_or-set_other, get_or_append_left, get_or-append-add, get_or_past, get_or-replicate, length-replicate, append_assoc, append-nil, get_or_default}
+use Rattle.std.proofs.lemmas.List.Sums.{sum_by-set}
+use Rattle.std.proofs.lemmas.List.Elements.{Contains-push_cases, Contains-append_left, Contains-append_right, Contains-append_cases, Contains-push, Contains-get_or}
+use Rattle.std.proofs.lemmas.Option.{slice_get_within, get_or_from_slice_get, slice_get-get_or, same_Some}
+use Rattle.bl_cmd.specs.declared.definitions.ProgramParts.{ProgramParts as Program}
+use Rattle.bl_graph.specs.declared.secret.Origin.{Origin}
+use Rattle.bl_ct.specs.declared.search.Step.{Step}
+use Rattle.bl_ct.specs.declared.search.Cause.{Cause}
+use Rattle.bl_ct.specs.declared.search.Cause.TheVariants.{Declared, Loaded, Moved}
+use Rattle.bl_cmd.specs.Sites.{Writes, Reads}
+use Rattle.bl_graph.specs.Secrets.{Declares, LoadsSecret}
+use Rattle.bl_graph.specs.Labels.{Secret, declared, loaded, moved}
+use Rattle.bl_graph.specs.Ranges.{variables}
+use Rattle.bl_ct.specs.Facts.{AreFacts}
+use Rattle.bl_ct.specs.declared.facts.Facts.{Facts}
+use Rattle.bl_ct.specs.Finding.{is_in, unmarked, Visits, Some_fits, Some_asks, RowFits, RowAsks, Has, StandsBy, Stands, Searching, Searched, row_at}
+use Rattle.bl_graph.proofs.Members.{none_in}
+
+pub visits_none : {A : Type 0} (fits : A → Step → Type 0) (asks : A → ℕ → Type 0) (marks : List Bool) (queue : List Step) → Visits (Some_fits [] fits) (Some_asks [] asks) marks marks queue queue
+visits_none fits asks marks queue = record {
+  added = [];
+  front = sym (append-nil queue);
+  places = refl;
+  kept = λ v h. h;
+  taken = λ v h. absurd (none_in h.0 h.1);
+  from = λ v h. inl h;
+  marked = λ step h. absurd (none_in step h);
+  causes = λ step h. absurd (none_in step h);
+  counts = refl;
+}
+
+-- what one more element asks for is visited
+pub visits_push : {A : Type 0} (fits : A → Step → Type 0) (asks : A → ℕ → Type 0) (xs : List A) (x : A) (a b c : List Bool) (p q r : List Step)
+    → Visits (Some_fits xs fits) (Some_asks xs asks) a b p q → Visits (fits x) (asks x) b c q r → Visits (Some_fits (xs ++ x ∷ []) fits) (Some_asks (xs ++ x ∷ []) asks) a c p r
+visits_push fits asks xs x a b c p q r one two = record {
+  added = one.added ++ two.added;
+  front = two.front ∙ ap (λ l. l ++ two.added) one.front ∙ append_assoc p one.added two.added;
+  places = two.places ∙ one.places;
+  kept = λ v h. two.kept v (one.kept v h);
+  taken = λ v h. elim (Contains-push_cases xs x h.0 h.1) as (λ _. IsTrue (is_in c v)) [
+    | inl there ↦ two.kept v (one.taken v (h.0, there, h.2))
+    | inr e ↦ two.taken v (subst (λ y. asks y v) (sym e) h.2)
+  ];
+  from = λ v h. elim (two.from v h) as (λ _. IsTrue (is_in a v) ⊎ ((step : Step) × Contains (one.added ++ two.added) step × (step.var ≡ v))) [
+    | inl before ↦ elim (one.from v before) as (λ _. IsTrue (is_in a v) ⊎ ((step : Step) × Contains (one.added ++ two.added) step × (step.var ≡ v))) [ inl was ↦ inl was | inr s ↦ inr (s.0, Contains-append_left one.added two.added s.0 s.1, s.2) ]
+    | inr s ↦ inr (s.0, Contains-append_right one.added two.added s.0 s.1, s.2)
+  ];
+  marked = λ step h. elim (Contains-append_cases one.added two.added step h) as (λ _. IsTrue (is_in c step.var)) [ inl s ↦ two.kept step.var (one.marked step s) | inr s ↦ two.marked step s ];
+  causes = λ step h. elim (Contains-append_cases one.added two.added step h) as (λ _. Some_fits (xs ++ x ∷ []) fits step) [
+    | inl s ↦ let f = one.causes step s in (f.0, Contains-append_left xs (x ∷ []) f.0 f.1, f.2)
+    | inr s ↦ (x, Contains-push xs x, two.causes step s)
+  ];
+  counts = two.counts ∙ one.counts;
+}
+
+-- a variable that is marked already
+pub visits_no : (step : Step) (marks : List Bool) (queue : List Step) → IsTrue (is_in marks step.var) → Visits (λ s. s ≡ step) (λ v. v ≡ step.var) marks marks queue queue
+visits_no step marks queue there = record {
+  added = [];
+  front = sym (append-nil queue);
+  places = refl;
+  kept = λ v h. h;
+  taken = λ v e. subst (λ w. IsTrue (is_in marks w)) (sym e) there;
+  from = λ v h. inl h;
+  marked = λ s h. absurd (none_in s h);
+  causes = λ s h. absurd (none_in s h);
+  counts = refl;
+}
+
+-- 1 for what is not marked
+abbrev missing : Bool → ℕ
+missing b = cond (not b) 1 0
+
+module _ (step : Step) (marks : List Bool) (queue : List Step) (fresh : is_in marks step.var ≡ false) (within : step.var < length marks) where
+  abbrev after : List Bool
+  after = set marks step.var true
+
+  here_now : IsTrue (is_in after step.var)
+  here_now = get_or-set_same marks step.var true false within
+
+  elsewhere : (v : ℕ) → (v ≡ step.var → ⊥) → is_in after v ≡ is_in marks v
+  elsewhere v apart = get_or-set_other marks step.var v true false apart
+
+  only : (s : Step) → Contains (step ∷ []) s → s ≡ step
+  only s h = elim (Contains-push_cases [] step s h) as (λ _. s ≡ step) [ inl there ↦ absurd (none_in s there) | inr e ↦ sym e ]
+
+  one_less : unmarked after + length (queue ++ step ∷ []) ≡ unmarked marks + length queue
+  one_less =
+      let longer = length-append queue (step ∷ []) in
+      let counts = sum_by-set missing marks step.var true false within in
+      let one : missing (is_in marks step.var) ≡ 1 = ap missing fresh in
+      omega arith
+
+  -- a variable that wasn't marked
+  pub visits_yes : Visits (λ s. s ≡ step) (λ v. v ≡ step.var) marks after queue (queue ++ step ∷ [])
+  visits_yes = record {
+    added = step ∷ [];
+    front = refl;
+    places = length-set marks step.var true;
+    kept = λ v h. elim (cases_eq v step.var) as (λ _. IsTrue (is_in after v)) [ inl e ↦ subst (λ w. IsTrue (is_in after w)) (sym e) here_now | inr apart ↦ elsewhere v apart ∙ h ];
+    taken = λ v e. subst (λ w. IsTrue (is_in after w)) (sym e) here_now;
+    from = λ v h. elim (cases_eq v step.var) as (λ _. IsTrue (is_in marks v) ⊎ ((s : Step) × Contains (step ∷ []) s × (s.var ≡ v))) [
+      | inl e ↦ inr (step, Contains-push [] step, sym e)
+      | inr apart ↦ inl (sym (elsewhere v apart) ∙ h)
+    ];
+    marked = λ s h. subst (λ t. IsTrue (is_in after t.var)) (sym (only s h)) here_now;
+    causes = λ s h. only s h;
+    counts = one_less;
+  }
+
+-- places of a queue
+pub has_left : (q a : List Step) (place : ℕ) (step : Step) → Has q place step → Has (q ++ a) place step
+has_left q a place step h =
+    let lt = slice_get_within q place step h in
+    let long = length-append q a in
+    slice_get-get_or (q ++ a) place step (omega arith) ∙ ap Some (get_or_append_left q a step place lt ∙ get_or_from_slice_get q place step step h)
+
+pub has_in : (q : List Step) (place : ℕ) (step : Step) → Has q place step → Contains q step
+has_in q place step h = (place, slice_get_within q place step h, get_or_from_slice_get q place step step h)
+
+pub in_has : (q : List Step) (step : Step) → Contains q step → (place : ℕ) × (place < length q) × Has q place step
+in_has q step h = (h.0, h.1, slice_get-get_or q h.0 step h.1 ∙ ap Some h.2)
+
+pub has_cases : (q a : List Step) (place : ℕ) (step : Step) → Has (q ++ a) place step → (Has q place step) ⊎ ((length q ≤ place) × Contains a step)
+has_cases q a place step h =
+    let long = length-append q a in
+    let lt = slice_get_within (q ++ a) place step h in
+    let got = get_or_from_slice_get (q ++ a) place step step h in
+    elim (cases_lt place (length q)) as (λ _. (Has q place step) ⊎ ((length q ≤ place) × Contains a step)) [
+      | inl less ↦ inl (slice_get-get_or q place step less ∙ ap Some (sym (get_or_append_left q a step place less) ∙ got))
+      | inr past ↦
+          let k : ℕ = place - length q in
+          let e : length q + k ≡ place = omega arith in
+          inr (omega arith, (k, omega arith, sym (get_or-append-add q a k step) ∙ ap (λ i. slice_index_or (q ++ a) i step) e ∙ got))
+    ]
+
+-- what stood stands in a longer queue
+stands_left : (program : Program) (q a : List Step) (place x : ℕ) (cause : Cause) → StandsBy program q place x cause → StandsBy program (q ++ a) place x cause
+stands_left program q a place x (Declared origin) h = h
+stands_left program q a place x (Loaded s memory) h = h
+stands_left program q a place x (Moved s before) h = (h.0, (h.1.0, has_left q a before h.1.0 h.1.1, h.1.2, h.1.3))
+
+stands_more : (program : Program) (q a more : List Step) → more ≡ q ++ a → Stands program q → ((place : ℕ) (step : Step) → length q ≤ place → Contains a step → StandsBy program (q ++ a) place step.var step.cause) → Stands program more
+stands_more program q a more front old new = subst (Stands program) (sym front) (λ place step h.
+    elim (has_cases q a place step h) as (λ _. StandsBy program (q ++ a) place step.var step.cause) [
+      | inl there ↦ stands_left program q a place step.var step.cause (old place step there)
+      | inr behind ↦ new place step behind.0 behind.1
+    ])
+
+nothing_marked : (n v : ℕ) → is_in (replicate n false) v ≡ false
+nothing_marked n v =
+    elim (cases_lt v n) as (λ _. is_in (replicate n false) v ≡ false) [
+      | inl lt ↦ get_or-replicate n v false false lt
+      | inr past ↦ get_or_past (replicate n false) v false (let e = length-replicate {A = Bool} n false in omega arith)
+    ]
+
+module _ (program : Program) (facts : Facts) (are : AreFacts program facts) (written : List (List ℕ)) (writes : (s x : ℕ) → Contains (row_at written s) x ↔ Writes program s x) where
+  -- all but causes, after a visit
+  queued_more : (fits : Step → Type 0) (asks : ℕ → Type 0) (old new : List Bool) (q more : List Step) → Visits fits asks old new q more → ((step : Step) → Contains q step → IsTrue (is_in old step.var)) → (step : Step) → Contains more step → IsTrue (is_in new step.var)
+  queued_more fits asks old new q more visit all step h =
+      elim (Contains-append_cases q visit.added step (subst (λ l. Contains l step) visit.front h)) as (λ _. IsTrue (is_in new step.var)) [
+        | inl there ↦ visit.kept step.var (all step there)
+        | inr there ↦ visit.marked step there
+      ]
+
+  back_more : (fits : Step → Type 0) (asks : ℕ → Type 0) (old new : List Bool) (q more : List Step) → Visits fits asks old new q more → ((v : ℕ) → IsTrue (is_in old v) → (step : Step) × Contains q step × (step.var ≡ v)) → (v : ℕ) → IsTrue (is_in new v) → (step : Step) × Contains more step × (step.var ≡ v)
+  back_more fits asks old new q more visit all v h =
+      elim (visit.from v h) as (λ _. (step : Step) × Contains more step × (step.var ≡ v)) [
+        | inl was ↦ let s = all v was in (s.0, subst (λ l. Contains l s.0) (sym visit.front) (Contains-append_left q visit.added s.0 s.1), s.2)
+        | inr s ↦ (s.0, subst (λ l. Contains l s.0) (sym visit.front) (Contains-append_right q visit.added s.0 s.1), s.2)
+      ]
+
+  declared_stands : (q : List Step) (place : ℕ) (step : Step) → Some_fits facts.declared (λ d s. s ≡ record { var = d.var; cause = Declared d.origin }) step → StandsBy program q place step.var step.cause
+  declared_stands q place step f = subst (λ s. StandsBy program q place s.var s.cause) (sym f.2) ((are.declared f.0).0 f.1)
+
+  loaded_stands : (q : List Step) (place : ℕ) (step : Step) → Some_fits facts.loads (λ d. RowFits (row_at written d.at) (Loaded d.at d.memory)) step → StandsBy program q place step.var step.cause
+  loaded_stands q place step f =
+      let row = f.2 in
+      subst (λ s. StandsBy program q place s.var s.cause) (sym row.2) ((are.loads f.0).0 f.1, (writes f.0.at row.0).0 row.1)
+
+  pub search_begins : (none one two : List Bool) (first second : List Step) → none ≡ replicate variables program false
+      → Visits (Some_fits facts.declared (λ d step. step ≡ record { var = d.var; cause = Declared d.origin })) (Some_asks facts.declared (λ d v. v ≡ d.var)) none one [] first
+      → Visits (Some_fits facts.loads (λ d. RowFits (row_at written d.at) (Loaded d.at d.memory))) (Some_asks facts.loads (λ d. RowAsks (row_at written d.at))) one two first second
+      → Searching program two second 0
+  search_begins none one two first second clear by_declared by_loaded =
+      let unmarked_ : (v : ℕ) → IsTrue (is_in none v) → ⊥ = λ v h. false≢true (sym (ap (λ l. is_in l v) clear ∙ nothing_marked variables program v) ∙ h) in
+      let queued_ = queued_more _ _ none one [] first by_declared (λ s h. absurd (none_in s h)) in
+      let back_ = back_more _ _ none one [] first by_declared (λ v h. absurd (unmarked_ v h)) in
+      record {
+        places = by_loaded.places ∙ (by_declared.places ∙ (ap length clear ∙ length-replicate {A = Bool} variables program false));
+        in_order = omega arith;
+        declared = λ x origin h. by_loaded.kept x (by_declared.taken x (record { var = x; origin = origin }, (are.declared (record { var = x; origin = origin })).1 h, refl));
+        loaded = λ s memory x h w. by_loaded.taken x (record { at = s; memory = memory }, (are.loads (record { at = s; memory = memory })).1 h, (x, (writes s x).1 w, refl));
+        queued = queued_more _ _ one two first second by_loaded queued_;
+        back = back_more _ _ one two first second by_loaded back_;
+        done = λ place step lt. absurd (omega arith);
+        sound = stands_more program first by_loaded.added second by_loaded.front
+            (stands_more program [] by_declared.added first by_declared.front (λ place step h. absurd (none_in step (has_in [] place step h))) (λ place step le h. declared_stands _ place step (by_declared.causes step h)))
+            (λ place step le h. loaded_stands _ place step (by_loaded.causes step h));
+      }
+
+  module _ (marks : List Bool) (queue : List Step) (next : ℕ) (state : Searching program marks queue next) where
+    moved_stands : (a sites : List ℕ) (added : List Step) (step : Step) → Has queue next step → ((s : ℕ) → Contains sites s → Reads program s step.var) → (place : ℕ) (new : Step) → length queue ≤ place
+        → Some_fits sites (λ s. RowFits (row_at written s) (Moved s next)) new → StandsBy program (queue ++ added) place new.var new.cause
+    moved_stands a sites added step has reads place new le f =
+        let row = f.2 in
+        let lt = slice_get_within queue next step has in
+        subst (λ s. StandsBy program (queue ++ added) place s.var s.cause) (sym row.2) (omega arith, (step, has_left queue added next step has, reads f.0 f.1, (writes f.0 row.0).0 row.1))
+
+    pub search_next : (new : List Bool) (more : List Step) (sites : List ℕ) (step : Step) → Has queue next step → ((s : ℕ) → Contains sites s ↔ Reads program s step.var)
+        → Visits (Some_fits sites (λ s. RowFits (row_at written s) (Moved s next))) (Some_asks sites (λ s. RowAsks (row_at written s))) marks new queue more
+        → Searching program new more (next + 1)
+    search_next new more sites step has reads visit =
+        let lt = slice_get_within queue next step has in
+        let long : length more ≡ length queue + length visit.added = ap length visit.front ∙ length-append queue visit.added in
+        record {
+          places = visit.places ∙ state.places;
+          in_order = omega arith;
+          declared = λ x origin h. visit.kept x (state.declared x origin h);
+          loaded = λ s memory x h w. visit.kept x (state.loaded s memory x h w);
+          queued = queued_more _ _ marks new queue more visit state.queued;
+          back = back_more _ _ marks new queue more visit state.back;
+          done = λ place other below h s y r w.
+              elim (has_cases queue visit.added place other (subst (λ l. Has l place other) visit.front h)) as (λ _. IsTrue (is_in new y)) [
+                | inl there ↦ elim (cases_lt place next) as (λ _. IsTrue (is_in new y)) [
+                  | inl less ↦ visit.kept y (state.done place other less there s y r w)
+                  | inr last ↦
+                      let e : place ≡ next = omega arith in
+                      let both : Some other ≡ Some step = sym there ∙ ap (slice_get queue) e ∙ has in
+                      let same : other ≡ step = same_Some other step both in
+                      visit.taken y (s, (reads s).1 (subst (λ t. Reads program s t.var) same r), (y, (writes s y).1 w, refl))
+                ]
+                | inr behind ↦ absurd (let le = behind.0 in omega arith)
+              ];
+          sound = stands_more program queue visit.added more visit.front state.sound (λ place other le h. moved_stands [] sites visit.added step has (λ s. (reads s).0) place other le (visit.causes other h));
+        }
+
+    secret_by : (place x : ℕ) (cause : Cause) → ((before : ℕ) (step : Step) → before < place → Has queue before step → Secret program step.var) → StandsBy program queue place x cause → Secret program x
+    secret_by place x (Declared origin) earlier h = declared x origin h
+    secret_by place x (Loaded s memory) earlier h = loaded s memory x h.0 h.1
+    secret_by place x (Moved s before) earlier h = moved s h.1.0.var x h.1.2 h.1.3 (earlier before h.1.0 h.0 h.1.1)
+
+    secret_at : (fuel place : ℕ) (step : Step) → place < fuel → Has queue place step → Secret program step.var
+    secret_at zero place step lt h = absurd (omega arith)
+    secret_at (suc fuel) place step lt h = secret_by place step.var step.cause (λ before other less there. secret_at fuel before other (omega arith) there) (state.sound place step h)
+
+    module _ (ended : length queue ≤ next) where
+      all_marked : (x : ℕ) → Secret program x → IsTrue (is_in marks x)
+      all_marked x (declared _ origin h) = state.declared x origin h
+      all_marked x (loaded s memory _ h w) = state.loaded s memory x h w
+      all_marked x (moved s y _ r w t) =
+          let found = state.back y (all_marked y t) in
+          let place = in_has queue found.0 found.1 in
+          let lt = place.1 in
+          state.done place.0 found.0 (omega arith) place.2 s x (subst (λ v. Reads program s v) (sym found.2) r) w
+
+      all_secret : (x : ℕ) → IsTrue (is_in marks x) → Secret program x
+      all_secret x h =
+          let found = state.back x h in
+          let place = in_has queue found.0 found.1 in
+          subst (Secret program) found.2 (secret_at (suc place.0) place.0 found.0 (omega arith) place.2)
+
+      pub search_ends : Searched program marks queue
+      search_ends = record {
+        places = state.places;
+        exact = λ x. (all_secret x, all_marked x);
+        queued = state.queued;
+        back = state.back;
+        sound = state.sound;
+      }

@@ -1,0 +1,28 @@
+use Rattle.std.proofs.Common.{◌≡◌, ◌<◌, ◌≤◌, ◌+◌, ◌++◌, ◌∷◌, [], ℕ, List, Bool, true, false, None, length, slice_index, take, arith, sym, subst, ap, ◌∙◌, set, replicate, map, refl}
+use Rattle.std.specs.Prelude.{IsTrue, ◌↔◌}
+use Rattle.std.specs.List.{slice_index_or, Contains, All}
+use Rattle.std.proofs.lemmas.List.{take_more, take_all, length-set}
+use Rattle.bl_graph.specs.declared.facts.Use.{Use}
+use Rattle.bl_graph.specs.Graphs.{use_of}
+use Rattle.bl_ct.specs.Finding.{is_in, Gives, KeptAt, IsNoted}
+use Rattle.bl_ct.proofs.Ending.{marked_more, note_more, kept_yes, kept_no, gives_yes, gives_no}
+use Rattle.bl_ct.proofs.ends.giving_sites.Goals as goal
+use Rattle.bl_ct.proofs.ends.giving_sites.Goals.{then-demanded-write, else-demanded-write}
+
+pub loop-write-preserved : goal.loop-write-preserved
+loop-write-preserved c =
+    let loop = c.loop-write in
+    let lt = c.loop-write-test.true in
+    let u : Use = slice_index_or c.args.writes.now loop.write-index (use_of 0 0) in
+    let more : take (loop.write-index + 1) c.args.writes.now ≡ take loop.write-index c.args.writes.now ++ u ∷ [] = take_more c.args.writes.now loop.write-index (use_of 0 0) lt in
+    let below = c.requires.sites loop.write-index (use_of 0 0) lt in
+    let places = loop.invariant.places in
+    elim c.if-demanded-write.branch [
+      | then-demanded-write w ↦ rw (more, w.giving-is) (record { places = length-set loop.giving.items u.at.0 true ∙ places; exact = gives_yes (take loop.write-index c.args.writes.now) c.args.demanded.now loop.giving.items u (omega arith) w.if-demanded-write.true loop.invariant.exact })
+      | else-demanded-write w ↦ rw (more, w.giving-is) (record { places = places; exact = gives_no (take loop.write-index c.args.writes.now) c.args.demanded.now loop.giving.items u w.if-demanded-write.false loop.invariant.exact })
+    ]
+
+pub returns-clause-exact : goal.returns-clause-exact
+returns-clause-exact c =
+    let past = c.loop-write-test.false in
+    subst (λ l. Gives l c.args.demanded.now c.loop-write.giving.items) (take_all c.loop-write.write-index c.args.writes.now (omega arith)) c.loop-write.invariant.exact

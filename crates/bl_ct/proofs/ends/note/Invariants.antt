@@ -1,0 +1,6 @@
+use Rattle.std.proofs.Common.{take}
+use Rattle.bl_ct.specs.Finding.{IsNoted}
+use Rattle.bl_ct.proofs.ends.note.Given as goal
+
+abbrev pub invariant-loop-item : goal.invariant-loop-item
+invariant-loop-item l = IsNoted (take l.item-index l.uses) l.fn.ends.items l.ends.items

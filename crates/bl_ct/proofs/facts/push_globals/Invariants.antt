@@ -1,0 +1,6 @@
+use Rattle.bl_ct.specs.Facts.{Gathers, GlobalFits}
+use Rattle.bl_ct.proofs.Gathering.{Below}
+use Rattle.bl_ct.proofs.facts.push_globals.Given as goal
+
+abbrev pub invariant-loop-number : goal.invariant-loop-number
+invariant-loop-number l = Gathers (Below l.globals GlobalFits l.number) l.fn.all l.all

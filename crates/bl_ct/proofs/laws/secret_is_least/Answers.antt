@@ -1,0 +1,5 @@
+use Rattle.bl_ct.proofs.Excluding.{least}
+use Rattle.bl_ct.proofs.laws.secret_is_least.Goals as goal
+
+pub returns : goal.returns
+returns c = least

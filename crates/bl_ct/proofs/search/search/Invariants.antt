@@ -1,0 +1,9 @@
+use Rattle.std.proofs.Common.{◌+◌, ◌-◌, length}
+use Rattle.bl_ct.specs.Finding.{Searching, unmarked}
+use Rattle.bl_ct.proofs.search.search.Given as goal
+
+abbrev pub invariant-loop-next : goal.invariant-loop-next
+invariant-loop-next l = Searching l.known.program l.marks.items l.queue.items l.next
+
+abbrev pub decreases-loop-next : goal.decreases-loop-next
+decreases-loop-next l = unmarked l.marks.items + length l.queue.items - l.next

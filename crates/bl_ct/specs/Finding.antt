@@ -1,0 +1,133 @@
+-- The search for secret variables: each is found once, and how it was found stands in a queue.
+use Rattle.std.specs.Prelude.{◌≡◌, ◌↔◌, ℕ, ◌+◌, ◌<◌, ◌≤◌, ◌⊎◌, Bool, false, not, List, [], ◌++◌, Option, Some, None, is_some, Contains, length, slice_get, slice_index_or, IsTrue, count_by, Vec, map, reverse}
+use Rattle.std.specs.declared.alloc.Global.{Global}
+use Rattle.bl_cmd.specs.Sites.{Writes, Reads}
+use Rattle.bl_cmd.specs.declared.definitions.ProgramParts.{ProgramParts as Program}
+use Rattle.bl_graph.specs.Graphs.{use_of}
+use Rattle.bl_graph.specs.Ranges.{variables}
+use Rattle.bl_graph.specs.declared.facts.Use.{Use}
+use Rattle.bl_graph.specs.declared.secret.Origin.{Origin}
+use Rattle.bl_ct.specs.declared.search.Step.{Step}
+use Rattle.bl_ct.specs.declared.search.Arc.{Arc}
+use Rattle.bl_ct.specs.declared.search.Cause.{Cause}
+use Rattle.bl_ct.specs.declared.search.Cause.TheVariants.{Declared, Loaded, Moved}
+use Rattle.bl_graph.specs.Secrets.{Declares, LoadsSecret, Demands}
+use Rattle.bl_graph.specs.Labels.{Secret}
+use Rattle.bl_graph.specs.SecretChains.{Ends, Leads}
+
+-- a list's answer at a place; no past its end
+abbrev pub is_in : List Bool → ℕ → Bool
+is_in marks v = slice_index_or marks v false
+
+abbrev pub unmarked : List Bool → ℕ
+unmarked marks = count_by (λ b. not b) marks
+
+-- the rows as lists
+abbrev pub rows_in : List (Vec ℕ Global) → List (List ℕ)
+rows_in rows = map (λ row. row.items) rows
+
+abbrev pub row_at : List (List ℕ) → ℕ → List ℕ
+row_at rows u = slice_index_or rows u []
+
+-- each node's row has exactly the nodes to which an arc leads from it
+pub record RowsOf (arcs : List Arc) (rows : List (List ℕ)) : Type 0 where
+  pub sound : (u v : ℕ) → Contains (row_at rows u) v → Contains arcs (record { from = u; to = v })
+  pub full : (u v : ℕ) → Contains arcs (record { from = u; to = v }) → Contains (row_at rows u) v
+
+-- pairs as arcs
+abbrev pub from_site : Use → Arc
+from_site w = record { from = w.at.0; to = w.var.0 }
+
+abbrev pub from_var : Use → Arc
+from_var r = record { from = r.var.0; to = r.at.0 }
+
+-- a queue has a step at a place
+abbrev pub Has : List Step → ℕ → Step → Type 0
+Has queue place step = slice_get queue place ≡ Some step
+
+-- how a variable was found is right
+abbrev pub StandsBy : Program → List Step → ℕ → ℕ → Cause → Type 0
+StandsBy program queue place x (Declared origin) = Declares program x origin
+StandsBy program queue place x (Loaded s memory) = LoadsSecret program s memory × Writes program s x
+StandsBy program queue place x (Moved s before) = (before < place) × ((former : Step) × Has queue before former × Reads program s former.var × Writes program s x)
+
+abbrev pub Stands : Program → List Step → Type 0
+Stands program queue = (place : ℕ) (step : Step) → Has queue place step → StandsBy program queue place step.var step.cause
+
+-- what some element of a list asks or lets through
+abbrev pub Some_fits : {A : Type 0} → List A → (A → Step → Type 0) → Step → Type 0
+Some_fits {A} xs fits step = (x : A) × Contains xs x × fits x step
+
+abbrev pub Some_asks : {A : Type 0} → List A → (A → ℕ → Type 0) → ℕ → Type 0
+Some_asks {A} xs asks v = (x : A) × Contains xs x × asks x v
+
+-- the variables of a row, found by one cause
+abbrev pub RowFits : List ℕ → Cause → Step → Type 0
+RowFits row cause = Some_fits row (λ u step. step ≡ record { var = u; cause = cause })
+
+abbrev pub RowAsks : List ℕ → ℕ → Type 0
+RowAsks row = Some_asks row (λ u v. v ≡ u)
+
+-- all variables that are asked for are marked, and those that were not are queued, each as it may be
+pub record Visits (fits : Step → Type 0) (asks : ℕ → Type 0) (old new : List Bool) (queue more : List Step) : Type 0 where
+  pub added : List Step
+  pub front : more ≡ queue ++ added
+  pub places : length new ≡ length old
+  pub kept : (v : ℕ) → IsTrue (is_in old v) → IsTrue (is_in new v)
+  pub taken : (v : ℕ) → asks v → IsTrue (is_in new v)
+  pub from : (v : ℕ) → IsTrue (is_in new v) → IsTrue (is_in old v) ⊎ ((step : Step) × Contains added step × (step.var ≡ v))
+  pub marked : (step : Step) → Contains added step → IsTrue (is_in new step.var)
+  pub causes : (step : Step) → Contains added step → fits step
+  pub counts : unmarked new + length more ≡ unmarked old + length queue
+
+-- a search on its way: what the steps before a place lead to is marked
+pub record Searching (program : Program) (marks : List Bool) (queue : List Step) (next : ℕ) : Type 0 where
+  pub places : length marks ≡ variables program
+  pub in_order : next ≤ length queue
+  pub declared : (x : ℕ) (origin : Origin) → Declares program x origin → IsTrue (is_in marks x)
+  pub loaded : (s memory x : ℕ) → LoadsSecret program s memory → Writes program s x → IsTrue (is_in marks x)
+  pub queued : (step : Step) → Contains queue step → IsTrue (is_in marks step.var)
+  pub back : (v : ℕ) → IsTrue (is_in marks v) → (step : Step) × Contains queue step × (step.var ≡ v)
+  pub done : (place : ℕ) (step : Step) → place < next → Has queue place step → (s y : ℕ) → Reads program s step.var → Writes program s y → IsTrue (is_in marks y)
+  pub sound : Stands program queue
+
+-- a whole search
+pub record Searched (program : Program) (marks : List Bool) (queue : List Step) : Type 0 where
+  pub places : length marks ≡ variables program
+  pub exact : (x : ℕ) → IsTrue (is_in marks x) ↔ Secret program x
+  pub queued : (step : Step) → Contains queue step → IsTrue (is_in marks step.var)
+  pub back : (v : ℕ) → IsTrue (is_in marks v) → (step : Step) × Contains queue step × (step.var ≡ v)
+  pub sound : Stands program queue
+
+-- an entry of a table, if there is one
+abbrev pub end_at : List (Option ℕ) → ℕ → Option ℕ
+end_at ends x = slice_index_or ends x None
+
+-- one of these uses is noted at each variable that has one
+pub record IsNoted (uses : List Use) (old new : List (Option ℕ)) : Type 0 where
+  pub places : length new ≡ length old
+  pub sound : (x e : ℕ) → end_at new x ≡ Some e → (end_at old x ≡ Some e) ⊎ Contains uses (use_of e x)
+  pub kept : (x : ℕ) → IsTrue (is_some (end_at old x)) → IsTrue (is_some (end_at new x))
+  pub full : (x e : ℕ) → Contains uses (use_of e x) → IsTrue (is_some (end_at new x))
+
+-- for each variable an end, if it has one
+pub record AreEnds (program : Program) (ends : List (Option ℕ)) : Type 0 where
+  pub places : length ends ≡ variables program
+  pub sound : (x e : ℕ) → end_at ends x ≡ Some e → Ends program x e
+  pub full : (x e : ℕ) → Ends program x e → IsTrue (is_some (end_at ends x))
+
+-- a step whose variable may not be secret
+abbrev pub IsLeak : Program → Step → ℕ → Type 0
+IsLeak program step end = Ends program step.var end ⊎ ((memory : ℕ) × (step.cause ≡ Loaded end memory) × Demands program step.var)
+
+-- the way from a step on
+abbrev pub LeadsOn : Program → Step → List ℕ → ℕ → Type 0
+LeadsOn program step rest end = Leads program step.var rest end ⊎ ((rest ≡ []) × ((memory : ℕ) × (step.cause ≡ Loaded end memory) × Demands program step.var))
+
+-- for each position whether it writes a marked variable
+abbrev pub Gives : List Use → List Bool → List Bool → Type 0
+Gives writes demanded giving = (s : ℕ) → IsTrue (is_in giving s) ↔ ((y : ℕ) × Contains writes (use_of s y) × IsTrue (is_in demanded y))
+
+-- the uses at marked positions
+abbrev pub KeptAt : List Use → List Bool → List Use → Type 0
+KeptAt uses marks kept = (u : Use) → Contains kept u ↔ (Contains uses u × IsTrue (is_in marks u.at.0))

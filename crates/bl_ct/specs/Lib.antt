@@ -1,0 +1,4 @@
+pub mod Facts
+pub mod Finding
+pub mod Leaks
+pub mod Verdicts

@@ -1,0 +1,11 @@
+//! Whether a program is constant time: a labelling of its variables by the label rules, or a way of a secret to where it may
+//! not go.
+#![tactic(auto)]
+
+mod ends;
+mod facts;
+pub mod laws;
+mod search;
+mod verdict;
+
+pub use verdict::{CtVerdict, constant_time};

@@ -1,0 +1,259 @@
+//! The search for secret variables.
+ghost use Rattle.std.specs.Prelude.{◌≡◌, ◌<◌, ◌↔◌, ℕ, All, Contains, IfOk, OnOk, length, map, replicate, []};
+ghost use Rattle.bl_cmd.specs.Sites.{Reads, Writes};
+ghost use Rattle.bl_graph.specs.Ranges.{commands, variables};
+ghost use Rattle.bl_ct.specs.Facts.{IsKnown};
+ghost use Rattle.bl_ct.specs.Finding.{RowAsks, RowFits, RowsOf, Searched, Some_asks, Some_fits, Visits, from_site, from_var, row_at, rows_in};
+ghost use Rattle.bl_ct.specs.declared.search.Cause.TheVariants as cause_;
+
+use crate::facts::{Declared, Known, SecretLoad, command_count};
+use bl_base::NoMemory;
+use bl_graph::{Origin, Use, variables};
+use std::alloc::Global;
+
+/// From one number to another.
+#[derive(Clone, Copy, Debug, PartialEq, Eq)]
+pub(crate) struct Arc {
+    /// The one.
+    pub(crate) from: u32,
+    /// The other.
+    pub(crate) to: u32,
+}
+
+/// By what a variable was found to be secret.
+#[derive(Clone, Copy, Debug, PartialEq, Eq)]
+pub(crate) enum Cause {
+    /// It is declared secret.
+    Declared(Origin),
+    /// A Load of a secret memory writes it.
+    Loaded {
+        /// The position of the Load.
+        at: u32,
+        /// The number of the memory.
+        memory: u32,
+    },
+    /// A site writes it that reads a variable found before.
+    Moved {
+        /// The position of the site.
+        at: u32,
+        /// The place in the queue of the variable that it reads.
+        before: usize,
+    },
+}
+
+/// A secret variable.
+#[derive(Clone, Copy, Debug, PartialEq, Eq)]
+pub(crate) struct Step {
+    /// The variable.
+    pub(crate) var: u32,
+    /// By what it was found.
+    pub(crate) cause: Cause,
+}
+
+/// The secret variables.
+#[derive(Debug, Drop)]
+pub(crate) struct Found {
+    /// For each variable whether it is secret.
+    pub(crate) marks: Vec<bool>,
+    /// Each of them once, those with shorter ways first.
+    pub(crate) queue: Vec<Step>,
+}
+
+/// The secret variables of a program. Linear in the program.
+pub(crate) fn secret_variables(alloc: Global, known: &Known) -> Result<Found, NoMemory>
+    requires { IsKnown known.now }
+    ensures { IfOk result (λ found. Searched known.now.program.now found.marks.items found.queue.items) }
+{
+    let count = command_count(known.program);
+    let written = rows_of(
+        alloc,
+        &site_arcs(alloc, known.graph.writes.as_slice())?,
+        count,
+    )?;
+    let arcs = var_arcs(alloc, known.graph.reads.as_slice())?;
+    let readers = rows_of(alloc, &arcs, variables(known.program))?;
+    search(alloc, known, &readers, &written)
+}
+
+/// The search by rows: for each variable the sites that read it, and for each site the variables that it writes.
+fn search(
+    alloc: Global,
+    known: &Known,
+    readers: &[Vec<u32>],
+    written: &[Vec<u32>],
+) -> Result<Found, NoMemory>
+    requires is { IsKnown known.now }
+    requires vars { length readers.now ≡ variables known.now.program.now }
+    requires sites { length written.now ≡ commands known.now.program.now }
+    requires reads { (x s : ℕ) → Contains (row_at (rows_in readers.now) x) s ↔ Reads known.now.program.now s x }
+    requires writes { (s x : ℕ) → Contains (row_at (rows_in written.now) s) x ↔ Writes known.now.program.now s x }
+    ensures { IfOk result (λ found. Searched known.now.program.now found.marks.items found.queue.items) }
+{
+    let mut marks = vec![in alloc; false; readers.len()]?;
+    let mut queue = Vec::new(alloc);
+    find_declared(known.facts.declared.as_slice(), &mut marks, &mut queue)?;
+    find_loaded(
+        known.facts.loads.as_slice(),
+        written,
+        &mut marks,
+        &mut queue,
+    )?;
+    let mut next = 0;
+    while next < queue.len() {
+        let var = queue[next].var as usize;
+        find_moved(&readers[var], written, next, &mut marks, &mut queue)?;
+        next += 1;
+    }
+    Ok(Found { marks, queue })
+}
+
+/// Finds the variables that are declared secret.
+fn find_declared(
+    secrets: &[Declared],
+    marks: &mut Vec<bool>,
+    queue: &mut Vec<Step>,
+) -> Result<(), NoMemory>
+    requires { All (λ d. d.var < length marks.old.items) secrets.now }
+    ensures { OnOk result (Visits
+        (Some_fits secrets.now (λ d step. step ≡ record { var = d.var; cause = cause_.Declared d.origin }))
+        (Some_asks secrets.now (λ d v. v ≡ d.var))
+        marks.old.items marks.new.items queue.old.items queue.new.items) }
+{
+    for secret in secrets {
+        find(
+            Step {
+                var: secret.var,
+                cause: Cause::Declared(secret.origin),
+            },
+            marks,
+            queue,
+        )?;
+    }
+    Ok(())
+}
+
+/// Finds what Loads of secret memories write.
+fn find_loaded(
+    loads: &[SecretLoad],
+    written: &[Vec<u32>],
+    marks: &mut Vec<bool>,
+    queue: &mut Vec<Step>,
+) -> Result<(), NoMemory>
+    requires sites { All (λ l. l.at < length written.now) loads.now }
+    requires vars { (s x : ℕ) → Contains (row_at (rows_in written.now) s) x → x < length marks.old.items }
+    ensures { OnOk result (Visits
+        (Some_fits loads.now (λ l. RowFits (row_at (rows_in written.now) l.at) (cause_.Loaded l.at l.memory)))
+        (Some_asks loads.now (λ l. RowAsks (row_at (rows_in written.now) l.at)))
+        marks.old.items marks.new.items queue.old.items queue.new.items) }
+{
+    for load in loads {
+        let cause = Cause::Loaded {
+            at: load.at,
+            memory: load.memory,
+        };
+        find_row(&written[load.at as usize], cause, marks, queue)?;
+    }
+    Ok(())
+}
+
+/// Finds what the sites write that read a variable found before.
+fn find_moved(
+    sites: &[u32],
+    written: &[Vec<u32>],
+    before: usize,
+    marks: &mut Vec<bool>,
+    queue: &mut Vec<Step>,
+) -> Result<(), NoMemory>
+    requires sites { All (λ s. s < length written.now) sites.now }
+    requires vars { (s x : ℕ) → Contains (row_at (rows_in written.now) s) x → x < length marks.old.items }
+    ensures { OnOk result (Visits
+        (Some_fits sites.now (λ s. RowFits (row_at (rows_in written.now) s) (cause_.Moved s before)))
+        (Some_asks sites.now (λ s. RowAsks (row_at (rows_in written.now) s)))
+        marks.old.items marks.new.items queue.old.items queue.new.items) }
+{
+    for site in sites {
+        let cause = Cause::Moved { at: *site, before };
+        find_row(&written[*site as usize], cause, marks, queue)?;
+    }
+    Ok(())
+}
+
+/// Finds the variables of a row, by one cause.
+fn find_row(
+    row: &[u32],
+    cause: Cause,
+    marks: &mut Vec<bool>,
+    queue: &mut Vec<Step>,
+) -> Result<(), NoMemory>
+    requires { All (λ v. v < length marks.old.items) row.now }
+    ensures { OnOk result (Visits (RowFits row.now cause) (RowAsks row.now) marks.old.items marks.new.items queue.old.items queue.new.items) }
+{
+    for var in row {
+        find(Step { var: *var, cause }, marks, queue)?;
+    }
+    Ok(())
+}
+
+/// Marks and queues a variable that isn't marked.
+fn find(step: Step, marks: &mut Vec<bool>, queue: &mut Vec<Step>) -> Result<(), NoMemory>
+    requires { step.var < length marks.old.items }
+    ensures { OnOk result (Visits (λ s. s ≡ step) (λ v. v ≡ step.var) marks.old.items marks.new.items queue.old.items queue.new.items) }
+{
+    if !marks[step.var as usize] {
+        marks[step.var as usize] = true;
+        queue.push(step)?;
+    }
+    Ok(())
+}
+
+/// For each number below a bound those to which an arc leads from it.
+fn rows_of(alloc: Global, arcs: &[Arc], count: u32) -> Result<Vec<Vec<u32>>, NoMemory>
+    requires { All (λ arc. arc.from < count) arcs.now }
+    ensures places { IfOk result (λ rows. length rows.items ≡ count) }
+    ensures rows { IfOk result (λ rows. RowsOf arcs.now (rows_in rows.items)) }
+{
+    let mut rows = empty_rows(alloc, count)?;
+    for arc in arcs {
+        rows[arc.from as usize].push(arc.to)?;
+    }
+    Ok(rows)
+}
+
+/// So many empty rows.
+fn empty_rows(alloc: Global, count: u32) -> Result<Vec<Vec<u32>>, NoMemory>
+    ensures { IfOk result (λ rows. rows_in rows.items ≡ replicate count []) }
+{
+    let mut rows = Vec::new(alloc);
+    for _ in 0..count {
+        rows.push(Vec::new(alloc))?;
+    }
+    Ok(rows)
+}
+
+/// From each site to what it writes.
+fn site_arcs(alloc: Global, writes: &[Use]) -> Result<Vec<Arc>, NoMemory>
+    ensures { IfOk result (λ arcs. arcs.items ≡ map from_site writes.now) }
+{
+    let mut arcs = Vec::new(alloc);
+    for write in writes {
+        arcs.push(Arc {
+            from: write.at.0,
+            to: write.var.0,
+        })?;
+    }
+    Ok(arcs)
+}
+
+/// From each variable to the sites that read it.
+fn var_arcs(alloc: Global, reads: &[Use]) -> Result<Vec<Arc>, NoMemory>
+    ensures { IfOk result (λ arcs. arcs.items ≡ map from_var reads.now) }
+{
+    let mut arcs = Vec::new(alloc);
+    for read in reads {
+        arcs.push(Arc {
+            from: read.var.0,
+            to: read.at.0,
+        })?;
+    }
+    Ok(arcs)
+}
