@@ -6,3 +6,5 @@ pub mod Agreed
 pub mod Entries
 pub mod Relation
 pub mod Whole
+pub mod Marks
+pub mod Assessing
