@@ -1,0 +1,49 @@
+-- From the two verdicts to the one on two runs.
+use Rattle.std.proofs.Common.{◌≡◌, ℕ, Bool, true, false, not, subst}
+use Rattle.std.proofs.Math.Path.{fun_ext}
+use Rattle.std.specs.Prelude.{IsTrue}
+use Rattle.bl_cmd.specs.Programs.{IsProgram}
+use Rattle.bl_cmd.specs.Rules.{IsWellFormed}
+use Rattle.bl_cmd.specs.Sites.{is_protected}
+use Rattle.bl_cmd.specs.declared.definitions.ProgramParts.{ProgramParts as Program}
+use Rattle.bl_graph.specs.Labels.{ConstantTime}
+use Rattle.bl_transient.specs.Transient.{Assigns, Trans, loaded, moved}
+use Rattle.bl_transient.specs.Verdicts.{Judges, typing_of}
+use Rattle.bl_transient.specs.declared.transient.FlowVerdict.{FlowVerdict}
+use Rattle.bl_transient.specs.declared.transient.FlowVerdict.TheVariants.{Yes, No}
+use Rattle.bl_base.specs.declared.names.Flow.{Flow}
+use Rattle.bl_base.specs.declared.number.Pos.{Pos}
+use Rattle.std.specs.Prelude.{List}
+use Rattle.bl_sct.specs.Verdicts.{Assesses, IsStable, IsUnstable}
+use Rattle.bl_sct.specs.declared.verdict.Verdict.TheVariants.{Safe}
+use Rattle.bl_sct.proofs.Whole.{equal}
+
+-- what is transient in each typing
+hot : (program : Program) (set typing : ℕ → Bool) → Assigns program typing set → (x : ℕ) → Trans program set x → IsTrue (typing x)
+hot program set typing a x (loaded s _ l w f) = a.loads s x l w f
+hot program set typing a x (moved s y _ r w f t) = a.moves s y x r w f (hot program set typing a y t)
+
+opposite : (b : Bool) → IsTrue b → IsTrue (not b) → ⊥
+opposite true h k = cc
+opposite false h k = cc
+
+module _ (program : Program) (constant : ConstantTime program) (set : ℕ → Bool) (own : (s : ℕ) → set s ≡ is_protected program s) (verdict : FlowVerdict)
+    (judged : Judges program set verdict) where
+  -- the set that was judged is that of the program's marks
+  by_own : Judges program (is_protected program) verdict
+  by_own = subst (λ f. Judges program f verdict) (fun_ext own) judged
+
+  pub safe : IsProgram program → IsWellFormed program → (flows : List Flow) → verdict ≡ Yes flows → Assesses program Safe
+  safe facts rules flows is =
+      let least = subst (λ v. Judges program (is_protected program) v) is by_own in
+      let passes : IsStable program = (typing_of flows, least.flows_hold) in
+      (constant, passes, equal program facts rules constant passes)
+
+  pub unstable : (position : Pos) → verdict ≡ No position → IsUnstable program position.0
+  unstable position is =
+      let first = subst (λ v. Judges program (is_protected program) v) is by_own in
+      record {
+        constant_time = constant;
+        passes_not = λ p. opposite (p.0 first.var) (hot program (is_protected program) p.0 p.1.assigns first.var first.hot) (p.1.sinks position.0 first.var first.sink);
+        first = first;
+      }

@@ -1,0 +1,5 @@
+use Rattle.bl_sct.proofs.Whole.{equal}
+use Rattle.bl_sct.proofs.laws.equal_observations.Goals as goal
+
+pub returns : goal.returns
+returns c = equal

@@ -1,0 +1,5 @@
+use Rattle.bl_sct.proofs.Whole.{in_step}
+use Rattle.bl_sct.proofs.laws.lockstep.Goals as goal
+
+pub returns : goal.returns
+returns c = in_step
