@@ -4,7 +4,6 @@ use Rattle.std.specs.Prelude.{Result, Ok, Err}
 use Rattle.bl_base.specs.Quantity.{limit_of}
 use Rattle.bl_base.specs.declared.quantity.Quantity.TheVariants as quantity
 use Rattle.bl_base.proofs.RunLemmas.{run_unique}
-use Rattle.bl_outside.specs.Shelf.{Files}
 use Rattle.bl_wasm.specs.Linked.{IsLinked}
 use Rattle.bl_wasm.specs.declared.linked.Tree.{Tree}
 use Rattle.bl_wasm.specs.declared.module.Module.{Module}
@@ -16,23 +15,20 @@ use Rattle.bl_cmd.specs.Steps.{plain_step}
 use Rattle.bl_cmd.specs.declared.definitions.ProgramParts.{ProgramParts as Program}
 use Rattle.bl_image.specs.Image.{Image}
 use Rattle.bl_image.proofs.Prefixes.{one_image}
-use Rattle.bl_link.specs.Alone.{alone}
 use Rattle.bl_lower.specs.Trees.{low_tree}
 use Rattle.bl_lower.proofs.Opening.{ends_after, plain_ended}
 use Rattle.bl_app.specs.Building.{AreCompiled, Builds, BuildingRefuses, Built, building, command_count, compiling, long_image, many_commands}
-use Rattle.bl_app.specs.Form.{StandsAlone}
-use Rattle.bl_app.specs.Jobs.{AreRead}
-use Rattle.bl_app.specs.Loading.{Named, Part, loading, module_read, parts_of}
+use Rattle.bl_app.specs.Form.{IsUnlabelled}
+use Rattle.bl_app.specs.Loading.{Part, loading, parts_of}
 use Rattle.bl_app.specs.Meaning.{SameOutcomes}
 use Rattle.bl_app.specs.Refusals.{Refusal, limit}
 use Rattle.bl_app.specs.Stages.{IsLawfulStage, at_first, at_second}
-use Rattle.bl_app.specs.Working.{IsStaged, built_in, of_module}
+use Rattle.bl_app.specs.Working.{IsStaged, built_in}
 use Rattle.bl_app.specs.declared.build.Built.{Built as BuiltMade}
 use Rattle.bl_app.specs.declared.refusal.WorkError.{WorkError}
 use Rattle.bl_app.specs.declared.refusal.WorkError.TheVariants as error
-use Rattle.bl_app.proofs.LoadingLemmas.{linked_of, loading_lawful, one_loaded, one_refused}
+use Rattle.bl_app.proofs.LoadingLemmas.{loading_lawful, loading_weaker}
 use Rattle.bl_app.proofs.StageLemmas.{chain_lawful}
-use Rattle.bl_app.proofs.Standing.{accepted_linked}
 
 -- ---- the stages
 
@@ -60,8 +56,8 @@ module _ (tree : Tree) where
 building_lawful : IsLawfulStage building
 building_lawful = record { one_result = one_built; one_refusal = build_refusal; not_both = build_not_both }
 
-pub compiling_lawful : IsLawfulStage compiling
-compiling_lawful = chain_lawful (loading StandsAlone) building (loading_lawful StandsAlone) building_lawful
+pub compiling_lawful : (Form : Module → Type 0) → IsLawfulStage (compiling Form)
+compiling_lawful Form = chain_lawful (loading Form) building (loading_lawful Form) building_lawful
 
 -- a program that was made of a tree, and its image
 module _ (tree : Tree) (program : Program) (same : program ≡ low_tree tree) (rules : IsWellFormed program) (image : List ℕ) (is : Image program image) where
@@ -74,20 +70,19 @@ module _ (tree : Tree) (program : Program) (same : program ≡ low_tree tree) (r
   pub too_long : (value : ℕ) → value ≡ length image → limit_of quantity.Image < value → BuildingRefuses tree (limit quantity.Image value)
   too_long value e long = long_image image few here (omega (arith, e, long)) (ap (limit quantity.Image) e)
 
--- ---- one module
+-- ---- modules
 
-module _ (part : Part) where
-  -- a module that is refused
-  pub not_loaded : (tree : Module → Named) (e : WorkError) → IsStaged of_module tree part (Err e) → IsStaged compiling built_in (part ∷ []) (Err e)
-  not_loaded tree (error.Refused refusal) r = at_first (one_refused part _ r)
-  not_loaded tree error.Memory r = tt
+module _ (Form : Module → Type 0) (parts : List Part) where
+  -- modules that are refused
+  pub not_loaded : (e : WorkError) → IsStaged (loading Form) (λ (tree : Tree). tree) parts (Err e) → IsStaged (compiling Form) built_in parts (Err e)
+  not_loaded (error.Refused refusal) r = at_first r
+  not_loaded error.Memory r = tt
 
-  -- one that is linked
-  pub linked_builds : (wasm : Module) (tree : Tree) (result : Result BuiltMade WorkError) → of_module.Passes part (record { name = part.name; tree = wasm }) → tree ≡ alone part.name wasm
-      → IsStaged building built_in tree result → IsStaged compiling built_in (part ∷ []) result
-  linked_builds wasm tree (Ok built) passed same b = (tree, one_loaded part (record { name = part.name; tree = wasm }) tree passed same, b)
-  linked_builds wasm tree (Err (error.Refused refusal)) passed same b = at_second tree (one_loaded part (record { name = part.name; tree = wasm }) tree passed same) b
-  linked_builds wasm tree (Err error.Memory) passed same b = tt
+  -- those that are linked
+  pub linked_builds : (tree : Tree) (result : Result BuiltMade WorkError) → (loading Form).Passes parts tree → IsStaged building built_in tree result → IsStaged (compiling Form) built_in parts result
+  linked_builds tree (Ok built) passed b = (tree, passed, b)
+  linked_builds tree (Err (error.Refused refusal)) passed b = at_second tree passed b
+  linked_builds tree (Err error.Memory) passed b = tt
 
 -- ---- what it means
 
@@ -100,29 +95,12 @@ same_outcomes tree linked = record {
   plain_unique = λ function start o p m k h i. run_unique (plain_step (low_tree tree)) m k (opening (low_tree tree) function start) o p h.run i.run;
 }
 
--- the bytes of the one module that was read are few
-part_short : (files : Option Files) (words contents : List (List ℕ)) (part : Part) → AreRead files (map module_read words) contents → parts_of words contents ≡ part ∷ []
-    → length part.bytes ≤ limit_of quantity.Module
-part_short files [] contents part read e = absurd cc
-part_short files (word ∷ words) [] part read e = absurd read
-part_short files (word ∷ words) (bytes ∷ contents) part read e =
-    let first : bytes ≡ part.bytes = ap (λ parts. bytes_in parts) e in
-    subst (λ b. length b ≤ limit_of quantity.Module) first read.0.short
-  where
-    bytes_in : List Part → List ℕ
-    bytes_in [] = []
-    bytes_in (p ∷ ps) = p.bytes
-
-pub are_compiled : (files : Option Files) (words contents : List (List ℕ)) (built : Built) → AreRead files (map module_read words) contents → compiling.Passes (parts_of words contents) built
-    → AreCompiled words contents built
-are_compiled files words contents built read p =
-    let one = linked_of (parts_of words contents) p.0 p.1 in
-    let short = part_short files words contents one.part read one.is_part in
-    let linked : IsLinked p.0 = subst IsLinked (sym one.is_tree) (accepted_linked one.only.name one.part.bytes one.only.tree short one.accepted) in
-    record {
-      tree = p.0;
-      loaded = p.1;
-      linked = linked;
-      builds = p.2;
-      same_outcomes = subst (SameOutcomes p.0) (sym p.2.is_program) (same_outcomes p.0 linked);
-    }
+-- what is compiled of modules of a form is compiled of modules without labels
+pub are_compiled : (Form : Module → Type 0) (words contents : List (List ℕ)) (built : Built) → ((tree : Module) → Form tree → IsUnlabelled tree) → (compiling Form).Passes (parts_of words contents) built → AreCompiled words contents built
+are_compiled Form words contents built within p = record {
+  tree = p.0;
+  loaded = loading_weaker Form IsUnlabelled within (parts_of words contents) p.0 p.1;
+  linked = p.1.2.2.2.can_run;
+  builds = p.2;
+  same_outcomes = subst (SameOutcomes p.0) (sym p.2.is_program) (same_outcomes p.0 p.1.2.2.2.can_run);
+}

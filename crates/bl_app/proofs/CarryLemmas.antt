@@ -15,7 +15,7 @@ use Rattle.bl_app.proofs.JobLemmas.{lengths_fit}
 
 module _ {Request : Type 0} (job_of : Request → Job) (request : Request) (new : World) (status : Status) where
   -- an error is the first
-  refused_ends : (old : World) (refusal : Refusal) → FirstRefusal (job_of request) old.files refusal → new.files ≡ old.files → new.faults ≡ old.faults
+  pub refused_ends : (old : World) (refusal : Refusal) → FirstRefusal (job_of request) old.files refusal → new.files ≡ old.files → new.faults ≡ old.faults
       → SaidIfRoom (refusal_text refusal) (status_of refusal) old.sink new.sink status → Ends job_of (Some request) old new status
   refused_ends old refusal first files faults (is_said s) = as_planned (saying (status_of refusal) (refusal_text refusal)) (refused request refusal refl first) (all_kept files faults s)
   refused_ends old refusal first files faults (no_memory_to_say sink e) = no_memory (record { files = files; faults = faults; sink = sink }) e

@@ -3,26 +3,30 @@ use Rattle.std.proofs.Common.{◌≡◌, ℕ, List, Some, None, refl, inl, inr, 
 use Rattle.std.specs.Prelude.{◌⊎◌}
 use Rattle.bl_outside.specs.Shelf.{Files}
 use Rattle.bl_app.specs.Causes.{Causes, NoneRose}
-use Rattle.bl_app.specs.Commands.{job_of}
+use Rattle.bl_app.specs.Commands.{job_of, work_of}
 use Rattle.bl_app.specs.Jobs.{AreRead, FirstRefusal, IsLawful, Plan}
 use Rattle.bl_app.specs.Refusals.{Refusal}
-use Rattle.bl_app.specs.Requests.{Request, harden, interp, lower, run, spec}
+use Rattle.bl_words.specs.Requests.{Request, harden, interp, lower, modules_in, run, spec}
 use Rattle.bl_app.specs.Worlds.{World}
 use Rattle.bl_app.specs.Status.{code_of, kind_of, of_deed, of_refusal}
 use Rattle.bl_app.specs.declared.status.Status.{Status}
 use Rattle.bl_app.specs.declared.status.Status.TheVariants as status
+use Rattle.bl_app.proofs.CountLemmas.{with_modules_lawful}
 use Rattle.bl_app.proofs.HardenLemmas.{harden_lawful, lower_lawful}
 use Rattle.bl_app.proofs.InterpLemmas.{interp_lawful}
 use Rattle.bl_app.proofs.JobLemmas.{done_not_refused, one_first}
 use Rattle.bl_app.proofs.RunLemmas.{run_lawful}
 use Rattle.bl_app.proofs.SpecLemmas.{spec_lawful}
 
+work_lawful : (request : Request) → IsLawful (work_of request)
+work_lawful (harden request) = harden_lawful request
+work_lawful (lower request) = lower_lawful request
+work_lawful (interp request) = interp_lawful request
+work_lawful (run request) = run_lawful request
+work_lawful (spec request) = spec_lawful request
+
 pub laws_of : (request : Request) → IsLawful (job_of request)
-laws_of (harden request) = harden_lawful request
-laws_of (lower request) = lower_lawful request
-laws_of (interp request) = interp_lawful request
-laws_of (run request) = run_lawful request
-laws_of (spec request) = spec_lawful request
+laws_of request = with_modules_lawful (modules_in request) (work_of request) (work_lawful request)
 
 pub one_refusal : (files : Files) (request : Request) (a b : Refusal) → FirstRefusal (job_of request) (Some files) a → FirstRefusal (job_of request) (Some files) b → a ≡ b
 one_refusal files request = one_first files (job_of request) (laws_of request)
@@ -55,6 +59,7 @@ module _ (old new : World) (none_rose : NoneRose old new) where
   without_request status.Invalid c = absurd (not_refused_words status.Invalid c refl)
   without_request status.Unsupported c = absurd (not_refused_words status.Unsupported c refl)
   without_request status.Limit c = absurd (not_refused_words status.Limit c refl)
+  without_request status.Link c = absurd (not_refused_words status.Link c refl)
   without_request status.Memory c = inr refl
   without_request status.Image c = absurd (not_refused_words status.Image c refl)
   without_request status.Trace c = absurd (not_refused_words status.Trace c refl)

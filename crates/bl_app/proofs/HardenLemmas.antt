@@ -1,5 +1,5 @@
 -- The jobs of `harden` and `lower` keep the laws; what is said where they are done.
-use Rattle.std.proofs.Common.{◌≡◌, ℕ, true, false, cond, List, [], ◌∷◌, Option, Some, None, refl, ap, sym, ◌∙◌, subst, map}
+use Rattle.std.proofs.Common.{◌≡◌, ℕ, Bool, true, false, cond, List, [], ◌∷◌, Option, Some, None, refl, ap, sym, ◌∙◌, subst, map, arith}
 use Rattle.std.specs.Prelude.{Err}
 use Rattle.std.specs.Cmp.{eq_by_cmp_equiv}
 use Rattle.std.specs.Cmp.Lexicographic.{nat_list_cmp_total}
@@ -9,19 +9,28 @@ use Rattle.std.specs.Str.{bytes_eq}
 use Rattle.std.proofs.lemmas.Map.Text.{is_eq-slice_cmp}
 use Rattle.std.proofs.lemmas.Slice.Eq.{bytes_eq-Decides}
 use Rattle.bl_outside.specs.Shelf.{Files, with_file}
-use Rattle.bl_cmd.specs.Sites.{is_protected}
-use Rattle.bl_lower.proofs.Unprotected.{unprotected}
+use Rattle.bl_wasm.specs.declared.linked.Tree.{Tree}
+use Rattle.bl_wasm.specs.declared.module.Module.{Module}
+use Rattle.bl_cmd.specs.Rules.{IsWellFormed}
+use Rattle.bl_cmd.specs.declared.definitions.ProgramParts.{ProgramParts as Program}
+use Rattle.bl_image.specs.Image.{Image}
+use Rattle.bl_lower.proofs.WellFormed.{rules}
+use Rattle.bl_cut.specs.Marks.{protected}
+use Rattle.bl_cut.proofs.Marking.{run_back, run_same}
+use Rattle.bl_report.specs.Reports.{DeclaresNoSecret}
+use Rattle.bl_witness.specs.Texts.{certificate_text}
 use Rattle.bl_app.specs.Building.{Built, Makes, compiling, compiling_job}
 use Rattle.bl_app.specs.Causes.{IsDone}
 use Rattle.bl_app.specs.Commands.{job_of}
-use Rattle.bl_app.specs.Hardening.{Hardens, harden_job, harden_plan}
+use Rattle.bl_app.specs.Form.{IsUnlabelled}
+use Rattle.bl_app.specs.Hardening.{HardenPlans, Hardened, Hardens, IsHardened, harden_job}
 use Rattle.bl_app.specs.Jobs.{AreRead, FileIs, IsLawful, Job, Plan}
 use Rattle.bl_app.specs.Loading.{Part, parts_of}
 use Rattle.bl_app.specs.Lowering.{Lowers, lower_job, lower_plan}
+use Rattle.bl_app.specs.Meaning.{SameOutcomes}
 use Rattle.bl_app.specs.Refusals.{Refusal}
-use Rattle.bl_app.specs.Requests.{HardenRequest, LowerRequest, Request, harden, lower, request_of}
+use Rattle.bl_words.specs.Requests.{HardenRequest, LowerRequest, Request, harden, lower, request_of}
 use Rattle.bl_app.specs.Status.{kind_of}
-use Rattle.bl_app.specs.Texts.{empty_certificate}
 use Rattle.bl_app.specs.Working.{IsStaged, IsWork, built_in, refusal_in}
 use Rattle.bl_app.specs.Worlds.{World, took, with_files}
 use Rattle.bl_app.specs.declared.refusal.WorkError.{WorkError}
@@ -29,36 +38,43 @@ use Rattle.bl_app.specs.declared.refusal.WorkError.TheVariants as error
 use Rattle.bl_app.specs.declared.status.Status.{Status}
 use Rattle.bl_app.specs.declared.status.Status.TheVariants.{Done}
 use Rattle.bl_app.proofs.BuildLemmas.{are_compiled, compiling_lawful}
-use Rattle.bl_app.proofs.WordsLemmas.{request_differs}
+use Rattle.bl_app.proofs.CountLemmas.{work_done}
+use Rattle.bl_app.proofs.FewestLemmas.{are_fewest}
+use Rattle.bl_app.proofs.MarkedImages.{as_long}
+use Rattle.bl_app.proofs.PublicPrograms.{program_public, still_public}
+use Rattle.bl_words.proofs.WordsLemmas.{request_differs}
 
 -- ---- the work
 
 -- a job that is refused what compiling refuses isn't done on contents that aren't compiled
-pub not_compiled : (job : Job) (parts : List Part) (contents : List (List ℕ)) → ((refusal : Refusal) → compiling.Refuses parts refusal → job.Against contents refusal)
-    → (e : WorkError) → IsStaged compiling built_in parts (Err e) → IsWork job contents (Err e)
-not_compiled job parts contents against (error.Refused refusal) r = against (refusal_in refusal) r
-not_compiled job parts contents against error.Memory r = tt
+pub not_compiled : (Form : Module → Type 0) (job : Job) (parts : List Part) (contents : List (List ℕ)) → ((refusal : Refusal) → (compiling Form).Refuses parts refusal → job.Against contents refusal)
+    → (e : WorkError) → IsStaged (compiling Form) built_in parts (Err e) → IsWork job contents (Err e)
+not_compiled Form job parts contents against (error.Refused refusal) r = against (refusal_in refusal) r
+not_compiled Form job parts contents against error.Memory r = tt
 
 -- ---- the laws
 
--- where what is planned is always done, and keeps the files that are named
-compiling_lawful_job : (words keeps : List (List ℕ)) (plan_of : Built → Plan) → ((built : Built) → (plan_of built).status ≡ Done) → ((built : Built) → map (λ keep. keep.0) (plan_of built).keeps ≡ keeps)
-    → IsLawful (compiling_job words keeps plan_of)
-compiling_lawful_job words keeps plan_of done named =
-    let status : (contents : List (List ℕ)) (plan : Plan) → Makes words plan_of contents plan → plan.status ≡ Done = λ contents plan d. ap (λ p. p.status) d.is_plan ∙ done d.built in
-    record {
-      one_refusal = λ contents a b h k. compiling_lawful.one_refusal (parts_of words contents) a b h k;
-      none_beside_a_deed = λ contents refusal plan h d. compiling_lawful.not_both (parts_of words contents) d.built refusal d.compiled h;
-      one_status = λ contents p q d e. status contents p d ∙ sym (status contents q e);
-      status_of_deed = λ contents plan d. ap kind_of (status contents plan d);
-      keeps_named = λ contents plan d. ap (λ p. map (λ keep. keep.0) p.keeps) d.is_plan ∙ named d.built;
-    }
+-- where each plan is done, and keeps the files that are named
+compiling_lawful_job : (Form : Module → Type 0) (words keeps : List (List ℕ)) (Plans : Built → Plan → Type 0)
+    → ((built : Built) (plan : Plan) → Plans built plan → plan.status ≡ Done)
+    → ((built : Built) (plan : Plan) → Plans built plan → map (λ keep. keep.0) plan.keeps ≡ keeps) → IsLawful (compiling_job Form words keeps Plans)
+compiling_lawful_job Form words keeps Plans done named = record {
+  one_refusal = λ contents a b h k. (compiling_lawful Form).one_refusal (parts_of words contents) a b h k;
+  none_beside_a_deed = λ contents refusal plan h d. (compiling_lawful Form).not_both (parts_of words contents) d.built refusal d.compiled h;
+  one_status = λ contents p q d e. done d.built p d.plans ∙ sym (done e.built q e.plans);
+  status_of_deed = λ contents plan d. ap kind_of (done d.built plan d.plans);
+  keeps_named = λ contents plan d. named d.built plan d.plans;
+}
 
 pub harden_lawful : (request : HardenRequest) → IsLawful (harden_job request)
-harden_lawful request = compiling_lawful_job request.modules (request.certificate ∷ request.image ∷ []) (harden_plan request) (λ built. refl) (λ built. refl)
+harden_lawful request =
+    compiling_lawful_job IsUnlabelled request.modules (request.certificate ∷ request.image ∷ []) (HardenPlans request)
+    (λ built plan p. ap (λ q. q.status) p.is_plan) (λ built plan p. ap (λ q. map (λ keep. keep.0) q.keeps) p.is_plan)
 
 pub lower_lawful : (request : LowerRequest) → IsLawful (lower_job request)
-lower_lawful request = compiling_lawful_job request.modules (request.image ∷ []) (lower_plan request) (λ built. refl) (λ built. refl)
+lower_lawful request =
+    compiling_lawful_job IsUnlabelled request.modules (request.image ∷ []) (λ built plan. plan ≡ lower_plan request built)
+    (λ built plan e. ap (λ q. q.status) e) (λ built plan e. ap (λ q. map (λ keep. keep.0) q.keeps) e)
 
 -- ---- the files
 
@@ -82,39 +98,78 @@ kept_still (Some files) name bytes other those differ is =
 
 -- ---- what is said where they were done
 
-pub hardens : (words : List (List ℕ)) (request : HardenRequest) (old new : World) (status : Status) → request_of words ≡ Some (harden request) → IsDone job_of (request_of words) old new status → Hardens request old new
+-- what ends as the program without protects ends as the tree
+ends_alike : (tree : Tree) (bare : Program) (set : ℕ → Bool) → SameOutcomes tree bare → SameOutcomes tree (protected set bare)
+ends_alike tree bare set same = record {
+  follows = λ function start outcome n h.
+      let f = same.follows function start outcome n h in (f.0, run_back set bare function start f.0 outcome f.1, f.2, f.3);
+  comes_from = λ function start outcome m h. same.comes_from function start outcome m (run_same set bare function start m outcome h);
+  source_unique = same.source_unique;
+  plain_unique = λ function start o p m k h i.
+      same.plain_unique function start o p m k (run_same set bare function start m o h) (run_same set bare function start k p i);
+}
+
+-- what is compiled declares no secret
+pub built_public : (parts : List Part) (built : Built) → (compiling IsUnlabelled).Passes parts built → DeclaresNoSecret built.program
+built_public parts built p = subst DeclaresNoSecret (sym p.2.is_program) (program_public p.1.2.2.0 p.0 p.1.2.2.2.is_tree)
+
+-- neither does it with its protects
+pub hardened_public : (bare : Program) (hardened : Hardened) → IsHardened bare hardened → DeclaresNoSecret bare → DeclaresNoSecret hardened.program
+hardened_public bare hardened h public = subst DeclaresNoSecret (sym h.is_program) (still_public h.set bare public)
+
+pub hardens : (words : List (List ℕ)) (request : HardenRequest) (old new : World) (status : Status)
+    → request_of words ≡ Some (harden request) → IsDone job_of (request_of words) old new status → Hardens request old new
 hardens words request old new status is d =
     let same : d.request ≡ harden request = let theirs = d.is_request in cc in
-    let does : Makes request.modules (harden_plan request) d.contents d.plan = subst (λ r. (job_of r).Does d.contents d.plan) same d.does in
-    let read = subst (λ r. AreRead old.files (job_of r).reads d.contents) same d.read in
-    let files = d.kept ∙ ap (λ plan. with_files old.files plan.keeps) does.is_plan in
-    let image = does.built.image in
-    let certified = with_file old.files request.certificate empty_certificate in
+    let work = work_done request.modules (harden_job request) old.files d.contents d.plan
+    (subst (λ r. AreRead old.files (job_of r).reads d.contents) same d.read) (subst (λ r. (job_of r).Does d.contents d.plan) same d.does) in
+    let does : Makes IsUnlabelled request.modules (HardenPlans request) d.contents d.plan = work.1 in
+    let compiled = are_compiled IsUnlabelled request.modules d.contents does.built (λ tree form. form) does.compiled in
+    let hardened = does.plans.hardened in
+    let h = does.plans.is_hardened in
+    let files = d.kept ∙ ap (λ plan. with_files old.files plan.keeps) does.plans.is_plan in
+    let text = certificate_text hardened.certificate in
+    let certified = with_file old.files request.certificate text in
+    let own = subst (λ p. Image p does.built.image) (sym compiled.builds.is_program) compiled.builds.image in
+    let wells = subst IsWellFormed (sym compiled.builds.is_program) (rules compiled.tree compiled.linked compiled.builds.few) in
+    let long = as_long h.set does.built.program hardened.image does.built.image
+    (subst (λ p. Image p hardened.image) h.is_program h.image) own in
+    let short = compiled.builds.short in
     record {
       contents = d.contents;
       built = does.built;
-      read = read;
-      compiled = are_compiled old.files request.modules d.contents does.built read does.compiled;
+      hardened = hardened;
+      read = work.0;
+      compiled = compiled;
+      is_hardened = h;
+      same_outcomes = subst (SameOutcomes compiled.tree) (sym h.is_program)
+          (ends_alike compiled.tree does.built.program h.set compiled.same_outcomes);
+      fewest = are_fewest does.built.program own.is_program wells hardened h;
+      public = hardened_public does.built.program hardened h
+          (built_public (parts_of request.modules d.contents) does.built does.compiled);
+      short = omega (arith, long, short);
       kept = files;
-      image = subst (λ f. FileIs f request.image image) (sym files) (kept_last certified request.image image);
-      certificate = subst (λ f. FileIs f request.certificate empty_certificate) (sym files)
-          (kept_still certified request.image image request.certificate empty_certificate (request_differs words request is) (kept_last old.files request.certificate empty_certificate));
-      printed = d.printed ∙ ap (λ plan. took old.sink.taken plan.text) does.is_plan;
-      unprotected = λ position. ap (λ program. is_protected program position) does.compiled.2.is_program ∙ unprotected does.compiled.0 position;
+      image = subst (λ f. FileIs f request.image hardened.image) (sym files) (kept_last certified request.image hardened.image);
+      certificate = subst (λ f. FileIs f request.certificate text) (sym files)
+          (kept_still certified request.image hardened.image request.certificate text (request_differs words request is)
+          (kept_last old.files request.certificate text));
+      printed = d.printed ∙ ap (λ plan. took old.sink.taken plan.text) does.plans.is_plan;
     }
 
-pub lowers : (asked : Option Request) (request : LowerRequest) (old new : World) (status : Status) → asked ≡ Some (lower request) → IsDone job_of asked old new status → Lowers request old new
+pub lowers : (asked : Option Request) (request : LowerRequest) (old new : World) (status : Status) → asked ≡ Some (lower request)
+    → IsDone job_of asked old new status → Lowers request old new
 lowers asked request old new status is d =
     let same : d.request ≡ lower request = let theirs = d.is_request in cc in
-    let does : Makes request.modules (lower_plan request) d.contents d.plan = subst (λ r. (job_of r).Does d.contents d.plan) same d.does in
-    let read = subst (λ r. AreRead old.files (job_of r).reads d.contents) same d.read in
-    let files = d.kept ∙ ap (λ plan. with_files old.files plan.keeps) does.is_plan in
+    let work = work_done request.modules (lower_job request) old.files d.contents d.plan
+    (subst (λ r. AreRead old.files (job_of r).reads d.contents) same d.read) (subst (λ r. (job_of r).Does d.contents d.plan) same d.does) in
+    let does : Makes IsUnlabelled request.modules (λ built plan. plan ≡ lower_plan request built) d.contents d.plan = work.1 in
+    let files = d.kept ∙ ap (λ plan. with_files old.files plan.keeps) does.plans in
     record {
       contents = d.contents;
       built = does.built;
-      read = read;
-      compiled = are_compiled old.files request.modules d.contents does.built read does.compiled;
+      read = work.0;
+      compiled = are_compiled IsUnlabelled request.modules d.contents does.built (λ tree form. form) does.compiled;
       kept = files;
       image = subst (λ f. FileIs f request.image does.built.image) (sym files) (kept_last old.files request.image does.built.image);
-      printed = d.printed ∙ ap (λ plan. took old.sink.taken plan.text) does.is_plan;
+      printed = d.printed ∙ ap (λ plan. took old.sink.taken plan.text) does.plans;
     }

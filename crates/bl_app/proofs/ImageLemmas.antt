@@ -1,35 +1,34 @@
 -- An image runs as the modules do that it was made of.
 use Rattle.std.proofs.Common.{◌≡◌, ℕ, ◌*◌, ◌≤◌, List, [], ◌∷◌, map, cond, Option, Some, None, slice_get, refl, sym, ap, ◌∙◌, subst, arith}
-use Rattle.std.specs.List.{fold}
 use Rattle.std.specs.Str.{bytes_eq}
 use Rattle.std.proofs.Math.Nat.{mul-le-mul_left}
-use Rattle.bl_base.specs.Bytes.{patched}
 use Rattle.bl_base.specs.Runs.{MemoryState, Outcome, returned, trapped}
 use Rattle.bl_base.specs.declared.names.ValueType.{ValueType}
 use Rattle.bl_base.proofs.Lists.{some_same}
 use Rattle.bl_wasm.specs.Exports.{Pairs, number_of}
 use Rattle.bl_wasm.specs.declared.linked.Signature.{Signature}
 use Rattle.bl_wasm.specs.declared.linked.Tree.{Tree}
-use Rattle.bl_reduce.specs.Outcomes.{first_memory, first_store, source}
-use Rattle.bl_cmd.specs.Outcomes.{first_memories, first_memory as memory_at_first, plain}
+use Rattle.bl_reduce.specs.Outcomes.{first_store, source}
+use Rattle.bl_cmd.specs.Outcomes.{first_memories, plain}
 use Rattle.bl_image.proofs.Prefixes.{one_program}
 use Rattle.bl_lower.specs.Trees.{export_def, low_tree, memory_def, step_bound}
 use Rattle.bl_lower.proofs.Defined.{IsDefined, has_type, is_defined}
+use Rattle.bl_lower.proofs.Opening.{memories_first}
 use Rattle.bl_lower.proofs.Parts.{map_map}
 use Rattle.bl_lower.proofs.WellFormed.{rules}
 use Rattle.bl_trace.specs.Answers.{answer_of}
 use Rattle.bl_app.specs.Building.{AreCompiled, Built}
 use Rattle.bl_app.specs.Entering.{Entered, entering, function_named, kinds_of, pages_of}
 use Rattle.bl_app.specs.Executing.{HasPlainOutcome, RunDoes, plain_text}
-use Rattle.bl_app.specs.Form.{StandsAlone}
+use Rattle.bl_app.specs.Form.{IsUnlabelled}
 use Rattle.bl_app.specs.Interpreting.{HasOutcome, HasRun, printed_of}
 use Rattle.bl_app.specs.Jobs.{Plan, saying}
 use Rattle.bl_app.specs.Loading.{parts_of}
 use Rattle.bl_app.specs.Outcomes.{outcome_status, outcome_text}
-use Rattle.bl_app.specs.Requests.{InterpRequest, RunRequest}
+use Rattle.bl_words.specs.Requests.{InterpRequest, RunRequest}
 use Rattle.bl_app.specs.Running.{Opened, Opens, sizes_of, type_of}
 use Rattle.bl_app.specs.declared.status.Status.TheVariants.{Spent}
-use Rattle.bl_app.proofs.LoadingLemmas.{linked_of, loading_lawful}
+use Rattle.bl_app.proofs.LoadingLemmas.{loading_lawful}
 use Rattle.bl_app.proofs.RunLemmas.{entering_lawful, passes_here}
 
 -- ---- exports
@@ -72,10 +71,7 @@ module _ (request : InterpRequest) (image_name start_name start : List ℕ) (con
     )
 
     same_memories : first_memories (low_tree tree) opened.start ≡ (first_store opened.tree opened.start).memories
-    same_memories =
-        let bare : tree.memories ≡ [] = ap (λ t. t.memories) (linked_of (parts_of request.modules contents) tree compiled.loaded).is_tree in
-        ap (λ those. fold patched (map memory_at_first (map memory_def those)) opened.start.patches) bare
-        ∙ sym (ap (λ those. fold patched (map first_memory those) opened.start.patches) bare) ∙ ap (λ t. (first_store t opened.start).memories) (sym o.same_tree)
+    same_memories = memories_first tree compiled.linked opened.function opened.start ∙ ap (λ t. (first_store t opened.start).memories) (sym o.same_tree)
 
     same_plan : (outcome : Outcome) (m n : ℕ) → saying (outcome_status (Some outcome)) (printed_of opened n (Some outcome)) ≡ saying (outcome_status (Some outcome)) (plain_text entered m (Some outcome))
     same_plan outcome m n =
@@ -105,7 +101,7 @@ module _ (request : InterpRequest) (image_name start_name start : List ℕ) (con
 
   pub forward : (plan : Plan) → HasRun request start contents plan → (plan.status ≡ Spent → ⊥) → RunDoes (run_of (step_bound tree * request.steps)) (built.image ∷ start ∷ []) plan
   forward plan h ended =
-      let same = (loading_lawful StandsAlone).one_result (parts_of request.modules contents) h.prepared.0 tree h.prepared.1 compiled.loaded in
+      let same = (loading_lawful IsUnlabelled).one_result (parts_of request.modules contents) h.prepared.0 tree h.prepared.1 compiled.loaded in
       ran_as plan h.opened (subst (λ t. Opens request.export start t h.opened) same h.prepared.2) h.outcome h.within h.is_plan ended
 
   -- what is entered of the image was opened of the tree

@@ -15,18 +15,19 @@ use Rattle.bl_trace.specs.declared.error.StartError.{StartError}
 use Rattle.bl_trace.specs.declared.error.StartError.TheVariants.{Line, Count}
 use Rattle.bl_app.specs.Causes.{IsDone}
 use Rattle.bl_app.specs.Commands.{job_of}
-use Rattle.bl_app.specs.Form.{StandsAlone}
+use Rattle.bl_app.specs.Form.{IsUnlabelled}
 use Rattle.bl_app.specs.Interpreting.{HasOutcome, HasRun, InterpDoes, InterpRefuses, Interprets, interp_job, preparing, printed_of}
 use Rattle.bl_app.specs.Jobs.{AreRead, IsLawful, Plan, saying}
 use Rattle.bl_app.specs.Loading.{loading, parts_of}
 use Rattle.bl_app.specs.Outcomes.{outcome_status}
 use Rattle.bl_app.specs.Refusals.{Refusal, bad_line, few_arguments}
-use Rattle.bl_app.specs.Requests.{InterpRequest, Request, interp}
+use Rattle.bl_words.specs.Requests.{InterpRequest, Request, interp}
 use Rattle.bl_app.specs.Running.{Opened, OpeningRefuses, Opens, line_is_bad, not_exported, opening, sizes_of, too_few, type_of}
 use Rattle.bl_app.specs.Stages.{IsLawfulStage}
 use Rattle.bl_app.specs.Status.{kind_of, of_deed}
 use Rattle.bl_app.specs.Worlds.{World, took, with_files}
 use Rattle.bl_app.specs.declared.status.Status.{Status}
+use Rattle.bl_app.proofs.CountLemmas.{work_done}
 use Rattle.bl_app.proofs.LoadingLemmas.{loading_lawful}
 use Rattle.bl_app.proofs.RunLemmas.{deed_of_run, one_within}
 use Rattle.bl_app.proofs.StageLemmas.{chain_lawful}
@@ -87,7 +88,7 @@ opening_lawful export bytes = record {
 }
 
 preparing_lawful : (request : InterpRequest) (start : List ℕ) → IsLawfulStage (preparing request start)
-preparing_lawful request start = chain_lawful (loading StandsAlone) (opening request.export start) (loading_lawful StandsAlone) (opening_lawful request.export start)
+preparing_lawful request start = chain_lawful (loading IsUnlabelled) (opening request.export start) (loading_lawful IsUnlabelled) (opening_lawful request.export start)
 
 -- the outcome within so many steps is one
 one_outcome : (opened : Opened) (steps : ℕ) (a b : Option Outcome) → HasOutcome opened steps a → HasOutcome opened steps b → a ≡ b
@@ -154,5 +155,5 @@ module _ (request : InterpRequest) where
   pub interprets : (asked : Option Request) (old new : World) (status : Status) → asked ≡ Some (interp request) → IsDone job_of asked old new status → Interprets request old new status
   interprets asked old new status is d =
       let same : d.request ≡ interp request = let theirs = d.is_request in cc in
-      interpreted old new status d.contents d.plan (subst (λ r. AreRead old.files (job_of r).reads d.contents) same d.read) (subst (λ r. (job_of r).Does d.contents d.plan) same d.does)
-      d.meant d.kept d.printed
+      let work = work_done request.modules (interp_job request) old.files d.contents d.plan (subst (λ r. AreRead old.files (job_of r).reads d.contents) same d.read) (subst (λ r. (job_of r).Does d.contents d.plan) same d.does) in
+      interpreted old new status d.contents d.plan work.0 work.1 d.meant d.kept d.printed

@@ -1,5 +1,7 @@
--- The stages of modules keep the laws; and what they make of one module.
-use Rattle.std.proofs.Common.{◌≡◌, ℕ, ◌⊎◌, inl, inr, List, [], ◌∷◌, Option, Some, None, refl, ap, sym, ◌∙◌, subst}
+-- The stages of modules keep the laws; and what is known of modules that pass them.
+use Rattle.std.proofs.Common.{◌≡◌, ℕ, ◌⊎◌, inl, inr, List, [], ◌∷◌, Option, Some, None, refl, ap, sym, slice_get, ◌∙◌, subst}
+use Rattle.std.specs.Prelude.{Ok, Err}
+use Rattle.std.specs.List.{AllZip}
 use Rattle.bl_base.proofs.Lists.{some_same}
 use Rattle.bl_base.specs.declared.quantity.Quantity.{Quantity}
 use Rattle.bl_wasm.specs.declared.linked.Tree.{Tree}
@@ -13,12 +15,12 @@ use Rattle.bl_validate.specs.Verdicts.{IsReason}
 use Rattle.bl_validate.specs.declared.verdict.Invalid.{Invalid}
 use Rattle.bl_validate.specs.declared.verdict.Invalid.TheVariants as reason
 use Rattle.bl_validate.proofs.Reasons.{one_reason}
-use Rattle.bl_link.specs.Alone.{alone}
-use Rattle.bl_app.specs.Form.{StandsAlone}
-use Rattle.bl_app.specs.Loading.{Accepted, Decodes, DecodingRefuses, IsPassed, IsRefusalOf, Named, Part, decoding, excess, linking, loading, no_module, not_supported, of_form, validation}
-use Rattle.bl_app.specs.Refusals.{Refusal, invalid_function, limit}
-use Rattle.bl_app.specs.Stages.{AllPass, IsLawfulStage, Stage, at_first, at_second, each, chain}
-use Rattle.bl_app.specs.Working.{of_module}
+use Rattle.bl_link.specs.Links.{links}
+use Rattle.bl_link.specs.declared.error.LinkError.{LinkError}
+use Rattle.bl_link.specs.declared.error.LinkError.TheVariants.{Unknown, Mismatch, ElementRange, DataRange, Limit, Memory}
+use Rattle.bl_app.specs.Loading.{Accepted, Decodes, DecodingRefuses, IsPassed, IsRefusalOf, Named, Part, Links, LinkingRefuses, decoding, excess, linked_parts, linking, loading, no_module, not_supported, of_form, validation, unknown, mismatched, element, segment, too_large}
+use Rattle.bl_app.specs.Refusals.{Refusal, data_range, element_range, invalid_function, limit, mismatched_import, unknown_import}
+use Rattle.bl_app.specs.Stages.{AllPass, IsLawfulStage, chain, each}
 use Rattle.bl_app.proofs.StageLemmas.{chain_lawful, each_lawful}
 
 -- ---- decoding
@@ -104,15 +106,60 @@ form_lawful Form = record {
   not_both = λ named passed refusal p r. r.other p.holds;
 }
 
-one_only : (a b : Named) (named : List Named) → named ≡ a ∷ [] → named ≡ b ∷ [] → a ≡ b
-one_only a b named e f = let same : a ∷ [] ≡ b ∷ [] = sym e ∙ f in cc
+-- linking answers one thing
+module _ (named : List Named) where
+  one_tree : (a b : Tree) → Links named a → Links named b → a ≡ b
+  one_tree a b p q = let same : Ok a ≡ Ok b = sym p.is_tree ∙ q.is_tree in cc
+
+  -- what is linked isn't refused
+  linked_against : (tree : Tree) (refusal : Refusal) → Links named tree → LinkingRefuses named refusal → ⊥
+  linked_against tree refusal p (unknown part import one e is r) = let is_tree = p.is_tree in cc
+  linked_against tree refusal p (mismatched part import one e is r) = let is_tree = p.is_tree in cc
+  linked_against tree refusal p (element part one e is r) = let is_tree = p.is_tree in cc
+  linked_against tree refusal p (segment part one e is r) = let is_tree = p.is_tree in cc
+  linked_against tree refusal p (too_large which value e r) = let is_tree = p.is_tree in cc
+
+  -- a module by its number is one
+  one_named : (part other : ℕ) (a b : Named) → part ≡ other → slice_get named part ≡ Some a → slice_get named other ≡ Some b → a.name ≡ b.name
+  one_named part other a b same is these = ap (λ n. n.name) (some_same a b (sym is ∙ (ap (slice_get named) same ∙ these)))
+
+  -- the error, as a refusal
+  abbrev Tells : LinkError → Refusal → Type 0
+  Tells (Unknown part import) refusal = (one : Named) × (slice_get named part ≡ Some one) × (refusal ≡ unknown_import one.name import)
+  Tells (Mismatch part import) refusal = (one : Named) × (slice_get named part ≡ Some one) × (refusal ≡ mismatched_import one.name import)
+  Tells (ElementRange part) refusal = (one : Named) × (slice_get named part ≡ Some one) × (refusal ≡ element_range one.name)
+  Tells (DataRange part) refusal = (one : Named) × (slice_get named part ≡ Some one) × (refusal ≡ data_range one.name)
+  Tells (Limit which value) refusal = refusal ≡ limit which value
+  Tells Memory refusal = ⊥
+
+  abbrev ToldError : Refusal → Type 0
+  ToldError refusal = (error : LinkError) × (links (linked_parts named) ≡ Err error) × Tells error refusal
+
+  told : (refusal : Refusal) → LinkingRefuses named refusal → ToldError refusal
+  told refusal (unknown part import one e is r) = (Unknown part import, e, (one, is, r))
+  told refusal (mismatched part import one e is r) = (Mismatch part import, e, (one, is, r))
+  told refusal (element part one e is r) = (ElementRange part, e, (one, is, r))
+  told refusal (segment part one e is r) = (DataRange part, e, (one, is, r))
+  told refusal (too_large which value e r) = (Limit which value, e, r)
+
+  one_telling : (error : LinkError) (a b : Refusal) → Tells error a → Tells error b → a ≡ b
+  one_telling (Unknown part import) a b r s = r.2 ∙ (ap (λ name. unknown_import name import) (one_named part part r.0 s.0 refl r.1 s.1) ∙ sym s.2)
+  one_telling (Mismatch part import) a b r s = r.2 ∙ (ap (λ name. mismatched_import name import) (one_named part part r.0 s.0 refl r.1 s.1) ∙ sym s.2)
+  one_telling (ElementRange part) a b r s = r.2 ∙ (ap element_range (one_named part part r.0 s.0 refl r.1 s.1) ∙ sym s.2)
+  one_telling (DataRange part) a b r s = r.2 ∙ (ap data_range (one_named part part r.0 s.0 refl r.1 s.1) ∙ sym s.2)
+  one_telling (Limit which value) a b r s = r ∙ sym s
+  one_telling Memory a b r s = absurd r
+
+  linking_refusal : (a b : Refusal) → LinkingRefuses named a → LinkingRefuses named b → a ≡ b
+  linking_refusal a b r s =
+      let first = told a r in
+      let second = told b s in
+      let same : Err first.0 ≡ Err second.0 = sym first.1 ∙ second.1 in
+      let errors : second.0 ≡ first.0 = cc in
+      one_telling first.0 a b first.2 (subst (λ error. Tells error b) errors second.2)
 
 linking_lawful : IsLawfulStage linking
-linking_lawful = record {
-  one_result = λ named a b p q. p.is_tree ∙ (ap (λ only. alone only.name only.tree) (one_only p.only q.only named p.is_only q.is_only) ∙ sym q.is_tree);
-  one_refusal = λ named a b r s. absurd r;
-  not_both = λ named tree refusal p r. r;
-}
+linking_lawful = record { one_result = one_tree; one_refusal = linking_refusal; not_both = linked_against }
 
 pub loading_lawful : (Form : Module → Type 0) → IsLawfulStage (loading Form)
 loading_lawful Form =
@@ -120,53 +167,42 @@ loading_lawful Form =
     let valid = chain_lawful (each validation) (chain (each (of_form Form)) linking) (each_lawful validation validation_lawful) formed in
     chain_lawful (each decoding) (chain (each validation) (chain (each (of_form Form)) linking)) (each_lawful decoding decoding_lawful) valid
 
--- ---- one module
+-- ---- modules that are loaded
 
-module _ (part : Part) where
-  pub one_loaded : (named : Named) (tree : Tree) → of_module.Passes part named → tree ≡ alone named.name named.tree → (loading StandsAlone).Passes (part ∷ []) tree
-  one_loaded named tree p e = (p.0 ∷ [], (p.1, tt), (p.2.0 ∷ [], (p.2.1, tt), (named ∷ [], (p.2.2, tt), record { only = named; is_only = refl; is_tree = e })))
+-- each of them, by its bytes
+abbrev pub IsAccepted : (Module → Type 0) → Part → Named → Type 0
+IsAccepted Form part named = (named.name ≡ part.name) × Accepted Form part.bytes named.tree
 
-  pub one_refused : (refusal : Refusal) → of_module.Refuses part refusal → (loading StandsAlone).Refuses (part ∷ []) refusal
-  one_refused refusal (at_first x) = at_first (inl x)
-  one_refused refusal (at_second n p (at_first x)) = at_second (n ∷ []) (p, tt) (at_first (inl x))
-  one_refused refusal (at_second n p (at_second m q x)) = at_second (n ∷ []) (p, tt) (at_second (m ∷ []) (q, tt) (at_first (inl x)))
-
-  pub accepted_of : (named : Named) → of_module.Passes part named → Accepted StandsAlone part.bytes named.tree
-  accepted_of named p =
-      let formed = ap (λ n. n.tree) (sym p.2.2.same) in
-      let same = ap (λ n. n.tree) (sym p.2.1.same) ∙ formed in
+accepted_of : (Form : Module → Type 0) (part : Part) (a b c : Named) → Decodes part a → IsPassed Typed a b → IsPassed Form b c → IsAccepted Form part c
+accepted_of Form part a b c decoded valid formed =
+    let last = ap (λ n. n.tree) (sym formed.same) in
+    let same = ap (λ n. n.tree) (sym valid.same) ∙ last in (
+      ap (λ n. n.name) formed.same ∙ (ap (λ n. n.name) valid.same ∙ decoded.same_name),
       record {
-        spelled = subst (Spells part.bytes) same p.1.spelled;
-        supported = subst IsSupported same p.1.supported;
-        within = subst (λ tree. first_excess tree ≡ None) same p.1.within;
-        valid = subst Typed same p.2.1.holds;
-        form = subst StandsAlone formed p.2.2.holds;
-      }
+        spelled = subst (Spells part.bytes) same decoded.spelled;
+        supported = subst IsSupported same decoded.supported;
+        within = subst (λ tree. first_excess tree ≡ None) same decoded.within;
+        valid = subst Typed same valid.holds;
+        form = subst Form last formed.holds;
+      },
+    )
 
--- one that passes a stage alone was alone before it
-only_one : {A B : Type 0} (stage : Stage A B) (xs : List A) (y : B) → AllPass stage xs (y ∷ []) → (x : A) × (xs ≡ x ∷ []) × stage.Passes x y
-only_one stage [] y p = absurd p
-only_one stage (x ∷ []) y p = (x, refl, p.0)
-only_one stage (x ∷ next ∷ xs) y p = absurd p.1
+pub all_accepted : (Form : Module → Type 0) (parts : List Part) (xs ys zs : List Named) → AllPass decoding parts xs → AllPass validation xs ys → AllPass (of_form Form) ys zs → AllZip (IsAccepted Form) parts zs
+all_accepted Form [] [] [] [] d v f = tt
+all_accepted Form [] [] [] (c ∷ zs) d v f = absurd f
+all_accepted Form [] [] (b ∷ ys) zs d v f = absurd v
+all_accepted Form [] (a ∷ xs) ys zs d v f = absurd d
+all_accepted Form (part ∷ parts) [] ys zs d v f = absurd d
+all_accepted Form (part ∷ parts) (a ∷ xs) [] zs d v f = absurd v
+all_accepted Form (part ∷ parts) (a ∷ xs) (b ∷ ys) [] d v f = absurd f
+all_accepted Form (part ∷ parts) (a ∷ xs) (b ∷ ys) (c ∷ zs) d v f = (accepted_of Form part a b c d.0 v.0 f.0, all_accepted Form parts xs ys zs d.1 v.1 f.1)
 
--- the one part of a linked tree, and its module
-pub record IsLinkedOf (parts : List Part) (tree : Tree) : Type 0 where
-  pub part : Part
-  pub is_part : parts ≡ part ∷ []
-  pub only : Named
-  pub accepted : Accepted StandsAlone part.bytes only.tree
-  pub is_tree : tree ≡ alone only.name only.tree
+-- a form within another one: what is loaded of modules of the one is of those of the other
+form_weaker : (Form Other : Module → Type 0) → ((tree : Module) → Form tree → Other tree) → (bs cs : List Named) → AllPass (of_form Form) bs cs → AllPass (of_form Other) bs cs
+form_weaker Form Other gives [] [] f = tt
+form_weaker Form Other gives [] (c ∷ cs) f = f
+form_weaker Form Other gives (b ∷ bs) [] f = f
+form_weaker Form Other gives (b ∷ bs) (c ∷ cs) f = (record { same = f.0.same; holds = gives b.tree f.0.holds }, form_weaker Form Other gives bs cs f.1)
 
-pub linked_of : (parts : List Part) (tree : Tree) → (loading StandsAlone).Passes parts tree → IsLinkedOf parts tree
-linked_of parts tree p =
-    let link = p.2.2.2 in
-    let formed = only_one (of_form StandsAlone) p.2.0 link.only (subst (AllPass (of_form StandsAlone) p.2.0) link.is_only p.2.2.1) in
-    let valid = only_one validation p.0 formed.0 (subst (AllPass validation p.0) formed.1 p.2.1) in
-    let decoded = only_one decoding parts valid.0 (subst (AllPass decoding parts) valid.1 p.1) in
-    record {
-      part = decoded.0;
-      is_part = decoded.1;
-      only = link.only;
-      accepted = accepted_of decoded.0 link.only (valid.0, decoded.2, (formed.0, valid.2, formed.2));
-      is_tree = link.is_tree;
-    }
+pub loading_weaker : (Form Other : Module → Type 0) → ((tree : Module) → Form tree → Other tree) → (parts : List Part) (tree : Tree) → (loading Form).Passes parts tree → (loading Other).Passes parts tree
+loading_weaker Form Other gives parts tree p = (p.0, p.1, (p.2.0, p.2.1, (p.2.2.0, form_weaker Form Other gives p.2.0 p.2.2.0 p.2.2.1, p.2.2.2)))

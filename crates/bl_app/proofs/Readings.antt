@@ -1,7 +1,10 @@
--- What reading a module's bytes answers, step by step.
-use Rattle.std.proofs.Common.{ℕ, List, refl, Bor}
-use Rattle.std.specs.Prelude.{Result, Ok, Err}
-use Rattle.bl_wasm.specs.Validity.{Typed}
+-- What the stages of modules answer, one module after another.
+use Rattle.std.proofs.Common.{◌≡◌, ℕ, zero, suc, List, [], ◌∷◌, length, map, Some, slice_get, refl, ap, sym, ◌∙◌, subst, Bor}
+use Rattle.std.proofs.lemmas.List.{length-map}
+use Rattle.std.proofs.lemmas.Option.{none-some}
+use Rattle.bl_base.proofs.Lists.{some_same}
+use Rattle.std.specs.Prelude.{Ok, Err}
+use Rattle.bl_wasm.specs.declared.linked.Tree.{Tree}
 use Rattle.bl_wasm.specs.declared.module.Module.{Module}
 use Rattle.bl_decode.specs.Decoding.{Answers}
 use Rattle.bl_decode.specs.declared.error.DecodeError.{DecodeError}
@@ -9,44 +12,96 @@ use Rattle.bl_decode.specs.declared.error.DecodeError.TheVariants as decode
 use Rattle.bl_validate.specs.Verdicts.{IsReason}
 use Rattle.bl_validate.specs.declared.verdict.Invalid.{Invalid}
 use Rattle.bl_validate.specs.declared.verdict.Invalid.TheVariants as invalid
-use Rattle.bl_app.specs.Form.{StandsAlone}
-use Rattle.bl_app.specs.Loading.{Decodes, Named, Part, excess, no_module, not_supported}
-use Rattle.bl_app.specs.Refusals.{unsupported}
-use Rattle.bl_app.specs.Stages.{at_first, at_second}
-use Rattle.bl_app.specs.Working.{IsStaged, decoding_error, of_module, validation_error}
+use Rattle.bl_link.specs.Faults.{NamesPart}
+use Rattle.bl_link.specs.Giving.{Gives}
+use Rattle.bl_link.specs.Links.{links, part_of}
+use Rattle.bl_link.specs.declared.part.Part.{Part as LinkPart}
+use Rattle.bl_link.proofs.FaultLemmas.{faults_name_parts}
+use Rattle.bl_labels.specs.Marked.{unlabelled}
+use Rattle.bl_link.specs.declared.error.LinkError.{LinkError}
+use Rattle.bl_link.specs.declared.error.LinkError.TheVariants as link
+use Rattle.bl_app.specs.Loading.{Decodes, Named, Part, decoding, excess, linked_parts, linking, no_module, not_supported, of_form, validation, unknown, mismatched, element, segment, too_large}
+use Rattle.bl_app.specs.Refusals.{data_range, element_range, mismatched_import, unknown_import, unsupported}
+use Rattle.bl_app.specs.Stages.{each}
+use Rattle.bl_app.specs.Working.{IsLinkingError, IsStaged, checked_in, decoding_error, validation_error}
+use Rattle.bl_app.specs.declared.load.Checked.{Checked}
+use Rattle.bl_app.specs.declared.refusal.Refusal.TheVariants as told
 use Rattle.bl_app.specs.declared.refusal.WorkError.{WorkError}
+use Rattle.bl_app.specs.declared.refusal.WorkError.TheVariants as error
+use Rattle.bl_app.proofs.StageLemmas.{Goes, goes_refused}
 
-module _ (name : Bor (List ℕ)) (bytes : List ℕ) where
-  abbrev part : Part
-  part = record { name = name.now; bytes = bytes }
+module _ {X : Type 0} (value : X → List Named) (name : Bor (List ℕ)) where
+  module _ (bytes : List ℕ) where
+    abbrev part : Part
+    part = record { name = name.now; bytes = bytes }
 
-  abbrev IsModule : Result Module WorkError → Type 0
-  IsModule result = IsStaged of_module (λ tree. record { name = name.now; tree = tree }) part result
+    -- bytes that aren't decoded, behind those that are
+    pub decoded : (whole rest : List Part) (done : List Named) → Goes decoding whole done (part ∷ rest) → (e : DecodeError) → Answers bytes (Err e) → IsStaged (each decoding) value whole (Err (decoding_error name e))
+    decoded whole rest done g decode.Malformed none = goes_refused decoding whole rest done part _ g (no_module none refl)
+    decoded whole rest done g decode.Unsupported is = goes_refused decoding whole rest done part _ g (not_supported is.0 is.1 is.2 refl)
+    decoded whole rest done g (decode.Limit which value) is = goes_refused decoding whole rest done part _ g (excess is.0 which value is.1 is.2 is.3 refl)
+    decoded whole rest done g decode.Memory is = tt
 
-  -- bytes that aren't decoded
-  pub decoded : (error : DecodeError) → Answers bytes (Err error) → IsModule (Err (decoding_error name error))
-  decoded decode.Malformed none = at_first (no_module none refl)
-  decoded decode.Unsupported is = at_first (not_supported is.0 is.1 is.2 refl)
-  decoded (decode.Limit which value) is = at_first (excess is.0 which value is.1 is.2 is.3 refl)
-  decoded decode.Memory is = tt
+    pub decodes : (tree : Module) → Answers bytes (Ok tree) → Decodes part (record { name = name.now; tree = tree })
+    decodes tree is = record { same_name = refl; spelled = is.0; supported = is.1; within = is.2 }
 
-  module _ (tree : Module) (is : Answers bytes (Ok tree)) where
+  module _ (tree : Module) where
     abbrev named : Named
     named = record { name = name.now; tree = tree }
 
-    decodes : Decodes part named
-    decodes = record { same_name = refl; spelled = is.0; supported = is.1; within = is.2 }
+    -- a module that isn't valid, behind those that are
+    pub validated : (whole rest : List Named) (done : List Named) → Goes validation whole done (named ∷ rest) → (reason : Invalid) → IsReason tree reason → IsStaged (each validation) value whole (Err (validation_error name reason))
+    validated whole rest done g (invalid.Function index) why =
+        goes_refused validation whole rest done named _ g (record { reason = invalid.Function index; is_reason = why; is_refusal = refl })
+    validated whole rest done g invalid.Module why = goes_refused validation whole rest done named _ g (record { reason = invalid.Module; is_reason = why; is_refusal = refl })
+    validated whole rest done g invalid.Memory why = tt
 
-    -- a module that isn't valid
-    pub validated : (reason : Invalid) → IsReason tree reason → IsModule (Err (validation_error name reason))
-    validated (invalid.Function index) why = at_second named decodes (at_first (record { reason = invalid.Function index; is_reason = why; is_refusal = refl }))
-    validated invalid.Module why = at_second named decodes (at_first (record { reason = invalid.Module; is_reason = why; is_refusal = refl }))
-    validated invalid.Memory why = tt
+    -- a module of another form, behind those of the form
+    pub other_form : (Form : Module → Type 0) (whole rest : List Named) (done : List Named) → Goes (of_form Form) whole done (named ∷ rest) → (Form tree → ⊥)
+        → IsStaged (each (of_form Form)) value whole (Err (error.Refused (told.Unsupported name)))
+    other_form Form whole rest done g not = goes_refused (of_form Form) whole rest done named (unsupported name.now) g (record { other = not; is_refusal = refl })
 
-    -- a module that doesn't stand alone
-    pub not_alone : Typed tree → (StandsAlone tree → ⊥) → of_module.Refuses part (unsupported name.now)
-    not_alone valid not = at_second named decodes (at_second named (record { same = refl; holds = valid }) (record { other = not; is_refusal = refl }))
+-- the name of a module by its number
+named_by : (checked : List Checked) (part : ℕ) (name : Bor (List ℕ)) → slice_get (map (λ (one : Checked). one.name) checked) part ≡ Some name → (one : Named) × (slice_get (map checked_in checked) part ≡ Some one) × (one.name ≡ name.now)
+named_by [] part name there = absurd (none-some name there)
+named_by (one ∷ checked) zero name there = (checked_in one, refl, ap (λ (n : Bor (List ℕ)). n.now) (some_same one.name name there))
+named_by (one ∷ checked) (suc part) name there = named_by checked part name there
 
-    -- one that does
-    pub stands_alone : Typed tree → StandsAlone tree → of_module.Passes part named
-    stands_alone valid form = (named, decodes, (named, record { same = refl; holds = valid }, record { same = refl; holds = form }))
+-- modules that aren't linked
+module _ {X : Type 0} (value : X → Tree) (checked : List Checked) where
+  abbrev all_named : List Named
+  all_named = map checked_in checked
+
+  pub not_linked : (fault : LinkError) (e : WorkError) → Gives (Err fault) (links (linked_parts all_named)) → IsLinkingError (map (λ (one : Checked). one.name) checked) fault e → IsStaged linking value all_named (Err e)
+  not_linked (link.Unknown part import) e is h =
+      let one = named_by checked part h.0 h.1 in
+      subst (λ e. IsStaged linking value all_named (Err e)) (sym h.2) (unknown part import one.0 is one.1 (ap (λ name. unknown_import name import) (sym one.2)))
+  not_linked (link.Mismatch part import) e is h =
+      let one = named_by checked part h.0 h.1 in
+      subst (λ e. IsStaged linking value all_named (Err e)) (sym h.2) (mismatched part import one.0 is one.1 (ap (λ name. mismatched_import name import) (sym one.2)))
+  not_linked (link.ElementRange part) e is h =
+      let one = named_by checked part h.0 h.1 in
+      subst (λ e. IsStaged linking value all_named (Err e)) (sym h.2) (element part one.0 is one.1 (ap element_range (sym one.2)))
+  not_linked (link.DataRange part) e is h =
+      let one = named_by checked part h.0 h.1 in
+      subst (λ e. IsStaged linking value all_named (Err e)) (sym h.2) (segment part one.0 is one.1 (ap data_range (sym one.2)))
+  not_linked (link.Limit which amount) e is h = subst (λ e. IsStaged linking value all_named (Err e)) (sym h) (too_large which amount is refl)
+  not_linked link.Memory e is h = subst (λ e. IsStaged linking value all_named (Err e)) (sym h) tt
+
+-- a fault of linking names one of the modules
+module _ (checked : List Checked) (names : List (Bor (List ℕ))) (parts : List LinkPart) (are_names : names ≡ map (λ (one : Checked). one.name) checked) (are_parts : parts ≡ linked_parts (map checked_in checked)) where
+  same_length : length parts ≡ length names
+  same_length =
+      ap length are_parts ∙ length-map (map checked_in checked) (λ (one : Named). part_of one.name one.tree unlabelled) ∙ length-map checked checked_in
+      ∙ sym (ap length are_names ∙ length-map checked (λ (one : Checked). one.name))
+
+  named_fault : (fault : LinkError) → links parts ≡ Err fault → NamesPart (length names) fault
+  named_fault fault is = subst (λ count. NamesPart count fault) same_length (faults_name_parts parts fault is)
+
+  pub names_module : (fault : LinkError) → Gives (Err fault) (links parts) → NamesPart (length names) fault
+  names_module (link.Unknown part import) is = named_fault (link.Unknown part import) is
+  names_module (link.Mismatch part import) is = named_fault (link.Mismatch part import) is
+  names_module (link.ElementRange part) is = named_fault (link.ElementRange part) is
+  names_module (link.DataRange part) is = named_fault (link.DataRange part) is
+  names_module (link.Limit which value) is = tt
+  names_module link.Memory is = tt

@@ -18,7 +18,7 @@ use Rattle.bl_app.specs.Executing.{HasPlainOutcome, RunDoes, RunRefuses, Runs, p
 use Rattle.bl_app.specs.Jobs.{AreRead, IsLawful, Plan, saying}
 use Rattle.bl_app.specs.Outcomes.{outcome_status}
 use Rattle.bl_app.specs.Refusals.{Refusal, bad_line, broken_rule, few_arguments}
-use Rattle.bl_app.specs.Requests.{Request, RunRequest, run}
+use Rattle.bl_words.specs.Requests.{Request, RunRequest, run}
 use Rattle.bl_app.specs.Stages.{IsLawfulStage, chain}
 use Rattle.bl_app.specs.Status.{kind_of, of_deed}
 use Rattle.bl_app.specs.Worlds.{World, took, with_files}

@@ -12,7 +12,7 @@ use Rattle.bl_trace.specs.declared.error.StartError.{StartError}
 use Rattle.bl_trace.specs.declared.error.StartError.TheVariants as start_reason
 use Rattle.bl_app.specs.Entering.{Entry, Finds, IsImaged, Starts, function_named, ill_formed, imaging, kinds_of, line_is_bad, no_image, pages_of, starting, too_few}
 use Rattle.bl_app.specs.Executing.{run_job}
-use Rattle.bl_app.specs.Requests.{RunRequest}
+use Rattle.bl_words.specs.Requests.{RunRequest}
 use Rattle.bl_app.specs.Stages.{at_first, at_second}
 use Rattle.bl_app.specs.Working.{IsPlainTold, IsStaged, IsWork, entered_in, image_error, start_error}
 use Rattle.bl_app.specs.declared.job.Plan.{Plan as PlanMade}

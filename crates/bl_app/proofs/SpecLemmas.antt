@@ -17,7 +17,7 @@ use Rattle.bl_app.specs.Commands.{job_of}
 use Rattle.bl_app.specs.Entering.{Entry, Finds, finding, imaging, kinds_of, pages_of}
 use Rattle.bl_app.specs.Jobs.{AreRead, IsLawful, Plan}
 use Rattle.bl_app.specs.Refusals.{Refusal, bad_directive}
-use Rattle.bl_app.specs.Requests.{Request, SpecRequest, spec}
+use Rattle.bl_words.specs.Requests.{Request, SpecRequest, spec}
 use Rattle.bl_app.specs.Speculating.{SpecDoes, SpecRefuses, Speculated, Speculates, StartsTraced, Traced, Traces, TracingRefuses, ended_of, no_directive, seen_of, spec_job, spec_plan, spec_status, speculating, starting_traced, state_of, too_many, tracing}
 use Rattle.bl_app.specs.Stages.{IsLawfulStage, chain}
 use Rattle.bl_app.specs.Status.{kind_of, of_deed}

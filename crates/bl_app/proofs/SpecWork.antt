@@ -18,7 +18,7 @@ use Rattle.bl_trace.specs.declared.error.TraceError.{TraceError}
 use Rattle.bl_trace.specs.declared.error.TraceError.TheVariants as trace_reason
 use Rattle.bl_app.specs.Entering.{Entered, Entry, Finds, IsImaged, Starts, function_named, imaging, starting}
 use Rattle.bl_app.specs.Executing.{plain_text}
-use Rattle.bl_app.specs.Requests.{SpecRequest}
+use Rattle.bl_words.specs.Requests.{SpecRequest}
 use Rattle.bl_app.specs.Speculating.{end_text, last_text, no_directive, spec_job, spec_plan}
 use Rattle.bl_app.specs.Stages.{at_first, at_second}
 use Rattle.bl_app.specs.Working.{IsStaged, IsTraced, IsWork, entered_in, plan_in, speculated_in, trace_error}

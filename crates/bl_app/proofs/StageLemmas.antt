@@ -1,5 +1,5 @@
 -- Stages that keep the laws, one after another and on each of a list.
-use Rattle.std.proofs.Common.{◌≡◌, List, [], ◌∷◌, refl, inl, inr, subst}
+use Rattle.std.proofs.Common.{◌≡◌, List, [], ◌∷◌, ◌++◌, append-nil, append_assoc, refl, inl, inr, subst, sym}
 use Rattle.bl_app.specs.Refusals.{Refusal}
 use Rattle.bl_app.specs.Stages.{AllPass, FirstRefused, IsLawfulStage, Stage, ThenRefuses, at_first, at_second, chain, each}
 
@@ -47,3 +47,27 @@ module _ {A B : Type 0} (stage : Stage A B) (s : IsLawfulStage stage) where
 
   pub each_lawful : IsLawfulStage (each stage)
   each_lawful = record { one_result = each_result; one_refusal = each_refusal; not_both = each_not_both }
+
+-- a stage on one after another: what is left of the list decides, and what the first ones were passed on as stands before it
+module _ {A B : Type 0} (stage : Stage A B) where
+  pub record Goes (whole : List A) (done : List B) (rest : List A) : Type 0 where
+    pub pass : (ys : List B) → AllPass stage rest ys → AllPass stage whole (done ++ ys)
+    pub fail : (refusal : Refusal) → FirstRefused stage rest refusal → FirstRefused stage whole refusal
+
+  pub goes_begins : (whole : List A) → Goes whole [] whole
+  goes_begins whole = record { pass = λ ys p. p; fail = λ refusal h. h }
+
+  pub goes_on : (whole rest : List A) (done : List B) (x : A) (y : B) → Goes whole done (x ∷ rest) → stage.Passes x y → Goes whole (done ++ y ∷ []) rest
+  goes_on whole rest done x y g p = record {
+    pass = λ ys q. subst (AllPass stage whole) (regrouped done y ys) (g.pass (y ∷ ys) (p, q));
+    fail = λ refusal h. g.fail refusal (inr (y, p, h));
+  }
+    where
+      regrouped : (done : List B) (y : B) (ys : List B) → done ++ (y ∷ ys) ≡ (done ++ y ∷ []) ++ ys
+      regrouped done y ys = simp append_assoc
+
+  pub goes_refused : (whole rest : List A) (done : List B) (x : A) (refusal : Refusal) → Goes whole done (x ∷ rest) → stage.Refuses x refusal → FirstRefused stage whole refusal
+  goes_refused whole rest done x refusal g h = g.fail refusal (inl h)
+
+  pub goes_ends : (whole rest : List A) (done : List B) → rest ≡ [] → Goes whole done rest → AllPass stage whole done
+  goes_ends whole rest done none g = subst (AllPass stage whole) (append-nil done) (g.pass [] (subst (λ r. AllPass stage r []) (sym none) tt))

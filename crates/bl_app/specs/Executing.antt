@@ -8,7 +8,7 @@ use Rattle.bl_app.specs.Interpreting.{start_read}
 use Rattle.bl_app.specs.Jobs.{AreRead, Job, Plan, Read, saying}
 use Rattle.bl_app.specs.Outcomes.{outcome_status, outcome_text}
 use Rattle.bl_app.specs.Refusals.{Refusal}
-use Rattle.bl_app.specs.Requests.{RunRequest}
+use Rattle.bl_words.specs.Requests.{RunRequest}
 use Rattle.bl_app.specs.Worlds.{World, took}
 use Rattle.bl_app.specs.declared.status.Status.{Status}
 

@@ -1,34 +1,83 @@
 -- `harden`: its job, and what is said where it is done.
-use Rattle.std.specs.Prelude.{◌≡◌, ℕ, List, [], ◌∷◌, false}
+use Rattle.std.specs.Prelude.{◌≡◌, ◌≤◌, ℕ, Bool, IsTrue, List, [], ◌∷◌, length}
+use Rattle.bl_base.specs.Quantity.{limit_of}
+use Rattle.bl_base.specs.declared.quantity.Quantity.TheVariants as quantity
 use Rattle.bl_outside.specs.Shelf.{with_file}
 use Rattle.bl_cmd.specs.Sites.{is_protected}
+use Rattle.bl_cmd.specs.declared.definitions.ProgramParts.{ProgramParts as Program}
+use Rattle.bl_image.specs.Image.{Image}
+use Rattle.bl_graph.specs.Certificates.{Certifies}
+use Rattle.bl_graph.specs.declared.certificate.Certificate.{Certificate}
+use Rattle.bl_transient.specs.Transient.{Passes}
+use Rattle.bl_cut.specs.Least.{Least}
+use Rattle.bl_cut.specs.Marks.{protected}
+use Rattle.bl_witness.specs.Texts.{certificate_text}
+use Rattle.bl_witness.specs.Verdicts.{AreLightest}
+use Rattle.bl_report.specs.Reports.{DeclaresNoSecret, HasReason, report_text}
 use Rattle.bl_app.specs.Building.{AreCompiled, Built, compiling_job}
+use Rattle.bl_app.specs.Form.{IsUnlabelled}
 use Rattle.bl_app.specs.Jobs.{AreRead, FileIs, Job, Plan}
-use Rattle.bl_app.specs.Requests.{HardenRequest}
-use Rattle.bl_app.specs.Texts.{empty_certificate, report_text}
+use Rattle.bl_app.specs.Meaning.{SameOutcomes}
+use Rattle.bl_words.specs.Requests.{HardenRequest}
 use Rattle.bl_app.specs.Worlds.{World, took}
 use Rattle.bl_app.specs.declared.status.Status.TheVariants.{Done}
 
--- keeping the certificate without paths and then the image of a program, and printing the program's report
-abbrev pub harden_plan : HardenRequest → Built → Plan
-harden_plan request built = record {
+-- a program with protects, a certificate, and the program's image
+pub record Hardened : Type 0 where
+  pub program : Program
+  pub certificate : Certificate
+  pub image : List ℕ
+
+-- the program is another one with exactly the least choice of protects; the certificate shows that no choice of less weight passes;
+-- the image is the program's. There is one such program; there may be several such certificates
+pub record IsHardened (bare : Program) (hardened : Hardened) : Type 0 where
+  pub set : ℕ → Bool
+  pub least : Least bare set
+  pub is_program : hardened.program ≡ protected set bare
+  pub certified : Certifies hardened.program hardened.certificate
+  pub image : Image hardened.program hardened.image
+
+-- keeping the text of the certificate and then the image, and printing the report
+abbrev pub harden_plan : HardenRequest → Hardened → Plan
+harden_plan request hardened = record {
   status = Done;
-  keeps = (request.certificate, empty_certificate) ∷ (request.image, built.image) ∷ [];
-  text = report_text built.program;
+  keeps = (request.certificate, certificate_text hardened.certificate) ∷ (request.image, hardened.image) ∷ [];
+  text = report_text hardened.program hardened.certificate;
 }
 
-abbrev pub harden_job : HardenRequest → Job
-harden_job request = compiling_job request.modules (request.certificate ∷ request.image ∷ []) (harden_plan request)
+-- a plan for a program: it is hardened, with some certificate
+pub record HardenPlans (request : HardenRequest) (built : Built) (plan : Plan) : Type 0 where
+  pub hardened : Hardened
+  pub is_hardened : IsHardened built.program hardened
+  pub is_plan : plan ≡ harden_plan request hardened
 
--- the modules are read and compiled; the certificate without paths and the image of their program are kept, and nothing else is
--- changed; the report is printed; the program has no protects, and it ends exactly as the linked tree does
+abbrev pub harden_job : HardenRequest → Job
+harden_job request =
+    compiling_job IsUnlabelled request.modules (request.certificate ∷ request.image ∷ []) (HardenPlans request)
+
+-- ---- what is said
+
+-- a protected program's protects pass, no set of sites of less weight does, and each one has a reason
+pub record AreFewest (hardened : Hardened) : Type 0 where
+  pub passes : Passes hardened.program (is_protected hardened.program)
+  pub lightest : AreLightest hardened.program
+  pub reasons : (s : ℕ) → IsTrue (is_protected hardened.program s) → HasReason hardened.program hardened.certificate s
+
+-- the modules are read and compiled, and the program is hardened; it ends exactly as the linked tree does, and its protects are the
+-- fewest; it declares no secret. The text of the certificate and the image are kept, and nothing else is changed; the report is printed
 pub record Hardens (request : HardenRequest) (old new : World) : Type 0 where
   pub contents : List (List ℕ)
   pub built : Built
+  pub hardened : Hardened
   pub read : AreRead old.files (harden_job request).reads contents
   pub compiled : AreCompiled request.modules contents built
-  pub kept : new.files ≡ with_file (with_file old.files request.certificate empty_certificate) request.image built.image
-  pub image : FileIs new.files request.image built.image
-  pub certificate : FileIs new.files request.certificate empty_certificate
-  pub printed : new.sink.taken ≡ took old.sink.taken (report_text built.program)
-  pub unprotected : (position : ℕ) → is_protected built.program position ≡ false
+  pub is_hardened : IsHardened built.program hardened
+  pub same_outcomes : SameOutcomes compiled.tree hardened.program
+  pub fewest : AreFewest hardened
+  pub public : DeclaresNoSecret hardened.program
+  pub short : length hardened.image ≤ limit_of quantity.Image
+  pub kept : new.files
+      ≡ with_file (with_file old.files request.certificate (certificate_text hardened.certificate)) request.image hardened.image
+  pub image : FileIs new.files request.image hardened.image
+  pub certificate : FileIs new.files request.certificate (certificate_text hardened.certificate)
+  pub printed : new.sink.taken ≡ took old.sink.taken (report_text hardened.program hardened.certificate)

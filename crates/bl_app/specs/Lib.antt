@@ -1,6 +1,7 @@
 pub mod Building
 pub mod Causes
 pub mod Commands
+pub mod Counting
 pub mod Ends
 pub mod Entering
 pub mod Executing
@@ -13,12 +14,10 @@ pub mod Lowering
 pub mod Meaning
 pub mod Outcomes
 pub mod Refusals
-pub mod Requests
 pub mod Running
 pub mod Speculating
 pub mod Stages
 pub mod Status
 pub mod Texts
-pub mod Words
 pub mod Working
 pub mod Worlds

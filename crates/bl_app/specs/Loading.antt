@@ -1,9 +1,10 @@
 -- From the bytes of modules to the linked tree, in stages: all are decoded, then all validated, then the form of each is tested, and
 -- then they are linked.
-use Rattle.std.specs.Prelude.{◌≡◌, ℕ, List, [], ◌∷◌, map, Some, None}
+use Rattle.std.specs.Prelude.{◌≡◌, ℕ, List, map, slice_get, Some, None, Ok, Err}
 use Rattle.std.specs.List.{zip}
 use Rattle.bl_base.specs.declared.quantity.Quantity.{Quantity}
 use Rattle.bl_base.specs.declared.quantity.Quantity.TheVariants as quantity
+use Rattle.bl_wasm.specs.Linked.{IsLinked}
 use Rattle.bl_wasm.specs.Modules.{Spells}
 use Rattle.bl_wasm.specs.Validity.{Typed}
 use Rattle.bl_wasm.specs.declared.linked.Tree.{Tree}
@@ -13,10 +14,13 @@ use Rattle.bl_decode.specs.Supported.{IsSupported}
 use Rattle.bl_validate.specs.Verdicts.{IsReason}
 use Rattle.bl_validate.specs.declared.verdict.Invalid.{Invalid}
 use Rattle.bl_validate.specs.declared.verdict.Invalid.TheVariants as reason
-use Rattle.bl_link.specs.Alone.{alone}
+use Rattle.bl_labels.specs.Marked.{unlabelled}
+use Rattle.bl_link.specs.Links.{links, part_of}
+use Rattle.bl_link.specs.declared.part.Part.{Part as LinkPart}
+use Rattle.bl_link.specs.declared.error.LinkError.TheVariants.{Unknown, Mismatch, ElementRange, DataRange, Limit}
 use Rattle.bl_app.specs.Jobs.{Read}
-use Rattle.bl_app.specs.Refusals.{Refusal, malformed, invalid_function, invalid_module, unsupported, limit}
-use Rattle.bl_app.specs.Requests.{module_name}
+use Rattle.bl_app.specs.Refusals.{Refusal, malformed, invalid_function, invalid_module, unsupported, limit, unknown_import, mismatched_import, element_range, data_range}
+use Rattle.bl_words.specs.Requests.{module_name}
 use Rattle.bl_app.specs.Stages.{Stage, chain, each}
 
 -- a module's name and its bytes
@@ -88,20 +92,39 @@ of_form Form = record { Passes = IsPassed Form; Refuses = FormRefuses Form }
 
 -- ---- all modules
 
--- the tree of one module alone; no more are linked, and nothing is refused
-pub record LinksAlone (named : List Named) (tree : Tree) : Type 0 where
-  pub only : Named
-  pub is_only : named ≡ only ∷ []
-  pub is_tree : tree ≡ alone only.name only.tree
+-- modules as parts to be linked, which name nothing secret
+abbrev pub linked_parts : List Named → List LinkPart
+linked_parts named = map (λ each. part_of each.name each.tree unlabelled) named
+
+-- the modules are linked to that tree, which can be run
+pub record Links (named : List Named) (tree : Tree) : Type 0 where
+  pub is_tree : links (linked_parts named) ≡ Ok tree
+  pub can_run : IsLinked tree
+
+-- why modules aren't linked, with the name of the module whose import or segment it is
+pub data LinkingRefuses (named : List Named) (refusal : Refusal) : Type 0 where
+  -- nothing before a module is exported under the names of its import
+  unknown : (part import : ℕ) (one : Named) → links (linked_parts named) ≡ Err (Unknown part import) → slice_get named part ≡ Some one
+      → refusal ≡ unknown_import one.name import → LinkingRefuses named refusal
+  -- what is doesn't match
+  mismatched : (part import : ℕ) (one : Named) → links (linked_parts named) ≡ Err (Mismatch part import) → slice_get named part ≡ Some one
+      → refusal ≡ mismatched_import one.name import → LinkingRefuses named refusal
+  -- an element segment, or else a data segment, is out of range
+  element : (part : ℕ) (one : Named) → links (linked_parts named) ≡ Err (ElementRange part) → slice_get named part ≡ Some one
+      → refusal ≡ element_range one.name → LinkingRefuses named refusal
+  segment : (part : ℕ) (one : Named) → links (linked_parts named) ≡ Err (DataRange part) → slice_get named part ≡ Some one
+      → refusal ≡ data_range one.name → LinkingRefuses named refusal
+  -- the modules together are too large
+  too_large : (which : Quantity) (value : ℕ) → links (linked_parts named) ≡ Err (Limit which value) → refusal ≡ limit which value → LinkingRefuses named refusal
 
 abbrev pub linking : Stage (List Named) Tree
-linking = record { Passes = LinksAlone; Refuses = λ named refusal. ⊥ }
+linking = record { Passes = Links; Refuses = LinkingRefuses }
 
 -- the linked tree of modules of a form
 abbrev pub loading : (Module → Type 0) → Stage (List Part) Tree
 loading Form = chain (each decoding) (chain (each validation) (chain (each (of_form Form)) linking))
 
--- ---- one module
+-- ---- modules that are linked
 
 -- the bytes spell that module, which is supported, within the limits, valid and of the form
 pub record Accepted (Form : Module → Type 0) (bytes : List ℕ) (tree : Module) : Type 0 where

@@ -13,6 +13,14 @@ pub data Refusal : Type 0 where
   unsupported : (name : List ℕ) → Refusal
   -- a quantity exceeds its number
   limit : (which : Quantity) → (value : ℕ) → Refusal
+  -- no module before this one is of the name that an import of it has and exports anything of the name: the import's number, from 0
+  unknown_import : (name : List ℕ) → (import : ℕ) → Refusal
+  -- what an import of a module is given doesn't match: the import's number, from 0
+  mismatched_import : (name : List ℕ) → (import : ℕ) → Refusal
+  -- an element segment of a module doesn't lie in its table
+  element_range : (name : List ℕ) → Refusal
+  -- a data segment of a module doesn't lie in the first bytes of its memory
+  data_range : (name : List ℕ) → Refusal
   -- the bytes of a file are the image of no program
   not_an_image : Refusal
   -- the program of an image isn't well-formed: the first rule that it breaks, and the position where it does

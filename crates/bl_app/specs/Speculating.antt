@@ -18,7 +18,7 @@ use Rattle.bl_app.specs.Executing.{image_read, plain_text}
 use Rattle.bl_app.specs.Interpreting.{start_read}
 use Rattle.bl_app.specs.Jobs.{AreRead, Job, Plan, Read, saying}
 use Rattle.bl_app.specs.Refusals.{Refusal, bad_directive, limit}
-use Rattle.bl_app.specs.Requests.{SpecRequest}
+use Rattle.bl_words.specs.Requests.{SpecRequest}
 use Rattle.bl_app.specs.Stages.{Stage, chain}
 use Rattle.bl_app.specs.Texts.{line}
 use Rattle.bl_app.specs.Worlds.{World, took}

@@ -1,8 +1,8 @@
 -- The exit statuses: their numbers, and what each says of a call.
 use Rattle.std.specs.Prelude.{◌≡◌, ℕ}
-use Rattle.bl_app.specs.Refusals.{Refusal, malformed, invalid_function, invalid_module, unsupported, limit, not_an_image, broken_rule, no_export, bad_directive, bad_line, few_arguments}
+use Rattle.bl_app.specs.Refusals.{Refusal, malformed, invalid_function, invalid_module, unsupported, limit, unknown_import, mismatched_import, element_range, data_range, not_an_image, broken_rule, no_export, bad_directive, bad_line, few_arguments}
 use Rattle.bl_app.specs.declared.status.Status.{Status}
-use Rattle.bl_app.specs.declared.status.Status.TheVariants.{Done, Usage, ReadFault, WriteFault, Malformed, Invalid, Unsupported, Limit, Memory, Image, Trace, Start, Trapped, Spent, Stuck}
+use Rattle.bl_app.specs.declared.status.Status.TheVariants.{Done, Usage, ReadFault, WriteFault, Malformed, Invalid, Unsupported, Limit, Link, Memory, Image, Trace, Start, Trapped, Spent, Stuck}
 
 abbrev pub code_of : Status → ℕ
 code_of Done = 0
@@ -13,6 +13,7 @@ code_of Malformed = 5
 code_of Invalid = 6
 code_of Unsupported = 7
 code_of Limit = 8
+code_of Link = 9
 code_of Memory = 11
 code_of Image = 12
 code_of Trace = 14
@@ -28,6 +29,10 @@ status_of (invalid_function name index) = Invalid
 status_of (invalid_module name) = Invalid
 status_of (unsupported name) = Unsupported
 status_of (limit which value) = Limit
+status_of (unknown_import name import) = Link
+status_of (mismatched_import name import) = Link
+status_of (element_range name) = Link
+status_of (data_range name) = Link
 status_of not_an_image = Image
 status_of (broken_rule rule position) = Image
 status_of no_export = Start
@@ -54,6 +59,7 @@ kind_of Malformed = of_refusal
 kind_of Invalid = of_refusal
 kind_of Unsupported = of_refusal
 kind_of Limit = of_refusal
+kind_of Link = of_refusal
 kind_of Memory = of_memory
 kind_of Image = of_refusal
 kind_of Trace = of_refusal

@@ -1,40 +1,16 @@
 -- The texts that are printed and written. Every line ends with a line feed.
-use Rattle.std.specs.Prelude.{ℕ, Bool, List, [], ◌∷◌, ◌++◌, length, codes, count_by}
+use Rattle.std.specs.Prelude.{ℕ, List, [], ◌∷◌, ◌++◌, length, codes}
 use Rattle.std.specs.Fmt.{decimal}
-use Rattle.std.specs.Option.{is_some}
 use Rattle.bl_base.specs.Quantity.{word_of}
-use Rattle.bl_cmd.specs.Sites.{mark_of}
-use Rattle.bl_cmd.specs.declared.command.Command.{Command}
 use Rattle.bl_cmd.specs.declared.definitions.ProgramParts.{ProgramParts as Program}
-use Rattle.bl_app.specs.Refusals.{Refusal, malformed, invalid_function, invalid_module, unsupported, limit, not_an_image, broken_rule, no_export, bad_directive, bad_line, few_arguments}
+use Rattle.bl_app.specs.Refusals.{Refusal, malformed, invalid_function, invalid_module, unsupported, limit, unknown_import, mismatched_import, element_range, data_range, not_an_image, broken_rule, no_export, bad_directive, bad_line, few_arguments}
 
 abbrev pub line : List ℕ → List ℕ
 line text = text ++ 10 ∷ []
 
--- a command that writes a variable whose value can be protected
-unfoldable pub is_site : Command → Bool
-is_site command = is_some (mark_of command)
-
--- the number of sites of a program
-abbrev pub sites : Program → ℕ
-sites program = count_by is_site program.commands
-
--- the report of a program that has no protects and declares no secret
-abbrev pub report_text : Program → List ℕ
-report_text program =
-    line (codes "functions " ++ decimal (length program.functions))
-    ++ line (codes "commands " ++ decimal (length program.commands))
-    ++ line (codes "sites " ++ decimal (sites program))
-    ++ line (codes "protects 0 weight 0")
-    ++ line (codes "constant-time yes")
-
 -- the number of a program's commands
 abbrev pub commands_text : Program → List ℕ
 commands_text program = line (codes "commands " ++ decimal (length program.commands))
-
--- the certificate without paths
-abbrev pub empty_certificate : List ℕ
-empty_certificate = codes "{\"paths\":[],\"weight\":0}"
 
 abbrev pub usage_text : List ℕ
 usage_text = line (codes "usage: blade COMMAND ARGUMENTS")
@@ -46,6 +22,10 @@ refusal_text (invalid_function name index) = line (codes "invalid: " ++ name ++ 
 refusal_text (invalid_module name) = line (codes "invalid: " ++ name ++ codes " module")
 refusal_text (unsupported name) = line (codes "unsupported: " ++ name)
 refusal_text (limit which value) = line (codes "limit: " ++ word_of which ++ codes " " ++ decimal value)
+refusal_text (unknown_import name import) = line (codes "link: " ++ name ++ (codes " import " ++ decimal import ++ codes " unknown"))
+refusal_text (mismatched_import name import) = line (codes "link: " ++ name ++ (codes " import " ++ decimal import ++ codes " mismatch"))
+refusal_text (element_range name) = line (codes "link: " ++ name ++ codes " element")
+refusal_text (data_range name) = line (codes "link: " ++ name ++ codes " data")
 refusal_text not_an_image = line (codes "image: not an image")
 refusal_text (broken_rule rule position) = line (codes "image: rule " ++ decimal rule ++ codes " at " ++ decimal position)
 refusal_text no_export = line (codes "start: export")

@@ -1,5 +1,5 @@
 -- What the functions of the work answer.
-use Rattle.std.specs.Prelude.{◌≡◌, ◌≤◌, ℕ, length, List, [], ◌∷◌, map, Option, Result, Ok, Err, Vec}
+use Rattle.std.specs.Prelude.{◌≡◌, ◌≤◌, ℕ, length, List, [], ◌∷◌, map, slice_get, Option, Some, Result, Ok, Err, Vec}
 use Rattle.std.proofs.Common.{Bor}
 use Rattle.std.specs.declared.alloc.Global.{Global}
 use Rattle.bl_base.specs.Quantity.{limit_of}
@@ -14,6 +14,8 @@ use Rattle.bl_outside.specs.declared.shelf.ShelfError.{ShelfError}
 use Rattle.bl_outside.specs.declared.shelf.ShelfError.TheVariants as shelf
 use Rattle.bl_decode.specs.declared.error.DecodeError.{DecodeError}
 use Rattle.bl_decode.specs.declared.error.DecodeError.TheVariants as decode
+use Rattle.bl_link.specs.declared.error.LinkError.{LinkError}
+use Rattle.bl_link.specs.declared.error.LinkError.TheVariants as link
 use Rattle.bl_validate.specs.declared.verdict.Invalid.{Invalid}
 use Rattle.bl_validate.specs.declared.verdict.Invalid.TheVariants as invalid
 use Rattle.bl_rob.specs.declared.directive.Directive.{Directive}
@@ -27,24 +29,28 @@ use Rattle.bl_wasm.specs.declared.linked.Tree.{Tree}
 use Rattle.bl_app.specs.Building.{Built}
 use Rattle.bl_app.specs.Entering.{Entered, Entry}
 use Rattle.bl_app.specs.Executing.{HasPlainOutcome, plain_text}
-use Rattle.bl_app.specs.Form.{StandsAlone}
-use Rattle.bl_app.specs.Interpreting.{HasOutcome}
+use Rattle.bl_app.specs.Hardening.{Hardened}
+use Rattle.bl_app.specs.Interpreting.{HasOutcome, printed_of}
 use Rattle.bl_app.specs.Jobs.{AreRead, Job, Plan, Read, ReadsName, RefusesLength, saying}
-use Rattle.bl_app.specs.Loading.{Named, Part, decoding, of_form, validation}
-use Rattle.bl_app.specs.Outcomes.{outcome_status, outcome_text}
-use Rattle.bl_app.specs.Refusals.{Refusal, malformed, invalid_function, invalid_module, unsupported, limit, not_an_image, broken_rule, no_export, bad_directive, bad_line, few_arguments}
-use Rattle.bl_app.specs.Running.{Opened}
+use Rattle.bl_app.specs.Loading.{Named}
+use Rattle.bl_app.specs.Outcomes.{outcome_status}
+use Rattle.bl_app.specs.Refusals.{Refusal, malformed, invalid_function, invalid_module, unsupported, limit, unknown_import, mismatched_import, element_range, data_range, not_an_image, broken_rule, no_export, bad_directive, bad_line, few_arguments}
+use Rattle.bl_words.specs.Requests.{InterpRequest}
+use Rattle.bl_app.specs.Running.{Opened, OpeningRefuses, Opens}
 use Rattle.bl_app.specs.Speculating.{Speculated, TracingRefuses}
-use Rattle.bl_app.specs.Stages.{Stage, chain}
+use Rattle.bl_app.specs.Stages.{Stage}
 use Rattle.bl_app.specs.Status.{status_of}
 use Rattle.bl_app.specs.Texts.{read_fault_text, refusal_text}
 use Rattle.bl_app.specs.Worlds.{Said, SaidIfRoom, SameShelf, Stream, Unchanged, World}
 use Rattle.bl_app.specs.declared.build.Built.{Built as BuiltMade}
 use Rattle.bl_app.specs.declared.entry.Entry.{Entry as EntryFound}
+use Rattle.bl_app.specs.declared.harden.Hardened.{Hardened as HardenedMade}
 use Rattle.bl_app.specs.declared.interp.Opening.{Opening}
 use Rattle.bl_app.specs.declared.job.Keep.{Keep}
 use Rattle.bl_app.specs.declared.job.Plan.{Plan as PlanMade}
 use Rattle.bl_app.specs.declared.job.Read.{Read as ReadAsked}
+use Rattle.bl_app.specs.declared.load.Checked.{Checked}
+use Rattle.bl_app.specs.declared.load.Spelled.{Spelled}
 use Rattle.bl_app.specs.declared.refusal.Refusal.{Refusal as RefusalTold}
 use Rattle.bl_app.specs.declared.refusal.Refusal.TheVariants as told
 use Rattle.bl_app.specs.declared.refusal.WorkError.{WorkError}
@@ -72,6 +78,10 @@ refusal_in (told.InvalidFunction name index) = invalid_function name.now index
 refusal_in (told.InvalidModule name) = invalid_module name.now
 refusal_in (told.Unsupported name) = unsupported name.now
 refusal_in (told.Limit which value) = limit which value
+refusal_in (told.UnknownImport name import) = unknown_import name.now import
+refusal_in (told.MismatchedImport name import) = mismatched_import name.now import
+refusal_in (told.ElementRange name) = element_range name.now
+refusal_in (told.DataRange name) = data_range name.now
 refusal_in told.NotAnImage = not_an_image
 refusal_in (told.BrokenRule rule position) = broken_rule rule position
 refusal_in told.NoExport = no_export
@@ -120,9 +130,12 @@ IsWork job contents (Ok plan) = job.Does contents (plan_in plan)
 IsWork job contents (Err (error.Refused refusal)) = job.Against contents (refusal_in refusal)
 IsWork job contents (Err error.Memory) = Unit {0}
 
--- the stages of one module by itself
-abbrev pub of_module : Stage Part Named
-of_module = chain decoding (chain validation (of_form StandsAlone))
+-- modules under their names
+abbrev pub spelled_in : Spelled → Named
+spelled_in spelled = record { name = spelled.name.now; tree = spelled.tree }
+
+abbrev pub checked_in : Checked → Named
+checked_in checked = record { name = checked.name.now; tree = checked.wasm }
 
 -- an error of decoding a module of that name
 abbrev pub decoding_error : Bor (List ℕ) → DecodeError → WorkError
@@ -136,6 +149,15 @@ abbrev pub validation_error : Bor (List ℕ) → Invalid → WorkError
 validation_error name (invalid.Function index) = error.Refused (told.InvalidFunction name index)
 validation_error name invalid.Module = error.Refused (told.InvalidModule name)
 validation_error name invalid.Memory = error.Memory
+
+-- an error of linking modules of those names, by the name of the part that it names
+abbrev pub IsLinkingError : List (Bor (List ℕ)) → LinkError → WorkError → Type 0
+IsLinkingError names (link.Unknown part import) e = (name : Bor (List ℕ)) × (slice_get names part ≡ Some name) × (e ≡ error.Refused (told.UnknownImport name import))
+IsLinkingError names (link.Mismatch part import) e = (name : Bor (List ℕ)) × (slice_get names part ≡ Some name) × (e ≡ error.Refused (told.MismatchedImport name import))
+IsLinkingError names (link.ElementRange part) e = (name : Bor (List ℕ)) × (slice_get names part ≡ Some name) × (e ≡ error.Refused (told.ElementRange name))
+IsLinkingError names (link.DataRange part) e = (name : Bor (List ℕ)) × (slice_get names part ≡ Some name) × (e ≡ error.Refused (told.DataRange name))
+IsLinkingError names (link.Limit which value) e = e ≡ error.Refused (told.Limit which value)
+IsLinkingError names link.Memory e = e ≡ error.Memory
 
 -- an error of reading a start file
 abbrev pub start_error : StartError → WorkError
@@ -176,11 +198,21 @@ pub record IsPlainTold (entered : Entered) (steps : ℕ) (plan : PlanMade) : Typ
 pub record IsTold (opened : Opened) (steps : ℕ) (plan : PlanMade) : Type 0 where
   pub outcome : Option Outcome
   pub within : HasOutcome opened steps outcome
-  pub is_plan : plan_in plan ≡ saying (outcome_status outcome) (outcome_text opened.type.results [] steps outcome)
+  pub is_plan : plan_in plan ≡ saying (outcome_status outcome) (printed_of opened steps outcome)
+
+-- what `interp` does with the linked tree of its modules: what it prints, or why the export or the start is refused
+abbrev pub IsRunOf : InterpRequest → List ℕ → Tree → Result PlanMade WorkError → Type 0
+IsRunOf request start tree (Ok plan) = (opened : Opened) × Opens request.export start tree opened × IsTold opened request.steps plan
+IsRunOf request start tree (Err (error.Refused refusal)) = OpeningRefuses request.export start tree (refusal_in refusal)
+IsRunOf request start tree (Err error.Memory) = Unit {0}
 
 -- a program and its image
 abbrev pub built_in : BuiltMade → Built
 built_in built = record { program = built.program; image = built.image.items }
+
+-- a program with its protects
+abbrev pub hardened_in : HardenedMade → Hardened
+hardened_in hardened = record { program = hardened.program; certificate = hardened.certificate; image = hardened.image.items }
 
 -- ---- `spec`
 

@@ -1,19 +1,20 @@
-//! From a module's bytes to its program and the program's image.
-ghost use Rattle.std.specs.Prelude.{◌≡◌, ◌∷◌, ◌≤◌, [], None, length};
+//! From modules' bytes to their program and the program's image.
+ghost use Rattle.std.specs.Prelude.{◌≡◌, ◌≤◌, None, length, map};
 ghost use Rattle.bl_base.specs.Quantity.{limit_of};
 ghost use Rattle.bl_base.specs.declared.quantity.Quantity.TheVariants as quantity;
 ghost use Rattle.bl_app.specs.Building.{building, compiling};
+ghost use Rattle.bl_app.specs.Form.{IsOfForm};
 ghost use Rattle.bl_app.specs.Jobs.{AreRead};
 ghost use Rattle.bl_app.specs.Loading.{module_read, parts_of};
+ghost use Rattle.bl_words.specs.Requests.{AreNamedApart};
 ghost use Rattle.bl_app.specs.Working.{IsStaged, built_in, contents_in};
 
-use crate::module::read_module;
+use crate::load::load;
+use crate::module::Form;
 use crate::refusal::{Refusal, WorkError};
-use crate::words::module_name;
 use bl_base::Quantity;
 use bl_cmd::WellFormed;
 use bl_image::encode;
-use bl_link::link_alone;
 use bl_lower::{LowerError, lower};
 use bl_wasm::Linked;
 use std::alloc::Global;
@@ -27,31 +28,23 @@ pub struct Built {
     pub image: Vec<u8>,
 }
 
-/// The program of the module in a file with these contents, and its image; Refused exactly where the bytes are refused, or the
-/// program has more than 1,048,576 commands, or its image more than 134,217,728 bytes. Linear in the bytes and in the image.
+/// The program of the modules in files with these contents, and its image; Refused exactly where the modules are refused (`load`), or
+/// the program has more than 1,048,576 commands, or its image more than 134,217,728 bytes. Linear in the bytes and in the image.
 pub fn compile<'a>(
     alloc: Global,
-    word: &'a str,
+    form: Form,
+    words: &[&'a str],
     contents: &[Vec<u8>],
 ) -> Result<Built, WorkError<'a>>
-    requires { AreRead None (module_read word.now ∷ []) (contents_in contents.now) }
-    ensures { IsStaged compiling built_in (parts_of (word.now ∷ []) (contents_in contents.now)) result }
+    requires few { length words.now ≤ limit_of quantity.Modules }
+    requires apart { AreNamedApart (map (λ word. word.now) words.now) }
+    requires read { AreRead None (map module_read (map (λ word. word.now) words.now)) (contents_in contents.now) }
+    ensures { IsStaged (compiling (IsOfForm form)) built_in (parts_of (map (λ word. word.now) words.now) (contents_in contents.now)) result }
 {
-    let [bytes] = contents else { unreachable!() };
-    compile_module(alloc, module_name(word), bytes)
-}
-
-/// The program of a module's bytes, under the module's name, and its image.
-fn compile_module<'a>(alloc: Global, name: &'a str, bytes: &[u8]) -> Result<Built, WorkError<'a>>
-    requires { length bytes.now ≤ limit_of quantity.Module }
-    ensures { IsStaged compiling built_in (record { name = name.now; bytes = bytes.now } ∷ []) result }
-{
-    let wasm = match read_module(alloc, name, bytes) {
-        Ok(wasm) => wasm,
-        Err(error) => return Err(error),
-    };
-    let linked = link_alone(alloc, name, wasm)?;
-    build(alloc, &linked)
+    match load(alloc, form, words, contents) {
+        Ok(linked) => build(alloc, &linked),
+        Err(error) => Err(error),
+    }
 }
 
 /// The program of a linked tree, with its image.

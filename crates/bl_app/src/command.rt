@@ -1,8 +1,11 @@
 //! The jobs of all commands.
-ghost use Rattle.std.specs.Prelude.{◌≡◌, IfOk, None, map};
-ghost use Rattle.bl_app.specs.Commands.{job_of};
+ghost use Rattle.std.specs.Prelude.{◌≡◌, ◌≤◌, IfOk, None, length, map};
+ghost use Rattle.bl_base.specs.Quantity.{limit_of};
+ghost use Rattle.bl_base.specs.declared.quantity.Quantity.TheVariants as quantity;
+ghost use Rattle.bl_app.specs.Commands.{work_of};
 ghost use Rattle.bl_app.specs.Jobs.{AreRead};
-ghost use Rattle.bl_app.specs.Words.{request_in};
+ghost use Rattle.bl_words.specs.Requests.{AreNamedApart, modules_in};
+ghost use Rattle.bl_words.specs.Words.{request_in};
 ghost use Rattle.bl_app.specs.Working.{IsWork, contents_in, read_in};
 
 use crate::harden::{harden, harden_reads};
@@ -12,13 +15,25 @@ use crate::lower::{lower, lower_reads};
 use crate::refusal::WorkError;
 use crate::run::{execute, run_reads};
 use crate::spec::{spec_reads, speculate};
-use crate::words::Request;
+use bl_words::Request;
 use bl_base::NoMemory;
 use std::alloc::Global;
 
+/// The modules that a request reads, by their words; of an image there are none.
+pub fn modules_of<'a, 'r>(request: &'r Request<'a>) -> &'r [&'a str]
+    ensures { map (λ word. word.now) result.now ≡ modules_in (request_in request.now) }
+{
+    match request {
+        Request::Harden(words) => words.modules.as_slice(),
+        Request::Lower(words) => words.modules.as_slice(),
+        Request::Interp(words) => words.modules.as_slice(),
+        Request::Run(_) | Request::Spec(_) => &[],
+    }
+}
+
 /// The files that a request reads, in the order of its words.
 pub fn reads_of<'a>(alloc: Global, request: &Request<'a>) -> Result<Vec<Read<'a>>, NoMemory>
-    ensures { IfOk result (λ reads. map read_in reads.items ≡ (job_of (request_in request.now)).reads) }
+    ensures { IfOk result (λ reads. map read_in reads.items ≡ (work_of (request_in request.now)).reads) }
 {
     match request {
         Request::Harden(words) => harden_reads(alloc, words),
@@ -35,8 +50,10 @@ pub fn work<'a>(
     request: &Request<'a>,
     contents: &[Vec<u8>],
 ) -> Result<Plan<'a>, WorkError<'a>>
-    requires { AreRead None (job_of (request_in request.now)).reads (contents_in contents.now) }
-    ensures { IsWork (job_of (request_in request.now)) (contents_in contents.now) result }
+    requires few { length (modules_in (request_in request.now)) ≤ limit_of quantity.Modules }
+    requires apart { AreNamedApart (modules_in (request_in request.now)) }
+    requires read { AreRead None (work_of (request_in request.now)).reads (contents_in contents.now) }
+    ensures { IsWork (work_of (request_in request.now)) (contents_in contents.now) result }
 {
     match request {
         Request::Harden(words) => harden(alloc, words, contents),

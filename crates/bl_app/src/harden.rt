@@ -1,66 +1,110 @@
 //! `harden`: from modules' bytes to an image, a certificate and a report.
-ghost use Rattle.std.specs.Prelude.{◌≡◌, None, IfOk, map};
-ghost use Rattle.bl_app.specs.Hardening.{harden_job, harden_plan};
+ghost use Rattle.std.specs.Prelude.{◌≡◌, ◌≤◌, None, IfOk, length, map};
+ghost use Rattle.bl_base.specs.Quantity.{limit_of};
+ghost use Rattle.bl_base.specs.declared.quantity.Quantity.TheVariants as quantity;
+ghost use Rattle.bl_graph.specs.Certificates.{Certifies};
+ghost use Rattle.bl_report.specs.Reports.{DeclaresNoSecret};
+ghost use Rattle.bl_app.specs.Hardening.{IsHardened, harden_job, harden_plan};
 ghost use Rattle.bl_app.specs.Jobs.{AreRead};
-ghost use Rattle.bl_app.specs.Words.{harden_in};
-ghost use Rattle.bl_app.specs.Working.{IsWork, built_in, contents_in, plan_in, read_in};
+ghost use Rattle.bl_words.specs.Requests.{AreNamedApart};
+ghost use Rattle.bl_words.specs.Words.{harden_in};
+ghost use Rattle.bl_app.specs.Working.{IsWork, contents_in, hardened_in, plan_in, read_in};
 
-use crate::build::{Built, compile};
+use crate::build::compile;
 use crate::job::{Keep, Plan, Read};
-use crate::module::module_read;
+use crate::module::{Form, read_modules};
 use crate::refusal::WorkError;
-use crate::report::report;
 use crate::status::Status;
-use crate::words::HardenWords;
+use bl_words::HardenWords;
 use bl_base::NoMemory;
+use bl_cmd::WellFormed;
+use bl_cut::{least_protects, protect};
+use bl_graph::Certificate;
+use bl_image::encode;
+use bl_report::report;
+use bl_witness::to_json;
 use std::alloc::Global;
 
-/// The text of the certificate without paths.
-const EMPTY_CERTIFICATE: &[u8] = b"{\"paths\":[],\"weight\":0}";
+/// A program with its protects.
+#[derive(Drop)]
+pub struct Hardened {
+    /// The program.
+    pub program: WellFormed,
+    /// A flow that shows that no lighter protects do.
+    pub certificate: Certificate,
+    /// The image's bytes.
+    pub image: Vec<u8>,
+}
 
 /// The files that `harden` reads.
 pub fn harden_reads<'a>(alloc: Global, words: &HardenWords<'a>) -> Result<Vec<Read<'a>>, NoMemory>
     ensures { IfOk result (λ reads. map read_in reads.items ≡ (harden_job (harden_in words.now)).reads) }
 {
     let mut reads = Vec::new(alloc);
-    reads.push(module_read(words.wasm))?;
+    read_modules(&mut reads, words.modules.as_slice())?;
     Ok(reads)
 }
 
-/// Keeping the certificate and then the image of a module's bytes, and printing the report; Refused exactly where the bytes are
-/// refused. Linear in the bytes and in the image. The module has no memory, so nothing is loaded, and no protect is needed.
+/// Keeping a certificate and then the image of the modules' program with the least protects, and printing the report; Refused
+/// exactly where the bytes are refused. Costs a maximum flow in a network that is linear in the program.
 pub fn harden<'a>(
     alloc: Global,
     words: &HardenWords<'a>,
     contents: &[Vec<u8>],
 ) -> Result<Plan<'a>, WorkError<'a>>
-    requires { AreRead None (harden_job (harden_in words.now)).reads (contents_in contents.now) }
+    requires few { length words.now.modules.items ≤ limit_of quantity.Modules }
+    requires apart { AreNamedApart (harden_in words.now).modules }
+    requires read { AreRead None (harden_job (harden_in words.now)).reads (contents_in contents.now) }
     ensures { IsWork (harden_job (harden_in words.now)) (contents_in contents.now) result }
 {
-    match compile(alloc, words.wasm, contents) {
-        Ok(built) => Ok(plan_of(alloc, words, built)?),
+    match compile(alloc, Form::Unlabelled, words.modules.as_slice(), contents) {
+        Ok(built) => {
+            let hardened = protect_least(alloc, built.program)?;
+            let plan = plan_of(alloc, words, hardened)?;
+            Ok(plan)
+        }
         Err(error) => Err(error),
     }
 }
 
-/// The plan of a program and its image.
-fn plan_of<'a>(alloc: Global, words: &HardenWords<'a>, built: Built) -> Result<Plan<'a>, NoMemory>
-    ensures { IfOk result (λ plan. plan_in plan ≡ harden_plan (harden_in words.now) (built_in built)) }
+/// A program with exactly the least protects, a certificate of that, and the image.
+fn protect_least(alloc: Global, bare: WellFormed) -> Result<Hardened, NoMemory>
+    ensures { IfOk result (λ hardened. IsHardened bare (hardened_in hardened)) }
 {
-    let text = report(alloc, &built.program)?;
-    let certificate = EMPTY_CERTIFICATE.to_vec(alloc)?;
+    let choice = least_protects(alloc, &bare)?;
+    let program = protect(bare, &choice.protects);
+    let image = encode(alloc, &program)?;
+    Ok(Hardened {
+        program,
+        certificate: choice.certificate,
+        image,
+    })
+}
+
+/// The plan of a program with its protects.
+fn plan_of<'a>(
+    alloc: Global,
+    words: &HardenWords<'a>,
+    hardened: Hardened,
+) -> Result<Plan<'a>, NoMemory>
+    requires certified { Certifies hardened.program hardened.certificate }
+    requires public { DeclaresNoSecret hardened.program }
+    ensures { IfOk result (λ plan. plan_in plan ≡ harden_plan (harden_in words.now) (hardened_in hardened)) }
+{
+    let text = report(alloc, &hardened.program, &hardened.certificate)?;
+    let certificate = to_json(alloc, &hardened.certificate)?;
     let mut keeps = Vec::new(alloc);
     keeps.push(Keep {
         name: words.certificate,
-        bytes: certificate,
+        bytes: certificate.into_vec(),
     })?;
     keeps.push(Keep {
         name: words.image,
-        bytes: built.image,
+        bytes: hardened.image,
     })?;
     Ok(Plan {
         status: Status::Done,
         keeps,
-        text: text.into_bytes(),
+        text: text.into_vec(),
     })
 }

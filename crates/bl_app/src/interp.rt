@@ -1,24 +1,25 @@
 //! `interp`: from a start file's bytes and modules' to the text of the run's outcome.
-ghost use Rattle.std.specs.Prelude.{◌≡◌, ◌<◌, ◌≤◌, ◌∷◌, [], None, IfOk, length, map};
+ghost use Rattle.std.specs.Prelude.{◌≡◌, ◌<◌, ◌≤◌, None, IfOk, length, map};
 ghost use Rattle.bl_base.specs.Quantity.{limit_of};
 ghost use Rattle.bl_base.specs.declared.quantity.Quantity.TheVariants as quantity;
 ghost use Rattle.bl_wasm.specs.Linked.{IsLinked};
 ghost use Rattle.bl_reduce.specs.Outcomes.{IsStart};
 ghost use Rattle.bl_app.specs.Interpreting.{interp_job};
 ghost use Rattle.bl_app.specs.Jobs.{AreRead};
-ghost use Rattle.bl_app.specs.Running.{opening as opening_stage, type_of};
-ghost use Rattle.bl_app.specs.Words.{interp_in};
-ghost use Rattle.bl_app.specs.Working.{IsStaged, IsTold, IsWork, contents_in, opened_in, read_in};
+ghost use Rattle.bl_words.specs.Requests.{AreNamedApart};
+ghost use Rattle.bl_app.specs.Running.{opening as opening_stage, sizes_of, type_of};
+ghost use Rattle.bl_words.specs.Words.{interp_in};
+ghost use Rattle.bl_app.specs.Working.{IsRunOf, IsStaged, IsTold, IsWork, contents_in, opened_in, read_in};
 
 use crate::job::{Plan, Read};
-use crate::module::{module_read, read_module};
+use crate::load::load;
+use crate::module::{Form, read_modules};
 use crate::outcome::{outcome_status, outcome_text};
 use crate::refusal::{Refusal, WorkError};
 use crate::start::of_start;
-use crate::words::{InterpWords, module_name};
+use bl_words::InterpWords;
 use bl_base::{NoMemory, Quantity, Start};
-use bl_link::link_alone;
-use bl_machine::interp;
+use bl_machine::{first_memories, interp};
 use bl_trace::read_start;
 use bl_wasm::{Linked, Signature, Tree};
 use std::alloc::Global;
@@ -34,7 +35,7 @@ pub struct Opening<'a> {
     pub start: Start,
 }
 
-/// The files that `interp` reads: the start file, and then the module.
+/// The files that `interp` reads: the start file, and then the modules.
 pub fn interp_reads<'a>(alloc: Global, words: &InterpWords<'a>) -> Result<Vec<Read<'a>>, NoMemory>
     ensures { IfOk result (λ reads. map read_in reads.items ≡ (interp_job (interp_in words.now)).reads) }
 {
@@ -43,53 +44,53 @@ pub fn interp_reads<'a>(alloc: Global, words: &InterpWords<'a>) -> Result<Vec<Re
         name: words.start,
         quantity: Quantity::Start,
     })?;
-    reads.push(module_read(words.wasm))?;
+    read_modules(&mut reads, words.modules.as_slice())?;
     Ok(reads)
 }
 
-/// Printing the outcome of an exported function of a module's bytes from a start file's; Refused exactly where these are
-/// refused. Linear in the bytes and in the steps.
+/// Printing the outcome of an exported function of modules' bytes from a start file's; Refused exactly where these are
+/// refused. Linear in the bytes, those of the memories and in the steps.
 pub fn interpret<'a>(
     alloc: Global,
     words: &InterpWords<'a>,
     contents: &[Vec<u8>],
 ) -> Result<Plan<'a>, WorkError<'a>>
-    requires { AreRead None (interp_job (interp_in words.now)).reads (contents_in contents.now) }
+    requires few { length words.now.modules.items ≤ limit_of quantity.Modules }
+    requires apart { AreNamedApart (interp_in words.now).modules }
+    requires read { AreRead None (interp_job (interp_in words.now)).reads (contents_in contents.now) }
     ensures { IsWork (interp_job (interp_in words.now)) (contents_in contents.now) result }
 {
-    let [start, bytes] = contents else {
+    let [start, modules @ ..] = contents else {
         unreachable!()
     };
-    interpret_module(alloc, words, start, bytes)
+    let linked = match load(alloc, Form::Unlabelled, words.modules.as_slice(), modules) {
+        Ok(linked) => linked,
+        Err(error) => return Err(error),
+    };
+    interpret_tree(alloc, words, start, &linked)
 }
 
-/// The same, by the bytes of the start file and those of the module.
-fn interpret_module<'a>(
+/// The same, by the bytes of the start file and the linked tree of the modules.
+fn interpret_tree<'a>(
     alloc: Global,
     words: &InterpWords<'a>,
     start: &[u8],
-    bytes: &[u8],
+    linked: &Linked,
 ) -> Result<Plan<'a>, WorkError<'a>>
-    requires { length bytes.now ≤ limit_of quantity.Module }
-    ensures { IsWork (interp_job (interp_in words.now)) (start.now ∷ bytes.now ∷ []) result }
+    ensures { IsRunOf (interp_in words.now) start.now linked.now result }
 {
-    let name = module_name(words.wasm);
-    let wasm = match read_module(alloc, name, bytes) {
-        Ok(wasm) => wasm,
-        Err(error) => return Err(error),
-    };
-    let linked = link_alone(alloc, name, wasm)?;
     let opening = match prepare(alloc, linked.tree(), words.export, start) {
         Ok(opening) => opening,
         Err(error) => return Err(error),
     };
-    match tell(alloc, &linked, &opening, words.steps) {
+    match tell(alloc, linked, &opening, words.steps) {
         Ok(plan) => Ok(plan),
         Err(NoMemory) => Err(WorkError::Memory),
     }
 }
 
-/// Runs a function from its start: printing the outcome within so many steps. Linear in the tree and in the steps.
+/// Runs a function from its start: printing the outcome within so many steps. Linear in the tree, the bytes of its memories and in
+/// the steps.
 fn tell<'a>(
     alloc: Global,
     linked: &Linked,
@@ -97,12 +98,12 @@ fn tell<'a>(
     steps: u64,
 ) -> Result<Plan<'a>, NoMemory>
     requires start { IsStart linked.now opening.now.function opening.now.start }
-    requires memories { linked.now.memories ≡ [] }
-    requires tables { linked.now.tables ≡ [] }
     ensures { IfOk result (λ plan. IsTold (opened_in linked.now opening.now) steps plan) }
 {
     let run = interp(alloc, linked, opening.function, &opening.start, steps)?;
-    let text = outcome_text(alloc, opening.kind.results.as_slice(), &[], steps, &run)?;
+    let memories = first_memories(alloc, linked, &opening.start)?;
+    let kinds = opening.kind.results.as_slice();
+    let text = outcome_text(alloc, kinds, memories.as_slice(), steps, &run)?;
     let status = outcome_status(&run);
     Ok(Plan {
         status,
@@ -118,8 +119,7 @@ fn prepare<'a, 'b>(
     export: &str,
     bytes: &[u8],
 ) -> Result<Opening<'a>, WorkError<'b>>
-    requires linked { IsLinked tree.now }
-    requires memories { tree.now.memories ≡ [] }
+    requires { IsLinked tree.now }
     ensures opened { IsStaged (opening_stage export.now bytes.now) (opened_in tree.now) tree.now result }
     ensures fits { IfOk result (λ opening. IsStart tree.now opening.function opening.start) }
 {
@@ -127,7 +127,8 @@ fn prepare<'a, 'b>(
         return Err(WorkError::Refused(Refusal::NoExport));
     };
     let kind = signature(tree, function);
-    match read_start(alloc, bytes, kind.params.as_slice(), &[]) {
+    let sizes = sizes_of(alloc, tree)?;
+    match read_start(alloc, bytes, kind.params.as_slice(), sizes.as_slice()) {
         Ok(start) => Ok(Opening {
             function,
             kind,
@@ -135,6 +136,17 @@ fn prepare<'a, 'b>(
         }),
         Err(error) => Err(of_start(error)),
     }
+}
+
+/// The first pages of a tree's memories.
+fn sizes_of(alloc: Global, tree: &Tree) -> Result<Vec<u32>, NoMemory>
+    ensures { IfOk result (λ pages. pages.items ≡ sizes_of tree.now) }
+{
+    let mut pages = Vec::new(alloc);
+    for memory in tree.memories.as_slice() {
+        pages.push(memory.pages)?;
+    }
+    Ok(pages)
 }
 
 /// The type of a function of a tree.

@@ -1,15 +1,18 @@
 //! Laws of the definitions. Each function is its contract alone.
-ghost use Rattle.std.specs.Prelude.{◌≡◌, ◌↔◌, ◌⊎◌, ℕ, ◌*◌, List as Listed, [], ◌∷◌, None, Some};
+ghost use Rattle.std.specs.Prelude.{◌≡◌, ◌⊎◌, ℕ, ◌*◌, List as Listed, [], ◌∷◌, None, Some};
 ghost use Rattle.bl_outside.specs.Shelf.{Files};
+ghost use Rattle.bl_wasm.specs.Linked.{IsLinked};
+ghost use Rattle.bl_wasm.specs.declared.linked.Tree.{Tree};
 ghost use Rattle.bl_lower.specs.Trees.{step_bound};
-ghost use Rattle.bl_app.specs.Building.{AreCompiled, Built};
+ghost use Rattle.bl_app.specs.Building.{AreCompiled, Builds, Built};
 ghost use Rattle.bl_app.specs.Causes.{Causes, NoneRose};
 ghost use Rattle.bl_app.specs.Commands.{job_of};
 ghost use Rattle.bl_app.specs.Executing.{RunDoes};
+ghost use Rattle.bl_app.specs.Hardening.{Hardened, IsHardened};
 ghost use Rattle.bl_app.specs.Interpreting.{InterpDoes};
 ghost use Rattle.bl_app.specs.Jobs.{AreRead, FirstRefusal, IsLawful, Plan};
 ghost use Rattle.bl_app.specs.Refusals.{Refusal};
-ghost use Rattle.bl_app.specs.Requests.{InterpRequest, IsTakenApart, Request, RunRequest, SpecRequest, parts_of};
+ghost use Rattle.bl_words.specs.Requests.{InterpRequest, Request, RunRequest, SpecRequest};
 ghost use Rattle.bl_app.specs.Speculating.{SpecDoes};
 ghost use Rattle.bl_app.specs.Worlds.{World};
 ghost use Rattle.bl_app.specs.declared.status.Status.{Status};
@@ -52,15 +55,16 @@ pub fn images_run_as_their_modules()
         → InterpDoes request (start ∷ contents) plan }
 {}
 
+/// Protects don't show in a run: `run` tells the same of a program's image and of the image of the program with its protects.
+pub fn protects_do_not_show()
+    ensures { (request : RunRequest) (tree : Tree) (built : Built) (hardened : Hardened) (start : Listed ℕ) (plan : Plan)
+        → IsLinked tree → Builds tree built → IsHardened built.program hardened
+        → RunDoes request (built.image ∷ start ∷ []) plan ↔ RunDoes request (hardened.image ∷ start ∷ []) plan }
+{}
+
 /// No status but that of want of memory can be the answer to all calls: where no count of faults rises, words that are no
 /// request are answered by no other status, and a request never is by theirs.
 pub fn no_status_answers_all()
     ensures without_request { (old new : World) (answer : Status) → Causes job_of None old new answer → NoneRose old new → (answer ≡ status.Usage) ⊎ (answer ≡ status.Memory) }
     ensures with_request { (request : Request) (old new : World) → Causes job_of (Some request) old new status.Usage → ⊥ }
-{}
-
-/// The words behind a command have those parts exactly where the rules take them apart so.
-pub fn words_are_taken_apart()
-    ensures { (words arguments values : Listed (Listed ℕ))
-        → (parts_of words ≡ Some (record { arguments = arguments; steps_values = values })) ↔ IsTakenApart words arguments values }
 {}

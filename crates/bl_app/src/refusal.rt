@@ -9,7 +9,7 @@ ghost use Rattle.bl_app.specs.declared.refusal.WorkError.TheVariants as error;
 
 use crate::status::Status;
 use bl_base::{NoMemory, Quantity};
-use std::alloc::Global;
+use std::alloc::{AllocFailed, Global};
 use thiserror::Error;
 
 /// Why a request is refused: the first error in the order of work, with the name of its module.
@@ -21,15 +21,24 @@ pub enum Refusal<'a> {
     InvalidFunction(&'a str, u32),
     /// Each function of a module has a typing, and the module breaks another rule.
     InvalidModule(&'a str),
-    /// A module has something that isn't supported, or it doesn't stand alone.
+    /// A module has something that isn't supported, or it isn't of the form that the command takes.
     Unsupported(&'a str),
-    /// A file or a module is too large.
+    /// There are too many modules, or a file, a module or all that is linked is too large.
     Limit {
         /// The first quantity that is above its number.
         which: Quantity,
         /// Its value.
         value: u64,
     },
+    /// No module before this one is of the name that an import of it has and exports anything of the name: the import's number,
+    /// from 0.
+    UnknownImport(&'a str, u32),
+    /// What an import of a module is given doesn't match: the import's number, from 0.
+    MismatchedImport(&'a str, u32),
+    /// An element segment of a module doesn't lie in its table.
+    ElementRange(&'a str),
+    /// A data segment of a module doesn't lie in the first bytes of its memory.
+    DataRange(&'a str),
     /// The bytes of a file are the image of no program.
     NotAnImage,
     /// The program of an image isn't well-formed.
@@ -68,6 +77,14 @@ impl<'a> From<NoMemory> for WorkError<'a> {
     }
 }
 
+impl<'a, T: Drop> From<AllocFailed<T>> for WorkError<'a> {
+    ghost from_gives = { λ _ e. e ≡ error.Memory };
+
+    fn from(_e: AllocFailed<T>) -> WorkError<'a> {
+        WorkError::Memory
+    }
+}
+
 impl<'a> Refusal<'a> {
     /// The exit status.
     pub fn status(self) -> Status
@@ -78,6 +95,8 @@ impl<'a> Refusal<'a> {
             Refusal::InvalidFunction(_, _) | Refusal::InvalidModule(_) => Status::Invalid,
             Refusal::Unsupported(_) => Status::Unsupported,
             Refusal::Limit { .. } => Status::Limit,
+            Refusal::UnknownImport(_, _) | Refusal::MismatchedImport(_, _) => Status::Link,
+            Refusal::ElementRange(_) | Refusal::DataRange(_) => Status::Link,
             Refusal::NotAnImage | Refusal::BrokenRule { .. } => Status::Image,
             Refusal::BadDirective(_) => Status::Trace,
             Refusal::NoExport | Refusal::BadLine(_) | Refusal::FewArguments(_) => Status::Start,
@@ -94,6 +113,15 @@ impl<'a> Refusal<'a> {
             Refusal::InvalidModule(name) => named_line(alloc, "invalid: ", name, " module"),
             Refusal::Unsupported(name) => named_line(alloc, "unsupported: ", name, ""),
             Refusal::Limit { which, value } => limit_line(alloc, which, value),
+            Refusal::UnknownImport(name, import) => import_line(alloc, name, import, " unknown"),
+            Refusal::MismatchedImport(name, import) => import_line(
+                alloc,
+                name,
+                import,
+                " mismatch",
+            ),
+            Refusal::ElementRange(name) => named_line(alloc, "link: ", name, " element"),
+            Refusal::DataRange(name) => named_line(alloc, "link: ", name, " data"),
             Refusal::NotAnImage => Ok(b"image: not an image\n".to_vec(alloc)?),
             Refusal::BrokenRule { rule, position } => rule_line(alloc, rule, position),
             Refusal::NoExport => Ok(b"start: export\n".to_vec(alloc)?),
@@ -127,6 +155,14 @@ fn function_line(alloc: Global, name: &str, index: u32) -> Result<Vec<u8>, NoMem
 {
     let tail = format!(in alloc; " function {index}")?;
     named_line(alloc, "invalid: ", name, tail.as_str())
+}
+
+/// The line of an import, with what is wrong of it.
+fn import_line(alloc: Global, name: &str, import: u32, fault: &str) -> Result<Vec<u8>, NoMemory>
+    ensures { IfOk result (λ text. text.items ≡ line (codes "link: " ++ name.now ++ (codes " import " ++ decimal import ++ fault.now))) }
+{
+    let tail = format!(in alloc; " import {import}{fault}")?;
+    named_line(alloc, "link: ", name, tail.as_str())
 }
 
 /// The line of a rule and the position where it is broken.

@@ -3,14 +3,14 @@ ghost use Rattle.std.specs.Prelude.{◌≡◌, ◌∷◌, [], None, IfOk, map};
 ghost use Rattle.bl_cmd.specs.Outcomes.{IsStart};
 ghost use Rattle.bl_app.specs.Executing.{run_job};
 ghost use Rattle.bl_app.specs.Jobs.{AreRead};
-ghost use Rattle.bl_app.specs.Words.{run_in};
+ghost use Rattle.bl_words.specs.Words.{run_in};
 ghost use Rattle.bl_app.specs.Working.{IsPlainTold, IsWork, contents_in, entered_in, entry_in, read_in};
 
 use crate::entry::{Entry, find_entry, read_entry_start, read_image};
 use crate::job::{Plan, Read};
 use crate::outcome::{outcome_status, outcome_text};
 use crate::refusal::{Refusal, WorkError};
-use crate::words::RunWords;
+use bl_words::RunWords;
 use bl_base::{NoMemory, Quantity, Start};
 use bl_cmd::WellFormed;
 use bl_seq::{first_memories, run};

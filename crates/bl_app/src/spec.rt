@@ -10,7 +10,7 @@ ghost use Rattle.bl_trace.specs.Observations.{observation_text};
 ghost use Rattle.bl_app.specs.Jobs.{AreRead};
 ghost use Rattle.bl_app.specs.Speculating.{last_text, spec_job, spec_plan, spec_status};
 ghost use Rattle.bl_app.specs.Texts.{line};
-ghost use Rattle.bl_app.specs.Words.{spec_in};
+ghost use Rattle.bl_words.specs.Words.{spec_in};
 ghost use Rattle.bl_app.specs.Working.{IsTraced, IsWork, contents_in, entered_in, entry_in, plan_in, read_in, speculated_in, trace_error};
 
 use crate::entry::{Entry, find_entry, read_entry_start, read_image};
@@ -18,7 +18,7 @@ use crate::job::{Plan, Read};
 use crate::outcome::outcome_text;
 use crate::refusal::{Refusal, WorkError};
 use crate::status::Status;
-use crate::words::SpecWords;
+use bl_words::SpecWords;
 use bl_base::{List, NoMemory, Quantity, Run, Start};
 use bl_cmd::WellFormed;
 use bl_rob::{Directive, Observation, Rob};

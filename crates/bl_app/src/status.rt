@@ -17,10 +17,12 @@ pub enum Status {
     Malformed,
     /// A module has no typing.
     Invalid,
-    /// A module has something that isn't supported, or doesn't stand alone.
+    /// A module has something that isn't supported, or isn't of the form that the command takes.
     Unsupported,
     /// A quantity exceeds its number.
     Limit,
+    /// An import has no match, or a segment is out of range.
+    Link,
     /// Memory ran out.
     Memory,
     /// The bytes are no image, or the image is not well-formed.
@@ -51,6 +53,7 @@ impl Status {
             Status::Invalid => 6,
             Status::Unsupported => 7,
             Status::Limit => 8,
+            Status::Link => 9,
             Status::Memory => 11,
             Status::Image => 12,
             Status::Trace => 14,

@@ -1,5 +1,7 @@
 //! The top call.
-ghost use Rattle.std.specs.Prelude.{◌≡◌, Some, map, string_bytes};
+ghost use Rattle.std.specs.Prelude.{◌≡◌, ◌≤◌, Some, length, map, string_bytes};
+ghost use Rattle.bl_base.specs.Quantity.{limit_of};
+ghost use Rattle.bl_base.specs.declared.quantity.Quantity.TheVariants as quantity;
 ghost use Rattle.bl_app.specs.Causes.{Causes};
 ghost use Rattle.bl_app.specs.Commands.{job_of};
 ghost use Rattle.bl_app.specs.Ends.{Ends};
@@ -7,27 +9,27 @@ ghost use Rattle.bl_app.specs.Executing.{Runs};
 ghost use Rattle.bl_app.specs.Hardening.{Hardens};
 ghost use Rattle.bl_app.specs.Interpreting.{Interprets};
 ghost use Rattle.bl_app.specs.Lowering.{Lowers};
-ghost use Rattle.bl_app.specs.Requests.{HardenRequest, InterpRequest, LowerRequest, RunRequest, SpecRequest, harden, interp, lower, request_of, run as run_image, spec};
+ghost use Rattle.bl_words.specs.Requests.{AreNamedApart, modules_in, HardenRequest, InterpRequest, LowerRequest, RunRequest, SpecRequest, harden, interp, lower, request_of, run as run_image, spec};
 ghost use Rattle.bl_app.specs.Speculating.{Speculates};
 ghost use Rattle.bl_app.specs.Status.{IsStatus, kind_of, of_deed};
-ghost use Rattle.bl_app.specs.Words.{request_in};
+ghost use Rattle.bl_words.specs.Words.{request_in};
 ghost use Rattle.bl_app.specs.Worlds.{world};
 
-use crate::command::{reads_of, work};
+use crate::command::{modules_of, reads_of, work};
 use crate::deliver::deliver;
 use crate::fetch::fetch_all;
 use crate::output::{refuse, say_line};
-use crate::refusal::WorkError;
+use crate::refusal::{Refusal, WorkError};
 use crate::status::Status;
-use crate::words::{Request, read_words};
-use bl_base::NoMemory;
+use bl_words::{Request, read_words};
+use bl_base::{NoMemory, Quantity};
 use bl_outside::{Shelf, Sink};
 use std::alloc::Global;
 
 /// Runs the program on its words, the program's own name first, and answers its exit status: 0 done,
-/// 2 no request, 3 a file could not be read, 4 a file or the sink could not be written, 5 the module's bytes spell none, 6 it
-/// has no typing, 7 it has something that isn't supported or doesn't stand alone, 8 a quantity exceeds its number, 11 memory
-/// ran out, 12 the bytes are no image or the image isn't well-formed, 14 a line of the trace file is no directive, 15 the export is
+/// 2 no request, 3 a file could not be read, 4 a file or the sink could not be written, 5 a module's bytes spell none, 6 a module
+/// has no typing, 7 it has something that isn't supported or isn't of the form that the command takes, 8 a quantity exceeds its
+/// number, 9 an import of a module has no match or a segment is out of range, 11 memory ran out, 12 the bytes are no image or the image isn't well-formed, 14 a line of the trace file is no directive, 15 the export is
 /// absent, a line of the start file is bad, or there are too few arguments, 16 the run trapped, 17 its steps were spent, 18 a
 /// directive isn't enabled. All text goes to the sink.
 pub fn blade<F: Shelf, O: Sink>(alloc: Global, words: &[String], files: &mut F, out: &mut O) -> u8
@@ -74,13 +76,37 @@ fn run<F: Shelf, O: Sink>(alloc: Global, words: &[String], files: &mut F, out: &
     }
 }
 
-/// Reads the files of a request, does its work on their contents, and delivers what is to be done.
+/// Tests the number of a request's modules, and then does its job.
 fn carry_out<F: Shelf, O: Sink>(
     alloc: Global,
     request: &Request<'_>,
     files: &mut F,
     out: &mut O,
 ) -> Status
+    requires { AreNamedApart (modules_in (request_in request.now)) }
+    ensures { Ends job_of (Some (request_in request.now))
+        (world F.files F.faults O.taken O.faults files.old out.old) (world F.files F.faults O.taken O.faults files.new out.new) result }
+{
+    let count = modules_of(request).len() as u64;
+    if count > Quantity::Modules.limit() {
+        let refusal = Refusal::Limit {
+            which: Quantity::Modules,
+            value: count,
+        };
+        return refuse(alloc, refusal, out);
+    }
+    do_job(alloc, request, files, out)
+}
+
+/// Reads the files of a request, does its work on their contents, and delivers what is to be done.
+fn do_job<F: Shelf, O: Sink>(
+    alloc: Global,
+    request: &Request<'_>,
+    files: &mut F,
+    out: &mut O,
+) -> Status
+    requires few { length (modules_in (request_in request.now)) ≤ limit_of quantity.Modules }
+    requires apart { AreNamedApart (modules_in (request_in request.now)) }
     ensures { Ends job_of (Some (request_in request.now))
         (world F.files F.faults O.taken O.faults files.old out.old) (world F.files F.faults O.taken O.faults files.new out.new) result }
 {

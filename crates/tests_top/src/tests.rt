@@ -1,6 +1,7 @@
 mod blocks;
 mod greatest;
 mod interp;
+mod lists;
 mod lower;
 mod run;
 mod words;
@@ -106,7 +107,7 @@ fn two_dashes_end_the_options(rt: HostRuntime) -> Result<(), Fail> {
         (["blade", "harden", "a", "--", "-b", "inc.wasm"], 0, "-b"),
         (["blade", "harden", "-", "b", "inc.wasm", "--"], 0, "-"),
         (["blade", "harden", "a", "-b", "--", "inc.wasm"], 2, "a"),
-        (["blade", "harden", "a", "b", "c", "inc.wasm"], 2, "a"),
+        (["blade", "harden", "a", "b", "c", "inc.wasm"], 3, "a"),
         (["blade", "--", "harden", "a", "b", "inc.wasm"], 2, "a"),
         (["blade", "harden", "--", "a", "a", "inc.wasm"], 2, "a"),
     ];
@@ -189,9 +190,8 @@ fn modules_that_are_refused_and_one_by_a_long_spelling(rt: HostRuntime) -> Resul
     let mut long_size = ADD_ONE[..30].to_vec(alloc)?;
     long_size.extend_from_slice(&[0x89, 0x80, 0x80, 0x80, 0x00])?;
     long_size.extend_from_slice(&ADD_ONE[31..])?;
-    let cases: [(Vec<u8>, u8, &str); 8] = [
+    let cases: [(Vec<u8>, u8, &str); 7] = [
         (long_size, 0, REPORT),
-        (LOADS.to_vec(alloc)?, 7, "unsupported: inc\n"),
         (
             module_of(
                 alloc,
@@ -249,7 +249,7 @@ fn function_of(alloc: Global, sections: &[u8]) -> Result<Vec<u8>, Fail> {
 }
 
 #[test]
-fn modules_without_a_typing_are_named_before_those_that_do_not_stand_alone(
+fn modules_without_a_typing_are_named_before_those_of_another_form(
     rt: HostRuntime,
 ) -> Result<(), Fail> {
     let alloc = rt.alloc();
@@ -260,16 +260,12 @@ fn modules_without_a_typing_are_named_before_those_that_do_not_stand_alone(
             "invalid: inc function 0\n",
         ),
         (
-            &[
-                0x05, 0x03, 0x01, 0x00, 0x01, 0x0A, 0x05, 0x01, 0x03, 0x00, 0x6A, 0x0B,
-            ],
+            b"\x00\x0D\x0Cblade.labels\x0A\x05\x01\x03\x00\x6A\x0B",
             6,
             "invalid: inc function 0\n",
         ),
         (
-            &[
-                0x05, 0x03, 0x01, 0x00, 0x01, 0x0A, 0x06, 0x01, 0x04, 0x00, 0x00, 0x6A, 0x0B,
-            ],
+            b"\x00\x0D\x0Cblade.labels\x0A\x06\x01\x04\x00\x00\x6A\x0B",
             7,
             "unsupported: inc\n",
         ),

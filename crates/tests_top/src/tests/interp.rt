@@ -134,7 +134,7 @@ fn exports_and_starts_that_are_refused_and_files_that_are_not_read(
             5,
             "malformed: m\n",
         ),
-        ("m/f", &LOADS, b"", None, 7, "unsupported: m\n"),
+        ("m/f", &LOADS, b"", None, 15, "start: arguments 0\n"),
         (
             "m/inc",
             &ADD_ONE,

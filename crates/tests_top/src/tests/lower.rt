@@ -17,7 +17,11 @@ fn shelf_of(alloc: Global, module: &[u8], start: &[u8]) -> Result<MemoryShelf, F
 }
 
 /// Calls `blade` with the words of a line, and answers its status and what it printed.
-fn say(alloc: Global, shelf: &mut MemoryShelf, line: &str) -> Result<(u8, MemorySink), Fail> {
+pub(super) fn say(
+    alloc: Global,
+    shelf: &mut MemoryShelf,
+    line: &str,
+) -> Result<(u8, MemorySink), Fail> {
     let mut out = MemorySink::new(alloc, None);
     out.reserve(200)?;
     let mut words = Vec::new(alloc);
@@ -202,10 +206,11 @@ fn lowering_is_refused_as_running_is(rt: HostRuntime) -> Result<(), Fail> {
     let alloc = rt.alloc();
     let usage = "usage: blade COMMAND ARGUMENTS\n";
     let untyped = module_of(alloc, &UNTYPED)?;
+    let labelled = module_of(alloc, b"\x00\x0D\x0Cblade.labels")?;
     let cases: [(&str, &[u8], u8, &str); 6] = [
         (LOWER, &untyped, 6, "invalid: m function 0\n"),
         (LOWER, &ADD_ONE[..39], 5, "malformed: m\n"),
-        (LOWER, &super::LOADS, 7, "unsupported: m\n"),
+        (LOWER, &labelled, 7, "unsupported: m\n"),
         ("blade lower i.img", &EMPTY, 2, usage),
         ("blade lower i.img m.wasm m.wasm", &EMPTY, 2, usage),
         ("blade lower i.img m.wasm --steps 7", &EMPTY, 2, usage),

@@ -5,7 +5,7 @@ use std::alloc::Global;
 use std::test::Fail;
 
 /// The words of a line behind the program's name, and whether they ask for an `interp`.
-static STEPS: [(&str, bool); 26] = [
+static STEPS: [(&str, bool); 27] = [
     ("interp m/f s m.wasm", true),
     ("interp --steps=7 m/f s m.wasm", true),
     ("interp m/f --steps 7 s m.wasm", true),
@@ -26,10 +26,11 @@ static STEPS: [(&str, bool); 26] = [
     ("interp --step=7 m/f s m.wasm", false),
     ("interp -- --steps s m.wasm", true),
     ("interp m/f s --steps=7 -- m.wasm", true),
-    ("interp m/f s m.wasm -- --steps=7", false),
+    ("interp m/f s m.wasm -- --steps=7", true),
     ("interp - m -- --", true),
     ("interp m/f s", false),
-    ("interp m/f s a.wasm b.wasm", false),
+    ("interp m/f s a.wasm b.wasm", true),
+    ("interp m/f s a.wasm b/a", false),
     ("Interp m/f s m.wasm", false),
     ("--steps=7 interp m/f s m.wasm", false),
 ];

@@ -1,20 +1,60 @@
-use Rattle.std.proofs.Common.{◌≡◌, ◌≤◌, ◌∙◌, None, [], ◌∷◌, ap, length, subst, sym, arith}
+use Rattle.std.proofs.Common.{◌≤◌, ◌-◌, Bor, Err, List, None, drop, length, map, subst, sym, take, ℕ}
+use Rattle.std.specs.Prelude.{Vec}
+use Rattle.std.specs.declared.alloc.Global.{Global}
+use Rattle.bl_base.specs.Quantity.{limit_of}
+use Rattle.bl_base.specs.declared.quantity.Quantity.TheVariants as quantity
+use Rattle.bl_wasm.specs.declared.linked.Tree.{Tree}
+use Rattle.bl_app.specs.Form.{IsUnlabelled}
 use Rattle.bl_app.specs.Interpreting.{interp_job}
 use Rattle.bl_app.specs.Jobs.{AreRead}
-use Rattle.bl_app.specs.Words.{interp_in}
-use Rattle.bl_app.specs.Working.{IsWork, contents_in}
-use Rattle.bl_app.proofs.WorkLemmas.{two_contents}
+use Rattle.bl_app.specs.Loading.{loading, module_read, parts_of}
+use Rattle.bl_words.specs.Requests.{AreNamedApart}
+use Rattle.bl_words.specs.Words.{interp_in}
+use Rattle.bl_app.specs.Working.{IsRunOf, IsStaged, IsWork, contents_in}
+use Rattle.bl_app.proofs.StartLemmas.{not_run, was_run}
+use Rattle.bl_app.proofs.WorkLemmas.{first_and_rest}
 use Rattle.bl_app.proofs.interp.interpret.Goals as goal
 
-pub interpret_module-requires : goal.interpret_module-requires
-interpret_module-requires c =
-    let shape = two_contents c.args.contents.now c.start-item.result c.bytes-item.result c.in-len2.len_at_least c.in-len2.len_below c.start-item.is c.bytes-item.is in
-    let read = subst (λ contents. AreRead None (interp_job (interp_in c.args.words.now)).reads (contents_in contents)) shape c.requires in
-    let short : length c.bytes-item.result.items ≤ 4194304 = read.1.0.short in
-    omega (arith, short, ap length c.deref-2.ensures.value)
+abbrev Words : Type 0
+Words = List (Bor (List ℕ))
+
+abbrev Contents : Type 0
+Contents = List (Vec ℕ Global)
+
+-- the words
+abbrev texts : Words → List (List ℕ)
+texts words = map (λ (word : Bor (List ℕ)). word.now) words
+
+-- the contents of the modules
+abbrev behind : Contents → List (List ℕ)
+behind contents = contents_in (take (length contents - 1) (drop 1 contents))
+
+pub load-requires-clause-few : goal.load-requires-clause-few
+load-requires-clause-few c = subst (λ (words : Words). length words ≤ limit_of quantity.Modules) (sym c.as_slice.ensures.value) c.requires.few
+
+pub load-requires-clause-apart : goal.load-requires-clause-apart
+load-requires-clause-apart c = subst (λ (words : Words). AreNamedApart (texts words)) (sym c.as_slice.ensures.value) c.requires.apart
+
+pub load-requires-clause-read : goal.load-requires-clause-read
+load-requires-clause-read c =
+    let shape = first_and_rest c.args.contents.now c.start-item.result c.in-len1-up.len_at_least c.start-item.is in
+    let read = subst (λ (all : Contents). AreRead None (interp_job (interp_in c.args.words.now)).reads (contents_in all)) shape c.requires.read in
+    subst (λ (words : Words). AreRead None (map module_read (texts words)) (behind c.args.contents.now)) (sym c.as_slice.ensures.value) read.1
+
+pub returns-in-Err : goal.returns-in-Err
+returns-in-Err c =
+    let request = interp_in c.args.words.now in
+    let shape = first_and_rest c.args.contents.now c.start-item.result c.in-len1-up.len_at_least c.start-item.is in
+    let staged =
+    subst (λ (words : Words). IsStaged (loading IsUnlabelled) (λ (tree : Tree). tree) (parts_of (texts words) (behind c.args.contents.now)) (Err c.in-Err.error)) c.as_slice.ensures.value c.in-Err.ensures in
+    subst (λ (all : Contents). IsWork (interp_job request) (contents_in all) (Err c.in-Err.error)) (sym shape)
+    (not_run request c.start-item.result.items (behind c.args.contents.now) c.in-Err.error staged)
 
 pub returns : goal.returns
 returns c =
-    let shape = two_contents c.args.contents.now c.start-item.result c.bytes-item.result c.in-len2.len_at_least c.in-len2.len_below c.start-item.is c.bytes-item.is in
-    let contents : c.deref.result.now ∷ c.deref-2.result.now ∷ [] ≡ contents_in c.args.contents.now = (λ i. c.deref.ensures.value i ∷ (c.deref-2.ensures.value i ∷ [])) ∙ sym (ap contents_in shape) in
-    subst (λ l. IsWork (interp_job (interp_in c.args.words.now)) l c.interpret_module.result) contents c.interpret_module.ensures
+    let request = interp_in c.args.words.now in
+    let shape = first_and_rest c.args.contents.now c.start-item.result c.in-len1-up.len_at_least c.start-item.is in
+    let loaded = subst (λ (words : Words). (loading IsUnlabelled).Passes (parts_of (texts words) (behind c.args.contents.now)) c.in-Ok.linked) c.as_slice.ensures.value c.in-Ok.ensures in
+    let run = subst (λ (start : List ℕ). IsRunOf request start c.in-Ok.linked c.interpret_tree.result) c.deref.ensures.value c.interpret_tree.ensures in
+    subst (λ (all : Contents). IsWork (interp_job request) (contents_in all) c.interpret_tree.result) (sym shape)
+    (was_run request c.start-item.result.items (behind c.args.contents.now) c.in-Ok.linked c.interpret_tree.result loaded run)

@@ -1,13 +1,18 @@
-use Rattle.std.proofs.Common.{[], ap, map, ◌∙◌}
-use Rattle.bl_base.specs.Runs.{outcome_of}
+use Rattle.std.proofs.Common.{◌≡◌, ◌∙◌, ap, map}
+use Rattle.bl_base.specs.Runs.{memory_of, outcome_of}
+use Rattle.bl_reduce.specs.Outcomes.{first_store}
 use Rattle.bl_app.specs.Outcomes.{outcome_text}
 use Rattle.bl_app.specs.Working.{keep_in}
 use Rattle.bl_app.proofs.interp.tell.Goals as goal
 
+pub first_memories-requires : goal.first_memories-requires
+first_memories-requires c = c.requires.start.fits.patches
+
 pub returns : goal.returns
 returns c =
     let outcome = outcome_of c.in_ok-run.run' in
-    let text = c.in_ok-text.ensures ∙ ap (λ kinds. outcome_text kinds [] c.args.steps outcome) c.as_slice.ensures in
+    let opening : map memory_of c.as_slice.result.now ≡ (first_store c.args.linked.now c.args.opening.now.start).memories = ap (map memory_of) c.as_slice.ensures ∙ c.in_ok-memories.ensures in
+    let text = c.in_ok-text.ensures ∙ (λ i. outcome_text (c.as_slice-kinds.ensures i) (opening i) c.args.steps outcome) in
     record {
       outcome = outcome;
       within = c.in_ok-run.ensures.answers;

@@ -1,35 +1,25 @@
-use Rattle.std.proofs.Common.{◌∙◌, None, Err, ap, map, refl, subst, sym}
-use Rattle.bl_app.specs.Commands.{job_of}
-use Rattle.bl_app.specs.Jobs.{AreRead}
-use Rattle.bl_app.specs.Words.{request_in}
-use Rattle.bl_app.specs.Working.{IsWork, contents_in, plan_in, read_in, refusal_in}
-use Rattle.bl_app.proofs.CarryLemmas.{against_ends, contents_fit, done_ends, unfetched_ends}
+use Rattle.std.proofs.Common.{◌≡◌, ◌<◌, Bor, List, ap, arith, length, refl, ℕ}
+use Rattle.std.proofs.lemmas.List.{length-map}
+use Rattle.bl_base.specs.Quantity.{limit_of}
+use Rattle.bl_base.specs.declared.quantity.Quantity.TheVariants as quantity
+use Rattle.bl_app.specs.Commands.{job_of, work_of}
+use Rattle.bl_app.specs.Refusals.{limit}
+use Rattle.bl_words.specs.Requests.{modules_in}
+use Rattle.bl_words.specs.Words.{request_in}
+use Rattle.bl_app.proofs.CarryLemmas.{refused_ends}
+use Rattle.bl_app.proofs.CountLemmas.{too_many_first}
 use Rattle.bl_app.proofs.top.carry_out.Goals as goal
 
-pub work-requires : goal.work-requires
-work-requires g c =
-    let same = ap (map read_in) c.as_slice.ensures.value ∙ c.in-Ok.ensures in
-    let fit = contents_fit (job_of (request_in c.args.request.now)) _ _ _ same c.in-Ok-fetch_all.ensures.1 in
-    subst (λ contents. AreRead None (job_of (request_in c.args.request.now)).reads (contents_in contents)) (sym c.as_slice-2.ensures.value) fit
-
-pub returns-in-Err : goal.returns-in-Err
-returns-in-Err g c =
-    let same = ap (map read_in) c.as_slice.ensures.value ∙ c.in-Ok.ensures in
-    unfetched_ends job_of (request_in c.args.request.now) _ _ _ _ same c.in-Err.ensures
-
-pub returns-in-Ok-work : goal.returns-in-Ok-work
-returns-in-Ok-work g c =
+pub returns-then-count-limit : goal.returns-then-count-limit
+returns-then-count-limit g c =
     let request = request_in c.args.request.now in
-    let same = ap (map read_in) c.as_slice.ensures.value ∙ c.in-Ok.ensures in
-    let does = subst (λ contents. (job_of request).Does (contents_in contents) (plan_in c.in-Ok-work.plan)) c.as_slice-2.ensures.value c.in-Ok-work.ensures in
-    let fetched = c.in-Ok-fetch_all.ensures in
-    done_ends job_of request _ _ _ _ _ _ same fetched.0 fetched.1 (plan_in c.in-Ok-work.plan) does c.deliver.ensures
+    let count = c.len-count.result in
+    let named = length-map c.modules_of.result.now (λ (word : Bor (List ℕ)). word.now) in
+    let same : count ≡ length (modules_in request) = omega (arith, c.len-count.ensures, named, ap length c.modules_of.ensures) in
+    let many : limit_of quantity.Modules < count = omega (arith, c.if-count-limit.true, c.limit.ensures) in
+    refused_ends job_of request _ c.refuse.result _ (limit quantity.Modules count) (too_many_first (modules_in request) (work_of request) _ count same many) refl refl c.refuse.ensures
 
-pub returns-in-Err-Refused : goal.returns-in-Err-Refused
-returns-in-Err-Refused g c =
-    let request = request_in c.args.request.now in
-    let same = ap (map read_in) c.as_slice.ensures.value ∙ c.in-Ok.ensures in
-    let refused = subst (λ e. IsWork (job_of request) (contents_in c.as_slice-2.result.now) (Err e)) c.in-Err-Refused.field-0-is c.in-Err-Refused.ensures in
-    let against = subst (λ contents. (job_of request).Against (contents_in contents) (refusal_in c.in-Err-Refused.refusal)) c.as_slice-2.ensures.value refused in
-    let fetched = c.in-Ok-fetch_all.ensures in
-    against_ends job_of request _ _ _ _ _ _ same fetched.0 fetched.1 (refusal_in c.in-Err-Refused.refusal) against refl refl c.refuse.ensures
+pub do_job-requires-clause-few : goal.do_job-requires-clause-few
+do_job-requires-clause-few g c =
+    let named = length-map c.modules_of.result.now (λ (word : Bor (List ℕ)). word.now) in
+    omega (arith, c.len-count.ensures, named, ap length c.modules_of.ensures, c.if-count-limit.false, c.limit.ensures)

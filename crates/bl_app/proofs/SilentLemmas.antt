@@ -1,0 +1,88 @@
+-- Protects don't show in a run of an image.
+use Rattle.std.proofs.Common.{◌≡◌, ℕ, List, [], ◌∷◌, map, Bool, Option, Some, None, slice_get, refl, sym, ap, ◌∙◌, subst}
+use Rattle.std.specs.Prelude.{◌↔◌}
+use Rattle.std.specs.List.{fold}
+use Rattle.bl_base.specs.Bytes.{patched}
+use Rattle.bl_base.specs.Runs.{IsWithin, Outcome}
+use Rattle.bl_base.specs.declared.start.Start.{Start}
+use Rattle.bl_cmd.specs.Outcomes.{first_memory, plain}
+use Rattle.bl_cmd.specs.Rules.{IsWellFormed}
+use Rattle.bl_cmd.specs.declared.definitions.MemoryDef.{MemoryDef}
+use Rattle.bl_cmd.specs.declared.definitions.ProgramParts.{ProgramParts as Program}
+use Rattle.bl_image.specs.Image.{Image}
+use Rattle.bl_image.proofs.Prefixes.{one_program}
+use Rattle.bl_trace.specs.Answers.{answer_of}
+use Rattle.bl_cut.specs.Marks.{protected}
+use Rattle.bl_cut.proofs.Marking.{run_back, run_same}
+use Rattle.bl_app.specs.Entering.{Entered, IsImaged, entering, function_named, kinds_of, pages_of}
+use Rattle.bl_app.specs.Executing.{HasPlainOutcome, RunDoes, plain_text}
+use Rattle.bl_app.specs.Hardening.{Hardened, IsHardened}
+use Rattle.bl_app.specs.Jobs.{Plan, saying}
+use Rattle.bl_app.specs.Outcomes.{outcome_status, outcome_text}
+use Rattle.bl_words.specs.Requests.{RunRequest}
+use Rattle.bl_app.proofs.FewestLemmas.{well_formed}
+use Rattle.bl_app.proofs.RunLemmas.{passes_here}
+
+-- the same outcome within so many steps
+within_on : (F G : ℕ → Outcome → Type 0) → ((n : ℕ) (o : Outcome) → F n o ↔ G n o) → (steps : ℕ) (outcome : Option Outcome) → IsWithin F steps outcome → IsWithin G steps outcome
+within_on F G each steps (Some outcome) h = (h.0, (each h.0 outcome).0 h.1, h.2)
+within_on F G each steps None h = λ n outcome ends few. h n outcome ((each n outcome).1 ends) few
+
+-- two programs that are alike but for what their commands are, with the same plain runs
+module _ (p q : Program) (functions : q.functions ≡ p.functions) (exports : q.exports ≡ p.exports) (memories : q.memories ≡ p.memories)
+    (runs : (function : ℕ) (start : Start) (n : ℕ) (o : Outcome) → plain p function start n o ↔ plain q function start n o)
+    (request : RunRequest) (own other start : List ℕ) (is : Image p own) (imaged : IsImaged other q) (plan : Plan) where
+  -- what is told of the one's image is told of the other's
+  told_too : RunDoes request (own ∷ start ∷ []) plan → RunDoes request (other ∷ start ∷ []) plan
+  told_too d =
+      let there = passes_here request (own ∷ start ∷ []) own start plan refl d in
+      let program : there.0 ≡ p = one_program there.0 p own there.1.image is in
+      let number = d.entered.entry.function in
+      let defined = d.entered.entry.defined in
+      let entry = there.2.2.same_entry in
+      let entered : Entered = record { entry = record { program = q; function = number; defined = defined }; start = d.entered.start } in
+      let same : d.entered.entry.program ≡ p = ap (λ e. e.program) entry ∙ there.2.1.same_program ∙ program in
+      let pages : pages_of q ≡ pages_of there.2.0.program = ap (map (λ (memory : MemoryDef). memory.pages)) memories ∙ ap pages_of (sym (there.2.1.same_program ∙ program)) in
+      let texts : (steps : ℕ) (outcome : Option Outcome) → plain_text d.entered steps outcome ≡ plain_text entered steps outcome = λ steps outcome.
+      ap (λ r. outcome_text defined.results (fold patched (map first_memory r) d.entered.start.patches) steps outcome) (ap (λ r. r.memories) same ∙ sym memories) in
+      record {
+        image = other;
+        start = start;
+        are = refl;
+        entered = entered;
+        prepared = (
+          q,
+          imaged,
+          (
+            entered.entry,
+            record {
+              same_program = refl;
+              exported = ap (function_named request.export) exports ∙ sym (ap (λ r. function_named request.export r.exports) program) ∙ there.2.1.exported ∙ ap (λ e. Some e.function) (sym entry);
+              defined = ap (λ l. slice_get l number) functions ∙ sym (ap (λ r. slice_get r.functions number) program) ∙ ap (λ e. slice_get there.0.functions e.function) entry
+                  ∙ there.2.1.defined ∙ ap (λ e. Some e.defined) (sym entry);
+            },
+            record { same_entry = refl; read = (λ i. answer_of (kinds_of (entry i).defined) (pages i) start) ∙ there.2.2.read },
+          ),
+        );
+        outcome = d.outcome;
+        within = within_on (plain p number d.entered.start) (plain q number d.entered.start) (runs number d.entered.start) request.steps d.outcome
+            (subst (λ r. IsWithin (plain r number d.entered.start) request.steps d.outcome) same d.within);
+        is_plan = d.is_plan ∙ ap (saying (outcome_status d.outcome)) (texts request.steps d.outcome);
+      }
+
+module _ (request : RunRequest) (bare : Program) (rules : IsWellFormed bare) (own start : List ℕ) (is : Image bare own) (hardened : Hardened) (h : IsHardened bare hardened) (plan : Plan) where
+  abbrev after : Program
+  after = protected h.set bare
+
+  silent : (function : ℕ) (start : Start) (n : ℕ) (o : Outcome) → plain bare function start n o ↔ plain after function start n o
+  silent function start n o = (run_back h.set bare function start n o, run_same h.set bare function start n o)
+
+  after_imaged : IsImaged hardened.image after
+  after_imaged = subst (IsImaged hardened.image) h.is_program (record { image = h.image; rules = well_formed bare is.is_program rules hardened h })
+
+  pub shown : RunDoes request (own ∷ start ∷ []) plan → RunDoes request (hardened.image ∷ start ∷ []) plan
+  shown d = told_too bare after refl refl refl silent request own hardened.image start is after_imaged plan d
+
+  pub hidden : RunDoes request (hardened.image ∷ start ∷ []) plan → RunDoes request (own ∷ start ∷ []) plan
+  hidden d =
+      told_too after bare refl refl refl (λ function start n o. ((silent function start n o).1, (silent function start n o).0)) request hardened.image own start after_imaged.image (record { image = is; rules = rules }) plan d

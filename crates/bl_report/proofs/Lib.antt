@@ -1,0 +1,4 @@
+pub mod FirstPaths
+pub mod ProtectReasons
+pub mod ProtectedSites
+mod ReportLines

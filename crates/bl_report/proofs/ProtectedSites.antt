@@ -1,0 +1,65 @@
+-- The protected positions of a program, one after another.
+use Rattle.std.proofs.Common.{◌≡◌, ℕ, suc, ◌+◌, ◌-◌, ◌^◌, ◌<◌, ◌≤◌, Bool, true, false, cond, List, [], ◌∷◌, ◌++◌, length, append-nil, Option, Some, None, refl, sym, ap, subst, ◌∙◌, arith, inl, inr}
+use Rattle.std.specs.Prelude.{IsSome, IsTrue, is_some, option_and_then, option_map, unwrap_or}
+use Rattle.std.specs.List.{All, filter, range_with_len}
+use Rattle.std.proofs.lemmas.Bool.{cases_Bool, cases_lt, false≢true}
+use Rattle.std.proofs.lemmas.List.{append_assoc}
+use Rattle.std.proofs.lemmas.List.Elements.{All-cons, All-nil}
+use Rattle.std.proofs.lemmas.Option.{slice_get_past}
+use Rattle.bl_cmd.specs.Sites.{IsSite, is_protected, listed, mark_at, mark_of}
+use Rattle.bl_cmd.specs.declared.command.Mark.{Mark}
+use Rattle.bl_cmd.specs.declared.definitions.ProgramParts.{ProgramParts as Program}
+use Rattle.bl_report.specs.Reports.{protects}
+
+-- what is protected is a site
+pub protected_is_site : (program : Program) (s : ℕ) → IsTrue (is_protected program s) → IsSite program s
+protected_is_site program s h = by (mark_at program s) h
+  where
+    by : (o : Option Mark) → unwrap_or (option_map (λ (mark : Mark). mark.protect) o) false ≡ true
+        → IsSome (option_map (λ (mark : Mark). unwrap_or (listed program.weights s) (10 ^ mark.depth)) o)
+    by None e = absurd (false≢true e)
+    by (Some mark) e = refl
+
+module _ (test : ℕ → Bool) (sites : List ℕ) (i n : ℕ) where
+  rest_is : i < n → range_with_len i (n - i) ≡ i ∷ range_with_len (i + 1) (n - (i + 1))
+  rest_is lt = let count : n - i ≡ suc (n - (i + 1)) = omega arith in ap (range_with_len i) count
+
+  pub chosen_next : i < n → test i ≡ true → (sites ++ i ∷ []) ++ filter test (range_with_len (i + 1) (n - (i + 1))) ≡ sites ++ filter test (range_with_len i (n - i))
+  chosen_next lt e =
+      let more = filter test (range_with_len (i + 1) (n - (i + 1))) in
+      append_assoc sites (i ∷ []) more ∙ ap (λ b. sites ++ cond b (i ∷ more) more) (sym e) ∙ ap (λ l. sites ++ filter test l) (sym (rest_is lt))
+
+  pub other_next : i < n → test i ≡ false → sites ++ filter test (range_with_len (i + 1) (n - (i + 1))) ≡ sites ++ filter test (range_with_len i (n - i))
+  other_next lt e =
+      let more = filter test (range_with_len (i + 1) (n - (i + 1))) in
+      ap (λ b. sites ++ cond b (i ∷ more) more) (sym e) ∙ ap (λ l. sites ++ filter test l) (sym (rest_is lt))
+
+  pub chosen_all : (all : List ℕ) → n ≤ i → sites ++ filter test (range_with_len i (n - i)) ≡ all → sites ≡ all
+  chosen_all all le e =
+      let none : n - i ≡ 0 = omega arith in
+      sym (append-nil sites) ∙ ap (λ k. sites ++ filter test (range_with_len i k)) (sym none) ∙ e
+
+-- a site stands below the number of commands
+pub site_below : (program : Program) (s : ℕ) → IsSite program s → s < length program.commands
+site_below program s h =
+    elim (cases_lt s (length program.commands)) as (λ _. s < length program.commands) [
+      | inl lt ↦ lt
+      | inr past ↦
+          absurd (false≢true
+          (sym (ap (λ o. is_some (option_map (λ (mark : Mark). unwrap_or (listed program.weights s) (10 ^ mark.depth)) (option_and_then mark_of o))) (slice_get_past program.commands s past)) ∙ h))
+    ]
+
+-- what is protected is a site
+module _ (program : Program) where
+  chosen_sites : (xs : List ℕ) → All (IsSite program) (filter (is_protected program) xs)
+  chosen_sites [] = All-nil (IsSite program)
+  chosen_sites (x ∷ xs) =
+      elim (cases_Bool (is_protected program x)) as (λ _. All (IsSite program) (filter (is_protected program) (x ∷ xs))) [
+        | inl e ↦
+            subst (λ b. All (IsSite program) (cond b (x ∷ filter (is_protected program) xs) (filter (is_protected program) xs))) (sym e)
+            (All-cons (IsSite program) x (filter (is_protected program) xs) (protected_is_site program x e) (chosen_sites xs))
+        | inr e ↦ subst (λ b. All (IsSite program) (cond b (x ∷ filter (is_protected program) xs) (filter (is_protected program) xs))) (sym e) (chosen_sites xs)
+      ]
+
+  pub protects_are_sites : All (IsSite program) (protects program)
+  protects_are_sites = chosen_sites (range_with_len 0 (length program.commands))

@@ -1,0 +1,89 @@
+//! The lines of protects.
+ghost use Rattle.std.specs.Prelude.{◌≡◌, ◌++◌, All, IfOk};
+ghost use Rattle.std.specs.List.{flat_map};
+ghost use Rattle.bl_cmd.specs.Sites.{IsSite};
+ghost use Rattle.bl_report.specs.Noting.{IsFirst};
+ghost use Rattle.bl_report.specs.Reports.{place_text, protect_line, protect_text};
+
+use crate::first::first_paths;
+use bl_base::{NoMemory, Pos};
+use bl_cmd::{WellFormed, site_weight};
+use bl_graph::FlowPath;
+use std::alloc::Global;
+
+/// Puts the lines of the protects at these sites behind a text.
+pub(crate) fn push_protects(
+    alloc: Global,
+    text: &mut Vec<u8>,
+    program: &WellFormed,
+    paths: &[FlowPath],
+    sites: &[u32],
+) -> Result<(), NoMemory>
+    requires { All (IsSite program.now) sites.now }
+    ensures { IfOk result (λ _. text.new.items ≡ text.old.items ++ flat_map (protect_text program.now paths.now) sites.now) }
+{
+    let firsts = first_paths(alloc, program.program().parts().commands.len(), paths)?;
+    for site in sites {
+        let first = firsts[*site as usize];
+        push_protect(alloc, text, program, paths, first, *site)?;
+    }
+    Ok(())
+}
+
+/// Puts the line of the protect at a site behind a text, where the first path that takes it has that index; nothing where none does.
+fn push_protect(
+    alloc: Global,
+    text: &mut Vec<u8>,
+    program: &WellFormed,
+    paths: &[FlowPath],
+    first: Option<usize>,
+    site: u32,
+) -> Result<(), NoMemory>
+    requires site { IsSite program.now site }
+    requires first { IsFirst paths.now paths.now site first }
+    ensures { IfOk result (λ _. text.new.items ≡ text.old.items ++ protect_text program.now paths.now site) }
+{
+    if let Some(index) = first {
+        let weight = site_weight(program, Pos(site));
+        push_line(alloc, text, site, weight, &paths[index])?;
+    }
+    Ok(())
+}
+
+/// Puts the line of a protect behind a text, with the site's weight and a path that takes it.
+fn push_line(
+    alloc: Global,
+    text: &mut Vec<u8>,
+    site: u32,
+    weight: u64,
+    path: &FlowPath,
+) -> Result<(), NoMemory>
+    ensures { IfOk result (λ _. text.new.items ≡ text.old.items ++ protect_line site weight path.now) }
+{
+    let sink = path.sink.0;
+    let head = format!(in alloc; "protect {site} weight {weight} path")?;
+    let tail = format!(in alloc; " sink {sink}\n")?;
+    text.extend_from_slice(head.as_bytes())?;
+    push_places(alloc, text, path.sites.as_slice())?;
+    text.extend_from_slice(tail.as_bytes())?;
+    Ok(())
+}
+
+/// Puts the positions of a path's sites behind a text.
+fn push_places(alloc: Global, text: &mut Vec<u8>, sites: &[Pos]) -> Result<(), NoMemory>
+    ensures { IfOk result (λ _. text.new.items ≡ text.old.items ++ flat_map (λ s. place_text s.0) sites.now) }
+{
+    for site in sites {
+        push_place(alloc, text, site.0)?;
+    }
+    Ok(())
+}
+
+/// Puts a position behind a text.
+fn push_place(alloc: Global, text: &mut Vec<u8>, place: u32) -> Result<(), NoMemory>
+    ensures { IfOk result (λ _. text.new.items ≡ text.old.items ++ place_text place) }
+{
+    let piece = format!(in alloc; " {place}")?;
+    text.extend_from_slice(piece.as_bytes())?;
+    Ok(())
+}

@@ -1,0 +1,8 @@
+pub mod Contents
+pub mod ModuleNames
+pub mod ModuleWords
+pub mod NameSets
+pub mod Tops
+pub mod Walks
+pub mod WordKinds
+pub mod WordsLemmas

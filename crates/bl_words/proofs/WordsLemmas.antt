@@ -1,0 +1,196 @@
+-- How the words of a command are taken apart, and what those of a request say of its files.
+use Rattle.std.proofs.Common.{◌≡◌, ◌∙◌, ap, sym, ℕ, Bool, true, false, cond, List, [], ◌∷◌, ◌++◌, drop, map, Option, Some, None, refl, subst}
+use Rattle.std.specs.Prelude.{⊤, Decides, IfSome, codes, option_and_then}
+use Rattle.std.specs.Option.{option_map}
+use Rattle.std.specs.Str.{bytes_eq}
+use Rattle.std.proofs.lemmas.Bool.{cond-false, eqb-true, false_from_ne_true}
+use Rattle.std.proofs.lemmas.Bool.Decides.{not_from_Decides}
+use Rattle.std.proofs.lemmas.List.{take-append-drop}
+use Rattle.std.proofs.lemmas.Option.{none-some}
+use Rattle.std.proofs.lemmas.Slice.Eq.{bytes_eq-Decides}
+use Rattle.bl_words.specs.Requests.{AreNamedApart, HardenRequest, Parts, Request, are_distinct, command_named, harden, harden_of, interp, interp_of, lower, lower_of, module_name, modules_in, modules_of, parts_behind_steps, parts_of, request_by, request_of, run, run_of, spec, spec_of, steps_of}
+use Rattle.bl_words.specs.Requests.{BeginsWithDash, IsOption, IsTakenApart, no_words, options_end, argument, value_in_next_word, value_in_same_word}
+use Rattle.bl_words.specs.Requests.{begins_with_dash, is_option, is_steps_value, with_argument, with_steps}
+use Rattle.bl_words.proofs.ModuleWords.{named_apart}
+use Rattle.bl_words.specs.declared.command.Command.{Command}
+use Rattle.bl_words.specs.declared.command.Command.TheVariants.{Harden, Interp, Lower, Run, Spec}
+
+-- the tests of a word say what they are named for
+begins : (word : List ℕ) → begins_with_dash word ≡ true → BeginsWithDash word
+begins [] e = cc
+begins (first ∷ rest) e = record { rest = rest; spelled = ap (λ n. n ∷ rest) (eqb-true first 45 e) }
+
+dash_decides : (word : List ℕ) → Decides (begins_with_dash word) (BeginsWithDash word)
+dash_decides word = (begins word, λ dash. ap begins_with_dash dash.spelled)
+
+option_is : (word : List ℕ) → is_option word ≡ true → IsOption word
+option_is [] e = cc
+option_is (first ∷ []) e = cc
+option_is (first ∷ second ∷ rest) e = record { begins_with_dash = begins (first ∷ second ∷ rest) e; not_alone = λ alone. cc }
+
+is_option_of : (rest : List ℕ) → (codes "-" ++ rest ≡ codes "-" → ⊥) → is_option (codes "-" ++ rest) ≡ true
+is_option_of [] more = absurd (more refl)
+is_option_of (second ∷ rest) more = refl
+
+option_decides : (word : List ℕ) → Decides (is_option word) (IsOption word)
+option_decides word = (
+  option_is word,
+  λ option.
+      let dash = option.begins_with_dash in
+      ap is_option dash.spelled ∙ is_option_of dash.rest (λ alone. option.not_alone (dash.spelled ∙ alone)),
+)
+
+steps_is : (word : List ℕ) → is_steps_value word ≡ true → codes "--steps=" ++ drop 8 word ≡ word
+steps_is word e = ap (λ front. front ++ drop 8 word) (sym ((bytes_eq-Decides _ _).0 e)) ∙ take-append-drop 8 word
+
+-- what holds of both of two choices holds of the one that is made
+of_cond : {A : Type 0} (P : A → Type 0) (test : Bool) (x y : A) → (test ≡ true → P x) → (test ≡ false → P y) → P (cond test x y)
+of_cond P true x y yes_so not_so = yes_so refl
+of_cond P false x y yes_so not_so = not_so refl
+
+-- the words are taken apart so, where parts are found
+abbrev AreParts : List (List ℕ) → Option Parts → Type 0
+AreParts words None = ⊤
+AreParts words (Some parts) = IsTakenApart words parts.arguments parts.steps_values
+
+after_argument : (word : List ℕ) (words : List (List ℕ)) (found : Option Parts) → (IsOption word → ⊥) → AreParts words found → AreParts (word ∷ words) (option_map (with_argument word) found)
+after_argument word words None plain parts = tt
+after_argument word words (Some found) plain parts = argument word words found.arguments found.steps_values plain parts
+
+after_value : (value : List ℕ) (words : List (List ℕ)) (found : Option Parts) → (BeginsWithDash value → ⊥) → AreParts words found → AreParts (codes "--steps" ∷ value ∷ words) (option_map (with_steps value) found)
+after_value value words None plain parts = tt
+after_value value words (Some found) plain parts = value_in_next_word value words found.arguments found.steps_values plain parts
+
+after_steps : (value : List ℕ) (words : List (List ℕ)) (found : Option Parts) → AreParts words found → AreParts ((codes "--steps=" ++ value) ∷ words) (option_map (with_steps value) found)
+after_steps value words None parts = tt
+after_steps value words (Some found) parts = value_in_same_word value words found.arguments found.steps_values parts
+
+mutual
+  are_parts : (words : List (List ℕ)) → AreParts words (parts_of words)
+  are_parts [] = no_words
+  are_parts (word ∷ words) =
+      of_cond (AreParts (word ∷ words)) (bytes_eq word (codes "--")) _ _
+      (λ ends. subst (λ w. IsTakenApart (w ∷ words) words []) (sym ((bytes_eq-Decides _ _).0 ends)) (options_end words))
+      (λ _. of_cond (AreParts (word ∷ words)) (bytes_eq word (codes "--steps")) _ _
+      (λ steps. subst (λ w. AreParts (w ∷ words) (parts_behind_steps words)) (sym ((bytes_eq-Decides _ _).0 steps)) (are_parts_behind words))
+      (λ _. of_cond (AreParts (word ∷ words)) (is_steps_value word) _ _
+      (λ valued. subst (λ w. AreParts (w ∷ words) (option_map (with_steps (drop 8 word)) (parts_of words))) (steps_is word valued) (after_steps (drop 8 word) words (parts_of words) (are_parts words)))
+      (λ _. of_cond (AreParts (word ∷ words)) (is_option word) _ _
+      (λ option. tt)
+      (λ plain. after_argument word words (parts_of words) (not_from_Decides _ (option_decides word) plain) (are_parts words)))))
+
+  are_parts_behind : (words : List (List ℕ)) → AreParts (codes "--steps" ∷ words) (parts_behind_steps words)
+  are_parts_behind [] = tt
+  are_parts_behind (value ∷ words) =
+      of_cond (AreParts (codes "--steps" ∷ value ∷ words)) (begins_with_dash value) _ _
+      (λ dash. tt)
+      (λ plain. after_value value words (parts_of words) (not_from_Decides _ (dash_decides value) plain) (are_parts words))
+
+pub taken_apart : (words arguments values : List (List ℕ)) → parts_of words ≡ Some (record { arguments = arguments; steps_values = values }) → IsTakenApart words arguments values
+taken_apart words arguments values found = subst (AreParts words) found (are_parts words)
+
+-- a test that options alone pass fails at another word
+other_fails : (word : List ℕ) (test : Bool) → (IsOption word → ⊥) → (test ≡ true → is_option word ≡ true) → test ≡ false
+other_fails word test plain so = false_from_ne_true test (λ e. plain (option_is word (so e)))
+
+pub parts_found : (words arguments values : List (List ℕ)) → IsTakenApart words arguments values → parts_of words ≡ Some (record { arguments = arguments; steps_values = values })
+parts_found _ _ _ no_words = refl
+parts_found _ _ _ (options_end words) = refl
+parts_found _ _ _ (argument word words arguments values plain apart) =
+    cond-false (bytes_eq word (codes "--")) _ _ (other_fails word _ plain (λ e. ap is_option ((bytes_eq-Decides word (codes "--")).0 e)))
+    ∙ cond-false (bytes_eq word (codes "--steps")) _ _ (other_fails word _ plain (λ e. ap is_option ((bytes_eq-Decides word (codes "--steps")).0 e)))
+    ∙ cond-false (is_steps_value word) _ _ (other_fails word _ plain (λ e. ap is_option (sym (steps_is word e))))
+    ∙ cond-false (is_option word) _ _ (other_fails word _ plain (λ e. e))
+    ∙ ap (option_map (with_argument word)) (parts_found words arguments values apart)
+parts_found _ _ _ (value_in_next_word value words arguments values plain apart) =
+    cond-false (begins_with_dash value) _ _ (false_from_ne_true _ (λ e. plain (begins value e)))
+    ∙ ap (option_map (with_steps value)) (parts_found words arguments values apart)
+parts_found _ _ _ (value_in_same_word value words arguments values apart) =
+    ap (option_map (with_steps value)) (parts_found words arguments values apart)
+
+-- the files that a `harden` keeps differ, and no two modules of a request have one name
+abbrev KeepsApart : Request → Type 0
+KeepsApart (harden request) = (bytes_eq request.image request.certificate ≡ false) × AreNamedApart request.modules
+KeepsApart (lower request) = AreNamedApart request.modules
+KeepsApart (interp request) = AreNamedApart request.modules
+KeepsApart (run request) = Unit {0}
+KeepsApart (spec request) = Unit {0}
+
+apart_then : {A : Type 0} (ask : A → Option Request) (found : Option A) → ((a : A) → IfSome (ask a) KeepsApart) → IfSome (option_and_then ask found) KeepsApart
+apart_then ask None h = tt
+apart_then ask (Some a) h = h a
+
+apart_steps : (made : ℕ → Request) (steps : Option ℕ) → ((n : ℕ) → KeepsApart (made n)) → IfSome (option_map made steps) KeepsApart
+apart_steps made None h = tt
+apart_steps made (Some n) h = h n
+
+-- ---- modules
+
+modules_apart : (words : List (List ℕ)) → IfSome (modules_of words) AreNamedApart
+modules_apart [] = tt
+modules_apart (word ∷ words) =
+    of_cond (λ found. IfSome found AreNamedApart) (are_distinct (map module_name (word ∷ words))) (Some (word ∷ words)) None (λ apart. named_apart (word ∷ words) apart) (λ _. tt)
+
+-- what is asked for of modules
+of_modules : (ask : List (List ℕ) → Option Request) (found : Option (List (List ℕ))) → IfSome found AreNamedApart → ((modules : List (List ℕ)) → AreNamedApart modules → IfSome (ask modules) KeepsApart)
+    → IfSome (option_and_then ask found) KeepsApart
+of_modules ask None apart h = tt
+of_modules ask (Some modules) apart h = h modules apart
+
+with_modules_apart : (made : List (List ℕ) → Request) (found : Option (List (List ℕ))) → IfSome found AreNamedApart → ((modules : List (List ℕ)) → AreNamedApart modules → KeepsApart (made modules))
+    → IfSome (option_map made found) KeepsApart
+with_modules_apart made None apart h = tt
+with_modules_apart made (Some modules) apart h = h modules apart
+
+-- ---- requests
+
+harden_apart : (arguments values : List (List ℕ)) → IfSome (harden_of arguments values) KeepsApart
+harden_apart (image ∷ certificate ∷ words) [] =
+    of_cond (λ found. IfSome found KeepsApart) (bytes_eq image certificate) None (option_map (λ modules. harden (record { image = image; certificate = certificate; modules = modules })) (modules_of words))
+    (λ _. tt)
+    (λ differ. with_modules_apart (λ modules. harden (record { image = image; certificate = certificate; modules = modules })) (modules_of words) (modules_apart words) (λ modules apart. (differ, apart)))
+harden_apart _ _ = tt
+
+lower_apart : (arguments values : List (List ℕ)) → IfSome (lower_of arguments values) KeepsApart
+lower_apart (image ∷ words) [] = with_modules_apart (λ modules. lower (record { image = image; modules = modules })) (modules_of words) (modules_apart words) (λ modules apart. apart)
+lower_apart _ _ = tt
+
+interp_apart : (arguments values : List (List ℕ)) → IfSome (interp_of arguments values) KeepsApart
+interp_apart (export ∷ start ∷ words) values =
+    of_modules (λ modules. option_map (λ steps. interp (record { export = export; start = start; modules = modules; steps = steps })) (steps_of values)) (modules_of words) (modules_apart words)
+    (λ modules apart. apart_steps (λ steps. interp (record { export = export; start = start; modules = modules; steps = steps })) (steps_of values) (λ n. apart))
+interp_apart _ values = tt
+
+run_apart : (arguments values : List (List ℕ)) → IfSome (run_of arguments values) KeepsApart
+run_apart (image ∷ export ∷ start ∷ []) values = apart_steps _ (steps_of values) (λ n. tt)
+run_apart _ values = tt
+
+spec_apart : (arguments values : List (List ℕ)) → IfSome (spec_of arguments values) KeepsApart
+spec_apart (image ∷ export ∷ trace ∷ start ∷ []) [] = tt
+spec_apart _ _ = tt
+
+request_apart : (command : Command) (parts : Parts) → IfSome (request_by command parts) KeepsApart
+request_apart Harden parts = harden_apart parts.arguments parts.steps_values
+request_apart Lower parts = lower_apart parts.arguments parts.steps_values
+request_apart Interp parts = interp_apart parts.arguments parts.steps_values
+request_apart Run parts = run_apart parts.arguments parts.steps_values
+request_apart Spec parts = spec_apart parts.arguments parts.steps_values
+
+words_apart : (words : List (List ℕ)) → IfSome (request_of words) KeepsApart
+words_apart (program ∷ word ∷ words) =
+    apart_then (λ command. option_and_then (request_by command) (parts_of words)) (command_named word) (λ command. apart_then (request_by command) (parts_of words) (request_apart command))
+words_apart _ = tt
+
+pub request_differs : (words : List (List ℕ)) (request : HardenRequest) → request_of words ≡ Some (harden request) → bytes_eq request.image request.certificate ≡ false
+request_differs words request e = (subst (λ asked. IfSome asked KeepsApart) e (words_apart words)).0
+
+-- no two modules of a request have one name
+named_in : (request : Request) → KeepsApart request → AreNamedApart (modules_in request)
+named_in (harden request) h = h.1
+named_in (lower request) h = h
+named_in (interp request) h = h
+named_in (run request) h = record { apart = λ i j a b first second same. absurd (none-some a first) }
+named_in (spec request) h = record { apart = λ i j a b first second same. absurd (none-some a first) }
+
+pub names_apart : (words : List (List ℕ)) (request : Request) → request_of words ≡ Some request → AreNamedApart (modules_in request)
+names_apart words request e = named_in request (subst (λ asked. IfSome asked KeepsApart) e (words_apart words))

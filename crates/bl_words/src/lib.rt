@@ -1,0 +1,15 @@
+//! The words of a call: what they ask for, read by `clap` as one level of plain subcommands, and equal in both directions to
+//! the rules of words, which stand apart from the code in `specs/`.
+#![tactic(auto)]
+
+mod command;
+mod command_line;
+pub mod laws;
+mod modules;
+mod read;
+mod steps;
+mod words;
+
+pub use modules::module_name;
+pub use read::read_words;
+pub use words::{HardenWords, InterpWords, LowerWords, Request, RunWords, SpecWords};

@@ -1,0 +1,33 @@
+//! The most steps of a run, as words say them.
+ghost use Rattle.std.specs.Prelude.{◌≡◌};
+ghost use Rattle.clap.specs.Walk.{texts};
+ghost use Rattle.bl_words.specs.Requests.{number_of_steps, steps_of};
+
+use bl_trace::read_decimal;
+
+/// The most steps of an `interp` or a `run` that doesn't say them.
+const DEFAULT_STEPS: u64 = 1_000_000;
+
+/// The greatest number of steps that may be asked for.
+const GREATEST_STEPS: u64 = 4_294_967_295;
+
+/// The most steps, by the values that `--steps` is given: at most one may stand.
+pub fn most_steps(values: &[&str]) -> Option<u64>
+    ensures { result ≡ steps_of (texts values.now) }
+{
+    match values {
+        [] => Some(DEFAULT_STEPS),
+        [value] => read_steps(*value),
+        _ => None,
+    }
+}
+
+/// A number from 1 to 4,294,967,295 in one to ten decimal digits, without a sign.
+fn read_steps(word: &str) -> Option<u64>
+    ensures { result ≡ number_of_steps word.now }
+{
+    match read_decimal(word.as_bytes(), GREATEST_STEPS) {
+        Some(steps) if steps > 0 && word.len() < 11 => Some(steps),
+        _ => None,
+    }
+}

@@ -1,0 +1,75 @@
+//! What the words of a call ask for.
+
+/// What the words of a call ask for.
+#[derive(Drop)]
+pub enum Request<'a> {
+    /// To write the image and the certificate of modules.
+    Harden(HardenWords<'a>),
+    /// To write the image of modules.
+    Lower(LowerWords<'a>),
+    /// To run an exported function of modules.
+    Interp(InterpWords<'a>),
+    /// To run an exported function of an image.
+    Run(RunWords<'a>),
+    /// To take directives of a trace file on an exported function of an image.
+    Spec(SpecWords<'a>),
+}
+
+/// The words of a `harden`.
+#[derive(Drop)]
+pub struct HardenWords<'a> {
+    /// The file of the image, which is written.
+    pub image: &'a str,
+    /// The file of the certificate, which is written.
+    pub certificate: &'a str,
+    /// The files of the modules, which are read: at least one, and no two modules have one name.
+    pub modules: Vec<&'a str>,
+}
+
+/// The words of a `lower`.
+#[derive(Drop)]
+pub struct LowerWords<'a> {
+    /// The file of the image, which is written.
+    pub image: &'a str,
+    /// The files of the modules, which are read: at least one, and no two modules have one name.
+    pub modules: Vec<&'a str>,
+}
+
+/// The words of an `interp`.
+#[derive(Drop)]
+pub struct InterpWords<'a> {
+    /// The name of the exported function that is entered.
+    pub export: &'a str,
+    /// The start file, which is read.
+    pub start: &'a str,
+    /// The files of the modules, which are read: at least one, and no two modules have one name.
+    pub modules: Vec<&'a str>,
+    /// The most steps that are made, from 1 to 4,294,967,295.
+    pub steps: u64,
+}
+
+/// The words of a `run`.
+#[derive(Clone, Copy)]
+pub struct RunWords<'a> {
+    /// The file of the image, which is read.
+    pub image: &'a str,
+    /// The name of the exported function that is entered.
+    pub export: &'a str,
+    /// The start file, which is read.
+    pub start: &'a str,
+    /// The most steps that are made, from 1 to 4,294,967,295.
+    pub steps: u64,
+}
+
+/// The words of a `spec`.
+#[derive(Clone, Copy)]
+pub struct SpecWords<'a> {
+    /// The file of the image, which is read.
+    pub image: &'a str,
+    /// The name of the exported function that is entered.
+    pub export: &'a str,
+    /// The trace file, which is read.
+    pub trace: &'a str,
+    /// The start file, which is read.
+    pub start: &'a str,
+}

@@ -1,0 +1,11 @@
+//! Tests of the check of constant time, from an image's bytes on.
+#![tactic(auto)]
+
+#[cfg(test)]
+mod chains;
+#[cfg(test)]
+mod images;
+#[cfg(test)]
+mod labels;
+#[cfg(test)]
+mod verdicts;

@@ -1,0 +1,8 @@
+use Rattle.tests_link.proofs.PartLemmas.{more_parts, no_parts}
+use Rattle.tests_link.proofs.parts.parts_of.Goals as goal
+
+pub loop-name-init : goal.loop-name-init
+loop-name-init c = no_parts c.new-parts.result c.new-parts.ensures
+
+pub loop-name-preserved : goal.loop-name-preserved
+loop-name-preserved c = ?

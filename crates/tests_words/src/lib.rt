@@ -1,0 +1,5 @@
+//! Tests of the words of calls.
+#![tactic(auto)]
+
+#[cfg(test)]
+mod tests;

@@ -1,0 +1,153 @@
+use bl_words::{Request, read_words};
+use std::alloc::Global;
+use std::test::Fail;
+
+/// The words of a line behind the program's name, and what they ask for.
+static OPTIONS: [(&str, &str); 28] = [
+    ("interp m/f s a.wasm", "interp m/f s 1000000: a.wasm"),
+    ("interp --steps=7 m/f s a.wasm", "interp m/f s 7: a.wasm"),
+    ("interp m/f --steps 7 s a.wasm", "interp m/f s 7: a.wasm"),
+    ("interp m/f s a --steps 7 b", "interp m/f s 7: a b"),
+    ("interp m/f s a --steps=0000000001", "interp m/f s 1: a"),
+    (
+        "interp m/f s a --steps 4294967295",
+        "interp m/f s 4294967295: a",
+    ),
+    ("interp m/f s a --steps 4294967296", "none"),
+    ("interp m/f s a --steps 00000000001", "none"),
+    ("interp m/f s a --steps 0", "none"),
+    ("interp m/f s a --steps=", "none"),
+    ("interp m/f s a --steps=+1", "none"),
+    ("interp m/f s a --steps=-1", "none"),
+    ("interp m/f s a --steps=1=2", "none"),
+    ("interp m/f s a --steps -1", "none"),
+    ("interp m/f s a --steps -", "none"),
+    ("interp m/f s a --steps --", "none"),
+    ("interp m/f s a --steps", "none"),
+    ("interp m/f s a --steps 7 --steps=7", "none"),
+    ("interp m/f s a --step 7", "none"),
+    ("interp m/f s a --Steps=7", "none"),
+    ("interp m/f s a -s", "none"),
+    (
+        "interp -- --steps s -a --help",
+        "interp --steps s 1000000: -a --help",
+    ),
+    ("interp m/f s --steps=7 -- a --", "interp m/f s 7: a --"),
+    ("interp - m - -- --", "interp - m 1000000: - --"),
+    ("run a.img m/f s --steps=9", "run a.img m/f s 9"),
+    ("run a.img m/f s", "run a.img m/f s 1000000"),
+    ("spec a.img m/f t s --steps=9", "none"),
+    ("harden a b m.wasm --steps 7", "none"),
+];
+
+/// The words of a line behind the program's name, and what they ask for.
+static COMMANDS: [(&str, &str); 27] = [
+    ("harden i c m.wasm", "harden i c: m.wasm"),
+    ("harden i c x/m.wasm n x/m", "none"),
+    (
+        "harden i c x/m.wasm.wasm n x/m",
+        "harden i c: x/m.wasm.wasm n x/m",
+    ),
+    ("harden i i m", "none"),
+    ("harden i c", "none"),
+    ("harden - -- -c -", "harden - -c: -"),
+    ("lower i m", "lower i: m"),
+    ("lower m m", "lower m: m"),
+    ("lower i a b c d e f g h k", "lower i: a b c d e f g h k"),
+    ("lower i a/m b/m.wasm", "none"),
+    ("lower i", "none"),
+    ("interp m/f s", "none"),
+    ("interp m/f s m m", "none"),
+    ("run i e", "none"),
+    ("run i e s m", "none"),
+    ("spec i e t s", "spec i e t s"),
+    ("spec i e t", "none"),
+    ("spec i e t s s", "none"),
+    ("Interp m/f s a", "none"),
+    ("inter m/f s a", "none"),
+    ("-- lower i m", "none"),
+    ("--steps=7 interp m/f s a", "none"),
+    ("help", "none"),
+    ("help lower", "none"),
+    ("--help", "none"),
+    ("lower --help i m", "none"),
+    ("-V", "none"),
+];
+
+/// The words with a space before each.
+fn joined(alloc: Global, words: &[&str]) -> Result<String, Fail> {
+    let mut text = String::new(alloc);
+    for word in words {
+        text.push(' ')?;
+        text.push_str(*word)?;
+    }
+    Ok(text)
+}
+
+/// What the words ask for, as a line.
+fn asked(alloc: Global, words: &[String]) -> Result<String, Fail> {
+    match read_words(alloc, words)? {
+        None => Ok(format!(in alloc; "none")?),
+        Some(Request::Harden(harden)) => {
+            let modules = joined(alloc, harden.modules.as_slice())?;
+            let (image, certificate) = (harden.image, harden.certificate);
+            Ok(format!(in alloc; "harden {image} {certificate}:{modules}")?)
+        }
+        Some(Request::Lower(lower)) => {
+            let modules = joined(alloc, lower.modules.as_slice())?;
+            let image = lower.image;
+            Ok(format!(in alloc; "lower {image}:{modules}")?)
+        }
+        Some(Request::Interp(interp)) => {
+            let modules = joined(alloc, interp.modules.as_slice())?;
+            let (export, start, steps) = (interp.export, interp.start, interp.steps);
+            Ok(format!(in alloc; "interp {export} {start} {steps}:{modules}")?)
+        }
+        Some(Request::Run(run)) => Ok(format!(in alloc;
+            "run {} {} {} {}",
+            run.image, run.export, run.start, run.steps
+        )?),
+        Some(Request::Spec(spec)) => Ok(format!(in alloc;
+            "spec {} {} {} {}",
+            spec.image, spec.export, spec.trace, spec.start
+        )?),
+    }
+}
+
+/// What the program's name and the words of a line behind it ask for, as a line.
+fn asked_by(alloc: Global, line: &str) -> Result<String, Fail> {
+    let mut words = Vec::new(alloc);
+    words.push(String::from_str(alloc, "blade")?)?;
+    for word in line.split(' ') {
+        words.push(String::from_str(alloc, word)?)?;
+    }
+    asked(alloc, words.as_slice())
+}
+
+#[test]
+fn steps_stand_at_most_once_among_the_arguments_of_a_run(rt: HostRuntime) -> Result<(), Fail> {
+    for (line, expected) in OPTIONS {
+        let found = asked_by(rt.alloc(), line)?;
+        assert_eq!(rt; found.as_str(), expected, "{line}");
+    }
+    Ok(())
+}
+
+#[test]
+fn each_command_has_its_arguments(rt: HostRuntime) -> Result<(), Fail> {
+    for (line, expected) in COMMANDS {
+        let found = asked_by(rt.alloc(), line)?;
+        assert_eq!(rt; found.as_str(), expected, "{line}");
+    }
+    Ok(())
+}
+
+#[test]
+fn no_words_are_no_request(rt: HostRuntime) -> Result<(), Fail> {
+    let alloc = rt.alloc();
+    assert_eq!(rt; asked(alloc, &[])?.as_str(), "none");
+    let name = String::from_str(alloc, "blade")?;
+    assert_eq!(rt; asked(alloc, &[name])?.as_str(), "none");
+    assert_eq!(rt; asked_by(alloc, "")?.as_str(), "none");
+    Ok(())
+}
