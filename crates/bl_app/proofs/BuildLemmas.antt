@@ -6,7 +6,6 @@ use Rattle.bl_base.specs.declared.quantity.Quantity.TheVariants as quantity
 use Rattle.bl_base.proofs.RunLemmas.{run_unique}
 use Rattle.bl_wasm.specs.Linked.{IsLinked}
 use Rattle.bl_wasm.specs.declared.linked.Tree.{Tree}
-use Rattle.bl_wasm.specs.declared.module.Module.{Module}
 use Rattle.bl_reduce.specs.Outcomes.{opening as source_opening}
 use Rattle.bl_reduce.specs.Steps.{source_step}
 use Rattle.bl_cmd.specs.Outcomes.{opening}
@@ -18,7 +17,6 @@ use Rattle.bl_image.proofs.Prefixes.{one_image}
 use Rattle.bl_lower.specs.Trees.{low_tree}
 use Rattle.bl_lower.proofs.Opening.{ends_after, plain_ended}
 use Rattle.bl_app.specs.Building.{AreCompiled, Builds, BuildingRefuses, Built, building, command_count, compiling, long_image, many_commands}
-use Rattle.bl_app.specs.Form.{IsUnlabelled}
 use Rattle.bl_app.specs.Loading.{Part, loading, parts_of}
 use Rattle.bl_app.specs.Meaning.{SameOutcomes}
 use Rattle.bl_app.specs.Refusals.{Refusal, limit}
@@ -27,7 +25,7 @@ use Rattle.bl_app.specs.Working.{IsStaged, built_in}
 use Rattle.bl_app.specs.declared.build.Built.{Built as BuiltMade}
 use Rattle.bl_app.specs.declared.refusal.WorkError.{WorkError}
 use Rattle.bl_app.specs.declared.refusal.WorkError.TheVariants as error
-use Rattle.bl_app.proofs.LoadingLemmas.{loading_lawful, loading_weaker}
+use Rattle.bl_app.proofs.LoadingLemmas.{loading_lawful}
 use Rattle.bl_app.proofs.StageLemmas.{chain_lawful}
 
 -- ---- the stages
@@ -56,8 +54,8 @@ module _ (tree : Tree) where
 building_lawful : IsLawfulStage building
 building_lawful = record { one_result = one_built; one_refusal = build_refusal; not_both = build_not_both }
 
-pub compiling_lawful : (Form : Module → Type 0) → IsLawfulStage (compiling Form)
-compiling_lawful Form = chain_lawful (loading Form) building (loading_lawful Form) building_lawful
+pub compiling_lawful : IsLawfulStage compiling
+compiling_lawful = chain_lawful loading building loading_lawful building_lawful
 
 -- a program that was made of a tree, and its image
 module _ (tree : Tree) (program : Program) (same : program ≡ low_tree tree) (rules : IsWellFormed program) (image : List ℕ) (is : Image program image) where
@@ -72,14 +70,14 @@ module _ (tree : Tree) (program : Program) (same : program ≡ low_tree tree) (r
 
 -- ---- modules
 
-module _ (Form : Module → Type 0) (parts : List Part) where
+module _ (parts : List Part) where
   -- modules that are refused
-  pub not_loaded : (e : WorkError) → IsStaged (loading Form) (λ (tree : Tree). tree) parts (Err e) → IsStaged (compiling Form) built_in parts (Err e)
+  pub not_loaded : (e : WorkError) → IsStaged loading (λ (tree : Tree). tree) parts (Err e) → IsStaged compiling built_in parts (Err e)
   not_loaded (error.Refused refusal) r = at_first r
   not_loaded error.Memory r = tt
 
   -- those that are linked
-  pub linked_builds : (tree : Tree) (result : Result BuiltMade WorkError) → (loading Form).Passes parts tree → IsStaged building built_in tree result → IsStaged (compiling Form) built_in parts result
+  pub linked_builds : (tree : Tree) (result : Result BuiltMade WorkError) → loading.Passes parts tree → IsStaged building built_in tree result → IsStaged compiling built_in parts result
   linked_builds tree (Ok built) passed b = (tree, passed, b)
   linked_builds tree (Err (error.Refused refusal)) passed b = at_second tree passed b
   linked_builds tree (Err error.Memory) passed b = tt
@@ -95,11 +93,11 @@ same_outcomes tree linked = record {
   plain_unique = λ function start o p m k h i. run_unique (plain_step (low_tree tree)) m k (opening (low_tree tree) function start) o p h.run i.run;
 }
 
--- what is compiled of modules of a form is compiled of modules without labels
-pub are_compiled : (Form : Module → Type 0) (words contents : List (List ℕ)) (built : Built) → ((tree : Module) → Form tree → IsUnlabelled tree) → (compiling Form).Passes (parts_of words contents) built → AreCompiled words contents built
-are_compiled Form words contents built within p = record {
+-- what is compiled of modules
+pub are_compiled : (words contents : List (List ℕ)) (built : Built) → compiling.Passes (parts_of words contents) built → AreCompiled words contents built
+are_compiled words contents built p = record {
   tree = p.0;
-  loaded = loading_weaker Form IsUnlabelled within (parts_of words contents) p.0 p.1;
+  loaded = p.1;
   linked = p.1.2.2.2.can_run;
   builds = p.2;
   same_outcomes = subst (SameOutcomes p.0) (sym p.2.is_program) (same_outcomes p.0 p.1.2.2.2.can_run);

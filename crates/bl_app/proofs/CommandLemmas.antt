@@ -6,17 +6,19 @@ use Rattle.bl_app.specs.Causes.{Causes, NoneRose}
 use Rattle.bl_app.specs.Commands.{job_of, work_of}
 use Rattle.bl_app.specs.Jobs.{AreRead, FirstRefusal, IsLawful, Plan}
 use Rattle.bl_app.specs.Refusals.{Refusal}
-use Rattle.bl_words.specs.Requests.{Request, harden, interp, lower, modules_in, run, spec}
+use Rattle.bl_words.specs.Requests.{Request, gen, harden, interp, lower, modules_in, run, spec, verify}
 use Rattle.bl_app.specs.Worlds.{World}
 use Rattle.bl_app.specs.Status.{code_of, kind_of, of_deed, of_refusal}
 use Rattle.bl_app.specs.declared.status.Status.{Status}
 use Rattle.bl_app.specs.declared.status.Status.TheVariants as status
 use Rattle.bl_app.proofs.CountLemmas.{with_modules_lawful}
+use Rattle.bl_app.proofs.GenLemmas.{gen_lawful}
 use Rattle.bl_app.proofs.HardenLemmas.{harden_lawful, lower_lawful}
 use Rattle.bl_app.proofs.InterpLemmas.{interp_lawful}
 use Rattle.bl_app.proofs.JobLemmas.{done_not_refused, one_first}
 use Rattle.bl_app.proofs.RunLemmas.{run_lawful}
 use Rattle.bl_app.proofs.SpecLemmas.{spec_lawful}
+use Rattle.bl_app.proofs.VerifyLemmas.{verify_lawful}
 
 work_lawful : (request : Request) → IsLawful (work_of request)
 work_lawful (harden request) = harden_lawful request
@@ -24,6 +26,8 @@ work_lawful (lower request) = lower_lawful request
 work_lawful (interp request) = interp_lawful request
 work_lawful (run request) = run_lawful request
 work_lawful (spec request) = spec_lawful request
+work_lawful (verify request) = verify_lawful request
+work_lawful (gen request) = gen_lawful request
 
 pub laws_of : (request : Request) → IsLawful (job_of request)
 laws_of request = with_modules_lawful (modules_in request) (work_of request) (work_lawful request)
@@ -52,6 +56,7 @@ module _ (old new : World) (none_rose : NoneRose old new) where
 
   pub without_request : (s : Status) → Causes job_of None old new s → (s ≡ status.Usage) ⊎ (s ≡ status.Memory)
   without_request status.Done c = absurd (not_done_words status.Done c refl)
+  without_request status.No c = absurd (not_done_words status.No c refl)
   without_request status.Usage c = inl refl
   without_request status.ReadFault c = absurd (no_request (c.read_fault refl).is_request)
   without_request status.WriteFault c = absurd (not_written status.WriteFault c refl)
@@ -60,8 +65,10 @@ module _ (old new : World) (none_rose : NoneRose old new) where
   without_request status.Unsupported c = absurd (not_refused_words status.Unsupported c refl)
   without_request status.Limit c = absurd (not_refused_words status.Limit c refl)
   without_request status.Link c = absurd (not_refused_words status.Link c refl)
+  without_request status.Labels c = absurd (not_refused_words status.Labels c refl)
   without_request status.Memory c = inr refl
   without_request status.Image c = absurd (not_refused_words status.Image c refl)
+  without_request status.Certificate c = absurd (not_refused_words status.Certificate c refl)
   without_request status.Trace c = absurd (not_refused_words status.Trace c refl)
   without_request status.Start c = absurd (not_refused_words status.Start c refl)
   without_request status.Trapped c = absurd (not_done_words status.Trapped c refl)
@@ -74,4 +81,4 @@ with_request request old new c = let none = c.usage_only refl in cc
 -- the number 0 says that the work was done
 pub done_by_zero : (s : Status) → code_of s ≡ 0 → kind_of s ≡ of_deed
 done_by_zero s =
-    elim s as (λ t. code_of t ≡ 0 → kind_of t ≡ of_deed) [ status.Done ↦ λ e. refl | status.Trapped ↦ λ e. refl | status.Spent ↦ λ e. refl | _ ↦ λ e. absurd (omega (arith, e)) ]
+    elim s as (λ t. code_of t ≡ 0 → kind_of t ≡ of_deed) [ status.Done ↦ λ e. refl | status.No ↦ λ e. refl | status.Trapped ↦ λ e. refl | status.Spent ↦ λ e. refl | _ ↦ λ e. absurd (omega (arith, e)) ]

@@ -10,19 +10,16 @@ use Rattle.std.proofs.lemmas.Map.Text.{is_eq-slice_cmp}
 use Rattle.std.proofs.lemmas.Slice.Eq.{bytes_eq-Decides}
 use Rattle.bl_outside.specs.Shelf.{Files, with_file}
 use Rattle.bl_wasm.specs.declared.linked.Tree.{Tree}
-use Rattle.bl_wasm.specs.declared.module.Module.{Module}
 use Rattle.bl_cmd.specs.Rules.{IsWellFormed}
 use Rattle.bl_cmd.specs.declared.definitions.ProgramParts.{ProgramParts as Program}
 use Rattle.bl_image.specs.Image.{Image}
 use Rattle.bl_lower.proofs.WellFormed.{rules}
 use Rattle.bl_cut.specs.Marks.{protected}
 use Rattle.bl_cut.proofs.Marking.{run_back, run_same}
-use Rattle.bl_report.specs.Reports.{DeclaresNoSecret}
 use Rattle.bl_witness.specs.Texts.{certificate_text}
 use Rattle.bl_app.specs.Building.{Built, Makes, compiling, compiling_job}
 use Rattle.bl_app.specs.Causes.{IsDone}
 use Rattle.bl_app.specs.Commands.{job_of}
-use Rattle.bl_app.specs.Form.{IsUnlabelled}
 use Rattle.bl_app.specs.Hardening.{HardenPlans, Hardened, Hardens, IsHardened, harden_job}
 use Rattle.bl_app.specs.Jobs.{AreRead, FileIs, IsLawful, Job, Plan}
 use Rattle.bl_app.specs.Loading.{Part, parts_of}
@@ -41,26 +38,26 @@ use Rattle.bl_app.proofs.BuildLemmas.{are_compiled, compiling_lawful}
 use Rattle.bl_app.proofs.CountLemmas.{work_done}
 use Rattle.bl_app.proofs.FewestLemmas.{are_fewest}
 use Rattle.bl_app.proofs.MarkedImages.{as_long}
-use Rattle.bl_app.proofs.PublicPrograms.{program_public, still_public}
+use Rattle.bl_app.proofs.JudgedPrograms.{is_judged}
 use Rattle.bl_words.proofs.WordsLemmas.{request_differs}
 
 -- ---- the work
 
 -- a job that is refused what compiling refuses isn't done on contents that aren't compiled
-pub not_compiled : (Form : Module → Type 0) (job : Job) (parts : List Part) (contents : List (List ℕ)) → ((refusal : Refusal) → (compiling Form).Refuses parts refusal → job.Against contents refusal)
-    → (e : WorkError) → IsStaged (compiling Form) built_in parts (Err e) → IsWork job contents (Err e)
-not_compiled Form job parts contents against (error.Refused refusal) r = against (refusal_in refusal) r
-not_compiled Form job parts contents against error.Memory r = tt
+pub not_compiled : (job : Job) (parts : List Part) (contents : List (List ℕ)) → ((refusal : Refusal) → compiling.Refuses parts refusal → job.Against contents refusal)
+    → (e : WorkError) → IsStaged compiling built_in parts (Err e) → IsWork job contents (Err e)
+not_compiled job parts contents against (error.Refused refusal) r = against (refusal_in refusal) r
+not_compiled job parts contents against error.Memory r = tt
 
 -- ---- the laws
 
 -- where each plan is done, and keeps the files that are named
-compiling_lawful_job : (Form : Module → Type 0) (words keeps : List (List ℕ)) (Plans : Built → Plan → Type 0)
+compiling_lawful_job : (words keeps : List (List ℕ)) (Plans : Built → Plan → Type 0)
     → ((built : Built) (plan : Plan) → Plans built plan → plan.status ≡ Done)
-    → ((built : Built) (plan : Plan) → Plans built plan → map (λ keep. keep.0) plan.keeps ≡ keeps) → IsLawful (compiling_job Form words keeps Plans)
-compiling_lawful_job Form words keeps Plans done named = record {
-  one_refusal = λ contents a b h k. (compiling_lawful Form).one_refusal (parts_of words contents) a b h k;
-  none_beside_a_deed = λ contents refusal plan h d. (compiling_lawful Form).not_both (parts_of words contents) d.built refusal d.compiled h;
+    → ((built : Built) (plan : Plan) → Plans built plan → map (λ keep. keep.0) plan.keeps ≡ keeps) → IsLawful (compiling_job words keeps Plans)
+compiling_lawful_job words keeps Plans done named = record {
+  one_refusal = λ contents a b h k. compiling_lawful.one_refusal (parts_of words contents) a b h k;
+  none_beside_a_deed = λ contents refusal plan h d. compiling_lawful.not_both (parts_of words contents) d.built refusal d.compiled h;
   one_status = λ contents p q d e. done d.built p d.plans ∙ sym (done e.built q e.plans);
   status_of_deed = λ contents plan d. ap kind_of (done d.built plan d.plans);
   keeps_named = λ contents plan d. named d.built plan d.plans;
@@ -68,12 +65,12 @@ compiling_lawful_job Form words keeps Plans done named = record {
 
 pub harden_lawful : (request : HardenRequest) → IsLawful (harden_job request)
 harden_lawful request =
-    compiling_lawful_job IsUnlabelled request.modules (request.certificate ∷ request.image ∷ []) (HardenPlans request)
+    compiling_lawful_job request.modules (request.certificate ∷ request.image ∷ []) (HardenPlans request)
     (λ built plan p. ap (λ q. q.status) p.is_plan) (λ built plan p. ap (λ q. map (λ keep. keep.0) q.keeps) p.is_plan)
 
 pub lower_lawful : (request : LowerRequest) → IsLawful (lower_job request)
 lower_lawful request =
-    compiling_lawful_job IsUnlabelled request.modules (request.image ∷ []) (λ built plan. plan ≡ lower_plan request built)
+    compiling_lawful_job request.modules (request.image ∷ []) (λ built plan. plan ≡ lower_plan request built)
     (λ built plan e. ap (λ q. q.status) e) (λ built plan e. ap (λ q. map (λ keep. keep.0) q.keeps) e)
 
 -- ---- the files
@@ -109,22 +106,14 @@ ends_alike tree bare set same = record {
       same.plain_unique function start o p m k (run_same set bare function start m o h) (run_same set bare function start k p i);
 }
 
--- what is compiled declares no secret
-pub built_public : (parts : List Part) (built : Built) → (compiling IsUnlabelled).Passes parts built → DeclaresNoSecret built.program
-built_public parts built p = subst DeclaresNoSecret (sym p.2.is_program) (program_public p.1.2.2.0 p.0 p.1.2.2.2.is_tree)
-
--- neither does it with its protects
-pub hardened_public : (bare : Program) (hardened : Hardened) → IsHardened bare hardened → DeclaresNoSecret bare → DeclaresNoSecret hardened.program
-hardened_public bare hardened h public = subst DeclaresNoSecret (sym h.is_program) (still_public h.set bare public)
-
 pub hardens : (words : List (List ℕ)) (request : HardenRequest) (old new : World) (status : Status)
     → request_of words ≡ Some (harden request) → IsDone job_of (request_of words) old new status → Hardens request old new
 hardens words request old new status is d =
     let same : d.request ≡ harden request = let theirs = d.is_request in cc in
     let work = work_done request.modules (harden_job request) old.files d.contents d.plan
     (subst (λ r. AreRead old.files (job_of r).reads d.contents) same d.read) (subst (λ r. (job_of r).Does d.contents d.plan) same d.does) in
-    let does : Makes IsUnlabelled request.modules (HardenPlans request) d.contents d.plan = work.1 in
-    let compiled = are_compiled IsUnlabelled request.modules d.contents does.built (λ tree form. form) does.compiled in
+    let does : Makes request.modules (HardenPlans request) d.contents d.plan = work.1 in
+    let compiled = are_compiled request.modules d.contents does.built does.compiled in
     let hardened = does.plans.hardened in
     let h = does.plans.is_hardened in
     let files = d.kept ∙ ap (λ plan. with_files old.files plan.keeps) does.plans.is_plan in
@@ -145,8 +134,7 @@ hardens words request old new status is d =
       same_outcomes = subst (SameOutcomes compiled.tree) (sym h.is_program)
           (ends_alike compiled.tree does.built.program h.set compiled.same_outcomes);
       fewest = are_fewest does.built.program own.is_program wells hardened h;
-      public = hardened_public does.built.program hardened h
-          (built_public (parts_of request.modules d.contents) does.built does.compiled);
+      constant_time = is_judged does.built.program own.is_program wells hardened h;
       short = omega (arith, long, short);
       kept = files;
       image = subst (λ f. FileIs f request.image hardened.image) (sym files) (kept_last certified request.image hardened.image);
@@ -162,13 +150,13 @@ lowers asked request old new status is d =
     let same : d.request ≡ lower request = let theirs = d.is_request in cc in
     let work = work_done request.modules (lower_job request) old.files d.contents d.plan
     (subst (λ r. AreRead old.files (job_of r).reads d.contents) same d.read) (subst (λ r. (job_of r).Does d.contents d.plan) same d.does) in
-    let does : Makes IsUnlabelled request.modules (λ built plan. plan ≡ lower_plan request built) d.contents d.plan = work.1 in
+    let does : Makes request.modules (λ built plan. plan ≡ lower_plan request built) d.contents d.plan = work.1 in
     let files = d.kept ∙ ap (λ plan. with_files old.files plan.keeps) does.plans in
     record {
       contents = d.contents;
       built = does.built;
       read = work.0;
-      compiled = are_compiled IsUnlabelled request.modules d.contents does.built (λ tree form. form) does.compiled;
+      compiled = are_compiled request.modules d.contents does.built does.compiled;
       kept = files;
       image = subst (λ f. FileIs f request.image does.built.image) (sym files) (kept_last old.files request.image does.built.image);
       printed = d.printed ∙ ap (λ plan. took old.sink.taken plan.text) does.plans;

@@ -20,7 +20,6 @@ use Rattle.bl_trace.specs.Answers.{answer_of}
 use Rattle.bl_app.specs.Building.{AreCompiled, Built}
 use Rattle.bl_app.specs.Entering.{Entered, entering, function_named, kinds_of, pages_of}
 use Rattle.bl_app.specs.Executing.{HasPlainOutcome, RunDoes, plain_text}
-use Rattle.bl_app.specs.Form.{IsUnlabelled}
 use Rattle.bl_app.specs.Interpreting.{HasOutcome, HasRun, printed_of}
 use Rattle.bl_app.specs.Jobs.{Plan, saying}
 use Rattle.bl_app.specs.Loading.{parts_of}
@@ -101,7 +100,7 @@ module _ (request : InterpRequest) (image_name start_name start : List ℕ) (con
 
   pub forward : (plan : Plan) → HasRun request start contents plan → (plan.status ≡ Spent → ⊥) → RunDoes (run_of (step_bound tree * request.steps)) (built.image ∷ start ∷ []) plan
   forward plan h ended =
-      let same = (loading_lawful IsUnlabelled).one_result (parts_of request.modules contents) h.prepared.0 tree h.prepared.1 compiled.loaded in
+      let same = loading_lawful.one_result (parts_of request.modules contents) h.prepared.0 tree h.prepared.1 compiled.loaded in
       ran_as plan h.opened (subst (λ t. Opens request.export start t h.opened) same h.prepared.2) h.outcome h.within h.is_plan ended
 
   -- what is entered of the image was opened of the tree

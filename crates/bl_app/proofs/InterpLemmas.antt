@@ -15,7 +15,6 @@ use Rattle.bl_trace.specs.declared.error.StartError.{StartError}
 use Rattle.bl_trace.specs.declared.error.StartError.TheVariants.{Line, Count}
 use Rattle.bl_app.specs.Causes.{IsDone}
 use Rattle.bl_app.specs.Commands.{job_of}
-use Rattle.bl_app.specs.Form.{IsUnlabelled}
 use Rattle.bl_app.specs.Interpreting.{HasOutcome, HasRun, InterpDoes, InterpRefuses, Interprets, interp_job, preparing, printed_of}
 use Rattle.bl_app.specs.Jobs.{AreRead, IsLawful, Plan, saying}
 use Rattle.bl_app.specs.Loading.{loading, parts_of}
@@ -88,7 +87,7 @@ opening_lawful export bytes = record {
 }
 
 preparing_lawful : (request : InterpRequest) (start : List ℕ) → IsLawfulStage (preparing request start)
-preparing_lawful request start = chain_lawful (loading IsUnlabelled) (opening request.export start) (loading_lawful IsUnlabelled) (opening_lawful request.export start)
+preparing_lawful request start = chain_lawful loading (opening request.export start) loading_lawful (opening_lawful request.export start)
 
 -- the outcome within so many steps is one
 one_outcome : (opened : Opened) (steps : ℕ) (a b : Option Outcome) → HasOutcome opened steps a → HasOutcome opened steps b → a ≡ b

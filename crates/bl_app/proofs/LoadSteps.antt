@@ -1,4 +1,4 @@
--- One module more is decoded, or validated.
+-- One module more is decoded, or validated, or its labels are read.
 use Rattle.std.proofs.Common.{◌≡◌, ℕ, ◌<◌, ◌≤◌, ◌^◌, List, [], ◌∷◌, ◌++◌, length, map, Option, Some, None, Bor, refl, ap, sym, ◌∙◌, subst, arith}
 use Rattle.std.specs.Prelude.{Result, Ok, Err, Vec}
 use Rattle.std.specs.Option.{option_or}
@@ -17,15 +17,19 @@ use Rattle.bl_decode.specs.Decoding.{Answers}
 use Rattle.bl_decode.specs.declared.error.DecodeError.{DecodeError}
 use Rattle.bl_validate.specs.Verdicts.{IsReason}
 use Rattle.bl_validate.specs.declared.verdict.Invalid.{Invalid}
-use Rattle.bl_app.specs.Loading.{Named, Part, decoding, parts_of, validation}
+use Rattle.bl_labels.specs.Faults.{IsConsistent}
+use Rattle.bl_labels.specs.declared.error.LabelError.{LabelError}
+use Rattle.bl_labels.specs.declared.labels.Labels.{Labels}
+use Rattle.bl_app.specs.Loading.{AreTold, Labelled, Named, Part, decoding, labelling, parts_of, validation}
 use Rattle.bl_words.specs.Requests.{module_name}
 use Rattle.bl_app.specs.Stages.{Stage, at_first, at_second, chain, each}
-use Rattle.bl_app.specs.Working.{IsStaged, checked_in, contents_in, decoding_error, spelled_in, validation_error}
+use Rattle.bl_app.specs.Working.{IsStaged, checked_in, contents_in, decoding_error, labels_error, ready_in, spelled_in, validation_error}
 use Rattle.bl_app.specs.declared.load.Checked.{Checked}
+use Rattle.bl_app.specs.declared.load.Ready.{Ready}
 use Rattle.bl_app.specs.declared.load.Spelled.{Spelled}
 use Rattle.bl_app.specs.declared.refusal.WorkError.{WorkError}
 use Rattle.bl_app.specs.declared.refusal.WorkError.TheVariants as error
-use Rattle.bl_app.proofs.Readings.{decoded, validated}
+use Rattle.bl_app.proofs.Readings.{decoded, not_labelled_yet, validated}
 use Rattle.bl_app.proofs.StageLemmas.{Goes, goes_on}
 
 -- ---- one stage, and then another one
@@ -96,6 +100,21 @@ module _ (whole : List Named) (rest left : List Spelled) (done : List Checked) (
   pub not_valid : {X : Type 0} (value : X → List Named) (reason : Invalid) (e : WorkError) → e ≡ validation_error one.name reason → IsReason one.tree reason → IsStaged (each validation) value whole (Err e)
   not_valid value reason e is why = subst (λ (e : WorkError). IsStaged (each validation) value whole (Err e)) (sym is) (validated value one.name one.tree whole (map spelled_in left) (map checked_in done) ahead_named reason why)
 
+-- ---- labels
+
+module _ (whole : List Named) (rest left : List Checked) (done : List Ready) (one : Checked) (first : rest ≡ one ∷ left) (goes : Goes labelling whole (map ready_in done) (map checked_in rest)) where
+  ahead_checked : Goes labelling whole (map ready_in done) (checked_in one ∷ map checked_in left)
+  ahead_checked = subst (λ (r : List Checked). Goes labelling whole (map ready_in done) (map checked_in r)) first goes
+
+  pub next_labelled : (labels : Labels) (next : List Ready) → next ≡ done ++ record { name = one.name; wasm = one.wasm; labels = labels } ∷ [] → AreTold one.wasm (Ok labels) → Goes labelling whole (map ready_in next) (map checked_in left)
+  next_labelled labels next e told =
+      subst (λ (all : List Labelled). Goes labelling whole all (map checked_in left)) (sym (ap (map ready_in) e ∙ map-append ready_in done (record { name = one.name; wasm = one.wasm; labels = labels } ∷ [])))
+      (goes_on labelling whole (map checked_in left) (map ready_in done) (checked_in one) (record { name = one.name.now; tree = one.wasm; labels = labels }) ahead_checked
+      (record { same_name = refl; same_tree = refl; told = told }))
+
+  pub not_labelled : {X : Type 0} (value : X → List Labelled) (fault : LabelError) (e : WorkError) → e ≡ labels_error one.name fault → AreTold one.wasm (Err fault) → IsStaged (each labelling) value whole (Err e)
+  not_labelled value fault e is why = subst (λ (e : WorkError). IsStaged (each labelling) value whole (Err e)) (sym is) (not_labelled_yet value one.name one.wasm whole (map checked_in left) (map ready_in done) ahead_checked fault why)
+
 -- ---- names
 
 -- modules that are decoded have names that are text
@@ -104,3 +123,10 @@ named_texts [] text = All-nil (λ (one : Named). IsUtf8 one.name)
 named_texts (one ∷ spelled) text =
     All-cons (λ (one : Named). IsUtf8 one.name) (spelled_in one) (map spelled_in spelled) (All-head (λ (one : Spelled). IsUtf8 one.name.now) one spelled text)
     (named_texts spelled (All-tail (λ (one : Spelled). IsUtf8 one.name.now) one spelled text))
+
+-- labels that don't contradict themselves
+pub are_sane : (ready : List Ready) → All (λ (one : Ready). IsConsistent one.labels) ready → All (λ (one : Labelled). IsConsistent one.labels) (map ready_in ready)
+are_sane [] sane = All-nil (λ (one : Labelled). IsConsistent one.labels)
+are_sane (one ∷ ready) sane =
+    All-cons (λ (one : Labelled). IsConsistent one.labels) (ready_in one) (map ready_in ready) (All-head (λ (one : Ready). IsConsistent one.labels) one ready sane)
+    (are_sane ready (All-tail (λ (one : Ready). IsConsistent one.labels) one ready sane))

@@ -18,9 +18,10 @@ use Rattle.bl_validate.proofs.Reasons.{one_reason}
 use Rattle.bl_link.specs.Links.{links}
 use Rattle.bl_link.specs.declared.error.LinkError.{LinkError}
 use Rattle.bl_link.specs.declared.error.LinkError.TheVariants.{Unknown, Mismatch, ElementRange, DataRange, Limit, Memory}
-use Rattle.bl_app.specs.Loading.{Accepted, Decodes, DecodingRefuses, IsPassed, IsRefusalOf, Named, Part, Links, LinkingRefuses, decoding, excess, linked_parts, linking, loading, no_module, not_supported, of_form, validation, unknown, mismatched, element, segment, too_large}
-use Rattle.bl_app.specs.Refusals.{Refusal, data_range, element_range, invalid_function, limit, mismatched_import, unknown_import}
+use Rattle.bl_app.specs.Loading.{Accepted, AreTold, Decodes, DecodingRefuses, IsPassed, IsRefusalOf, Labelled, Named, Part, Links, LinkingRefuses, ReadsLabels, decoding, excess, labelling, linked_parts, linking, loading, no_module, not_supported, validation, unknown, mismatched, element, segment, too_large}
+use Rattle.bl_app.specs.Refusals.{Refusal, bad_labels, data_range, element_range, invalid_function, limit, mismatched_import, unknown_import}
 use Rattle.bl_app.specs.Stages.{AllPass, IsLawfulStage, chain, each}
+use Rattle.bl_app.proofs.LabelLemmas.{labels_or_fault, one_fault, one_labels}
 use Rattle.bl_app.proofs.StageLemmas.{chain_lawful, each_lawful}
 
 -- ---- decoding
@@ -99,20 +100,27 @@ validation_lawful = record {
 
 -- ---- all stages
 
-form_lawful : (Form : Module → Type 0) → IsLawfulStage (of_form Form)
-form_lawful Form = record {
-  one_result = one_passed Form;
-  one_refusal = λ named a b r s. r.is_refusal ∙ sym s.is_refusal;
-  not_both = λ named passed refusal p r. r.other p.holds;
+-- reading labels answers one thing
+labelling_lawful : IsLawfulStage labelling
+labelling_lawful = record {
+  one_result = λ named a b p q.
+      let names = p.same_name ∙ sym q.same_name in
+      let trees = p.same_tree ∙ sym q.same_tree in
+      let labels = one_labels named.tree a.labels b.labels p.told q.told in
+      λ i. record { name = names i; tree = trees i; labels = labels i };
+  one_refusal = λ named a b r s.
+      let wrong = one_fault named.tree r.error s.error r.wrong s.wrong r.told s.told r.is_fault s.is_fault in
+      r.is_refusal ∙ ap (bad_labels named.name) wrong ∙ sym s.is_refusal;
+  not_both = λ named a refusal p r. labels_or_fault named.tree a.labels r.error r.wrong p.told r.told r.is_fault;
 }
 
 -- linking answers one thing
-module _ (named : List Named) where
-  one_tree : (a b : Tree) → Links named a → Links named b → a ≡ b
+module _ (labelled : List Labelled) where
+  one_tree : (a b : Tree) → Links labelled a → Links labelled b → a ≡ b
   one_tree a b p q = let same : Ok a ≡ Ok b = sym p.is_tree ∙ q.is_tree in cc
 
   -- what is linked isn't refused
-  linked_against : (tree : Tree) (refusal : Refusal) → Links named tree → LinkingRefuses named refusal → ⊥
+  linked_against : (tree : Tree) (refusal : Refusal) → Links labelled tree → LinkingRefuses labelled refusal → ⊥
   linked_against tree refusal p (unknown part import one e is r) = let is_tree = p.is_tree in cc
   linked_against tree refusal p (mismatched part import one e is r) = let is_tree = p.is_tree in cc
   linked_against tree refusal p (element part one e is r) = let is_tree = p.is_tree in cc
@@ -120,22 +128,22 @@ module _ (named : List Named) where
   linked_against tree refusal p (too_large which value e r) = let is_tree = p.is_tree in cc
 
   -- a module by its number is one
-  one_named : (part other : ℕ) (a b : Named) → part ≡ other → slice_get named part ≡ Some a → slice_get named other ≡ Some b → a.name ≡ b.name
-  one_named part other a b same is these = ap (λ n. n.name) (some_same a b (sym is ∙ (ap (slice_get named) same ∙ these)))
+  one_named : (part other : ℕ) (a b : Labelled) → part ≡ other → slice_get labelled part ≡ Some a → slice_get labelled other ≡ Some b → a.name ≡ b.name
+  one_named part other a b same is these = ap (λ n. n.name) (some_same a b (sym is ∙ (ap (slice_get labelled) same ∙ these)))
 
   -- the error, as a refusal
   abbrev Tells : LinkError → Refusal → Type 0
-  Tells (Unknown part import) refusal = (one : Named) × (slice_get named part ≡ Some one) × (refusal ≡ unknown_import one.name import)
-  Tells (Mismatch part import) refusal = (one : Named) × (slice_get named part ≡ Some one) × (refusal ≡ mismatched_import one.name import)
-  Tells (ElementRange part) refusal = (one : Named) × (slice_get named part ≡ Some one) × (refusal ≡ element_range one.name)
-  Tells (DataRange part) refusal = (one : Named) × (slice_get named part ≡ Some one) × (refusal ≡ data_range one.name)
+  Tells (Unknown part import) refusal = (one : Labelled) × (slice_get labelled part ≡ Some one) × (refusal ≡ unknown_import one.name import)
+  Tells (Mismatch part import) refusal = (one : Labelled) × (slice_get labelled part ≡ Some one) × (refusal ≡ mismatched_import one.name import)
+  Tells (ElementRange part) refusal = (one : Labelled) × (slice_get labelled part ≡ Some one) × (refusal ≡ element_range one.name)
+  Tells (DataRange part) refusal = (one : Labelled) × (slice_get labelled part ≡ Some one) × (refusal ≡ data_range one.name)
   Tells (Limit which value) refusal = refusal ≡ limit which value
   Tells Memory refusal = ⊥
 
   abbrev ToldError : Refusal → Type 0
-  ToldError refusal = (error : LinkError) × (links (linked_parts named) ≡ Err error) × Tells error refusal
+  ToldError refusal = (error : LinkError) × (links (linked_parts labelled) ≡ Err error) × Tells error refusal
 
-  told : (refusal : Refusal) → LinkingRefuses named refusal → ToldError refusal
+  told : (refusal : Refusal) → LinkingRefuses labelled refusal → ToldError refusal
   told refusal (unknown part import one e is r) = (Unknown part import, e, (one, is, r))
   told refusal (mismatched part import one e is r) = (Mismatch part import, e, (one, is, r))
   told refusal (element part one e is r) = (ElementRange part, e, (one, is, r))
@@ -150,7 +158,7 @@ module _ (named : List Named) where
   one_telling (Limit which value) a b r s = r ∙ sym s
   one_telling Memory a b r s = absurd r
 
-  linking_refusal : (a b : Refusal) → LinkingRefuses named a → LinkingRefuses named b → a ≡ b
+  linking_refusal : (a b : Refusal) → LinkingRefuses labelled a → LinkingRefuses labelled b → a ≡ b
   linking_refusal a b r s =
       let first = told a r in
       let second = told b s in
@@ -161,48 +169,38 @@ module _ (named : List Named) where
 linking_lawful : IsLawfulStage linking
 linking_lawful = record { one_result = one_tree; one_refusal = linking_refusal; not_both = linked_against }
 
-pub loading_lawful : (Form : Module → Type 0) → IsLawfulStage (loading Form)
-loading_lawful Form =
-    let formed = chain_lawful (each (of_form Form)) linking (each_lawful (of_form Form) (form_lawful Form)) linking_lawful in
-    let valid = chain_lawful (each validation) (chain (each (of_form Form)) linking) (each_lawful validation validation_lawful) formed in
-    chain_lawful (each decoding) (chain (each validation) (chain (each (of_form Form)) linking)) (each_lawful decoding decoding_lawful) valid
+pub loading_lawful : IsLawfulStage loading
+loading_lawful =
+    let labelled = chain_lawful (each labelling) linking (each_lawful labelling labelling_lawful) linking_lawful in
+    let valid = chain_lawful (each validation) (chain (each labelling) linking) (each_lawful validation validation_lawful) labelled in
+    chain_lawful (each decoding) (chain (each validation) (chain (each labelling) linking)) (each_lawful decoding decoding_lawful) valid
 
 -- ---- modules that are loaded
 
 -- each of them, by its bytes
-abbrev pub IsAccepted : (Module → Type 0) → Part → Named → Type 0
-IsAccepted Form part named = (named.name ≡ part.name) × Accepted Form part.bytes named.tree
+abbrev pub IsAccepted : Part → Labelled → Type 0
+IsAccepted part labelled = (labelled.name ≡ part.name) × Accepted part.bytes labelled.tree labelled.labels
 
-accepted_of : (Form : Module → Type 0) (part : Part) (a b c : Named) → Decodes part a → IsPassed Typed a b → IsPassed Form b c → IsAccepted Form part c
-accepted_of Form part a b c decoded valid formed =
-    let last = ap (λ n. n.tree) (sym formed.same) in
+accepted_of : (part : Part) (a b : Named) (c : Labelled) → Decodes part a → IsPassed Typed a b → ReadsLabels b c → IsAccepted part c
+accepted_of part a b c decoded valid labels =
+    let last = sym labels.same_tree in
     let same = ap (λ n. n.tree) (sym valid.same) ∙ last in (
-      ap (λ n. n.name) formed.same ∙ (ap (λ n. n.name) valid.same ∙ decoded.same_name),
+      labels.same_name ∙ (ap (λ n. n.name) valid.same ∙ decoded.same_name),
       record {
         spelled = subst (Spells part.bytes) same decoded.spelled;
         supported = subst IsSupported same decoded.supported;
         within = subst (λ tree. first_excess tree ≡ None) same decoded.within;
         valid = subst Typed same valid.holds;
-        form = subst Form last formed.holds;
+        told = subst (λ tree. AreTold tree (Ok c.labels)) last labels.told;
       },
     )
 
-pub all_accepted : (Form : Module → Type 0) (parts : List Part) (xs ys zs : List Named) → AllPass decoding parts xs → AllPass validation xs ys → AllPass (of_form Form) ys zs → AllZip (IsAccepted Form) parts zs
-all_accepted Form [] [] [] [] d v f = tt
-all_accepted Form [] [] [] (c ∷ zs) d v f = absurd f
-all_accepted Form [] [] (b ∷ ys) zs d v f = absurd v
-all_accepted Form [] (a ∷ xs) ys zs d v f = absurd d
-all_accepted Form (part ∷ parts) [] ys zs d v f = absurd d
-all_accepted Form (part ∷ parts) (a ∷ xs) [] zs d v f = absurd v
-all_accepted Form (part ∷ parts) (a ∷ xs) (b ∷ ys) [] d v f = absurd f
-all_accepted Form (part ∷ parts) (a ∷ xs) (b ∷ ys) (c ∷ zs) d v f = (accepted_of Form part a b c d.0 v.0 f.0, all_accepted Form parts xs ys zs d.1 v.1 f.1)
-
--- a form within another one: what is loaded of modules of the one is of those of the other
-form_weaker : (Form Other : Module → Type 0) → ((tree : Module) → Form tree → Other tree) → (bs cs : List Named) → AllPass (of_form Form) bs cs → AllPass (of_form Other) bs cs
-form_weaker Form Other gives [] [] f = tt
-form_weaker Form Other gives [] (c ∷ cs) f = f
-form_weaker Form Other gives (b ∷ bs) [] f = f
-form_weaker Form Other gives (b ∷ bs) (c ∷ cs) f = (record { same = f.0.same; holds = gives b.tree f.0.holds }, form_weaker Form Other gives bs cs f.1)
-
-pub loading_weaker : (Form Other : Module → Type 0) → ((tree : Module) → Form tree → Other tree) → (parts : List Part) (tree : Tree) → (loading Form).Passes parts tree → (loading Other).Passes parts tree
-loading_weaker Form Other gives parts tree p = (p.0, p.1, (p.2.0, p.2.1, (p.2.2.0, form_weaker Form Other gives p.2.0 p.2.2.0 p.2.2.1, p.2.2.2)))
+pub all_accepted : (parts : List Part) (xs ys : List Named) (zs : List Labelled) → AllPass decoding parts xs → AllPass validation xs ys → AllPass labelling ys zs → AllZip IsAccepted parts zs
+all_accepted [] [] [] [] d v l = tt
+all_accepted [] [] [] (c ∷ zs) d v l = absurd l
+all_accepted [] [] (b ∷ ys) zs d v l = absurd v
+all_accepted [] (a ∷ xs) ys zs d v l = absurd d
+all_accepted (part ∷ parts) [] ys zs d v l = absurd d
+all_accepted (part ∷ parts) (a ∷ xs) [] zs d v l = absurd v
+all_accepted (part ∷ parts) (a ∷ xs) (b ∷ ys) [] d v l = absurd l
+all_accepted (part ∷ parts) (a ∷ xs) (b ∷ ys) (c ∷ zs) d v l = (accepted_of part a b c d.0 v.0 l.0, all_accepted parts xs ys zs d.1 v.1 l.1)

@@ -17,15 +17,16 @@ use Rattle.bl_link.specs.Giving.{Gives}
 use Rattle.bl_link.specs.Links.{links, part_of}
 use Rattle.bl_link.specs.declared.part.Part.{Part as LinkPart}
 use Rattle.bl_link.proofs.FaultLemmas.{faults_name_parts}
-use Rattle.bl_labels.specs.Marked.{unlabelled}
+use Rattle.bl_labels.specs.declared.error.LabelError.{LabelError}
+use Rattle.bl_labels.specs.declared.error.LabelError.TheVariants as label
 use Rattle.bl_link.specs.declared.error.LinkError.{LinkError}
 use Rattle.bl_link.specs.declared.error.LinkError.TheVariants as link
-use Rattle.bl_app.specs.Loading.{Decodes, Named, Part, decoding, excess, linked_parts, linking, no_module, not_supported, of_form, validation, unknown, mismatched, element, segment, too_large}
-use Rattle.bl_app.specs.Refusals.{data_range, element_range, mismatched_import, unknown_import, unsupported}
+use Rattle.bl_app.specs.Loading.{AreTold, Decodes, Labelled, Named, Part, decoding, excess, labelling, linked_parts, linking, no_module, not_supported, validation, unknown, mismatched, element, segment, too_large}
+use Rattle.bl_app.specs.Refusals.{data_range, element_range, mismatched_import, unknown_import}
 use Rattle.bl_app.specs.Stages.{each}
-use Rattle.bl_app.specs.Working.{IsLinkingError, IsStaged, checked_in, decoding_error, validation_error}
-use Rattle.bl_app.specs.declared.load.Checked.{Checked}
-use Rattle.bl_app.specs.declared.refusal.Refusal.TheVariants as told
+use Rattle.bl_app.specs.Working.{IsLinkingError, IsStaged, decoding_error, labels_error, ready_in, validation_error}
+use Rattle.bl_app.specs.declared.load.Ready.{Ready}
+use Rattle.bl_app.specs.declared.refusal.LabelFault.TheVariants as fault
 use Rattle.bl_app.specs.declared.refusal.WorkError.{WorkError}
 use Rattle.bl_app.specs.declared.refusal.WorkError.TheVariants as error
 use Rattle.bl_app.proofs.StageLemmas.{Goes, goes_refused}
@@ -56,44 +57,54 @@ module _ {X : Type 0} (value : X → List Named) (name : Bor (List ℕ)) where
     validated whole rest done g invalid.Module why = goes_refused validation whole rest done named _ g (record { reason = invalid.Module; is_reason = why; is_refusal = refl })
     validated whole rest done g invalid.Memory why = tt
 
-    -- a module of another form, behind those of the form
-    pub other_form : (Form : Module → Type 0) (whole rest : List Named) (done : List Named) → Goes (of_form Form) whole done (named ∷ rest) → (Form tree → ⊥)
-        → IsStaged (each (of_form Form)) value whole (Err (error.Refused (told.Unsupported name)))
-    other_form Form whole rest done g not = goes_refused (of_form Form) whole rest done named (unsupported name.now) g (record { other = not; is_refusal = refl })
+-- a module whose labels break a rule, behind those whose don't
+module _ {X : Type 0} (value : X → List Labelled) (name : Bor (List ℕ)) (tree : Module) (whole rest : List Named) (done : List Labelled) (g : Goes labelling whole done (record { name = name.now; tree = tree } ∷ rest)) where
+  pub not_labelled_yet : (error : LabelError) → AreTold tree (Err error) → IsStaged (each labelling) value whole (Err (labels_error name error))
+  not_labelled_yet label.Malformed why =
+      goes_refused labelling whole rest done (record { name = name.now; tree = tree }) _ g (record { error = label.Malformed; wrong = fault.Malformed; told = why; is_fault = refl; is_refusal = refl })
+  not_labelled_yet label.Twice why =
+      goes_refused labelling whole rest done (record { name = name.now; tree = tree }) _ g (record { error = label.Twice; wrong = fault.Twice; told = why; is_fault = refl; is_refusal = refl })
+  not_labelled_yet label.OutOfRange why =
+      goes_refused labelling whole rest done (record { name = name.now; tree = tree }) _ g (record { error = label.OutOfRange; wrong = fault.OutOfRange; told = why; is_fault = refl; is_refusal = refl })
+  not_labelled_yet label.OnImport why =
+      goes_refused labelling whole rest done (record { name = name.now; tree = tree }) _ g (record { error = label.OnImport; wrong = fault.OnImport; told = why; is_fault = refl; is_refusal = refl })
+  not_labelled_yet label.Both why =
+      goes_refused labelling whole rest done (record { name = name.now; tree = tree }) _ g (record { error = label.Both; wrong = fault.Both; told = why; is_fault = refl; is_refusal = refl })
+  not_labelled_yet label.Memory why = tt
 
 -- the name of a module by its number
-named_by : (checked : List Checked) (part : ℕ) (name : Bor (List ℕ)) → slice_get (map (λ (one : Checked). one.name) checked) part ≡ Some name → (one : Named) × (slice_get (map checked_in checked) part ≡ Some one) × (one.name ≡ name.now)
+named_by : (ready : List Ready) (part : ℕ) (name : Bor (List ℕ)) → slice_get (map (λ (one : Ready). one.name) ready) part ≡ Some name → (one : Labelled) × (slice_get (map ready_in ready) part ≡ Some one) × (one.name ≡ name.now)
 named_by [] part name there = absurd (none-some name there)
-named_by (one ∷ checked) zero name there = (checked_in one, refl, ap (λ (n : Bor (List ℕ)). n.now) (some_same one.name name there))
-named_by (one ∷ checked) (suc part) name there = named_by checked part name there
+named_by (one ∷ ready) zero name there = (ready_in one, refl, ap (λ (n : Bor (List ℕ)). n.now) (some_same one.name name there))
+named_by (one ∷ ready) (suc part) name there = named_by ready part name there
 
 -- modules that aren't linked
-module _ {X : Type 0} (value : X → Tree) (checked : List Checked) where
-  abbrev all_named : List Named
-  all_named = map checked_in checked
+module _ {X : Type 0} (value : X → Tree) (ready : List Ready) where
+  abbrev all_named : List Labelled
+  all_named = map ready_in ready
 
-  pub not_linked : (fault : LinkError) (e : WorkError) → Gives (Err fault) (links (linked_parts all_named)) → IsLinkingError (map (λ (one : Checked). one.name) checked) fault e → IsStaged linking value all_named (Err e)
+  pub not_linked : (fault : LinkError) (e : WorkError) → Gives (Err fault) (links (linked_parts all_named)) → IsLinkingError (map (λ (one : Ready). one.name) ready) fault e → IsStaged linking value all_named (Err e)
   not_linked (link.Unknown part import) e is h =
-      let one = named_by checked part h.0 h.1 in
+      let one = named_by ready part h.0 h.1 in
       subst (λ e. IsStaged linking value all_named (Err e)) (sym h.2) (unknown part import one.0 is one.1 (ap (λ name. unknown_import name import) (sym one.2)))
   not_linked (link.Mismatch part import) e is h =
-      let one = named_by checked part h.0 h.1 in
+      let one = named_by ready part h.0 h.1 in
       subst (λ e. IsStaged linking value all_named (Err e)) (sym h.2) (mismatched part import one.0 is one.1 (ap (λ name. mismatched_import name import) (sym one.2)))
   not_linked (link.ElementRange part) e is h =
-      let one = named_by checked part h.0 h.1 in
+      let one = named_by ready part h.0 h.1 in
       subst (λ e. IsStaged linking value all_named (Err e)) (sym h.2) (element part one.0 is one.1 (ap element_range (sym one.2)))
   not_linked (link.DataRange part) e is h =
-      let one = named_by checked part h.0 h.1 in
+      let one = named_by ready part h.0 h.1 in
       subst (λ e. IsStaged linking value all_named (Err e)) (sym h.2) (segment part one.0 is one.1 (ap data_range (sym one.2)))
   not_linked (link.Limit which amount) e is h = subst (λ e. IsStaged linking value all_named (Err e)) (sym h) (too_large which amount is refl)
   not_linked link.Memory e is h = subst (λ e. IsStaged linking value all_named (Err e)) (sym h) tt
 
 -- a fault of linking names one of the modules
-module _ (checked : List Checked) (names : List (Bor (List ℕ))) (parts : List LinkPart) (are_names : names ≡ map (λ (one : Checked). one.name) checked) (are_parts : parts ≡ linked_parts (map checked_in checked)) where
+module _ (ready : List Ready) (names : List (Bor (List ℕ))) (parts : List LinkPart) (are_names : names ≡ map (λ (one : Ready). one.name) ready) (are_parts : parts ≡ linked_parts (map ready_in ready)) where
   same_length : length parts ≡ length names
   same_length =
-      ap length are_parts ∙ length-map (map checked_in checked) (λ (one : Named). part_of one.name one.tree unlabelled) ∙ length-map checked checked_in
-      ∙ sym (ap length are_names ∙ length-map checked (λ (one : Checked). one.name))
+      ap length are_parts ∙ length-map (map ready_in ready) (λ (one : Labelled). part_of one.name one.tree one.labels) ∙ length-map ready ready_in
+      ∙ sym (ap length are_names ∙ length-map ready (λ (one : Ready). one.name))
 
   named_fault : (fault : LinkError) → links parts ≡ Err fault → NamesPart (length names) fault
   named_fault fault is = subst (λ count. NamesPart count fault) same_length (faults_name_parts parts fault is)

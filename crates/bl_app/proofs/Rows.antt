@@ -18,6 +18,7 @@ use Rattle.bl_link.specs.Links.{links, part_of}
 use Rattle.bl_access.specs.Templates.{jump_to, move, out_of, set, variable}
 use Rattle.bl_lower.specs.Trees.{low_tree, step_bound}
 use Rattle.bl_graph.specs.declared.certificate.Certificate.{Certificate}
+use Rattle.bl_ct.specs.declared.verdict.CtVerdict.TheVariants.{Yes}
 use Rattle.bl_report.specs.Reports.{is_site, report_text}
 use Rattle.bl_witness.specs.Texts.{certificate_text}
 use Rattle.bl_words.specs.Requests.{harden, lower, module_name, request_of}
@@ -80,7 +81,7 @@ written : certificate_text no_flow ≡ codes "{\"paths\":[],\"weight\":0}"
 unfolding digits
 written = refl
 
-report : report_text (low_tree tree) no_flow ≡ codes "functions 1" ++ 10 ∷ [] ++ codes "commands 13" ++ 10 ∷ [] ++ codes "sites 4" ++ 10 ∷ [] ++ codes "protects 0 weight 0" ++ 10 ∷ [] ++ codes "constant-time yes" ++ 10 ∷ []
+report : report_text (low_tree tree) no_flow (Yes []) ≡ codes "functions 1" ++ 10 ∷ [] ++ codes "commands 13" ++ 10 ∷ [] ++ codes "sites 4" ++ 10 ∷ [] ++ codes "protects 0 weight 0" ++ 10 ∷ [] ++ codes "constant-time yes" ++ 10 ∷ []
 unfolding digits is_site
 report = refl
 

@@ -14,7 +14,6 @@ use Rattle.bl_reduce.specs.Outcomes.{IsStart}
 use Rattle.bl_trace.specs.Answers.{answer_of, IsAnswer}
 use Rattle.bl_trace.specs.declared.error.StartError.{StartError}
 use Rattle.bl_trace.specs.declared.error.StartError.TheVariants.{Line, Count, Memory}
-use Rattle.bl_app.specs.Form.{IsUnlabelled}
 use Rattle.bl_app.specs.Interpreting.{interp_job}
 use Rattle.bl_app.specs.Loading.{loading, parts_of}
 use Rattle.bl_words.specs.Requests.{InterpRequest}
@@ -60,12 +59,12 @@ not_opened value request start tree error.Memory h = tt
 -- the work of `interp`, by its stages
 module _ (request : InterpRequest) (start : List ℕ) (contents : List (List ℕ)) where
   -- modules that are refused
-  pub not_run : (e : WorkError) → IsStaged (loading IsUnlabelled) (λ (tree : Tree). tree) (parts_of request.modules contents) (Err e) → IsWork (interp_job request) (start ∷ contents) (Err e)
+  pub not_run : (e : WorkError) → IsStaged loading (λ (tree : Tree). tree) (parts_of request.modules contents) (Err e) → IsWork (interp_job request) (start ∷ contents) (Err e)
   not_run (error.Refused refusal) r = at_first r
   not_run error.Memory r = tt
 
   -- those that are loaded
-  pub was_run : (tree : Tree) (result : Result PlanMade WorkError) → (loading IsUnlabelled).Passes (parts_of request.modules contents) tree → IsRunOf request start tree result → IsWork (interp_job request) (start ∷ contents) result
+  pub was_run : (tree : Tree) (result : Result PlanMade WorkError) → loading.Passes (parts_of request.modules contents) tree → IsRunOf request start tree result → IsWork (interp_job request) (start ∷ contents) result
   was_run tree (Ok plan) loaded run = record { opened = run.0; prepared = (tree, loaded, run.1); outcome = run.2.outcome; within = run.2.within; is_plan = run.2.is_plan }
   was_run tree (Err (error.Refused refusal)) loaded refused = at_second tree loaded refused
   was_run tree (Err error.Memory) loaded refused = tt

@@ -7,8 +7,6 @@ use Rattle.bl_wasm.specs.declared.linked.Tree.{Tree}
 use Rattle.bl_cmd.specs.declared.definitions.ProgramParts.{ProgramParts as Program}
 use Rattle.bl_image.specs.Image.{Image}
 use Rattle.bl_lower.specs.Trees.{low_tree}
-use Rattle.bl_app.specs.Form.{IsUnlabelled}
-use Rattle.bl_wasm.specs.declared.module.Module.{Module}
 use Rattle.bl_app.specs.Jobs.{Job, Plan}
 use Rattle.bl_app.specs.Loading.{Part, loading, module_read, parts_of}
 use Rattle.bl_app.specs.Meaning.{SameOutcomes}
@@ -43,31 +41,31 @@ pub data BuildingRefuses (tree : Tree) (refusal : Refusal) : Type 0 where
 abbrev pub building : Stage Tree Built
 building = record { Passes = Builds; Refuses = BuildingRefuses }
 
--- that of modules of a form
-abbrev pub compiling : (Module → Type 0) → Stage (List Part) Built
-compiling Form = chain (loading Form) building
+-- that of modules
+abbrev pub compiling : Stage (List Part) Built
+compiling = chain loading building
 
--- nothing is refused of the modules of the form in these files, and the plan is one for their program
-pub record Makes (Form : Module → Type 0) (words : List (List ℕ)) (Plans : Built → Plan → Type 0)
+-- nothing is refused of the modules in these files, and the plan is one for their program
+pub record Makes (words : List (List ℕ)) (Plans : Built → Plan → Type 0)
     (contents : List (List ℕ)) (plan : Plan) : Type 0 where
   pub built : Built
-  pub compiled : (compiling Form).Passes (parts_of words contents) built
+  pub compiled : compiling.Passes (parts_of words contents) built
   pub plans : Plans built plan
 
--- reading modules of a form, and doing what is planned for their program
-abbrev pub compiling_job : (Module → Type 0) → List (List ℕ) → List (List ℕ) → (Built → Plan → Type 0) → Job
-compiling_job Form words keeps Plans = record {
+-- reading modules, and doing what is planned for their program
+abbrev pub compiling_job : List (List ℕ) → List (List ℕ) → (Built → Plan → Type 0) → Job
+compiling_job words keeps Plans = record {
   reads = map module_read words;
   keeps = keeps;
-  Against = λ contents refusal. (compiling Form).Refuses (parts_of words contents) refusal;
-  Does = Makes Form words Plans;
+  Against = λ contents refusal. compiling.Refuses (parts_of words contents) refusal;
+  Does = Makes words Plans;
 }
 
 -- the contents of the files of modules are those of modules that are linked to a tree, which is lowered; the program ends exactly as
 -- the tree does
 pub record AreCompiled (words contents : List (List ℕ)) (built : Built) : Type 0 where
   pub tree : Tree
-  pub loaded : (loading IsUnlabelled).Passes (parts_of words contents) tree
+  pub loaded : loading.Passes (parts_of words contents) tree
   pub linked : IsLinked tree
   pub builds : Builds tree built
   pub same_outcomes : SameOutcomes tree built.program

@@ -3,7 +3,6 @@ use Rattle.std.specs.Prelude.{◌≡◌, ℕ, List, [], ◌∷◌, map, Option}
 use Rattle.bl_base.specs.Runs.{IsWithin, Outcome}
 use Rattle.bl_base.specs.declared.quantity.Quantity.TheVariants as quantity
 use Rattle.bl_reduce.specs.Outcomes.{first_store, source}
-use Rattle.bl_app.specs.Form.{IsUnlabelled}
 use Rattle.bl_app.specs.Jobs.{AreRead, Job, Plan, Read, saying}
 use Rattle.bl_app.specs.Loading.{Part, loading, module_read, parts_of}
 use Rattle.bl_app.specs.Outcomes.{outcome_status, outcome_text}
@@ -20,7 +19,7 @@ start_read word = record { name = word; quantity = quantity.Start }
 
 -- from the bytes of modules and of a start file to the function that is run and its start
 abbrev pub preparing : InterpRequest → List ℕ → Stage (List Part) Opened
-preparing request start = chain (loading IsUnlabelled) (opening request.export start)
+preparing request start = chain loading (opening request.export start)
 
 -- the run of a function has that outcome within so many steps, or none within them
 abbrev pub HasOutcome : Opened → ℕ → Option Outcome → Type 0

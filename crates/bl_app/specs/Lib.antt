@@ -5,7 +5,7 @@ pub mod Counting
 pub mod Ends
 pub mod Entering
 pub mod Executing
-pub mod Form
+pub mod Generating
 pub mod Hardening
 pub mod Interpreting
 pub mod Jobs
@@ -19,5 +19,6 @@ pub mod Speculating
 pub mod Stages
 pub mod Status
 pub mod Texts
+pub mod Verifying
 pub mod Working
 pub mod Worlds

@@ -1,6 +1,6 @@
--- From the bytes of modules to the linked tree, in stages: all are decoded, then all validated, then the form of each is tested, and
+-- From the bytes of modules to the linked tree, in stages: all are decoded, then all validated, then the labels of each are read, and
 -- then they are linked.
-use Rattle.std.specs.Prelude.{◌≡◌, ℕ, List, map, slice_get, Some, None, Ok, Err}
+use Rattle.std.specs.Prelude.{◌≡◌, ℕ, List, map, slice_get, Option, Some, None, Result, Ok, Err}
 use Rattle.std.specs.List.{zip}
 use Rattle.bl_base.specs.declared.quantity.Quantity.{Quantity}
 use Rattle.bl_base.specs.declared.quantity.Quantity.TheVariants as quantity
@@ -14,12 +14,18 @@ use Rattle.bl_decode.specs.Supported.{IsSupported}
 use Rattle.bl_validate.specs.Verdicts.{IsReason}
 use Rattle.bl_validate.specs.declared.verdict.Invalid.{Invalid}
 use Rattle.bl_validate.specs.declared.verdict.Invalid.TheVariants as reason
-use Rattle.bl_labels.specs.Marked.{unlabelled}
+use Rattle.bl_labels.specs.Faults.{sections_of}
+use Rattle.bl_labels.specs.Telling.{Tells}
+use Rattle.bl_labels.specs.declared.error.LabelError.{LabelError}
+use Rattle.bl_labels.specs.declared.error.LabelError.TheVariants as label_error
+use Rattle.bl_labels.specs.declared.labels.Labels.{Labels}
 use Rattle.bl_link.specs.Links.{links, part_of}
 use Rattle.bl_link.specs.declared.part.Part.{Part as LinkPart}
 use Rattle.bl_link.specs.declared.error.LinkError.TheVariants.{Unknown, Mismatch, ElementRange, DataRange, Limit}
 use Rattle.bl_app.specs.Jobs.{Read}
-use Rattle.bl_app.specs.Refusals.{Refusal, malformed, invalid_function, invalid_module, unsupported, limit, unknown_import, mismatched_import, element_range, data_range}
+use Rattle.bl_app.specs.Refusals.{Refusal, malformed, invalid_function, invalid_module, unsupported, limit, unknown_import, mismatched_import, element_range, data_range, bad_labels}
+use Rattle.bl_app.specs.declared.refusal.LabelFault.{LabelFault}
+use Rattle.bl_app.specs.declared.refusal.LabelFault.TheVariants as fault
 use Rattle.bl_words.specs.Requests.{module_name}
 use Rattle.bl_app.specs.Stages.{Stage, chain, each}
 
@@ -82,54 +88,84 @@ pub record ValidationRefuses (named : Named) (refusal : Refusal) : Type 0 where
 abbrev pub validation : Stage Named Named
 validation = record { Passes = IsPassed Typed; Refuses = ValidationRefuses }
 
--- the module isn't one of the form
-pub record FormRefuses (Form : Module → Type 0) (named : Named) (refusal : Refusal) : Type 0 where
-  pub other : Form named.tree → ⊥
-  pub is_refusal : refusal ≡ unsupported named.name
+-- ---- labels
 
-abbrev pub of_form : (Module → Type 0) → Stage Named Named
-of_form Form = record { Passes = IsPassed Form; Refuses = FormRefuses Form }
+-- a module under its name, with its labels
+pub record Labelled : Type 0 where
+  pub name : List ℕ
+  pub tree : Module
+  pub labels : Labels
+
+-- the sections of labels that a module has say these labels, or what is wrong with them
+abbrev pub AreTold : Module → Result Labels LabelError → Type 0
+AreTold tree answer = Tells tree (sections_of tree.customs) answer
+
+-- a module's labels are read
+pub record ReadsLabels (named : Named) (labelled : Labelled) : Type 0 where
+  pub same_name : labelled.name ≡ named.name
+  pub same_tree : labelled.tree ≡ named.tree
+  pub told : AreTold named.tree (Ok labelled.labels)
+
+-- what is wrong with labels as a refusal says it; want of memory is nothing wrong
+abbrev pub fault_of : LabelError → Option LabelFault
+fault_of label_error.Malformed = Some fault.Malformed
+fault_of label_error.Twice = Some fault.Twice
+fault_of label_error.OutOfRange = Some fault.OutOfRange
+fault_of label_error.OnImport = Some fault.OnImport
+fault_of label_error.Both = Some fault.Both
+fault_of label_error.Memory = None
+
+-- the labels of a module break a rule; the first one
+pub record LabelsRefuse (named : Named) (refusal : Refusal) : Type 0 where
+  pub error : LabelError
+  pub wrong : LabelFault
+  pub told : AreTold named.tree (Err error)
+  pub is_fault : fault_of error ≡ Some wrong
+  pub is_refusal : refusal ≡ bad_labels named.name wrong
+
+abbrev pub labelling : Stage Named Labelled
+labelling = record { Passes = ReadsLabels; Refuses = LabelsRefuse }
 
 -- ---- all modules
 
--- modules as parts to be linked, which name nothing secret
-abbrev pub linked_parts : List Named → List LinkPart
-linked_parts named = map (λ each. part_of each.name each.tree unlabelled) named
+-- modules with their labels as parts to be linked
+abbrev pub linked_parts : List Labelled → List LinkPart
+linked_parts labelled = map (λ each. part_of each.name each.tree each.labels) labelled
 
 -- the modules are linked to that tree, which can be run
-pub record Links (named : List Named) (tree : Tree) : Type 0 where
-  pub is_tree : links (linked_parts named) ≡ Ok tree
+pub record Links (labelled : List Labelled) (tree : Tree) : Type 0 where
+  pub is_tree : links (linked_parts labelled) ≡ Ok tree
   pub can_run : IsLinked tree
 
 -- why modules aren't linked, with the name of the module whose import or segment it is
-pub data LinkingRefuses (named : List Named) (refusal : Refusal) : Type 0 where
+pub data LinkingRefuses (labelled : List Labelled) (refusal : Refusal) : Type 0 where
   -- nothing before a module is exported under the names of its import
-  unknown : (part import : ℕ) (one : Named) → links (linked_parts named) ≡ Err (Unknown part import) → slice_get named part ≡ Some one
-      → refusal ≡ unknown_import one.name import → LinkingRefuses named refusal
+  unknown : (part import : ℕ) (one : Labelled) → links (linked_parts labelled) ≡ Err (Unknown part import) → slice_get labelled part ≡ Some one
+      → refusal ≡ unknown_import one.name import → LinkingRefuses labelled refusal
   -- what is doesn't match
-  mismatched : (part import : ℕ) (one : Named) → links (linked_parts named) ≡ Err (Mismatch part import) → slice_get named part ≡ Some one
-      → refusal ≡ mismatched_import one.name import → LinkingRefuses named refusal
+  mismatched : (part import : ℕ) (one : Labelled) → links (linked_parts labelled) ≡ Err (Mismatch part import) → slice_get labelled part ≡ Some one
+      → refusal ≡ mismatched_import one.name import → LinkingRefuses labelled refusal
   -- an element segment, or else a data segment, is out of range
-  element : (part : ℕ) (one : Named) → links (linked_parts named) ≡ Err (ElementRange part) → slice_get named part ≡ Some one
-      → refusal ≡ element_range one.name → LinkingRefuses named refusal
-  segment : (part : ℕ) (one : Named) → links (linked_parts named) ≡ Err (DataRange part) → slice_get named part ≡ Some one
-      → refusal ≡ data_range one.name → LinkingRefuses named refusal
+  element : (part : ℕ) (one : Labelled) → links (linked_parts labelled) ≡ Err (ElementRange part) → slice_get labelled part ≡ Some one
+      → refusal ≡ element_range one.name → LinkingRefuses labelled refusal
+  segment : (part : ℕ) (one : Labelled) → links (linked_parts labelled) ≡ Err (DataRange part) → slice_get labelled part ≡ Some one
+      → refusal ≡ data_range one.name → LinkingRefuses labelled refusal
   -- the modules together are too large
-  too_large : (which : Quantity) (value : ℕ) → links (linked_parts named) ≡ Err (Limit which value) → refusal ≡ limit which value → LinkingRefuses named refusal
+  too_large : (which : Quantity) (value : ℕ) → links (linked_parts labelled) ≡ Err (Limit which value) → refusal ≡ limit which value → LinkingRefuses labelled refusal
 
-abbrev pub linking : Stage (List Named) Tree
+abbrev pub linking : Stage (List Labelled) Tree
 linking = record { Passes = Links; Refuses = LinkingRefuses }
 
--- the linked tree of modules of a form
-abbrev pub loading : (Module → Type 0) → Stage (List Part) Tree
-loading Form = chain (each decoding) (chain (each validation) (chain (each (of_form Form)) linking))
+-- the linked tree of modules
+abbrev pub loading : Stage (List Part) Tree
+loading = chain (each decoding) (chain (each validation) (chain (each labelling) linking))
 
 -- ---- modules that are linked
 
--- the bytes spell that module, which is supported, within the limits, valid and of the form
-pub record Accepted (Form : Module → Type 0) (bytes : List ℕ) (tree : Module) : Type 0 where
+-- the bytes spell that module, which is supported, within the limits and valid, and has these labels
+pub record Accepted (bytes : List ℕ) (tree : Module) (labels : Labels) : Type 0 where
   pub spelled : Spells bytes tree
   pub supported : IsSupported tree
   pub within : first_excess tree ≡ None
   pub valid : Typed tree
-  pub form : Form tree
+  pub told : AreTold tree (Ok labels)

@@ -2,7 +2,6 @@
 use Rattle.std.specs.Prelude.{◌≡◌, ℕ, List, [], ◌∷◌}
 use Rattle.bl_outside.specs.Shelf.{with_file}
 use Rattle.bl_app.specs.Building.{AreCompiled, Built, compiling_job}
-use Rattle.bl_app.specs.Form.{IsUnlabelled}
 use Rattle.bl_app.specs.Jobs.{AreRead, FileIs, Job, Plan}
 use Rattle.bl_words.specs.Requests.{LowerRequest}
 use Rattle.bl_app.specs.Texts.{commands_text}
@@ -18,7 +17,7 @@ lower_plan request built = record {
 }
 
 abbrev pub lower_job : LowerRequest → Job
-lower_job request = compiling_job IsUnlabelled request.modules (request.image ∷ []) (λ built plan. plan ≡ lower_plan request built)
+lower_job request = compiling_job request.modules (request.image ∷ []) (λ built plan. plan ≡ lower_plan request built)
 
 -- the modules are read and compiled; the image of their program is kept, and nothing else is changed; the number of commands is
 -- printed; the program ends exactly as the linked tree does

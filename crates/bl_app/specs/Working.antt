@@ -14,6 +14,8 @@ use Rattle.bl_outside.specs.declared.shelf.ShelfError.{ShelfError}
 use Rattle.bl_outside.specs.declared.shelf.ShelfError.TheVariants as shelf
 use Rattle.bl_decode.specs.declared.error.DecodeError.{DecodeError}
 use Rattle.bl_decode.specs.declared.error.DecodeError.TheVariants as decode
+use Rattle.bl_labels.specs.declared.error.LabelError.{LabelError}
+use Rattle.bl_labels.specs.declared.error.LabelError.TheVariants as label
 use Rattle.bl_link.specs.declared.error.LinkError.{LinkError}
 use Rattle.bl_link.specs.declared.error.LinkError.TheVariants as link
 use Rattle.bl_validate.specs.declared.verdict.Invalid.{Invalid}
@@ -32,12 +34,18 @@ use Rattle.bl_app.specs.Executing.{HasPlainOutcome, plain_text}
 use Rattle.bl_app.specs.Hardening.{Hardened}
 use Rattle.bl_app.specs.Interpreting.{HasOutcome, printed_of}
 use Rattle.bl_app.specs.Jobs.{AreRead, Job, Plan, Read, ReadsName, RefusesLength, saying}
-use Rattle.bl_app.specs.Loading.{Named}
+use Rattle.bl_app.specs.Loading.{Labelled, Named}
 use Rattle.bl_app.specs.Outcomes.{outcome_status}
-use Rattle.bl_app.specs.Refusals.{Refusal, malformed, invalid_function, invalid_module, unsupported, limit, unknown_import, mismatched_import, element_range, data_range, not_an_image, broken_rule, no_export, bad_directive, bad_line, few_arguments}
+use Rattle.bl_app.specs.Refusals.{Refusal, malformed, invalid_function, invalid_module, unsupported, limit, unknown_import, mismatched_import, element_range, data_range, bad_labels, not_an_image, broken_rule, no_export, not_json, other_shape, bad_directive, bad_line, few_arguments}
 use Rattle.bl_words.specs.Requests.{InterpRequest}
 use Rattle.bl_app.specs.Running.{Opened, OpeningRefuses, Opens}
 use Rattle.bl_app.specs.Speculating.{Speculated, TracingRefuses}
+use Rattle.bl_app.specs.Verifying.{Certified, ReadingRefuses, Verdicts}
+use Rattle.bl_app.specs.declared.verify.Verdicts.{Verdicts as VerdictsFound}
+use Rattle.bl_graph.specs.declared.certificate.Certificate.{Certificate}
+use Rattle.bl_witness.specs.Shapes.{Reads}
+use Rattle.bl_witness.specs.declared.error.CertError.{CertError}
+use Rattle.bl_witness.specs.declared.error.CertError.TheVariants as cert
 use Rattle.bl_app.specs.Stages.{Stage}
 use Rattle.bl_app.specs.Status.{status_of}
 use Rattle.bl_app.specs.Texts.{read_fault_text, refusal_text}
@@ -50,7 +58,9 @@ use Rattle.bl_app.specs.declared.job.Keep.{Keep}
 use Rattle.bl_app.specs.declared.job.Plan.{Plan as PlanMade}
 use Rattle.bl_app.specs.declared.job.Read.{Read as ReadAsked}
 use Rattle.bl_app.specs.declared.load.Checked.{Checked}
+use Rattle.bl_app.specs.declared.load.Ready.{Ready}
 use Rattle.bl_app.specs.declared.load.Spelled.{Spelled}
+use Rattle.bl_app.specs.declared.refusal.LabelFault.TheVariants as fault
 use Rattle.bl_app.specs.declared.refusal.Refusal.{Refusal as RefusalTold}
 use Rattle.bl_app.specs.declared.refusal.Refusal.TheVariants as told
 use Rattle.bl_app.specs.declared.refusal.WorkError.{WorkError}
@@ -82,9 +92,12 @@ refusal_in (told.UnknownImport name import) = unknown_import name.now import
 refusal_in (told.MismatchedImport name import) = mismatched_import name.now import
 refusal_in (told.ElementRange name) = element_range name.now
 refusal_in (told.DataRange name) = data_range name.now
+refusal_in (told.BadLabels name wrong) = bad_labels name.now wrong
 refusal_in told.NotAnImage = not_an_image
 refusal_in (told.BrokenRule rule position) = broken_rule rule position
 refusal_in told.NoExport = no_export
+refusal_in told.NotJson = not_json
+refusal_in told.OtherShape = other_shape
 refusal_in (told.BadDirective number) = bad_directive number
 refusal_in (told.BadLine number) = bad_line number
 refusal_in (told.FewArguments count) = few_arguments count
@@ -137,6 +150,9 @@ spelled_in spelled = record { name = spelled.name.now; tree = spelled.tree }
 abbrev pub checked_in : Checked → Named
 checked_in checked = record { name = checked.name.now; tree = checked.wasm }
 
+abbrev pub ready_in : Ready → Labelled
+ready_in ready = record { name = ready.name.now; tree = ready.wasm; labels = ready.labels }
+
 -- an error of decoding a module of that name
 abbrev pub decoding_error : Bor (List ℕ) → DecodeError → WorkError
 decoding_error name decode.Malformed = error.Refused (told.Malformed name)
@@ -149,6 +165,15 @@ abbrev pub validation_error : Bor (List ℕ) → Invalid → WorkError
 validation_error name (invalid.Function index) = error.Refused (told.InvalidFunction name index)
 validation_error name invalid.Module = error.Refused (told.InvalidModule name)
 validation_error name invalid.Memory = error.Memory
+
+-- an error of reading the labels of a module of that name
+abbrev pub labels_error : Bor (List ℕ) → LabelError → WorkError
+labels_error name label.Malformed = error.Refused (told.BadLabels name fault.Malformed)
+labels_error name label.Twice = error.Refused (told.BadLabels name fault.Twice)
+labels_error name label.OutOfRange = error.Refused (told.BadLabels name fault.OutOfRange)
+labels_error name label.OnImport = error.Refused (told.BadLabels name fault.OnImport)
+labels_error name label.Both = error.Refused (told.BadLabels name fault.Both)
+labels_error name label.Memory = error.Memory
 
 -- an error of linking modules of those names, by the name of the part that it names
 abbrev pub IsLinkingError : List (Bor (List ℕ)) → LinkError → WorkError → Type 0
@@ -212,7 +237,12 @@ built_in built = record { program = built.program; image = built.image.items }
 
 -- a program with its protects
 abbrev pub hardened_in : HardenedMade → Hardened
-hardened_in hardened = record { program = hardened.program; certificate = hardened.certificate; image = hardened.image.items }
+hardened_in hardened = record {
+  program = hardened.program;
+  certificate = hardened.certificate;
+  verdict = hardened.verdict;
+  image = hardened.image.items;
+}
 
 -- ---- `spec`
 
@@ -225,3 +255,25 @@ IsTraced bytes (Err error.Memory) = Unit {0}
 -- a function of a program, its start, and directives
 abbrev pub speculated_in : Entry → Start → List Directive → Speculated
 speculated_in entry start directives = record { entered = entered_in entry start; directives = directives }
+
+-- ---- `verify`
+
+-- the certificate that bytes are, or the refusal; nothing is said where there was no memory
+abbrev pub IsCertificateOf : List ℕ → Result Certificate WorkError → Type 0
+IsCertificateOf bytes (Ok certificate) = Reads bytes (Ok certificate)
+IsCertificateOf bytes (Err (error.Refused refusal)) = ReadingRefuses bytes (refusal_in refusal)
+IsCertificateOf bytes (Err error.Memory) = Unit {0}
+
+-- an error of reading a certificate
+abbrev pub cert_error : CertError → WorkError
+cert_error cert.NotJson = error.Refused told.NotJson
+cert_error cert.Shape = error.Refused told.OtherShape
+cert_error cert.Memory = error.Memory
+
+-- a program and a certificate
+abbrev pub certified_in : Program → Certificate → Certified
+certified_in program certificate = record { program = program; certificate = certificate }
+
+-- the verdicts on them
+abbrev pub verdicts_in : VerdictsFound → Verdicts
+verdicts_in found = record { rules = found.rules; flow = found.flow; labels = found.labels }

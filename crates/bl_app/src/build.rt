@@ -3,14 +3,12 @@ ghost use Rattle.std.specs.Prelude.{◌≡◌, ◌≤◌, None, length, map};
 ghost use Rattle.bl_base.specs.Quantity.{limit_of};
 ghost use Rattle.bl_base.specs.declared.quantity.Quantity.TheVariants as quantity;
 ghost use Rattle.bl_app.specs.Building.{building, compiling};
-ghost use Rattle.bl_app.specs.Form.{IsOfForm};
 ghost use Rattle.bl_app.specs.Jobs.{AreRead};
 ghost use Rattle.bl_app.specs.Loading.{module_read, parts_of};
 ghost use Rattle.bl_words.specs.Requests.{AreNamedApart};
 ghost use Rattle.bl_app.specs.Working.{IsStaged, built_in, contents_in};
 
 use crate::load::load;
-use crate::module::Form;
 use crate::refusal::{Refusal, WorkError};
 use bl_base::Quantity;
 use bl_cmd::WellFormed;
@@ -32,16 +30,15 @@ pub struct Built {
 /// the program has more than 1,048,576 commands, or its image more than 134,217,728 bytes. Linear in the bytes and in the image.
 pub fn compile<'a>(
     alloc: Global,
-    form: Form,
     words: &[&'a str],
     contents: &[Vec<u8>],
 ) -> Result<Built, WorkError<'a>>
     requires few { length words.now ≤ limit_of quantity.Modules }
     requires apart { AreNamedApart (map (λ word. word.now) words.now) }
     requires read { AreRead None (map module_read (map (λ word. word.now) words.now)) (contents_in contents.now) }
-    ensures { IsStaged (compiling (IsOfForm form)) built_in (parts_of (map (λ word. word.now) words.now) (contents_in contents.now)) result }
+    ensures { IsStaged compiling built_in (parts_of (map (λ word. word.now) words.now) (contents_in contents.now)) result }
 {
-    match load(alloc, form, words, contents) {
+    match load(alloc, words, contents) {
         Ok(linked) => build(alloc, &linked),
         Err(error) => Err(error),
     }

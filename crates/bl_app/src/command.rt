@@ -8,6 +8,7 @@ ghost use Rattle.bl_words.specs.Requests.{AreNamedApart, modules_in};
 ghost use Rattle.bl_words.specs.Words.{request_in};
 ghost use Rattle.bl_app.specs.Working.{IsWork, contents_in, read_in};
 
+use crate::generate::generate;
 use crate::harden::{harden, harden_reads};
 use crate::interp::{interp_reads, interpret};
 use crate::job::{Plan, Read};
@@ -15,6 +16,7 @@ use crate::lower::{lower, lower_reads};
 use crate::refusal::WorkError;
 use crate::run::{execute, run_reads};
 use crate::spec::{spec_reads, speculate};
+use crate::verify::{verify, verify_reads};
 use bl_words::Request;
 use bl_base::NoMemory;
 use std::alloc::Global;
@@ -27,7 +29,7 @@ pub fn modules_of<'a, 'r>(request: &'r Request<'a>) -> &'r [&'a str]
         Request::Harden(words) => words.modules.as_slice(),
         Request::Lower(words) => words.modules.as_slice(),
         Request::Interp(words) => words.modules.as_slice(),
-        Request::Run(_) | Request::Spec(_) => &[],
+        Request::Run(_) | Request::Spec(_) | Request::Verify(_) | Request::Gen(_) => &[],
     }
 }
 
@@ -41,6 +43,8 @@ pub fn reads_of<'a>(alloc: Global, request: &Request<'a>) -> Result<Vec<Read<'a>
         Request::Interp(words) => interp_reads(alloc, words),
         Request::Run(words) => run_reads(alloc, words),
         Request::Spec(words) => spec_reads(alloc, words),
+        Request::Verify(words) => verify_reads(alloc, words),
+        Request::Gen(_) => Ok(Vec::new(alloc)),
     }
 }
 
@@ -61,5 +65,7 @@ pub fn work<'a>(
         Request::Interp(words) => interpret(alloc, words, contents),
         Request::Run(words) => execute(alloc, words, contents),
         Request::Spec(words) => speculate(alloc, words, contents),
+        Request::Verify(words) => verify(alloc, words, contents),
+        Request::Gen(words) => generate(alloc, words),
     }
 }

@@ -3,7 +3,7 @@ ghost use Rattle.std.specs.Prelude.{◌≡◌, ◌≤◌, None, IfOk, length, ma
 ghost use Rattle.bl_base.specs.Quantity.{limit_of};
 ghost use Rattle.bl_base.specs.declared.quantity.Quantity.TheVariants as quantity;
 ghost use Rattle.bl_graph.specs.Certificates.{Certifies};
-ghost use Rattle.bl_report.specs.Reports.{DeclaresNoSecret};
+ghost use Rattle.bl_ct.specs.Verdicts.{Judges};
 ghost use Rattle.bl_app.specs.Hardening.{IsHardened, harden_job, harden_plan};
 ghost use Rattle.bl_app.specs.Jobs.{AreRead};
 ghost use Rattle.bl_words.specs.Requests.{AreNamedApart};
@@ -12,14 +12,15 @@ ghost use Rattle.bl_app.specs.Working.{IsWork, contents_in, hardened_in, plan_in
 
 use crate::build::compile;
 use crate::job::{Keep, Plan, Read};
-use crate::module::{Form, read_modules};
+use crate::module::read_modules;
 use crate::refusal::WorkError;
 use crate::status::Status;
 use bl_words::HardenWords;
 use bl_base::NoMemory;
 use bl_cmd::WellFormed;
+use bl_ct::{CtVerdict, constant_time};
 use bl_cut::{least_protects, protect};
-use bl_graph::Certificate;
+use bl_graph::{Certificate, graph};
 use bl_image::encode;
 use bl_report::report;
 use bl_witness::to_json;
@@ -32,6 +33,8 @@ pub struct Hardened {
     pub program: WellFormed,
     /// A flow that shows that no lighter protects do.
     pub certificate: Certificate,
+    /// Whether it is constant-time.
+    pub verdict: CtVerdict,
     /// The image's bytes.
     pub image: Vec<u8>,
 }
@@ -57,7 +60,7 @@ pub fn harden<'a>(
     requires read { AreRead None (harden_job (harden_in words.now)).reads (contents_in contents.now) }
     ensures { IsWork (harden_job (harden_in words.now)) (contents_in contents.now) result }
 {
-    match compile(alloc, Form::Unlabelled, words.modules.as_slice(), contents) {
+    match compile(alloc, words.modules.as_slice(), contents) {
         Ok(built) => {
             let hardened = protect_least(alloc, built.program)?;
             let plan = plan_of(alloc, words, hardened)?;
@@ -67,16 +70,19 @@ pub fn harden<'a>(
     }
 }
 
-/// A program with exactly the least protects, a certificate of that, and the image.
-fn protect_least(alloc: Global, bare: WellFormed) -> Result<Hardened, NoMemory>
+/// A program with exactly the least protects, a certificate of that, the verdict on constant time, and the image.
+pub fn protect_least(alloc: Global, bare: WellFormed) -> Result<Hardened, NoMemory>
     ensures { IfOk result (λ hardened. IsHardened bare (hardened_in hardened)) }
 {
     let choice = least_protects(alloc, &bare)?;
     let program = protect(bare, &choice.protects);
+    let facts = graph(alloc, &program)?;
+    let verdict = constant_time(alloc, &program, &facts)?;
     let image = encode(alloc, &program)?;
     Ok(Hardened {
         program,
         certificate: choice.certificate,
+        verdict,
         image,
     })
 }
@@ -88,10 +94,15 @@ fn plan_of<'a>(
     hardened: Hardened,
 ) -> Result<Plan<'a>, NoMemory>
     requires certified { Certifies hardened.program hardened.certificate }
-    requires public { DeclaresNoSecret hardened.program }
+    requires judged { Judges hardened.program hardened.verdict }
     ensures { IfOk result (λ plan. plan_in plan ≡ harden_plan (harden_in words.now) (hardened_in hardened)) }
 {
-    let text = report(alloc, &hardened.program, &hardened.certificate)?;
+    let text = report(
+        alloc,
+        &hardened.program,
+        &hardened.certificate,
+        &hardened.verdict,
+    )?;
     let certificate = to_json(alloc, &hardened.certificate)?;
     let mut keeps = Vec::new(alloc);
     keeps.push(Keep {

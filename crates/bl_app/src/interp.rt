@@ -13,7 +13,7 @@ ghost use Rattle.bl_app.specs.Working.{IsRunOf, IsStaged, IsTold, IsWork, conten
 
 use crate::job::{Plan, Read};
 use crate::load::load;
-use crate::module::{Form, read_modules};
+use crate::module::read_modules;
 use crate::outcome::{outcome_status, outcome_text};
 use crate::refusal::{Refusal, WorkError};
 use crate::start::of_start;
@@ -63,7 +63,7 @@ pub fn interpret<'a>(
     let [start, modules @ ..] = contents else {
         unreachable!()
     };
-    let linked = match load(alloc, Form::Unlabelled, words.modules.as_slice(), modules) {
+    let linked = match load(alloc, words.modules.as_slice(), modules) {
         Ok(linked) => linked,
         Err(error) => return Err(error),
     };

@@ -6,6 +6,7 @@ mod command;
 mod deliver;
 mod entry;
 mod fetch;
+mod generate;
 mod harden;
 mod interp;
 mod job;
@@ -22,5 +23,6 @@ mod spec;
 mod start;
 mod status;
 mod top;
+mod verify;
 
 pub use top::blade;

@@ -1,4 +1,4 @@
-//! From modules' bytes to the linked tree: all are decoded, then all validated, then the form of each is tested, and then they are
+//! From modules' bytes to the linked tree: all are decoded, then all validated, then the labels of each are read, and then they are
 //! linked.
 ghost use Rattle.std.specs.Prelude.{◌≡◌, ◌<◌, ◌≤◌, ◌^◌, IfOk, None, length, map};
 ghost use Rattle.std.specs.List.{All};
@@ -6,21 +6,20 @@ ghost use Rattle.std.specs.Str.{IsUtf8};
 ghost use Rattle.bl_base.specs.Quantity.{limit_of};
 ghost use Rattle.bl_base.specs.declared.quantity.Quantity.TheVariants as quantity;
 ghost use Rattle.bl_wasm.specs.Validity.{functions_of};
+ghost use Rattle.bl_labels.specs.Faults.{IsConsistent};
 ghost use Rattle.bl_link.specs.Faults.{NamesPart};
 ghost use Rattle.bl_link.specs.Linkable.{AreParts};
-ghost use Rattle.bl_app.specs.Form.{IsOfForm};
 ghost use Rattle.bl_app.specs.Jobs.{AreRead};
-ghost use Rattle.bl_app.specs.Loading.{decoding, linked_parts, linking, loading, module_read, of_form, parts_of, validation};
+ghost use Rattle.bl_app.specs.Loading.{decoding, labelling, linked_parts, linking, loading, module_read, parts_of, validation};
 ghost use Rattle.bl_words.specs.Requests.{AreNamedApart};
 ghost use Rattle.bl_app.specs.Stages.{each};
-ghost use Rattle.bl_app.specs.Working.{IsLinkingError, IsStaged, checked_in, contents_in, decoding_error, spelled_in, validation_error};
+ghost use Rattle.bl_app.specs.Working.{IsLinkingError, IsStaged, checked_in, contents_in, decoding_error, labels_error, ready_in, spelled_in, validation_error};
 
-use crate::module::{Form, is_of_form};
-use crate::refusal::{Refusal, WorkError};
+use crate::refusal::{LabelFault, Refusal, WorkError};
 use bl_words::module_name;
 use bl_base::{List, NoMemory, Text};
 use bl_decode::{DecodeError, decode};
-use bl_labels::Labels;
+use bl_labels::{LabelError, Labels, labels_of};
 use bl_link::{LinkError, Part, link};
 use bl_validate::{Invalid, ValidModule, validate};
 use bl_wasm::{Linked, Module};
@@ -44,19 +43,29 @@ pub struct Checked<'a> {
     pub wasm: ValidModule,
 }
 
+/// A module that can be linked: one that was validated, under its name, with its labels.
+#[derive(Drop)]
+pub struct Ready<'a> {
+    /// Its name.
+    pub name: &'a str,
+    /// The module.
+    pub wasm: ValidModule,
+    /// Its labels.
+    pub labels: Labels,
+}
+
 /// The linked tree of the modules in files with these contents; Refused exactly where the first error is one of these, in this order:
-/// the bytes of a file spell no module, or it isn't supported, or exceeds a limit; a module isn't valid; a module isn't of the form;
-/// the modules can't be linked. Linear in the bytes.
+/// the bytes of a file spell no module, or it isn't supported, or exceeds a limit; a module isn't valid; the labels of a module break a
+/// rule; the modules can't be linked. Linear in the bytes.
 pub fn load<'a>(
     alloc: Global,
-    form: Form,
     words: &[&'a str],
     contents: &[Vec<u8>],
 ) -> Result<Linked, WorkError<'a>>
     requires few { length words.now ≤ limit_of quantity.Modules }
     requires apart { AreNamedApart (map (λ word. word.now) words.now) }
     requires read { AreRead None (map module_read (map (λ word. word.now) words.now)) (contents_in contents.now) }
-    ensures { IsStaged (loading (IsOfForm form)) (λ tree. tree) (parts_of (map (λ word. word.now) words.now) (contents_in contents.now)) result }
+    ensures { IsStaged loading (λ tree. tree) (parts_of (map (λ word. word.now) words.now) (contents_in contents.now)) result }
 {
     let spelled = match decode_all(alloc, words, contents) {
         Ok(spelled) => spelled,
@@ -66,8 +75,8 @@ pub fn load<'a>(
         Ok(checked) => checked,
         Err(error) => return Err(error),
     };
-    match check_forms(form, checked.as_slice()) {
-        Ok(()) => link_all(alloc, checked),
+    match label_all(alloc, checked) {
+        Ok(ready) => link_all(alloc, ready),
         Err(error) => Err(error),
     }
 }
@@ -138,25 +147,52 @@ fn of_validation(name: &str, reason: Invalid) -> WorkError<'_>
     }
 }
 
-/// Whether all modules are of the form; takes no memory.
-fn check_forms<'a>(form: Form, checked: &[Checked<'a>]) -> Result<(), WorkError<'a>>
-    ensures { IsStaged (each (of_form (IsOfForm form))) (λ _. map checked_in checked.now) (map checked_in checked.now) result }
+/// The modules with their labels, where these break no rule.
+fn label_all<'a>(
+    alloc: Global,
+    checked: Vec<Checked<'a>>,
+) -> Result<Vec<Ready<'a>>, WorkError<'a>>
+    ensures staged { IsStaged (each labelling) (λ all. map ready_in all.items) (map checked_in checked.entry.items) result }
+    ensures consistent { IfOk result (λ all. All (λ one. IsConsistent one.labels) all.items) }
 {
-    for one in checked {
-        if !is_of_form(form, one.wasm.module()) {
-            return Err(WorkError::Refused(Refusal::Unsupported(one.name)));
+    let mut all = Vec::new(alloc);
+    let mut rest = checked.into_iter();
+    while let Some(one) = rest.next() {
+        let name = one.name;
+        match labels_of(alloc, one.wasm.module()) {
+            Ok(labels) => all.push(Ready {
+                name,
+                wasm: one.wasm,
+                labels,
+            })?,
+            Err(error) => return Err(of_labels(name, error)),
         }
     }
-    Ok(())
+    Ok(all)
 }
 
-/// The linked tree of valid modules, of which none names anything secret.
-fn link_all<'a>(alloc: Global, checked: Vec<Checked<'a>>) -> Result<Linked, WorkError<'a>>
-    requires { AreParts (linked_parts (map checked_in checked.items)) }
-    ensures { IsStaged linking (λ tree. tree) (map checked_in checked.entry.items) result }
+/// Why a module of that name is refused whose labels aren't read.
+fn of_labels(name: &str, error: LabelError) -> WorkError<'_>
+    ensures { result ≡ labels_error name.entry error }
 {
-    let names = names_of(alloc, checked.as_slice())?;
-    let parts = parts_of(alloc, checked)?;
+    let fault = match error {
+        LabelError::Malformed => LabelFault::Malformed,
+        LabelError::Twice => LabelFault::Twice,
+        LabelError::OutOfRange => LabelFault::OutOfRange,
+        LabelError::OnImport => LabelFault::OnImport,
+        LabelError::Both => LabelFault::Both,
+        LabelError::Memory => return WorkError::Memory,
+    };
+    WorkError::Refused(Refusal::BadLabels(name, fault))
+}
+
+/// The linked tree of modules with their labels.
+fn link_all<'a>(alloc: Global, ready: Vec<Ready<'a>>) -> Result<Linked, WorkError<'a>>
+    requires { AreParts (linked_parts (map ready_in ready.items)) }
+    ensures { IsStaged linking (λ tree. tree) (map ready_in ready.entry.items) result }
+{
+    let names = names_of(alloc, ready.as_slice())?;
+    let parts = parts_of(alloc, ready)?;
     match link(alloc, parts) {
         Ok(linked) => Ok(linked),
         Err(error) => Err(of_linking(names.as_slice(), error)),
@@ -164,27 +200,27 @@ fn link_all<'a>(alloc: Global, checked: Vec<Checked<'a>>) -> Result<Linked, Work
 }
 
 /// The names of modules.
-fn names_of<'a>(alloc: Global, checked: &[Checked<'a>]) -> Result<Vec<&'a str>, NoMemory>
-    ensures { IfOk result (λ names. names.items ≡ map (λ one. one.name) checked.now) }
+fn names_of<'a>(alloc: Global, ready: &[Ready<'a>]) -> Result<Vec<&'a str>, NoMemory>
+    ensures { IfOk result (λ names. names.items ≡ map (λ one. one.name) ready.now) }
 {
     let mut names = Vec::new(alloc);
-    for one in checked {
+    for one in ready {
         names.push(one.name)?;
     }
     Ok(names)
 }
 
 /// The modules as parts to be linked.
-fn parts_of(alloc: Global, checked: Vec<Checked<'_>>) -> Result<List<Part>, NoMemory>
-    ensures { IfOk result (λ parts. parts ≡ linked_parts (map checked_in checked.entry.items)) }
+fn parts_of(alloc: Global, ready: Vec<Ready<'_>>) -> Result<List<Part>, NoMemory>
+    ensures { IfOk result (λ parts. parts ≡ linked_parts (map ready_in ready.entry.items)) }
 {
     let mut parts = List::new(alloc);
-    let mut rest = checked.into_iter();
+    let mut rest = ready.into_iter();
     while let Some(one) = rest.next() {
         parts.push(Part {
             name: Text::copy_of(alloc, one.name.as_bytes())?,
             wasm: one.wasm,
-            labels: Labels::none(alloc),
+            labels: one.labels,
         })?;
     }
     Ok(parts)

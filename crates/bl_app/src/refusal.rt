@@ -3,7 +3,7 @@ ghost use Rattle.std.specs.Prelude.{◌≡◌, ◌++◌, IfOk, codes};
 ghost use Rattle.std.specs.Fmt.{decimal};
 ghost use Rattle.bl_base.specs.Quantity.{word_of};
 ghost use Rattle.bl_app.specs.Status.{status_of};
-ghost use Rattle.bl_app.specs.Texts.{line, refusal_text};
+ghost use Rattle.bl_app.specs.Texts.{fault_text, line, refusal_text};
 ghost use Rattle.bl_app.specs.Working.{refusal_in};
 ghost use Rattle.bl_app.specs.declared.refusal.WorkError.TheVariants as error;
 
@@ -11,6 +11,36 @@ use crate::status::Status;
 use bl_base::{NoMemory, Quantity};
 use std::alloc::{AllocFailed, Global};
 use thiserror::Error;
+
+/// What is wrong with the labels of a module.
+#[derive(Clone, Copy, Debug, PartialEq, Eq)]
+pub enum LabelFault {
+    /// The bytes of the section spell no labels.
+    Malformed,
+    /// There are two sections of labels, or an entry stood before.
+    Twice,
+    /// What an entry names doesn't exist.
+    OutOfRange,
+    /// What an entry names is imported.
+    OnImport,
+    /// A global is declared secret and demanded to be public.
+    Both,
+}
+
+impl LabelFault {
+    /// What the line says of it behind the module's name.
+    fn text(self) -> &'static str
+        ensures { result.now ≡ fault_text self }
+    {
+        match self {
+            LabelFault::Malformed => " malformed",
+            LabelFault::Twice => " twice",
+            LabelFault::OutOfRange => " out of range",
+            LabelFault::OnImport => " on import",
+            LabelFault::Both => " both",
+        }
+    }
+}
 
 /// Why a request is refused: the first error in the order of work, with the name of its module.
 #[derive(Clone, Copy, Debug)]
@@ -21,7 +51,7 @@ pub enum Refusal<'a> {
     InvalidFunction(&'a str, u32),
     /// Each function of a module has a typing, and the module breaks another rule.
     InvalidModule(&'a str),
-    /// A module has something that isn't supported, or it isn't of the form that the command takes.
+    /// A module has something that isn't supported.
     Unsupported(&'a str),
     /// There are too many modules, or a file, a module or all that is linked is too large.
     Limit {
@@ -39,6 +69,8 @@ pub enum Refusal<'a> {
     ElementRange(&'a str),
     /// A data segment of a module doesn't lie in the first bytes of its memory.
     DataRange(&'a str),
+    /// The labels of a module break a rule: the first one.
+    BadLabels(&'a str, LabelFault),
     /// The bytes of a file are the image of no program.
     NotAnImage,
     /// The program of an image isn't well-formed.
@@ -50,6 +82,10 @@ pub enum Refusal<'a> {
     },
     /// No function is exported under the name.
     NoExport,
+    /// The bytes of a certificate are no JSON value.
+    NotJson,
+    /// The bytes of a certificate are a JSON value of another shape.
+    OtherShape,
     /// A line of the trace file is no directive: the first one's number, from 1.
     BadDirective(u64),
     /// A line of the start file is bad: the first one's number, from 1.
@@ -97,7 +133,9 @@ impl<'a> Refusal<'a> {
             Refusal::Limit { .. } => Status::Limit,
             Refusal::UnknownImport(_, _) | Refusal::MismatchedImport(_, _) => Status::Link,
             Refusal::ElementRange(_) | Refusal::DataRange(_) => Status::Link,
+            Refusal::BadLabels(_, _) => Status::Labels,
             Refusal::NotAnImage | Refusal::BrokenRule { .. } => Status::Image,
+            Refusal::NotJson | Refusal::OtherShape => Status::Certificate,
             Refusal::BadDirective(_) => Status::Trace,
             Refusal::NoExport | Refusal::BadLine(_) | Refusal::FewArguments(_) => Status::Start,
         }
@@ -122,9 +160,12 @@ impl<'a> Refusal<'a> {
             ),
             Refusal::ElementRange(name) => named_line(alloc, "link: ", name, " element"),
             Refusal::DataRange(name) => named_line(alloc, "link: ", name, " data"),
+            Refusal::BadLabels(name, fault) => named_line(alloc, "labels: ", name, fault.text()),
             Refusal::NotAnImage => Ok(b"image: not an image\n".to_vec(alloc)?),
             Refusal::BrokenRule { rule, position } => rule_line(alloc, rule, position),
             Refusal::NoExport => Ok(b"start: export\n".to_vec(alloc)?),
+            Refusal::NotJson => Ok(b"certificate: not JSON\n".to_vec(alloc)?),
+            Refusal::OtherShape => Ok(b"certificate: shape\n".to_vec(alloc)?),
             Refusal::BadDirective(number) => Ok(format!(in alloc;
                 "trace: line {number}\n"
             )?.into_bytes()),

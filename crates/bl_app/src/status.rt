@@ -7,6 +7,8 @@ ghost use Rattle.bl_app.specs.Status.{code_of};
 pub enum Status {
     /// The work is done and all its text is written.
     Done,
+    /// A certificate's rules or the transient rules are broken, or two runs are observed differently.
+    No,
     /// The words are no request.
     Usage,
     /// A file could not be read.
@@ -17,16 +19,20 @@ pub enum Status {
     Malformed,
     /// A module has no typing.
     Invalid,
-    /// A module has something that isn't supported, or isn't of the form that the command takes.
+    /// A module has something that isn't supported.
     Unsupported,
     /// A quantity exceeds its number.
     Limit,
     /// An import has no match, or a segment is out of range.
     Link,
+    /// The labels of a module break a rule.
+    Labels,
     /// Memory ran out.
     Memory,
     /// The bytes are no image, or the image is not well-formed.
     Image,
+    /// The bytes of a certificate are no JSON value, or one that is no certificate.
+    Certificate,
     /// A line of the trace file is no directive.
     Trace,
     /// The export is absent, a line of the start file is bad, or there are too few arguments.
@@ -46,6 +52,7 @@ impl Status {
     {
         match self {
             Status::Done => 0,
+            Status::No => 1,
             Status::Usage => 2,
             Status::ReadFault => 3,
             Status::WriteFault => 4,
@@ -54,8 +61,10 @@ impl Status {
             Status::Unsupported => 7,
             Status::Limit => 8,
             Status::Link => 9,
+            Status::Labels => 10,
             Status::Memory => 11,
             Status::Image => 12,
+            Status::Certificate => 13,
             Status::Trace => 14,
             Status::Start => 15,
             Status::Trapped => 16,

@@ -6,12 +6,14 @@ ghost use Rattle.bl_app.specs.Causes.{Causes};
 ghost use Rattle.bl_app.specs.Commands.{job_of};
 ghost use Rattle.bl_app.specs.Ends.{Ends};
 ghost use Rattle.bl_app.specs.Executing.{Runs};
+ghost use Rattle.bl_app.specs.Generating.{Generates};
 ghost use Rattle.bl_app.specs.Hardening.{Hardens};
 ghost use Rattle.bl_app.specs.Interpreting.{Interprets};
 ghost use Rattle.bl_app.specs.Lowering.{Lowers};
-ghost use Rattle.bl_words.specs.Requests.{AreNamedApart, modules_in, HardenRequest, InterpRequest, LowerRequest, RunRequest, SpecRequest, harden, interp, lower, request_of, run as run_image, spec};
+ghost use Rattle.bl_words.specs.Requests.{AreNamedApart, GenRequest, HardenRequest, InterpRequest, LowerRequest, RunRequest, SpecRequest, VerifyRequest, gen, harden, interp, lower, modules_in, request_of, run as run_image, spec, verify};
 ghost use Rattle.bl_app.specs.Speculating.{Speculates};
 ghost use Rattle.bl_app.specs.Status.{IsStatus, kind_of, of_deed};
+ghost use Rattle.bl_app.specs.Verifying.{Verifies};
 ghost use Rattle.bl_words.specs.Words.{request_in};
 ghost use Rattle.bl_app.specs.Worlds.{world};
 
@@ -27,9 +29,10 @@ use bl_outside::{Shelf, Sink};
 use std::alloc::Global;
 
 /// Runs the program on its words, the program's own name first, and answers its exit status: 0 done,
+/// 1 the rules of a certificate or the transient rules are broken,
 /// 2 no request, 3 a file could not be read, 4 a file or the sink could not be written, 5 a module's bytes spell none, 6 a module
-/// has no typing, 7 it has something that isn't supported or isn't of the form that the command takes, 8 a quantity exceeds its
-/// number, 9 an import of a module has no match or a segment is out of range, 11 memory ran out, 12 the bytes are no image or the image isn't well-formed, 14 a line of the trace file is no directive, 15 the export is
+/// has no typing, 7 it has something that isn't supported, 8 a quantity exceeds its
+/// number, 9 an import of a module has no match or a segment is out of range, 10 the labels of a module break a rule, 11 memory ran out, 12 the bytes are no image or the image isn't well-formed, 13 the bytes are no certificate, 14 a line of the trace file is no directive, 15 the export is
 /// absent, a line of the start file is bad, or there are too few arguments, 16 the run trapped, 17 its steps were spent, 18 a
 /// directive isn't enabled. All text goes to the sink.
 pub fn blade<F: Shelf, O: Sink>(alloc: Global, words: &[String], files: &mut F, out: &mut O) -> u8
@@ -56,6 +59,14 @@ pub fn blade<F: Shelf, O: Sink>(alloc: Global, words: &[String], files: &mut F, 
     // What statuses 0, 16 and 17 say of `run`: the text is that of the outcome of the image's program within the steps.
     ensures runs { (request : RunRequest) → request_of (map string_bytes words.now) ≡ Some (run_image request) → IsStatus result (λ status. kind_of status ≡ of_deed → Runs request
         (world F.files F.faults O.taken O.faults files.old out.old) (world F.files F.faults O.taken O.faults files.new out.new) status) }
+
+    // What statuses 0 and 1 say of `verify`: the lines are the verdicts on the image and the certificate.
+    ensures verifies { (request : VerifyRequest) → request_of (map string_bytes words.now) ≡ Some (verify request) → IsStatus result (λ status. kind_of status ≡ of_deed → Verifies request
+        (world F.files F.faults O.taken O.faults files.old out.old) (world F.files F.faults O.taken O.faults files.new out.new) status) }
+
+    // What status 0 says of `gen`: the summary of the module that is made.
+    ensures generates { (request : GenRequest) → request_of (map string_bytes words.now) ≡ Some (gen request) → result ≡ 0 → Generates request
+        (world F.files F.faults O.taken O.faults files.old out.old) (world F.files F.faults O.taken O.faults files.new out.new) }
 
     // What statuses 0 and 18 say of `spec`: the lines are those of what is observed of the directives.
     ensures speculates { (request : SpecRequest) → request_of (map string_bytes words.now) ≡ Some (spec request) → IsStatus result (λ status. kind_of status ≡ of_deed → Speculates request

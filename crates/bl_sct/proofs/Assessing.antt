@@ -19,11 +19,11 @@ use Rattle.bl_sct.specs.declared.verdict.Verdict.TheVariants.{Safe}
 use Rattle.bl_sct.proofs.Whole.{equal}
 
 -- what is transient in each typing
-hot : (program : Program) (set typing : ℕ → Bool) → Assigns program typing set → (x : ℕ) → Trans program set x → IsTrue (typing x)
+pub hot : (program : Program) (set typing : ℕ → Bool) → Assigns program typing set → (x : ℕ) → Trans program set x → IsTrue (typing x)
 hot program set typing a x (loaded s _ l w f) = a.loads s x l w f
 hot program set typing a x (moved s y _ r w f t) = a.moves s y x r w f (hot program set typing a y t)
 
-opposite : (b : Bool) → IsTrue b → IsTrue (not b) → ⊥
+pub opposite : (b : Bool) → IsTrue b → IsTrue (not b) → ⊥
 opposite true h k = cc
 opposite false h k = cc
 

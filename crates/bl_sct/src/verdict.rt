@@ -4,6 +4,7 @@ ghost use Rattle.std.specs.FinSet as fin;
 ghost use Rattle.bl_cmd.specs.Sites.{is_protected};
 ghost use Rattle.bl_graph.specs.Labels.{ConstantTime};
 ghost use Rattle.bl_sct.specs.Verdicts.{Assesses};
+ghost use Rattle.bl_transient.specs.Verdicts.{Judges};
 
 use bl_base::{NoMemory, Pos, SiteSet};
 use bl_cmd::{ProgramParts, WellFormed};
@@ -49,6 +50,16 @@ fn assess_labelled(alloc: Global, program: &WellFormed) -> Result<Verdict, NoMem
         FlowVerdict::Yes(_) => Ok(Verdict::Safe),
         FlowVerdict::No(position) => Ok(Verdict::NotStable(position)),
     }
+}
+
+/// Whether a program's own marks pass the transient rules: the least flow typing, or the least position of a sink that reads a
+/// transient variable. Linear in the program but for the logarithm of the number of protects. Want of memory is the only error.
+pub fn stability(alloc: Global, program: &WellFormed) -> Result<FlowVerdict, NoMemory>
+    ensures { IfOk result (λ verdict. Judges program.now (is_protected program.now) verdict) }
+{
+    let parts = program.program().parts();
+    let protects = own_protects(alloc, parts, parts.commands.len() as u32)?;
+    flows(alloc, program, &protects)
 }
 
 /// The protected sites of a program of so many commands.

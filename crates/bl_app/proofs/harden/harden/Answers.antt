@@ -1,22 +1,15 @@
 use Rattle.std.proofs.Common.{Bor, Err, List, map, subst, ℕ}
 use Rattle.bl_app.specs.Building.{compiling}
-use Rattle.bl_app.specs.Form.{IsUnlabelled}
 use Rattle.bl_app.specs.Hardening.{harden_job}
 use Rattle.bl_app.specs.Loading.{parts_of}
 use Rattle.bl_words.specs.Words.{harden_in}
 use Rattle.bl_app.specs.Working.{IsStaged, built_in, contents_in, hardened_in}
-use Rattle.bl_app.proofs.HardenLemmas.{built_public, hardened_public, not_compiled}
+use Rattle.bl_app.proofs.HardenLemmas.{not_compiled}
 use Rattle.bl_app.proofs.harden.harden.Goals as goal
 
 -- the words
 abbrev texts : List (Bor (List ℕ)) → List (List ℕ)
 texts words = map (λ (word : Bor (List ℕ)). word.now) words
-
-pub plan_of-requires-clause-public : goal.plan_of-requires-clause-public
-plan_of-requires-clause-public c =
-    let hardened = c.in_ok-hardened-in-Ok in
-    hardened_public c.in-Ok.built.program (hardened_in hardened.hardened) hardened.ensures
-    (built_public (parts_of (texts c.as_slice.result.now) (contents_in c.args.contents.now)) (built_in c.in-Ok.built) c.in-Ok.ensures)
 
 pub returns-in_ok-plan-in-Ok : goal.returns-in_ok-plan-in-Ok
 returns-in_ok-plan-in-Ok c =
@@ -24,7 +17,7 @@ returns-in_ok-plan-in-Ok c =
     let hardened = c.in_ok-hardened-in-Ok in
     record {
       built = built_in c.in-Ok.built;
-      compiled = subst (λ (words : List (Bor (List ℕ))). (compiling IsUnlabelled).Passes (parts_of (texts words) contents) (built_in c.in-Ok.built))
+      compiled = subst (λ (words : List (Bor (List ℕ))). compiling.Passes (parts_of (texts words) contents) (built_in c.in-Ok.built))
           c.as_slice.ensures.value c.in-Ok.ensures;
       plans = record { hardened = hardened_in hardened.hardened; is_hardened = hardened.ensures; is_plan = c.in_ok-plan-in-Ok.ensures };
     }
@@ -32,7 +25,7 @@ returns-in_ok-plan-in-Ok c =
 pub returns-in-Err : goal.returns-in-Err
 returns-in-Err c =
     let contents = contents_in c.args.contents.now in
-    not_compiled IsUnlabelled (harden_job (harden_in c.args.words.now)) (parts_of (texts c.args.words.now.modules.items) contents) contents
+    not_compiled (harden_job (harden_in c.args.words.now)) (parts_of (texts c.args.words.now.modules.items) contents) contents
     (λ refusal r. r) c.in-Err.error
-    (subst (λ (words : List (Bor (List ℕ))). IsStaged (compiling IsUnlabelled) built_in (parts_of (texts words) contents) (Err c.in-Err.error))
+    (subst (λ (words : List (Bor (List ℕ))). IsStaged compiling built_in (parts_of (texts words) contents) (Err c.in-Err.error))
     c.as_slice.ensures.value c.in-Err.ensures)

@@ -4,7 +4,6 @@ use Rattle.std.specs.declared.alloc.Global.{Global}
 use Rattle.bl_base.specs.Quantity.{limit_of}
 use Rattle.bl_base.specs.declared.quantity.Quantity.TheVariants as quantity
 use Rattle.bl_wasm.specs.declared.linked.Tree.{Tree}
-use Rattle.bl_app.specs.Form.{IsUnlabelled}
 use Rattle.bl_app.specs.Interpreting.{interp_job}
 use Rattle.bl_app.specs.Jobs.{AreRead}
 use Rattle.bl_app.specs.Loading.{loading, module_read, parts_of}
@@ -46,7 +45,7 @@ returns-in-Err c =
     let request = interp_in c.args.words.now in
     let shape = first_and_rest c.args.contents.now c.start-item.result c.in-len1-up.len_at_least c.start-item.is in
     let staged =
-    subst (λ (words : Words). IsStaged (loading IsUnlabelled) (λ (tree : Tree). tree) (parts_of (texts words) (behind c.args.contents.now)) (Err c.in-Err.error)) c.as_slice.ensures.value c.in-Err.ensures in
+    subst (λ (words : Words). IsStaged loading (λ (tree : Tree). tree) (parts_of (texts words) (behind c.args.contents.now)) (Err c.in-Err.error)) c.as_slice.ensures.value c.in-Err.ensures in
     subst (λ (all : Contents). IsWork (interp_job request) (contents_in all) (Err c.in-Err.error)) (sym shape)
     (not_run request c.start-item.result.items (behind c.args.contents.now) c.in-Err.error staged)
 
@@ -54,7 +53,7 @@ pub returns : goal.returns
 returns c =
     let request = interp_in c.args.words.now in
     let shape = first_and_rest c.args.contents.now c.start-item.result c.in-len1-up.len_at_least c.start-item.is in
-    let loaded = subst (λ (words : Words). (loading IsUnlabelled).Passes (parts_of (texts words) (behind c.args.contents.now)) c.in-Ok.linked) c.as_slice.ensures.value c.in-Ok.ensures in
+    let loaded = subst (λ (words : Words). loading.Passes (parts_of (texts words) (behind c.args.contents.now)) c.in-Ok.linked) c.as_slice.ensures.value c.in-Ok.ensures in
     let run = subst (λ (start : List ℕ). IsRunOf request start c.in-Ok.linked c.interpret_tree.result) c.deref.ensures.value c.interpret_tree.ensures in
     subst (λ (all : Contents). IsWork (interp_job request) (contents_in all) c.interpret_tree.result) (sym shape)
     (was_run request c.start-item.result.items (behind c.args.contents.now) c.in-Ok.linked c.interpret_tree.result loaded run)

@@ -1,0 +1,61 @@
+//! `gen`: from a number and a size to the summary of a large module that is made of them.
+ghost use Rattle.std.specs.Prelude.{◌≡◌, ◌≤◌, [], IfOk};
+ghost use Rattle.bl_app.specs.Generating.{gen_job, summary_of};
+ghost use Rattle.bl_app.specs.Jobs.{saying};
+ghost use Rattle.bl_app.specs.declared.status.Status.TheVariants.{Done};
+ghost use Rattle.bl_app.specs.Working.{IsWork, hardened_in, plan_in};
+ghost use Rattle.bl_graph.specs.Certificates.{Certifies};
+ghost use Rattle.bl_ct.specs.Verdicts.{Judges};
+ghost use Rattle.bl_words.specs.Words.{gen_in};
+
+use crate::build::compile;
+use crate::harden::{Hardened, protect_least};
+use crate::job::Plan;
+use crate::refusal::WorkError;
+use crate::status::Status;
+use bl_base::NoMemory;
+use bl_gen::make;
+use bl_report::summary;
+use bl_words::GenWords;
+use std::alloc::Global;
+
+/// Printing the summary of a module that is made of a number and a size, compiled and hardened. Costs a maximum flow in a network that
+/// is linear in the program.
+pub fn generate<'a>(alloc: Global, words: &GenWords) -> Result<Plan<'a>, WorkError<'a>>
+    requires { (1 ≤ words.now.size) × (words.now.size ≤ 10000) }
+    ensures { IsWork (gen_job (gen_in words.now)) [] result }
+{
+    let bytes = make(alloc, words.seed, words.size)?;
+    let length = bytes.len();
+    let mut contents = Vec::new(alloc);
+    contents.push(bytes)?;
+    match compile(alloc, &["gen"], contents.as_slice()) {
+        Ok(built) => {
+            let hardened = protect_least(alloc, built.program)?;
+            let plan = plan_of(alloc, length, hardened)?;
+            Ok(plan)
+        }
+        Err(error) => Err(error),
+    }
+}
+
+/// The plan of a program with its protects, which is that of a module of so many bytes.
+fn plan_of<'a>(alloc: Global, length: usize, hardened: Hardened) -> Result<Plan<'a>, NoMemory>
+    requires certified { Certifies hardened.program hardened.certificate }
+    requires judged { Judges hardened.program hardened.verdict }
+    ensures { IfOk result (λ plan. plan_in plan ≡ saying Done (summary_of length (hardened_in hardened))) }
+{
+    let mut text = format!(in alloc; "module {length}\n")?.into_bytes();
+    let rest = summary(
+        alloc,
+        &hardened.program,
+        &hardened.certificate,
+        &hardened.verdict,
+    )?;
+    text.extend_from_slice(rest.as_slice())?;
+    Ok(Plan {
+        status: Status::Done,
+        keeps: Vec::new(alloc),
+        text,
+    })
+}

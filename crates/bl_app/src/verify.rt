@@ -1,0 +1,194 @@
+//! `verify`: from the bytes of an image and of a certificate to the verdicts on them.
+ghost use Rattle.std.specs.Prelude.{◌≡◌, ◌∷◌, [], None, IfOk, map};
+ghost use Rattle.bl_app.specs.Jobs.{AreRead};
+ghost use Rattle.bl_app.specs.Verifying.{AreVerdicts, certificate_line, safe_line, stable_line, verify_job, verify_plan, verify_status, verify_text};
+ghost use Rattle.bl_app.specs.Working.{IsCertificateOf, IsWork, cert_error, certified_in, contents_in, plan_in, read_in, verdicts_in};
+ghost use Rattle.bl_words.specs.Words.{verify_in};
+
+use crate::entry::read_image;
+use crate::job::{Plan, Read};
+use crate::refusal::{Refusal, WorkError};
+use crate::status::Status;
+use bl_base::{NoMemory, Quantity};
+use bl_cmd::WellFormed;
+use bl_ct::{CtVerdict, constant_time};
+use bl_graph::{Certificate, graph};
+use bl_report::constant_time_line;
+use bl_sct::stability;
+use bl_transient::FlowVerdict;
+use bl_witness::{CertError, CertVerdict, check_certificate, from_json};
+use bl_words::VerifyWords;
+use std::alloc::Global;
+
+/// The verdicts on a program and a certificate.
+#[derive(Drop)]
+pub struct Verdicts {
+    /// By the rules of certificates.
+    pub rules: CertVerdict,
+    /// By the transient rules, of the program's own protects.
+    pub flow: FlowVerdict,
+    /// By the label rules.
+    pub labels: CtVerdict,
+}
+
+/// The files that `verify` reads: the image, and then the certificate.
+pub fn verify_reads<'a>(alloc: Global, words: &VerifyWords<'a>) -> Result<Vec<Read<'a>>, NoMemory>
+    ensures { IfOk result (λ reads. map read_in reads.items ≡ (verify_job (verify_in words.now)).reads) }
+{
+    let mut reads = Vec::new(alloc);
+    reads.push(Read {
+        name: words.image,
+        quantity: Quantity::Image,
+    })?;
+    reads.push(Read {
+        name: words.certificate,
+        quantity: Quantity::Certificate,
+    })?;
+    Ok(reads)
+}
+
+/// Printing the verdicts on an image's program and a certificate; Refused exactly where their bytes are refused. Linear in the bytes, but
+/// for what the check of a program takes and the logarithm of the program's size.
+pub fn verify<'a>(
+    alloc: Global,
+    words: &VerifyWords<'a>,
+    contents: &[Vec<u8>],
+) -> Result<Plan<'a>, WorkError<'a>>
+    requires { AreRead None (verify_job (verify_in words.now)).reads (contents_in contents.now) }
+    ensures { IsWork (verify_job (verify_in words.now)) (contents_in contents.now) result }
+{
+    let [image, certificate] = contents else {
+        unreachable!()
+    };
+    verify_image(alloc, words, image, certificate)
+}
+
+/// The same, by the bytes of the image and those of the certificate.
+fn verify_image<'a>(
+    alloc: Global,
+    words: &VerifyWords<'a>,
+    image: &[u8],
+    certificate: &[u8],
+) -> Result<Plan<'a>, WorkError<'a>>
+    ensures { IsWork (verify_job (verify_in words.now)) (image.now ∷ certificate.now ∷ []) result }
+{
+    let program = match read_image(alloc, image) {
+        Ok(program) => program,
+        Err(error) => return Err(error),
+    };
+    let certificate = match read_certificate(alloc, certificate) {
+        Ok(certificate) => certificate,
+        Err(error) => return Err(error),
+    };
+    match judge(alloc, &program, &certificate) {
+        Ok(verdicts) => Ok(tell(alloc, &verdicts)?),
+        Err(NoMemory) => Err(WorkError::Memory),
+    }
+}
+
+/// The certificate that bytes are; Refused exactly where they are none.
+fn read_certificate<'a>(alloc: Global, bytes: &[u8]) -> Result<Certificate, WorkError<'a>>
+    ensures { IsCertificateOf bytes.now result }
+{
+    match from_json(alloc, bytes) {
+        Ok(certificate) => Ok(certificate),
+        Err(error) => Err(of_certificate(error)),
+    }
+}
+
+/// Why there is no certificate.
+fn of_certificate<'a>(error: CertError) -> WorkError<'a>
+    ensures { result ≡ cert_error error }
+{
+    match error {
+        CertError::NotJson => WorkError::Refused(Refusal::NotJson),
+        CertError::Shape => WorkError::Refused(Refusal::OtherShape),
+        CertError::Memory => WorkError::Memory,
+    }
+}
+
+/// The verdicts on a program and a certificate.
+fn judge(
+    alloc: Global,
+    program: &WellFormed,
+    certificate: &Certificate,
+) -> Result<Verdicts, NoMemory>
+    ensures { IfOk result (λ verdicts. AreVerdicts (certified_in program.now certificate.now) (verdicts_in verdicts)) }
+{
+    let rules = check_certificate(alloc, program, certificate)?;
+    let flow = stability(alloc, program)?;
+    let facts = graph(alloc, program)?;
+    let labels = constant_time(alloc, program, &facts)?;
+    Ok(Verdicts {
+        rules,
+        flow,
+        labels,
+    })
+}
+
+/// Printing verdicts.
+fn tell<'a>(alloc: Global, verdicts: &Verdicts) -> Result<Plan<'a>, NoMemory>
+    ensures { IfOk result (λ plan. plan_in plan ≡ verify_plan (verdicts_in verdicts.now)) }
+{
+    let text = verdicts_text(alloc, verdicts)?;
+    Ok(Plan {
+        status: verify_status(&verdicts.rules, &verdicts.flow),
+        keeps: Vec::new(alloc),
+        text,
+    })
+}
+
+/// The lines of verdicts.
+fn verdicts_text(alloc: Global, verdicts: &Verdicts) -> Result<Vec<u8>, NoMemory>
+    ensures { IfOk result (λ text. text.items ≡ verify_text (verdicts_in verdicts.now)) }
+{
+    let mut text = certificate_line(alloc, &verdicts.rules)?;
+    let stable = stable_line(alloc, &verdicts.flow)?;
+    text.extend_from_slice(&stable)?;
+    let line = constant_time_line(alloc, &verdicts.labels)?;
+    text.extend_from_slice(line.as_slice())?;
+    text.extend_from_slice(safe_line(&verdicts.flow, &verdicts.labels))?;
+    Ok(text)
+}
+
+/// The exit status, by the rules of certificates and the transient rules.
+fn verify_status(rules: &CertVerdict, flow: &FlowVerdict) -> Status
+    ensures { result ≡ verify_status rules.now flow.now }
+{
+    match (rules, flow) {
+        (CertVerdict::Yes, FlowVerdict::Yes(_)) => Status::Done,
+        _ => Status::No,
+    }
+}
+
+/// The line on the certificate.
+fn certificate_line(alloc: Global, rules: &CertVerdict) -> Result<Vec<u8>, NoMemory>
+    ensures { IfOk result (λ text. text.items ≡ certificate_line rules.now) }
+{
+    match rules {
+        CertVerdict::Yes => Ok(b"certificate yes\n".to_vec(alloc)?),
+        CertVerdict::No { rule, index } => Ok(format!(in alloc;
+            "certificate no {rule} {index}\n"
+        )?.into_bytes()),
+    }
+}
+
+/// The line on the transient rules.
+fn stable_line(alloc: Global, flow: &FlowVerdict) -> Result<Vec<u8>, NoMemory>
+    ensures { IfOk result (λ text. text.items ≡ stable_line flow.now) }
+{
+    match flow {
+        FlowVerdict::Yes(_) => Ok(b"stable yes\n".to_vec(alloc)?),
+        FlowVerdict::No(position) => Ok(format!(in alloc; "stable no {}\n", position.0)?.into_bytes()),
+    }
+}
+
+/// The line on both the transient rules and the label rules.
+fn safe_line(flow: &FlowVerdict, labels: &CtVerdict) -> &'static [u8]
+    ensures { result.now ≡ safe_line flow.now labels.now }
+{
+    match (flow, labels) {
+        (FlowVerdict::Yes(_), CtVerdict::Yes(_)) => b"safe yes\n",
+        _ => b"safe no\n",
+    }
+}
