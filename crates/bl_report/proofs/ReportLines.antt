@@ -5,8 +5,8 @@ use Rattle.std.specs.Fmt.{decimal}
 use Rattle.std.specs.List.{flat_map}
 use Rattle.std.proofs.Math.Seq.{drop-cons}
 use Rattle.std.proofs.lemmas.List.{append_assoc, at_drop_all}
-use Rattle.bl_graph.specs.declared.certificate.FlowPath.{FlowPath}
-use Rattle.bl_report.specs.Reports.{line, place_text, protect_line}
+use Rattle.bl_graph.specs.declared.secret.SecretChain.{SecretChain}
+use Rattle.bl_report.specs.Reports.{chain_text, line, origin_text, through_text}
 
 -- four lines from their pieces, with the line feed n
 regroup : (n a f b c d s e p g w : List ℕ) → a ++ (f ++ (n ++ (b ++ (c ++ (n ++ (d ++ (s ++ (n ++ (e ++ (p ++ (g ++ (w ++ n))))))))))))
@@ -20,15 +20,16 @@ lines functions commands all some weight f c s p w e₁ e₂ e₃ e₄ e₅ =
     rw (e₁, e₂, e₃, e₄, e₅)
     (regroup (10 ∷ []) (codes "functions ") (decimal f) (codes "commands ") (decimal c) (codes "sites ") (decimal s) (codes "protects ") (decimal p) (codes " weight ") (decimal w))
 
--- the line of a protect from its pieces
-pieces : (n t a s b w c p d u : List ℕ) → ((t ++ (a ++ (s ++ (b ++ (w ++ c))))) ++ p) ++ (d ++ (u ++ n)) ≡ t ++ (a ++ s ++ b ++ w ++ (c ++ p ++ d ++ u) ++ n)
-pieces n t a s b w c p d u = simp append_assoc
+-- the line of a way of a secret from its pieces
+way : (n t a o p e d : List ℕ) → (((t ++ a) ++ o) ++ p) ++ (e ++ (d ++ n)) ≡ t ++ (a ++ (o ++ p ++ e ++ d) ++ n)
+way n t a o p e d = simp append_assoc
 
-pub line_of : (text : List ℕ) (site weight : ℕ) (path : FlowPath)
-    → ((text ++ (codes "protect " ++ (decimal site ++ (codes " weight " ++ (decimal weight ++ codes " path"))))) ++ flat_map (λ s. place_text s.0) path.sites)
-    ++ (codes " sink " ++ (decimal path.sink.0 ++ 10 ∷ [])) ≡ text ++ protect_line site weight path
-line_of text site weight path =
-    pieces (10 ∷ []) text (codes "protect ") (decimal site) (codes " weight ") (decimal weight) (codes " path") (flat_map (λ s. place_text s.0) path.sites) (codes " sink ") (decimal path.sink.0)
+pub chain_line : (text head from through tail : List ℕ) (chain : SecretChain) → head ≡ text ++ codes "constant-time no "
+    → from ≡ origin_text chain.origin → through ≡ head ++ from ++ through_text chain.through
+    → tail ≡ codes " end " ++ (decimal chain.end.0 ++ 10 ∷ []) → through ++ tail ≡ text ++ line (codes "constant-time no " ++ chain_text chain)
+chain_line text head from through tail chain e₁ e₂ e₃ e₄ =
+    rw (e₃, e₁, e₂, e₄)
+    (way (10 ∷ []) text (codes "constant-time no ") (origin_text chain.origin) (through_text chain.through) (codes " end ") (decimal chain.end.0))
 
 -- ---- a piece for each item from one on
 

@@ -1,15 +1,20 @@
 -- The report of a program with protects, and of a certificate that shows them to be the least. Every line ends with a line feed.
 use Rattle.std.specs.Prelude.{◌≡◌, ℕ, Bool, IsTrue, List, [], ◌∷◌, ◌++◌, length, codes, count_by, nat_eq, unwrap_or, Option, Some}
 use Rattle.std.specs.Fmt.{decimal}
-use Rattle.std.specs.List.{All, Contains, filter, find, flat_map, list_any, range_with_len}
+use Rattle.std.specs.List.{Contains, filter, find, flat_map, list_any, range_with_len}
 use Rattle.std.specs.Option.{is_some, option_map_or}
-use Rattle.bl_base.specs.declared.names.Label.TheVariants.{Public}
+use Rattle.bl_base.specs.declared.number.Pos.{Pos}
 use Rattle.bl_cmd.specs.Sites.{is_protected, mark_of, site_weight, weight_of}
 use Rattle.bl_cmd.specs.declared.command.Command.{Command}
 use Rattle.bl_cmd.specs.declared.definitions.ProgramParts.{ProgramParts as Program}
 use Rattle.bl_graph.specs.Certificates.{IsFlowPath, sites_of}
 use Rattle.bl_graph.specs.declared.certificate.Certificate.{Certificate}
 use Rattle.bl_graph.specs.declared.certificate.FlowPath.{FlowPath}
+use Rattle.bl_graph.specs.declared.secret.Origin.{Origin}
+use Rattle.bl_graph.specs.declared.secret.Origin.TheVariants.{Parameter, Global, Memory}
+use Rattle.bl_graph.specs.declared.secret.SecretChain.{SecretChain}
+use Rattle.bl_ct.specs.declared.verdict.CtVerdict.{CtVerdict}
+use Rattle.bl_ct.specs.declared.verdict.CtVerdict.TheVariants.{Yes, No}
 
 -- ---- sites and protects
 
@@ -74,17 +79,31 @@ protect_line s weight path = line (codes "protect " ++ decimal s ++ codes " weig
 abbrev pub protect_text : Program → List FlowPath → ℕ → List ℕ
 protect_text program paths s = option_map_or (protect_line s (unwrap_or (site_weight program s) 0)) (first_path paths s) []
 
--- the line on constant time, of a program that declares no secret
-abbrev pub constant_time_text : List ℕ
-constant_time_text = line (codes "constant-time yes")
+-- where a secret comes from: a parameter by its function's number and its index, a global or a memory by its number
+abbrev pub origin_text : Origin → List ℕ
+origin_text (Parameter function index) = codes "parameter " ++ decimal function ++ codes " " ++ decimal index
+origin_text (Global number) = codes "global " ++ decimal number
+origin_text (Memory number) = codes "memory " ++ decimal number
 
--- the report of a program that declares no secret: its counts, a line for each protect, and that it is constant-time
-abbrev pub report_text : Program → Certificate → List ℕ
-report_text program certificate =
-    counts_text program ++ flat_map (protect_text program certificate.paths) (protects program) ++ constant_time_text
+-- the positions that a secret passes; nothing where there is none
+abbrev pub through_text : List Pos → List ℕ
+through_text [] = []
+through_text (s ∷ rest) = codes " through" ++ flat_map (λ t. place_text t.0) (s ∷ rest)
 
--- neither a global, nor a memory, nor a parameter is declared secret
-pub record DeclaresNoSecret (program : Program) : Type 0 where
-  pub globals : All (λ global. global.label ≡ Public) program.globals
-  pub memories : All (λ memory. memory.label ≡ Public) program.memories
-  pub parameters : All (λ function. All (λ param. param.label ≡ Public) function.params) program.functions
+-- the way of a secret: where it comes from, what it passes, and where it may not go
+abbrev pub chain_text : SecretChain → List ℕ
+chain_text chain = origin_text chain.origin ++ through_text chain.through ++ codes " end " ++ decimal chain.end.0
+
+-- the line on constant time: that the program is so, or the way of a secret that shows that it isn't
+abbrev pub constant_time_text : CtVerdict → List ℕ
+constant_time_text (Yes labels) = line (codes "constant-time yes")
+constant_time_text (No chain) = line (codes "constant-time no " ++ chain_text chain)
+
+-- the report: the counts, a line for each protect, and the line on constant time
+abbrev pub report_text : Program → Certificate → CtVerdict → List ℕ
+report_text program certificate verdict =
+    counts_text program ++ flat_map (protect_text program certificate.paths) (protects program) ++ constant_time_text verdict
+
+-- the report without its lines of protects
+abbrev pub summary_text : Program → CtVerdict → List ℕ
+summary_text program verdict = counts_text program ++ constant_time_text verdict

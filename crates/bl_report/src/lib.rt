@@ -1,10 +1,12 @@
-//! The report of a program with protects: how much there is of it, and why each protect stands.
+//! The report of a program with protects: how much there is of it, why each protect stands, and whether it is constant-time.
 #![tactic(auto)]
 
 mod first;
 pub mod laws;
 mod lines;
+mod secrets;
 mod sites;
 mod text;
 
-pub use text::report;
+pub use secrets::constant_time_line;
+pub use text::{report, summary};

@@ -69,8 +69,8 @@ fn push_line(
     Ok(())
 }
 
-/// Puts the positions of a path's sites behind a text.
-fn push_places(alloc: Global, text: &mut Vec<u8>, sites: &[Pos]) -> Result<(), NoMemory>
+/// Puts positions behind a text, each behind a space.
+pub(crate) fn push_places(alloc: Global, text: &mut Vec<u8>, sites: &[Pos]) -> Result<(), NoMemory>
     ensures { IfOk result (λ _. text.new.items ≡ text.old.items ++ flat_map (λ s. place_text s.0) sites.now) }
 {
     for site in sites {

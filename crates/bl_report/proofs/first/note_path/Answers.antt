@@ -1,4 +1,4 @@
-use Rattle.std.proofs.Common.{◌≡◌, ◌<◌, ◌∙◌, ℕ, List, map, get_or, length, arith}
+use Rattle.std.proofs.Common.{◌<◌, ◌∙◌, ℕ, List, map, get_or, length, arith}
 use Rattle.std.proofs.lemmas.List.{get_or-map, length-map}
 use Rattle.bl_base.specs.declared.number.Pos.{Pos}
 use Rattle.bl_report.proofs.FirstPaths.{noted_more}

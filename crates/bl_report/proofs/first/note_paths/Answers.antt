@@ -1,4 +1,4 @@
-use Rattle.std.proofs.Common.{◌≡◌, ◌∙◌, List, length, map, take, refl, sym, ap, subst, arith}
+use Rattle.std.proofs.Common.{◌∙◌, List, map, take, refl, sym, ap, subst, arith}
 use Rattle.std.proofs.lemmas.List.{take_all}
 use Rattle.bl_base.specs.declared.number.Pos.{Pos}
 use Rattle.bl_report.specs.Noting.{IsFirst, also_noted, noted}

@@ -1,4 +1,4 @@
-use Rattle.std.proofs.Common.{◌<◌, ◌∙◌, ◌++◌, ◌+◌, ◌-◌, ap, sym, arith}
+use Rattle.std.proofs.Common.{◌∙◌, ◌++◌, ◌+◌, ◌-◌, ap, sym}
 use Rattle.std.specs.List.{filter, range_with_len}
 use Rattle.bl_cmd.specs.Sites.{is_protected}
 use Rattle.bl_report.proofs.ProtectedSites.{chosen_next, other_next}

@@ -1,4 +1,4 @@
-use Rattle.std.proofs.Common.{◌≡◌, ◌-◌, ◌++◌, length}
+use Rattle.std.proofs.Common.{◌≡◌, ◌-◌, ◌++◌}
 use Rattle.std.specs.List.{filter, range_with_len}
 use Rattle.bl_cmd.specs.Sites.{is_protected}
 use Rattle.bl_report.specs.Reports.{protects}
