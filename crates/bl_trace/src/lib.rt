@@ -11,6 +11,7 @@ mod observation;
 mod read;
 mod trace;
 
+pub use digits::read_decimal;
 pub use error::{StartError, TraceError};
 pub use observation::print_observation;
 pub use read::read_start;

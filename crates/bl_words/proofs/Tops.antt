@@ -12,9 +12,9 @@ use Rattle.clap.specs.Kinds.{Kinds, or_else, IsAmong as IsAmongKinds}
 use Rattle.clap.specs.Faults.{is_simple_and_free, bundle_step_fault, check_fault, default_fault, given_default_fault, settle_fault, defaults_fault, entered_fault, fault_of, flags_fault, level_fault, turn_fault, walk_fault}
 use Rattle.clap.specs.declared.error.kind.ErrorKind.TheVariants.{OutOfMemory, UnknownArgument, InvalidSubcommand}
 use Rattle.clap.specs.declared.error.kind.ErrorKind.{ErrorKind}
-use Rattle.bl_words.specs.Requests.{Parts, Request, command_named, command_of, harden_of, interp_of, lower_of, modules_of, parts_of, request_by, request_of, run_of, spec_of, steps_of}
+use Rattle.bl_words.specs.Requests.{Parts, Request, command_named, command_of, gen_of, harden_of, interp_of, lower_of, modules_of, parts_of, request_by, request_of, run_of, spec_of, steps_of, twin_of, verify_of}
 use Rattle.bl_words.specs.declared.command.Command.{Command}
-use Rattle.bl_words.specs.declared.command.Command.TheVariants.{Harden, Interp, Lower, Run, Spec}
+use Rattle.bl_words.specs.declared.command.Command.TheVariants.{Gen, Harden, Interp, Lower, Run, Spec, Twin, Verify}
 use Rattle.bl_words.specs.CommandLine.{content, blade_app, commands, argument_rule, steps_rule}
 use Rattle.bl_words.proofs.WordKinds.{Kind, kind, plain, end, steps, value, long, short}
 use Rattle.bl_words.proofs.Walks.{first_letter, AllText, Answers, IsFaulty, Takes, all_faults, built_shape, dashed, ends_at, faulty, first_none, past, rules, taken_apart}
@@ -246,7 +246,9 @@ data Which (word : Text) : Type 0 where
 by_name : (word : Text) → IsAmong word commands → Which word
 by_name word (is_one label sub) = command (record { label = label; sub = sub })
 by_name word (is_no_one label u) =
-    other label (cond-false _ _ _ u.0 ∙ cond-false _ _ _ u.1.0 ∙ cond-false _ _ _ u.1.1.0 ∙ cond-false _ _ _ u.1.1.1.0 ∙ cond-false _ _ _ u.1.1.1.1.0)
+    other label
+    (cond-false _ _ _ u.0 ∙ cond-false _ _ _ u.1.0 ∙ cond-false _ _ _ u.1.1.0 ∙ cond-false _ _ _ u.1.1.1.0 ∙ cond-false _ _ _ u.1.1.1.1.0
+    ∙ cond-false _ _ _ u.1.1.1.1.1.0 ∙ cond-false _ _ _ u.1.1.1.1.1.1.0 ∙ cond-false _ _ _ u.1.1.1.1.1.1.1.0)
 
 which : (word : Text) → Which word
 which word = by_name word (among word commands)
@@ -285,12 +287,30 @@ spec_dash (_ ∷ _ ∷ _ ∷ _ ∷ []) [] after = refl
 spec_dash (_ ∷ _ ∷ _ ∷ _ ∷ []) (v ∷ before) after = refl
 spec_dash _ before after = refl
 
+verify_dash : (arguments before after : List Text) → verify_of arguments (before ++ codes "-" ∷ after) ≡ None
+verify_dash (_ ∷ _ ∷ []) [] after = refl
+verify_dash (_ ∷ _ ∷ []) (v ∷ before) after = refl
+verify_dash _ before after = refl
+
+twin_dash : (arguments before after : List Text) → twin_of arguments (before ++ codes "-" ∷ after) ≡ None
+twin_dash (_ ∷ _ ∷ _ ∷ _ ∷ _ ∷ []) [] after = refl
+twin_dash (_ ∷ _ ∷ _ ∷ _ ∷ _ ∷ []) (v ∷ before) after = refl
+twin_dash _ before after = refl
+
+gen_dash : (arguments before after : List Text) → gen_of arguments (before ++ codes "-" ∷ after) ≡ None
+gen_dash (_ ∷ _ ∷ []) [] after = refl
+gen_dash (_ ∷ _ ∷ []) (v ∷ before) after = refl
+gen_dash _ before after = refl
+
 by_dash : (command : Command) (arguments before after : List Text) → request_by command (record { arguments = arguments; steps_values = before ++ codes "-" ∷ after }) ≡ None
 by_dash Harden arguments before after = harden_dash arguments before after
 by_dash Lower arguments before after = lower_dash arguments before after
 by_dash Interp arguments before after = interp_dash arguments before after
 by_dash Run arguments before after = run_dash arguments before after
 by_dash Spec arguments before after = spec_dash arguments before after
+by_dash Verify arguments before after = verify_dash arguments before after
+by_dash Twin arguments before after = twin_dash arguments before after
+by_dash Gen arguments before after = gen_dash arguments before after
 
 named_dash : (named : Option Command) (arguments before after : List Text)
     → option_and_then (λ known. request_by known (record { arguments = arguments; steps_values = before ++ codes "-" ∷ after })) named ≡ None

@@ -1,19 +1,24 @@
--- How the words of a command are taken apart, and what those of a request say of its files.
-use Rattle.std.proofs.Common.{◌≡◌, ◌∙◌, ap, sym, ℕ, Bool, true, false, cond, List, [], ◌∷◌, ◌++◌, drop, map, Option, Some, None, refl, subst}
+-- How the words of a command are taken apart, and what those of a request say of its files and its numbers.
+use Rattle.std.proofs.Common.{◌≡◌, ◌∙◌, ap, sym, ℕ, ◌^◌, ◌<◌, ◌≤◌, nat_lt, length, Bool, ◌&&◌, true, false, cond, List, [], ◌∷◌, ◌++◌, drop, map, Option, Some, None, refl, subst, arith}
 use Rattle.std.specs.Prelude.{⊤, Decides, IfSome, codes, option_and_then}
 use Rattle.std.specs.Option.{option_map}
 use Rattle.std.specs.Str.{bytes_eq}
-use Rattle.std.proofs.lemmas.Bool.{cond-false, eqb-true, false_from_ne_true}
+use Rattle.std.specs.Str.Parse.{digits_value}
+use Rattle.std.proofs.lemmas.Bool.{and_parts, cond-false, eqb-true, ltb-true, false_from_ne_true}
 use Rattle.std.proofs.lemmas.Bool.Decides.{not_from_Decides}
 use Rattle.std.proofs.lemmas.List.{take-append-drop}
 use Rattle.std.proofs.lemmas.Option.{none-some}
 use Rattle.std.proofs.lemmas.Slice.Eq.{bytes_eq-Decides}
-use Rattle.bl_words.specs.Requests.{AreNamedApart, HardenRequest, Parts, Request, are_distinct, command_named, harden, harden_of, interp, interp_of, lower, lower_of, module_name, modules_in, modules_of, parts_behind_steps, parts_of, request_by, request_of, run, run_of, spec, spec_of, steps_of}
+use Rattle.bl_words.specs.Requests.{AreNamedApart, GenRequest, HardenRequest, IsGenInRange, Parts, Request, are_distinct, command_named, gen, gen_of, harden, harden_of, interp, interp_of, lower, lower_of, module_name, modules_in, modules_of, parts_behind_steps, parts_of, request_by, request_of, run, run_of, seed_of, size_of, spec, spec_of, steps_of, twin, twin_of, verify, verify_of}
+use Rattle.bl_trace.specs.Digits.{decimal_below, is_decimal}
 use Rattle.bl_words.specs.Requests.{BeginsWithDash, IsOption, IsTakenApart, no_words, options_end, argument, value_in_next_word, value_in_same_word}
 use Rattle.bl_words.specs.Requests.{begins_with_dash, is_option, is_steps_value, with_argument, with_steps}
 use Rattle.bl_words.proofs.ModuleWords.{named_apart}
+use Rattle.bl_words.specs.Words.{gen_in, request_in}
+use Rattle.bl_words.specs.declared.words.GenWords.{GenWords}
+use Rattle.bl_words.specs.declared.words.Request.TheVariants.{Gen}
 use Rattle.bl_words.specs.declared.command.Command.{Command}
-use Rattle.bl_words.specs.declared.command.Command.TheVariants.{Harden, Interp, Lower, Run, Spec}
+use Rattle.bl_words.specs.declared.command.Command.TheVariants.{Gen as GenNamed, Harden, Interp, Lower, Run, Spec, Twin, Verify}
 
 -- the tests of a word say what they are named for
 begins : (word : List ℕ) → begins_with_dash word ≡ true → BeginsWithDash word
@@ -108,21 +113,24 @@ parts_found _ _ _ (value_in_next_word value words arguments values plain apart) 
 parts_found _ _ _ (value_in_same_word value words arguments values apart) =
     ap (option_map (with_steps value)) (parts_found words arguments values apart)
 
--- the files that a `harden` keeps differ, and no two modules of a request have one name
-abbrev KeepsApart : Request → Type 0
-KeepsApart (harden request) = (bytes_eq request.image request.certificate ≡ false) × AreNamedApart request.modules
-KeepsApart (lower request) = AreNamedApart request.modules
-KeepsApart (interp request) = AreNamedApart request.modules
-KeepsApart (run request) = Unit {0}
-KeepsApart (spec request) = Unit {0}
+-- the files that a `harden` keeps differ, no two modules of a request have one name, and the numbers of a `gen` are in range
+abbrev KeepsRules : Request → Type 0
+KeepsRules (harden request) = (bytes_eq request.image request.certificate ≡ false) × AreNamedApart request.modules
+KeepsRules (lower request) = AreNamedApart request.modules
+KeepsRules (interp request) = AreNamedApart request.modules
+KeepsRules (run request) = Unit {0}
+KeepsRules (spec request) = Unit {0}
+KeepsRules (verify request) = Unit {0}
+KeepsRules (twin request) = Unit {0}
+KeepsRules (gen request) = IsGenInRange request
 
-apart_then : {A : Type 0} (ask : A → Option Request) (found : Option A) → ((a : A) → IfSome (ask a) KeepsApart) → IfSome (option_and_then ask found) KeepsApart
-apart_then ask None h = tt
-apart_then ask (Some a) h = h a
+keep_then : {A : Type 0} (ask : A → Option Request) (found : Option A) → ((a : A) → IfSome (ask a) KeepsRules) → IfSome (option_and_then ask found) KeepsRules
+keep_then ask None h = tt
+keep_then ask (Some a) h = h a
 
-apart_steps : (made : ℕ → Request) (steps : Option ℕ) → ((n : ℕ) → KeepsApart (made n)) → IfSome (option_map made steps) KeepsApart
-apart_steps made None h = tt
-apart_steps made (Some n) h = h n
+keep_steps : (made : ℕ → Request) (steps : Option ℕ) → ((n : ℕ) → KeepsRules (made n)) → IfSome (option_map made steps) KeepsRules
+keep_steps made None h = tt
+keep_steps made (Some n) h = h n
 
 -- ---- modules
 
@@ -132,65 +140,128 @@ modules_apart (word ∷ words) =
     of_cond (λ found. IfSome found AreNamedApart) (are_distinct (map module_name (word ∷ words))) (Some (word ∷ words)) None (λ apart. named_apart (word ∷ words) apart) (λ _. tt)
 
 -- what is asked for of modules
-of_modules : (ask : List (List ℕ) → Option Request) (found : Option (List (List ℕ))) → IfSome found AreNamedApart → ((modules : List (List ℕ)) → AreNamedApart modules → IfSome (ask modules) KeepsApart)
-    → IfSome (option_and_then ask found) KeepsApart
+of_modules : (ask : List (List ℕ) → Option Request) (found : Option (List (List ℕ))) → IfSome found AreNamedApart → ((modules : List (List ℕ)) → AreNamedApart modules → IfSome (ask modules) KeepsRules)
+    → IfSome (option_and_then ask found) KeepsRules
 of_modules ask None apart h = tt
 of_modules ask (Some modules) apart h = h modules apart
 
-with_modules_apart : (made : List (List ℕ) → Request) (found : Option (List (List ℕ))) → IfSome found AreNamedApart → ((modules : List (List ℕ)) → AreNamedApart modules → KeepsApart (made modules))
-    → IfSome (option_map made found) KeepsApart
-with_modules_apart made None apart h = tt
-with_modules_apart made (Some modules) apart h = h modules apart
+with_modules : (made : List (List ℕ) → Request) (found : Option (List (List ℕ))) → IfSome found AreNamedApart → ((modules : List (List ℕ)) → AreNamedApart modules → KeepsRules (made modules))
+    → IfSome (option_map made found) KeepsRules
+with_modules made None apart h = tt
+with_modules made (Some modules) apart h = h modules apart
+
+-- ---- numbers
+
+below_limit : (limit : ℕ) (word : List ℕ) → IfSome (decimal_below limit word) (λ number. number < limit)
+below_limit limit word =
+    of_cond (λ found. IfSome found (λ number. number < limit)) (is_decimal word && nat_lt (digits_value 10 word) limit) (Some (digits_value 10 word)) None
+    (λ e. ltb-true _ _ (and_parts (is_decimal word) (nat_lt (digits_value 10 word) limit) e).1) (λ _. tt)
+
+-- what holds of what is found, and of what comes of it
+found_then : {A B : Type 0} (P : A → Type 0) (Q : B → Type 0) (next : A → Option B) (found : Option A) → IfSome found P → ((a : A) → P a → IfSome (next a) Q)
+    → IfSome (option_and_then next found) Q
+found_then P Q next None p h = tt
+found_then P Q next (Some a) p h = h a p
+
+seed_below : (word : List ℕ) → IfSome (seed_of word) (λ seed. seed < 2 ^ 64)
+seed_below word =
+    found_then (λ seed. seed < 2 ^ 64) (λ seed. seed < 2 ^ 64) _ (decimal_below (2 ^ 64) word) (below_limit (2 ^ 64) word)
+    (λ seed below. of_cond (λ found. IfSome found (λ seed. seed < 2 ^ 64)) (nat_lt (length word) 21) (Some seed) None (λ _. below) (λ _. tt))
+
+abbrev IsSize : ℕ → Type 0
+IsSize size = (1 ≤ size) × (size ≤ 10000)
+
+size_within : (word : List ℕ) → IfSome (size_of word) IsSize
+size_within word =
+    found_then (λ size. size < 10001) IsSize _ (decimal_below 10001 word) (below_limit 10001 word)
+    (λ size below. of_cond (λ found. IfSome found IsSize) (nat_lt 0 size && nat_lt (length word) 6) (Some size) None
+    (λ e.
+    let positive = ltb-true 0 size (and_parts (nat_lt 0 size) (nat_lt (length word) 6) e).0 in
+    (omega (arith, positive), omega (arith, below)))
+    (λ _. tt))
 
 -- ---- requests
 
-harden_apart : (arguments values : List (List ℕ)) → IfSome (harden_of arguments values) KeepsApart
-harden_apart (image ∷ certificate ∷ words) [] =
-    of_cond (λ found. IfSome found KeepsApart) (bytes_eq image certificate) None (option_map (λ modules. harden (record { image = image; certificate = certificate; modules = modules })) (modules_of words))
+harden_keeps : (arguments values : List (List ℕ)) → IfSome (harden_of arguments values) KeepsRules
+harden_keeps (image ∷ certificate ∷ words) [] =
+    of_cond (λ found. IfSome found KeepsRules) (bytes_eq image certificate) None (option_map (λ modules. harden (record { image = image; certificate = certificate; modules = modules })) (modules_of words))
     (λ _. tt)
-    (λ differ. with_modules_apart (λ modules. harden (record { image = image; certificate = certificate; modules = modules })) (modules_of words) (modules_apart words) (λ modules apart. (differ, apart)))
-harden_apart _ _ = tt
+    (λ differ. with_modules (λ modules. harden (record { image = image; certificate = certificate; modules = modules })) (modules_of words) (modules_apart words) (λ modules apart. (differ, apart)))
+harden_keeps _ _ = tt
 
-lower_apart : (arguments values : List (List ℕ)) → IfSome (lower_of arguments values) KeepsApart
-lower_apart (image ∷ words) [] = with_modules_apart (λ modules. lower (record { image = image; modules = modules })) (modules_of words) (modules_apart words) (λ modules apart. apart)
-lower_apart _ _ = tt
+lower_keeps : (arguments values : List (List ℕ)) → IfSome (lower_of arguments values) KeepsRules
+lower_keeps (image ∷ words) [] = with_modules (λ modules. lower (record { image = image; modules = modules })) (modules_of words) (modules_apart words) (λ modules apart. apart)
+lower_keeps _ _ = tt
 
-interp_apart : (arguments values : List (List ℕ)) → IfSome (interp_of arguments values) KeepsApart
-interp_apart (export ∷ start ∷ words) values =
+interp_keeps : (arguments values : List (List ℕ)) → IfSome (interp_of arguments values) KeepsRules
+interp_keeps (export ∷ start ∷ words) values =
     of_modules (λ modules. option_map (λ steps. interp (record { export = export; start = start; modules = modules; steps = steps })) (steps_of values)) (modules_of words) (modules_apart words)
-    (λ modules apart. apart_steps (λ steps. interp (record { export = export; start = start; modules = modules; steps = steps })) (steps_of values) (λ n. apart))
-interp_apart _ values = tt
+    (λ modules apart. keep_steps (λ steps. interp (record { export = export; start = start; modules = modules; steps = steps })) (steps_of values) (λ n. apart))
+interp_keeps _ values = tt
 
-run_apart : (arguments values : List (List ℕ)) → IfSome (run_of arguments values) KeepsApart
-run_apart (image ∷ export ∷ start ∷ []) values = apart_steps _ (steps_of values) (λ n. tt)
-run_apart _ values = tt
+run_keeps : (arguments values : List (List ℕ)) → IfSome (run_of arguments values) KeepsRules
+run_keeps (image ∷ export ∷ start ∷ []) values = keep_steps _ (steps_of values) (λ n. tt)
+run_keeps _ values = tt
 
-spec_apart : (arguments values : List (List ℕ)) → IfSome (spec_of arguments values) KeepsApart
-spec_apart (image ∷ export ∷ trace ∷ start ∷ []) [] = tt
-spec_apart _ _ = tt
+spec_keeps : (arguments values : List (List ℕ)) → IfSome (spec_of arguments values) KeepsRules
+spec_keeps (image ∷ export ∷ trace ∷ start ∷ []) [] = tt
+spec_keeps _ _ = tt
 
-request_apart : (command : Command) (parts : Parts) → IfSome (request_by command parts) KeepsApart
-request_apart Harden parts = harden_apart parts.arguments parts.steps_values
-request_apart Lower parts = lower_apart parts.arguments parts.steps_values
-request_apart Interp parts = interp_apart parts.arguments parts.steps_values
-request_apart Run parts = run_apart parts.arguments parts.steps_values
-request_apart Spec parts = spec_apart parts.arguments parts.steps_values
+verify_keeps : (arguments values : List (List ℕ)) → IfSome (verify_of arguments values) KeepsRules
+verify_keeps (image ∷ certificate ∷ []) [] =
+    of_cond (λ found. IfSome found KeepsRules) (bytes_eq image certificate) None (Some (verify (record { image = image; certificate = certificate }))) (λ _. tt) (λ _. tt)
+verify_keeps _ _ = tt
 
-words_apart : (words : List (List ℕ)) → IfSome (request_of words) KeepsApart
-words_apart (program ∷ word ∷ words) =
-    apart_then (λ command. option_and_then (request_by command) (parts_of words)) (command_named word) (λ command. apart_then (request_by command) (parts_of words) (request_apart command))
-words_apart _ = tt
+twin_keeps : (arguments values : List (List ℕ)) → IfSome (twin_of arguments values) KeepsRules
+twin_keeps (image ∷ export ∷ trace ∷ start ∷ other_start ∷ []) [] = tt
+twin_keeps _ _ = tt
+
+gen_keeps : (arguments values : List (List ℕ)) → IfSome (gen_of arguments values) KeepsRules
+gen_keeps (seed_word ∷ size_word ∷ []) [] =
+    found_then (λ seed. seed < 2 ^ 64) KeepsRules (λ seed. option_map (λ size. gen (record { seed = seed; size = size })) (size_of size_word)) (seed_of seed_word) (seed_below seed_word)
+    (λ seed below. sized seed below (size_of size_word) (size_within size_word))
+  where
+    sized : (seed : ℕ) → seed < 2 ^ 64 → (found : Option ℕ) → IfSome found IsSize → IfSome (option_map (λ size. gen (record { seed = seed; size = size })) found) KeepsRules
+    sized seed below None within = tt
+    sized seed below (Some size) within = record { seed_fits = below; size_is_positive = within.0; size_is_within = within.1 }
+gen_keeps _ _ = tt
+
+request_keeps : (command : Command) (parts : Parts) → IfSome (request_by command parts) KeepsRules
+request_keeps Harden parts = harden_keeps parts.arguments parts.steps_values
+request_keeps Lower parts = lower_keeps parts.arguments parts.steps_values
+request_keeps Interp parts = interp_keeps parts.arguments parts.steps_values
+request_keeps Run parts = run_keeps parts.arguments parts.steps_values
+request_keeps Spec parts = spec_keeps parts.arguments parts.steps_values
+request_keeps Verify parts = verify_keeps parts.arguments parts.steps_values
+request_keeps Twin parts = twin_keeps parts.arguments parts.steps_values
+request_keeps GenNamed parts = gen_keeps parts.arguments parts.steps_values
+
+words_keep : (words : List (List ℕ)) → IfSome (request_of words) KeepsRules
+words_keep (program ∷ word ∷ words) =
+    keep_then (λ command. option_and_then (request_by command) (parts_of words)) (command_named word) (λ command. keep_then (request_by command) (parts_of words) (request_keeps command))
+words_keep _ = tt
 
 pub request_differs : (words : List (List ℕ)) (request : HardenRequest) → request_of words ≡ Some (harden request) → bytes_eq request.image request.certificate ≡ false
-request_differs words request e = (subst (λ asked. IfSome asked KeepsApart) e (words_apart words)).0
+request_differs words request e = (subst (λ asked. IfSome asked KeepsRules) e (words_keep words)).0
 
 -- no two modules of a request have one name
-named_in : (request : Request) → KeepsApart request → AreNamedApart (modules_in request)
+named_in : (request : Request) → KeepsRules request → AreNamedApart (modules_in request)
 named_in (harden request) h = h.1
 named_in (lower request) h = h
 named_in (interp request) h = h
 named_in (run request) h = record { apart = λ i j a b first second same. absurd (none-some a first) }
 named_in (spec request) h = record { apart = λ i j a b first second same. absurd (none-some a first) }
+named_in (verify request) h = record { apart = λ i j a b first second same. absurd (none-some a first) }
+named_in (twin request) h = record { apart = λ i j a b first second same. absurd (none-some a first) }
+named_in (gen request) h = record { apart = λ i j a b first second same. absurd (none-some a first) }
 
 pub names_apart : (words : List (List ℕ)) (request : Request) → request_of words ≡ Some request → AreNamedApart (modules_in request)
-names_apart words request e = named_in request (subst (λ asked. IfSome asked KeepsApart) e (words_apart words))
+names_apart words request e = named_in request (subst (λ asked. IfSome asked KeepsRules) e (words_keep words))
+
+-- the seed and the size of a `gen` are in range
+pub gen_in_range : (words : List (List ℕ)) (request : GenRequest) → request_of words ≡ Some (gen request) → IsGenInRange request
+gen_in_range words request e = subst (λ asked. IfSome asked KeepsRules) e (words_keep words)
+
+-- and so are those that are read
+pub gen_words_in_range : (words : List (List ℕ)) (asked : GenWords) → option_map request_in (Some (Gen asked)) ≡ request_of words → IsGenInRange (gen_in asked)
+gen_words_in_range words asked e = gen_in_range words (gen_in asked) (sym e)

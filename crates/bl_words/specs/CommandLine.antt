@@ -28,7 +28,8 @@ bare_app = record {
 
 -- the names of the commands
 abbrev pub commands : List Text
-commands = codes "harden" ∷ codes "lower" ∷ codes "interp" ∷ codes "run" ∷ codes "spec" ∷ []
+commands =
+    codes "harden" ∷ codes "lower" ∷ codes "interp" ∷ codes "run" ∷ codes "spec" ∷ codes "verify" ∷ codes "twin" ∷ codes "gen" ∷ []
 
 abbrev pub with_commands : App → List Text → App
 with_commands = fold (λ app name. with_subcommand app (command_shape name))

@@ -1,11 +1,11 @@
 -- What the words of a call ask for.
-use Rattle.std.specs.Prelude.{◌≡◌, ℕ, ◌-◌, ◌^◌, Bool, ◌&&◌, not, true, false, List, [], ◌∷◌, ◌++◌, length, map, take, drop, slice_get, Option, Some, None, option_and_then, nat_eq, nat_lt, codes, if◌then◌else◌}
+use Rattle.std.specs.Prelude.{◌≡◌, ℕ, ◌-◌, ◌^◌, ◌<◌, ◌≤◌, Bool, ◌&&◌, not, true, false, List, [], ◌∷◌, ◌++◌, length, map, take, drop, slice_get, Option, Some, None, option_and_then, nat_eq, nat_lt, codes, if◌then◌else◌}
 use Rattle.std.specs.List.{after_last, list_any}
 use Rattle.std.specs.Option.{option_map}
 use Rattle.std.specs.Str.{bytes_eq}
 use Rattle.bl_trace.specs.Digits.{decimal_below}
 use Rattle.bl_words.specs.declared.command.Command.{Command}
-use Rattle.bl_words.specs.declared.command.Command.TheVariants.{Harden, Interp, Lower, Run, Spec}
+use Rattle.bl_words.specs.declared.command.Command.TheVariants.{Gen, Harden, Interp, Lower, Run, Spec, Twin, Verify}
 
 -- `harden`: the files that are written, and the modules that are read
 pub record HardenRequest : Type 0 where
@@ -39,6 +39,24 @@ pub record SpecRequest : Type 0 where
   pub trace : List ℕ
   pub start : List ℕ
 
+-- `verify`: the image and the certificate that are read
+pub record VerifyRequest : Type 0 where
+  pub image : List ℕ
+  pub certificate : List ℕ
+
+-- `twin`: the image that is read, the name of an exported function, and the trace file and the two start files that are read
+pub record TwinRequest : Type 0 where
+  pub image : List ℕ
+  pub export : List ℕ
+  pub trace : List ℕ
+  pub start : List ℕ
+  pub other_start : List ℕ
+
+-- `gen`: the number that a module is made from, and its size
+pub record GenRequest : Type 0 where
+  pub seed : ℕ
+  pub size : ℕ
+
 -- what a call is asked for
 pub data Request : Type 0 where
   harden : HardenRequest → Request
@@ -46,6 +64,9 @@ pub data Request : Type 0 where
   interp : InterpRequest → Request
   run : RunRequest → Request
   spec : SpecRequest → Request
+  verify : VerifyRequest → Request
+  twin : TwinRequest → Request
+  gen : GenRequest → Request
 
 -- the modules that a request reads
 abbrev pub modules_in : Request → List (List ℕ)
@@ -54,6 +75,9 @@ modules_in (lower request) = request.modules
 modules_in (interp request) = request.modules
 modules_in (run request) = []
 modules_in (spec request) = []
+modules_in (verify request) = []
+modules_in (twin request) = []
+modules_in (gen request) = []
 
 -- a word that begins with `-`
 pub record BeginsWithDash (word : List ℕ) : Type 0 where
@@ -137,6 +161,21 @@ steps_of [] = Some 1000000
 steps_of (value ∷ []) = number_of_steps value
 steps_of values = None
 
+-- SEED of `gen`: one to twenty decimal digits, leading zeros among them, of a number below 2^64; so it has no sign
+abbrev pub seed_of : List ℕ → Option ℕ
+seed_of word = option_and_then (λ seed. if nat_lt (length word) 21 then Some seed else None) (decimal_below (2 ^ 64) word)
+
+-- SIZE of `gen`: one to five decimal digits, leading zeros among them, of a number from 1 to 10,000; so it has no sign
+abbrev pub size_of : List ℕ → Option ℕ
+size_of word =
+    option_and_then (λ size. if nat_lt 0 size && nat_lt (length word) 6 then Some size else None) (decimal_below 10001 word)
+
+-- the seed and the size of a `gen` are in range
+pub record IsGenInRange (request : GenRequest) : Type 0 where
+  pub seed_fits : request.seed < 2 ^ 64
+  pub size_is_positive : 1 ≤ request.size
+  pub size_is_within : request.size ≤ 10000
+
 -- a name without one final `.wasm`
 abbrev pub without_ending : List ℕ → List ℕ
 without_ending name =
@@ -209,6 +248,35 @@ spec_of arguments values = None
 abbrev pub spec_request : Parts → Option Request
 spec_request parts = spec_of parts.arguments parts.steps_values
 
+-- what `verify` asks for: an image, and a certificate that is another file
+abbrev pub verify_of : List (List ℕ) → List (List ℕ) → Option Request
+verify_of (image ∷ certificate ∷ []) [] =
+    (if bytes_eq image certificate then None else Some (verify (record { image = image; certificate = certificate })))
+verify_of arguments values = None
+
+abbrev pub verify_request : Parts → Option Request
+verify_request parts = verify_of parts.arguments parts.steps_values
+
+-- what `twin` asks for: an image, an export, a trace file and two start files
+abbrev pub twin_of : List (List ℕ) → List (List ℕ) → Option Request
+twin_of (image ∷ export ∷ trace ∷ start ∷ other_start ∷ []) [] =
+    Some (twin (record { image = image; export = export; trace = trace; start = start; other_start = other_start }))
+twin_of arguments values = None
+
+abbrev pub twin_request : Parts → Option Request
+twin_request parts = twin_of parts.arguments parts.steps_values
+
+-- what `gen` asks for: a seed and a size
+abbrev pub gen_of : List (List ℕ) → List (List ℕ) → Option Request
+gen_of (seed_word ∷ size_word ∷ []) [] =
+    option_and_then
+    (λ seed. option_map (λ size. gen (record { seed = seed; size = size })) (size_of size_word))
+    (seed_of seed_word)
+gen_of arguments values = None
+
+abbrev pub gen_request : Parts → Option Request
+gen_request parts = gen_of parts.arguments parts.steps_values
+
 -- the command that a word names
 abbrev pub command_named : List ℕ → Option Command
 command_named word =
@@ -217,6 +285,9 @@ command_named word =
     else if bytes_eq word (codes "interp") then Some Interp
     else if bytes_eq word (codes "run") then Some Run
     else if bytes_eq word (codes "spec") then Some Spec
+    else if bytes_eq word (codes "verify") then Some Verify
+    else if bytes_eq word (codes "twin") then Some Twin
+    else if bytes_eq word (codes "gen") then Some Gen
     else None)
 
 -- what a command asks for with these parts
@@ -226,6 +297,9 @@ request_by Lower parts = lower_request parts
 request_by Interp parts = interp_request parts
 request_by Run parts = run_request parts
 request_by Spec parts = spec_request parts
+request_by Verify parts = verify_request parts
+request_by Twin parts = twin_request parts
+request_by Gen parts = gen_request parts
 
 -- what the command that a word names asks for with these parts
 abbrev pub command_of : List ℕ → Parts → Option Request

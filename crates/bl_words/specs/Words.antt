@@ -1,14 +1,18 @@
 -- The words of a call as the code keeps them.
 use Rattle.std.specs.Prelude.{List, ℕ, map}
 use Rattle.std.specs.Borrow.{Bor}
-use Rattle.bl_words.specs.Requests.{Request, HardenRequest, InterpRequest, LowerRequest, RunRequest, SpecRequest, Parts, harden, interp, lower, run, spec}
+use Rattle.bl_words.specs.Requests.{Request, GenRequest, HardenRequest, InterpRequest, LowerRequest, RunRequest, SpecRequest, TwinRequest, VerifyRequest}
+use Rattle.bl_words.specs.Requests.{Parts, gen, harden, interp, lower, run, spec, twin, verify}
+use Rattle.bl_words.specs.declared.words.GenWords.{GenWords}
 use Rattle.bl_words.specs.declared.words.HardenWords.{HardenWords}
 use Rattle.bl_words.specs.declared.words.InterpWords.{InterpWords}
 use Rattle.bl_words.specs.declared.words.LowerWords.{LowerWords}
 use Rattle.bl_words.specs.declared.words.RunWords.{RunWords}
 use Rattle.bl_words.specs.declared.words.SpecWords.{SpecWords}
+use Rattle.bl_words.specs.declared.words.TwinWords.{TwinWords}
+use Rattle.bl_words.specs.declared.words.VerifyWords.{VerifyWords}
 use Rattle.bl_words.specs.declared.words.Request.{Request as RequestWords}
-use Rattle.bl_words.specs.declared.words.Request.TheVariants.{Harden, Interp, Lower, Run, Spec}
+use Rattle.bl_words.specs.declared.words.Request.TheVariants.{Gen, Harden, Interp, Lower, Run, Spec, Twin, Verify}
 
 -- the parts that borrowed words are
 abbrev pub parts_in : List (Bor (List ℕ)) → List (Bor (List ℕ)) → Parts
@@ -36,9 +40,27 @@ run_in words = record { image = words.image.now; export = words.export.now; star
 abbrev pub spec_in : SpecWords → SpecRequest
 spec_in words = record { image = words.image.now; export = words.export.now; trace = words.trace.now; start = words.start.now }
 
+abbrev pub verify_in : VerifyWords → VerifyRequest
+verify_in words = record { image = words.image.now; certificate = words.certificate.now }
+
+abbrev pub twin_in : TwinWords → TwinRequest
+twin_in words = record {
+  image = words.image.now;
+  export = words.export.now;
+  trace = words.trace.now;
+  start = words.start.now;
+  other_start = words.other_start.now;
+}
+
+abbrev pub gen_in : GenWords → GenRequest
+gen_in words = record { seed = words.seed; size = words.size }
+
 abbrev pub request_in : RequestWords → Request
 request_in (Harden words) = harden (harden_in words)
 request_in (Lower words) = lower (lower_in words)
 request_in (Interp words) = interp (interp_in words)
 request_in (Run words) = run (run_in words)
 request_in (Spec words) = spec (spec_in words)
+request_in (Verify words) = verify (verify_in words)
+request_in (Twin words) = twin (twin_in words)
+request_in (Gen words) = gen (gen_in words)

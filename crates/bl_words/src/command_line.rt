@@ -50,7 +50,9 @@ fn command_line<'a>(alloc: Global) -> Result<Command<'a>, AllocError>
     with_commands(
         alloc,
         bare(alloc),
-        &["harden", "lower", "interp", "run", "spec"],
+        &[
+            "harden", "lower", "interp", "run", "spec", "verify", "twin", "gen",
+        ],
     )
 }
 

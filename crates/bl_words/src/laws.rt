@@ -1,9 +1,14 @@
 //! Laws of the definitions. Each function is its contract alone.
 ghost use Rattle.std.specs.Prelude.{◌≡◌, ◌↔◌, ℕ, List as Listed, Some};
-ghost use Rattle.bl_words.specs.Requests.{IsTakenApart, parts_of};
+ghost use Rattle.bl_words.specs.Requests.{GenRequest, IsGenInRange, IsTakenApart, gen, parts_of, request_of};
 
 /// The words behind a command have those parts exactly where the rules take them apart so.
 pub fn words_are_taken_apart()
     ensures { (words arguments values : Listed (Listed ℕ))
         → (parts_of words ≡ Some (record { arguments = arguments; steps_values = values })) ↔ IsTakenApart words arguments values }
+{}
+
+/// The seed of a `gen` is below 2^64, and its size is from 1 to 10,000.
+pub fn gen_in_range()
+    ensures { (words : Listed (Listed ℕ)) (request : GenRequest) → request_of words ≡ Some (gen request) → IsGenInRange request }
 {}

@@ -6,10 +6,14 @@ mod command;
 mod command_line;
 pub mod laws;
 mod modules;
+mod numbers;
 mod read;
 mod steps;
 mod words;
 
 pub use modules::module_name;
 pub use read::read_words;
-pub use words::{HardenWords, InterpWords, LowerWords, Request, RunWords, SpecWords};
+pub use words::{
+    GenWords, HardenWords, InterpWords, LowerWords, Request, RunWords, SpecWords, TwinWords,
+    VerifyWords,
+};

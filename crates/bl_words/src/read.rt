@@ -2,14 +2,18 @@
 ghost use Rattle.std.specs.Prelude.{◌≡◌, IfOk, map, string_bytes};
 ghost use Rattle.std.specs.Option.{option_map};
 ghost use Rattle.clap.specs.Walk.{texts};
-ghost use Rattle.bl_words.specs.Requests.{command_of, request_by, harden_of, interp_of, lower_of, run_of, spec_of, request_of};
+ghost use Rattle.bl_words.specs.Requests.{command_of, gen_of, harden_of, interp_of, lower_of, request_by, request_of, run_of, spec_of, twin_of, verify_of};
 ghost use Rattle.bl_words.specs.Words.{parts_in, request_in};
 
 use crate::command::{Command, command_named};
 use crate::command_line::{Unmatched, matches_of};
 use crate::modules::modules_of;
+use crate::numbers::{read_seed, read_size};
 use crate::steps::most_steps;
-use crate::words::{HardenWords, InterpWords, LowerWords, Request, RunWords, SpecWords};
+use crate::words::{
+    GenWords, HardenWords, InterpWords, LowerWords, Request, RunWords, SpecWords, TwinWords,
+    VerifyWords,
+};
 use bl_base::NoMemory;
 use std::alloc::Global;
 
@@ -61,6 +65,9 @@ fn request_by<'a>(
         Command::Interp => interp_words(alloc, arguments, values),
         Command::Run => Ok(run_words(arguments, values)),
         Command::Spec => Ok(spec_words(arguments, values)),
+        Command::Verify => Ok(verify_words(arguments, values)),
+        Command::Twin => Ok(twin_words(arguments, values)),
+        Command::Gen => Ok(gen_words(arguments, values)),
     }
 }
 
@@ -162,4 +169,48 @@ fn spec_words<'a>(arguments: &[&'a str], values: &[&'a str]) -> Option<Request<'
         })),
         _ => None,
     }
+}
+
+/// What `verify` asks for with these parts: two arguments, which are not the same, and no `--steps`.
+fn verify_words<'a>(arguments: &[&'a str], values: &[&'a str]) -> Option<Request<'a>>
+    ensures { option_map request_in result ≡ verify_of (texts arguments.now) (texts values.now) }
+{
+    let ([image, certificate], []) = (arguments, values) else {
+        return None;
+    };
+    if image != certificate {
+        return Some(Request::Verify(VerifyWords {
+            image: *image,
+            certificate: *certificate,
+        }));
+    }
+    None
+}
+
+/// What `twin` asks for with these parts: five arguments, and no `--steps`.
+fn twin_words<'a>(arguments: &[&'a str], values: &[&'a str]) -> Option<Request<'a>>
+    ensures { option_map request_in result ≡ twin_of (texts arguments.now) (texts values.now) }
+{
+    match (arguments, values) {
+        ([image, export, trace, start, other_start], []) => Some(Request::Twin(TwinWords {
+            image: *image,
+            export: *export,
+            trace: *trace,
+            start: *start,
+            other_start: *other_start,
+        })),
+        _ => None,
+    }
+}
+
+/// What `gen` asks for with these parts: two arguments, which are a seed and a size, and no `--steps`.
+fn gen_words<'a>(arguments: &[&'a str], values: &[&'a str]) -> Option<Request<'a>>
+    ensures { option_map request_in result ≡ gen_of (texts arguments.now) (texts values.now) }
+{
+    let ([seed, size], []) = (arguments, values) else {
+        return None;
+    };
+    let seed = read_seed(*seed)?;
+    let size = read_size(*size)?;
+    Some(Request::Gen(GenWords { seed, size }))
 }

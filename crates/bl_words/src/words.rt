@@ -13,6 +13,12 @@ pub enum Request<'a> {
     Run(RunWords<'a>),
     /// To take directives of a trace file on an exported function of an image.
     Spec(SpecWords<'a>),
+    /// To check a certificate against an image.
+    Verify(VerifyWords<'a>),
+    /// To take the same directives from two start files, and compare what is observed.
+    Twin(TwinWords<'a>),
+    /// To make a module from a number, and harden it.
+    Gen(GenWords),
 }
 
 /// The words of a `harden`.
@@ -72,4 +78,37 @@ pub struct SpecWords<'a> {
     pub trace: &'a str,
     /// The start file, which is read.
     pub start: &'a str,
+}
+
+/// The words of a `verify`.
+#[derive(Clone, Copy)]
+pub struct VerifyWords<'a> {
+    /// The file of the image, which is read.
+    pub image: &'a str,
+    /// The file of the certificate, which is read.
+    pub certificate: &'a str,
+}
+
+/// The words of a `twin`.
+#[derive(Clone, Copy)]
+pub struct TwinWords<'a> {
+    /// The file of the image, which is read.
+    pub image: &'a str,
+    /// The name of the exported function that is entered.
+    pub export: &'a str,
+    /// The trace file, which is read.
+    pub trace: &'a str,
+    /// The start file of the first run, which is read.
+    pub start: &'a str,
+    /// The start file of the other run, which is read.
+    pub other_start: &'a str,
+}
+
+/// The words of a `gen`.
+#[derive(Clone, Copy)]
+pub struct GenWords {
+    /// The number that the module is made from.
+    pub seed: u64,
+    /// The size of the module, from 1 to 10,000.
+    pub size: u32,
 }

@@ -74,6 +74,90 @@ static COMMANDS: [(&str, &str); 27] = [
     ("-V", "none"),
 ];
 
+/// The words of a line behind the program's name, and what they ask for.
+static CHECKS: [(&str, &str); 28] = [
+    ("verify i c", "verify i c"),
+    ("verify i ./i", "verify i ./i"),
+    ("verify a a", "none"),
+    ("verify i", "none"),
+    ("verify i c m", "none"),
+    ("verify - c", "verify - c"),
+    ("verify - -", "none"),
+    ("verify i -- -c", "verify i -c"),
+    ("verify -- -- --", "none"),
+    ("verify -- -- --steps", "verify -- --steps"),
+    ("verify i -c", "none"),
+    ("verify i c --steps=7", "none"),
+    ("verify --steps 7 i c", "none"),
+    ("verify --steps 7", "none"),
+    ("verify --help i c", "none"),
+    ("verif i c", "none"),
+    ("twin i e t s s2", "twin i e t s s2"),
+    ("twin i e t s s", "twin i e t s s"),
+    ("twin i e t s", "none"),
+    ("twin i e t s s2 s3", "none"),
+    ("twin i e t - -", "twin i e t - -"),
+    ("twin i e -- t -s --", "twin i e t -s --"),
+    ("twin i e t s -x", "none"),
+    ("twin i e t s s2 --steps=7", "none"),
+    ("twin i e t s --steps 7 s2", "none"),
+    ("twin i e t s s2 --steps=7 --steps 8", "none"),
+    ("twin i e t s s2 --steps", "none"),
+    ("Twin i e t s s2", "none"),
+];
+
+/// The words of a line behind the program's name, and what they ask for.
+static NUMBERS: [(&str, &str); 30] = [
+    ("gen 0 1", "gen 0 1"),
+    ("gen 5 10000", "gen 5 10000"),
+    ("gen 0 10001", "none"),
+    ("gen 0 0", "none"),
+    ("gen 0 00000", "none"),
+    ("gen 0 00001", "gen 0 1"),
+    ("gen 0 000001", "none"),
+    ("gen 0 99999", "none"),
+    ("gen 18446744073709551615 1", "gen 18446744073709551615 1"),
+    ("gen 18446744073709551616 1", "none"),
+    ("gen 99999999999999999999 1", "none"),
+    ("gen 00000000000000000000 1", "gen 0 1"),
+    ("gen 00000000000000000001 010", "gen 1 10"),
+    ("gen 000000000000000000001 1", "none"),
+    ("gen +1 1", "none"),
+    ("gen 1 +1", "none"),
+    ("gen -1 1", "none"),
+    ("gen 1 -1", "none"),
+    ("gen -- -1 1", "none"),
+    ("gen 1 -- 2", "gen 1 2"),
+    ("gen - 1", "none"),
+    ("gen 0x1 1", "none"),
+    ("gen 1 1.0", "none"),
+    ("gen  1", "none"),
+    ("gen 1", "none"),
+    ("gen 1 2 3", "none"),
+    ("gen 1 2 --steps=7", "none"),
+    ("gen --steps 1 2", "none"),
+    ("gen --help", "none"),
+    ("help gen", "none"),
+];
+
+/// The words of a line behind the program's name, and what they ask for.
+static OF_RUNS: [(&str, &str); 14] = [
+    ("run i e s --steps=7", "run i e s 7"),
+    ("run --steps 7 i e s", "run i e s 7"),
+    ("run i e s --steps 4294967295", "run i e s 4294967295"),
+    ("run i e s --steps 4294967296", "none"),
+    ("run i e s --steps 0", "none"),
+    ("run i e s --steps=7 --steps=7", "none"),
+    ("run i e s --steps -", "none"),
+    ("run i e s --steps --", "none"),
+    ("run i -- e --steps", "run i e --steps 1000000"),
+    ("run i e -", "run i e - 1000000"),
+    ("run i e s --help", "none"),
+    ("-", "none"),
+    ("--", "none"),
+    ("--steps=7", "none"),
+];
+
 /// The words with a space before each.
 fn joined(alloc: Global, words: &[&str]) -> Result<String, Fail> {
     let mut text = String::new(alloc);
@@ -111,6 +195,18 @@ fn asked(alloc: Global, words: &[String]) -> Result<String, Fail> {
             "spec {} {} {} {}",
             spec.image, spec.export, spec.trace, spec.start
         )?),
+        Some(Request::Verify(verify)) => Ok(format!(in alloc;
+            "verify {} {}",
+            verify.image, verify.certificate
+        )?),
+        Some(Request::Twin(twin)) => Ok(format!(in alloc;
+            "twin {} {} {} {} {}",
+            twin.image, twin.export, twin.trace, twin.start, twin.other_start
+        )?),
+        Some(Request::Gen(numbers)) => Ok(format!(in alloc;
+            "gen {} {}",
+            numbers.seed, numbers.size
+        )?),
     }
 }
 
@@ -136,6 +232,33 @@ fn steps_stand_at_most_once_among_the_arguments_of_a_run(rt: HostRuntime) -> Res
 #[test]
 fn each_command_has_its_arguments(rt: HostRuntime) -> Result<(), Fail> {
     for (line, expected) in COMMANDS {
+        let found = asked_by(rt.alloc(), line)?;
+        assert_eq!(rt; found.as_str(), expected, "{line}");
+    }
+    Ok(())
+}
+
+#[test]
+fn the_commands_that_check_have_their_arguments(rt: HostRuntime) -> Result<(), Fail> {
+    for (line, expected) in CHECKS {
+        let found = asked_by(rt.alloc(), line)?;
+        assert_eq!(rt; found.as_str(), expected, "{line}");
+    }
+    Ok(())
+}
+
+#[test]
+fn a_seed_and_a_size_have_so_many_digits_and_are_in_range(rt: HostRuntime) -> Result<(), Fail> {
+    for (line, expected) in NUMBERS {
+        let found = asked_by(rt.alloc(), line)?;
+        assert_eq!(rt; found.as_str(), expected, "{line}");
+    }
+    Ok(())
+}
+
+#[test]
+fn a_run_takes_steps_as_interp_does(rt: HostRuntime) -> Result<(), Fail> {
+    for (line, expected) in OF_RUNS {
         let found = asked_by(rt.alloc(), line)?;
         assert_eq!(rt; found.as_str(), expected, "{line}");
     }
