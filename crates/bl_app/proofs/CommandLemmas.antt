@@ -6,7 +6,7 @@ use Rattle.bl_app.specs.Causes.{Causes, NoneRose}
 use Rattle.bl_app.specs.Commands.{job_of, work_of}
 use Rattle.bl_app.specs.Jobs.{AreRead, FirstRefusal, IsLawful, Plan}
 use Rattle.bl_app.specs.Refusals.{Refusal}
-use Rattle.bl_words.specs.Requests.{Request, gen, harden, interp, lower, modules_in, run, spec, verify}
+use Rattle.bl_words.specs.Requests.{Request, gen, harden, interp, lower, modules_in, run, spec, twin, verify}
 use Rattle.bl_app.specs.Worlds.{World}
 use Rattle.bl_app.specs.Status.{code_of, kind_of, of_deed, of_refusal}
 use Rattle.bl_app.specs.declared.status.Status.{Status}
@@ -18,6 +18,7 @@ use Rattle.bl_app.proofs.InterpLemmas.{interp_lawful}
 use Rattle.bl_app.proofs.JobLemmas.{done_not_refused, one_first}
 use Rattle.bl_app.proofs.RunLemmas.{run_lawful}
 use Rattle.bl_app.proofs.SpecLemmas.{spec_lawful}
+use Rattle.bl_app.proofs.TwinLemmas.{twin_lawful}
 use Rattle.bl_app.proofs.VerifyLemmas.{verify_lawful}
 
 work_lawful : (request : Request) → IsLawful (work_of request)
@@ -26,6 +27,7 @@ work_lawful (lower request) = lower_lawful request
 work_lawful (interp request) = interp_lawful request
 work_lawful (run request) = run_lawful request
 work_lawful (spec request) = spec_lawful request
+work_lawful (twin request) = twin_lawful request
 work_lawful (verify request) = verify_lawful request
 work_lawful (gen request) = gen_lawful request
 

@@ -70,7 +70,7 @@ module _ (bytes : List ℕ) where
     not_both = λ traced a r s. (starting_lawful bytes).not_both traced.entry a.entered r s.starts;
   }
 
-speculating_lawful : (export trace start : List ℕ) → IsLawfulStage (speculating export trace start)
+pub speculating_lawful : (export trace start : List ℕ) → IsLawfulStage (speculating export trace start)
 speculating_lawful export trace start =
     chain_lawful imaging (chain (finding export) (chain (tracing trace) (starting_traced start))) imaging_lawful
     (chain_lawful (finding export) (chain (tracing trace) (starting_traced start)) (finding_lawful export)

@@ -19,6 +19,7 @@ pub mod Speculating
 pub mod Stages
 pub mod Status
 pub mod Texts
+pub mod Twinning
 pub mod Verifying
 pub mod Working
 pub mod Worlds

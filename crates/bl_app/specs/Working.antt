@@ -1,5 +1,5 @@
 -- What the functions of the work answer.
-use Rattle.std.specs.Prelude.{◌≡◌, ◌≤◌, ℕ, length, List, [], ◌∷◌, map, slice_get, Option, Some, Result, Ok, Err, Vec}
+use Rattle.std.specs.Prelude.{◌≡◌, ◌≤◌, ℕ, length, List, [], ◌∷◌, map, slice_get, Option, Some, Result, Ok, Err, Vec, Bool, IsTrue, ◌↔◌}
 use Rattle.std.proofs.Common.{Bor}
 use Rattle.std.specs.declared.alloc.Global.{Global}
 use Rattle.bl_base.specs.Quantity.{limit_of}
@@ -40,6 +40,7 @@ use Rattle.bl_app.specs.Refusals.{Refusal, malformed, invalid_function, invalid_
 use Rattle.bl_words.specs.Requests.{InterpRequest}
 use Rattle.bl_app.specs.Running.{Opened, OpeningRefuses, Opens}
 use Rattle.bl_app.specs.Speculating.{Speculated, TracingRefuses}
+use Rattle.bl_app.specs.Twinning.{StartsAgree, Twinned, twin_plan}
 use Rattle.bl_app.specs.Verifying.{Certified, ReadingRefuses, Verdicts}
 use Rattle.bl_app.specs.declared.verify.Verdicts.{Verdicts as VerdictsFound}
 use Rattle.bl_graph.specs.declared.certificate.Certificate.{Certificate}
@@ -277,3 +278,15 @@ certified_in program certificate = record { program = program; certificate = cer
 -- the verdicts on them
 abbrev pub verdicts_in : VerdictsFound → Verdicts
 verdicts_in found = record { rules = found.rules; flow = found.flow; labels = found.labels }
+
+-- ---- `twin`
+
+-- a function of a program, directives, and two starts
+abbrev pub twinned_in : Speculated → Start → Twinned
+twinned_in speculated other = record { speculated = speculated; other = other }
+
+-- printing how the two runs compare
+pub record IsTwinTold (twinned : Twinned) (plan : PlanMade) : Type 0 where
+  pub agree : Bool
+  pub agrees : IsTrue agree ↔ StartsAgree twinned
+  pub is_plan : plan_in plan ≡ twin_plan agree twinned

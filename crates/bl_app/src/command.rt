@@ -2,7 +2,7 @@
 ghost use Rattle.std.specs.Prelude.{◌≡◌, ◌≤◌, IfOk, None, length, map};
 ghost use Rattle.bl_base.specs.Quantity.{limit_of};
 ghost use Rattle.bl_base.specs.declared.quantity.Quantity.TheVariants as quantity;
-ghost use Rattle.bl_app.specs.Commands.{work_of};
+ghost use Rattle.bl_app.specs.Commands.{IsSized, work_of};
 ghost use Rattle.bl_app.specs.Jobs.{AreRead};
 ghost use Rattle.bl_words.specs.Requests.{AreNamedApart, modules_in};
 ghost use Rattle.bl_words.specs.Words.{request_in};
@@ -16,6 +16,7 @@ use crate::lower::{lower, lower_reads};
 use crate::refusal::WorkError;
 use crate::run::{execute, run_reads};
 use crate::spec::{spec_reads, speculate};
+use crate::twin::{twin, twin_reads};
 use crate::verify::{verify, verify_reads};
 use bl_words::Request;
 use bl_base::NoMemory;
@@ -29,7 +30,8 @@ pub fn modules_of<'a, 'r>(request: &'r Request<'a>) -> &'r [&'a str]
         Request::Harden(words) => words.modules.as_slice(),
         Request::Lower(words) => words.modules.as_slice(),
         Request::Interp(words) => words.modules.as_slice(),
-        Request::Run(_) | Request::Spec(_) | Request::Verify(_) | Request::Gen(_) => &[],
+        Request::Run(_) | Request::Spec(_) | Request::Twin(_) => &[],
+        Request::Verify(_) | Request::Gen(_) => &[],
     }
 }
 
@@ -43,6 +45,7 @@ pub fn reads_of<'a>(alloc: Global, request: &Request<'a>) -> Result<Vec<Read<'a>
         Request::Interp(words) => interp_reads(alloc, words),
         Request::Run(words) => run_reads(alloc, words),
         Request::Spec(words) => spec_reads(alloc, words),
+        Request::Twin(words) => twin_reads(alloc, words),
         Request::Verify(words) => verify_reads(alloc, words),
         Request::Gen(_) => Ok(Vec::new(alloc)),
     }
@@ -56,6 +59,7 @@ pub fn work<'a>(
 ) -> Result<Plan<'a>, WorkError<'a>>
     requires few { length (modules_in (request_in request.now)) ≤ limit_of quantity.Modules }
     requires apart { AreNamedApart (modules_in (request_in request.now)) }
+    requires sized { IsSized (request_in request.now) }
     requires read { AreRead None (work_of (request_in request.now)).reads (contents_in contents.now) }
     ensures { IsWork (work_of (request_in request.now)) (contents_in contents.now) result }
 {
@@ -65,6 +69,7 @@ pub fn work<'a>(
         Request::Interp(words) => interpret(alloc, words, contents),
         Request::Run(words) => execute(alloc, words, contents),
         Request::Spec(words) => speculate(alloc, words, contents),
+        Request::Twin(words) => twin(alloc, words, contents),
         Request::Verify(words) => verify(alloc, words, contents),
         Request::Gen(words) => generate(alloc, words),
     }

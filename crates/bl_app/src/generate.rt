@@ -29,7 +29,8 @@ pub fn generate<'a>(alloc: Global, words: &GenWords) -> Result<Plan<'a>, WorkErr
     let length = bytes.len();
     let mut contents = Vec::new(alloc);
     contents.push(bytes)?;
-    match compile(alloc, &["gen"], contents.as_slice()) {
+    let names: [&'a str; 1] = ["gen"];
+    match compile(alloc, &names, contents.as_slice()) {
         Ok(built) => {
             let hardened = protect_least(alloc, built.program)?;
             let plan = plan_of(alloc, length, hardened)?;

@@ -23,6 +23,7 @@ mod spec;
 mod start;
 mod status;
 mod top;
+mod twin;
 mod verify;
 
 pub use top::blade;

@@ -94,7 +94,7 @@ fn speculate_image<'a>(
 }
 
 /// The directives of a trace file; Refused exactly where it has too many lines, or a line is no directive.
-fn read_directives<'a>(alloc: Global, bytes: &[u8]) -> Result<List<Directive>, WorkError<'a>>
+pub fn read_directives<'a>(alloc: Global, bytes: &[u8]) -> Result<List<Directive>, WorkError<'a>>
     ensures { IsTraced bytes.now result }
 {
     let count = count_lines(bytes);

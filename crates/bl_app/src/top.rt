@@ -3,16 +3,17 @@ ghost use Rattle.std.specs.Prelude.{◌≡◌, ◌≤◌, Some, length, map, str
 ghost use Rattle.bl_base.specs.Quantity.{limit_of};
 ghost use Rattle.bl_base.specs.declared.quantity.Quantity.TheVariants as quantity;
 ghost use Rattle.bl_app.specs.Causes.{Causes};
-ghost use Rattle.bl_app.specs.Commands.{job_of};
+ghost use Rattle.bl_app.specs.Commands.{IsSized, job_of};
 ghost use Rattle.bl_app.specs.Ends.{Ends};
 ghost use Rattle.bl_app.specs.Executing.{Runs};
 ghost use Rattle.bl_app.specs.Generating.{Generates};
 ghost use Rattle.bl_app.specs.Hardening.{Hardens};
 ghost use Rattle.bl_app.specs.Interpreting.{Interprets};
 ghost use Rattle.bl_app.specs.Lowering.{Lowers};
-ghost use Rattle.bl_words.specs.Requests.{AreNamedApart, GenRequest, HardenRequest, InterpRequest, LowerRequest, RunRequest, SpecRequest, VerifyRequest, gen, harden, interp, lower, modules_in, request_of, run as run_image, spec, verify};
+ghost use Rattle.bl_words.specs.Requests.{AreNamedApart, GenRequest, HardenRequest, InterpRequest, LowerRequest, RunRequest, SpecRequest, TwinRequest, VerifyRequest, gen, harden, interp, lower, modules_in, request_of, run as run_image, spec, twin, verify};
 ghost use Rattle.bl_app.specs.Speculating.{Speculates};
 ghost use Rattle.bl_app.specs.Status.{IsStatus, kind_of, of_deed};
+ghost use Rattle.bl_app.specs.Twinning.{Twins};
 ghost use Rattle.bl_app.specs.Verifying.{Verifies};
 ghost use Rattle.bl_words.specs.Words.{request_in};
 ghost use Rattle.bl_app.specs.Worlds.{world};
@@ -29,7 +30,7 @@ use bl_outside::{Shelf, Sink};
 use std::alloc::Global;
 
 /// Runs the program on its words, the program's own name first, and answers its exit status: 0 done,
-/// 1 the rules of a certificate or the transient rules are broken,
+/// 1 the rules of a certificate or the transient rules are broken, or two runs are observed differently,
 /// 2 no request, 3 a file could not be read, 4 a file or the sink could not be written, 5 a module's bytes spell none, 6 a module
 /// has no typing, 7 it has something that isn't supported, 8 a quantity exceeds its
 /// number, 9 an import of a module has no match or a segment is out of range, 10 the labels of a module break a rule, 11 memory ran out, 12 the bytes are no image or the image isn't well-formed, 13 the bytes are no certificate, 14 a line of the trace file is no directive, 15 the export is
@@ -58,6 +59,10 @@ pub fn blade<F: Shelf, O: Sink>(alloc: Global, words: &[String], files: &mut F, 
 
     // What statuses 0, 16 and 17 say of `run`: the text is that of the outcome of the image's program within the steps.
     ensures runs { (request : RunRequest) → request_of (map string_bytes words.now) ≡ Some (run_image request) → IsStatus result (λ status. kind_of status ≡ of_deed → Runs request
+        (world F.files F.faults O.taken O.faults files.old out.old) (world F.files F.faults O.taken O.faults files.new out.new) status) }
+
+    // What statuses 0, 1 and 18 say of `twin`: whether the starts agree in public, and what is observed of the two runs.
+    ensures twins { (request : TwinRequest) → request_of (map string_bytes words.now) ≡ Some (twin request) → IsStatus result (λ status. kind_of status ≡ of_deed → Twins request
         (world F.files F.faults O.taken O.faults files.old out.old) (world F.files F.faults O.taken O.faults files.new out.new) status) }
 
     // What statuses 0 and 1 say of `verify`: the lines are the verdicts on the image and the certificate.
@@ -94,7 +99,8 @@ fn carry_out<F: Shelf, O: Sink>(
     files: &mut F,
     out: &mut O,
 ) -> Status
-    requires { AreNamedApart (modules_in (request_in request.now)) }
+    requires apart { AreNamedApart (modules_in (request_in request.now)) }
+    requires sized { IsSized (request_in request.now) }
     ensures { Ends job_of (Some (request_in request.now))
         (world F.files F.faults O.taken O.faults files.old out.old) (world F.files F.faults O.taken O.faults files.new out.new) result }
 {
@@ -118,6 +124,7 @@ fn do_job<F: Shelf, O: Sink>(
 ) -> Status
     requires few { length (modules_in (request_in request.now)) ≤ limit_of quantity.Modules }
     requires apart { AreNamedApart (modules_in (request_in request.now)) }
+    requires sized { IsSized (request_in request.now) }
     ensures { Ends job_of (Some (request_in request.now))
         (world F.files F.faults O.taken O.faults files.old out.old) (world F.files F.faults O.taken O.faults files.new out.new) result }
 {

@@ -7,6 +7,7 @@ use Rattle.bl_app.proofs.HardenLemmas.{hardens, lowers}
 use Rattle.bl_app.proofs.InterpLemmas.{interprets}
 use Rattle.bl_app.proofs.RunLemmas.{runs}
 use Rattle.bl_app.proofs.SpecLemmas.{speculates}
+use Rattle.bl_app.proofs.TwinLemmas.{twins}
 use Rattle.bl_app.proofs.VerifyLemmas.{verifies}
 use Rattle.bl_app.proofs.top.blade.Goals as goal
 
@@ -34,6 +35,13 @@ returns-clause-runs g c = λ request asks. record {
   status = c.run.result;
   is_code = c.code.ensures;
   holds = λ deed. runs request _ _ _ c.run.result asks (was_done job_of laws_of _ _ _ _ c.run.ensures deed);
+}
+
+pub returns-clause-twins : goal.returns-clause-twins
+returns-clause-twins g c = λ request asks. record {
+  status = c.run.result;
+  is_code = c.code.ensures;
+  holds = λ deed. twins _ request _ _ c.run.result asks (was_done job_of laws_of _ _ _ _ c.run.ensures deed);
 }
 
 pub returns-clause-verifies : goal.returns-clause-verifies

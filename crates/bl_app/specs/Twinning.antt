@@ -1,0 +1,122 @@
+-- `twin`: its job, and what is said where it is done.
+use Rattle.std.specs.Prelude.{◌≡◌, ◌↔◌, ℕ, Bool, IsTrue, List, [], ◌∷◌}
+use Rattle.bl_base.specs.declared.start.Start.{Start}
+use Rattle.bl_cmd.specs.Outcomes.{Agree}
+use Rattle.bl_cmd.specs.declared.definitions.ProgramParts.{ProgramParts as Program}
+use Rattle.bl_rob.specs.Observed.{HasEqualObservations, Observed, observed}
+use Rattle.bl_twin.specs.Comparing.{Tells, comparison, twin_text}
+use Rattle.bl_twin.specs.declared.comparison.Comparison.{Comparison}
+use Rattle.bl_twin.specs.declared.comparison.Comparison.TheVariants as compared
+use Rattle.bl_words.specs.Requests.{TwinRequest}
+use Rattle.bl_app.specs.Entering.{Entry, Starts, StartingRefuses}
+use Rattle.bl_app.specs.Executing.{image_read}
+use Rattle.bl_app.specs.Interpreting.{start_read}
+use Rattle.bl_app.specs.Jobs.{AreRead, Job, Plan, saying}
+use Rattle.bl_app.specs.Refusals.{Refusal}
+use Rattle.bl_app.specs.Speculating.{Speculated, seen_of, speculating, trace_read}
+use Rattle.bl_app.specs.Stages.{Stage, chain}
+use Rattle.bl_app.specs.Worlds.{World, took}
+use Rattle.bl_app.specs.declared.status.Status.{Status}
+use Rattle.bl_app.specs.declared.status.Status.TheVariants.{Done, No, Stuck}
+
+-- ---- the other start
+
+-- a function of a program, a start of it, and directives; and another start
+pub record Twinned : Type 0 where
+  pub speculated : Speculated
+  pub other : Start
+
+-- the function of a program
+abbrev pub entry_of : Twinned → Entry
+entry_of twinned = twinned.speculated.entered.entry
+
+-- the bytes of a start file ask for that other start of the function
+pub record StartsOther (bytes : List ℕ) (speculated : Speculated) (twinned : Twinned) : Type 0 where
+  pub same : twinned.speculated ≡ speculated
+  pub starts : Starts bytes speculated.entered.entry (record { entry = speculated.entered.entry; start = twinned.other })
+
+abbrev pub starting_other : List ℕ → Stage Speculated Twinned
+starting_other bytes = record { Passes = StartsOther bytes; Refuses = λ speculated. StartingRefuses bytes speculated.entered.entry }
+
+-- from the bytes of an image to a function that is exported under a name, with the directives of a trace file's bytes and the two starts
+-- that the bytes of two start files ask for
+abbrev pub twinning : List ℕ → List ℕ → List ℕ → List ℕ → Stage (List ℕ) Twinned
+twinning export trace start other = chain (speculating export trace start) (starting_other other)
+
+-- ---- what is observed
+
+-- what is observed of the directives from the other start, where the buffer has room for 64 entries
+abbrev pub other_seen : Twinned → Observed
+other_seen twinned =
+    observed 64 (entry_of twinned).program (entry_of twinned).function twinned.other twinned.speculated.directives
+
+-- whether the two starts agree in public
+abbrev pub StartsAgree : Twinned → Type 0
+StartsAgree twinned = Agree (entry_of twinned).program (entry_of twinned).function twinned.speculated.entered.start twinned.other
+
+-- how the two runs compare
+abbrev pub comparison_of : Twinned → Comparison
+comparison_of twinned = comparison (seen_of twinned.speculated) (other_seen twinned)
+
+-- no where the two runs are observed differently
+abbrev pub twin_status : Comparison → Status
+twin_status compared.Equal = Done
+twin_status compared.Stuck = Stuck
+twin_status compared.Differ = No
+
+-- printing whether the starts agree, the common observations, and how the runs go on
+abbrev pub twin_plan : Bool → Twinned → Plan
+twin_plan agree twinned =
+    saying (twin_status (comparison_of twinned)) (twin_text agree (seen_of twinned.speculated) (other_seen twinned))
+
+-- ---- the job
+
+-- the contents are those of an image, of a trace file and of two start files, which are refused
+pub record TwinRefuses (request : TwinRequest) (contents : List (List ℕ)) (refusal : Refusal) : Type 0 where
+  pub image : List ℕ
+  pub trace : List ℕ
+  pub start : List ℕ
+  pub other : List ℕ
+  pub are : contents ≡ image ∷ trace ∷ start ∷ other ∷ []
+  pub refuses : (twinning request.export trace start other).Refuses image refusal
+
+-- the contents are those of an image, of a trace file and of two start files, nothing is refused, and the plan is to print how the runs
+-- compare
+pub record TwinDoes (request : TwinRequest) (contents : List (List ℕ)) (plan : Plan) : Type 0 where
+  pub image : List ℕ
+  pub trace : List ℕ
+  pub start : List ℕ
+  pub other : List ℕ
+  pub are : contents ≡ image ∷ trace ∷ start ∷ other ∷ []
+  pub twinned : Twinned
+  pub prepared : (twinning request.export trace start other).Passes image twinned
+  pub agree : Bool
+  pub agrees : IsTrue agree ↔ StartsAgree twinned
+  pub is_plan : plan ≡ twin_plan agree twinned
+
+abbrev pub twin_job : TwinRequest → Job
+twin_job request = record {
+  reads = image_read request.image ∷ trace_read request.trace ∷ start_read request.start ∷ start_read request.other_start ∷ [];
+  keeps = [];
+  Against = TwinRefuses request;
+  Does = TwinDoes request;
+}
+
+-- the files' bytes give an image's function, directives and two starts; the first line says whether the starts agree in public, the rest
+-- what is observed of the two runs, each from its own start, and where they differ; the status says whether they do. Runs of a program
+-- whose runs from starts that agree in public are observed alike don't differ where the starts agree. No file is changed
+pub record Twins (request : TwinRequest) (old new : World) (status : Status) : Type 0 where
+  pub image : List ℕ
+  pub trace : List ℕ
+  pub start : List ℕ
+  pub other : List ℕ
+  pub read : AreRead old.files (twin_job request).reads (image ∷ trace ∷ start ∷ other ∷ [])
+  pub twinned : Twinned
+  pub prepared : (twinning request.export trace start other).Passes image twinned
+  pub agree : Bool
+  pub agrees : IsTrue agree ↔ StartsAgree twinned
+  pub meant : status ≡ twin_status (comparison_of twinned)
+  pub tells : Tells (seen_of twinned.speculated) (other_seen twinned)
+  pub safe : HasEqualObservations (entry_of twinned).program → IsTrue agree → status ≡ No → ⊥
+  pub printed : new.sink.taken ≡ took old.sink.taken (twin_text agree (seen_of twinned.speculated) (other_seen twinned))
+  pub unchanged : new.files ≡ old.files

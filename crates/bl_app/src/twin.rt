@@ -1,0 +1,156 @@
+//! `twin`: from the bytes of an image, a trace file and two start files to how the two runs are observed, side by side.
+ghost use Rattle.std.specs.Prelude.{◌≡◌, ◌↔◌, ◌∷◌, [], None, IfOk, IsTrue, map};
+ghost use Rattle.bl_cmd.specs.Outcomes.{IsStart};
+ghost use Rattle.bl_rob.specs.Answers.{seen_in};
+ghost use Rattle.bl_rob.specs.Observed.{observed};
+ghost use Rattle.bl_app.specs.Jobs.{AreRead};
+ghost use Rattle.bl_app.specs.Twinning.{twin_job, twin_status};
+ghost use Rattle.bl_app.specs.Working.{IsTwinTold, IsWork, contents_in, entry_in, read_in, speculated_in, twinned_in};
+ghost use Rattle.bl_words.specs.Words.{twin_in};
+
+use crate::entry::{Entry, find_entry, read_entry_start, read_image};
+use crate::job::{Plan, Read};
+use crate::refusal::{Refusal, WorkError};
+use crate::spec::read_directives;
+use crate::status::Status;
+use bl_base::{NoMemory, Quantity, Start};
+use bl_cmd::WellFormed;
+use bl_rob::{Directive, Rob, Seen};
+use bl_twin::{Comparison, agree, compare};
+use bl_words::TwinWords;
+use std::alloc::Global;
+
+/// The files that `twin` reads: the image, then the trace file, and then the two start files.
+pub fn twin_reads<'a>(alloc: Global, words: &TwinWords<'a>) -> Result<Vec<Read<'a>>, NoMemory>
+    ensures { IfOk result (λ reads. map read_in reads.items ≡ (twin_job (twin_in words.now)).reads) }
+{
+    let mut reads = Vec::new(alloc);
+    reads.push(Read {
+        name: words.image,
+        quantity: Quantity::Image,
+    })?;
+    reads.push(Read {
+        name: words.trace,
+        quantity: Quantity::Trace,
+    })?;
+    reads.push(Read {
+        name: words.start,
+        quantity: Quantity::Start,
+    })?;
+    reads.push(Read {
+        name: words.other_start,
+        quantity: Quantity::Start,
+    })?;
+    Ok(reads)
+}
+
+/// Printing how two runs of an exported function of an image's program are observed, side by side, from the bytes of a trace file and two
+/// start files; Refused exactly where these are refused. Linear in the bytes and in the directives, but for what the check of a program
+/// takes.
+pub fn twin<'a>(
+    alloc: Global,
+    words: &TwinWords<'a>,
+    contents: &[Vec<u8>],
+) -> Result<Plan<'a>, WorkError<'a>>
+    requires { AreRead None (twin_job (twin_in words.now)).reads (contents_in contents.now) }
+    ensures { IsWork (twin_job (twin_in words.now)) (contents_in contents.now) result }
+{
+    let [image, trace, start, other] = contents else {
+        unreachable!()
+    };
+    twin_image(alloc, words, image, trace, start, other)
+}
+
+/// The same, by the bytes of the image, those of the trace file and those of the two start files.
+fn twin_image<'a>(
+    alloc: Global,
+    words: &TwinWords<'a>,
+    image: &[u8],
+    trace: &[u8],
+    start: &[u8],
+    other: &[u8],
+) -> Result<Plan<'a>, WorkError<'a>>
+    ensures { IsWork (twin_job (twin_in words.now)) (image.now ∷ trace.now ∷ start.now ∷ other.now ∷ []) result }
+{
+    let program = match read_image(alloc, image) {
+        Ok(program) => program,
+        Err(error) => return Err(error),
+    };
+    let Some(entry) = find_entry(&program, words.export) else {
+        return Err(WorkError::Refused(Refusal::NoExport));
+    };
+    let directives = match read_directives(alloc, trace) {
+        Ok(directives) => directives,
+        Err(error) => return Err(error),
+    };
+    let start = match read_entry_start(alloc, &program, &entry, start) {
+        Ok(start) => start,
+        Err(error) => return Err(error),
+    };
+    let other = match read_entry_start(alloc, &program, &entry, other) {
+        Ok(other) => other,
+        Err(error) => return Err(error),
+    };
+    match compare_runs(
+        alloc,
+        &program,
+        &entry,
+        &start,
+        &other,
+        directives.as_slice(),
+    ) {
+        Ok(plan) => Ok(plan),
+        Err(NoMemory) => Err(WorkError::Memory),
+    }
+}
+
+/// Takes directives on a function from each of two starts: printing how the runs compare.
+fn compare_runs<'a>(
+    alloc: Global,
+    program: &WellFormed,
+    entry: &Entry<'_>,
+    start: &Start,
+    other: &Start,
+    directives: &[Directive],
+) -> Result<Plan<'a>, NoMemory>
+    requires start { IsStart program.now entry.now.function start.now }
+    requires other { IsStart program.now entry.now.function other.now }
+    ensures { IfOk result (λ plan. IsTwinTold (twinned_in (speculated_in (entry_in program.now entry.now) start.now directives.now) other.now) plan) }
+{
+    let agree = agree(alloc, program, entry.function, start, other)?;
+    let one = seen_from(alloc, program, entry.function, start, directives)?;
+    let two = seen_from(alloc, program, entry.function, other, directives)?;
+    let compared = compare(alloc, agree, &one, &two)?;
+    Ok(Plan {
+        status: twin_status(compared.comparison),
+        keeps: Vec::new(alloc),
+        text: compared.text,
+    })
+}
+
+/// What is observed of directives on a function from a start.
+fn seen_from(
+    alloc: Global,
+    program: &WellFormed,
+    function: u32,
+    start: &Start,
+    directives: &[Directive],
+) -> Result<Seen, NoMemory>
+    requires { IsStart program.now function start.now }
+    ensures { IfOk result (λ seen. seen_in seen ≡ observed 64 program.now function start.now directives.now) }
+{
+    let mut rob: Rob<'_, 64> = Rob::begin(alloc, program, function, start)?;
+    let seen = rob.observe(alloc, directives)?;
+    Ok(seen)
+}
+
+/// The exit status, by how two runs compare.
+fn twin_status(comparison: Comparison) -> Status
+    ensures { result ≡ twin_status comparison }
+{
+    match comparison {
+        Comparison::Equal => Status::Done,
+        Comparison::Stuck => Status::Stuck,
+        Comparison::Differ => Status::No,
+    }
+}
