@@ -1,11 +1,11 @@
 -- The shortest spellings of numbers.
-use Rattle.std.proofs.Common.{◌≡◌, ℕ, zero, suc, ◌+◌, ◌-◌, ◌*◌, ◌/◌, ◌%◌, ◌^◌, ◌<◌, ◌≤◌, List, ◌++◌, ap, ◌∙◌, arith, ◌⊎◌, inl, inr}
+use Rattle.std.proofs.Common.{◌≡◌, ℕ, zero, suc, ◌+◌, ◌-◌, ◌*◌, ◌/◌, ◌%◌, ◌^◌, ◌<◌, ◌≤◌, List, ◌++◌, length, ap, ◌∙◌, arith, ◌⊎◌, inl, inr}
 use Rattle.std.proofs.lemmas.Nat.{pow-add}
 use Rattle.std.proofs.lemmas.Bool.{cases_lt, lt-ltb, le-ltb}
 use Rattle.bl_leb.specs.Numbers.{IsUnsigned}
 use Rattle.bl_leb.specs.Spellings.{IsShortest, Appends}
 use Rattle.bl_leb.proofs.Bits.{power_grows}
-use Rattle.bl_leb.proofs.Unsigned.{one_shortest, power_split, shortest_one, shortest_more}
+use Rattle.bl_leb.proofs.Unsigned.{length_bounded, one_shortest, power_split, shortest_one, shortest_more}
 use Rattle.bl_gen.specs.Made.{leb, leb_within}
 
 -- seven bits more hold 128 times as much
@@ -41,3 +41,13 @@ leb_shortest n width fits narrow =
 -- what is put behind some bytes is that spelling
 pub appended : (old new : List ℕ) (n : ℕ) → n < 2 ^ 64 → Appends (IsShortest (IsUnsigned 64)) old new n → new ≡ old ++ leb n
 appended old new n fits h = h.appended ∙ ap (λ b. old ++ b) (one_shortest 64 h.bytes (leb n) n h.spelled (leb_shortest n 64 fits fits))
+
+-- a number of 32 bits
+pub number_spelled : (n : ℕ) → n < 2 ^ 32 → IsUnsigned 32 (leb n) n
+number_spelled n fits =
+    let more = power_grows 32 64 (omega arith) in
+    (leb_shortest n 32 (omega arith) fits).spelled
+
+-- in at most five bytes
+pub number_short : (n : ℕ) → n < 2 ^ 32 → length (leb n) ≤ 5
+number_short n fits = omega (arith, length_bounded 32 (leb n) n (omega arith) (number_spelled n fits))

@@ -2,6 +2,7 @@
 #![tactic(auto)]
 
 mod function;
+pub mod laws;
 mod module;
 mod number;
 
