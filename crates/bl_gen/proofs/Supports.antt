@@ -1,12 +1,21 @@
 -- The tree of the module is supported.
-use Rattle.std.proofs.Common.{ℕ, ◌<◌, ◌≤◌, [], ◌∷◌, refl, arith}
+use Rattle.std.proofs.Common.{◌≡◌, ◌∙◌, ℕ, ◌<◌, ◌≤◌, [], ◌∷◌, None, subst, sym, refl, arith}
+use Rattle.std.specs.Prelude.{Result, Ok, Err}
+use Rattle.std.proofs.lemmas.Option.{none-some}
+use Rattle.bl_wasm.specs.Limits.{first_excess}
+use Rattle.bl_wasm.specs.Modules.{Spells}
+use Rattle.bl_wasm.specs.Validity.{Typed}
+use Rattle.bl_wasm.specs.declared.module.Module.{Module}
+use Rattle.bl_decode.specs.Decoding.{AnswersOf}
+use Rattle.bl_decode.specs.declared.error.DecodeError.{DecodeError}
+use Rattle.bl_decode.specs.declared.error.DecodeError.TheVariants as error
 use Rattle.std.specs.List.{All, range_with_len}
 use Rattle.std.proofs.lemmas.List.Elements.{All-cons, All-map, All-nil}
 use Rattle.bl_wasm.specs.Validity.{IsInteger}
 use Rattle.bl_wasm.specs.declared.instruction.Instr.{Instr}
 use Rattle.bl_wasm.specs.declared.types.WasmType.TheVariants.{I32}
 use Rattle.bl_decode.specs.Supported.{IsIntegerCode, IsIntegerFunction, IsIntegerImport, IsIntegerInstr, IsSupported}
-use Rattle.bl_gen.specs.Accepted.{IsAccepted}
+use Rattle.bl_gen.specs.Accepted.{GivesValid, IsAccepted}
 use Rattle.bl_gen.specs.Made.{made}
 use Rattle.bl_gen.proofs.Bodies.{all_below, body_used}
 use Rattle.bl_gen.proofs.Pieces.{IsUsed, a_call, a_load, a_loop, an_add, an_end, get, set}
@@ -54,3 +63,17 @@ accepted seed size some few = record {
   within = within seed size few;
   valid = typed seed size few some;
 }
+
+-- ---- what decoding gives
+
+gives : (tree : Module) → IsSupported tree → first_excess tree ≡ None → Typed tree → (answer : Result Module DecodeError) → AnswersOf tree answer → GivesValid answer
+gives tree fits few valid (Ok found) h = subst Typed (sym h.0) valid
+gives tree fits few valid (Err error.Malformed) h = absurd h
+gives tree fits few valid (Err error.Unsupported) h = absurd (h fits)
+gives tree fits few valid (Err (error.Limit which value)) h = absurd (none-some (which, value) (sym few ∙ h.1))
+gives tree fits few valid (Err error.Memory) h = refl
+
+pub decoded : (seed size : ℕ) (answer : Result Module DecodeError) → 1 ≤ size → size ≤ 10000 → ((tree : Module) → Spells (made seed size) tree → AnswersOf tree answer) → GivesValid answer
+decoded seed size answer some few h =
+    let made_tree = tree seed size in
+    gives made_tree (supported seed size few) (within seed size few) (typed seed size few some) answer (h made_tree (spelled seed size few))
