@@ -1,0 +1,9 @@
+pub mod Bodies
+pub mod Lengths
+pub mod Numbers
+pub mod Pieces
+pub mod Ranges
+pub mod Spelled
+pub mod Supports
+pub mod Trees
+pub mod Typings
