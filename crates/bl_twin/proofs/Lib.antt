@@ -1,0 +1,4 @@
+pub mod Comparisons
+pub mod Counting
+pub mod Fronts
+pub mod Public

@@ -1,0 +1,118 @@
+-- What is observed of two runs, side by side, and the text on it.
+use Rattle.std.specs.Prelude.{◌≡◌, ◌↔◌, ℕ, ◌+◌, ◌==◌, Bool, true, false, ◌&&◌, if◌then◌else◌, List, [], ◌∷◌, ◌++◌, length, slice_get, Option, Some, None, codes}
+use Rattle.std.specs.Fmt.{decimal}
+use Rattle.std.specs.List.{flat_map}
+use Rattle.bl_rob.specs.Observed.{Observed}
+use Rattle.bl_rob.specs.declared.directive.Observation.{Observation}
+use Rattle.bl_rob.specs.declared.directive.Observation.TheVariants as observation
+use Rattle.bl_trace.specs.Observations.{observation_text}
+use Rattle.bl_twin.specs.declared.comparison.Comparison.{Comparison}
+use Rattle.bl_twin.specs.declared.comparison.Comparison.TheVariants.{Equal, Stuck, Differ}
+use Rattle.bl_twin.specs.declared.comparison.Shown.{Shown}
+use Rattle.bl_twin.specs.declared.comparison.Shown.TheVariants as shown
+
+-- ---- what two runs have in common
+
+-- two observations are the same
+abbrev pub is_same : Observation → Observation → Bool
+is_same observation.Nothing observation.Nothing = true
+is_same (observation.Read a guards) (observation.Read b others) = (a == b) && (guards == others)
+is_same (observation.Write a guards) (observation.Write b others) = (a == b) && (guards == others)
+is_same (observation.Divide a b guards) (observation.Divide c d others) = (a == c) && (b == d) && (guards == others)
+is_same (observation.Rollback place) (observation.Rollback other) = place == other
+is_same observation.Fail observation.Fail = true
+is_same _ _ = false
+
+-- the longest common front of two lists
+abbrev pub common : List Observation → List Observation → List Observation
+common [] others = []
+common (x ∷ xs) [] = []
+common (x ∷ xs) (y ∷ ys) = if is_same x y then x ∷ common xs ys else []
+
+-- a list is the longest common front of two lists: both go on behind it, and not with the same observation
+pub record IsLongestFront (front xs ys : List Observation) : Type 0 where
+  pub rest : List Observation
+  pub other : List Observation
+  pub one_is : xs ≡ front ++ rest
+  pub other_is : ys ≡ front ++ other
+  pub ends : (x : Observation) (tail behind : List Observation) → rest ≡ x ∷ tail → other ≡ x ∷ behind → ⊥
+
+-- ---- what a run shows at a place
+
+-- behind the last observation: that a directive is refused, or nothing
+abbrev pub shown_at_end : Option ℕ → Shown
+shown_at_end None = shown.Over
+shown_at_end (Some place) = shown.Stuck
+
+abbrev pub shown_by : Option Observation → Option ℕ → Shown
+shown_by (Some x) refused = shown.Seen x
+shown_by None refused = shown_at_end refused
+
+-- what a run shows behind so many observations: the next one; or that the directive there is refused; or nothing, where none is left
+abbrev pub shown_behind : Observed → ℕ → Shown
+shown_behind seen count = shown_by (slice_get seen.made count) seen.refused
+
+-- ---- the comparison
+
+-- by what both runs show behind the common front
+abbrev pub compared : Shown → Shown → Comparison
+compared shown.Over shown.Over = Equal
+compared shown.Stuck shown.Stuck = Stuck
+compared _ _ = Differ
+
+-- two runs are observed alike to their end, or to a directive that both refuse, or they differ
+abbrev pub comparison : Observed → Observed → Comparison
+comparison one other =
+    let count = length (common one.made other.made) in
+    compared (shown_behind one count) (shown_behind other count)
+
+-- ---- the text
+
+-- the line of what a run shows
+abbrev pub shown_text : Shown → List ℕ
+shown_text (shown.Seen x) = observation_text x
+shown_text shown.Stuck = codes "stuck" ++ 10 ∷ []
+shown_text shown.Over = []
+
+-- a line of a word and a number
+abbrev pub numbered : List ℕ → ℕ → List ℕ
+numbered word number = word ++ decimal number ++ 10 ∷ []
+
+-- the last line or lines, behind so many common observations: how many there are; or the place, from 1, of the directive that both
+-- refuse; or the place where the runs differ, and what each of them shows there
+abbrev pub ending_text : Comparison → ℕ → Shown → Shown → List ℕ
+ending_text Equal count one other = numbered (codes "equal ") count
+ending_text Stuck count one other = numbered (codes "stuck ") (count + 1)
+ending_text Differ count one other = numbered (codes "differ ") (count + 1) ++ shown_text one ++ shown_text other
+
+-- the lines of the common observations, and then the last line or lines
+abbrev pub comparison_text : Observed → Observed → List ℕ
+comparison_text one other =
+    let front = common one.made other.made in
+    flat_map observation_text front
+    ++ ending_text (comparison one other) (length front) (shown_behind one (length front)) (shown_behind other (length front))
+
+-- whether the starts agree in public
+abbrev pub agreement_text : Bool → List ℕ
+agreement_text true = codes "public agree" ++ 10 ∷ []
+agreement_text false = codes "public differ" ++ 10 ∷ []
+
+-- the text on two starts and on what is observed of their runs
+abbrev pub twin_text : Bool → Observed → Observed → List ℕ
+twin_text agree one other = agreement_text agree ++ comparison_text one other
+
+-- ---- what a comparison says
+
+-- runs differ exactly where what is observed of them isn't equal; they are equal to their end exactly where nothing is refused, and
+-- stuck exactly where both refuse a directive
+pub record Tells (one other : Observed) : Type 0 where
+  pub differ : comparison one other ≡ Differ → one ≡ other → ⊥
+  pub same : (comparison one other ≡ Differ → ⊥) → one ≡ other
+  pub equal : comparison one other ≡ Equal ↔ (one ≡ other) × (one.refused ≡ None)
+  pub stuck : comparison one other ≡ Stuck ↔ (one ≡ other) × ((place : ℕ) × (one.refused ≡ Some place))
+
+-- what the text counts, of runs of so many directives: all of them, where the runs are equal to their end; and the place of the
+-- directive that is refused, where they are stuck
+pub record Counts (directives : ℕ) (one other : Observed) : Type 0 where
+  pub equal : comparison one other ≡ Equal → length (common one.made other.made) ≡ directives
+  pub stuck : comparison one other ≡ Stuck → one.refused ≡ Some (length (common one.made other.made) + 1)

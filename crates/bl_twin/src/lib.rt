@@ -1,0 +1,11 @@
+//! Two runs of a function from two starts: whether the starts agree in public, and the text on what is observed of both runs.
+#![tactic(auto)]
+
+mod agreement;
+mod comparison;
+pub mod laws;
+mod text;
+
+pub use agreement::agree;
+pub use comparison::Comparison;
+pub use text::{Compared, compare};

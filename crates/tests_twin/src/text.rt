@@ -1,0 +1,102 @@
+//! The texts on two runs of eleven directives, of which the first ten are observed alike.
+use bl_base::{List, NoMemory};
+use bl_rob::{Observation, Seen};
+use bl_twin::{Comparison, compare};
+use std::alloc::Global;
+use std::test::Fail;
+
+/// The lines of the first ten observations.
+static FRONT: [u8; 65] =
+    *b"none\nnone\nnone\nnone\nnone\nnone\nnone\nnone\nnone\nread 65536 guards 3\n";
+
+/// A run that is observed so at its eleventh directive, if at all, and that refuses the directive at that place, if any.
+fn run(alloc: Global, last: Option<u64>, refused: Option<u64>) -> Result<Seen, NoMemory> {
+    let mut made = List::new(alloc);
+    for _ in 0..9 {
+        made.push(Observation::Nothing)?;
+    }
+    made.push(Observation::Read {
+        address: 65_536,
+        guards: 0b1000,
+    })?;
+    if let Some(address) = last {
+        made.push(Observation::Read {
+            address,
+            guards: 0b100_1000,
+        })?;
+    }
+    Ok(Seen { made, refused })
+}
+
+/// Whether the comparison of two runs is that one, and the text on them is a first line, the lines of the first ten
+/// observations and an end.
+fn is_told(
+    alloc: Global,
+    agree: bool,
+    runs: (&Seen, &Seen),
+    comparison: Comparison,
+    lines: (&str, &str),
+) -> Result<bool, Fail> {
+    let found = compare(alloc, agree, runs.0, runs.1)?;
+    let mut text = lines.0.as_bytes().to_vec(alloc)?;
+    text.extend_from_slice(&FRONT)?;
+    text.extend_from_slice(lines.1.as_bytes())?;
+    Ok(found.comparison == comparison && found.text.as_slice() == text.as_slice())
+}
+
+#[test]
+fn two_runs_that_read_from_different_places_differ(rt: HostRuntime) -> Result<(), Fail> {
+    let alloc = rt.alloc();
+    let one = run(alloc, Some(5), None)?;
+    let other = run(alloc, Some(7), None)?;
+    let end = "differ 11\nread 5 guards 3 6\nread 7 guards 3 6\n";
+    let told = is_told(
+        alloc,
+        true,
+        (&one, &other),
+        Comparison::Differ,
+        ("public agree\n", end),
+    )?;
+    assert!(rt; told);
+    Ok(())
+}
+
+#[test]
+fn a_run_that_is_stuck_alone_differs(rt: HostRuntime) -> Result<(), Fail> {
+    let alloc = rt.alloc();
+    let one = run(alloc, None, Some(11))?;
+    let other = run(alloc, Some(7), None)?;
+    let end = "differ 11\nstuck\nread 7 guards 3 6\n";
+    let told = is_told(
+        alloc,
+        true,
+        (&one, &other),
+        Comparison::Differ,
+        ("public agree\n", end),
+    )?;
+    assert!(rt; told);
+    Ok(())
+}
+
+#[test]
+fn two_runs_are_equal_to_their_end_or_to_what_both_refuse(rt: HostRuntime) -> Result<(), Fail> {
+    let alloc = rt.alloc();
+    let whole = run(alloc, None, None)?;
+    let equal = is_told(
+        alloc,
+        false,
+        (&whole, &whole),
+        Comparison::Equal,
+        ("public differ\n", "equal 10\n"),
+    )?;
+    let refused = run(alloc, None, Some(11))?;
+    let stuck = is_told(
+        alloc,
+        false,
+        (&refused, &refused),
+        Comparison::Stuck,
+        ("public differ\n", "stuck 11\n"),
+    )?;
+    assert!(rt; equal && stuck);
+    Ok(())
+}
