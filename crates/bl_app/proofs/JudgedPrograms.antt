@@ -15,10 +15,10 @@ use Rattle.bl_sct.proofs.Whole.{equal}
 use Rattle.bl_app.specs.Hardening.{Hardened, IsHardened, IsJudged, IsYes}
 use Rattle.bl_app.proofs.FewestLemmas.{are_fewest, well_formed}
 
--- the verdict is yes exactly where some labelling keeps the rules
+-- the verdict is says exactly where some labelling keeps the rules
 pub yes_labelled : (program : Program) (verdict : CtVerdict) → Judges program verdict → IsYes verdict → ConstantTime program
-yes_labelled program (Yes labels) h yes = (labelling_of labels, h.labelled)
-yes_labelled program (No chain) h yes = absurd yes
+yes_labelled program (Yes labels) h says = (labelling_of labels, h.labelled)
+yes_labelled program (No chain) h says = absurd says
 
 pub labelled_yes : (program : Program) (verdict : CtVerdict) → Judges program verdict → ConstantTime program → IsYes verdict
 labelled_yes program (Yes labels) h ct = tt
@@ -36,7 +36,7 @@ module _ (bare : Program) (facts : IsProgram bare) (rules : IsWellFormed bare) (
   is_judged = record {
     exact = (yes_labelled hardened.program hardened.verdict is.judged, labelled_yes hardened.program hardened.verdict is.judged);
     chain = λ chain e. chain_of hardened.program hardened.verdict chain is.judged e;
-    equal = λ yes.
-        equal hardened.program of_program (well_formed bare facts rules hardened is) (yes_labelled hardened.program hardened.verdict is.judged yes)
+    equal = λ says.
+        equal hardened.program of_program (well_formed bare facts rules hardened is) (yes_labelled hardened.program hardened.verdict is.judged says)
         (are_fewest bare facts rules hardened is).passes;
   }

@@ -3,6 +3,7 @@ use Rattle.std.proofs.Common.{◌≡◌, ℕ, ◌≤◌, List, [], ◌∷◌, Op
 use Rattle.std.specs.Prelude.{Bool, IsTrue, ◌↔◌}
 use Rattle.bl_rob.specs.Observed.{HasEqualObservations}
 use Rattle.bl_twin.specs.Comparing.{Tells}
+use Rattle.bl_twin.proofs.Comparisons.{never, told}
 use Rattle.bl_twin.specs.declared.comparison.Comparison.{Comparison}
 use Rattle.bl_twin.specs.declared.comparison.Comparison.TheVariants as compared
 use Rattle.bl_words.specs.Requests.{Request, TwinRequest, twin}
@@ -62,10 +63,12 @@ no_differs compared.Differ e = refl
 
 -- what two runs of one function show
 they_tell : (t : Twinned) → Tells (seen_of t.speculated) (other_seen t)
-they_tell t = ?
+they_tell t = told 64 (entry_of t).program (entry_of t).function t.speculated.directives t.speculated.entered.start t.other
 
 safe_alike : (t : Twinned) (agree : Bool) → (IsTrue agree ↔ StartsAgree t) → HasEqualObservations (entry_of t).program → IsTrue agree → comparison_of t ≡ compared.Differ → ⊥
-safe_alike t agree agrees equal yes differ = ?
+safe_alike t agree agrees equal says differ =
+    never (entry_of t).program equal 64 (omega arith) (omega arith) (entry_of t).function t.speculated.directives t.speculated.entered.start t.other
+    (agrees.0 says) differ
 
 module _ (request : TwinRequest) where
   module _ (contents : List (List ℕ)) (image trace start other : List ℕ) (are : contents ≡ image ∷ trace ∷ start ∷ other ∷ []) where
@@ -124,7 +127,7 @@ module _ (request : TwinRequest) where
         agrees = h.agrees;
         meant = says;
         tells = they_tell h.twinned;
-        safe = λ equal yes no. safe_alike h.twinned h.agree h.agrees equal yes (no_differs (comparison_of h.twinned) (sym says ∙ no));
+        safe = λ equal says no. safe_alike h.twinned h.agree h.agrees equal says (no_differs (comparison_of h.twinned) (sym says ∙ no));
         printed = printed ∙ ap (λ p. took old.sink.taken p.text) h.is_plan;
         unchanged = kept ∙ ap (λ p. with_files old.files p.keeps) h.is_plan;
       }

@@ -48,7 +48,7 @@ module _ (bytes : List ℕ) where
   one_read : (program : Program) (a b : Certified) → IsRead bytes program a → IsRead bytes program b → a ≡ b
   one_read program a b p q =
       let programs = p.same_program ∙ sym q.same_program in
-      let data = one_data p.read.0 q.read.0 p.read.1 q.read.1 in
+      let values = one_data p.read.0 q.read.0 p.read.1 q.read.1 in
       let certificates = some_same a.certificate b.certificate (sym p.read.2 ∙ ap certificate_of data ∙ q.read.2) in
       λ i. record { program = programs i; certificate = certificates i }
 
@@ -74,8 +74,8 @@ module _ (bytes : List ℕ) where
 -- a program is stable exactly where the verdict says so
 module _ (program : Program) where
   stable_in : (verdict : FlowVerdict) → Judges program (is_protected program) verdict → Stable verdict → IsStable program
-  stable_in (flow.Yes typing) h yes = (typing_of typing, h.flows_hold)
-  stable_in (flow.No position) h yes = absurd yes
+  stable_in (flow.Yes typing) h says = (typing_of typing, h.flows_hold)
+  stable_in (flow.No position) h says = absurd says
 
   stable_back : (verdict : FlowVerdict) → Judges program (is_protected program) verdict → IsStable program → Stable verdict
   stable_back (flow.Yes typing) h p = tt
@@ -85,8 +85,8 @@ module _ (program : Program) where
   -- a certificate keeps its rules exactly where the verdict says so
   module _ (certificate : Certificate) where
     certain_in : (verdict : CertVerdict) → Checks program certificate verdict → Certain verdict → Certifies program certificate
-    certain_in rules.Yes h yes = h
-    certain_in (rules.No rule index) h yes = absurd yes
+    certain_in rules.Yes h says = h
+    certain_in (rules.No rule index) h says = absurd says
 
     certain_back : (verdict : CertVerdict) → Checks program certificate verdict → Certifies program certificate → Certain verdict
     certain_back rules.Yes h is = tt
@@ -123,19 +123,19 @@ module _ (certified : Certified) where
   one_status_of : (v w : Verdicts) → AreVerdicts certified v → AreVerdicts certified w → verify_status v.rules v.flow ≡ verify_status w.rules w.flow
   one_status_of v w a b =
       one_by v.rules w.rules v.flow w.flow
-      (λ yes. certain_back program certified.certificate w.rules b.rules (certain_in program certified.certificate v.rules a.rules yes))
-      (λ yes. certain_back program certified.certificate v.rules a.rules (certain_in program certified.certificate w.rules b.rules yes))
-      (λ yes. stable_back program w.flow b.flow (stable_in program v.flow a.flow yes))
-      (λ yes. stable_back program v.flow a.flow (stable_in program w.flow b.flow yes))
+      (λ says. certain_back program certified.certificate w.rules b.rules (certain_in program certified.certificate v.rules a.rules says))
+      (λ says. certain_back program certified.certificate v.rules a.rules (certain_in program certified.certificate w.rules b.rules says))
+      (λ says. stable_back program w.flow b.flow (stable_in program v.flow a.flow says))
+      (λ says. stable_back program v.flow a.flow (stable_in program w.flow b.flow says))
 
   -- what the verdicts say
   they_say : (v : Verdicts) → IsProgram program → IsWellFormed program → AreVerdicts certified v → Say certified v
   they_say v facts rules a = record {
     certifies = (certain_in program certified.certificate v.rules a.rules, certain_back program certified.certificate v.rules a.rules);
-    lightest = λ yes. none_is_lighter program certified.certificate facts rules (certain_in program certified.certificate v.rules a.rules yes);
+    lightest = λ says. none_is_lighter program certified.certificate facts rules (certain_in program certified.certificate v.rules a.rules says);
     stable = (stable_in program v.flow a.flow, stable_back program v.flow a.flow);
     constant_time = (yes_labelled program v.labels a.labels, labelled_yes program v.labels a.labels);
-    safe = λ stable yes. equal program facts rules (yes_labelled program v.labels a.labels yes) (stable_in program v.flow a.flow stable);
+    safe = λ stable says. equal program facts rules (yes_labelled program v.labels a.labels says) (stable_in program v.flow a.flow stable);
   }
 
 -- ---- the job

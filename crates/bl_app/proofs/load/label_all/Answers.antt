@@ -1,14 +1,14 @@
 use Rattle.std.proofs.Common.{◌≡◌, List, [], ap, arith, map, subst, sym}
-use Rattle.std.specs.Prelude.{Vec}
+use Rattle.std.specs.Prelude.{Err, Vec}
 use Rattle.std.specs.declared.alloc.Global.{Global}
 use Rattle.std.proofs.lemmas.Grind.{common_steps}
 use Rattle.std.specs.List.{All}
 use Rattle.std.specs.Vec.Iter.{into_iter_items}
 use Rattle.std.proofs.lemmas.List.Elements.{All-push}
 use Rattle.bl_labels.specs.Faults.{IsConsistent}
-use Rattle.bl_app.specs.Loading.{labelling}
+use Rattle.bl_wasm.specs.declared.module.Module.{Module}
+use Rattle.bl_app.specs.Loading.{AreTold, labelling}
 use Rattle.bl_app.specs.Working.{checked_in, ready_in}
-use Rattle.bl_app.specs.declared.load.Checked.{Checked}
 use Rattle.bl_app.specs.declared.load.Ready.{Ready}
 use Rattle.bl_app.proofs.LoadSteps.{next_labelled, not_labelled}
 use Rattle.bl_app.proofs.StageLemmas.{goes_ends}
@@ -18,10 +18,26 @@ abbrev IsSane : Ready → Type 0
 IsSane one = IsConsistent one.labels
 
 pub loop-one-preserved : goal.loop-one-preserved
-loop-one-preserved c = ?
+loop-one-preserved c =
+    let value : Ready = record { name = c.in-Some.one.name; wasm = c.in-Some.one.wasm; labels = c.in-Ok.labels } in
+    let grown = c.in_ok-push-in-Ok.ensures.items in
+    record {
+      goes = next_labelled (map checked_in c.args.checked.items) (into_iter_items c.loop-one.rest) (into_iter_items c.next.new.self) c.loop-one.all.items c.in-Some.one
+          c.in-Some.ensures.cases.0 c.loop-one.invariant.goes c.in-Ok.labels c.push.new.self.items grown ?;
+      sane = subst (All IsSane) (sym grown) (All-push IsSane c.loop-one.all.items value c.loop-one.invariant.sane c.in-Ok.ensures.consistent);
+    }
 
 pub returns-in-Err : goal.returns-in-Err
-returns-in-Err c = ?
+returns-in-Err c = record {
+  staged = not_labelled (map checked_in c.args.checked.items) (into_iter_items c.loop-one.rest) (into_iter_items c.next.new.self) c.loop-one.all.items c.in-Some.one
+      c.in-Some.ensures.cases.0 c.loop-one.invariant.goes (λ (all : Vec Ready Global). map ready_in all.items) c.in-Err.error c.of_labels.result c.of_labels.ensures ?;
+  consistent = tt;
+}
 
 pub returns : goal.returns
-returns c = ?
+returns c =
+    let none : into_iter_items c.loop-one.rest ≡ [] = grind (arith, common_steps) in
+    record {
+      staged = goes_ends labelling (map checked_in c.args.checked.items) (map checked_in (into_iter_items c.loop-one.rest)) (map ready_in c.loop-one.all.items) (ap (map checked_in) none) c.loop-one.invariant.goes;
+      consistent = c.loop-one.invariant.sane;
+    }

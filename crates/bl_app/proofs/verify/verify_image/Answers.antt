@@ -10,7 +10,3 @@ pub returns-in-Err-read_certificate : goal.returns-in-Err-read_certificate
 returns-in-Err-read_certificate c =
     certificate_refused (verify_in c.args.words.now) c.args.image.now c.args.certificate.now c.in-Ok.program c.in-Ok.ensures c.in-Err-read_certificate.error c.in-Err-read_certificate.ensures
 
-pub returns-in_ok-tell-in-Ok-judge : goal.returns-in_ok-tell-in-Ok-judge
-returns-in_ok-tell-in-Ok-judge c =
-    was_verified (verify_in c.args.words.now) c.args.image.now c.args.certificate.now c.in-Ok.program c.in-Ok.ensures c.in-Ok-read_certificate.certificate
-    (verdicts_in c.in-Ok-judge.verdicts) c.in_ok-tell-in-Ok-judge.value c.in-Ok-read_certificate.ensures c.in-Ok-judge.ensures c.in_ok-tell-in-Ok-judge.ensures
