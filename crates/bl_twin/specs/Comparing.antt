@@ -44,6 +44,7 @@ abbrev pub shown_at_end : Option ℕ → Shown
 shown_at_end None = shown.Over
 shown_at_end (Some place) = shown.Stuck
 
+-- the observation there, where there is one
 abbrev pub shown_by : Option Observation → Option ℕ → Shown
 shown_by (Some x) refused = shown.Seen x
 shown_by None refused = shown_at_end refused
@@ -54,7 +55,7 @@ shown_behind seen count = shown_by (slice_get seen.made count) seen.refused
 
 -- ---- the comparison
 
--- by what both runs show behind the common front
+-- by what both runs show behind their common front
 abbrev pub compared : Shown → Shown → Comparison
 compared shown.Over shown.Over = Equal
 compared shown.Stuck shown.Stuck = Stuck

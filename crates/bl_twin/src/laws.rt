@@ -32,5 +32,6 @@ pub fn what_is_counted()
 pub fn safe_programs_never_differ()
     ensures { (program : ProgramParts) → HasEqualObservations program → (most : ℕ) → 1 ≤ most → most ≤ 64
         → (function : ℕ) (directives : Listed Directive) (one other : Start) → Agree program function one other
-        → comparison (observed most program function one directives) (observed most program function other directives) ≡ comparison_is.Differ → ⊥ }
+        → comparison (observed most program function one directives) (observed most program function other directives)
+        ≡ comparison_is.Differ → ⊥ }
 {}
