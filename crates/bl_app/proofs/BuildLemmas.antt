@@ -1,5 +1,5 @@
 -- Building keeps the laws of stages, and gives a program that ends as its linked tree does.
-use Rattle.std.proofs.Common.{◌≡◌, ℕ, ◌≤◌, ◌<◌, List, [], ◌∷◌, length, Option, map, ap, sym, ◌∙◌, subst, arith}
+use Rattle.std.proofs.Common.{◌≡◌, ℕ, ◌≤◌, ◌<◌, List, length, ap, sym, ◌∙◌, subst, arith}
 use Rattle.std.specs.Prelude.{Result, Ok, Err}
 use Rattle.bl_base.specs.Quantity.{limit_of}
 use Rattle.bl_base.specs.declared.quantity.Quantity.TheVariants as quantity

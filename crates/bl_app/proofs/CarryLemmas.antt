@@ -1,5 +1,5 @@
 -- How a request is carried out: by what was fetched, and what its work gave.
-use Rattle.std.proofs.Common.{◌≡◌, ℕ, List, Option, Some, None, refl, sym, ◌∙◌, subst}
+use Rattle.std.proofs.Common.{◌≡◌, ℕ, List, Option, Some, None, refl, ◌∙◌, subst}
 use Rattle.bl_outside.specs.Shelf.{Files}
 use Rattle.bl_app.specs.Ends.{Delivers, Ends, all_kept, as_planned, done, no_memory, not_read, refused}
 use Rattle.bl_app.specs.Jobs.{AreRead, FirstRefusal, Job, Plan, Read, against, saying, too_long}
@@ -9,7 +9,6 @@ use Rattle.bl_app.specs.Texts.{refusal_text}
 use Rattle.bl_app.specs.Working.{NotFetched, failed, no_memory_to_fetch, refused as length_refused}
 use Rattle.bl_app.specs.Worlds.{SaidIfRoom, Unchanged, World, is_said, no_memory_to_say}
 use Rattle.bl_app.specs.declared.status.Status.{Status}
-use Rattle.bl_app.specs.declared.status.Status.TheVariants.{Memory}
 use Rattle.bl_app.proofs.FetchLemmas.{same_world}
 use Rattle.bl_app.proofs.JobLemmas.{lengths_fit}
 

@@ -1,5 +1,5 @@
 -- Why each status comes.
-use Rattle.std.proofs.Common.{◌≡◌, ℕ, List, Option, Some, None, ap, sym, ◌∙◌, subst, inl, inr}
+use Rattle.std.proofs.Common.{◌≡◌, ℕ, List, Option, Some, None, ap, ◌∙◌, subst, inl, inr}
 use Rattle.std.specs.Prelude.{◌⊎◌}
 use Rattle.bl_outside.specs.Shelf.{Files}
 use Rattle.bl_app.specs.Causes.{Causes, IsDone, NoFault, NoneRose, UnlessFault}

@@ -3,10 +3,11 @@ use Rattle.std.proofs.Common.{◌≡◌, ℕ, List, Some, None, refl, inl, inr, 
 use Rattle.std.specs.Prelude.{◌⊎◌}
 use Rattle.bl_outside.specs.Shelf.{Files}
 use Rattle.bl_app.specs.Causes.{Causes, NoneRose}
-use Rattle.bl_app.specs.Commands.{job_of, work_of}
+use Rattle.bl_words.proofs.WordsLemmas.{gen_in_range}
+use Rattle.bl_app.specs.Commands.{IsSized, job_of, work_of}
 use Rattle.bl_app.specs.Jobs.{AreRead, FirstRefusal, IsLawful, Plan}
 use Rattle.bl_app.specs.Refusals.{Refusal}
-use Rattle.bl_words.specs.Requests.{Request, gen, harden, interp, lower, modules_in, run, spec, twin, verify}
+use Rattle.bl_words.specs.Requests.{Request, gen, harden, interp, lower, modules_in, request_of, run, spec, twin, verify}
 use Rattle.bl_app.specs.Worlds.{World}
 use Rattle.bl_app.specs.Status.{code_of, kind_of, of_deed, of_refusal}
 use Rattle.bl_app.specs.declared.status.Status.{Status}
@@ -40,6 +41,19 @@ one_refusal files request = one_first files (job_of request) (laws_of request)
 pub not_refused : (files : Files) (request : Request) (refusal : Refusal) (contents : List (List ℕ)) (plan : Plan) → AreRead (Some files) (job_of request).reads contents → (job_of request).Does contents plan
     → FirstRefusal (job_of request) (Some files) refusal → ⊥
 not_refused files request = done_not_refused files (job_of request) (laws_of request)
+
+-- ---- what is known of a request
+
+-- the number and the size of a module that is made are in range
+pub sized_by : (words : List (List ℕ)) (request : Request) → request_of words ≡ Some request → IsSized request
+sized_by words (gen request) e = gen_in_range words request e
+sized_by words (harden request) e = tt
+sized_by words (lower request) e = tt
+sized_by words (interp request) e = tt
+sized_by words (run request) e = tt
+sized_by words (spec request) e = tt
+sized_by words (twin request) e = tt
+sized_by words (verify request) e = tt
 
 -- ---- words that are no request
 

@@ -1,5 +1,5 @@
 -- Files that are fetched in order, and files that are kept in order.
-use Rattle.std.proofs.Common.{◌≡◌, ℕ, ◌+◌, ◌<◌, ◌≤◌, List, [], ◌∷◌, ◌++◌, length, take, drop, get_or, map, Option, Some, None, refl, inl, ap, sym, ◌∙◌, subst, arith, drop-cons, append_assoc, add-one}
+use Rattle.std.proofs.Common.{◌≡◌, ℕ, ◌+◌, ◌<◌, ◌≤◌, List, [], ◌∷◌, ◌++◌, length, take, drop, get_or, map, Option, Some, refl, inl, ap, sym, ◌∙◌, subst, arith, drop-cons, add-one}
 use Rattle.std.specs.Prelude.{Ok, Err, Vec, slice_get, Result, false, if◌then◌else◌}
 use Rattle.std.specs.Result.{is_ok, is_err}
 use Rattle.std.specs.declared.alloc.Global.{Global}

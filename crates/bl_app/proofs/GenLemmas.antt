@@ -1,5 +1,5 @@
 -- The job of `gen` keeps the laws; what is said where it is done.
-use Rattle.std.proofs.Common.{◌≡◌, ℕ, List, Option, Some, None, refl, ap, sym, ◌∙◌, subst, map}
+use Rattle.std.proofs.Common.{◌≡◌, Option, Some, ap, sym, ◌∙◌, subst, map}
 use Rattle.bl_cmd.specs.Rules.{IsWellFormed}
 use Rattle.bl_image.specs.Image.{Image}
 use Rattle.bl_lower.proofs.WellFormed.{rules}

@@ -20,7 +20,7 @@ use Rattle.bl_witness.specs.Texts.{certificate_text}
 use Rattle.bl_app.specs.Building.{Built, Makes, compiling, compiling_job}
 use Rattle.bl_app.specs.Causes.{IsDone}
 use Rattle.bl_app.specs.Commands.{job_of}
-use Rattle.bl_app.specs.Hardening.{HardenPlans, Hardened, Hardens, IsHardened, harden_job}
+use Rattle.bl_app.specs.Hardening.{HardenPlans, Hardens, harden_job}
 use Rattle.bl_app.specs.Jobs.{AreRead, FileIs, IsLawful, Job, Plan}
 use Rattle.bl_app.specs.Loading.{Part, parts_of}
 use Rattle.bl_app.specs.Lowering.{Lowers, lower_job, lower_plan}

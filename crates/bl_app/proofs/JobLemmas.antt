@@ -1,5 +1,5 @@
 -- The files of a job: what is read in order, and that at most one error is the first.
-use Rattle.std.proofs.Common.{◌≡◌, ℕ, ◌<◌, ◌≤◌, List, [], ◌∷◌, ◌++◌, length, Option, Some, None, refl, inl, inr, ap, sym, ◌∙◌, subst, arith}
+use Rattle.std.proofs.Common.{◌≡◌, ℕ, List, [], ◌∷◌, ◌++◌, length, Option, Some, None, refl, inl, inr, ap, sym, ◌∙◌, subst, arith}
 use Rattle.std.specs.FinMap as fin
 use Rattle.bl_outside.specs.Shelf.{Files}
 use Rattle.bl_app.specs.Jobs.{AreRead, At, FirstRefusal, IsLawful, IsRead, IsTooLong, Job, Plan, Read, RefusesLength, against, too_long}

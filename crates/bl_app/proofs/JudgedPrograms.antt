@@ -1,5 +1,5 @@
 -- What the verdict on constant time says of a hardened program.
-use Rattle.std.proofs.Common.{◌≡◌, refl, sym, subst}
+use Rattle.std.proofs.Common.{◌≡◌, sym, subst}
 use Rattle.bl_cmd.specs.Programs.{IsProgram}
 use Rattle.bl_cmd.specs.Rules.{IsWellFormed}
 use Rattle.bl_cmd.specs.declared.definitions.ProgramParts.{ProgramParts as Program}
@@ -9,7 +9,6 @@ use Rattle.bl_ct.specs.declared.verdict.CtVerdict.TheVariants.{Yes, No}
 use Rattle.bl_graph.specs.Labels.{ConstantTime}
 use Rattle.bl_graph.specs.SecretChains.{IsSecretChain}
 use Rattle.bl_graph.specs.declared.secret.SecretChain.{SecretChain}
-use Rattle.bl_cut.specs.Marks.{protected}
 use Rattle.bl_cut.proofs.Marked.{is_program}
 use Rattle.bl_sct.proofs.Whole.{equal}
 use Rattle.bl_app.specs.Hardening.{Hardened, IsHardened, IsJudged, IsYes}

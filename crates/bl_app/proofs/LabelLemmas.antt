@@ -1,34 +1,28 @@
 -- A module has labels, or one fault of them: its section spells one list of entries.
-use Rattle.std.proofs.Common.{◌≡◌, ℕ, ◌⊎◌, inl, inr, List, [], ◌∷◌, ◌++◌, append-nil, Option, Some, None, refl, ap, sym, ◌∙◌, subst}
+use Rattle.std.proofs.Common.{◌≡◌, ℕ, inl, inr, List, [], ◌∷◌, Some, refl, ap, sym, ◌∙◌}
 use Rattle.std.specs.Prelude.{Result, Ok, Err}
-use Rattle.bl_wasm.specs.Values.{byte, vec}
 use Rattle.bl_wasm.specs.declared.module.Module.{Module}
 use Rattle.bl_code.proofs.Unique.{byte_same, seq_same, vec_one}
-use Rattle.bl_labels.specs.Entries.{entry, section}
 use Rattle.bl_labels.specs.EntryLaws.{entry_one}
 use Rattle.bl_labels.specs.Faults.{judged, sections_of}
-use Rattle.bl_labels.specs.Marked.{unlabelled}
 use Rattle.bl_labels.specs.Telling.{Answers, InSection, Tells}
-use Rattle.bl_labels.specs.declared.entry.Entry.{Entry}
 use Rattle.bl_labels.specs.declared.error.LabelError.{LabelError}
 use Rattle.bl_labels.specs.declared.error.LabelError.TheVariants as label
 use Rattle.bl_labels.specs.declared.labels.Labels.{Labels}
 use Rattle.bl_app.specs.Loading.{AreTold, fault_of}
 use Rattle.bl_app.specs.declared.refusal.LabelFault.{LabelFault}
 
--- one list of entries is spelled
-one_section : (bytes : List ℕ) (these those : List Entry) → section these bytes → section those bytes → these ≡ those
-one_section bytes these those s t =
-    ((seq_same (byte_same s.version t.version) (λ e. (vec_one entry_one).same these those)).both bytes bytes [] [] s.spelled t.spelled refl).1
-
 -- an answer that isn't want of memory
 abbrev IsTold : Result Labels LabelError → Type 0
-IsTold (Ok labels) = ⊤
+IsTold (Ok labels) = Unit {0}
 IsTold (Err label.Memory) = ⊥
-IsTold (Err error) = ⊤
+IsTold (Err error) = Unit {0}
 
+-- one list of entries is spelled, so there is one answer
 one_answer : (tree : Module) (bytes : List ℕ) (a b : Result Labels LabelError) → Answers tree bytes a → Answers tree bytes b → a ≡ b
-one_answer tree bytes a b (inl h) (inl k) = h.2 ∙ ap (judged tree) (one_section bytes h.0 k.0 h.1 k.1) ∙ sym k.2
+one_answer tree bytes a b (inl h) (inl k) =
+    let same = (seq_same (byte_same h.1.version k.1.version) (λ e. (vec_one entry_one).same h.0 k.0)).both bytes bytes [] [] h.1.spelled k.1.spelled refl in
+    h.2 ∙ ap (judged tree) same.1 ∙ sym k.2
 one_answer tree bytes a b (inl h) (inr k) = absurd (k.1 h.0 h.1)
 one_answer tree bytes a b (inr h) (inl k) = absurd (h.1 k.0 k.1)
 one_answer tree bytes a b (inr h) (inr k) = h.0 ∙ sym k.0

@@ -1,14 +1,13 @@
 -- Modules that are loaded can be linked: as parts they are within the limits, and their names are apart.
-use Rattle.std.proofs.Common.{◌≡◌, ℕ, zero, suc, ◌-◌, ◌≤◌, ◌<◌, Bool, true, false, cond, not, nat_eq, List, [], ◌∷◌, length, map, take, drop, get_or, Option, Some, None, slice_get, refl, ap, sym, ◌∙◌, subst, arith}
+use Rattle.std.proofs.Common.{◌≡◌, ℕ, suc, ◌≤◌, List, [], ◌∷◌, length, map, None, refl, ap, sym, ◌∙◌, subst, arith}
 use Rattle.std.specs.List.{All, AllZip}
 use Rattle.std.specs.Str.{IsUtf8}
-use Rattle.std.proofs.lemmas.List.Elements.{All-cons, All-head, All-nil, All-tail, All-take}
+use Rattle.std.proofs.lemmas.List.Elements.{All-cons, All-head, All-nil, All-tail}
 use Rattle.bl_base.proofs.Lists.{zip_get}
 use Rattle.bl_base.specs.Quantity.{limit_of}
 use Rattle.bl_base.specs.declared.quantity.Quantity.TheVariants as quantity
 use Rattle.bl_labels.specs.Faults.{IsConsistent}
-use Rattle.bl_labels.specs.Marked.{unlabelled}
-use Rattle.bl_link.specs.Linkable.{AreParts, IsName, IsPart}
+use Rattle.bl_link.specs.Linkable.{AreParts, IsPart}
 use Rattle.bl_link.specs.Links.{part_of}
 use Rattle.bl_link.specs.declared.part.Part.{Part as LinkPart}
 use Rattle.bl_link.proofs.SpelledParts.{part_from}
@@ -54,7 +53,20 @@ is_part : (one : Labelled) (word : List ℕ) → HasText one → IsSane one → 
 is_part one word text sane h =
     let bare = part_from one.name h.bytes one.tree (record { text = text; solidus = subst (All (λ byte. byte ≡ 0x2F → ⊥)) (sym h.same_name) (no_solidus word) }) h.accepted.spelled
     (let short = h.short in omega (arith, short)) h.accepted.within in
-    record bare { labels = sane }
+    record {
+      name = bare.name;
+      functions = bare.functions;
+      results = bare.results;
+      locals = bare.locals;
+      memories = bare.memories;
+      globals = bare.globals;
+      types = bare.types;
+      imports = bare.imports;
+      import_modules = bare.import_modules;
+      import_names = bare.import_names;
+      export_names = bare.export_names;
+      labels = sane;
+    }
 
 each_part : (all : List Labelled) (words : List (List ℕ)) → All HasText all → All IsSane all → AllZip IsOf all words → All IsPart (linked_parts all)
 each_part [] words text sane h = All-nil IsPart

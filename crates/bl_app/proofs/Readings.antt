@@ -28,7 +28,6 @@ use Rattle.bl_app.specs.Working.{IsLinkingError, IsStaged, decoding_error, label
 use Rattle.bl_app.specs.declared.load.Ready.{Ready}
 use Rattle.bl_app.specs.declared.refusal.LabelFault.TheVariants as fault
 use Rattle.bl_app.specs.declared.refusal.WorkError.{WorkError}
-use Rattle.bl_app.specs.declared.refusal.WorkError.TheVariants as error
 use Rattle.bl_app.proofs.StageLemmas.{Goes, goes_refused}
 
 module _ {X : Type 0} (value : X → List Named) (name : Bor (List ℕ)) where

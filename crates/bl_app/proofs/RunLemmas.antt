@@ -134,7 +134,7 @@ deed_of_run (Some (trapped kind memories)) = refl
 deed_of_run None = refl
 
 -- contents are those of one image and one start file
-same_two : (a b c d : List ℕ) → a ∷ b ∷ [] ≡ c ∷ d ∷ [] → (a ≡ c) × (b ≡ d)
+pub same_two : (a b c d : List ℕ) → a ∷ b ∷ [] ≡ c ∷ d ∷ [] → (a ≡ c) × (b ≡ d)
 same_two a b c d e = (cc, cc)
 
 module _ (request : RunRequest) where

@@ -1,5 +1,5 @@
 -- Protects don't show in a run of an image.
-use Rattle.std.proofs.Common.{◌≡◌, ℕ, List, [], ◌∷◌, map, Bool, Option, Some, None, slice_get, refl, sym, ap, ◌∙◌, subst}
+use Rattle.std.proofs.Common.{◌≡◌, ℕ, List, [], ◌∷◌, map, Option, Some, None, slice_get, refl, sym, ap, ◌∙◌, subst}
 use Rattle.std.specs.Prelude.{◌↔◌}
 use Rattle.std.specs.List.{fold}
 use Rattle.bl_base.specs.Bytes.{patched}
@@ -14,8 +14,8 @@ use Rattle.bl_image.proofs.Prefixes.{one_program}
 use Rattle.bl_trace.specs.Answers.{answer_of}
 use Rattle.bl_cut.specs.Marks.{protected}
 use Rattle.bl_cut.proofs.Marking.{run_back, run_same}
-use Rattle.bl_app.specs.Entering.{Entered, IsImaged, entering, function_named, kinds_of, pages_of}
-use Rattle.bl_app.specs.Executing.{HasPlainOutcome, RunDoes, plain_text}
+use Rattle.bl_app.specs.Entering.{Entered, IsImaged, function_named, kinds_of, pages_of}
+use Rattle.bl_app.specs.Executing.{RunDoes, plain_text}
 use Rattle.bl_app.specs.Hardening.{Hardened, IsHardened}
 use Rattle.bl_app.specs.Jobs.{Plan, saying}
 use Rattle.bl_app.specs.Outcomes.{outcome_status, outcome_text}

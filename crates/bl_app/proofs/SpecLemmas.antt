@@ -1,16 +1,14 @@
 -- Directives and a start are one; the job of `spec` keeps the laws; what is said where it is done.
 use Rattle.std.proofs.Common.{◌≡◌, ℕ, ◌<◌, ◌≤◌, List, [], ◌∷◌, Option, Some, None, refl, ap, sym, ◌∙◌, subst, map, option_map, arith}
-use Rattle.std.specs.Prelude.{Ok, Err, Result, slice_get}
+use Rattle.std.specs.Prelude.{Ok, Err, slice_get}
 use Rattle.bl_base.specs.Runs.{EndsAfter, Outcome}
 use Rattle.bl_base.specs.Fits.{Fits}
 use Rattle.bl_cmd.specs.Outcomes.{IsStart, opening, plain}
 use Rattle.bl_cmd.specs.Steps.{plain_step}
 use Rattle.bl_rob.specs.Machines.{end_in, outcome_by}
 use Rattle.bl_rob.specs.Observed.{IsConsistent_by}
-use Rattle.bl_rob.specs.declared.directive.Directive.{Directive}
 use Rattle.bl_rob.specs.declared.directive.End.{End}
 use Rattle.bl_rob.proofs.Keeps.{consistent}
-use Rattle.bl_trace.specs.Traces.{trace_of}
 use Rattle.bl_trace.proofs.Fitting.{answered_fits}
 use Rattle.bl_app.specs.Causes.{IsDone}
 use Rattle.bl_app.specs.Commands.{job_of}

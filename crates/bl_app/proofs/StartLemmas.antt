@@ -1,5 +1,5 @@
 -- Exported functions exist; what a start file that is refused says; what was run.
-use Rattle.std.proofs.Common.{◌≡◌, ℕ, ◌<◌, Bool, true, false, cond, List, [], ◌∷◌, Option, Some, None, refl, sym, ap, ◌∙◌, subst}
+use Rattle.std.proofs.Common.{◌≡◌, ℕ, ◌<◌, Bool, true, false, cond, List, [], ◌∷◌, Option, Some, None, refl, sym, subst}
 use Rattle.std.specs.Prelude.{Result, Ok, Err, slice_get, option_and_then}
 use Rattle.std.specs.List.{All}
 use Rattle.std.specs.Str.{bytes_eq}

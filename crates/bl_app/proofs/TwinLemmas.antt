@@ -1,5 +1,5 @@
 -- The job of `twin` keeps the laws; what is said where it is done.
-use Rattle.std.proofs.Common.{◌≡◌, ℕ, ◌≤◌, List, [], ◌∷◌, Option, Some, None, refl, ap, sym, ◌∙◌, subst, map, arith}
+use Rattle.std.proofs.Common.{◌≡◌, ℕ, List, [], ◌∷◌, Option, Some, refl, ap, sym, ◌∙◌, subst, map, arith}
 use Rattle.std.specs.Prelude.{Bool, IsTrue, ◌↔◌}
 use Rattle.bl_rob.specs.Observed.{HasEqualObservations}
 use Rattle.bl_twin.specs.Comparing.{Tells}
@@ -114,7 +114,7 @@ module _ (request : TwinRequest) where
   compared_so : (old new : World) (status : Status) (contents : List (List ℕ)) (plan : Plan) → AreRead old.files (twin_job request).reads contents → TwinDoes request contents plan
       → status ≡ plan.status → new.files ≡ with_files old.files plan.keeps → new.sink.taken ≡ took old.sink.taken plan.text → Twins request old new status
   compared_so old new status contents plan read h meant kept printed =
-      let says = meant ∙ ap (λ p. p.status) h.is_plan in
+      let stands = meant ∙ ap (λ p. p.status) h.is_plan in
       record {
         image = h.image;
         trace = h.trace;
@@ -125,9 +125,9 @@ module _ (request : TwinRequest) where
         prepared = h.prepared;
         agree = h.agree;
         agrees = h.agrees;
-        meant = says;
+        meant = stands;
         tells = they_tell h.twinned;
-        safe = λ equal says no. safe_alike h.twinned h.agree h.agrees equal says (no_differs (comparison_of h.twinned) (sym says ∙ no));
+        safe = λ equal says no. safe_alike h.twinned h.agree h.agrees equal says (no_differs (comparison_of h.twinned) (sym stands ∙ no));
         printed = printed ∙ ap (λ p. took old.sink.taken p.text) h.is_plan;
         unchanged = kept ∙ ap (λ p. with_files old.files p.keeps) h.is_plan;
       }

@@ -7,8 +7,8 @@ use Rattle.bl_base.specs.declared.start.Start.{Start}
 use Rattle.bl_cmd.specs.declared.definitions.ProgramParts.{ProgramParts as Program}
 use Rattle.bl_rob.specs.declared.directive.Directive.{Directive}
 use Rattle.bl_words.specs.Requests.{TwinRequest}
-use Rattle.bl_app.specs.Entering.{Entered, Entry, Finds, IsImaged, Starts, function_named, imaging, starting}
-use Rattle.bl_app.specs.Speculating.{Speculated, Traced, speculating}
+use Rattle.bl_app.specs.Entering.{Entry, Finds, IsImaged, Starts, function_named, imaging, starting}
+use Rattle.bl_app.specs.Speculating.{Traced, speculating}
 use Rattle.bl_app.specs.Stages.{at_first, at_second}
 use Rattle.bl_app.specs.Twinning.{twin_job}
 use Rattle.bl_app.specs.Working.{IsStaged, IsTraced, IsTwinTold, IsWork, entered_in, speculated_in, twinned_in}
@@ -27,7 +27,6 @@ four_contents (x ∷ y ∷ z ∷ w ∷ []) first second third fourth low high a 
 four_contents (x ∷ y ∷ z ∷ w ∷ v ∷ contents) first second third fourth low high a b c d = absurd (omega (arith, high))
 
 module _ (request : TwinRequest) (image trace start other : List ℕ) where
-
   -- an image that is refused
   pub image_refused : (e : WorkError) → IsStaged imaging (λ (p : Program). p) image (Err e) → IsWork (twin_job request) (image ∷ trace ∷ start ∷ other ∷ []) (Err e)
   image_refused (error.Refused refusal) r = record { image = image; trace = trace; start = start; other = other; are = refl; refuses = at_first (at_first r) }

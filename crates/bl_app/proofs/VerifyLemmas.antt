@@ -1,7 +1,5 @@
 -- The job of `verify` keeps the laws; what is said where it is done.
 use Rattle.std.proofs.Common.{◌≡◌, ℕ, List, [], ◌∷◌, Option, Some, None, refl, ap, sym, ◌∙◌, subst, map}
-use Rattle.std.specs.Prelude.{Ok, Err}
-use Rattle.serde_json.specs.Data.{Data}
 use Rattle.bl_base.proofs.Lists.{some_same}
 use Rattle.bl_cmd.specs.Programs.{IsProgram}
 use Rattle.bl_cmd.specs.Rules.{IsWellFormed}
@@ -11,7 +9,6 @@ use Rattle.bl_graph.specs.Certificates.{Certifies}
 use Rattle.bl_graph.specs.declared.certificate.Certificate.{Certificate}
 use Rattle.bl_graph.proofs.Chaining.{none_lighter}
 use Rattle.bl_graph.proofs.Ranging.{in_range}
-use Rattle.bl_image.specs.Image.{Image}
 use Rattle.bl_sct.specs.Verdicts.{IsStable}
 use Rattle.bl_sct.proofs.Assessing.{hot, opposite}
 use Rattle.bl_sct.proofs.Whole.{equal}
@@ -19,7 +16,7 @@ use Rattle.bl_transient.proofs.Meeting.{chain_met}
 use Rattle.bl_transient.specs.Verdicts.{Judges, typing_of}
 use Rattle.bl_transient.specs.declared.transient.FlowVerdict.{FlowVerdict}
 use Rattle.bl_transient.specs.declared.transient.FlowVerdict.TheVariants as flow
-use Rattle.bl_witness.specs.Shapes.{IsJson, certificate_of}
+use Rattle.bl_witness.specs.Shapes.{certificate_of}
 use Rattle.bl_witness.specs.Verdicts.{AreLightest, Checks}
 use Rattle.bl_witness.specs.declared.verdict.CertVerdict.{CertVerdict}
 use Rattle.bl_witness.specs.declared.verdict.CertVerdict.TheVariants as rules
@@ -42,14 +39,11 @@ use Rattle.bl_app.proofs.StageLemmas.{chain_lawful}
 -- ---- certificates
 
 module _ (bytes : List ℕ) where
-  one_data : (d e : Data) → IsJson bytes d → IsJson bytes e → d ≡ e
-  one_data d e x y = some_same d e (sym x.value ∙ y.value)
-
   one_read : (program : Program) (a b : Certified) → IsRead bytes program a → IsRead bytes program b → a ≡ b
   one_read program a b p q =
       let programs = p.same_program ∙ sym q.same_program in
-      let values = one_data p.read.0 q.read.0 p.read.1 q.read.1 in
-      let certificates = some_same a.certificate b.certificate (sym p.read.2 ∙ ap certificate_of data ∙ q.read.2) in
+      let values = some_same p.read.0 q.read.0 (sym p.read.1.value ∙ q.read.1.value) in
+      let certificates = some_same a.certificate b.certificate (sym p.read.2 ∙ ap certificate_of values ∙ q.read.2) in
       λ i. record { program = programs i; certificate = certificates i }
 
   reading_refusal : (a b : Refusal) → ReadingRefuses bytes a → ReadingRefuses bytes b → a ≡ b
@@ -61,7 +55,7 @@ module _ (bytes : List ℕ) where
   reading_not_both : (program : Program) (a : Certified) (r : Refusal) → IsRead bytes program a → ReadingRefuses bytes r → ⊥
   reading_not_both program a r p (is_not_json none e) = none p.read.0 p.read.1
   reading_not_both program a r p (is_other_shape there e) =
-      let clash : None ≡ Some a.certificate = sym there.2 ∙ ap certificate_of (one_data there.0 p.read.0 there.1 p.read.1) ∙ p.read.2 in cc
+      let clash : None ≡ Some a.certificate = sym there.2 ∙ ap certificate_of (some_same there.0 p.read.0 (sym there.1.value ∙ p.read.1.value)) ∙ p.read.2 in cc
 
   certifying_lawful : IsLawfulStage (certifying bytes)
   certifying_lawful = record { one_result = one_read; one_refusal = λ program. reading_refusal; not_both = reading_not_both }

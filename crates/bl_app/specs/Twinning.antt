@@ -2,7 +2,6 @@
 use Rattle.std.specs.Prelude.{◌≡◌, ◌↔◌, ℕ, Bool, IsTrue, List, [], ◌∷◌}
 use Rattle.bl_base.specs.declared.start.Start.{Start}
 use Rattle.bl_cmd.specs.Outcomes.{Agree}
-use Rattle.bl_cmd.specs.declared.definitions.ProgramParts.{ProgramParts as Program}
 use Rattle.bl_rob.specs.Observed.{HasEqualObservations, Observed, observed}
 use Rattle.bl_twin.specs.Comparing.{Tells, comparison, twin_text}
 use Rattle.bl_twin.specs.declared.comparison.Comparison.{Comparison}

@@ -18,8 +18,8 @@ use crate::run::{execute, run_reads};
 use crate::spec::{spec_reads, speculate};
 use crate::twin::{twin, twin_reads};
 use crate::verify::{verify, verify_reads};
-use bl_words::Request;
 use bl_base::NoMemory;
+use bl_words::Request;
 use std::alloc::Global;
 
 /// The modules that a request reads, by their words; of an image there are none.

@@ -15,7 +15,6 @@ use crate::job::{Keep, Plan, Read};
 use crate::module::read_modules;
 use crate::refusal::WorkError;
 use crate::status::Status;
-use bl_words::HardenWords;
 use bl_base::NoMemory;
 use bl_cmd::WellFormed;
 use bl_ct::{CtVerdict, constant_time};
@@ -24,6 +23,7 @@ use bl_graph::{Certificate, graph};
 use bl_image::encode;
 use bl_report::report;
 use bl_witness::to_json;
+use bl_words::HardenWords;
 use std::alloc::Global;
 
 /// A program with its protects.

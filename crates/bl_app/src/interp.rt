@@ -17,11 +17,11 @@ use crate::module::read_modules;
 use crate::outcome::{outcome_status, outcome_text};
 use crate::refusal::{Refusal, WorkError};
 use crate::start::of_start;
-use bl_words::InterpWords;
 use bl_base::{NoMemory, Quantity, Start};
 use bl_machine::{first_memories, interp};
 use bl_trace::read_start;
 use bl_wasm::{Linked, Signature, Tree};
+use bl_words::InterpWords;
 use std::alloc::Global;
 
 /// A function that was found, its type, and the start of it.

@@ -16,13 +16,13 @@ ghost use Rattle.bl_app.specs.Stages.{each};
 ghost use Rattle.bl_app.specs.Working.{IsLinkingError, IsStaged, checked_in, contents_in, decoding_error, labels_error, ready_in, spelled_in, validation_error};
 
 use crate::refusal::{LabelFault, Refusal, WorkError};
-use bl_words::module_name;
 use bl_base::{List, NoMemory, Text};
 use bl_decode::{DecodeError, decode};
 use bl_labels::{LabelError, Labels, labels_of};
 use bl_link::{LinkError, Part, link};
 use bl_validate::{Invalid, ValidModule, validate};
 use bl_wasm::{Linked, Module};
+use bl_words::module_name;
 use std::alloc::Global;
 
 /// A module that was decoded, under its name.
@@ -148,10 +148,7 @@ fn of_validation(name: &str, reason: Invalid) -> WorkError<'_>
 }
 
 /// The modules with their labels, where these break no rule.
-fn label_all<'a>(
-    alloc: Global,
-    checked: Vec<Checked<'a>>,
-) -> Result<Vec<Ready<'a>>, WorkError<'a>>
+fn label_all<'a>(alloc: Global, checked: Vec<Checked<'a>>) -> Result<Vec<Ready<'a>>, WorkError<'a>>
     ensures staged { IsStaged (each labelling) (λ all. map ready_in all.items) (map checked_in checked.entry.items) result }
     ensures consistent { IfOk result (λ all. All (λ one. IsConsistent one.labels) all.items) }
 {

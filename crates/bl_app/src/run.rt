@@ -10,10 +10,10 @@ use crate::entry::{Entry, find_entry, read_entry_start, read_image};
 use crate::job::{Plan, Read};
 use crate::outcome::{outcome_status, outcome_text};
 use crate::refusal::{Refusal, WorkError};
-use bl_words::RunWords;
 use bl_base::{NoMemory, Quantity, Start};
 use bl_cmd::WellFormed;
 use bl_seq::{first_memories, run};
+use bl_words::RunWords;
 use std::alloc::Global;
 
 /// The files that `run` reads: the image, and then the start file.

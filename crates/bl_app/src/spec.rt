@@ -18,12 +18,12 @@ use crate::job::{Plan, Read};
 use crate::outcome::outcome_text;
 use crate::refusal::{Refusal, WorkError};
 use crate::status::Status;
-use bl_words::SpecWords;
 use bl_base::{List, NoMemory, Quantity, Run, Start};
 use bl_cmd::WellFormed;
 use bl_rob::{Directive, Observation, Rob};
 use bl_seq::first_memories;
 use bl_trace::{TraceError, count_lines, print_observation, read_trace};
+use bl_words::SpecWords;
 use std::alloc::Global;
 
 /// The files that `spec` reads: the image, then the trace file, and then the start file.

@@ -24,9 +24,9 @@ use crate::fetch::fetch_all;
 use crate::output::{refuse, say_line};
 use crate::refusal::{Refusal, WorkError};
 use crate::status::Status;
-use bl_words::{Request, read_words};
 use bl_base::{NoMemory, Quantity};
 use bl_outside::{Shelf, Sink};
+use bl_words::{Request, read_words};
 use std::alloc::Global;
 
 /// Runs the program on its words, the program's own name first, and answers its exit status: 0 done,

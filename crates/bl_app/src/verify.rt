@@ -179,7 +179,10 @@ fn stable_line(alloc: Global, flow: &FlowVerdict) -> Result<Vec<u8>, NoMemory>
 {
     match flow {
         FlowVerdict::Yes(_) => Ok(b"stable yes\n".to_vec(alloc)?),
-        FlowVerdict::No(position) => Ok(format!(in alloc; "stable no {}\n", position.0)?.into_bytes()),
+        FlowVerdict::No(position) => Ok(format!(in alloc;
+            "stable no {}\n",
+            position.0
+        )?.into_bytes()),
     }
 }
 

@@ -1,4 +1,3 @@
-use Rattle.bl_app.specs.Loading.{parts_of}
 use Rattle.bl_app.proofs.BuildLemmas.{linked_builds, not_loaded}
 use Rattle.bl_app.proofs.build.compile.Goals as goal
 

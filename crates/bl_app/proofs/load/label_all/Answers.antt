@@ -1,5 +1,5 @@
-use Rattle.std.proofs.Common.{◌≡◌, List, [], ap, arith, map, subst, sym}
-use Rattle.std.specs.Prelude.{Err, Vec}
+use Rattle.std.proofs.Common.{◌≡◌, [], ap, arith, map, subst, sym}
+use Rattle.std.specs.Prelude.{Err, Ok, Vec}
 use Rattle.std.specs.declared.alloc.Global.{Global}
 use Rattle.std.proofs.lemmas.Grind.{common_steps}
 use Rattle.std.specs.List.{All}
@@ -23,14 +23,16 @@ loop-one-preserved c =
     let grown = c.in_ok-push-in-Ok.ensures.items in
     record {
       goes = next_labelled (map checked_in c.args.checked.items) (into_iter_items c.loop-one.rest) (into_iter_items c.next.new.self) c.loop-one.all.items c.in-Some.one
-          c.in-Some.ensures.cases.0 c.loop-one.invariant.goes c.in-Ok.labels c.push.new.self.items grown ?;
+          c.in-Some.ensures.cases.0 c.loop-one.invariant.goes c.in-Ok.labels c.push.new.self.items grown
+          (subst (λ (tree : Module). AreTold tree (Ok c.in-Ok.labels)) c.module.ensures.same c.in-Ok.ensures.told);
       sane = subst (All IsSane) (sym grown) (All-push IsSane c.loop-one.all.items value c.loop-one.invariant.sane c.in-Ok.ensures.consistent);
     }
 
 pub returns-in-Err : goal.returns-in-Err
 returns-in-Err c = record {
   staged = not_labelled (map checked_in c.args.checked.items) (into_iter_items c.loop-one.rest) (into_iter_items c.next.new.self) c.loop-one.all.items c.in-Some.one
-      c.in-Some.ensures.cases.0 c.loop-one.invariant.goes (λ (all : Vec Ready Global). map ready_in all.items) c.in-Err.error c.of_labels.result c.of_labels.ensures ?;
+      c.in-Some.ensures.cases.0 c.loop-one.invariant.goes (λ (all : Vec Ready Global). map ready_in all.items) c.in-Err.error c.of_labels.result c.of_labels.ensures
+      (subst (λ (tree : Module). AreTold tree (Err c.in-Err.error)) c.module.ensures.same c.in-Err.ensures.told);
   consistent = tt;
 }
 

@@ -45,8 +45,8 @@ returns-in-Ok-label_all c =
     (then_staged (each validation) labelled itself spelled checked c.link_all.result c.in-Ok-validate_all.ensures
     (then_staged (each labelling) linking itself checked ready c.link_all.result c.in-Ok-label_all.ensures.staged c.link_all.ensures))
 
-pub returns : goal.returns
-returns c =
+pub returns-in-Err-label_all : goal.returns-in-Err-label_all
+returns-in-Err-label_all c =
     let labelled = chain (each labelling) linking in
     let spelled = map spelled_in c.in-Ok.spelled.items in
     let checked = map checked_in c.in-Ok-validate_all.checked.items in

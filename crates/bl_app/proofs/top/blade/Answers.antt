@@ -41,18 +41,18 @@ pub returns-clause-twins : goal.returns-clause-twins
 returns-clause-twins g c = λ request asks. record {
   status = c.run.result;
   is_code = c.code.ensures;
-  holds = λ deed. twins _ request _ _ c.run.result asks (was_done job_of laws_of _ _ _ _ c.run.ensures deed);
+  holds = λ deed. twins request _ _ _ c.run.result asks (was_done job_of laws_of _ _ _ _ c.run.ensures deed);
 }
 
 pub returns-clause-verifies : goal.returns-clause-verifies
 returns-clause-verifies g c = λ request asks. record {
   status = c.run.result;
   is_code = c.code.ensures;
-  holds = λ deed. verifies _ request _ _ c.run.result asks (was_done job_of laws_of _ _ _ _ c.run.ensures deed);
+  holds = λ deed. verifies request _ _ _ c.run.result asks (was_done job_of laws_of _ _ _ _ c.run.ensures deed);
 }
 
 pub returns-clause-generates : goal.returns-clause-generates
-returns-clause-generates g c = λ request asks zero. generates _ request _ _ c.run.result asks (was_done job_of laws_of _ _ _ _ c.run.ensures (done_by_zero c.run.result (sym c.code.ensures ∙ zero)))
+returns-clause-generates g c = λ request asks zero. generates request _ _ _ c.run.result asks (was_done job_of laws_of _ _ _ _ c.run.ensures (done_by_zero c.run.result (sym c.code.ensures ∙ zero)))
 
 pub returns-clause-speculates : goal.returns-clause-speculates
 returns-clause-speculates g c = λ request asks. record {

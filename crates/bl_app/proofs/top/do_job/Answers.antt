@@ -8,8 +8,8 @@ use Rattle.bl_app.proofs.CarryLemmas.{against_ends, contents_fit, done_ends, unf
 use Rattle.bl_app.proofs.CountLemmas.{against_with, does_with, reads_with}
 use Rattle.bl_app.proofs.top.do_job.Goals as goal
 
-pub work-requires : goal.work-requires
-work-requires g c =
+pub work-requires-clause-read : goal.work-requires-clause-read
+work-requires-clause-read g c =
     let same = ap (map read_in) c.as_slice.ensures.value ∙ c.in-Ok.ensures in
     let fit = contents_fit (work_of (request_in c.args.request.now)) _ _ _ same c.in-Ok-fetch_all.ensures.1 in
     subst (λ contents. AreRead None (work_of (request_in c.args.request.now)).reads (contents_in contents)) (sym c.as_slice-2.ensures.value) fit

@@ -1,4 +1,5 @@
-use Rattle.std.proofs.Common.{subst}
+use Rattle.std.proofs.Common.{List, subst}
+use Rattle.bl_rob.specs.declared.directive.Directive.{Directive}
 use Rattle.bl_words.specs.Words.{twin_in}
 use Rattle.bl_app.specs.Working.{IsTwinTold, entry_in, speculated_in, twinned_in}
 use Rattle.bl_app.proofs.TwinWork.{image_refused, not_exported, other_refused, start_refused, trace_refused, was_compared}
@@ -23,7 +24,17 @@ returns-in-Err-read_entry_start c =
     c.in-Err-read_entry_start.error c.in-Err-read_entry_start.ensures.staged
 
 pub returns-in-Err-read_entry_start-2 : goal.returns-in-Err-read_entry_start-2
-returns-in-Err-read_entry_start-2 c = ?
+returns-in-Err-read_entry_start-2 c =
+    other_refused (twin_in c.args.words.now) c.args.image.now c.args.trace.now c.args.start.now c.args.other.now c.in-Ok.program c.in-Ok.ensures
+    (entry_in c.in-Ok.program c.in-Some.entry) c.in-Some.ensures c.in-Ok-read_directives.directives c.in-Ok-read_directives.ensures
+    c.in-Ok-read_entry_start.start c.in-Ok-read_entry_start.ensures.staged c.in-Err-read_entry_start-2.error c.in-Err-read_entry_start-2.ensures.staged
 
 pub returns-in-Ok-compare_runs : goal.returns-in-Ok-compare_runs
-returns-in-Ok-compare_runs c = ?
+returns-in-Ok-compare_runs c =
+    let entry = entry_in c.in-Ok.program c.in-Some.entry in
+    let start = c.in-Ok-read_entry_start.start in
+    let other = c.in-Ok-read_entry_start-2.other in
+    was_compared (twin_in c.args.words.now) c.args.image.now c.args.trace.now c.args.start.now c.args.other.now c.in-Ok.program c.in-Ok.ensures entry c.in-Some.ensures
+    c.in-Ok-read_directives.directives c.in-Ok-read_directives.ensures start c.in-Ok-read_entry_start.ensures.staged other c.in-Ok-compare_runs.plan
+    c.in-Ok-read_entry_start-2.ensures.staged
+    (subst (λ (directives : List Directive). IsTwinTold (twinned_in (speculated_in entry start directives) other) c.in-Ok-compare_runs.plan) c.as_slice.ensures c.in-Ok-compare_runs.ensures)
