@@ -2,6 +2,7 @@
 use Rattle.std.specs.Prelude.{◌≡◌, ℕ, List, [], ◌∷◌, ◌++◌, length, codes}
 use Rattle.std.specs.Fmt.{decimal}
 use Rattle.bl_gen.specs.Made.{made}
+use Rattle.bl_outcome.specs.Lines.{line}
 use Rattle.bl_report.specs.Reports.{summary_text}
 use Rattle.bl_words.specs.Requests.{GenRequest}
 use Rattle.bl_app.specs.Building.{Built, compiling}
@@ -9,7 +10,6 @@ use Rattle.bl_app.specs.Hardening.{AreFewest, Hardened, IsHardened, IsJudged}
 use Rattle.bl_app.specs.Jobs.{Job, Plan, saying}
 use Rattle.bl_app.specs.Loading.{Part}
 use Rattle.bl_app.specs.Refusals.{Refusal}
-use Rattle.bl_app.specs.Texts.{line}
 use Rattle.bl_app.specs.Worlds.{World, took}
 use Rattle.bl_app.specs.declared.status.Status.TheVariants.{Done}
 

@@ -3,9 +3,10 @@ use Rattle.std.specs.Prelude.{◌≡◌, ℕ, List, [], ◌∷◌, map, Option}
 use Rattle.bl_base.specs.Runs.{IsWithin, Outcome}
 use Rattle.bl_base.specs.declared.quantity.Quantity.TheVariants as quantity
 use Rattle.bl_reduce.specs.Outcomes.{first_store, source}
+use Rattle.bl_outcome.specs.Outcomes.{outcome_text}
 use Rattle.bl_app.specs.Jobs.{AreRead, Job, Plan, Read, saying}
 use Rattle.bl_app.specs.Loading.{Part, loading, module_read, parts_of}
-use Rattle.bl_app.specs.Outcomes.{outcome_status, outcome_text}
+use Rattle.bl_app.specs.Outcomes.{outcome_status}
 use Rattle.bl_app.specs.Refusals.{Refusal}
 use Rattle.bl_words.specs.Requests.{InterpRequest}
 use Rattle.bl_app.specs.Running.{Opened, opening}

@@ -13,6 +13,7 @@ use Rattle.bl_rob.specs.declared.directive.Directive.{Directive}
 use Rattle.bl_trace.specs.Lines.{lines_of}
 use Rattle.bl_trace.specs.Observations.{observation_text}
 use Rattle.bl_trace.specs.Traces.{trace_of}
+use Rattle.bl_outcome.specs.Lines.{line}
 use Rattle.bl_app.specs.Entering.{Entered, Entry, Starts, StartingRefuses, finding, imaging}
 use Rattle.bl_app.specs.Executing.{image_read, plain_text}
 use Rattle.bl_app.specs.Interpreting.{start_read}
@@ -20,7 +21,6 @@ use Rattle.bl_app.specs.Jobs.{AreRead, Job, Plan, Read, saying}
 use Rattle.bl_app.specs.Refusals.{Refusal, bad_directive, limit}
 use Rattle.bl_words.specs.Requests.{SpecRequest}
 use Rattle.bl_app.specs.Stages.{Stage, chain}
-use Rattle.bl_app.specs.Texts.{line}
 use Rattle.bl_app.specs.Worlds.{World, took}
 use Rattle.bl_app.specs.declared.status.Status.{Status}
 use Rattle.bl_app.specs.declared.status.Status.TheVariants.{Done, Stuck}

@@ -1,14 +1,12 @@
 -- The texts that are printed and written. Every line ends with a line feed.
-use Rattle.std.specs.Prelude.{ℕ, List, [], ◌∷◌, ◌++◌, length, codes}
+use Rattle.std.specs.Prelude.{ℕ, List, ◌++◌, length, codes}
 use Rattle.std.specs.Fmt.{decimal}
 use Rattle.bl_base.specs.Quantity.{word_of}
 use Rattle.bl_cmd.specs.declared.definitions.ProgramParts.{ProgramParts as Program}
+use Rattle.bl_outcome.specs.Lines.{line}
 use Rattle.bl_app.specs.Refusals.{Refusal, malformed, invalid_function, invalid_module, unsupported, limit, unknown_import, mismatched_import, element_range, data_range, bad_labels, not_an_image, broken_rule, no_export, not_json, other_shape, bad_directive, bad_line, few_arguments}
 use Rattle.bl_app.specs.declared.refusal.LabelFault.{LabelFault}
 use Rattle.bl_app.specs.declared.refusal.LabelFault.TheVariants.{Malformed, Twice, OutOfRange, OnImport, Both}
-
-abbrev pub line : List ℕ → List ℕ
-line text = text ++ 10 ∷ []
 
 -- the number of a program's commands
 abbrev pub commands_text : Program → List ℕ

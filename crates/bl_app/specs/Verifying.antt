@@ -1,16 +1,14 @@
 -- `verify`: its job, and what is said where it is done.
-use Rattle.std.specs.Prelude.{◌≡◌, ◌↔◌, ℕ, List, [], ◌∷◌, ◌++◌, codes, Ok, Err}
-use Rattle.std.specs.Fmt.{decimal}
+use Rattle.std.specs.Prelude.{◌≡◌, ◌↔◌, ℕ, List, [], ◌∷◌, Ok, Err}
 use Rattle.bl_base.specs.declared.quantity.Quantity.TheVariants as quantity
 use Rattle.bl_cmd.specs.Sites.{is_protected}
 use Rattle.bl_cmd.specs.declared.definitions.ProgramParts.{ProgramParts as Program}
 use Rattle.bl_ct.specs.Verdicts.{Judges as JudgesLabels}
 use Rattle.bl_ct.specs.declared.verdict.CtVerdict.{CtVerdict}
-use Rattle.bl_ct.specs.declared.verdict.CtVerdict.TheVariants as labels
 use Rattle.bl_graph.specs.Certificates.{Certifies}
 use Rattle.bl_graph.specs.Labels.{ConstantTime}
 use Rattle.bl_graph.specs.declared.certificate.Certificate.{Certificate}
-use Rattle.bl_report.specs.Reports.{constant_time_text}
+use Rattle.bl_report.specs.Verdicts.{verdicts_text}
 use Rattle.bl_rob.specs.Observed.{HasEqualObservations}
 use Rattle.bl_sct.specs.Verdicts.{IsStable}
 use Rattle.bl_transient.specs.Verdicts.{Judges as JudgesFlow}
@@ -28,7 +26,6 @@ use Rattle.bl_app.specs.Hardening.{IsYes}
 use Rattle.bl_app.specs.Jobs.{AreRead, Job, Plan, Read, saying}
 use Rattle.bl_app.specs.Refusals.{Refusal, not_json, other_shape}
 use Rattle.bl_app.specs.Stages.{Stage, chain}
-use Rattle.bl_app.specs.Texts.{line}
 use Rattle.bl_app.specs.Worlds.{World, took}
 use Rattle.bl_app.specs.declared.status.Status.{Status}
 use Rattle.bl_app.specs.declared.status.Status.TheVariants.{Done, No}
@@ -72,25 +69,8 @@ pub record AreVerdicts (certified : Certified) (verdicts : Verdicts) : Type 0 wh
   pub flow : JudgesFlow certified.program (is_protected certified.program) verdicts.flow
   pub labels : JudgesLabels certified.program verdicts.labels
 
--- whether the certificate keeps its rules, or else the first one that is broken, with its index
-abbrev pub certificate_line : CertVerdict → List ℕ
-certificate_line rules.Yes = line (codes "certificate yes")
-certificate_line (rules.No rule index) = line (codes "certificate no " ++ decimal rule ++ codes " " ++ decimal index)
-
--- whether the program's protects pass, or else the first sink that reads a transient variable
-abbrev pub stable_line : FlowVerdict → List ℕ
-stable_line (flow.Yes typing) = line (codes "stable yes")
-stable_line (flow.No position) = line (codes "stable no " ++ decimal position.0)
-
--- whether the protects pass and the program is constant-time
-abbrev pub safe_line : FlowVerdict → CtVerdict → List ℕ
-safe_line (flow.Yes typing) (labels.Yes labelling) = line (codes "safe yes")
-safe_line verdict other = line (codes "safe no")
-
 abbrev pub verify_text : Verdicts → List ℕ
-verify_text verdicts =
-    certificate_line verdicts.rules ++ stable_line verdicts.flow ++ constant_time_text verdicts.labels
-    ++ safe_line verdicts.flow verdicts.labels
+verify_text verdicts = verdicts_text verdicts.rules verdicts.flow verdicts.labels
 
 -- no where the certificate or the transient rules are broken
 abbrev pub verify_status : CertVerdict → FlowVerdict → Status

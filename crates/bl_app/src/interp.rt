@@ -14,11 +14,12 @@ ghost use Rattle.bl_app.specs.Working.{IsRunOf, IsStaged, IsTold, IsWork, conten
 use crate::job::{Plan, Read};
 use crate::load::load;
 use crate::module::read_modules;
-use crate::outcome::{outcome_status, outcome_text};
+use crate::outcome::outcome_status;
 use crate::refusal::{Refusal, WorkError};
 use crate::start::of_start;
 use bl_base::{NoMemory, Quantity, Start};
 use bl_machine::{first_memories, interp};
+use bl_outcome::outcome_text;
 use bl_trace::read_start;
 use bl_wasm::{Linked, Signature, Tree};
 use bl_words::InterpWords;

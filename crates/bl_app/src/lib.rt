@@ -13,7 +13,6 @@ mod job;
 pub mod laws;
 mod load;
 mod lower;
-mod memories;
 mod module;
 mod outcome;
 mod output;

@@ -2,8 +2,9 @@
 ghost use Rattle.std.specs.Prelude.{◌≡◌, ◌++◌, IfOk, codes};
 ghost use Rattle.std.specs.Fmt.{decimal};
 ghost use Rattle.bl_base.specs.Quantity.{word_of};
+ghost use Rattle.bl_outcome.specs.Lines.{line};
 ghost use Rattle.bl_app.specs.Status.{status_of};
-ghost use Rattle.bl_app.specs.Texts.{fault_text, line, refusal_text};
+ghost use Rattle.bl_app.specs.Texts.{fault_text, refusal_text};
 ghost use Rattle.bl_app.specs.Working.{refusal_in};
 ghost use Rattle.bl_app.specs.declared.refusal.WorkError.TheVariants as error;
 

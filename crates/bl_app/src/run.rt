@@ -8,10 +8,11 @@ ghost use Rattle.bl_app.specs.Working.{IsPlainTold, IsWork, contents_in, entered
 
 use crate::entry::{Entry, find_entry, read_entry_start, read_image};
 use crate::job::{Plan, Read};
-use crate::outcome::{outcome_status, outcome_text};
+use crate::outcome::outcome_status;
 use crate::refusal::{Refusal, WorkError};
 use bl_base::{NoMemory, Quantity, Start};
 use bl_cmd::WellFormed;
+use bl_outcome::outcome_text;
 use bl_seq::{first_memories, run};
 use bl_words::RunWords;
 use std::alloc::Global;

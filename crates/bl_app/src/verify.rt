@@ -1,7 +1,7 @@
 //! `verify`: from the bytes of an image and of a certificate to the verdicts on them.
 ghost use Rattle.std.specs.Prelude.{◌≡◌, ◌∷◌, [], None, IfOk, map};
 ghost use Rattle.bl_app.specs.Jobs.{AreRead};
-ghost use Rattle.bl_app.specs.Verifying.{AreVerdicts, certificate_line, safe_line, stable_line, verify_job, verify_plan, verify_status, verify_text};
+ghost use Rattle.bl_app.specs.Verifying.{AreVerdicts, verify_job, verify_plan, verify_status};
 ghost use Rattle.bl_app.specs.Working.{IsCertificateOf, IsWork, cert_error, certified_in, contents_in, plan_in, read_in, verdicts_in};
 ghost use Rattle.bl_words.specs.Words.{verify_in};
 
@@ -13,7 +13,7 @@ use bl_base::{NoMemory, Quantity};
 use bl_cmd::WellFormed;
 use bl_ct::{CtVerdict, constant_time};
 use bl_graph::{Certificate, graph};
-use bl_report::constant_time_line;
+use bl_report::verdicts_text;
 use bl_sct::stability;
 use bl_transient::FlowVerdict;
 use bl_witness::{CertError, CertVerdict, check_certificate, from_json};
@@ -130,25 +130,12 @@ fn judge(
 fn tell<'a>(alloc: Global, verdicts: &Verdicts) -> Result<Plan<'a>, NoMemory>
     ensures { IfOk result (λ plan. plan_in plan ≡ verify_plan (verdicts_in verdicts.now)) }
 {
-    let text = verdicts_text(alloc, verdicts)?;
+    let text = verdicts_text(alloc, &verdicts.rules, &verdicts.flow, &verdicts.labels)?;
     Ok(Plan {
         status: verify_status(&verdicts.rules, &verdicts.flow),
         keeps: Vec::new(alloc),
-        text,
+        text: text.into_vec(),
     })
-}
-
-/// The lines of verdicts.
-fn verdicts_text(alloc: Global, verdicts: &Verdicts) -> Result<Vec<u8>, NoMemory>
-    ensures { IfOk result (λ text. text.items ≡ verify_text (verdicts_in verdicts.now)) }
-{
-    let mut text = certificate_line(alloc, &verdicts.rules)?;
-    let stable = stable_line(alloc, &verdicts.flow)?;
-    text.extend_from_slice(&stable)?;
-    let line = constant_time_line(alloc, &verdicts.labels)?;
-    text.extend_from_slice(line.as_slice())?;
-    text.extend_from_slice(safe_line(&verdicts.flow, &verdicts.labels))?;
-    Ok(text)
 }
 
 /// The exit status, by the rules of certificates and the transient rules.
@@ -158,40 +145,5 @@ fn verify_status(rules: &CertVerdict, flow: &FlowVerdict) -> Status
     match (rules, flow) {
         (CertVerdict::Yes, FlowVerdict::Yes(_)) => Status::Done,
         _ => Status::No,
-    }
-}
-
-/// The line on the certificate.
-fn certificate_line(alloc: Global, rules: &CertVerdict) -> Result<Vec<u8>, NoMemory>
-    ensures { IfOk result (λ text. text.items ≡ certificate_line rules.now) }
-{
-    match rules {
-        CertVerdict::Yes => Ok(b"certificate yes\n".to_vec(alloc)?),
-        CertVerdict::No { rule, index } => Ok(format!(in alloc;
-            "certificate no {rule} {index}\n"
-        )?.into_bytes()),
-    }
-}
-
-/// The line on the transient rules.
-fn stable_line(alloc: Global, flow: &FlowVerdict) -> Result<Vec<u8>, NoMemory>
-    ensures { IfOk result (λ text. text.items ≡ stable_line flow.now) }
-{
-    match flow {
-        FlowVerdict::Yes(_) => Ok(b"stable yes\n".to_vec(alloc)?),
-        FlowVerdict::No(position) => Ok(format!(in alloc;
-            "stable no {}\n",
-            position.0
-        )?.into_bytes()),
-    }
-}
-
-/// The line on both the transient rules and the label rules.
-fn safe_line(flow: &FlowVerdict, labels: &CtVerdict) -> &'static [u8]
-    ensures { result.now ≡ safe_line flow.now labels.now }
-{
-    match (flow, labels) {
-        (FlowVerdict::Yes(_), CtVerdict::Yes(_)) => b"safe yes\n",
-        _ => b"safe no\n",
     }
 }

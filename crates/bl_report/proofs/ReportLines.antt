@@ -6,7 +6,8 @@ use Rattle.std.specs.List.{flat_map}
 use Rattle.std.proofs.Math.Seq.{drop-cons}
 use Rattle.std.proofs.lemmas.List.{append_assoc, at_drop_all}
 use Rattle.bl_graph.specs.declared.secret.SecretChain.{SecretChain}
-use Rattle.bl_report.specs.Reports.{chain_text, line, origin_text, through_text}
+use Rattle.bl_outcome.specs.Lines.{line}
+use Rattle.bl_report.specs.Reports.{chain_text, origin_text, through_text}
 
 -- four lines from their pieces, with the line feed n
 regroup : (n a f b c d s e p g w : List ℕ) → a ++ (f ++ (n ++ (b ++ (c ++ (n ++ (d ++ (s ++ (n ++ (e ++ (p ++ (g ++ (w ++ n))))))))))))

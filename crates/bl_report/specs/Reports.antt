@@ -15,6 +15,7 @@ use Rattle.bl_graph.specs.declared.secret.Origin.TheVariants.{Parameter, Global,
 use Rattle.bl_graph.specs.declared.secret.SecretChain.{SecretChain}
 use Rattle.bl_ct.specs.declared.verdict.CtVerdict.{CtVerdict}
 use Rattle.bl_ct.specs.declared.verdict.CtVerdict.TheVariants.{Yes, No}
+use Rattle.bl_outcome.specs.Lines.{line}
 
 -- ---- sites and protects
 
@@ -50,9 +51,6 @@ pub record HasReason (program : Program) (certificate : Certificate) (s : ℕ) :
   pub alone : (other : ℕ) → Contains (sites_of path) other → IsTrue (is_protected program other) → other ≡ s
 
 -- ---- the text
-
-abbrev pub line : List ℕ → List ℕ
-line text = text ++ 10 ∷ []
 
 -- the counts: functions, commands, sites, and protects with their weight
 abbrev pub counts_text : Program → List ℕ

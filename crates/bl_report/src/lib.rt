@@ -7,6 +7,8 @@ mod lines;
 mod secrets;
 mod sites;
 mod text;
+mod verdicts;
 
 pub use secrets::constant_time_line;
 pub use text::{report, summary};
+pub use verdicts::verdicts_text;

@@ -1,7 +1,8 @@
 //! The line on constant time.
 ghost use Rattle.std.specs.Prelude.{◌≡◌, ◌++◌, IfOk, codes};
 ghost use Rattle.std.specs.Fmt.{decimal};
-ghost use Rattle.bl_report.specs.Reports.{chain_text, constant_time_text, line, origin_text, through_text};
+ghost use Rattle.bl_outcome.specs.Lines.{line};
+ghost use Rattle.bl_report.specs.Reports.{chain_text, constant_time_text, origin_text, through_text};
 
 use crate::lines::push_places;
 use bl_base::{NoMemory, Pos, Text};

@@ -1,6 +1,6 @@
 use Rattle.std.proofs.Common.{[], ◌∷◌, ◌∙◌, ap, codes}
 use Rattle.std.specs.Fmt.{decimal}
-use Rattle.bl_app.proofs.MemoryTexts.{two_numbers}
+use Rattle.bl_outcome.proofs.MemoryTexts.{two_numbers}
 use Rattle.bl_app.proofs.refusal.rule_line.Goals as goal
 
 pub returns : goal.returns

@@ -1,7 +1,7 @@
 use Rattle.std.proofs.Common.{◌≡◌, ◌∙◌, ap, map}
 use Rattle.bl_base.specs.Runs.{memory_of, outcome_of}
 use Rattle.bl_cmd.specs.Outcomes.{first_memories}
-use Rattle.bl_app.specs.Outcomes.{outcome_text}
+use Rattle.bl_outcome.specs.Outcomes.{outcome_text}
 use Rattle.bl_app.specs.Working.{keep_in}
 use Rattle.bl_app.proofs.run.tell.Goals as goal
 

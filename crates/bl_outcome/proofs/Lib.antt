@@ -1,0 +1,2 @@
+pub mod MemoryTexts
+mod OutcomeRows
