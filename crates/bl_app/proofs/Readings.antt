@@ -72,10 +72,10 @@ module _ {X : Type 0} (value : X → List Labelled) (name : Bor (List ℕ)) (tre
   not_labelled_yet label.Memory why = tt
 
 -- the name of a module by its number
-named_by : (ready : List Ready) (part : ℕ) (name : Bor (List ℕ)) → slice_get (map (λ (one : Ready). one.name) ready) part ≡ Some name → (one : Labelled) × (slice_get (map ready_in ready) part ≡ Some one) × (one.name ≡ name.now)
-named_by [] part name there = absurd (none-some name there)
+named_by : (ready : List Ready) (place : ℕ) (name : Bor (List ℕ)) → slice_get (map (λ (one : Ready). one.name) ready) place ≡ Some name → (one : Labelled) × (slice_get (map ready_in ready) place ≡ Some one) × (one.name ≡ name.now)
+named_by [] place name there = absurd (none-some name there)
 named_by (one ∷ ready) zero name there = (ready_in one, refl, ap (λ (n : Bor (List ℕ)). n.now) (some_same one.name name there))
-named_by (one ∷ ready) (suc part) name there = named_by ready part name there
+named_by (one ∷ ready) (suc place) name there = named_by ready place name there
 
 -- modules that aren't linked
 module _ {X : Type 0} (value : X → Tree) (ready : List Ready) where
