@@ -1,7 +1,12 @@
 -- The job of `twin` keeps the laws; what is said where it is done.
 use Rattle.std.proofs.Common.{◌≡◌, ℕ, List, [], ◌∷◌, Option, Some, refl, ap, sym, ◌∙◌, subst, map, arith}
 use Rattle.std.specs.Prelude.{Bool, IsTrue, ◌↔◌}
-use Rattle.bl_rob.specs.Observed.{HasEqualObservations}
+use Rattle.bl_cmd.specs.Programs.{IsProgram}
+use Rattle.bl_cmd.specs.Rules.{IsWellFormed}
+use Rattle.bl_cmd.specs.declared.definitions.ProgramParts.{ProgramParts as Program}
+use Rattle.bl_graph.specs.Labels.{ConstantTime}
+use Rattle.bl_sct.specs.Verdicts.{IsStable}
+use Rattle.bl_sct.proofs.Whole.{equal}
 use Rattle.bl_twin.specs.Comparing.{Tells}
 use Rattle.bl_twin.proofs.Comparisons.{never, told}
 use Rattle.bl_twin.specs.declared.comparison.Comparison.{Comparison}
@@ -9,9 +14,10 @@ use Rattle.bl_twin.specs.declared.comparison.Comparison.TheVariants as compared
 use Rattle.bl_words.specs.Requests.{Request, TwinRequest, twin}
 use Rattle.bl_app.specs.Causes.{IsDone}
 use Rattle.bl_app.specs.Commands.{job_of}
+use Rattle.bl_app.specs.Entering.{Entry, Finds, IsImaged}
 use Rattle.bl_app.specs.Jobs.{AreRead, IsLawful, Plan}
 use Rattle.bl_app.specs.Refusals.{Refusal}
-use Rattle.bl_app.specs.Speculating.{Speculated, seen_of, speculating}
+use Rattle.bl_app.specs.Speculating.{Speculated, StartsTraced, Traces, seen_of, speculating}
 use Rattle.bl_app.specs.Stages.{IsLawfulStage}
 use Rattle.bl_app.specs.Status.{kind_of, of_deed}
 use Rattle.bl_app.specs.Twinning.{StartsAgree, StartsOther, TwinDoes, TwinRefuses, Twinned, Twins, comparison_of, entry_of, other_seen, starting_other, twin_job, twin_status, twinning}
@@ -65,10 +71,26 @@ no_differs compared.Differ e = refl
 they_tell : (t : Twinned) → Tells (seen_of t.speculated) (other_seen t)
 they_tell t = told 64 (entry_of t).program (entry_of t).function t.speculated.directives t.speculated.entered.start t.other
 
-safe_alike : (t : Twinned) (agree : Bool) → (IsTrue agree ↔ StartsAgree t) → HasEqualObservations (entry_of t).program → IsTrue agree → comparison_of t ≡ compared.Differ → ⊥
-safe_alike t agree agrees equal says differ =
-    never (entry_of t).program equal 64 (omega arith) (omega arith) (entry_of t).function t.speculated.directives t.speculated.entered.start t.other
-    (agrees.0 says) differ
+-- the function's program is that of an image, and it is well-formed
+module _ (export trace start other image : List ℕ) (t : Twinned) (prepared : (twinning export trace start other).Passes image t) where
+  abbrev program : Program
+  program = prepared.1.0
+
+  same_program : program ≡ (entry_of t).program
+  same_program =
+      let behind = prepared.1.2 in
+      let found : Finds export program behind.0 = behind.1 in
+      let traces : Traces trace behind.0 behind.2.0 = behind.2.1 in
+      let starts : StartsTraced start behind.2.0 prepared.0 = behind.2.2 in
+      sym (ap (λ (s : Speculated). s.entered.entry.program) prepared.2.same ∙ ap (λ (e : Entry). e.program) (starts.starts.same_entry ∙ traces.same_entry) ∙ found.same_program)
+
+  safe_alike : (agree : Bool) → (IsTrue agree ↔ StartsAgree t) → ConstantTime (entry_of t).program → IsStable (entry_of t).program → IsTrue agree
+      → comparison_of t ≡ compared.Differ → ⊥
+  safe_alike agree agrees constant stable says differ =
+      let imaged : IsImaged image program = prepared.1.1 in
+      let alike = equal (entry_of t).program (subst IsProgram same_program imaged.image.is_program) (subst IsWellFormed same_program imaged.rules) constant stable in
+      never (entry_of t).program alike 64 (omega arith) (omega arith) (entry_of t).function t.speculated.directives t.speculated.entered.start t.other
+      (agrees.0 says) differ
 
 module _ (request : TwinRequest) where
   module _ (contents : List (List ℕ)) (image trace start other : List ℕ) (are : contents ≡ image ∷ trace ∷ start ∷ other ∷ []) where
@@ -127,7 +149,7 @@ module _ (request : TwinRequest) where
         agrees = h.agrees;
         meant = stands;
         tells = they_tell h.twinned;
-        safe = λ equal says no. safe_alike h.twinned h.agree h.agrees equal says (no_differs (comparison_of h.twinned) (sym stands ∙ no));
+        safe = λ constant stable says no. safe_alike request.export h.trace h.start h.other h.image h.twinned h.prepared h.agree h.agrees constant stable says (no_differs (comparison_of h.twinned) (sym stands ∙ no));
         printed = printed ∙ ap (λ p. took old.sink.taken p.text) h.is_plan;
         unchanged = kept ∙ ap (λ p. with_files old.files p.keeps) h.is_plan;
       }

@@ -1,5 +1,5 @@
 -- The job of `verify` keeps the laws; what is said where it is done.
-use Rattle.std.proofs.Common.{◌≡◌, ℕ, List, [], ◌∷◌, Option, Some, None, refl, ap, sym, ◌∙◌, subst, map}
+use Rattle.std.proofs.Common.{◌↔◌, ◌≡◌, ℕ, List, [], ◌∷◌, Option, Some, None, refl, ap, sym, ◌∙◌, subst, map}
 use Rattle.bl_base.proofs.Lists.{some_same}
 use Rattle.bl_cmd.specs.Programs.{IsProgram}
 use Rattle.bl_cmd.specs.Rules.{IsWellFormed}
@@ -9,7 +9,11 @@ use Rattle.bl_graph.specs.Certificates.{Certifies}
 use Rattle.bl_graph.specs.declared.certificate.Certificate.{Certificate}
 use Rattle.bl_graph.proofs.Chaining.{none_lighter}
 use Rattle.bl_graph.proofs.Ranging.{in_range}
-use Rattle.bl_sct.specs.Verdicts.{IsStable}
+use Rattle.bl_ct.specs.Verdicts.{Judges as JudgesLabels}
+use Rattle.bl_ct.specs.declared.verdict.CtVerdict.{CtVerdict}
+use Rattle.bl_sct.specs.Verdicts.{Assesses, IsStable}
+use Rattle.bl_sct.specs.declared.verdict.Verdict.{Verdict}
+use Rattle.bl_sct.specs.declared.verdict.Verdict.TheVariants as assess
 use Rattle.bl_sct.proofs.Assessing.{hot, opposite}
 use Rattle.bl_sct.proofs.Whole.{equal}
 use Rattle.bl_transient.proofs.Meeting.{chain_met}
@@ -25,6 +29,7 @@ use Rattle.bl_words.specs.Requests.{Request, VerifyRequest, verify}
 use Rattle.bl_app.specs.Causes.{IsDone}
 use Rattle.bl_app.specs.Commands.{job_of}
 use Rattle.bl_app.specs.Entering.{imaging}
+use Rattle.bl_app.specs.Hardening.{IsYes}
 use Rattle.bl_app.specs.Jobs.{AreRead, IsLawful, Plan}
 use Rattle.bl_app.specs.Refusals.{Refusal}
 use Rattle.bl_app.specs.Stages.{IsLawfulStage}
@@ -110,6 +115,14 @@ deed_of_verify rules.Yes (flow.Yes typing) = refl
 deed_of_verify rules.Yes (flow.No position) = refl
 deed_of_verify (rules.No rule index) f = refl
 
+-- a program is assessed to be safe exactly where both verdicts on it say yes
+assessed_so : (program : Program) (f : FlowVerdict) (v : CtVerdict) → Judges program (is_protected program) f → JudgesLabels program v
+    → (verdict : Verdict) → Assesses program verdict → verdict ≡ assess.Safe ↔ Stable f × IsYes v
+assessed_so program f v flows labels assess.Safe a = (λ e. (stable_back program f flows a.1, labelled_yes program v labels a.0), λ both. refl)
+assessed_so program f v flows labels (assess.NotConstantTime chain) a =
+    (λ e. absurd cc, λ both. absurd (a.1 (yes_labelled program v labels both.1)))
+assessed_so program f v flows labels (assess.NotStable position) a = (λ e. absurd cc, λ both. absurd (a.passes_not (stable_in program f flows both.0)))
+
 module _ (certified : Certified) where
   abbrev program : Program
   program = certified.program
@@ -129,6 +142,7 @@ module _ (certified : Certified) where
     lightest = λ says. none_is_lighter program certified.certificate facts rules (certain_in program certified.certificate v.rules a.rules says);
     stable = (stable_in program v.flow a.flow, stable_back program v.flow a.flow);
     constant_time = (yes_labelled program v.labels a.labels, labelled_yes program v.labels a.labels);
+    assessed = assessed_so program v.flow v.labels a.flow a.labels;
     safe = λ stable says. equal program facts rules (yes_labelled program v.labels a.labels says) (stable_in program v.flow a.flow stable);
   }
 

@@ -2,7 +2,9 @@
 use Rattle.std.specs.Prelude.{◌≡◌, ◌↔◌, ℕ, Bool, IsTrue, List, [], ◌∷◌}
 use Rattle.bl_base.specs.declared.start.Start.{Start}
 use Rattle.bl_cmd.specs.Outcomes.{Agree}
-use Rattle.bl_rob.specs.Observed.{HasEqualObservations, Observed, observed}
+use Rattle.bl_graph.specs.Labels.{ConstantTime}
+use Rattle.bl_rob.specs.Observed.{Observed, observed}
+use Rattle.bl_sct.specs.Verdicts.{IsStable}
 use Rattle.bl_twin.specs.Comparing.{Tells, comparison, twin_text}
 use Rattle.bl_twin.specs.declared.comparison.Comparison.{Comparison}
 use Rattle.bl_twin.specs.declared.comparison.Comparison.TheVariants as compared
@@ -102,8 +104,9 @@ twin_job request = record {
 }
 
 -- the files' bytes give an image's function, directives and two starts; the first line says whether the starts agree in public, the rest
--- what is observed of the two runs, each from its own start, and where they differ; the status says whether they do. Runs of a program
--- whose runs from starts that agree in public are observed alike don't differ where the starts agree. No file is changed
+-- what is observed of the two runs, each from its own start, and where they differ; the status says whether they do. Where the
+-- program is constant-time and its own protects pass, so that it is safe, and the starts agree in public, the runs don't differ. No file
+-- is changed
 pub record Twins (request : TwinRequest) (old new : World) (status : Status) : Type 0 where
   pub image : List ℕ
   pub trace : List ℕ
@@ -116,6 +119,6 @@ pub record Twins (request : TwinRequest) (old new : World) (status : Status) : T
   pub agrees : IsTrue agree ↔ StartsAgree twinned
   pub meant : status ≡ twin_status (comparison_of twinned)
   pub tells : Tells (seen_of twinned.speculated) (other_seen twinned)
-  pub safe : HasEqualObservations (entry_of twinned).program → IsTrue agree → status ≡ No → ⊥
+  pub safe : ConstantTime (entry_of twinned).program → IsStable (entry_of twinned).program → IsTrue agree → status ≡ No → ⊥
   pub printed : new.sink.taken ≡ took old.sink.taken (twin_text agree (seen_of twinned.speculated) (other_seen twinned))
   pub unchanged : new.files ≡ old.files

@@ -27,7 +27,8 @@ pub struct Built {
 }
 
 /// The program of the modules in files with these contents, and its image; Refused exactly where the modules are refused (`load`), or
-/// the program has more than 1,048,576 commands, or its image more than 134,217,728 bytes. Linear in the bytes and in the image.
+/// the program has more than 1,048,576 commands, or its image more than 134,217,728 bytes. Linear in the bytes, those
+/// of the memories and in the image.
 pub fn compile<'a>(
     alloc: Global,
     words: &[&'a str],

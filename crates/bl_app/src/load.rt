@@ -56,7 +56,7 @@ pub struct Ready<'a> {
 
 /// The linked tree of the modules in files with these contents; Refused exactly where the first error is one of these, in this order:
 /// the bytes of a file spell no module, or it isn't supported, or exceeds a limit; a module isn't valid; the labels of a module break a
-/// rule; the modules can't be linked. Linear in the bytes.
+/// rule; the modules can't be linked. Linear in the bytes and in those of the memories.
 pub fn load<'a>(
     alloc: Global,
     words: &[&'a str],

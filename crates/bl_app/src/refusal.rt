@@ -54,7 +54,7 @@ pub enum Refusal<'a> {
     InvalidModule(&'a str),
     /// A module has something that isn't supported.
     Unsupported(&'a str),
-    /// There are too many modules, or a file, a module or all that is linked is too large.
+    /// There are too many modules, commands or directives, or a file, a module, the image or all that is linked is too large.
     Limit {
         /// The first quantity that is above its number.
         which: Quantity,

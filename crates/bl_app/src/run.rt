@@ -34,7 +34,7 @@ pub fn run_reads<'a>(alloc: Global, words: &RunWords<'a>) -> Result<Vec<Read<'a>
 }
 
 /// Printing the outcome of an exported function of an image's program from a start file's bytes; Refused exactly where these are
-/// refused. Linear in the bytes and in the steps, but for what the check of a program takes.
+/// refused. Linear in the bytes, those of the memories and in the steps, but for what the check of a program takes.
 pub fn execute<'a>(
     alloc: Global,
     words: &RunWords<'a>,

@@ -47,7 +47,8 @@ pub fn spec_reads<'a>(alloc: Global, words: &SpecWords<'a>) -> Result<Vec<Read<'
 }
 
 /// Printing what is observed of a trace file's directives on an exported function of an image's program, from a start file's bytes;
-/// Refused exactly where these are refused. Linear in the bytes and in the directives, but for what the check of a program takes.
+/// Refused exactly where these are refused. Linear in the bytes, those of the memories and in the directives, but for what the
+/// check of a program takes.
 pub fn speculate<'a>(
     alloc: Global,
     words: &SpecWords<'a>,

@@ -45,8 +45,8 @@ pub fn twin_reads<'a>(alloc: Global, words: &TwinWords<'a>) -> Result<Vec<Read<'
 }
 
 /// Printing how two runs of an exported function of an image's program are observed, side by side, from the bytes of a trace file and two
-/// start files; Refused exactly where these are refused. Linear in the bytes and in the directives, but for what the check of a program
-/// takes.
+/// start files; Refused exactly where these are refused. Linear in the bytes, those of the memories and in the directives, but for what the
+/// check of a program takes.
 pub fn twin<'a>(
     alloc: Global,
     words: &TwinWords<'a>,

@@ -1,15 +1,15 @@
 //! Laws of reports. Each function is its contract alone.
 ghost use Rattle.std.specs.Prelude.{ℕ, IsTrue};
+ghost use Rattle.bl_cmd.specs.Programs.{IsProgram};
+ghost use Rattle.bl_cmd.specs.Rules.{IsWellFormed};
 ghost use Rattle.bl_cmd.specs.Sites.{is_protected};
 ghost use Rattle.bl_cmd.specs.declared.definitions.ProgramParts.{ProgramParts};
 ghost use Rattle.bl_graph.specs.Certificates.{Certifies};
-ghost use Rattle.bl_graph.specs.Ranges.{AreInRange};
 ghost use Rattle.bl_graph.specs.declared.certificate.Certificate.{Certificate};
 ghost use Rattle.bl_report.specs.Reports.{HasReason};
 
-/// Where a certificate keeps the rules, each protect has a reason, so it has a line. The program's commands and variables are
-/// numbered in their ranges, as those of each well-formed program are.
+/// Where a certificate keeps the rules of a well-formed program, each protect has a reason, so it has a line.
 pub fn each_protect_has_a_reason()
-    ensures { (program : ProgramParts) (certificate : Certificate) → AreInRange program → Certifies program certificate
+    ensures { (program : ProgramParts) (certificate : Certificate) → IsProgram program → IsWellFormed program → Certifies program certificate
         → (s : ℕ) → IsTrue (is_protected program s) → HasReason program certificate s }
 {}

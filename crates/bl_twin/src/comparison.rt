@@ -5,7 +5,7 @@ ghost use Rattle.bl_twin.specs.Comparing.{common, compared, is_same, shown_behin
 
 use bl_rob::{Observation, Seen};
 
-/// What is observed of two runs of the same directives.
+/// How what is observed of two runs of the same directives compares.
 #[derive(Clone, Copy, Debug, PartialEq, Eq)]
 pub enum Comparison {
     /// The same, of each directive.

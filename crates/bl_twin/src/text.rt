@@ -14,7 +14,7 @@ use std::alloc::Global;
 /// A comparison of two runs, and the text on it.
 #[derive(Debug, Drop)]
 pub struct Compared {
-    /// What is observed of the two runs.
+    /// How what is observed of the two runs compares.
     pub comparison: Comparison,
     /// The text.
     pub text: Vec<u8>,

@@ -26,7 +26,7 @@ pub enum Request<'a> {
 pub struct HardenWords<'a> {
     /// The file of the image, which is written.
     pub image: &'a str,
-    /// The file of the certificate, which is written.
+    /// The file of the certificate, which is written; another word than the image's.
     pub certificate: &'a str,
     /// The files of the modules, which are read: at least one, and no two modules have one name.
     pub modules: Vec<&'a str>,
@@ -85,7 +85,7 @@ pub struct SpecWords<'a> {
 pub struct VerifyWords<'a> {
     /// The file of the image, which is read.
     pub image: &'a str,
-    /// The file of the certificate, which is read.
+    /// The file of the certificate, which is read; another word than the image's.
     pub certificate: &'a str,
 }
 

@@ -1,5 +1,6 @@
+use Rattle.bl_graph.proofs.Ranging.{in_range}
 use Rattle.bl_report.proofs.ProtectReasons.{has_reason}
 use Rattle.bl_report.proofs.laws.each_protect_has_a_reason.Goals as goal
 
 pub returns : goal.returns
-returns c = λ program certificate ranges certified s h. has_reason program certificate ranges certified s h
+returns c = λ program certificate facts rules certified s h. has_reason program certificate (in_range program facts rules) certified s h
