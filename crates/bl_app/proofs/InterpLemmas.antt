@@ -86,7 +86,7 @@ opening_lawful export bytes = record {
   not_both = opens_against export bytes;
 }
 
-preparing_lawful : (request : InterpRequest) (start : List ℕ) → IsLawfulStage (preparing request start)
+pub preparing_lawful : (request : InterpRequest) (start : List ℕ) → IsLawfulStage (preparing request start)
 preparing_lawful request start = chain_lawful loading (opening request.export start) loading_lawful (opening_lawful request.export start)
 
 -- the outcome within so many steps is one

@@ -46,7 +46,7 @@ module _ (bytes : List ℕ) where
     not_both = λ speculated a r s. (starting_lawful bytes).not_both speculated.entered.entry (record { entry = speculated.entered.entry; start = a.other }) r s.starts;
   }
 
-twinning_lawful : (export trace start other : List ℕ) → IsLawfulStage (twinning export trace start other)
+pub twinning_lawful : (export trace start other : List ℕ) → IsLawfulStage (twinning export trace start other)
 twinning_lawful export trace start other =
     chain_lawful (speculating export trace start) (starting_other other) (speculating_lawful export trace start) (other_lawful other)
 
@@ -104,7 +104,7 @@ module _ (request : TwinRequest) where
     refuses_here : (refusal : Refusal) → TwinRefuses request contents refusal → (twinning request.export trace start other).Refuses image refusal
     refuses_here refusal h = here (λ i t s o. (twinning request.export t s o).Refuses i refusal) h.image h.trace h.start h.other h.are h.refuses
 
-    passes_here : (plan : Plan) → (h : TwinDoes request contents plan) → (twinning request.export trace start other).Passes image h.twinned
+    pub passes_here : (plan : Plan) → (h : TwinDoes request contents plan) → (twinning request.export trace start other).Passes image h.twinned
     passes_here plan h = here (λ i t s o. (twinning request.export t s o).Passes i h.twinned) h.image h.trace h.start h.other h.are h.prepared
 
   module _ (contents : List (List ℕ)) where

@@ -65,7 +65,7 @@ module _ (bytes : List ℕ) where
   certifying_lawful : IsLawfulStage (certifying bytes)
   certifying_lawful = record { one_result = one_read; one_refusal = λ program. reading_refusal; not_both = reading_not_both }
 
-  verifying_lawful : IsLawfulStage (verifying bytes)
+  pub verifying_lawful : IsLawfulStage (verifying bytes)
   verifying_lawful = chain_lawful imaging (certifying bytes) imaging_lawful certifying_lawful
 
 -- ---- verdicts
@@ -159,7 +159,7 @@ module _ (contents : List (List ℕ)) where
     refuses_here : (refusal : Refusal) → VerifyRefuses contents refusal → (verifying certificate).Refuses image refusal
     refuses_here refusal h = here (λ i c. (verifying c).Refuses i refusal) h.image h.certificate h.are h.refuses
 
-    passes_here : (plan : Plan) → (h : VerifyDoes contents plan) → (verifying certificate).Passes image h.certified
+    pub passes_here : (plan : Plan) → (h : VerifyDoes contents plan) → (verifying certificate).Passes image h.certified
     passes_here plan h = here (λ i c. (verifying c).Passes i h.certified) h.image h.certificate h.are h.prepared
 
   verify_refusal : (a b : Refusal) → VerifyRefuses contents a → VerifyRefuses contents b → a ≡ b
@@ -168,7 +168,7 @@ module _ (contents : List (List ℕ)) where
   none_beside : (refusal : Refusal) (plan : Plan) → VerifyRefuses contents refusal → VerifyDoes contents plan → ⊥
   none_beside refusal plan h k = (verifying_lawful k.certificate).not_both k.image k.certified refusal k.prepared (refuses_here k.image k.certificate k.are refusal h)
 
-  one_status : (p q : Plan) → VerifyDoes contents p → VerifyDoes contents q → p.status ≡ q.status
+  pub one_status : (p q : Plan) → VerifyDoes contents p → VerifyDoes contents q → p.status ≡ q.status
   one_status p q h k =
       let same = (verifying_lawful k.certificate).one_result k.image h.certified k.certified (passes_here k.image k.certificate k.are p h) k.prepared in
       ap (λ plan. plan.status) h.is_plan

@@ -1,19 +1,25 @@
 //! Laws of the definitions. Each function is its contract alone.
-ghost use Rattle.std.specs.Prelude.{◌≡◌, ◌↔◌, ◌⊎◌, ℕ, ◌*◌, List as Listed, [], ◌∷◌, None, Some};
+ghost use Rattle.std.specs.Prelude.{◌≡◌, ◌↔◌, ◌⊎◌, ℕ, ◌*◌, List as Listed, [], ◌∷◌, None, Some, slice_get};
 ghost use Rattle.bl_outside.specs.Shelf.{Files};
 ghost use Rattle.bl_wasm.specs.Linked.{IsLinked};
 ghost use Rattle.bl_wasm.specs.declared.linked.Tree.{Tree};
 ghost use Rattle.bl_lower.specs.Trees.{step_bound};
-ghost use Rattle.bl_app.specs.Building.{AreCompiled, Builds, Built};
+ghost use Rattle.bl_report.specs.Verdicts.{safe_line};
+ghost use Rattle.bl_app.specs.Building.{AreCompiled, Builds, Built, Makes, compiling};
 ghost use Rattle.bl_app.specs.Causes.{Causes, NoneRose};
 ghost use Rattle.bl_app.specs.Commands.{job_of};
+ghost use Rattle.bl_app.specs.Entering.{entering};
 ghost use Rattle.bl_app.specs.Executing.{RunDoes};
-ghost use Rattle.bl_app.specs.Hardening.{Hardened, IsHardened};
-ghost use Rattle.bl_app.specs.Interpreting.{InterpDoes};
+ghost use Rattle.bl_app.specs.Hardening.{HardenPlans, Hardened, IsHardened, IsYes, harden_job};
+ghost use Rattle.bl_app.specs.Interpreting.{InterpDoes, preparing};
 ghost use Rattle.bl_app.specs.Jobs.{AreRead, FirstRefusal, IsLawful, Plan};
+ghost use Rattle.bl_app.specs.Lowering.{lower_job};
 ghost use Rattle.bl_app.specs.Refusals.{Refusal};
-ghost use Rattle.bl_words.specs.Requests.{InterpRequest, Request, RunRequest, SpecRequest};
-ghost use Rattle.bl_app.specs.Speculating.{SpecDoes};
+ghost use Rattle.bl_words.specs.Requests.{HardenRequest, InterpRequest, LowerRequest, Request, RunRequest, SpecRequest, TwinRequest};
+ghost use Rattle.bl_app.specs.Speculating.{SpecDoes, speculating};
+ghost use Rattle.bl_app.specs.Stages.{IsLawfulStage};
+ghost use Rattle.bl_app.specs.Twinning.{TwinDoes, twinning};
+ghost use Rattle.bl_app.specs.Verifying.{VerifyDoes, verifying};
 ghost use Rattle.bl_app.specs.Worlds.{World};
 ghost use Rattle.bl_app.specs.declared.status.Status.{Status};
 ghost use Rattle.bl_app.specs.declared.status.Status.TheVariants as status;
@@ -35,11 +41,53 @@ pub fn what_can_be_done_is_not_refused()
         → AreRead (Some files) (job_of request).reads contents → (job_of request).Does contents plan → FirstRefusal (job_of request) (Some files) refusal → ⊥ }
 {}
 
-/// A run has one text and one status.
+/// What `lower` keeps and prints is one, and a run has one text and one status.
 pub fn one_run()
+    ensures lower { (request : LowerRequest) (contents : Listed (Listed ℕ)) (p q : Plan) → (lower_job request).Does contents p → (lower_job request).Does contents q → p ≡ q }
+    ensures twin { (request : TwinRequest) (contents : Listed (Listed ℕ)) (p q : Plan) → TwinDoes request contents p → TwinDoes request contents q → p ≡ q }
     ensures interp { (request : InterpRequest) (contents : Listed (Listed ℕ)) (p q : Plan) → InterpDoes request contents p → InterpDoes request contents q → p ≡ q }
     ensures run { (request : RunRequest) (contents : Listed (Listed ℕ)) (p q : Plan) → RunDoes request contents p → RunDoes request contents q → p ≡ q }
     ensures spec { (request : SpecRequest) (contents : Listed (Listed ℕ)) (p q : Plan) → SpecDoes request contents p → SpecDoes request contents q → p ≡ q }
+{}
+
+/// Two plans of `verify` on the same contents have one status, and one verdict by the rules of certificates and by the transient
+/// rules; both have a yes by the label rules or both a no, and their last lines are one. With a yes they are one: only secret chains
+/// can differ.
+pub fn one_verification()
+    ensures status { (contents : Listed (Listed ℕ)) (p q : Plan) → VerifyDoes contents p → VerifyDoes contents q → p.status ≡ q.status }
+    ensures rules { (contents : Listed (Listed ℕ)) (p q : Plan) (h : VerifyDoes contents p) (k : VerifyDoes contents q) → h.verdicts.rules ≡ k.verdicts.rules }
+    ensures flow { (contents : Listed (Listed ℕ)) (p q : Plan) (h : VerifyDoes contents p) (k : VerifyDoes contents q) → h.verdicts.flow ≡ k.verdicts.flow }
+    ensures labels { (contents : Listed (Listed ℕ)) (p q : Plan) (h : VerifyDoes contents p) (k : VerifyDoes contents q)
+        → IsYes h.verdicts.labels ↔ IsYes k.verdicts.labels }
+    ensures safe { (contents : Listed (Listed ℕ)) (p q : Plan) (h : VerifyDoes contents p) (k : VerifyDoes contents q)
+        → safe_line h.verdicts.flow h.verdicts.labels ≡ safe_line k.verdicts.flow k.verdicts.labels }
+    ensures whole { (contents : Listed (Listed ℕ)) (p q : Plan) (h : VerifyDoes contents p) → VerifyDoes contents q → IsYes h.verdicts.labels → p ≡ q }
+{}
+
+/// Two plans of `harden` on the same contents have one program, whose counts they tell, and one image, which is the second file that
+/// they keep; both have a yes by the label rules or both a no. With one certificate and a yes they are one: only certificates and
+/// secret chains can differ.
+pub fn one_image()
+    ensures program { (request : HardenRequest) (contents : Listed (Listed ℕ)) (p q : Plan) (h : Makes request.modules (HardenPlans request) contents p)
+        (k : Makes request.modules (HardenPlans request) contents q) → h.plans.hardened.program ≡ k.plans.hardened.program }
+    ensures image { (request : HardenRequest) (contents : Listed (Listed ℕ)) (p q : Plan) (h : Makes request.modules (HardenPlans request) contents p)
+        (k : Makes request.modules (HardenPlans request) contents q) → h.plans.hardened.image ≡ k.plans.hardened.image }
+    ensures verdict { (request : HardenRequest) (contents : Listed (Listed ℕ)) (p q : Plan) (h : Makes request.modules (HardenPlans request) contents p)
+        (k : Makes request.modules (HardenPlans request) contents q) → IsYes h.plans.hardened.verdict ↔ IsYes k.plans.hardened.verdict }
+    ensures kept { (request : HardenRequest) (contents : Listed (Listed ℕ)) (p q : Plan) → (harden_job request).Does contents p → (harden_job request).Does contents q
+        → slice_get p.keeps 1 ≡ slice_get q.keeps 1 }
+    ensures whole { (request : HardenRequest) (contents : Listed (Listed ℕ)) (p q : Plan) (h : Makes request.modules (HardenPlans request) contents p)
+        (k : Makes request.modules (HardenPlans request) contents q) → h.plans.hardened.certificate ≡ k.plans.hardened.certificate → IsYes h.plans.hardened.verdict → p ≡ q }
+{}
+
+/// Each stage of work on contents makes one thing of them, or refuses them for one reason, and never both.
+pub fn stages_are_lawful()
+    ensures compiling { IsLawfulStage compiling }
+    ensures preparing { (request : InterpRequest) (start : Listed ℕ) → IsLawfulStage (preparing request start) }
+    ensures entering { (export start : Listed ℕ) → IsLawfulStage (entering export start) }
+    ensures speculating { (export trace start : Listed ℕ) → IsLawfulStage (speculating export trace start) }
+    ensures twinning { (export trace start other : Listed ℕ) → IsLawfulStage (twinning export trace start other) }
+    ensures verifying { (certificate : Listed ℕ) → IsLawfulStage (verifying certificate) }
 {}
 
 /// An image runs as the modules do that it was made of: where `interp` tells a return or a trap within its steps, `run` tells

@@ -1,6 +1,6 @@
 //! Laws of the definitions. Each function is its contract alone.
 ghost use Rattle.std.specs.Prelude.{◌≡◌, ◌↔◌, ℕ, List as Listed, Some};
-ghost use Rattle.bl_words.specs.Requests.{GenRequest, IsGenInRange, IsTakenApart, gen, parts_of, request_of};
+ghost use Rattle.bl_words.specs.Requests.{AreNamedApart, GenRequest, IsGenInRange, IsTakenApart, Request, gen, modules_in, parts_of, request_of};
 
 /// The words behind a command have those parts exactly where the rules take them apart so.
 pub fn words_are_taken_apart()
@@ -11,4 +11,9 @@ pub fn words_are_taken_apart()
 /// The seed of a `gen` is below 2^64, and its size is from 1 to 10,000.
 pub fn gen_in_range()
     ensures { (words : Listed (Listed ℕ)) (request : GenRequest) → request_of words ≡ Some (gen request) → IsGenInRange request }
+{}
+
+/// No two modules of a request have one name.
+pub fn modules_are_named_apart()
+    ensures { (words : Listed (Listed ℕ)) (request : Request) → request_of words ≡ Some request → AreNamedApart (modules_in request) }
 {}

@@ -1,0 +1,25 @@
+use Rattle.bl_app.proofs.BuildLemmas.{compiling_lawful}
+use Rattle.bl_app.proofs.InterpLemmas.{preparing_lawful}
+use Rattle.bl_app.proofs.RunLemmas.{entering_lawful}
+use Rattle.bl_app.proofs.SpecLemmas.{speculating_lawful}
+use Rattle.bl_app.proofs.TwinLemmas.{twinning_lawful}
+use Rattle.bl_app.proofs.VerifyLemmas.{verifying_lawful}
+use Rattle.bl_app.proofs.laws.stages_are_lawful.Goals as goal
+
+pub returns-clause-compiling : goal.returns-clause-compiling
+returns-clause-compiling c = compiling_lawful
+
+pub returns-clause-preparing : goal.returns-clause-preparing
+returns-clause-preparing c = preparing_lawful
+
+pub returns-clause-entering : goal.returns-clause-entering
+returns-clause-entering c = entering_lawful
+
+pub returns-clause-speculating : goal.returns-clause-speculating
+returns-clause-speculating c = speculating_lawful
+
+pub returns-clause-twinning : goal.returns-clause-twinning
+returns-clause-twinning c = twinning_lawful
+
+pub returns-clause-verifying : goal.returns-clause-verifying
+returns-clause-verifying c = verifying_lawful
