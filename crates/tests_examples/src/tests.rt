@@ -253,14 +253,10 @@ fn lines(alloc: Global, counted: &[(&str, u32)]) -> Result<String, Fail> {
 
 /// What `twin` says of a trace with the starts of the indices 3 and 5.
 fn twin(alloc: Global, module: &[u8], export: &str, trace: &str) -> Result<(u8, MemorySink), Fail> {
-    let entries: [(&str, &[u8]); 4] = [
-        ("m.wasm", module),
-        ("t", trace.as_bytes()),
-        ("s", b"arg 3"),
-        ("r", b"arg 5"),
-    ];
-    let mut files = shelf_of(alloc, &entries)?;
-    let (_hardened, _report) = call(alloc, &mut files, "harden i c m.wasm")?;
+    let mut files = prepared(alloc, module)?;
+    files.put("t", trace.as_bytes())?;
+    files.put("s", b"arg 3")?;
+    files.put("r", b"arg 5")?;
     let words = format!(in alloc; "twin i m/{export} t s r")?;
     call(alloc, &mut files, words.as_str())
 }
