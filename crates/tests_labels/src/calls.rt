@@ -6,7 +6,7 @@ use std::alloc::Global;
 use std::test::Fail;
 
 /// Magic number and version.
-static HEAD: &[u8] = b"\0asm\x01\0\0\0";
+const HEAD: &[u8] = b"\0asm\x01\0\0\0";
 
 /// Calls `blade` with the words of a line, and answers its status and what it printed.
 pub(crate) fn say(

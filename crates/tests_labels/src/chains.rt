@@ -4,37 +4,37 @@ use std::alloc::Global;
 use std::test::Fail;
 
 /// A function that tests its parameter: 8 is the move of the parameter, 9 the test.
-static TESTED: &[u8] =
+const TESTED: &[u8] =
     b"\x01\x05\x01`\x01\x7F\0\x03\x02\x01\0\x07\x05\x01\x01f\0\0\x0A\x09\x01\x07\0 \0\x04@\x0B\x0B";
 
 /// A function that tests what another one gives of its parameter: 8 the move, 9 the Arg, 10 the call, 11 the move of the result, 12
 /// the test; and in the other function 17 the move and 18 the Out.
-static CALLED: &[u8] =
+const CALLED: &[u8] =
     b"\x01\x0A\x02`\x01\x7F\0`\x01\x7F\x01\x7F\x03\x03\x02\0\x01\x07\x05\x01\x01f\0\0\x0A\x10\x02\x09\0 \0\x10\x01\x04@\x0B\x0B\
       \x04\0 \0\x0B";
 
 /// A function that tests a word of its memory: 11 is the load, 12 the test.
-static LOADED: &[u8] =
+const LOADED: &[u8] =
     b"\x01\x05\x01`\x01\x7F\0\x03\x02\x01\0\x05\x03\x01\0\x01\x07\x05\x01\x01f\0\0\x0A\x0C\x01\x0A\0 \0(\x02\0\x04@\x0B\x0B";
 
 /// A function that tests its global: 8 is the move, 9 the test.
-static GLOBAL: &[u8] =
+const GLOBAL: &[u8] =
     b"\x01\x04\x01`\0\0\x03\x02\x01\0\x06\x06\x01\x7F\x01A\0\x0B\x07\x05\x01\x01f\0\0\x0A\x09\x01\x07\0#\0\x04@\x0B\x0B";
 
 /// A function that stores its parameter: 9 is the move of the parameter, 12 the store.
-static STORED: &[u8] =
+const STORED: &[u8] =
     b"\x01\x05\x01`\x01\x7F\0\x03\x02\x01\0\x05\x03\x01\0\x01\x07\x05\x01\x01f\0\0\x0A\x0B\x01\x09\0A\0 \x006\x02\0\x0B";
 
 /// A function that divides its parameter by 3: 8 is the move, 12 the division.
-static DIVIDED: &[u8] =
+const DIVIDED: &[u8] =
     b"\x01\x05\x01`\x01\x7F\0\x03\x02\x01\0\x07\x05\x01\x01f\0\0\x0A\x0A\x01\x08\0 \0A\x03n\x1A\x0B";
 
 /// A function that leaves its parameter in a global: 8 and 9 are the moves.
-static LEFT: &[u8] =
+const LEFT: &[u8] =
     b"\x01\x05\x01`\x01\x7F\0\x03\x02\x01\0\x06\x06\x01\x7F\x01A\0\x0B\x07\x05\x01\x01f\0\0\x0A\x08\x01\x06\0 \0$\0\x0B";
 
 /// A function that gives a word of its memory: 11 is the load, 12 the Out.
-static GIVEN: &[u8] =
+const GIVEN: &[u8] =
     b"\x01\x06\x01`\x01\x7F\x01\x7F\x03\x02\x01\0\x05\x03\x01\0\x01\x07\x05\x01\x01f\0\0\x0A\x09\x01\x07\0 \0(\x02\0\x0B";
 
 /// The sections of a module, the bytes of its label section behind the name, and the report.
@@ -121,12 +121,12 @@ fn the_report_tells_where_a_secret_comes_from_and_where_it_goes(
 }
 
 /// A function that gives its parameter, a memory of a page and a global, the function exported: it has the commands 7 to 10.
-static FIRST: &[u8] =
+const FIRST: &[u8] =
     b"\x01\x06\x01`\x01\x7F\x01\x7F\x03\x02\x01\0\x05\x03\x01\0\x01\x06\x06\x01\x7F\x01A\0\x0B\x07\x05\x01\x01f\0\0\x0A\x06\x01\x04\0 \
       \0\x0B";
 
 /// Imports that function, and has one that tests its parameter: 12 is the move, 13 the test.
-static IMPORTS: &[u8] =
+const IMPORTS: &[u8] =
     b"\x01\x0A\x02`\x01\x7F\x01\x7F`\x01\x7F\0\x02\x07\x01\x01a\x01f\0\0\x03\x02\x01\x01\x0A\x09\x01\x07\0 \0\x04@\x0B\x0B";
 
 /// The sections and the labels of a module behind the first one, and the report.

@@ -4,14 +4,14 @@ use std::alloc::Global;
 use std::test::Fail;
 
 /// A function of type [i32] -> [] that is imported, a memory of a page and a global; and no function.
-static IMPORTED: &[u8] =
+const IMPORTED: &[u8] =
     b"\x01\x05\x01`\x01\x7F\0\x02\x0E\x01\x04host\x05print\0\0\x05\x03\x01\0\x01\x06\x06\x01\x7F\x01A\0\x0B";
 
 /// A memory of a page that can't grow.
-static MEMORY: &[u8] = b"\x05\x04\x01\x01\x01\x01";
+const MEMORY: &[u8] = b"\x05\x04\x01\x01\x01\x01";
 
 /// A function that adds without operands.
-static UNTYPED: &[u8] = b"\x01\x04\x01`\0\0\x03\x02\x01\0\x0A\x05\x01\x03\0j\x0B";
+const UNTYPED: &[u8] = b"\x01\x04\x01`\0\0\x03\x02\x01\0\x0A\x05\x01\x03\0j\x0B";
 
 /// The sections of a module, the bytes of its label section behind the name, and the line of the refusal.
 static CASES: [(&[u8], &[u8], &str); 18] = [
