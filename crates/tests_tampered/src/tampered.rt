@@ -76,7 +76,7 @@ fn a_changed_byte_of_an_image_is_told_by_run(rt: HostRuntime) -> Result<(), Fail
 }
 
 /// A module, and the status and the line of the refusal.
-static MODULES: [(&[u8], u8, &str); 4] = [
+static MODULES: [(&[u8], u8, &str); 3] = [
     // 4294967295 types, of which none is there
     (
         b"\0asm\x01\0\0\0\x01\x05\xFF\xFF\xFF\xFF\x0F",
@@ -88,12 +88,6 @@ static MODULES: [(&[u8], u8, &str); 4] = [
         b"\0asm\x01\0\0\0\x01\x04\x01`\0\0\x03\x02\x01\0\x0A\x0A\x01\x08\x01\xFF\xFF\xFF\xFF\x0F\x7F\x0B",
         8,
         "limit: locals 4294967295\n",
-    ),
-    // a function whose item is f64.const
-    (
-        b"\0asm\x01\0\0\0\x01\x04\x01`\0\0\x03\x02\x01\0\x0A\x0E\x01\x0C\0D\0\0\0\0\0\0\xF0\x3F\x1A\x0B",
-        7,
-        "unsupported: m\n",
     ),
     // a start section
     (
