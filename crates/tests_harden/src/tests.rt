@@ -126,23 +126,37 @@ fn harden_by(alloc: Global, shelf: MemoryShelf, modules: &[(&str, &[u8])]) -> Re
     Ok(Left { status, files, out })
 }
 
-/// Whether a text is a head, one of some middles, and a tail.
-fn is_one_of(
-    alloc: Global,
-    text: &[u8],
-    head: &str,
-    middles: &[&str],
-    tail: &str,
-) -> Result<bool, Fail> {
-    for middle in middles {
-        let middle = *middle;
-        let whole = format!(in alloc; "{head}{middle}{tail}")?;
-        if text == whole.as_bytes() {
+/// Whether the report ends with one of some paths, of which each stands with the certificate's `sink` and `sites`, and the certificate is
+/// that of the same path; the report begins with a head.
+fn has_path(alloc: Global, left: &Left, head: &str, paths: &[(&str, &str)]) -> Result<bool, Fail> {
+    for (path, of_certificate) in paths {
+        let path = *path;
+        let of_certificate = *of_certificate;
+        let report = format!(in alloc; "{head}{path}\nconstant-time yes\n")?;
+        let certificate = format!(in alloc;
+            "{{\"paths\":[{{\"amount\":1,{of_certificate}}}],\"weight\":1}}"
+        )?;
+        if left.report() == report.as_bytes() && left.file("c") == certificate.as_bytes() {
             return Ok(true);
         }
     }
     Ok(false)
 }
+
+/// Calls `blade` with the words of a line on what was left, and answers its status and what it printed.
+fn say(alloc: Global, shelf: &mut MemoryShelf, line: &str) -> Result<(u8, MemorySink), Fail> {
+    let mut out = MemorySink::new(alloc, None);
+    out.reserve(200)?;
+    let mut words = Vec::new(alloc);
+    for word in line.split(' ') {
+        words.push(String::from_str(alloc, word)?)?;
+    }
+    let status = blade(alloc, words.as_slice(), shelf, &mut out);
+    Ok((status, out))
+}
+
+/// What `verify` prints where all is well.
+const VERIFIED: &str = "certificate yes\nstable yes\nconstant-time yes\nsafe yes\n";
 
 #[test]
 fn a_module_without_functions_has_an_empty_report(rt: HostRuntime) -> Result<(), Fail> {
@@ -158,10 +172,19 @@ fn a_module_without_functions_has_an_empty_report(rt: HostRuntime) -> Result<(),
 
 #[test]
 fn a_sum_of_words_needs_no_protects(rt: HostRuntime) -> Result<(), Fail> {
-    let left = harden(rt.alloc(), &[("m.wasm", &SUM)])?;
+    let alloc = rt.alloc();
+    let mut left = harden(alloc, &[("m.wasm", &SUM)])?;
     assert_eq!(rt; left.status, 0);
     let report = "functions 1\ncommands 37\nsites 19\nprotects 0 weight 0\nconstant-time yes\n";
     assert_eq!(rt; left.report(), report.as_bytes());
+    assert_eq!(rt; left.file("c"), b"{\"paths\":[],\"weight\":0}".as_slice());
+    left.files.put("s", b"arg 1024\narg 3\n")?;
+    let (ran, out) = say(alloc, &mut left.files, "blade run i m/sum s")?;
+    assert_eq!(rt;
+        out.bytes(),
+        b"returned i32 6\nmemory 0 pages 2\n".as_slice()
+    );
+    assert_eq!(rt; ran, 0);
     Ok(())
 }
 
@@ -170,49 +193,75 @@ fn the_first_of_two_loads_in_a_chain_is_protected(rt: HostRuntime) -> Result<(),
     let alloc = rt.alloc();
     let left = harden(alloc, &[("m.wasm", &CHAIN)])?;
     assert_eq!(rt; left.status, 0);
-    let head = "functions 1\ncommands 17\nsites 6\nprotects 1 weight 1\nprotect 11 weight 1 path ";
-    let paths = ["11 sink 14", "11 12 sink 13"];
-    assert!(rt; is_one_of(alloc, left.report(), head, &paths, "\nconstant-time yes\n")?);
+    assert!(rt; has_path(alloc, &left, CHAIN_HEAD, &CHAIN_PATHS)?);
     assert_eq!(rt; left.file("i"), CHAIN_IMAGE.as_slice());
-    let head = "{\"paths\":[{\"amount\":1,\"sink\":";
-    let paths = ["14,\"sites\":[11]", "13,\"sites\":[11,12]"];
-    assert!(rt; is_one_of(alloc, left.file("c"), head, &paths, "}],\"weight\":1}")?);
     Ok(())
 }
 
+#[test]
+fn a_longer_spelling_of_a_size_gives_the_same_image(rt: HostRuntime) -> Result<(), Fail> {
+    let alloc = rt.alloc();
+    let mut long_size = CHAIN[..25].to_vec(alloc)?;
+    long_size.extend_from_slice(&[0x8C, 0x80, 0x80, 0x80, 0x00])?;
+    long_size.extend_from_slice(&CHAIN[26..])?;
+    let left = harden(alloc, &[("m.wasm", &long_size)])?;
+    assert_eq!(rt; left.status, 0);
+    assert_eq!(rt; left.file("i"), CHAIN_IMAGE.as_slice());
+    Ok(())
+}
+
+/// The report of two loads in a chain, up to the path of its protect.
+const CHAIN_HEAD: &str =
+    "functions 1\ncommands 17\nsites 6\nprotects 1 weight 1\nprotect 11 weight 1 path ";
+
+/// A path in the report and in the certificate.
+type Path = (&'static str, &'static str);
+
+/// The paths of its greatest flows.
+const CHAIN_PATHS: [Path; 2] = [
+    ("11 sink 14", "\"sink\":14,\"sites\":[11]"),
+    ("11 12 sink 13", "\"sink\":13,\"sites\":[11,12]"),
+];
+
 /// A module, the head of its report up to the path of its one protect, and the paths of the greatest flows.
-type Case = (&'static [u8], &'static str, &'static [&'static str]);
+type Case = (&'static [u8], &'static str, &'static [Path]);
 
 static CASES: [Case; 4] = [
     (
         &SUM_OF_LOADS,
         "functions 1\ncommands 22\nsites 10\nprotects 1 weight 1\nprotect 16 weight 1 path ",
         &[
-            "11 16 sink 19",
-            "11 16 17 sink 18",
-            "15 16 sink 19",
-            "15 16 17 sink 18",
+            ("11 16 sink 19", "\"sink\":19,\"sites\":[11,16]"),
+            ("11 16 17 sink 18", "\"sink\":18,\"sites\":[11,16,17]"),
+            ("15 16 sink 19", "\"sink\":19,\"sites\":[15,16]"),
+            ("15 16 17 sink 18", "\"sink\":18,\"sites\":[15,16,17]"),
         ],
     ),
     (
         &SHARED_ADDRESS,
         "functions 1\ncommands 24\nsites 12\nprotects 1 weight 1\nprotect 12 weight 1 path ",
         &[
-            "12 sink 16",
-            "12 14 sink 15",
-            "12 13 17 sink 20",
-            "12 13 17 18 sink 19",
+            ("12 sink 16", "\"sink\":16,\"sites\":[12]"),
+            ("12 14 sink 15", "\"sink\":15,\"sites\":[12,14]"),
+            ("12 13 17 sink 20", "\"sink\":20,\"sites\":[12,13,17]"),
+            ("12 13 17 18 sink 19", "\"sink\":19,\"sites\":[12,13,17,18]"),
         ],
     ),
     (
         &LOOP_READS,
         "functions 1\ncommands 22\nsites 8\nprotects 1 weight 1\nprotect 12 weight 1 path ",
-        &["12 13 15 sink 18", "12 13 15 16 sink 17"],
+        &[
+            ("12 13 15 sink 18", "\"sink\":18,\"sites\":[12,13,15]"),
+            ("12 13 15 16 sink 17", "\"sink\":17,\"sites\":[12,13,15,16]"),
+        ],
     ),
     (
         &LOOP_WRITES,
         "functions 1\ncommands 22\nsites 9\nprotects 1 weight 1\nprotect 16 weight 1 path ",
-        &["13 14 16 sink 19", "13 14 16 17 sink 18"],
+        &[
+            ("13 14 16 sink 19", "\"sink\":19,\"sites\":[13,14,16]"),
+            ("13 14 16 17 sink 18", "\"sink\":18,\"sites\":[13,14,16,17]"),
+        ],
     ),
 ];
 
@@ -220,9 +269,12 @@ static CASES: [Case; 4] = [
 fn one_protect_is_set_where_it_costs_least(rt: HostRuntime) -> Result<(), Fail> {
     let alloc = rt.alloc();
     for (sections, head, paths) in &CASES {
-        let left = harden(alloc, &[("m.wasm", *sections)])?;
+        let mut left = harden(alloc, &[("m.wasm", *sections)])?;
         assert_eq!(rt; left.status, 0);
-        assert!(rt; is_one_of(alloc, left.report(), *head, *paths, "\nconstant-time yes\n")?);
+        assert!(rt; has_path(alloc, &left, *head, *paths)?);
+        let (verified, lines) = say(alloc, &mut left.files, "blade verify i c")?;
+        assert_eq!(rt; lines.bytes(), VERIFIED.as_bytes());
+        assert_eq!(rt; verified, 0);
     }
     Ok(())
 }
@@ -235,9 +287,7 @@ fn two_modules_are_hardened_together_and_one_alone(rt: HostRuntime) -> Result<()
         &[("main.wasm", &BYTES_OF_BYTES), ("vault.wasm", &VAULT)],
     )?;
     assert_eq!(rt; left.status, 0);
-    let head = "functions 1\ncommands 17\nsites 6\nprotects 1 weight 1\nprotect 11 weight 1 path ";
-    let paths = ["11 sink 14", "11 12 sink 13"];
-    assert!(rt; is_one_of(alloc, left.report(), head, &paths, "\nconstant-time yes\n")?);
+    assert!(rt; has_path(alloc, &left, CHAIN_HEAD, &CHAIN_PATHS)?);
     let alone = harden(alloc, &[("vault.wasm", &VAULT)])?;
     assert_eq!(rt; alone.status, 0);
     let image = [

@@ -1,11 +1,10 @@
 -- What bytes spell is a part that can be linked, with labels that don't contradict themselves, and so are several whose names differ.
-use Rattle.std.proofs.Common.{◌≡◌, ℕ, ◌<◌, ◌≤◌, ◌^◌, zero, suc, List, [], ◌∷◌, ◌++◌, length, length-append, Option, Some, None, slice_get, refl, sym, subst, arith, absurd}
+use Rattle.std.proofs.Common.{◌≡◌, ℕ, ◌<◌, ◌≤◌, ◌^◌, zero, suc, List, [], ◌∷◌, ◌++◌, length, length-append, Some, None, slice_get, refl, sym, subst, arith}
 use Rattle.std.specs.List.{All}
 use Rattle.std.specs.Str.{IsUtf8}
 use Rattle.std.proofs.lemmas.List.Elements.{All-append, All-cons, All-nil}
 use Rattle.std.proofs.lemmas.Option.{none-some}
 use Rattle.bl_base.proofs.Lists.{all_get, some_same}
-use Rattle.bl_base.specs.Quantity.{limit_of}
 use Rattle.bl_labels.specs.Faults.{IsConsistent}
 use Rattle.bl_labels.specs.Marked.{unlabelled}
 use Rattle.bl_labels.specs.declared.labels.Labels.{Labels}

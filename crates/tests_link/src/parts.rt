@@ -46,16 +46,18 @@ fn part(alloc: Global, name: &str, bytes: &[u8]) -> Result<Option<Part>, NoMemor
     }))
 }
 
+/// Whether the part has another name.
+fn is_other(name: &[u8], one: &Part) -> bool
+    ensures { IsTrue result → one.now.name ≡ name.now → ⊥ }
+{
+    one.name.as_slice() != name
+}
+
 /// Whether none of the parts has that name.
 fn is_new(name: &[u8], parts: &[Part]) -> bool
     ensures { IsTrue result → All (λ one. one.name ≡ name.now → ⊥) parts.now }
 {
-    for one in parts {
-        if one.name.as_slice() == name {
-            return false;
-        }
-    }
-    true
+    parts.iter().all(|one| is_other(name, one))
 }
 
 /// The parts of those names and bytes, in their order; None where one is no part, or two have one name, or there are too many.

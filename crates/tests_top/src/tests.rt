@@ -222,8 +222,8 @@ fn modules_that_are_refused_and_one_by_a_long_spelling(rt: HostRuntime) -> Resul
                     0x6C, 0x73,
                 ],
             )?,
-            7,
-            "unsupported: inc\n",
+            10,
+            "labels: inc malformed\n",
         ),
         (vec![in alloc; 0; 4_194_305]?, 8, "limit: module 4194305\n"),
     ];
@@ -249,7 +249,7 @@ fn function_of(alloc: Global, sections: &[u8]) -> Result<Vec<u8>, Fail> {
 }
 
 #[test]
-fn modules_without_a_typing_are_named_before_those_of_another_form(
+fn modules_without_a_typing_are_named_before_those_with_malformed_labels(
     rt: HostRuntime,
 ) -> Result<(), Fail> {
     let alloc = rt.alloc();
@@ -266,8 +266,8 @@ fn modules_without_a_typing_are_named_before_those_of_another_form(
         ),
         (
             b"\x00\x0D\x0Cblade.labels\x0A\x06\x01\x04\x00\x00\x6A\x0B",
-            7,
-            "unsupported: inc\n",
+            10,
+            "labels: inc malformed\n",
         ),
         (
             &[

@@ -210,7 +210,7 @@ fn lowering_is_refused_as_running_is(rt: HostRuntime) -> Result<(), Fail> {
     let cases: [(&str, &[u8], u8, &str); 6] = [
         (LOWER, &untyped, 6, "invalid: m function 0\n"),
         (LOWER, &ADD_ONE[..39], 5, "malformed: m\n"),
-        (LOWER, &labelled, 7, "unsupported: m\n"),
+        (LOWER, &labelled, 10, "labels: m malformed\n"),
         ("blade lower i.img", &EMPTY, 2, usage),
         ("blade lower i.img m.wasm m.wasm", &EMPTY, 2, usage),
         ("blade lower i.img m.wasm --steps 7", &EMPTY, 2, usage),

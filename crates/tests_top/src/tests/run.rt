@@ -124,19 +124,10 @@ fn with_end(alloc: Global, without: usize, end: &[u8]) -> Result<Vec<u8>, Fail> 
     Ok(bytes)
 }
 
-/// The same with another byte at a place.
-fn with_byte(alloc: Global, place: usize, byte: u8) -> Result<Vec<u8>, Fail> {
-    let mut bytes = IMAGE.to_vec(alloc)?;
-    if place < bytes.len() {
-        bytes[place] = byte;
-    }
-    Ok(bytes)
-}
-
 #[test]
-fn bytes_that_are_no_image_and_images_that_break_a_rule(rt: HostRuntime) -> Result<(), Fail> {
+fn images_with_another_end_and_one_that_is_too_long(rt: HostRuntime) -> Result<(), Fail> {
     let alloc = rt.alloc();
-    let cases: [(Vec<u8>, u8, &str); 6] = [
+    let cases: [(Vec<u8>, u8, &str); 4] = [
         (with_end(alloc, 1, b"")?, 12, "image: not an image\n"),
         (with_end(alloc, 0, b"\x08")?, 12, "image: not an image\n"),
         (
@@ -144,8 +135,6 @@ fn bytes_that_are_no_image_and_images_that_break_a_rule(rt: HostRuntime) -> Resu
             16,
             "trapped unreachable\n",
         ),
-        (with_byte(alloc, 13, 0x04)?, 12, "image: rule 4 at 10\n"),
-        (with_byte(alloc, 24, 0x01)?, 12, "image: rule 3 at 0\n"),
         (
             vec![in alloc; 0x42; 134_217_729]?,
             8,
