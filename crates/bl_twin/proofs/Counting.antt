@@ -26,6 +26,11 @@ front_within [] ys = omega arith
 front_within (x ∷ xs) [] = omega arith
 front_within (x ∷ xs) (y ∷ ys) = within_by (is_same x y) x xs (common xs ys) (front_within xs ys)
 
+pub front_within_other : (xs ys : List Observation) → length (common xs ys) ≤ length ys
+front_within_other [] ys = omega arith
+front_within_other (x ∷ xs) [] = omega arith
+front_within_other (x ∷ xs) (y ∷ ys) = within_by (is_same x y) x ys (common xs ys) (front_within_other xs ys)
+
 -- ---- as far as a loop has come
 
 -- so many items are common, and then so many of those behind them as of the whole

@@ -1,5 +1,5 @@
 -- The longest common front of two lists.
-use Rattle.std.proofs.Common.{◌≡◌, ◌∙◌, ℕ, Bool, true, false, List, [], ◌∷◌, ◌++◌, length, None, slice_get, refl, sym, ap, subst, arith}
+use Rattle.std.proofs.Common.{◌≡◌, ◌∙◌, ℕ, Bool, true, false, List, [], ◌∷◌, ◌++◌, length, Some, None, slice_get, refl, sym, ap, subst, arith}
 use Rattle.std.proofs.lemmas.Bool.{eqb-true, eq-eqb, false≢true}
 use Rattle.std.proofs.lemmas.Option.{none-some, slice_get_past}
 use Rattle.std.specs.Prelude.{◌==◌, ◌&&◌, ◌↔◌, if◌then◌else◌}
@@ -79,6 +79,21 @@ equal_ends xs ys e =
 
 pub equal_ends_other : (xs ys : List Observation) → xs ≡ ys → slice_get ys (length (common xs ys)) ≡ None
 equal_ends_other xs ys e = subst (λ l. slice_get l (length (common xs ys)) ≡ None) e (equal_ends xs ys e)
+
+-- and no observation stands behind it in both
+apart_by : (b : Bool) (x y z : Observation) (xs ys front : List Observation) → is_same x y ≡ b
+    → (slice_get xs (length front) ≡ Some z → slice_get ys (length front) ≡ Some z → ⊥)
+    → slice_get (x ∷ xs) (length (grown b x front)) ≡ Some z → slice_get (y ∷ ys) (length (grown b x front)) ≡ Some z → ⊥
+apart_by true x y z xs ys front same rest e f = rest e f
+apart_by false x y z xs ys front same rest e f =
+    let is = some_same x z e ∙ sym (some_same y z f) in
+    false≢true (sym same ∙ ap (is_same x) (sym is) ∙ is_itself x)
+
+pub apart : (xs ys : List Observation) (z : Observation) → slice_get xs (length (common xs ys)) ≡ Some z
+    → slice_get ys (length (common xs ys)) ≡ Some z → ⊥
+apart [] ys z e f = none-some z e
+apart (x ∷ xs) [] z e f = none-some z f
+apart (x ∷ xs) (y ∷ ys) z e f = apart_by (is_same x y) x y z xs ys (common xs ys) refl (apart xs ys z) e f
 
 -- ---- the longest front
 

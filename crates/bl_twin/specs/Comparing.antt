@@ -1,5 +1,5 @@
 -- What is observed of two runs, side by side, and the text on it.
-use Rattle.std.specs.Prelude.{◌≡◌, ◌↔◌, ℕ, ◌+◌, ◌==◌, Bool, true, false, ◌&&◌, if◌then◌else◌, List, [], ◌∷◌, ◌++◌, length, slice_get, Option, Some, None, codes}
+use Rattle.std.specs.Prelude.{◌≡◌, ◌↔◌, ℕ, ◌+◌, ◌<◌, ◌==◌, Bool, true, false, ◌&&◌, if◌then◌else◌, List, [], ◌∷◌, ◌++◌, length, slice_get, Option, Some, None, codes}
 use Rattle.std.specs.Fmt.{decimal}
 use Rattle.std.specs.List.{flat_map}
 use Rattle.bl_rob.specs.Observed.{Observed}
@@ -112,8 +112,11 @@ pub record Tells (one other : Observed) : Type 0 where
   pub equal : comparison one other ≡ Equal ↔ (one ≡ other) × (one.refused ≡ None)
   pub stuck : comparison one other ≡ Stuck ↔ (one ≡ other) × ((place : ℕ) × (one.refused ≡ Some place))
 
--- what the text counts, of runs of so many directives: all of them, where the runs are equal to their end; and the place of the
--- directive that is refused, where they are stuck
+-- what the text counts, of runs of so many directives: all of them, where the runs are equal to their end; the place of the directive
+-- that is refused, where they are stuck; and where they differ, the place of a directive, at which they show different things
 pub record Counts (directives : ℕ) (one other : Observed) : Type 0 where
   pub equal : comparison one other ≡ Equal → length (common one.made other.made) ≡ directives
   pub stuck : comparison one other ≡ Stuck → one.refused ≡ Some (length (common one.made other.made) + 1)
+  pub differ : comparison one other ≡ Differ → length (common one.made other.made) < directives
+  pub shown : comparison one other ≡ Differ
+      → shown_behind one (length (common one.made other.made)) ≡ shown_behind other (length (common one.made other.made)) → ⊥

@@ -21,7 +21,8 @@ pub fn equal_exactly_where_not_different()
         → Tells (observed most program function one directives) (observed most program function other directives) }
 {}
 
-/// Of a comparison `Equal` the text tells the number of directives; of `Stuck` the place of the one that is refused.
+/// Of a comparison `Equal` the text tells the number of directives; of `Stuck` the place of the one that is refused; and of `Differ`
+/// the place of a directive at which the runs show different things.
 pub fn what_is_counted()
     ensures { (most : ℕ) (program : ProgramParts) (function : ℕ) (directives : Listed Directive) (one other : Start)
         → Counts (length directives) (observed most program function one directives) (observed most program function other directives) }
