@@ -1,6 +1,7 @@
 pub mod Chaining
 pub mod Counting
 pub mod Firsts
+pub mod Flowing
 pub mod Members
 pub mod Placing
 pub mod Ranging

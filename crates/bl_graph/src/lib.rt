@@ -1,9 +1,10 @@
 //! Where a program's values come from and go to: its loads, what its sites write and read, and what its sinks read; chains of
-//! sites from loads to sinks, and certificates of flow along them; labels of variables, and ways of secrets.
+//! sites from loads to sinks, and certificates of flow along them, with how much flows; labels of variables, and ways of secrets.
 #![tactic(auto)]
 
 mod certificate;
 mod facts;
+mod flows;
 pub mod laws;
 mod listing;
 mod reads;
@@ -12,6 +13,7 @@ mod writes;
 
 pub use certificate::{Certificate, FlowPath};
 pub use facts::{Graph, Read, SinkUse, Use, Write};
+pub use flows::{flow_sum, flows_through};
 pub use listing::graph;
 pub use secret::{Origin, SecretChain};
 pub use writes::{firsts_of, ranges, variables};

@@ -5,5 +5,4 @@ pub mod Links
 pub mod Marked
 pub mod Places
 pub mod Reading
-pub mod Sums
 pub mod Texts

@@ -6,11 +6,11 @@ ghost use Rattle.bl_witness.specs.Lookups.{JudgesPath, JudgesPaths};
 ghost use Rattle.bl_witness.specs.Verdicts.{Checks, Means};
 
 use crate::chains::is_chain;
-use crate::loads::{flow_sum, loads_of, overloaded};
+use crate::loads::overloaded;
 use crate::protects::{is_protected, protect_weight};
 use bl_base::{NoMemory, Pos};
 use bl_cmd::{ProgramParts, WellFormed};
-use bl_graph::{Certificate, FlowPath, Graph, graph, ranges};
+use bl_graph::{Certificate, FlowPath, Graph, flow_sum, flows_through, graph, ranges};
 use std::alloc::Global;
 
 /// Whether a certificate keeps its rules.
@@ -58,7 +58,7 @@ fn checked(
     if let Some((rule, index)) = first_broken(parts, &graph, paths) {
         return Ok(CertVerdict::No { rule, index });
     }
-    let loads = loads_of(alloc, parts.commands.len(), paths)?;
+    let loads = flows_through(alloc, parts.commands.len(), paths)?;
     if let Some(position) = overloaded(program, &loads) {
         return Ok(CertVerdict::No {
             rule: 4,

@@ -2,9 +2,9 @@ use Rattle.std.proofs.Common.{◌<◌, ◌∙◌, ◌+◌, ◌*◌, ◌-◌, ◌
 use Rattle.std.specs.List.{count_by}
 use Rattle.std.proofs.lemmas.List.{get_or-map, length-map, take_all}
 use Rattle.bl_base.specs.declared.number.Pos.{Pos}
-use Rattle.bl_witness.proofs.Sums.{add_more, add_none}
-use Rattle.bl_witness.proofs.loads.add_path.Goals as goal
-use Rattle.bl_witness.proofs.loads.add_path.Goals.{then-at-loads, else-at-loads}
+use Rattle.bl_graph.proofs.Flowing.{add_more, add_none}
+use Rattle.bl_graph.proofs.flows.add_path.Goals as goal
+use Rattle.bl_graph.proofs.flows.add_path.Goals.{then-at-flows, else-at-flows}
 
 pub loop-site-preserved : goal.loop-site-preserved
 loop-site-preserved c =
@@ -15,13 +15,13 @@ loop-site-preserved c =
     let more = c.loop-site-test.true in
     let lt : loop.site-index < length sites = omega arith in
     let there = get_or-map (λ (s : Pos). s.0) c.args.sites.now loop.site-index (record { 0 = 0 }) 0 more in
-    let auto = loop.auto.loads in
-    elim c.if-at-loads.branch [
-      | then-at-loads w ↦
-          rw w.loads-is (add_more c.args.loads.now loop.loads sites loop.site-index c.args.amount u lt there loop.invariant w.if-at-loads.true w.saturating_add.result w.saturating_add.ensures)
-      | else-at-loads w ↦
-          let past = w.if-at-loads.false in
-          rw w.loads-is (add_none c.args.loads.now loop.loads sites loop.site-index c.args.amount u lt there loop.invariant (omega arith))
+    let auto = loop.auto.flows in
+    elim c.if-at-flows.branch [
+      | then-at-flows w ↦
+          rw w.flows-is (add_more c.args.flows.now loop.flows sites loop.site-index c.args.amount u lt there loop.invariant w.if-at-flows.true w.saturating_add.result w.saturating_add.ensures)
+      | else-at-flows w ↦
+          let past = w.if-at-flows.false in
+          rw w.flows-is (add_none c.args.flows.now loop.flows sites loop.site-index c.args.amount u lt there loop.invariant (omega arith))
     ]
 
 pub returns : goal.returns
@@ -30,4 +30,4 @@ returns c = λ s below.
     let long = length-map c.args.sites.now (λ (s : Pos). s.0) in
     let past = c.loop-site-test.false in
     c.loop-site.invariant s below
-    ∙ ap (λ l. min (slice_index c.args.loads.now s + c.args.amount * count_by (λ t. nat_eq t s) l) (2 ^ 64 - 1)) (take_all c.loop-site.site-index sites (omega arith))
+    ∙ ap (λ l. min (slice_index c.args.flows.now s + c.args.amount * count_by (λ t. nat_eq t s) l) (2 ^ 64 - 1)) (take_all c.loop-site.site-index sites (omega arith))
