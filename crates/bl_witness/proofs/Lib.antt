@@ -6,3 +6,4 @@ pub mod Marked
 pub mod Places
 pub mod Reading
 pub mod Texts
+pub mod Tokens

@@ -1,12 +1,18 @@
 -- The value of a certificate is read as that certificate.
-use Rattle.std.proofs.Common.{◌≡◌, ◌∙◌, ◌<◌, ◌≤◌, ◌^◌, ap, sym, refl, ℕ, List, [], ◌∷◌, map, Some, None, arith, lt-ltb}
+use Rattle.std.proofs.Common.{◌≡◌, ◌∙◌, ◌<◌, ◌≤◌, ◌^◌, ap, sym, refl, ℕ, List, [], ◌∷◌, map, Some, None, option_and_then, append-nil, arith, lt-ltb}
 use Rattle.std.specs.Prelude.{Ok, Err, Result, IsUtf8}
 use Rattle.std.specs.List.{All}
 use Rattle.std.proofs.lemmas.Bool.{cond-true}
 use Rattle.std.proofs.lemmas.List.Elements.{All-head, All-tail}
-use Rattle.serde_json.specs.Data.{Data, depth, items_depth}
-use Rattle.serde_json.specs.Read.{max_depth, read}
+use Rattle.json.specs.Json.{if_last, value}
+use Rattle.json.specs.Lex.{tokens}
+use Rattle.json.specs.Tree.{depth, items_depth, json_tokens}
+use Rattle.json.proofs.Printed.Trees.{value-json_tokens}
+use Rattle.serde_json.specs.Data.{Data}
+use Rattle.serde_json.specs.Read.{max_depth, of_items, of_json, read}
 use Rattle.serde_json.specs.View.{items_of}
+use Rattle.serde_json.specs.Written.{items_outline, outline}
+use Rattle.serde_json.proofs.Numbers.{number_of-decimal}
 use Rattle.bl_base.specs.declared.number.Pos.{Pos}
 use Rattle.bl_graph.specs.Certificates.{sites_of}
 use Rattle.bl_graph.specs.declared.certificate.FlowPath.{FlowPath}
@@ -39,17 +45,39 @@ paths_are (path ∷ paths) h = rw (path_is path (All-head IsPathInRange path pat
 certificate_is : (c : Certificate) → IsInRange c → certificate_of (data_of c) ≡ Some c
 certificate_is c h = rw (whole_is (2 ^ 64) c.weight h.weight, paths_are c.paths h.paths) refl
 
--- ---- its depth
+-- ---- its tokens are read as it
 
-items_shallow : {A : Type 0} (f : A → Data) (k : ℕ) → ((x : A) → depth (f x) ≤ k) → (xs : List A) → items_depth (items_of (map f xs)) ≤ k
+sites_read : (sites : List Pos) → All (λ (s : Pos). s.0 < 2 ^ 32) sites
+    → of_items (items_outline (items_of (map whole (map (λ (s : Pos). s.0) sites)))) ≡ Some (items_of (map whole (map (λ (s : Pos). s.0) sites)))
+sites_read [] h = refl
+sites_read (s ∷ sites) h =
+    let below = All-head (λ (t : Pos). t.0 < 2 ^ 32) s sites h in
+    rw (number_of-decimal s.0 (omega (arith, below)), sites_read sites (All-tail (λ (t : Pos). t.0 < 2 ^ 32) s sites h)) refl
+
+path_read : (path : FlowPath) → IsPathInRange path → of_json (outline (path_data path)) ≡ Some (path_data path)
+path_read path h = rw (number_of-decimal path.amount h.amount, number_of-decimal path.sink.0 (omega (arith, h.sink)), sites_read path.sites h.sites) refl
+
+paths_read : (paths : List FlowPath) → All IsPathInRange paths → of_items (items_outline (items_of (map path_data paths))) ≡ Some (items_of (map path_data paths))
+paths_read [] h = refl
+paths_read (path ∷ paths) h = rw (path_read path (All-head IsPathInRange path paths h), paths_read paths (All-tail IsPathInRange path paths h)) refl
+
+certificate_read : (c : Certificate) → IsInRange c → of_json (outline (data_of c)) ≡ Some (data_of c)
+certificate_read c h = rw (paths_read c.paths h.paths, number_of-decimal c.weight h.weight) refl
+
+items_shallow : {A : Type 0} (f : A → Data) (k : ℕ) → ((x : A) → depth (outline (f x)) ≤ k) → (xs : List A) → items_depth (items_outline (items_of (map f xs))) ≤ k
 items_shallow f k h [] = omega arith
 items_shallow f k h (x ∷ xs) = omega (arith, h x, items_shallow f k h xs)
 
-path_shallow : (path : FlowPath) → depth (path_data path) ≤ 2
+path_shallow : (path : FlowPath) → depth (outline (path_data path)) ≤ 2
 path_shallow path = omega (arith, items_shallow whole 0 (λ n. omega arith) (sites_of path))
 
-pub shallow : (c : Certificate) → depth (data_of c) ≤ max_depth
+shallow : (c : Certificate) → depth (outline (data_of c)) ≤ max_depth
 shallow c = omega (arith, items_shallow path_data 2 path_shallow c.paths)
+
+pub value_read : (c : Certificate) → IsInRange c → (text : List ℕ) → tokens text ≡ json_tokens (outline (data_of c)) → read text ≡ Some (data_of c)
+value_read c range text same =
+    ap (λ o. option_and_then of_json (option_and_then (λ p. if_last p.0 p.1) o))
+    (ap (value max_depth) (same ∙ sym (append-nil _)) ∙ value-json_tokens (outline (data_of c)) max_depth [] (shallow c)) ∙ certificate_read c range
 
 -- ---- whoever reads its text finds it
 

@@ -1,5 +1,6 @@
 pub mod Lookups
 pub mod Shapes
 pub mod Texts
+pub mod Tokens
 pub mod Values
 pub mod Verdicts

@@ -1,70 +1,77 @@
 //! Certificates written as JSON.
-ghost use Rattle.std.specs.Prelude.{◌≡◌, ◌<◌, ◌^◌, All, IfOk, map, string_bytes};
-ghost use Rattle.serde_json.specs.Data.{array};
-ghost use Rattle.serde_json.specs.View.{items_of, view};
-ghost use Rattle.bl_graph.specs.Certificates.{sites_of};
+ghost use Rattle.std.specs.Prelude.{◌≡◌, ◌<◌, ◌^◌, All, IfOk, flat_map, map};
 ghost use Rattle.bl_witness.specs.Shapes.{IsReadAs};
 ghost use Rattle.bl_witness.specs.Texts.{certificate_text};
-ghost use Rattle.bl_witness.specs.Values.{IsInRange, IsPathInRange, data_of, path_data, whole};
+ghost use Rattle.bl_witness.specs.Tokens.{Adds, certificate_tokens, path_tokens, site_token};
+ghost use Rattle.bl_witness.specs.Values.{IsInRange, IsPathInRange};
 
 use bl_base::{NoMemory, Pos, Text};
 use bl_graph::{Certificate, FlowPath};
-use serde_json::{Value, json};
+use json::Writer;
 use std::alloc::Global;
 
 /// The text of a certificate: a compact JSON object without spaces. Whoever reads it finds that certificate. Linear in the
-/// certificate; want of memory is the only error.
+/// certificate, in time and in memory: nothing but the text is kept. Want of memory is the only error.
 pub fn to_json(alloc: Global, certificate: &Certificate) -> Result<Text, NoMemory>
     ensures text { IfOk result (λ text. text ≡ certificate_text certificate.now) }
     ensures back { IfOk result (λ text. IsReadAs text certificate.now) }
 {
     in_range(certificate);
-    let value = certificate_value(alloc, certificate)?;
-    let text = value.to_string(alloc)?;
-    Ok(Text::of(text.into_bytes()))
+    let mut out = Writer::new(Vec::new(alloc));
+    write_certificate(&mut out, certificate)?;
+    Ok(Text::of(out.into_inner()))
 }
 
-/// A certificate as an object.
-fn certificate_value(alloc: Global, certificate: &Certificate) -> Result<Value, NoMemory>
-    ensures { IfOk result (λ value. view value ≡ data_of certificate.now) }
+/// Writes a certificate as an object.
+fn write_certificate(out: &mut Writer, certificate: &Certificate) -> Result<(), NoMemory>
+    ensures { IfOk result (λ _. Adds out.old out.new (certificate_tokens certificate.now)) }
 {
-    let weight = certificate.weight;
-    let paths = paths_value(alloc, certificate.paths.as_slice())?;
-    let value = json!(in alloc; {"paths": paths, "weight": weight})?;
-    Ok(value)
+    out.begin_object()?;
+    out.key("paths")?;
+    out.begin_array()?;
+    write_paths(out, certificate.paths.as_slice())?;
+    out.end_array()?;
+    out.key("weight")?;
+    out.u64(certificate.weight)?;
+    out.end_object()?;
+    Ok(())
 }
 
-/// The array of paths.
-fn paths_value(alloc: Global, paths: &[FlowPath]) -> Result<Value, NoMemory>
-    ensures { IfOk result (λ value. view value ≡ array (items_of (map path_data paths.now))) }
+/// Writes paths, one behind the other.
+fn write_paths(out: &mut Writer, paths: &[FlowPath]) -> Result<(), NoMemory>
+    ensures { IfOk result (λ _. Adds out.old out.new (flat_map path_tokens paths.now)) }
 {
-    let mut list = Vec::new(alloc);
     for path in paths {
-        list.push(path_value(alloc, path)?)?;
+        write_path(out, path)?;
     }
-    Ok(Value::Array(list))
+    Ok(())
 }
 
-/// A path as an object.
-fn path_value(alloc: Global, path: &FlowPath) -> Result<Value, NoMemory>
-    ensures { IfOk result (λ value. view value ≡ path_data path.now) }
+/// Writes a path as an object.
+fn write_path(out: &mut Writer, path: &FlowPath) -> Result<(), NoMemory>
+    ensures { IfOk result (λ _. Adds out.old out.new (path_tokens path.now)) }
 {
-    let amount = path.amount;
-    let sink = path.sink.0;
-    let sites = sites_value(alloc, path.sites.as_slice())?;
-    let value = json!(in alloc; {"amount": amount, "sink": sink, "sites": sites})?;
-    Ok(value)
+    out.begin_object()?;
+    out.key("amount")?;
+    out.u64(path.amount)?;
+    out.key("sink")?;
+    out.u64(u64::from(path.sink.0))?;
+    out.key("sites")?;
+    out.begin_array()?;
+    write_sites(out, path.sites.as_slice())?;
+    out.end_array()?;
+    out.end_object()?;
+    Ok(())
 }
 
-/// The array of positions.
-fn sites_value(alloc: Global, sites: &[Pos]) -> Result<Value, NoMemory>
-    ensures { IfOk result (λ value. view value ≡ array (items_of (map whole (map (λ s. s.0) sites.now)))) }
+/// Writes positions, one behind the other.
+fn write_sites(out: &mut Writer, sites: &[Pos]) -> Result<(), NoMemory>
+    ensures { IfOk result (λ _. Adds out.old out.new (map site_token sites.now)) }
 {
-    let mut list = Vec::new(alloc);
     for site in sites {
-        list.push(Value::from(site.0))?;
+        out.u64(u64::from(site.0))?;
     }
-    Ok(Value::Array(list))
+    Ok(())
 }
 
 /// Makes known that a certificate's numbers lie in their ranges; does nothing else.
