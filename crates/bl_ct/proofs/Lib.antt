@@ -8,6 +8,7 @@ pub mod Judging
 pub mod Knowing
 pub mod Leading
 pub mod Listing
+pub mod Nothing
 pub mod Reaching
 pub mod RowLists
 pub mod Rowing

@@ -1,7 +1,9 @@
 //! Whether a program is constant time.
-ghost use Rattle.std.specs.Prelude.{◌≡◌, ◌<◌, ℕ, All, IfOk, length, map};
+ghost use Rattle.std.specs.Prelude.{◌≡◌, ◌<◌, ℕ, All, IfOk, length, map, replicate};
+ghost use Rattle.bl_base.specs.declared.names.Label.TheVariants as label;
 ghost use Rattle.bl_graph.specs.Graphs.{IsGraph};
 ghost use Rattle.bl_graph.specs.SecretChains.{IsSecretChain};
+ghost use Rattle.bl_ct.specs.Facts.{IsKnown};
 ghost use Rattle.bl_ct.specs.Finding.{Has, IsLeak, Stands};
 ghost use Rattle.bl_ct.specs.Leaks.{LeakFound, LeakOf};
 ghost use Rattle.bl_ct.specs.Verdicts.{Judges, label_of};
@@ -44,14 +46,41 @@ pub fn constant_time(
     ensures { IfOk result (λ verdict. Judges program.now verdict) }
 {
     let facts = facts_of(alloc, program.program().parts())?;
+    if facts.declared.is_empty() && facts.loads.is_empty() {
+        let labels = all_public(alloc, variables(program))?;
+        return Ok(CtVerdict::Yes(labels));
+    }
     let known = Known {
         program,
         graph,
         facts: &facts,
     };
-    let demanded = marked(alloc, variables(program), facts.demanded.as_slice())?;
-    let ends = ends_of(alloc, &known, &demanded)?;
-    let found = secret_variables(alloc, &known)?;
+    judge(alloc, &known)
+}
+
+/// So many labels, all of them Public.
+fn all_public(alloc: Global, count: u32) -> Result<List<Label>, NoMemory>
+    ensures { IfOk result (λ labels. labels ≡ replicate count label.Public) }
+{
+    let mut labels = Vec::new(alloc);
+    for _ in 0..count {
+        labels.push(Label::Public)?;
+    }
+    Ok(List::of(labels))
+}
+
+/// The same by a search from what is declared secret.
+fn judge(alloc: Global, known: &Known) -> Result<CtVerdict, NoMemory>
+    requires { IsKnown known.now }
+    ensures { IfOk result (λ verdict. Judges known.now.program.now verdict) }
+{
+    let demanded = marked(
+        alloc,
+        variables(known.program),
+        known.facts.demanded.as_slice(),
+    )?;
+    let ends = ends_of(alloc, known, &demanded)?;
+    let found = secret_variables(alloc, known)?;
     match first_leak(&found.queue, &ends, &demanded) {
         Some(leak) => {
             let chain = known.chain_to(alloc, &found.queue, leak)?;
