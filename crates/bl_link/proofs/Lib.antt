@@ -1,6 +1,4 @@
-pub mod Contexts
 pub mod Counted
-pub mod ExportNames
 pub mod FaultLemmas
 pub mod Linking
 pub mod Matched
@@ -8,12 +6,10 @@ pub mod NamedLemmas
 pub mod NameLemmas
 pub mod NumberedPairs
 pub mod Numbering
-pub mod Pairing
 pub mod Parted
 pub mod Placed
 pub mod SegmentLemmas
 pub mod Spelled
-pub mod TreeLemmas
 pub mod Whole
 pub mod WorkedLinks
 pub mod Naming
@@ -23,4 +19,3 @@ pub mod PartLemmas
 pub mod SpelledParts
 pub mod Reading
 pub mod TreeParts
-pub mod SpelledAlone

@@ -9,7 +9,6 @@ use Rattle.bl_base.specs.declared.quantity.Quantity.TheVariants.{Reserve}
 use Rattle.bl_link.specs.Linkable.{AreParts, IsPart, IsSound}
 use Rattle.bl_link.specs.Links.{nothing, reserves, with_next}
 use Rattle.bl_link.specs.Parts.{LinkError, Limit, Part, Store}
-use Rattle.bl_link.specs.declared.error.LinkError.TheVariants.{Memory as NoRoom}
 use Rattle.bl_link.specs.Stores.{IsStore}
 use Rattle.bl_link.proofs.Numbering.{element, get_right}
 use Rattle.std.specs.Prelude.{sum_by, IsTrue}
@@ -18,7 +17,6 @@ use Rattle.std.proofs.lemmas.List.Elements.{All-head, All-tail}
 use Rattle.std.proofs.lemmas.List.Sums.{sum_by-cons}
 use Rattle.bl_wasm.specs.Linked.{IsMemory}
 use Rattle.bl_wasm.specs.declared.linked.Memory.{Memory}
-use Rattle.bl_link.specs.Giving.{Gives}
 use Rattle.bl_link.proofs.Whole.{fresh_of, nothing_is, step_kept, whole}
 
 pub can : (store : Store) (number : ℕ) (rest left : List Part) (part : Part) → AreLeft store number rest → rest ≡ part ∷ left → CanLink store part
@@ -63,14 +61,6 @@ fold_more store number rest left part r is_next made =
 -- or wasn't
 pub fold_fails : (store : Store) (number : ℕ) (rest left : List Part) (part : Part) (e : LinkError) → rest ≡ part ∷ left → with_next (Ok store) (number, part) ≡ Err e → fold with_next (Ok store) (enumerate_from number rest) ≡ Err e
 fold_fails store number rest left part e is_next made = fold_more store number rest left part (Err e) is_next made ∙ stays_err e (enumerate_from (number + 1) left)
-
-pub fold_none : (store : Store) (number : ℕ) (rest : List Part) → rest ≡ [] → fold with_next (Ok store) (enumerate_from number rest) ≡ Ok store
-fold_none store number rest none = ap (λ (x : List Part). fold with_next (Ok store) (enumerate_from number x)) none
-
--- an error is passed on
-pub gives_err : {A B : Type 0} (e : LinkError) (a : Result A LinkError) (b : Result B LinkError) → (a ≡ Err e → b ≡ Err e) → Gives (Err e) a → Gives (Err e) b
-gives_err NoRoom a b f h = tt
-gives_err e a b f h = f h
 
 -- all reserves are few
 reserve_sum : (memories : List Memory) → All IsMemory memories → sum_by (λ memory. memory.reserve) memories ≤ 256 * length memories

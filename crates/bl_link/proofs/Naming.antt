@@ -1,5 +1,5 @@
 -- Names that are added one after another.
-use Rattle.std.proofs.Common.{◌≡◌, ◌∙◌, refl, sym, ap, subst, ℕ, zero, suc, ◌+◌, ◌<◌, List, [], ◌∷◌, ◌++◌, length, get_or, drop, map, true, false, cond, Bool, Option, Some, None, slice_get, filter_map, arith, append_assoc}
+use Rattle.std.proofs.Common.{◌≡◌, ◌∙◌, refl, sym, ap, subst, ℕ, suc, ◌+◌, ◌<◌, List, [], ◌∷◌, ◌++◌, length, get_or, drop, map, true, false, cond, Option, Some, None, slice_get, filter_map, arith, append_assoc}
 use Rattle.std.specs.List.{All, cons_option}
 use Rattle.std.specs.Bool.{Decides}
 use Rattle.std.specs.Str.{IsUtf8, bytes_eq}
@@ -8,11 +8,9 @@ use Rattle.std.proofs.lemmas.Option.{slice_get_within}
 use Rattle.std.proofs.lemmas.Slice.Eq.{bytes_eq-Decides}
 use Rattle.bl_wasm.specs.Exports.{AreDistinct, Pairs, number_of}
 use Rattle.bl_wasm.specs.declared.module.Export.{Export}
-use Rattle.bl_wasm.specs.declared.module.ExportKind.{ExportKind}
 use Rattle.bl_wasm.specs.declared.module.ExportKind.TheVariants as export
-use Rattle.bl_link.specs.Alone.{qualified}
 use Rattle.bl_link.specs.Links.{exported, pair}
-use Rattle.bl_link.specs.Named.{value_named}
+use Rattle.bl_link.specs.Named.{qualified, value_named}
 use Rattle.bl_link.specs.NamedPairs.{Values}
 use Rattle.bl_link.specs.Parts.{External, Spaces, number, space}
 use Rattle.bl_link.specs.Stores.{AreApart}

@@ -1,5 +1,5 @@
 -- A part is linked by the steps of its code.
-use Rattle.std.proofs.Common.{◌≡◌, ◌∙◌, refl, sym, ap, subst, ℕ, List, ◌++◌, map, Result, Ok, Err}
+use Rattle.std.proofs.Common.{◌≡◌, ◌∙◌, sym, ap, subst, ℕ, List, ◌++◌, map, Result, Ok}
 use Rattle.bl_labels.specs.declared.labels.Labels.{Labels}
 use Rattle.bl_wasm.specs.declared.module.Module.{Module}
 use Rattle.bl_link.specs.CanLink.{CanLink}
@@ -24,10 +24,6 @@ can_link store part name wasm labels n w l can = subst (CanLink store) (sym (sam
 pub makes_part : {B : Type 0} (store new : Store) (number : ℕ) (part : Part) (name : List ℕ) (wasm : Module) (labels : Labels) (r : Result B LinkError) → name ≡ part.name → wasm ≡ part.wasm → labels ≡ part.labels
     → Makes r new (with_next (Ok store) (number, part_of name wasm labels)) → Makes r new (with_next (Ok store) (number, part))
 makes_part store new number part name wasm labels r n w l h = subst (λ (q : Part). Makes r new (with_next (Ok store) (number, q))) (same_part part name wasm labels n w l) h
-
--- imports that are refused
-pub next_fails : (store : Store) (part : Part) (number : ℕ) (e : LinkError) → all_given store part.wasm number ≡ Err e → with_next (Ok store) (number, part) ≡ Err e
-next_fails store part number e failed = ap (λ (o : Result (List External) LinkError). on_ok o (with_given store (number, part))) failed
 
 module _ (store : Store) (part : Part) (number : ℕ) (given : List External) (spaces : Spaces) (can : CanLink store part) (made : all_given store part.wasm number ≡ Ok given) (s : spaces ≡ spaces_of store part.wasm given) where
   pub room_at : HasRoom store.tree part spaces

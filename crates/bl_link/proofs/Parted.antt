@@ -14,7 +14,7 @@ use Rattle.bl_base.specs.declared.names.ValueType.TheVariants as value
 use Rattle.bl_wasm.specs.Exports.{AreDistinct}
 use Rattle.bl_wasm.specs.Linked.{HasImmediates, IsFunction, IsMemory}
 use Rattle.bl_wasm.specs.Typing.{integer}
-use Rattle.bl_wasm.specs.Validity.{HasTyping, IsElement, IsFirst, IsFunctionType, functions_of, imported, memory_of, table_of, function_of, global_of, space_of}
+use Rattle.bl_wasm.specs.Validity.{HasTyping, IsElement, IsFirst, functions_of, imported, memory_of, table_of, function_of, global_of, space_of}
 use Rattle.bl_wasm.specs.Validity.{IsMemory as IsMemoryType}
 use Rattle.bl_wasm.specs.declared.instruction.Instr.{Instr}
 use Rattle.bl_wasm.specs.declared.instruction.Instr.TheVariants.{I32Const, I64Const, GlobalGet}
@@ -36,12 +36,12 @@ use Rattle.bl_link.specs.Growing.{Grows}
 use Rattle.bl_labels.specs.declared.labels.Labels.{Labels}
 use Rattle.bl_labels.specs.Marked.{is_listed}
 use Rattle.bl_base.specs.Quantity.{limit_of}
-use Rattle.bl_base.specs.declared.quantity.Quantity.TheVariants.{Locals, Memory as FirstPages, Results}
+use Rattle.bl_base.specs.declared.quantity.Quantity.TheVariants.{Locals, Results}
 use Rattle.bl_wasm.specs.Limits.{local_count, param_count}
 use Rattle.bl_link.specs.Linkable.{IsPart, IsSound}
-use Rattle.bl_link.specs.Alone.{of_function, signature, value_of}
-use Rattle.bl_link.specs.Links.{exported, first_value, function, global, indexed, memory, pair, secret_if, table, with_part}
+use Rattle.bl_link.specs.Links.{exported, first_value, function, global, indexed, memory, of_function, pair, secret_if, table, with_part}
 use Rattle.bl_link.specs.Parts.{External, Part, Spaces, Store, number, of_kind, space, spaces_of}
+use Rattle.bl_link.specs.Signatures.{signature, value_of}
 use Rattle.bl_link.specs.Stores.{IsStore, IsTable, OfPart, ValueOfPart}
 use Rattle.bl_link.proofs.Matched.{HasGlobal, OfIndex, Suits, globals_suit}
 use Rattle.bl_link.proofs.NameLemmas.{before_solidus, behind_solidus, came, apart_append, apart_map, mapped, distinct_filtered, NoSolidus}

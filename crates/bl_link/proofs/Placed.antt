@@ -27,7 +27,7 @@ use Rattle.bl_wasm.specs.declared.linked.Global.{Global}
 use Rattle.bl_wasm.specs.declared.linked.Tree.{Tree}
 use Rattle.bl_link.specs.Growing.{Grows}
 use Rattle.bl_labels.specs.Marked.{is_place}
-use Rattle.bl_link.specs.Alone.{signature, value_of}
+use Rattle.bl_link.specs.Signatures.{signature, value_of}
 use Rattle.bl_link.specs.Links.{count, function, global, indexed, memory, secret_if, table, with_part}
 use Rattle.bl_link.specs.Parts.{External, Part, Spaces as PartSpaces, Store, names, number, of_kind, spaces_of}
 use Rattle.bl_wasm.specs.Renaming.{NameAlike, Names, Spaces, placed, renamed, IsOfType}

@@ -1,41 +1,23 @@
 -- There are few enough of what is linked for numbers of 32 bits.
-use Rattle.std.proofs.Common.{◌≡◌, ◌∙◌, refl, sym, ap, subst, ℕ, ◌+◌, ◌*◌, ◌^◌, ◌<◌, ◌≤◌, List, [], ◌∷◌, ◌++◌, length, map, true, false, Bool, Option, Some, None, filter_map, arith, length-append, Result, Ok, Err}
-use Rattle.std.specs.List.{All, AllZip, Contains, cons_option, range_with_len}
+use Rattle.std.proofs.Common.{◌≡◌, ◌∙◌, ap, ℕ, ◌+◌, ◌^◌, ◌<◌, ◌≤◌, List, [], ◌∷◌, ◌++◌, length, map, Option, Some, None, filter_map, arith, length-append, Ok}
+use Rattle.std.specs.List.{AllZip, cons_option, range_with_len}
 use Rattle.std.proofs.lemmas.List.{length-map}
 use Rattle.std.proofs.lemmas.List.FromFn.{length-range_with_len}
 use Rattle.std.specs.Prelude.{if◌then◌else◌}
-use Rattle.bl_wasm.specs.Exports.{AreDistinct}
-use Rattle.bl_wasm.specs.Validity.{imported, function_of, memory_of, table_of, global_of, functions_of, globals_of}
+use Rattle.bl_wasm.specs.Validity.{imported, function_of, memory_of, global_of}
 use Rattle.bl_wasm.specs.declared.module.DefinedGlobal.{DefinedGlobal}
 use Rattle.bl_wasm.specs.declared.module.ExportKind.{ExportKind}
 use Rattle.bl_wasm.specs.declared.module.ExportKind.TheVariants as export
 use Rattle.bl_link.specs.CanLink.{CanLink}
-use Rattle.bl_link.specs.HasRoom.{HasNumbers, HasRoom, IsSpace}
+use Rattle.bl_link.specs.HasRoom.{HasRoom, IsSpace}
 use Rattle.bl_link.specs.Links.{exported, with_part}
 use Rattle.bl_link.specs.Matching.{all_given}
-use Rattle.bl_link.specs.Parts.{External, LinkError, Part, Spaces, Store, of_kind, same_kind, spaces_of}
+use Rattle.bl_link.specs.Parts.{External, Part, Store, of_kind, same_kind, spaces_of}
 use Rattle.bl_link.specs.Stores.{AreApart, IsStore}
 use Rattle.bl_link.proofs.Matched.{Suits}
 use Rattle.bl_link.proofs.Numbering.{zip_length}
 use Rattle.bl_link.proofs.Parted.{part_kept}
 use Rattle.bl_link.proofs.Whole.{all_suit}
-
--- what is defined gets numbers of 32 bits
-pub numbers_of : (store : Store) (part : Part) → CanLink store part → HasNumbers store part.wasm
-numbers_of store part can = record {
-  types = omega (arith, can.is.type_count, can.few, can.good.types);
-  functions = omega (arith, can.is.function_count, can.few, can.good.functions, length-append (imported function_of part.wasm) part.wasm.functions);
-  tables = omega (arith, can.is.table_count, can.few, can.sound.typed.rules.one_table, length-append (imported table_of part.wasm) part.wasm.tables);
-  memories = omega (arith, can.is.memory_count, can.few, can.sound.typed.rules.one_memory, length-append (imported memory_of part.wasm) part.wasm.memories);
-  globals = omega (
-    arith,
-    can.is.global_count,
-    can.few,
-    can.good.globals,
-    length-append (imported global_of part.wasm) (map (λ (global : DefinedGlobal). global.kind) part.wasm.globals),
-    length-map part.wasm.globals (λ (global : DefinedGlobal). global.kind),
-  );
-}
 
 -- ---- the spaces of a part
 

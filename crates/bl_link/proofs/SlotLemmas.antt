@@ -1,6 +1,6 @@
 -- Element segments that are written one after another.
-use Rattle.std.proofs.Common.{◌≡◌, ◌∙◌, refl, sym, ap, subst, ℕ, zero, suc, ◌+◌, ◌<◌, ◌≤◌, ◌&&◌, List, [], ◌∷◌, ◌++◌, length, get_or, set, map, take, drop, true, false, Bool, Option, Some, slice_get, option_map, arith, length-append, length-take, append_assoc, append-nil, add-zero}
-use Rattle.std.specs.Prelude.{IsTrue, fold, nat_le, unwrap_or}
+use Rattle.std.proofs.Common.{◌≡◌, ◌∙◌, refl, sym, ap, subst, ℕ, zero, suc, ◌+◌, ◌<◌, ◌≤◌, ◌&&◌, List, [], ◌∷◌, ◌++◌, length, get_or, set, map, take, drop, true, Option, Some, slice_get, option_map, arith, length-append, length-take, append_assoc, append-nil, add-zero}
+use Rattle.std.specs.Prelude.{fold, nat_le, unwrap_or}
 use Rattle.std.specs.List.{list_all}
 use Rattle.std.proofs.lemmas.List.{length-map, drop_more, take_more, map-append, take-append-drop}
 use Rattle.bl_wasm.specs.declared.module.ElementSegment.{ElementSegment}

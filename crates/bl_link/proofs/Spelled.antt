@@ -1,19 +1,14 @@
 -- What the spelling of a module says of its globals and its exports.
-use Rattle.std.proofs.Common.{◌≡◌, ℕ, ◌<◌, ◌≤◌, ◌^◌, inl, inr, List, [], ◌∷◌, length, length-append, ap, subst, sym, arith}
-use Rattle.std.specs.List.{All, zip}
+use Rattle.std.proofs.Common.{ℕ, ◌≤◌, inl, inr, List, [], ◌∷◌, length, length-append, ap, subst, sym, arith}
+use Rattle.std.specs.List.{All}
 use Rattle.std.specs.Str.{IsUtf8}
 use Rattle.std.proofs.lemmas.List.Elements.{All-nil, All-cons}
-use Rattle.bl_base.specs.Quantity.{limit_of}
-use Rattle.bl_base.specs.declared.quantity.Quantity.TheVariants.{Functions, Locals, Results}
-use Rattle.bl_wasm.specs.Limits.{local_count}
 use Rattle.bl_wasm.specs.Values.{Spellings, each}
 use Rattle.bl_wasm.specs.Sections.{export_entry, global_entry, vec_section}
-use Rattle.bl_wasm.specs.Modules.{Spells, ◌▷◌}
+use Rattle.bl_wasm.specs.Modules.{◌▷◌}
 use Rattle.bl_wasm.specs.declared.module.CustomSection.{CustomSection}
 use Rattle.bl_wasm.specs.declared.module.DefinedGlobal.{DefinedGlobal}
 use Rattle.bl_wasm.specs.declared.module.Export.{Export}
-use Rattle.bl_wasm.specs.declared.module.Module.{Module}
-use Rattle.bl_link.specs.Alone.{IsAlone}
 
 -- ---- spellings of several, one after another
 
@@ -84,35 +79,3 @@ global_spelled global bytes h =
 
 pub export_spelled : (entry : Export) (bytes : List ℕ) → export_entry entry bytes → IsUtf8 entry.name
 export_spelled entry bytes h = h.first.0
-
--- each global takes a byte, and the names are text
-pub spelled_parts : (bytes : List ℕ) (tree : Module) → Spells bytes tree → (length tree.globals ≤ length bytes) × All (λ entry. IsUtf8 entry.name) tree.exports
-spelled_parts bytes tree h =
-    let start = h.1.second in
-    let most : length start.rest ≤ length bytes = omega (arith, ap length h.1.whole, length-append h.1.front h.1.rest, ap length start.whole, length-append start.front start.rest) in
-    let types = stands tree.customs start.rest (length bytes) most start.second in
-    let imports = stands types.customs types.rest (length bytes) types.left types.behind in
-    let functions = stands imports.customs imports.rest (length bytes) imports.left imports.behind in
-    let tables = stands functions.customs functions.rest (length bytes) functions.left functions.behind in
-    let memories = stands tables.customs tables.rest (length bytes) tables.left tables.behind in
-    let globals = stands memories.customs memories.rest (length bytes) memories.left memories.behind in
-    let exports = stands globals.customs globals.rest (length bytes) globals.left globals.behind in (
-      omega (arith, section_length 6 global_entry global_spelled tree.globals globals.section globals.spelled, globals.within),
-      section_all 7 export_entry (λ entry. IsUtf8 entry.name) export_spelled tree.exports exports.section exports.spelled,
-    )
-
--- a module by its bytes
-pub alone_from : (bytes : List ℕ) (tree : Module) → Spells bytes tree → length bytes < 2 ^ 26 → tree.imports ≡ [] → tree.tables ≡ [] → tree.memories ≡ [] → length tree.functions ≤ limit_of Functions
-    → All (λ type. length type.results ≤ limit_of Results) tree.types → All (λ defined. local_count tree.types defined ≤ limit_of Locals) (zip tree.functions tree.bodies) → IsAlone tree
-alone_from bytes tree spelled few imports tables memories functions results locals =
-    let parts = spelled_parts bytes tree spelled in
-    record {
-      imports = imports;
-      tables = tables;
-      memories = memories;
-      functions = functions;
-      results = results;
-      globals = omega (arith, parts.0, few);
-      locals = locals;
-      names = parts.1;
-    }

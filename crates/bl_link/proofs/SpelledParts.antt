@@ -1,20 +1,24 @@
 -- What the spelling of a module says of a part that it is.
-use Rattle.std.proofs.Common.{◌≡◌, refl, ℕ, ◌<◌, ◌≤◌, ◌^◌, List, [], ◌∷◌, ◌++◌, length, length-append, map, ap, arith, false, Option, Some, None}
-use Rattle.std.specs.Prelude.{filter_map}
+use Rattle.std.proofs.Common.{◌≡◌, refl, sym, subst, ℕ, zero, suc, ◌<◌, ◌≤◌, ◌^◌, List, [], ◌∷◌, length, length-append, map, ap, arith, Option, Some, None}
 use Rattle.std.specs.List.{All, zip}
 use Rattle.std.specs.Str.{IsUtf8}
 use Rattle.std.specs.Option.{option_or}
 use Rattle.std.proofs.lemmas.List.{length-map}
 use Rattle.std.proofs.lemmas.List.Elements.{All-nil, All-cons, All-weaker}
+use Rattle.std.proofs.lemmas.Option.{none-some}
+use Rattle.std.proofs.lemmas.Str.{IsUtf8-from_ascii}
+use Rattle.std.proofs.lemmas.Str.Ascii.{IsAscii-nil, IsAscii-cons}
 use Rattle.bl_base.specs.Quantity.{limit_of}
 use Rattle.bl_base.specs.declared.quantity.Quantity.{Quantity}
 use Rattle.bl_base.specs.declared.quantity.Quantity.TheVariants.{Functions, Locals, Memory, Results, Table}
+use Rattle.bl_labels.specs.Faults.{IsConsistent}
 use Rattle.bl_labels.specs.Marked.{unlabelled}
+use Rattle.bl_labels.specs.declared.labels.Labels.{Labels}
 use Rattle.bl_wasm.specs.Limits.{Excess, above, first_excess, first_in, function_excess, local_count}
 use Rattle.bl_wasm.specs.Modules.{Spells}
 use Rattle.bl_wasm.specs.Sections.{export_entry, global_entry, import_entry, import_kind}
 use Rattle.bl_wasm.specs.Types.{function_type}
-use Rattle.bl_wasm.specs.Validity.{functions_of, global_of, globals_of, imported}
+use Rattle.bl_wasm.specs.Validity.{functions_of, global_of, imported}
 use Rattle.bl_wasm.specs.declared.module.DefinedGlobal.{DefinedGlobal}
 use Rattle.bl_wasm.specs.declared.module.Import.{Import}
 use Rattle.bl_wasm.specs.declared.module.ImportKind.{ImportKind}
@@ -23,10 +27,12 @@ use Rattle.bl_wasm.specs.declared.module.Module.{Module}
 use Rattle.bl_wasm.specs.declared.module.Code.{Code}
 use Rattle.bl_wasm.specs.declared.types.FuncType.{FuncType}
 use Rattle.bl_wasm.specs.declared.types.Limits.{Limits}
-use Rattle.bl_link.specs.Linkable.{IsName, IsPart}
+use Rattle.bl_link.specs.Linkable.{AreParts, IsName, IsPart}
 use Rattle.bl_link.specs.Links.{part_of}
+use Rattle.bl_link.specs.Stores.{AreApart}
+use Rattle.bl_link.specs.declared.part.Part.{Part}
 use Rattle.bl_link.proofs.Room.{fewer_filtered}
-use Rattle.bl_link.proofs.Spelled.{Stands, export_spelled, global_spelled, section_all, section_length, stands}
+use Rattle.bl_link.proofs.Spelled.{export_spelled, global_spelled, section_all, section_length, stands}
 
 type_spelled : (type : FuncType) (bytes : List ℕ) → function_type type bytes → 1 ≤ length bytes
 type_spelled type bytes h = omega (arith, ap length h.whole, length-append h.front h.rest, ap length h.first)
@@ -89,9 +95,9 @@ all_none found (x ∷ xs) none =
 few_locals : (types : List FuncType) (defined : ℕ × Code) → function_excess types defined ≡ None → local_count types defined ≤ limit_of Locals
 few_locals types defined none = above_none Locals (local_count types defined) (either_none (above Locals (local_count types defined)) _ none).0
 
--- a part without labels, by its bytes
-pub part_from : (name bytes : List ℕ) (tree : Module) → IsName name → Spells bytes tree → length bytes < 2 ^ 25 → first_excess tree ≡ None → IsPart (part_of name tree unlabelled)
-part_from name bytes tree named spelled few none =
+-- a part by its bytes, with labels that don't contradict themselves
+pub labelled_part : (name bytes : List ℕ) (tree : Module) (labels : Labels) → IsConsistent labels → IsName name → Spells bytes tree → length bytes < 2 ^ 25 → first_excess tree ≡ None → IsPart (part_of name tree labels)
+labelled_part name bytes tree labels consistent named spelled few none =
     let s = is_spelled bytes tree spelled in
     let functions = either_none (above Functions (length (functions_of tree))) _ none in
     let results = either_none (first_in (λ (type : FuncType). above Results (length type.results)) tree.types) _ functions.1 in
@@ -120,5 +126,48 @@ part_from name bytes tree named spelled few none =
       import_modules = s.import_modules;
       import_names = s.import_names;
       export_names = s.export_names;
-      labels = λ index h. absurd (cc h);
+      labels = consistent;
     }
+
+pub none_consistent : IsConsistent unlabelled
+none_consistent index h = absurd (cc h)
+
+-- and without labels
+pub part_from : (name bytes : List ℕ) (tree : Module) → IsName name → Spells bytes tree → length bytes < 2 ^ 25 → first_excess tree ≡ None → IsPart (part_of name tree unlabelled)
+part_from name bytes tree named spelled few none = labelled_part name bytes tree unlabelled none_consistent named spelled few none
+
+-- ---- what is read
+
+-- a module within the limits has few functions
+pub few_functions : (tree : Module) → first_excess tree ≡ None → length (functions_of tree) < 2 ^ 32
+few_functions tree none = omega (arith, above_none Functions (length (functions_of tree)) (either_none (above Functions (length (functions_of tree))) _ none).0)
+
+-- a letter is a name
+pub is_name : (letter : ℕ) → letter < 128 → (letter ≡ 0x2F → ⊥) → IsName (letter ∷ [])
+is_name letter ascii other = record {
+  text = IsUtf8-from_ascii (letter ∷ []) (IsAscii-cons letter [] ascii IsAscii-nil);
+  solidus = All-cons (λ byte. byte ≡ 0x2F → ⊥) letter [] other (All-nil (λ byte. byte ≡ 0x2F → ⊥));
+}
+
+-- a part is put together of a name that is copied, a module that is decoded and then validated, and labels
+pub read_part : (name letters bytes : List ℕ) (tree wasm : Module) (labels : Labels) → name ≡ letters → wasm ≡ tree → IsConsistent labels → IsName letters
+    → Spells bytes tree → length bytes < 2 ^ 25 → first_excess tree ≡ None → IsPart (part_of name wasm labels)
+read_part name letters bytes tree wasm labels named same consistent is spelled few none =
+    subst (λ n. IsPart (part_of n wasm labels)) (sym named)
+    (subst (λ w. IsPart (part_of letters w labels)) (sym same) (labelled_part letters bytes tree labels consistent is spelled few none))
+
+-- and of no labels
+pub read_bare : (name letters bytes : List ℕ) (tree wasm : Module) (labels : Labels) → name ≡ letters → wasm ≡ tree → labels ≡ unlabelled → IsName letters
+    → Spells bytes tree → length bytes < 2 ^ 25 → first_excess tree ≡ None → IsPart (part_of name wasm labels)
+read_bare name letters bytes tree wasm labels named same bare is spelled few none =
+    read_part name letters bytes tree wasm labels named same (subst IsConsistent (sym bare) none_consistent) is spelled few none
+
+-- ---- one part by itself
+
+pub one_apart : (part : Part) → AreApart (λ (one : Part). one.name) (part ∷ [])
+one_apart part zero zero a b e f same = refl
+one_apart part zero (suc j) a b e f same = absurd (none-some b f)
+one_apart part (suc i) j a b e f same = absurd (none-some a e)
+
+pub one_part : (part : Part) → IsPart part → AreParts (part ∷ [])
+one_part part is = record { each = All-cons IsPart part [] is (All-nil IsPart); few = omega arith; distinct = one_apart part }

@@ -1,5 +1,5 @@
 -- What a part defines, field by field of the tree.
-use Rattle.std.proofs.Common.{◌≡◌, ◌∙◌, refl, sym, ap, subst, ℕ, ◌-◌, List, ◌++◌, length, map, filter_map, Result, Ok, Err, arith}
+use Rattle.std.proofs.Common.{◌≡◌, ◌∙◌, sym, ap, subst, ℕ, ◌-◌, List, ◌++◌, length, map, filter_map, Result, Err, arith}
 use Rattle.std.specs.List.{enumerate_from, zip}
 use Rattle.std.proofs.lemmas.Slice.Zip.{length-zip}
 use Rattle.bl_labels.specs.declared.labels.Labels.{Labels}
@@ -11,7 +11,7 @@ use Rattle.bl_wasm.specs.declared.module.Code.{Code}
 use Rattle.bl_wasm.specs.declared.module.Export.{Export}
 use Rattle.bl_wasm.specs.declared.module.Module.{Module}
 use Rattle.bl_wasm.specs.declared.types.FuncType.{FuncType}
-use Rattle.bl_link.specs.Alone.{signature}
+use Rattle.bl_link.specs.Signatures.{signature}
 use Rattle.bl_link.specs.Giving.{Makes}
 use Rattle.bl_link.specs.Links.{exported, function, indexed, pair}
 use Rattle.bl_link.specs.Parts.{LinkError, Spaces}

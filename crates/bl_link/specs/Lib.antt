@@ -1,4 +1,3 @@
-pub mod Alone
 pub mod CanLink
 pub mod Faults
 pub mod Giving
@@ -10,4 +9,5 @@ pub mod Matching
 pub mod Named
 pub mod NamedPairs
 pub mod Parts
+pub mod Signatures
 pub mod Stores

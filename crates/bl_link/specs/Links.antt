@@ -1,5 +1,5 @@
 -- The linked tree of several modules (WebAssembly 1.0, section 4.5.4).
-use Rattle.std.specs.Prelude.{ℕ, ◌+◌, ◌-◌, ◌*◌, min, nat_eq, nat_le, ◌&&◌, Bool, true, false, if◌then◌else◌, List, [], ◌∷◌, ◌++◌, length, map, fold, replicate, filter_map, slice_get, sum_by, zip, Option, Some, None, option_map, unwrap_or, Result, Ok, Err}
+use Rattle.std.specs.Prelude.{ℕ, ◌+◌, ◌-◌, ◌*◌, min, nat_le, Bool, true, false, if◌then◌else◌, List, [], ◌∷◌, ◌++◌, length, map, fold, replicate, filter_map, slice_get, sum_by, zip, Option, Some, None, option_map, unwrap_or, Result, Ok, Err}
 use Rattle.std.specs.List.{enumerate_from, range_with_len, list_all}
 use Rattle.bl_base.specs.declared.names.Label.{Label}
 use Rattle.bl_base.specs.declared.names.Label.TheVariants.{Public, Secret}
@@ -16,14 +16,17 @@ use Rattle.bl_wasm.specs.declared.module.DefinedGlobal.{DefinedGlobal}
 use Rattle.bl_wasm.specs.declared.module.DataSegment.{DataSegment}
 use Rattle.bl_wasm.specs.declared.module.ElementSegment.{ElementSegment}
 use Rattle.bl_wasm.specs.declared.module.Export.{Export}
+use Rattle.bl_wasm.specs.declared.module.ExportKind.{ExportKind}
+use Rattle.bl_wasm.specs.declared.module.ExportKind.TheVariants as export
 use Rattle.bl_wasm.specs.declared.module.Module.{Module}
 use Rattle.bl_wasm.specs.declared.linked.Function.{Function}
 use Rattle.bl_wasm.specs.declared.linked.Global.{Global}
 use Rattle.bl_wasm.specs.declared.linked.Memory.{Memory}
 use Rattle.bl_wasm.specs.declared.linked.Tree.{Tree}
-use Rattle.bl_link.specs.Alone.{of_function, qualified, signature, value_of}
 use Rattle.bl_link.specs.Matching.{all_given}
+use Rattle.bl_link.specs.Named.{qualified}
 use Rattle.bl_link.specs.Parts.{External, LinkError, Part, Spaces, Store, changed, DataRange, ElementRange, Limit, names, number, on_ok, space, spaces_of, written}
+use Rattle.bl_link.specs.Signatures.{signature, value_of}
 use Rattle.bl_wasm.specs.Renaming.{renamed}
 
 -- ---- labels
@@ -90,12 +93,16 @@ indexed space defined = enumerate_from (length space - length defined) defined
 
 -- ---- exports (section 4.2.10)
 
--- an export by its name in the tree: a solidus parts the part's name and its own
+-- an export by its name in the tree
 abbrev pub exported : List ℕ → Spaces → Export → List ℕ × External
 exported name spaces entry =
     (qualified name entry.name, record { kind = entry.kind; number = number (space spaces entry.kind) entry.index })
 
--- the pair of an exported function; no other export is in the tree
+-- the pair of what is exported, where that is a function: no other export is in the tree
+abbrev pub of_function : ExportKind → List ℕ × ℕ → Option (List ℕ × ℕ)
+of_function export.Function pair = Some pair
+of_function other pair = None
+
 abbrev pub pair : List ℕ × External → Option (List ℕ × ℕ)
 pair one = of_function one.1.kind (one.0, one.1.number)
 

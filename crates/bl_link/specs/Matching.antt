@@ -1,5 +1,5 @@
 -- Which import an external value can be given to (WebAssembly 1.0, section 4.5.2), and what each import is given.
-use Rattle.std.specs.Prelude.{ℕ, nat_eq, nat_le, ◌&&◌, not, Bool, true, false, if◌then◌else◌, List, ◌∷◌, ◌++◌, map, slice_get, Option, Some, None, option_and_then, Result, Ok, Err}
+use Rattle.std.specs.Prelude.{ℕ, nat_eq, nat_le, ◌&&◌, not, Bool, true, false, if◌then◌else◌, List, map, slice_get, Option, Some, None, option_and_then, Result, Ok, Err}
 use Rattle.std.specs.List.{enumerate_from, list_any}
 use Rattle.std.specs.Cmp.Lexicographic.{pointwise}
 use Rattle.bl_base.specs.declared.names.ValueType.{ValueType}
@@ -18,8 +18,7 @@ use Rattle.bl_wasm.specs.declared.types.Limits.{Limits}
 use Rattle.bl_wasm.specs.declared.linked.Signature.{Signature}
 use Rattle.bl_wasm.specs.declared.linked.Global.{Global}
 use Rattle.bl_wasm.specs.declared.linked.Tree.{Tree}
-use Rattle.bl_link.specs.Alone.{qualified}
-use Rattle.bl_link.specs.Named.{value_named}
+use Rattle.bl_link.specs.Named.{qualified, value_named}
 use Rattle.bl_link.specs.Parts.{External, LinkError, Unknown, Mismatch, Store, all_ok}
 
 -- ---- types of the tree

@@ -7,7 +7,7 @@ ghost use Rattle.bl_base.specs.Quantity.{limit_of};
 ghost use Rattle.bl_base.specs.declared.quantity.Quantity.TheVariants.{Reserve};
 ghost use Rattle.bl_wasm.specs.Exports.{AreDistinct};
 ghost use Rattle.bl_wasm.specs.Linked.{IsLinked};
-ghost use Rattle.bl_link.specs.Alone.{signature};
+ghost use Rattle.bl_link.specs.Signatures.{signature};
 ghost use Rattle.bl_link.specs.CanLink.{AreLeft, CanLink};
 ghost use Rattle.bl_link.specs.Giving.{Gives, Makes};
 ghost use Rattle.bl_link.specs.HasRoom.{HasRoom, IsSpace};

@@ -1,13 +1,12 @@
 //! What a part defines beside its functions.
 ghost use Rattle.std.specs.Prelude.{◌≡◌, ◌+◌, ◌<◌, ◌^◌, ◌++◌, length, map, min, option_map, slice_get, unwrap_or, IfOk};
 ghost use Rattle.std.specs.List.{enumerate_from};
-ghost use Rattle.bl_link.specs.Alone.{signature as signature_of};
 ghost use Rattle.bl_link.specs.Links.{first_value as first_value_of, global as global_of, memory as memory_of, table as table_of};
+ghost use Rattle.bl_link.specs.Signatures.{signature as signature_of};
 
 use crate::bodies::secret_if;
-use crate::functions::repeated;
-use crate::parts::{signature, value_type};
 use crate::rename::number;
+use crate::signatures::{signature, value_type};
 use crate::store::Spaces;
 use bl_base::{List, NoMemory, Text};
 use bl_labels::Marks;
@@ -158,7 +157,8 @@ pub(crate) fn with_tables(
 {
     let mut tables = before;
     for limits in defined {
-        tables.push(repeated(alloc, None, limits.min as usize)?)?;
+        let slots = vec![in alloc; None; limits.min as usize]?;
+        tables.push(List::of(slots))?;
     }
     Ok(tables)
 }

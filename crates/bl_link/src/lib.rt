@@ -2,25 +2,22 @@
 #![tactic(auto)]
 
 mod all_parts;
-mod alone;
 mod bodies;
 mod defined;
 mod error;
-mod functions;
 mod given;
 pub mod laws;
 mod matching;
 mod named;
 mod names;
 mod part;
-mod parts;
 mod rename;
 mod segments;
+mod signatures;
 mod spaces;
 mod store;
 mod widths;
 
 pub use all_parts::link;
-pub use alone::link_alone;
 pub use error::LinkError;
 pub use part::Part;

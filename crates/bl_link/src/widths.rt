@@ -1,14 +1,45 @@
 //! What the types of the code say of parts: their modules are typed, and their numbers are of their widths.
-ghost use Rattle.std.specs.Prelude.{◌≡◌};
+ghost use Rattle.std.specs.Prelude.{◌≡◌, ◌<◌, ◌^◌};
 ghost use Rattle.std.specs.List.{All};
 ghost use Rattle.bl_base.specs.Fits.{AreBytes};
 ghost use Rattle.bl_wasm.specs.Linked.{HasImmediates};
 ghost use Rattle.bl_wasm.specs.Validity.{Typed};
 ghost use Rattle.bl_link.specs.Linkable.{HasWidths, IsSound};
 
-use crate::functions::read_all;
 use crate::part::Part;
-use bl_wasm::{Code, DataSegment, DefinedGlobal};
+use bl_wasm::{Code, DataSegment, DefinedGlobal, Instr};
+
+/// A number of 32 bits is below 2^32.
+fn check_width(number: u32)
+    ensures { number < 2 ^ 32 }
+{}
+
+/// Reads the immediates of an item, whose types say that they are numbers of their widths.
+fn read(item: &Instr)
+    ensures { HasImmediates item.now }
+{
+    match item {
+        Instr::I32Const(n) => {
+            let _number = *n;
+        }
+        Instr::I64Const(n) => {
+            let _number = *n;
+        }
+        Instr::Load { argument, .. } | Instr::Store { argument, .. } => {
+            check_width(argument.offset);
+        }
+        _ => {}
+    }
+}
+
+/// Reads the immediates of items.
+fn read_all(items: &[Instr])
+    ensures { All HasImmediates items.now }
+{
+    for item in items {
+        read(item);
+    }
+}
 
 /// Reads the numbers of bodies.
 fn read_bodies(bodies: &[Code])

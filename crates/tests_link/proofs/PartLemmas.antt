@@ -1,67 +1,14 @@
--- What bytes spell is a part that can be linked, with labels that don't contradict themselves, and so are several whose names differ.
-use Rattle.std.proofs.Common.{◌≡◌, ℕ, ◌<◌, ◌≤◌, ◌^◌, zero, suc, List, [], ◌∷◌, ◌++◌, length, length-append, Some, None, slice_get, refl, sym, subst, arith}
+-- Several parts whose names differ can be linked.
+use Rattle.std.proofs.Common.{◌≡◌, ℕ, ◌<◌, zero, suc, List, [], ◌∷◌, ◌++◌, length, length-append, Some, slice_get, sym, subst, arith}
 use Rattle.std.specs.List.{All}
-use Rattle.std.specs.Str.{IsUtf8}
 use Rattle.std.proofs.lemmas.List.Elements.{All-append, All-cons, All-nil}
 use Rattle.std.proofs.lemmas.Option.{none-some}
 use Rattle.bl_base.proofs.Lists.{all_get, some_same}
-use Rattle.bl_labels.specs.Faults.{IsConsistent}
-use Rattle.bl_labels.specs.Marked.{unlabelled}
-use Rattle.bl_labels.specs.declared.labels.Labels.{Labels}
-use Rattle.bl_link.specs.Linkable.{AreParts, IsName, IsPart}
-use Rattle.bl_link.specs.Links.{part_of}
+use Rattle.bl_link.specs.Linkable.{AreParts, IsPart}
 use Rattle.bl_link.specs.Stores.{AreApart}
 use Rattle.bl_link.specs.declared.part.Part.{Part}
 use Rattle.bl_link.proofs.NameLemmas.{apart_append}
-use Rattle.bl_link.proofs.SpelledParts.{part_from}
-use Rattle.bl_wasm.specs.Limits.{first_excess}
-use Rattle.bl_wasm.specs.Modules.{Spells}
-use Rattle.bl_wasm.specs.Validity.{functions_of}
-use Rattle.bl_wasm.specs.declared.module.Module.{Module}
-
--- ---- one part
-
--- a part is one with other labels too
-labelled : (name : List ℕ) (tree : Module) (labels : Labels) → IsConsistent labels → IsPart (part_of name tree unlabelled) → IsPart (part_of name tree labels)
-labelled name tree labels consistent is = record {
-  name = is.name;
-  functions = is.functions;
-  results = is.results;
-  locals = is.locals;
-  memories = is.memories;
-  globals = is.globals;
-  types = is.types;
-  imports = is.imports;
-  import_modules = is.import_modules;
-  import_names = is.import_names;
-  export_names = is.export_names;
-  labels = consistent;
-}
-
--- of what was read
-pub good : (name letters bytes : List ℕ) (tree wasm : Module) (labels : Labels) → name ≡ letters → wasm ≡ tree → IsConsistent labels → IsUtf8 letters → All (λ byte. byte ≡ 0x2F → ⊥) letters
-    → Spells bytes tree → length bytes < 2 ^ 25 → first_excess tree ≡ None → IsPart (part_of name wasm labels)
-good name letters bytes tree wasm labels named same consistent text solidus spelled short none =
-    subst (λ n. IsPart (part_of n wasm labels)) (sym named)
-    (subst (λ w. IsPart (part_of letters w labels)) (sym same)
-    (labelled letters tree labels consistent (part_from letters bytes tree (record { text = text; solidus = solidus }) spelled short none)))
-
-is_name : IsName (0x6D ∷ [])
-unfolding lib.Utf8.encode
-is_name = record {
-  text = (0x6D ∷ [], (refl, refl));
-  solidus = All-cons (λ byte. byte ≡ 0x2F → ⊥) 0x6D [] (λ e. omega (arith, e)) (All-nil (λ byte. byte ≡ 0x2F → ⊥));
-}
-
-pub few_functions : (bytes : List ℕ) (tree : Module) → Spells bytes tree → length bytes ≤ 33554431 → first_excess tree ≡ None → length (functions_of tree) < 2 ^ 32
-few_functions bytes tree spelled short none = omega (arith, (part_from (0x6D ∷ []) bytes tree is_name spelled (omega (arith, short)) none).functions)
-
--- ---- several
-
-one_apart : (part : Part) → AreApart (λ (one : Part). one.name) (part ∷ [])
-one_apart part zero zero a b e f same = refl
-one_apart part zero (suc j) a b e f same = absurd (none-some b f)
-one_apart part (suc i) j a b e f same = absurd (none-some a e)
+use Rattle.bl_link.proofs.SpelledParts.{one_apart}
 
 none_apart : AreApart (λ (one : Part). one.name) []
 none_apart i j a b e f same = absurd (none-some a e)

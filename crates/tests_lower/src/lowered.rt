@@ -13,7 +13,7 @@ use std::alloc::Global;
 use std::test::Fail;
 
 /// The part "m" whose module the bytes spell, without labels; None where they spell no valid one, or are more than 1,000.
-#[tactic(auto, using(crate::proofs::PartLemmas::good, crate::proofs::PartLemmas::few_functions))]
+#[tactic(auto, using(bl_link::proofs::SpelledParts::few_functions))]
 fn part(alloc: Global, bytes: &[u8]) -> Result<Option<Part>, Fail>
     ensures { IfOk result (λ part. IfSome part IsPart) }
 {
@@ -34,7 +34,7 @@ fn part(alloc: Global, bytes: &[u8]) -> Result<Option<Part>, Fail>
 }
 
 /// The image of what is linked of the module that the bytes spell, under the name "m"; None where there is none.
-#[tactic(auto, using(crate::proofs::PartLemmas::alone))]
+#[tactic(auto, using(bl_link::proofs::SpelledParts::one_part))]
 fn image_of(alloc: Global, bytes: &[u8]) -> Result<Option<Vec<u8>>, Fail> {
     let Some(part) = part(alloc, bytes)? else {
         return Ok(None);

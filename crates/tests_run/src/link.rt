@@ -1,113 +1,46 @@
 //! One module as a program of its own. The module's bytes were run by node v20.20.
-ghost use Rattle.std.specs.Prelude.{◌≡◌, [], ◌<◌, ◌≤◌, ◌^◌, length, sum_by, IsTrue};
-ghost use Rattle.std.specs.List.{All};
-ghost use Rattle.std.specs.Str.{IsUtf8};
-ghost use Rattle.bl_wasm.specs.Validity.{functions_of};
-ghost use Rattle.bl_link.specs.Alone.{IsAlone};
+ghost use Rattle.std.specs.Prelude.{IfOk, IfSome};
+ghost use Rattle.bl_link.specs.Linkable.{IsPart};
 
+use bl_base::{List, Text};
 use bl_decode::decode;
-use bl_link::link_alone;
+use bl_labels::Labels;
+use bl_link::{Part, link};
 use bl_validate::validate;
-use bl_wasm::{BlockType, Code, Export, FuncType, Instr, Linked, Module};
+use bl_wasm::{BlockType, Instr, Linked};
 use std::alloc::Global;
 use std::test::Fail;
 
-/// Whether the bytes are text.
-fn is_text(bytes: &[u8]) -> bool
-    ensures { IsTrue result → IsUtf8 bytes.now }
+/// The part "m" whose module the bytes spell, without labels; None where they spell no valid one, or are more than 1,000.
+#[tactic(auto, using(bl_link::proofs::SpelledParts::few_functions))]
+fn part(alloc: Global, bytes: &[u8]) -> Result<Option<Part>, Fail>
+    ensures { IfOk result (λ part. IfSome part IsPart) }
 {
-    std::str::from_utf8(bytes).is_ok()
-}
-
-/// Whether the names are text.
-fn have_text_names(entries: &[Export]) -> bool
-    ensures { IsTrue result → All (λ entry. IsUtf8 entry.name) entries.now }
-{
-    for entry in entries {
-        if !is_text(entry.name.as_slice()) {
-            return false;
-        }
+    if bytes.len() > 1_000 {
+        return Ok(None);
     }
-    true
-}
-
-/// Whether each has few parameters and results.
-fn are_short(types: &[FuncType]) -> bool
-    ensures params { IsTrue result → All (λ type. length type.params ≤ 100) types.now }
-    ensures results { IsTrue result → All (λ type. length type.results ≤ 100) types.now }
-{
-    have_few_params(types) && have_few_results(types)
-}
-
-fn have_few_params(types: &[FuncType]) -> bool
-    ensures { IsTrue result → All (λ type. length type.params ≤ 100) types.now }
-{
-    types.iter().all(|kind| kind.params.len() <= 100)
-}
-
-fn have_few_results(types: &[FuncType]) -> bool
-    ensures { IsTrue result → All (λ type. length type.results ≤ 100) types.now }
-{
-    types.iter().all(|kind| kind.results.len() <= 100)
-}
-
-/// Whether the function has one run of locals at most, and few of them.
-fn has_few_locals(code: &Code) -> bool
-    ensures { IsTrue result → sum_by (λ run. run.count) code.now.locals ≤ 100 }
-{
-    match code.locals.as_slice() {
-        [] => true,
-        [run] => run.count <= 100,
-        _ => false,
-    }
-}
-
-/// Whether each has few locals of its own.
-fn have_few_locals(bodies: &[Code]) -> bool
-    ensures { IsTrue result → All (λ code. sum_by (λ run. run.count) code.locals ≤ 100) bodies.now }
-{
-    bodies.iter().all(|code| has_few_locals(code))
-}
-
-/// Whether the module has few functions and globals, and nothing else that matters here.
-fn is_small(tree: &Module) -> bool
-    ensures { IsTrue result → (tree.now.imports ≡ []) × (tree.now.tables ≡ []) × (tree.now.memories ≡ []) × (length tree.now.functions < 100) × (length tree.now.globals < 100) }
-{
-    if !tree.imports.is_empty() || !tree.tables.is_empty() || !tree.memories.is_empty() {
-        return false;
-    }
-    tree.functions.len() < 100 && tree.globals.len() < 100
-}
-
-/// Whether the module can be linked by itself.
-fn is_alone(tree: &Module) -> bool
-    ensures alone { IsTrue result → IsAlone tree.now }
-    ensures few { IsTrue result → length (functions_of tree.now) < 2 ^ 32 }
-{
-    if !is_small(tree) {
-        return false;
-    }
-    if !are_short(tree.types.as_slice()) {
-        return false;
-    }
-    if !have_few_locals(tree.bodies.as_slice()) {
-        return false;
-    }
-    have_text_names(tree.exports.as_slice())
-}
-
-/// The module that the bytes spell, linked under the name "m"; None where there is none.
-pub fn linked(alloc: Global, bytes: &[u8]) -> Result<Option<Linked>, Fail> {
     let Ok(tree) = decode(alloc, bytes) else {
         return Ok(None);
     };
-    if !is_alone(&tree) {
+    let Ok(wasm) = validate(alloc, tree) else {
         return Ok(None);
-    }
-    match validate(alloc, tree) {
-        Ok(valid) => Ok(Some(link_alone(alloc, "m", valid)?)),
-        Err(_) => Ok(None),
-    }
+    };
+    Ok(Some(Part {
+        name: Text::copy_of(alloc, b"m")?,
+        wasm,
+        labels: Labels::none(alloc),
+    }))
+}
+
+/// The module that the bytes spell, linked under the name "m"; None where there is none.
+#[tactic(auto, using(bl_link::proofs::SpelledParts::one_part))]
+pub fn linked(alloc: Global, bytes: &[u8]) -> Result<Option<Linked>, Fail> {
+    let Some(part) = part(alloc, bytes)? else {
+        return Ok(None);
+    };
+    let mut parts = List::new(alloc);
+    parts.push(part)?;
+    Ok(link(alloc, parts).ok())
 }
 
 /// The types [i32] -> [i32] and [] -> [i32 i64]; a global i32 that is 7 at first; an exported function "f" that sets it and calls

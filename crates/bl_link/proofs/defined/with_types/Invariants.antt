@@ -1,5 +1,5 @@
 use Rattle.std.proofs.Common.{◌≡◌, ◌++◌, map, drop}
-use Rattle.bl_link.specs.Alone.{signature}
+use Rattle.bl_link.specs.Signatures.{signature}
 use Rattle.bl_link.proofs.defined.with_types.Given as goal
 
 abbrev pub invariant-loop-kind : goal.invariant-loop-kind

@@ -1,4 +1,4 @@
-use Rattle.std.proofs.Common.{◌≡◌, ◌∙◌, sym, subst, ap, ◌++◌, ◌+◌, drop, filter_map, rules}
+use Rattle.std.proofs.Common.{◌≡◌, ◌∙◌, sym, subst, ◌++◌, ◌+◌, drop, filter_map, rules}
 use Rattle.std.specs.Str.{IsUtf8}
 use Rattle.bl_wasm.specs.Exports.{Pairs}
 use Rattle.bl_wasm.specs.declared.module.Export.{Export}

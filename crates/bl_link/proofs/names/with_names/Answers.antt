@@ -1,4 +1,4 @@
-use Rattle.std.proofs.Common.{◌≡◌, ◌∙◌, sym, subst}
+use Rattle.std.proofs.Common.{sym, subst}
 use Rattle.std.specs.Str.{IsUtf8}
 use Rattle.bl_link.proofs.Naming.{entry_text, value_is_new, values_more}
 use Rattle.bl_link.proofs.names.with_names.Goals as goal

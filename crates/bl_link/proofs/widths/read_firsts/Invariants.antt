@@ -1,6 +1,5 @@
 use Rattle.std.proofs.Common.{take}
 use Rattle.std.specs.List.{All}
-use Rattle.bl_base.specs.Fits.{AreBytes}
 use Rattle.bl_wasm.specs.Linked.{HasImmediates}
 use Rattle.bl_link.proofs.widths.read_firsts.Given as goal
 

@@ -1,7 +1,7 @@
 use Rattle.std.proofs.Common.{take}
 use Rattle.std.specs.List.{All}
 use Rattle.bl_wasm.specs.Linked.{HasImmediates}
-use Rattle.bl_link.proofs.functions.read_all.Given as goal
+use Rattle.bl_link.proofs.widths.read_all.Given as goal
 
 abbrev pub invariant-loop-item : goal.invariant-loop-item
 invariant-loop-item l = All HasImmediates (take l.item-index l.items)
