@@ -43,55 +43,15 @@ fn mark_all(commands: &mut [Command], protects: &SiteSet)
 fn marked(command: Command, protect: bool) -> Command
     ensures { result ≡ marked protect command }
 {
-    match command {
-        Command::Set {
-            mark,
-            op,
-            to,
-            a,
-            b,
-            c,
-        } => Command::Set {
-            mark: guarded(mark, protect),
-            op,
-            to,
-            a,
-            b,
-            c,
-        },
-        Command::Load {
-            mark,
-            kind,
-            memory,
-            to,
-            offset,
-            address,
-        } => Command::Load {
-            mark: guarded(mark, protect),
-            kind,
-            memory,
-            to,
-            offset,
-            address,
-        },
-        Command::Arg {
-            mark,
-            function,
-            index,
-            value,
-        } => Command::Arg {
-            mark: guarded(mark, protect),
-            function,
-            index,
-            value,
-        },
-        Command::Out { mark, index, value } => Command::Out {
-            mark: guarded(mark, protect),
-            index,
-            value,
-        },
-        other => other,
+    let mut command = command;
+    match &mut command {
+        Command::Set { mark, .. } => *mark = guarded(*mark, protect),
+        Command::Load { mark, .. } => *mark = guarded(*mark, protect),
+        Command::Arg { mark, .. } => *mark = guarded(*mark, protect),
+        Command::Out { mark, .. } => *mark = guarded(*mark, protect),
+        _ => {}
     }
+    command
 }
 
 /// The mark with a protect or without one.
