@@ -46,11 +46,11 @@ loop-rest-preserved c =
     let followed : Following c.args.links.now c.split_at.result.0.now c.args.capacities.now loop.levels.items loop.queue.items 0 (length c.split_at.result.0.now) c.follow.new.levels c.follow.new.queue.items =
     subst (λ m. Following c.args.links.now c.split_at.result.0.now c.args.capacities.now m loop.queue.items 0 (length c.split_at.result.0.now) c.follow.new.levels c.follow.new.queue.items) c.deref_mut.ensures.value c.in_ok-follow.ensures in
     let spread : Spread c.args.links.now c.args.capacities.now c.args.end c.args.stops c.follow.new.levels c.follow.new.queue.items c.spread.new.levels c.spread.new.queue.items 0 =
-    subst (λ m. Spread c.args.links.now c.args.capacities.now c.args.end c.args.stops m c.follow.new.queue.items c.spread.new.levels c.spread.new.queue.items 0) (c.deref_mut-in-loop-rest.ensures.value ∙ back_1) c.in_ok-spread.ensures.spread in
+    subst (λ m. Spread c.args.links.now c.args.capacities.now c.args.end c.args.stops m c.follow.new.queue.items c.spread.new.levels c.spread.new.queue.items 0) (c.deref_mut-in-loop-rest.ensures.value ∙ back_1) c.in_ok-visited.ensures.spread in
     let places = loop.invariant.places in
     rw back_2 (record {
       places = let a = followed.places in let b = spread.places in omega arith;
-      empty = c.in_ok-spread.ensures.empty;
+      empty = c.in_ok-visited.ensures.empty;
       state = group_state c.args.links.now c.args.capacities.now c.args.root c.args.end c.args.stops loop.levels.items loop.queue.items loop.rest.now c.split_at.result.0.now c.split_at.result.1.now
           c.follow.new.levels c.follow.new.queue.items c.spread.new.levels c.spread.new.queue.items parts loop.invariant.state loop.invariant.sound followed spread;
       sound = behind_sound c.args.links.now c.args.capacities.now c.args.root c.args.end c.args.stops loop.levels.items loop.queue.items loop.rest.now c.split_at.result.0.now c.split_at.result.1.now
