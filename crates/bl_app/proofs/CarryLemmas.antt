@@ -3,9 +3,9 @@ use Rattle.std.proofs.Common.{◌≡◌, ℕ, List, Option, Some, None, refl, �
 use Rattle.bl_outside.specs.Shelf.{Files}
 use Rattle.bl_app.specs.Ends.{Delivers, Ends, all_kept, as_planned, done, no_memory, not_read, refused}
 use Rattle.bl_app.specs.Jobs.{AreRead, FirstRefusal, Job, Plan, Read, against, saying, too_long}
-use Rattle.bl_app.specs.Refusals.{Refusal}
+use Rattle.bl_build.specs.Refusals.{Refusal}
 use Rattle.bl_app.specs.Status.{status_of}
-use Rattle.bl_app.specs.Texts.{refusal_text}
+use Rattle.bl_build.specs.Texts.{refusal_text}
 use Rattle.bl_app.specs.Working.{NotFetched, failed, no_memory_to_fetch, refused as length_refused}
 use Rattle.bl_app.specs.Worlds.{SaidIfRoom, Unchanged, World, is_said, no_memory_to_say}
 use Rattle.bl_app.specs.declared.status.Status.{Status}

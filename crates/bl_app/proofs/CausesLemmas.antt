@@ -5,7 +5,7 @@ use Rattle.bl_outside.specs.Shelf.{Files}
 use Rattle.bl_app.specs.Causes.{Causes, IsDone, NoFault, NoneRose, UnlessFault}
 use Rattle.bl_app.specs.Ends.{Ends}
 use Rattle.bl_app.specs.Jobs.{AreRead, FirstRefusal, IsLawful, Job, Plan}
-use Rattle.bl_app.specs.Refusals.{Refusal}
+use Rattle.bl_build.specs.Refusals.{Refusal}
 use Rattle.bl_app.specs.Status.{kind_of, of_deed, of_read_fault, of_refusal, of_usage, of_write_fault, status_of}
 use Rattle.bl_app.specs.Worlds.{World}
 use Rattle.bl_app.specs.declared.status.Status.{Status}

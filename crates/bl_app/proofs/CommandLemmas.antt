@@ -6,7 +6,7 @@ use Rattle.bl_app.specs.Causes.{Causes, NoneRose}
 use Rattle.bl_words.proofs.WordsLemmas.{gen_in_range}
 use Rattle.bl_app.specs.Commands.{IsSized, job_of, work_of}
 use Rattle.bl_app.specs.Jobs.{AreRead, FirstRefusal, IsLawful, Plan}
-use Rattle.bl_app.specs.Refusals.{Refusal}
+use Rattle.bl_build.specs.Refusals.{Refusal}
 use Rattle.bl_words.specs.Requests.{Request, gen, harden, interp, lower, modules_in, request_of, run, spec, twin, verify}
 use Rattle.bl_app.specs.Worlds.{World}
 use Rattle.bl_app.specs.Status.{code_of, kind_of, of_deed, of_refusal}

@@ -6,7 +6,7 @@ use Rattle.bl_base.specs.declared.quantity.Quantity.TheVariants as quantity
 use Rattle.bl_outside.specs.Shelf.{Files}
 use Rattle.bl_app.specs.Counting.{job_if, too_many, with_modules}
 use Rattle.bl_app.specs.Jobs.{AreRead, FirstRefusal, IsLawful, Job, Plan, against}
-use Rattle.bl_app.specs.Refusals.{Refusal, limit}
+use Rattle.bl_build.specs.Refusals.{Refusal, limit}
 
 too_many_lawful : (count : ℕ) → IsLawful (too_many count)
 too_many_lawful count = record {

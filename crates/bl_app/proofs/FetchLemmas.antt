@@ -11,9 +11,11 @@ use Rattle.bl_outside.specs.declared.shelf.ShelfError.{ShelfError}
 use Rattle.bl_outside.specs.declared.shelf.ShelfError.TheVariants as shelf
 use Rattle.bl_app.specs.Ends.{Delivers, all_kept, no_memory_to_keep, not_kept}
 use Rattle.bl_app.specs.Jobs.{AreRead, IsTooLong, Plan, Read}
-use Rattle.bl_app.specs.Refusals.{limit}
-use Rattle.bl_app.specs.Texts.{read_fault_text, refusal_text, write_fault_text}
-use Rattle.bl_app.specs.Working.{NotFetched, NotKept, contents_in, failed, keep_in, no_memory_to_fetch, read_in, refused}
+use Rattle.bl_build.specs.Refusals.{limit}
+use Rattle.bl_app.specs.Texts.{read_fault_text, write_fault_text}
+use Rattle.bl_build.specs.Texts.{refusal_text}
+use Rattle.bl_app.specs.Working.{NotFetched, NotKept, failed, keep_in, no_memory_to_fetch, read_in, refused}
+use Rattle.bl_build.specs.Working.{contents_in}
 use Rattle.bl_app.specs.Worlds.{Said, SaidIfRoom, SameShelf, Unchanged, World, with_files}
 use Rattle.bl_app.specs.declared.job.Keep.{Keep}
 use Rattle.bl_app.specs.declared.job.Read.{Read as ReadAsked}

@@ -12,9 +12,9 @@ use Rattle.std.specs.Prelude.{[], ◌∷◌}
 use Rattle.bl_app.specs.Status.{kind_of}
 use Rattle.bl_app.specs.Worlds.{World, took, with_files}
 use Rattle.bl_app.specs.declared.status.Status.{Status}
-use Rattle.bl_app.proofs.BuildLemmas.{compiling_lawful}
-use Rattle.bl_app.proofs.FewestLemmas.{are_fewest}
-use Rattle.bl_app.proofs.JudgedPrograms.{is_judged}
+use Rattle.bl_build.proofs.BuildLemmas.{compiling_lawful}
+use Rattle.bl_build.proofs.FewestLemmas.{are_fewest}
+use Rattle.bl_build.proofs.JudgedPrograms.{is_judged}
 
 module _ (request : GenRequest) where
   pub gen_lawful : IsLawful (gen_job request)

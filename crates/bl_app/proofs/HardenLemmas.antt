@@ -1,5 +1,5 @@
 -- The jobs of `harden` and `lower` keep the laws; what is said where they are done.
-use Rattle.std.proofs.Common.{◌≡◌, ℕ, Bool, true, false, cond, List, [], ◌∷◌, Option, Some, None, refl, ap, sym, ◌∙◌, subst, map, arith}
+use Rattle.std.proofs.Common.{◌≡◌, ℕ, true, false, cond, List, [], ◌∷◌, Option, Some, None, refl, ap, sym, ◌∙◌, subst, map, arith}
 use Rattle.std.specs.Prelude.{Err}
 use Rattle.std.specs.Cmp.{eq_by_cmp_equiv}
 use Rattle.std.specs.Cmp.Lexicographic.{nat_list_cmp_total}
@@ -9,36 +9,34 @@ use Rattle.std.specs.Str.{bytes_eq}
 use Rattle.std.proofs.lemmas.Map.Text.{is_eq-slice_cmp}
 use Rattle.std.proofs.lemmas.Slice.Eq.{bytes_eq-Decides}
 use Rattle.bl_outside.specs.Shelf.{Files, with_file}
-use Rattle.bl_wasm.specs.declared.linked.Tree.{Tree}
 use Rattle.bl_cmd.specs.Rules.{IsWellFormed}
-use Rattle.bl_cmd.specs.declared.definitions.ProgramParts.{ProgramParts as Program}
 use Rattle.bl_image.specs.Image.{Image}
 use Rattle.bl_lower.proofs.WellFormed.{rules}
-use Rattle.bl_cut.specs.Marks.{protected}
-use Rattle.bl_cut.proofs.Marking.{run_back, run_same}
 use Rattle.bl_witness.specs.Texts.{certificate_text}
-use Rattle.bl_app.specs.Building.{Built, Makes, compiling, compiling_job}
+use Rattle.bl_build.specs.Building.{Built, compiling}
+use Rattle.bl_build.specs.Loading.{AreShort, Part, parts_of}
+use Rattle.bl_app.specs.Compiling.{module_read, Makes, compiling_job}
 use Rattle.bl_app.specs.Causes.{IsDone}
 use Rattle.bl_app.specs.Commands.{job_of}
 use Rattle.bl_app.specs.Hardening.{HardenPlans, Hardens, harden_job}
 use Rattle.bl_app.specs.Jobs.{AreRead, FileIs, IsLawful, Job, Plan}
-use Rattle.bl_app.specs.Loading.{Part, parts_of}
 use Rattle.bl_app.specs.Lowering.{Lowers, lower_job, lower_plan}
-use Rattle.bl_app.specs.Meaning.{SameOutcomes}
-use Rattle.bl_app.specs.Refusals.{Refusal}
+use Rattle.bl_build.specs.Meaning.{SameOutcomes}
+use Rattle.bl_build.specs.Refusals.{Refusal}
 use Rattle.bl_words.specs.Requests.{HardenRequest, LowerRequest, Request, harden, lower, request_of}
 use Rattle.bl_app.specs.Status.{kind_of}
-use Rattle.bl_app.specs.Working.{IsStaged, IsWork, built_in, refusal_in}
+use Rattle.bl_build.specs.Working.{IsStaged, built_in, refusal_in}
+use Rattle.bl_app.specs.Working.{IsWork}
 use Rattle.bl_app.specs.Worlds.{World, took, with_files}
-use Rattle.bl_app.specs.declared.refusal.WorkError.{WorkError}
-use Rattle.bl_app.specs.declared.refusal.WorkError.TheVariants as error
+use Rattle.bl_build.specs.declared.refusal.WorkError.{WorkError}
+use Rattle.bl_build.specs.declared.refusal.WorkError.TheVariants as error
 use Rattle.bl_app.specs.declared.status.Status.{Status}
 use Rattle.bl_app.specs.declared.status.Status.TheVariants.{Done}
-use Rattle.bl_app.proofs.BuildLemmas.{are_compiled, compiling_lawful}
+use Rattle.bl_build.proofs.BuildLemmas.{are_compiled, compiling_lawful}
 use Rattle.bl_app.proofs.CountLemmas.{work_done}
-use Rattle.bl_app.proofs.FewestLemmas.{are_fewest}
-use Rattle.bl_app.proofs.MarkedImages.{as_long}
-use Rattle.bl_app.proofs.JudgedPrograms.{is_judged}
+use Rattle.bl_build.proofs.FewestLemmas.{are_fewest, ends_alike}
+use Rattle.bl_build.proofs.MarkedImages.{as_long}
+use Rattle.bl_build.proofs.JudgedPrograms.{is_judged}
 use Rattle.bl_words.proofs.WordsLemmas.{request_differs}
 
 -- ---- the work
@@ -48,6 +46,13 @@ pub not_compiled : (job : Job) (parts : List Part) (contents : List (List ℕ)) 
     → (e : WorkError) → IsStaged compiling built_in parts (Err e) → IsWork job contents (Err e)
 not_compiled job parts contents against (error.Refused refusal) r = against (refusal_in refusal) r
 not_compiled job parts contents against error.Memory r = tt
+
+-- the files of modules that are read are short enough
+pub short_modules : (words contents : List (List ℕ)) → AreRead None (map module_read words) contents → AreShort words contents
+short_modules [] [] read = tt
+short_modules [] (bytes ∷ contents) read = absurd read
+short_modules (word ∷ words) [] read = absurd read
+short_modules (word ∷ words) (bytes ∷ contents) read = (read.0.short, short_modules words contents read.1)
 
 -- ---- the laws
 
@@ -94,17 +99,6 @@ kept_still (Some files) name bytes other those differ is =
     get_inserted files name bytes other ∙ ap (λ b. cond b (Some bytes) (fin.get files other)) differ ∙ is
 
 -- ---- what is said where they were done
-
--- what ends as the program without protects ends as the tree
-ends_alike : (tree : Tree) (bare : Program) (set : ℕ → Bool) → SameOutcomes tree bare → SameOutcomes tree (protected set bare)
-ends_alike tree bare set same = record {
-  follows = λ function start outcome n h.
-      let f = same.follows function start outcome n h in (f.0, run_back set bare function start f.0 outcome f.1, f.2, f.3);
-  comes_from = λ function start outcome m h. same.comes_from function start outcome m (run_same set bare function start m outcome h);
-  source_unique = same.source_unique;
-  plain_unique = λ function start o p m k h i.
-      same.plain_unique function start o p m k (run_same set bare function start m o h) (run_same set bare function start k p i);
-}
 
 pub hardens : (words : List (List ℕ)) (request : HardenRequest) (old new : World) (status : Status)
     → request_of words ≡ Some (harden request) → IsDone job_of (request_of words) old new status → Hardens request old new

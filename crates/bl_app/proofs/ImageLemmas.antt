@@ -18,18 +18,19 @@ use Rattle.bl_lower.proofs.Parts.{map_map}
 use Rattle.bl_lower.proofs.WellFormed.{rules}
 use Rattle.bl_trace.specs.Answers.{answer_of}
 use Rattle.bl_outcome.specs.Outcomes.{outcome_text}
-use Rattle.bl_app.specs.Building.{AreCompiled, Built}
-use Rattle.bl_app.specs.Entering.{Entered, entering, function_named, kinds_of, pages_of}
+use Rattle.bl_build.specs.Building.{AreCompiled, Built}
+use Rattle.bl_build.specs.Entering.{Entered, entering, function_named, kinds_of, pages_of}
 use Rattle.bl_app.specs.Executing.{HasPlainOutcome, RunDoes, plain_text}
 use Rattle.bl_app.specs.Interpreting.{HasOutcome, HasRun, printed_of}
 use Rattle.bl_app.specs.Jobs.{Plan, saying}
-use Rattle.bl_app.specs.Loading.{parts_of}
+use Rattle.bl_build.specs.Loading.{parts_of}
 use Rattle.bl_app.specs.Outcomes.{outcome_status}
 use Rattle.bl_words.specs.Requests.{InterpRequest, RunRequest}
-use Rattle.bl_app.specs.Running.{Opened, Opens, sizes_of, type_of}
+use Rattle.bl_build.specs.Running.{Opened, Opens, sizes_of, type_of}
 use Rattle.bl_app.specs.declared.status.Status.TheVariants.{Spent}
-use Rattle.bl_app.proofs.LoadingLemmas.{loading_lawful}
-use Rattle.bl_app.proofs.RunLemmas.{entering_lawful, passes_here}
+use Rattle.bl_build.proofs.LoadingLemmas.{loading_lawful}
+use Rattle.bl_build.proofs.EnteringLemmas.{entering_lawful}
+use Rattle.bl_app.proofs.RunLemmas.{passes_here}
 
 -- ---- exports
 

@@ -3,7 +3,7 @@ use Rattle.std.proofs.Common.{◌≡◌, ℕ, List, [], ◌∷◌, ◌++◌, len
 use Rattle.std.specs.FinMap as fin
 use Rattle.bl_outside.specs.Shelf.{Files}
 use Rattle.bl_app.specs.Jobs.{AreRead, At, FirstRefusal, IsLawful, IsRead, IsTooLong, Job, Plan, Read, RefusesLength, against, too_long}
-use Rattle.bl_app.specs.Refusals.{Refusal}
+use Rattle.bl_build.specs.Refusals.{Refusal}
 
 module _ (files : Option Files) where
   -- of what was read the lengths fit

@@ -1,48 +1,38 @@
 -- Two plans on the same contents: where they are one, and what they have in common where they may differ.
-use Rattle.std.proofs.Common.{◌≡◌, ℕ, suc, Bool, true, false, List, [], ◌∷◌, ◌++◌, length, Some, refl, ap, sym, ◌∙◌, subst, arith}
+use Rattle.std.proofs.Common.{◌≡◌, ℕ, Bool, true, false, List, [], ◌∷◌, ◌++◌, Some, refl, ap, sym, ◌∙◌, subst}
 use Rattle.std.specs.Prelude.{◌↔◌, IsTrue, slice_get}
 use Rattle.std.specs.List.{flat_map}
-use Rattle.std.proofs.Math.Path.{fun_ext}
-use Rattle.bl_base.specs.declared.names.Flow.{Flow}
-use Rattle.bl_base.specs.declared.names.Flow.TheVariants.{Stable, Transient}
 use Rattle.bl_cmd.specs.Rules.{IsWellFormed}
 use Rattle.bl_cmd.specs.Sites.{is_protected}
 use Rattle.bl_cmd.specs.declared.definitions.ProgramParts.{ProgramParts as Program}
 use Rattle.bl_image.specs.Image.{Image}
-use Rattle.bl_image.proofs.Prefixes.{one_image}
 use Rattle.bl_lower.proofs.WellFormed.{rules as rules_of}
 use Rattle.bl_graph.specs.Ranges.{AreInRange}
 use Rattle.bl_graph.specs.declared.certificate.Certificate.{Certificate}
 use Rattle.bl_graph.proofs.Ranging.{in_range}
-use Rattle.bl_transient.specs.Verdicts.{IsFirstSink, IsLeastTyping, Judges, is_transient, typing_of}
 use Rattle.bl_transient.specs.declared.transient.FlowVerdict.{FlowVerdict}
 use Rattle.bl_transient.specs.declared.transient.FlowVerdict.TheVariants as flow
 use Rattle.bl_ct.specs.declared.verdict.CtVerdict.{CtVerdict}
 use Rattle.bl_ct.specs.declared.verdict.CtVerdict.TheVariants as labels
-use Rattle.bl_ct.specs.Verdicts.{Judges as JudgesLabels}
-use Rattle.bl_cut.specs.Marks.{protected}
-use Rattle.bl_cut.proofs.Leaving.{only_one}
-use Rattle.bl_sct.proofs.Assessing.{opposite}
 use Rattle.bl_witness.specs.Texts.{certificate_text}
-use Rattle.bl_witness.specs.Verdicts.{Checks}
-use Rattle.bl_witness.specs.declared.verdict.CertVerdict.{CertVerdict}
-use Rattle.bl_witness.specs.declared.verdict.CertVerdict.TheVariants as rules
-use Rattle.bl_witness.proofs.Firsts.{broken, broken_once}
 use Rattle.bl_report.specs.Reports.{constant_time_text, counts_text, protect_text, protects}
 use Rattle.bl_report.specs.Verdicts.{certificate_line, safe_line, stable_line}
 use Rattle.bl_words.specs.Requests.{HardenRequest, LowerRequest, TwinRequest}
-use Rattle.bl_app.specs.Building.{Makes}
-use Rattle.bl_app.specs.Hardening.{HardenPlans, Hardened, IsHardened, IsYes}
+use Rattle.bl_app.specs.Compiling.{Makes}
+use Rattle.bl_app.specs.Hardening.{HardenPlans}
+use Rattle.bl_build.specs.Hardening.{IsHardened, IsYes}
 use Rattle.bl_app.specs.Jobs.{Plan, saying}
-use Rattle.bl_app.specs.Loading.{parts_of}
+use Rattle.bl_build.specs.Loading.{parts_of}
 use Rattle.bl_app.specs.Lowering.{lower_job, lower_plan}
 use Rattle.bl_app.specs.Twinning.{StartsAgree, TwinDoes, twin_plan}
 use Rattle.bl_app.specs.Verifying.{AreVerdicts, VerifyDoes, verify_status}
 use Rattle.bl_app.specs.declared.status.Status.TheVariants.{Done}
-use Rattle.bl_app.proofs.BuildLemmas.{are_compiled, compiling_lawful}
-use Rattle.bl_app.proofs.JudgedPrograms.{labelled_yes, yes_labelled}
-use Rattle.bl_app.proofs.TwinLemmas.{passes_here as twin_passes_here, twinning_lawful}
-use Rattle.bl_app.proofs.VerifyLemmas.{passes_here as verify_passes_here, verifying_lawful}
+use Rattle.bl_build.proofs.BuildLemmas.{are_compiled, compiling_lawful}
+use Rattle.bl_app.proofs.TwinLemmas.{passes_here as twin_passes_here}
+use Rattle.bl_build.proofs.TracingLemmas.{twinning_lawful}
+use Rattle.bl_app.proofs.VerifyLemmas.{passes_here as verify_passes_here}
+use Rattle.bl_build.proofs.CertifyingLemmas.{verifying_lawful}
+use Rattle.bl_build.proofs.OneVerdict.{one_rules, one_flow, one_yes, one_program, one_bytes, one_answer}
 
 -- ---- `lower`
 
@@ -68,56 +58,6 @@ one_twin request contents p q h k =
     h.is_plan ∙ ap (λ t. twin_plan h.agree t) same ∙ ap (λ a. twin_plan a k.twinned) agree ∙ sym k.is_plan
 
 -- ---- `verify`
-
--- a certificate has one verdict
-one_rules : (program : Program) (certificate : Certificate) (v w : CertVerdict) → Checks program certificate v → Checks program certificate w → v ≡ w
-one_rules program certificate rules.Yes rules.Yes a b = refl
-one_rules program certificate rules.Yes (rules.No rule index) a b = absurd (broken program certificate rule index b a)
-one_rules program certificate (rules.No rule index) rules.Yes a b = absurd (broken program certificate rule index a b)
-one_rules program certificate (rules.No rule index) (rules.No other place) a b =
-    let same = broken_once program certificate rule other index place a b in
-    ap (λ r. rules.No r index) same.0 ∙ ap (λ i. rules.No other i) same.1
-
--- flow types of which the same ones are transient are the same
-same_type : (a b : Flow) → (IsTrue (is_transient (Some a)) ↔ IsTrue (is_transient (Some b))) → a ≡ b
-same_type Stable Stable e = refl
-same_type Stable Transient e = let clash : false ≡ true = e.1 refl in cc
-same_type Transient Stable e = let clash : false ≡ true = e.0 refl in cc
-same_type Transient Transient e = refl
-
-same_types : (a b : List Flow) → length a ≡ length b → ((x : ℕ) → IsTrue (typing_of a x) ↔ IsTrue (typing_of b x)) → a ≡ b
-same_types [] [] long e = refl
-same_types [] (y ∷ b) long e = absurd (omega (arith, long))
-same_types (x ∷ a) [] long e = absurd (omega (arith, long))
-same_types (x ∷ a) (y ∷ b) long e =
-    let first = same_type x y (e 0) in
-    let rest = same_types a b (omega (arith, long)) (λ n. e (suc n)) in
-    λ i. first i ∷ rest i
-
-module _ (program : Program) (set : ℕ → Bool) where
-  one_typing : (a b : List Flow) → IsLeastTyping program set a → IsLeastTyping program set b → a ≡ b
-  one_typing a b h k = same_types a b (h.places ∙ sym k.places) (λ x. (λ t. (k.trans x).1 ((h.trans x).0 t), λ t. (h.trans x).1 ((k.trans x).0 t)))
-
-  -- where a sink reads a transient variable no typing keeps all rules
-  no_typing : (a : List Flow) (position : ℕ) → IsLeastTyping program set a → IsFirstSink program set position → ⊥
-  no_typing a position h k = opposite (typing_of a k.var) ((h.trans k.var).1 k.hot) (h.flows_hold.sinks position k.var k.sink)
-
-  first_once : (one other : ℕ) → IsFirstSink program set one → IsFirstSink program set other → one ≡ other
-  first_once one other h k =
-      let below = h.least other k.var k.sink k.hot in
-      let above = k.least one h.var h.sink h.hot in
-      omega (arith, below, above)
-
-  -- a set has one verdict
-  one_flow : (f g : FlowVerdict) → Judges program set f → Judges program set g → f ≡ g
-  one_flow (flow.Yes a) (flow.Yes b) h k = ap (λ t. flow.Yes t) (one_typing a b h k)
-  one_flow (flow.Yes a) (flow.No position) h k = absurd (no_typing a position.0 h k)
-  one_flow (flow.No position) (flow.Yes b) h k = absurd (no_typing b position.0 k h)
-  one_flow (flow.No position) (flow.No other) h k = ap (λ n. flow.No (record { 0 = n })) (first_once position.0 other.0 h k)
-
--- the label rules say yes of a program or no
-one_yes : (program : Program) (v w : CtVerdict) → JudgesLabels program v → JudgesLabels program w → IsYes v ↔ IsYes w
-one_yes program v w a b = (λ says. labelled_yes program w b (yes_labelled program v a says), λ says. labelled_yes program v a (yes_labelled program w b says))
 
 one_safe : (f : FlowVerdict) (v w : CtVerdict) → (IsYes v ↔ IsYes w) → safe_line f v ≡ safe_line f w
 one_safe (flow.Yes typing) (labels.Yes a) (labels.Yes b) e = refl
@@ -160,16 +100,6 @@ module _ (contents : List (List ℕ)) (p q : Plan) (h : VerifyDoes contents p) (
       ∙ sym k.is_plan
 
 -- ---- `harden`
-
-module _ (bare : Program) (range : AreInRange bare) (one other : Hardened) (a : IsHardened bare one) (b : IsHardened bare other) where
-  one_program : one.program ≡ other.program
-  one_program = a.is_program ∙ ap (λ set. protected set bare) (fun_ext (λ s. only_one bare range a.set b.set a.least b.least s)) ∙ sym b.is_program
-
-  one_bytes : one.image ≡ other.image
-  one_bytes = one_image other.program one.image other.image (subst (λ p. Image p one.image) one_program a.image) b.image
-
-  one_answer : IsYes one.verdict ↔ IsYes other.verdict
-  one_answer = one_yes other.program one.verdict other.verdict (subst (λ p. JudgesLabels p one.verdict) one_program a.judged) b.judged
 
 module _ (request : HardenRequest) (contents : List (List ℕ)) (p q : Plan) (h : Makes request.modules (HardenPlans request) contents p)
     (k : Makes request.modules (HardenPlans request) contents q) where

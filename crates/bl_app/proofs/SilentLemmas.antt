@@ -15,13 +15,13 @@ use Rattle.bl_trace.specs.Answers.{answer_of}
 use Rattle.bl_cut.specs.Marks.{protected}
 use Rattle.bl_cut.proofs.Marking.{run_back, run_same}
 use Rattle.bl_outcome.specs.Outcomes.{outcome_text}
-use Rattle.bl_app.specs.Entering.{Entered, IsImaged, function_named, kinds_of, pages_of}
+use Rattle.bl_build.specs.Entering.{Entered, IsImaged, function_named, kinds_of, pages_of}
 use Rattle.bl_app.specs.Executing.{RunDoes, plain_text}
-use Rattle.bl_app.specs.Hardening.{Hardened, IsHardened}
+use Rattle.bl_build.specs.Hardening.{Hardened, IsHardened}
 use Rattle.bl_app.specs.Jobs.{Plan, saying}
 use Rattle.bl_app.specs.Outcomes.{outcome_status}
 use Rattle.bl_words.specs.Requests.{RunRequest}
-use Rattle.bl_app.proofs.FewestLemmas.{well_formed}
+use Rattle.bl_build.proofs.FewestLemmas.{well_formed}
 use Rattle.bl_app.proofs.RunLemmas.{passes_here}
 
 -- the same outcome within so many steps

@@ -1,102 +1,30 @@
--- Directives and a start are one; the job of `spec` keeps the laws; what is said where it is done.
-use Rattle.std.proofs.Common.{◌≡◌, ℕ, ◌<◌, ◌≤◌, List, [], ◌∷◌, Option, Some, None, refl, ap, sym, ◌∙◌, subst, map, option_map, arith}
-use Rattle.std.specs.Prelude.{Ok, Err, slice_get}
+-- The job of `spec` keeps the laws; what is said where it is done.
+use Rattle.std.proofs.Common.{◌≡◌, ℕ, List, [], ◌∷◌, Option, Some, None, refl, ap, sym, ◌∙◌, subst, map, option_map}
 use Rattle.bl_base.specs.Runs.{EndsAfter, Outcome}
-use Rattle.bl_base.specs.Fits.{Fits}
-use Rattle.bl_cmd.specs.Outcomes.{IsStart, opening, plain}
+use Rattle.bl_cmd.specs.Outcomes.{opening, plain}
 use Rattle.bl_cmd.specs.Steps.{plain_step}
 use Rattle.bl_rob.specs.Machines.{end_in, outcome_by}
 use Rattle.bl_rob.specs.Observed.{IsConsistent_by}
 use Rattle.bl_rob.specs.declared.directive.End.{End}
 use Rattle.bl_rob.proofs.Keeps.{consistent}
-use Rattle.bl_trace.proofs.Fitting.{answered_fits}
 use Rattle.bl_app.specs.Causes.{IsDone}
 use Rattle.bl_app.specs.Commands.{job_of}
-use Rattle.bl_app.specs.Entering.{Entry, Finds, finding, imaging, kinds_of, pages_of}
+use Rattle.bl_build.specs.Entering.{Entry}
 use Rattle.bl_app.specs.Jobs.{AreRead, IsLawful, Plan}
-use Rattle.bl_app.specs.Refusals.{Refusal, bad_directive}
+use Rattle.bl_build.specs.Refusals.{Refusal}
 use Rattle.bl_words.specs.Requests.{Request, SpecRequest, spec}
-use Rattle.bl_app.specs.Speculating.{SpecDoes, SpecRefuses, Speculated, Speculates, StartsTraced, Traced, Traces, TracingRefuses, ended_of, no_directive, seen_of, spec_job, spec_plan, spec_status, speculating, starting_traced, state_of, too_many, tracing}
-use Rattle.bl_app.specs.Stages.{IsLawfulStage, chain}
+use Rattle.bl_app.specs.Speculating.{SpecDoes, SpecRefuses, Speculates, ended_of, seen_of, spec_job, spec_plan, spec_status, state_of}
+use Rattle.bl_build.specs.Tracing.{Speculated, speculating}
 use Rattle.bl_app.specs.Status.{kind_of, of_deed}
 use Rattle.bl_app.specs.Worlds.{World, took, with_files}
 use Rattle.bl_app.specs.declared.status.Status.{Status}
-use Rattle.bl_app.proofs.RunLemmas.{finding_lawful, imaging_lawful, starting_lawful}
-use Rattle.bl_app.proofs.StageLemmas.{chain_lawful}
-
--- ---- trace files
-
-one_side : (n most : ℕ) → most < n → n ≤ most → ⊥
-one_side n most lt le = omega arith
-
-module _ (bytes : List ℕ) where
-  one_trace : (entry : Entry) (a b : Traced) → Traces bytes entry a → Traces bytes entry b → a ≡ b
-  one_trace entry a b s t =
-      let entries = s.same_entry ∙ sym t.same_entry in
-      let read : Ok a.directives ≡ Ok b.directives = sym s.read ∙ t.read in
-      let directives : a.directives ≡ b.directives = cc in
-      λ i. record { entry = entries i; directives = directives i }
-
-  trace_refusal : (a b : Refusal) → TracingRefuses bytes a → TracingRefuses bytes b → a ≡ b
-  trace_refusal a b (too_many lt e) (too_many _ f) = e ∙ sym f
-  trace_refusal a b (too_many lt e) (no_directive line le read f) = absurd (one_side _ _ lt le)
-  trace_refusal a b (no_directive line le read e) (too_many lt f) = absurd (one_side _ _ lt le)
-  trace_refusal a b (no_directive line le read e) (no_directive other _ read' f) =
-      let same : Err line ≡ Err other = sym read ∙ read' in
-      let number : line ≡ other = cc in
-      e ∙ (ap bad_directive number ∙ sym f)
-
-  trace_not_both : (entry : Entry) (a : Traced) (r : Refusal) → Traces bytes entry a → TracingRefuses bytes r → ⊥
-  trace_not_both entry a r t (too_many lt e) = one_side _ _ lt t.few
-  trace_not_both entry a r t (no_directive line le read e) = let no : Ok a.directives ≡ Err line = sym t.read ∙ read in cc
-
-  pub tracing_lawful : IsLawfulStage (tracing bytes)
-  tracing_lawful = record { one_result = one_trace; one_refusal = λ entry. trace_refusal; not_both = trace_not_both }
-
-  -- ---- starts
-
-  one_started : (traced : Traced) (a b : Speculated) → StartsTraced bytes traced a → StartsTraced bytes traced b → a ≡ b
-  one_started traced a b s t =
-      let entered = (starting_lawful bytes).one_result traced.entry a.entered b.entered s.starts t.starts in
-      let directives = s.same_directives ∙ sym t.same_directives in
-      λ i. record { entered = entered i; directives = directives i }
-
-  pub started_lawful : IsLawfulStage (starting_traced bytes)
-  started_lawful = record {
-    one_result = one_started;
-    one_refusal = λ traced. (starting_lawful bytes).one_refusal traced.entry;
-    not_both = λ traced a r s. (starting_lawful bytes).not_both traced.entry a.entered r s.starts;
-  }
-
-pub speculating_lawful : (export trace start : List ℕ) → IsLawfulStage (speculating export trace start)
-speculating_lawful export trace start =
-    chain_lawful imaging (chain (finding export) (chain (tracing trace) (starting_traced start))) imaging_lawful
-    (chain_lawful (finding export) (chain (tracing trace) (starting_traced start)) (finding_lawful export)
-    (chain_lawful (tracing trace) (starting_traced start) (tracing_lawful trace) (started_lawful start)))
+use Rattle.bl_build.proofs.TracingLemmas.{speculating_lawful, start_fits}
 
 -- ---- the outcome of a machine that has ended
 
--- the start fits
 module _ (export trace start image : List ℕ) (s : Speculated) (prepared : (speculating export trace start).Passes image s) where
   abbrev entry : Entry
   entry = s.entered.entry
-
-  start_fits : IsStart entry.program entry.function s.entered.start
-  start_fits =
-      let behind = prepared.2 in
-      let found : Finds export prepared.0 behind.0 = behind.1 in
-      let traced = behind.2.0 in
-      let traces : Traces trace behind.0 traced = behind.2.1 in
-      let starts : StartsTraced start traced s = behind.2.2 in
-      let same : entry ≡ behind.0 = starts.starts.same_entry ∙ traces.same_entry in
-      let exists : slice_get behind.0.program.functions behind.0.function ≡ Some behind.0.defined
-      = subst (λ p. slice_get p.functions behind.0.function ≡ Some behind.0.defined) (sym found.same_program) found.defined in
-      record {
-        defined = entry.defined;
-        exists = subst (λ (e : Entry). slice_get e.program.functions e.function ≡ Some e.defined) (sym same) exists;
-        fits = subst (λ (e : Entry). Fits (kinds_of e.defined) (pages_of e.program) s.entered.start) (sym starts.starts.same_entry)
-            (answered_fits (kinds_of traced.entry.defined) (pages_of traced.entry.program) start s.entered.start starts.starts.read);
-      }
 
   pub ended_plain : (outcome : Outcome) → ended_of s ≡ Some outcome → plain entry.program entry.function s.entered.start (state_of s).retired outcome
   ended_plain outcome e = by_end (end_in (state_of s)) (consistent 64 entry.program entry.function s.entered.start s.directives) e
@@ -107,7 +35,7 @@ module _ (export trace start image : List ℕ) (s : Speculated) (prepared : (spe
       by_end (Some end) c e =
           let same : outcome_by entry.program (state_of s) end ≡ outcome = cc in
           record {
-            start_fits = start_fits;
+            start_fits = start_fits export trace start image s prepared;
             run = subst (EndsAfter (plain_step entry.program) (state_of s).retired (opening entry.program entry.function s.entered.start)) same c.outcome;
           }
 

@@ -2,9 +2,7 @@
 use Rattle.std.proofs.Common.{◌≡◌, ℕ, ◌<◌, ◌≤◌, List, [], ◌∷◌, length, get_or, Option, Some, None, refl, ap, sym, ◌∙◌, subst, arith}
 use Rattle.std.specs.Prelude.{Ok, Err, IfOk, IsSome, Result, Vec}
 use Rattle.std.specs.declared.alloc.Global.{Global}
-use Rattle.bl_base.specs.Quantity.{limit_of}
 use Rattle.bl_base.specs.Runs.{Outcome, outcome_of}
-use Rattle.bl_base.specs.declared.quantity.Quantity.TheVariants as quantity
 use Rattle.bl_base.specs.declared.run.Run.{Run}
 use Rattle.bl_base.specs.declared.start.Start.{Start}
 use Rattle.bl_cmd.specs.declared.definitions.ProgramParts.{ProgramParts as Program}
@@ -12,20 +10,17 @@ use Rattle.bl_rob.specs.Answers.{Told}
 use Rattle.bl_rob.specs.Machines.{State, opening}
 use Rattle.bl_rob.specs.Observed.{Observed, Observes, observed, reached}
 use Rattle.bl_rob.specs.declared.directive.Directive.{Directive}
-use Rattle.bl_trace.specs.Lines.{lines_of}
-use Rattle.bl_trace.specs.Traces.{IsTrace, trace_of}
-use Rattle.bl_trace.specs.declared.error.TraceError.{TraceError}
-use Rattle.bl_trace.specs.declared.error.TraceError.TheVariants as trace_reason
-use Rattle.bl_app.specs.Entering.{Entered, Entry, Finds, IsImaged, Starts, function_named, imaging, starting}
+use Rattle.bl_build.specs.Entering.{Entered, Entry, Finds, IsImaged, Starts, function_named, imaging, starting}
 use Rattle.bl_app.specs.Executing.{plain_text}
 use Rattle.bl_words.specs.Requests.{SpecRequest}
-use Rattle.bl_app.specs.Speculating.{end_text, last_text, no_directive, spec_job, spec_plan}
-use Rattle.bl_app.specs.Stages.{at_first, at_second}
-use Rattle.bl_app.specs.Working.{IsStaged, IsTraced, IsWork, entered_in, plan_in, speculated_in, trace_error}
+use Rattle.bl_app.specs.Speculating.{end_text, last_text, spec_job, spec_plan}
+use Rattle.bl_build.specs.Stages.{at_first, at_second}
+use Rattle.bl_build.specs.Working.{IsStaged, IsTraced, entered_in}
+use Rattle.bl_app.specs.Working.{IsWork, plan_in, speculated_in}
 use Rattle.bl_app.specs.declared.job.Plan.{Plan as PlanMade}
-use Rattle.bl_app.specs.declared.refusal.Refusal.TheVariants as told
-use Rattle.bl_app.specs.declared.refusal.WorkError.{WorkError}
-use Rattle.bl_app.specs.declared.refusal.WorkError.TheVariants as error
+use Rattle.bl_build.specs.declared.refusal.Refusal.TheVariants as told
+use Rattle.bl_build.specs.declared.refusal.WorkError.{WorkError}
+use Rattle.bl_build.specs.declared.refusal.WorkError.TheVariants as error
 
 pub three_contents : (contents : List (Vec ℕ Global)) (first second third : Vec ℕ Global) → 3 ≤ length contents → length contents < 4 → first ≡ get_or contents 0 first
     → second ≡ get_or contents 1 second → third ≡ get_or contents 2 third → contents ≡ first ∷ second ∷ third ∷ []
@@ -34,12 +29,6 @@ three_contents (x ∷ []) first second third low high is these those = absurd (o
 three_contents (x ∷ y ∷ []) first second third low high is these those = absurd (omega (arith, low))
 three_contents (x ∷ y ∷ z ∷ []) first second third low high is these those = λ i. sym is i ∷ (sym these i ∷ (sym those i ∷ []))
 three_contents (x ∷ y ∷ z ∷ w ∷ contents) first second third low high is these those = absurd (omega (arith, high))
-
--- an error of reading a trace file is why it is refused
-pub not_traced : (bytes : List ℕ) (e : TraceError) → length (lines_of bytes) ≤ limit_of quantity.Directives → IsTrace (trace_of bytes) (Err e)
-    → IsTraced bytes (Err (trace_error e))
-not_traced bytes (trace_reason.Line number) few is = no_directive number few is refl
-not_traced bytes trace_reason.Memory few is = tt
 
 -- what is said of an outcome that there is
 pub said_of : (entered : Entered) (outcome : Option Outcome) → IsSome outcome → plain_text entered 0 outcome ≡ end_text entered outcome

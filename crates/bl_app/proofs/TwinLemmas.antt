@@ -14,41 +14,17 @@ use Rattle.bl_twin.specs.declared.comparison.Comparison.TheVariants as compared
 use Rattle.bl_words.specs.Requests.{Request, TwinRequest, twin}
 use Rattle.bl_app.specs.Causes.{IsDone}
 use Rattle.bl_app.specs.Commands.{job_of}
-use Rattle.bl_app.specs.Entering.{Entry, Finds, IsImaged}
+use Rattle.bl_build.specs.Entering.{Entry, Finds, IsImaged}
 use Rattle.bl_app.specs.Jobs.{AreRead, IsLawful, Plan}
-use Rattle.bl_app.specs.Refusals.{Refusal}
-use Rattle.bl_app.specs.Speculating.{Speculated, StartsTraced, Traces, seen_of, speculating}
-use Rattle.bl_app.specs.Stages.{IsLawfulStage}
+use Rattle.bl_build.specs.Refusals.{Refusal}
+use Rattle.bl_build.specs.Tracing.{Speculated, StartsTraced, Traces, Twinned, entry_of, twinning}
+use Rattle.bl_app.specs.Speculating.{seen_of}
 use Rattle.bl_app.specs.Status.{kind_of, of_deed}
-use Rattle.bl_app.specs.Twinning.{StartsAgree, StartsOther, TwinDoes, TwinRefuses, Twinned, Twins, comparison_of, entry_of, other_seen, starting_other, twin_job, twin_status, twinning}
+use Rattle.bl_app.specs.Twinning.{StartsAgree, TwinDoes, TwinRefuses, Twins, comparison_of, other_seen, twin_job, twin_status}
 use Rattle.bl_app.specs.Worlds.{World, took, with_files}
 use Rattle.bl_app.specs.declared.status.Status.{Status}
 use Rattle.bl_app.specs.declared.status.Status.TheVariants.{No}
-use Rattle.bl_app.proofs.RunLemmas.{starting_lawful}
-use Rattle.bl_app.proofs.SpecLemmas.{speculating_lawful}
-use Rattle.bl_app.proofs.StageLemmas.{chain_lawful}
-
--- ---- the other start
-
-module _ (bytes : List ℕ) where
-  one_other : (speculated : Speculated) (a b : Twinned) → StartsOther bytes speculated a → StartsOther bytes speculated b → a ≡ b
-  one_other speculated a b s t =
-      let entry = speculated.entered.entry in
-      let same = s.same ∙ sym t.same in
-      let entered = (starting_lawful bytes).one_result entry (record { entry = entry; start = a.other }) (record { entry = entry; start = b.other }) s.starts t.starts in
-      let others = ap (λ e. e.start) entered in
-      λ i. record { speculated = same i; other = others i }
-
-  other_lawful : IsLawfulStage (starting_other bytes)
-  other_lawful = record {
-    one_result = one_other;
-    one_refusal = λ speculated. (starting_lawful bytes).one_refusal speculated.entered.entry;
-    not_both = λ speculated a r s. (starting_lawful bytes).not_both speculated.entered.entry (record { entry = speculated.entered.entry; start = a.other }) r s.starts;
-  }
-
-pub twinning_lawful : (export trace start other : List ℕ) → IsLawfulStage (twinning export trace start other)
-twinning_lawful export trace start other =
-    chain_lawful (speculating export trace start) (starting_other other) (speculating_lawful export trace start) (other_lawful other)
+use Rattle.bl_build.proofs.TracingLemmas.{twinning_lawful}
 
 -- ---- the job
 

@@ -1,21 +1,21 @@
 -- The work of `twin`, by its stages.
-use Rattle.std.proofs.Common.{◌≡◌, List, [], ◌∷◌, None, refl, ℕ}
+use Rattle.std.proofs.Common.{◌≡◌, List, [], ◌∷◌, None, refl, ℕ, arith, sym}
 use Rattle.std.specs.Prelude.{Err, Ok, Vec, get_or, length, ◌<◌, ◌≤◌}
-use Rattle.std.proofs.Common.{arith, sym}
 use Rattle.std.specs.declared.alloc.Global.{Global}
 use Rattle.bl_base.specs.declared.start.Start.{Start}
 use Rattle.bl_cmd.specs.declared.definitions.ProgramParts.{ProgramParts as Program}
 use Rattle.bl_rob.specs.declared.directive.Directive.{Directive}
 use Rattle.bl_words.specs.Requests.{TwinRequest}
-use Rattle.bl_app.specs.Entering.{Entry, Finds, IsImaged, Starts, function_named, imaging, starting}
-use Rattle.bl_app.specs.Speculating.{Traced, speculating}
-use Rattle.bl_app.specs.Stages.{at_first, at_second}
+use Rattle.bl_build.specs.Entering.{Entry, Finds, IsImaged, Starts, function_named, imaging, starting}
+use Rattle.bl_build.specs.Tracing.{Traced, speculating}
+use Rattle.bl_build.specs.Stages.{at_first, at_second}
 use Rattle.bl_app.specs.Twinning.{twin_job}
-use Rattle.bl_app.specs.Working.{IsStaged, IsTraced, IsTwinTold, IsWork, entered_in, speculated_in, twinned_in}
+use Rattle.bl_build.specs.Working.{IsStaged, IsTraced, entered_in}
+use Rattle.bl_app.specs.Working.{IsTwinTold, IsWork, speculated_in, twinned_in}
 use Rattle.bl_app.specs.declared.job.Plan.{Plan as PlanMade}
-use Rattle.bl_app.specs.declared.refusal.Refusal.TheVariants as told
-use Rattle.bl_app.specs.declared.refusal.WorkError.{WorkError}
-use Rattle.bl_app.specs.declared.refusal.WorkError.TheVariants as error
+use Rattle.bl_build.specs.declared.refusal.Refusal.TheVariants as told
+use Rattle.bl_build.specs.declared.refusal.WorkError.{WorkError}
+use Rattle.bl_build.specs.declared.refusal.WorkError.TheVariants as error
 
 pub four_contents : (contents : List (Vec ℕ Global)) (first second third fourth : Vec ℕ Global) → 4 ≤ length contents → length contents < 5 → first ≡ get_or contents 0 first
     → second ≡ get_or contents 1 second → third ≡ get_or contents 2 third → fourth ≡ get_or contents 3 fourth → contents ≡ first ∷ second ∷ third ∷ fourth ∷ []

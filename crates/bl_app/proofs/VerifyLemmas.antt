@@ -1,6 +1,5 @@
 -- The job of `verify` keeps the laws; what is said where it is done.
-use Rattle.std.proofs.Common.{◌↔◌, ◌≡◌, ℕ, List, [], ◌∷◌, Option, Some, None, refl, ap, sym, ◌∙◌, subst, map}
-use Rattle.bl_base.proofs.Lists.{some_same}
+use Rattle.std.proofs.Common.{◌↔◌, ◌≡◌, ℕ, List, [], ◌∷◌, Option, Some, refl, ap, sym, ◌∙◌, subst, map}
 use Rattle.bl_cmd.specs.Programs.{IsProgram}
 use Rattle.bl_cmd.specs.Rules.{IsWellFormed}
 use Rattle.bl_cmd.specs.Sites.{is_protected}
@@ -20,7 +19,6 @@ use Rattle.bl_transient.proofs.Meeting.{chain_met}
 use Rattle.bl_transient.specs.Verdicts.{Judges, typing_of}
 use Rattle.bl_transient.specs.declared.transient.FlowVerdict.{FlowVerdict}
 use Rattle.bl_transient.specs.declared.transient.FlowVerdict.TheVariants as flow
-use Rattle.bl_witness.specs.Shapes.{certificate_of}
 use Rattle.bl_witness.specs.Verdicts.{AreLightest, Checks}
 use Rattle.bl_witness.specs.declared.verdict.CertVerdict.{CertVerdict}
 use Rattle.bl_witness.specs.declared.verdict.CertVerdict.TheVariants as rules
@@ -28,45 +26,17 @@ use Rattle.bl_witness.proofs.Firsts.{broken}
 use Rattle.bl_words.specs.Requests.{Request, VerifyRequest, verify}
 use Rattle.bl_app.specs.Causes.{IsDone}
 use Rattle.bl_app.specs.Commands.{job_of}
-use Rattle.bl_app.specs.Entering.{imaging}
-use Rattle.bl_app.specs.Hardening.{IsYes}
+use Rattle.bl_build.specs.Hardening.{IsYes}
 use Rattle.bl_app.specs.Jobs.{AreRead, IsLawful, Plan}
-use Rattle.bl_app.specs.Refusals.{Refusal}
-use Rattle.bl_app.specs.Stages.{IsLawfulStage}
+use Rattle.bl_build.specs.Refusals.{Refusal}
 use Rattle.bl_app.specs.Status.{kind_of, of_deed}
-use Rattle.bl_app.specs.Verifying.{AreVerdicts, Certain, Certified, IsRead, ReadingRefuses, Say, Stable, Verdicts, Verifies, VerifyDoes, VerifyRefuses, certifying, is_not_json, is_other_shape, verify_job, verify_status, verifying}
+use Rattle.bl_app.specs.Verifying.{AreVerdicts, Certain, Say, Stable, Verdicts, Verifies, VerifyDoes, VerifyRefuses, verify_job, verify_status}
+use Rattle.bl_build.specs.Certifying.{Certified, verifying}
 use Rattle.bl_app.specs.Worlds.{World, took, with_files}
 use Rattle.bl_app.specs.declared.status.Status.{Status}
-use Rattle.bl_app.proofs.JudgedPrograms.{labelled_yes, yes_labelled}
-use Rattle.bl_app.proofs.RunLemmas.{imaging_lawful, same_two}
-use Rattle.bl_app.proofs.StageLemmas.{chain_lawful}
-
--- ---- certificates
-
-module _ (bytes : List ℕ) where
-  one_read : (program : Program) (a b : Certified) → IsRead bytes program a → IsRead bytes program b → a ≡ b
-  one_read program a b p q =
-      let programs = p.same_program ∙ sym q.same_program in
-      let values = some_same p.read.0 q.read.0 (sym p.read.1.value ∙ q.read.1.value) in
-      let certificates = some_same a.certificate b.certificate (sym p.read.2 ∙ ap certificate_of values ∙ q.read.2) in
-      λ i. record { program = programs i; certificate = certificates i }
-
-  reading_refusal : (a b : Refusal) → ReadingRefuses bytes a → ReadingRefuses bytes b → a ≡ b
-  reading_refusal a b (is_not_json none e) (is_not_json other f) = e ∙ sym f
-  reading_refusal a b (is_not_json none e) (is_other_shape there f) = absurd (none there.0 there.1)
-  reading_refusal a b (is_other_shape there e) (is_not_json none f) = absurd (none there.0 there.1)
-  reading_refusal a b (is_other_shape there e) (is_other_shape other f) = e ∙ sym f
-
-  reading_not_both : (program : Program) (a : Certified) (r : Refusal) → IsRead bytes program a → ReadingRefuses bytes r → ⊥
-  reading_not_both program a r p (is_not_json none e) = none p.read.0 p.read.1
-  reading_not_both program a r p (is_other_shape there e) =
-      let clash : None ≡ Some a.certificate = sym there.2 ∙ ap certificate_of (some_same there.0 p.read.0 (sym there.1.value ∙ p.read.1.value)) ∙ p.read.2 in cc
-
-  certifying_lawful : IsLawfulStage (certifying bytes)
-  certifying_lawful = record { one_result = one_read; one_refusal = λ program. reading_refusal; not_both = reading_not_both }
-
-  pub verifying_lawful : IsLawfulStage (verifying bytes)
-  verifying_lawful = chain_lawful imaging (certifying bytes) imaging_lawful certifying_lawful
+use Rattle.bl_build.proofs.JudgedPrograms.{labelled_yes, yes_labelled}
+use Rattle.bl_app.proofs.RunLemmas.{same_two}
+use Rattle.bl_build.proofs.CertifyingLemmas.{verifying_lawful}
 
 -- ---- verdicts
 

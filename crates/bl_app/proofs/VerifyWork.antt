@@ -1,26 +1,17 @@
 -- The work of `verify`, by its stages.
-use Rattle.std.proofs.Common.{List, [], ◌∷◌, refl, ℕ}
+use Rattle.std.proofs.Common.{List, [], ◌∷◌, refl, ℕ, ◌≡◌}
 use Rattle.std.specs.Prelude.{Ok, Err}
 use Rattle.bl_cmd.specs.declared.definitions.ProgramParts.{ProgramParts as Program}
 use Rattle.bl_graph.specs.declared.certificate.Certificate.{Certificate}
-use Rattle.bl_witness.specs.Shapes.{Reads}
-use Rattle.bl_witness.specs.declared.error.CertError.{CertError}
-use Rattle.bl_witness.specs.declared.error.CertError.TheVariants as cert
 use Rattle.bl_words.specs.Requests.{VerifyRequest}
-use Rattle.bl_app.specs.Entering.{IsImaged, imaging}
-use Rattle.bl_app.specs.Stages.{at_first, at_second}
-use Rattle.bl_app.specs.Verifying.{AreVerdicts, Verdicts, is_not_json, is_other_shape, verify_job, verify_plan}
-use Rattle.bl_app.specs.Working.{IsCertificateOf, IsStaged, IsWork, cert_error, certified_in, plan_in}
+use Rattle.bl_build.specs.Entering.{IsImaged, imaging}
+use Rattle.bl_build.specs.Stages.{at_first, at_second}
+use Rattle.bl_app.specs.Verifying.{AreVerdicts, Verdicts, verify_job, verify_plan}
+use Rattle.bl_build.specs.Working.{IsCertificateOf, IsStaged}
+use Rattle.bl_app.specs.Working.{IsWork, certified_in, plan_in}
 use Rattle.bl_app.specs.declared.job.Plan.{Plan as PlanMade}
-use Rattle.bl_app.specs.declared.refusal.WorkError.{WorkError}
-use Rattle.bl_app.specs.declared.refusal.WorkError.TheVariants as error
-use Rattle.std.proofs.Common.{◌≡◌}
-
--- an error of reading a certificate is why it is refused
-pub not_read : (bytes : List ℕ) (e : CertError) → Reads bytes (Err e) → IsCertificateOf bytes (Err (cert_error e))
-not_read bytes cert.NotJson r = is_not_json r refl
-not_read bytes cert.Shape r = is_other_shape r refl
-not_read bytes cert.Memory r = tt
+use Rattle.bl_build.specs.declared.refusal.WorkError.{WorkError}
+use Rattle.bl_build.specs.declared.refusal.WorkError.TheVariants as error
 
 module _ (request : VerifyRequest) (image certificate : List ℕ) where
   -- an image that is refused

@@ -8,7 +8,7 @@ use Rattle.bl_outside.specs.Shelf.{ReadFails, WriteFails}
 use Rattle.bl_app.specs.Causes.{IsDone, IsKeepFault, IsReadFault, IsRefused, NoFault}
 use Rattle.bl_app.specs.Ends.{Delivers, Ends, PlanFor, all_kept, as_planned, done, no_memory, no_memory_to_keep, not_kept, not_read, refused, usage}
 use Rattle.bl_app.specs.Jobs.{IsLawful, Job, Plan, ReadsName}
-use Rattle.bl_app.specs.Refusals.{Refusal, malformed}
+use Rattle.bl_build.specs.Refusals.{Refusal, malformed}
 use Rattle.bl_app.specs.Status.{Kind, kind_of, of_deed, of_memory, of_read_fault, of_refusal, of_usage, of_write_fault, status_of}
 use Rattle.bl_app.specs.Texts.{read_fault_text, write_fault_text}
 use Rattle.bl_app.specs.Worlds.{Said, Whole, World, cut, took, whole, with_files}

@@ -3,9 +3,10 @@ use Rattle.std.specs.Prelude.{◌≡◌, ℕ, List, Option, Some, None, ◌⊎�
 use Rattle.bl_outside.specs.Faults.{Rose}
 use Rattle.bl_outside.specs.Shelf.{Files, ReadFails, WriteFails}
 use Rattle.bl_app.specs.Jobs.{AreRead, FirstRefusal, Job, Plan, ReadsName}
-use Rattle.bl_app.specs.Refusals.{Refusal}
+use Rattle.bl_build.specs.Refusals.{Refusal}
 use Rattle.bl_app.specs.Status.{kind_of, of_deed, of_refusal, status_of}
-use Rattle.bl_app.specs.Texts.{read_fault_text, refusal_text, write_fault_text}
+use Rattle.bl_app.specs.Texts.{read_fault_text, write_fault_text}
+use Rattle.bl_build.specs.Texts.{refusal_text}
 use Rattle.bl_app.specs.Worlds.{World, took, with_files}
 use Rattle.bl_app.specs.declared.status.Status.{Status}
 use Rattle.bl_app.specs.declared.status.Status.TheVariants.{Memory, ReadFault, Usage, WriteFault}

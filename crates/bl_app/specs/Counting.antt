@@ -3,7 +3,7 @@ use Rattle.std.specs.Prelude.{◌≡◌, ℕ, Bool, true, false, nat_le, List, [
 use Rattle.bl_base.specs.Quantity.{limit_of}
 use Rattle.bl_base.specs.declared.quantity.Quantity.TheVariants as quantity
 use Rattle.bl_app.specs.Jobs.{Job}
-use Rattle.bl_app.specs.Refusals.{limit}
+use Rattle.bl_build.specs.Refusals.{limit}
 
 -- nothing is read, and a request with so many modules is refused
 abbrev pub too_many : ℕ → Job

@@ -2,9 +2,10 @@
 use Rattle.std.specs.Prelude.{◌≡◌, ℕ, List, Option, Some, None, slice_get, take}
 use Rattle.bl_outside.specs.Shelf.{Files, ReadFails, WriteFails}
 use Rattle.bl_app.specs.Jobs.{AreRead, FirstRefusal, Job, Plan, ReadsName, saying}
-use Rattle.bl_app.specs.Refusals.{Refusal}
+use Rattle.bl_build.specs.Refusals.{Refusal}
 use Rattle.bl_app.specs.Status.{status_of}
-use Rattle.bl_app.specs.Texts.{read_fault_text, refusal_text, usage_text, write_fault_text}
+use Rattle.bl_app.specs.Texts.{read_fault_text, usage_text, write_fault_text}
+use Rattle.bl_build.specs.Texts.{refusal_text}
 use Rattle.bl_app.specs.Worlds.{Said, Unchanged, World, with_files}
 use Rattle.bl_app.specs.declared.status.Status.{Status}
 use Rattle.bl_app.specs.declared.status.Status.TheVariants.{Memory, ReadFault, Usage, WriteFault}

@@ -4,11 +4,11 @@ use Rattle.bl_base.specs.Runs.{IsWithin, Outcome}
 use Rattle.bl_base.specs.declared.quantity.Quantity.TheVariants as quantity
 use Rattle.bl_cmd.specs.Outcomes.{first_memories, plain}
 use Rattle.bl_outcome.specs.Outcomes.{outcome_text}
-use Rattle.bl_app.specs.Entering.{Entered, entering}
+use Rattle.bl_build.specs.Entering.{Entered, entering}
 use Rattle.bl_app.specs.Interpreting.{start_read}
 use Rattle.bl_app.specs.Jobs.{AreRead, Job, Plan, Read, saying}
 use Rattle.bl_app.specs.Outcomes.{outcome_status}
-use Rattle.bl_app.specs.Refusals.{Refusal}
+use Rattle.bl_build.specs.Refusals.{Refusal}
 use Rattle.bl_words.specs.Requests.{RunRequest}
 use Rattle.bl_app.specs.Worlds.{World, took}
 use Rattle.bl_app.specs.declared.status.Status.{Status}

@@ -5,11 +5,11 @@ use Rattle.bl_gen.specs.Made.{made}
 use Rattle.bl_outcome.specs.Lines.{line}
 use Rattle.bl_report.specs.Reports.{summary_text}
 use Rattle.bl_words.specs.Requests.{GenRequest}
-use Rattle.bl_app.specs.Building.{Built, compiling}
-use Rattle.bl_app.specs.Hardening.{AreFewest, Hardened, IsHardened, IsJudged}
+use Rattle.bl_build.specs.Building.{Built, compiling}
+use Rattle.bl_build.specs.Hardening.{AreFewest, Hardened, IsHardened, IsJudged}
 use Rattle.bl_app.specs.Jobs.{Job, Plan, saying}
-use Rattle.bl_app.specs.Loading.{Part}
-use Rattle.bl_app.specs.Refusals.{Refusal}
+use Rattle.bl_build.specs.Loading.{Part}
+use Rattle.bl_build.specs.Refusals.{Refusal}
 use Rattle.bl_app.specs.Worlds.{World, took}
 use Rattle.bl_app.specs.declared.status.Status.TheVariants.{Done}
 

@@ -5,22 +5,18 @@ use Rattle.bl_base.specs.declared.quantity.Quantity.TheVariants as quantity
 use Rattle.bl_reduce.specs.Outcomes.{first_store, source}
 use Rattle.bl_outcome.specs.Outcomes.{outcome_text}
 use Rattle.bl_app.specs.Jobs.{AreRead, Job, Plan, Read, saying}
-use Rattle.bl_app.specs.Loading.{Part, loading, module_read, parts_of}
+use Rattle.bl_app.specs.Compiling.{module_read}
+use Rattle.bl_build.specs.Loading.{parts_of}
 use Rattle.bl_app.specs.Outcomes.{outcome_status}
-use Rattle.bl_app.specs.Refusals.{Refusal}
+use Rattle.bl_build.specs.Refusals.{Refusal}
 use Rattle.bl_words.specs.Requests.{InterpRequest}
-use Rattle.bl_app.specs.Running.{Opened, opening}
-use Rattle.bl_app.specs.Stages.{Stage, chain}
+use Rattle.bl_build.specs.Running.{Opened, preparing}
 use Rattle.bl_app.specs.Worlds.{World, took}
 use Rattle.bl_app.specs.declared.status.Status.{Status}
 
 -- a start file
 abbrev pub start_read : List ℕ → Read
 start_read word = record { name = word; quantity = quantity.Start }
-
--- from the bytes of modules and of a start file to the function that is run and its start
-abbrev pub preparing : InterpRequest → List ℕ → Stage (List Part) Opened
-preparing request start = chain loading (opening request.export start)
 
 -- the run of a function has that outcome within so many steps, or none within them
 abbrev pub HasOutcome : Opened → ℕ → Option Outcome → Type 0
@@ -33,7 +29,7 @@ printed_of opened steps outcome = outcome_text opened.type.results (first_store 
 -- nothing is refused, and the plan is to print the outcome of the run within the steps
 pub record HasRun (request : InterpRequest) (start : List ℕ) (contents : List (List ℕ)) (plan : Plan) : Type 0 where
   pub opened : Opened
-  pub prepared : (preparing request start).Passes (parts_of request.modules contents) opened
+  pub prepared : (preparing request.export start).Passes (parts_of request.modules contents) opened
   pub outcome : Option Outcome
   pub within : HasOutcome opened request.steps outcome
   pub is_plan : plan ≡ saying (outcome_status outcome) (printed_of opened request.steps outcome)
@@ -41,7 +37,7 @@ pub record HasRun (request : InterpRequest) (start : List ℕ) (contents : List 
 -- the first of the contents are those of the start file
 abbrev pub InterpRefuses : InterpRequest → List (List ℕ) → Refusal → Type 0
 InterpRefuses request [] refusal = ⊥
-InterpRefuses request (start ∷ contents) refusal = (preparing request start).Refuses (parts_of request.modules contents) refusal
+InterpRefuses request (start ∷ contents) refusal = (preparing request.export start).Refuses (parts_of request.modules contents) refusal
 
 abbrev pub InterpDoes : InterpRequest → List (List ℕ) → Plan → Type 0
 InterpDoes request [] plan = ⊥
@@ -62,7 +58,7 @@ pub record Interprets (request : InterpRequest) (old new : World) (status : Stat
   pub contents : List (List ℕ)
   pub read : AreRead old.files (interp_job request).reads (start ∷ contents)
   pub opened : Opened
-  pub prepared : (preparing request start).Passes (parts_of request.modules contents) opened
+  pub prepared : (preparing request.export start).Passes (parts_of request.modules contents) opened
   pub outcome : Option Outcome
   pub within : HasOutcome opened request.steps outcome
   pub meant : status ≡ outcome_status outcome

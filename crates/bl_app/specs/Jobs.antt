@@ -4,7 +4,7 @@ use Rattle.std.specs.FinMap as fin
 use Rattle.bl_base.specs.Quantity.{limit_of}
 use Rattle.bl_base.specs.declared.quantity.Quantity.{Quantity}
 use Rattle.bl_outside.specs.Shelf.{Files}
-use Rattle.bl_app.specs.Refusals.{Refusal, limit}
+use Rattle.bl_build.specs.Refusals.{Refusal, limit}
 use Rattle.bl_app.specs.Status.{kind_of, of_deed}
 use Rattle.bl_app.specs.declared.status.Status.{Status}
 

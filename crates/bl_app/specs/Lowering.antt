@@ -1,7 +1,8 @@
 -- `lower`: its job, and what is said where it is done.
 use Rattle.std.specs.Prelude.{◌≡◌, ℕ, List, [], ◌∷◌}
 use Rattle.bl_outside.specs.Shelf.{with_file}
-use Rattle.bl_app.specs.Building.{AreCompiled, Built, compiling_job}
+use Rattle.bl_build.specs.Building.{AreCompiled, Built}
+use Rattle.bl_app.specs.Compiling.{compiling_job}
 use Rattle.bl_app.specs.Jobs.{AreRead, FileIs, Job, Plan}
 use Rattle.bl_words.specs.Requests.{LowerRequest}
 use Rattle.bl_app.specs.Texts.{commands_text}

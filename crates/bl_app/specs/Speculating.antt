@@ -1,75 +1,25 @@
 -- `spec`: its job, and what is said where it is done.
-use Rattle.std.specs.Prelude.{◌≡◌, ℕ, ◌<◌, ◌≤◌, ◌++◌, List, [], ◌∷◌, length, codes, Option, Some, None, Ok, Err}
+use Rattle.std.specs.Prelude.{◌≡◌, ℕ, ◌++◌, List, [], ◌∷◌, codes, Option, Some, None}
 use Rattle.std.specs.Fmt.{decimal}
 use Rattle.std.specs.List.{flat_map}
-use Rattle.bl_base.specs.Quantity.{limit_of}
 use Rattle.bl_base.specs.Runs.{Outcome}
 use Rattle.bl_base.specs.declared.quantity.Quantity.TheVariants as quantity
 use Rattle.bl_cmd.specs.Outcomes.{plain}
 use Rattle.bl_rob.specs.Answers.{outcome_in}
 use Rattle.bl_rob.specs.Machines.{State}
 use Rattle.bl_rob.specs.Observed.{Observed, observed, reached}
-use Rattle.bl_rob.specs.declared.directive.Directive.{Directive}
-use Rattle.bl_trace.specs.Lines.{lines_of}
 use Rattle.bl_trace.specs.Observations.{observation_text}
-use Rattle.bl_trace.specs.Traces.{trace_of}
 use Rattle.bl_outcome.specs.Lines.{line}
-use Rattle.bl_app.specs.Entering.{Entered, Entry, Starts, StartingRefuses, finding, imaging}
+use Rattle.bl_build.specs.Entering.{Entered}
 use Rattle.bl_app.specs.Executing.{image_read, plain_text}
 use Rattle.bl_app.specs.Interpreting.{start_read}
 use Rattle.bl_app.specs.Jobs.{AreRead, Job, Plan, Read, saying}
-use Rattle.bl_app.specs.Refusals.{Refusal, bad_directive, limit}
+use Rattle.bl_build.specs.Refusals.{Refusal}
 use Rattle.bl_words.specs.Requests.{SpecRequest}
-use Rattle.bl_app.specs.Stages.{Stage, chain}
 use Rattle.bl_app.specs.Worlds.{World, took}
 use Rattle.bl_app.specs.declared.status.Status.{Status}
 use Rattle.bl_app.specs.declared.status.Status.TheVariants.{Done, Stuck}
-
--- ---- trace files
-
--- a function of a program, and directives
-pub record Traced : Type 0 where
-  pub entry : Entry
-  pub directives : List Directive
-
--- the bytes of a trace file have at most the number of lines that is taken, and each is a directive
-pub record Traces (bytes : List ℕ) (entry : Entry) (traced : Traced) : Type 0 where
-  pub same_entry : traced.entry ≡ entry
-  pub few : length (lines_of bytes) ≤ limit_of quantity.Directives
-  pub read : trace_of bytes ≡ Ok traced.directives
-
-pub data TracingRefuses (bytes : List ℕ) (refusal : Refusal) : Type 0 where
-  -- there are more lines
-  too_many : limit_of quantity.Directives < length (lines_of bytes) → refusal ≡ limit quantity.Directives (length (lines_of bytes))
-      → TracingRefuses bytes refusal
-  -- there are no more, and one is no directive; the first one
-  no_directive : (line : ℕ) → length (lines_of bytes) ≤ limit_of quantity.Directives → trace_of bytes ≡ Err line → refusal ≡ bad_directive line
-      → TracingRefuses bytes refusal
-
-abbrev pub tracing : List ℕ → Stage Entry Traced
-tracing bytes = record { Passes = Traces bytes; Refuses = λ entry. TracingRefuses bytes }
-
--- ---- starts
-
--- a function of a program, a start of it, and directives
-pub record Speculated : Type 0 where
-  pub entered : Entered
-  pub directives : List Directive
-
--- the bytes of a start file ask for that start of the function
-pub record StartsTraced (bytes : List ℕ) (traced : Traced) (speculated : Speculated) : Type 0 where
-  pub same_directives : speculated.directives ≡ traced.directives
-  pub starts : Starts bytes traced.entry speculated.entered
-
-abbrev pub starting_traced : List ℕ → Stage Traced Speculated
-starting_traced bytes = record { Passes = StartsTraced bytes; Refuses = λ traced. StartingRefuses bytes traced.entry }
-
--- ---- all stages
-
--- from the bytes of an image to a function that is exported under a name, with the directives of a trace file's bytes and the start
--- that the bytes of a start file ask for
-abbrev pub speculating : List ℕ → List ℕ → List ℕ → Stage (List ℕ) Speculated
-speculating export trace start = chain imaging (chain (finding export) (chain (tracing trace) (starting_traced start)))
+use Rattle.bl_build.specs.Tracing.{Speculated, speculating}
 
 -- ---- what is observed
 

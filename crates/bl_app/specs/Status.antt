@@ -1,6 +1,6 @@
 -- The exit statuses: their numbers, and what each says of a call.
 use Rattle.std.specs.Prelude.{◌≡◌, ℕ}
-use Rattle.bl_app.specs.Refusals.{Refusal, malformed, invalid_function, invalid_module, unsupported, limit, unknown_import, mismatched_import, element_range, data_range, bad_labels, not_an_image, broken_rule, no_export, not_json, other_shape, bad_directive, bad_line, few_arguments}
+use Rattle.bl_build.specs.Refusals.{Refusal, malformed, invalid_function, invalid_module, unsupported, limit, unknown_import, mismatched_import, element_range, data_range, bad_labels, not_an_image, broken_rule, no_export, not_json, other_shape, bad_directive, bad_line, few_arguments}
 use Rattle.bl_app.specs.declared.status.Status.{Status}
 use Rattle.bl_app.specs.declared.status.Status.TheVariants.{Done, No, Usage, ReadFault, WriteFault, Malformed, Invalid, Unsupported, Limit, Link, Labels, Memory, Image, Certificate, Trace, Start, Trapped, Spent, Stuck}
 

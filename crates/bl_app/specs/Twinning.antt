@@ -1,6 +1,5 @@
 -- `twin`: its job, and what is said where it is done.
 use Rattle.std.specs.Prelude.{◌≡◌, ◌↔◌, ℕ, Bool, IsTrue, List, [], ◌∷◌}
-use Rattle.bl_base.specs.declared.start.Start.{Start}
 use Rattle.bl_cmd.specs.Outcomes.{Agree}
 use Rattle.bl_graph.specs.Labels.{ConstantTime}
 use Rattle.bl_rob.specs.Observed.{Observed, observed}
@@ -9,40 +8,15 @@ use Rattle.bl_twin.specs.Comparing.{Tells, comparison, twin_text}
 use Rattle.bl_twin.specs.declared.comparison.Comparison.{Comparison}
 use Rattle.bl_twin.specs.declared.comparison.Comparison.TheVariants as compared
 use Rattle.bl_words.specs.Requests.{TwinRequest}
-use Rattle.bl_app.specs.Entering.{Entry, Starts, StartingRefuses}
 use Rattle.bl_app.specs.Executing.{image_read}
 use Rattle.bl_app.specs.Interpreting.{start_read}
 use Rattle.bl_app.specs.Jobs.{AreRead, Job, Plan, saying}
-use Rattle.bl_app.specs.Refusals.{Refusal}
-use Rattle.bl_app.specs.Speculating.{Speculated, seen_of, speculating, trace_read}
-use Rattle.bl_app.specs.Stages.{Stage, chain}
+use Rattle.bl_build.specs.Refusals.{Refusal}
+use Rattle.bl_app.specs.Speculating.{seen_of, trace_read}
 use Rattle.bl_app.specs.Worlds.{World, took}
 use Rattle.bl_app.specs.declared.status.Status.{Status}
 use Rattle.bl_app.specs.declared.status.Status.TheVariants.{Done, No, Stuck}
-
--- ---- the other start
-
--- a function of a program, a start of it, and directives; and another start
-pub record Twinned : Type 0 where
-  pub speculated : Speculated
-  pub other : Start
-
--- the function of a program
-abbrev pub entry_of : Twinned → Entry
-entry_of twinned = twinned.speculated.entered.entry
-
--- the bytes of a start file ask for that other start of the function
-pub record StartsOther (bytes : List ℕ) (speculated : Speculated) (twinned : Twinned) : Type 0 where
-  pub same : twinned.speculated ≡ speculated
-  pub starts : Starts bytes speculated.entered.entry (record { entry = speculated.entered.entry; start = twinned.other })
-
-abbrev pub starting_other : List ℕ → Stage Speculated Twinned
-starting_other bytes = record { Passes = StartsOther bytes; Refuses = λ speculated. StartingRefuses bytes speculated.entered.entry }
-
--- from the bytes of an image to a function that is exported under a name, with the directives of a trace file's bytes and the two starts
--- that the bytes of two start files ask for
-abbrev pub twinning : List ℕ → List ℕ → List ℕ → List ℕ → Stage (List ℕ) Twinned
-twinning export trace start other = chain (speculating export trace start) (starting_other other)
+use Rattle.bl_build.specs.Tracing.{Twinned, entry_of, twinning}
 
 -- ---- what is observed
 

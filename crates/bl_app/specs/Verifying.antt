@@ -1,13 +1,11 @@
 -- `verify`: its job, and what is said where it is done.
-use Rattle.std.specs.Prelude.{◌≡◌, ◌↔◌, ℕ, List, [], ◌∷◌, Ok, Err}
+use Rattle.std.specs.Prelude.{◌≡◌, ◌↔◌, ℕ, List, [], ◌∷◌}
 use Rattle.bl_base.specs.declared.quantity.Quantity.TheVariants as quantity
 use Rattle.bl_cmd.specs.Sites.{is_protected}
-use Rattle.bl_cmd.specs.declared.definitions.ProgramParts.{ProgramParts as Program}
 use Rattle.bl_ct.specs.Verdicts.{Judges as JudgesLabels}
 use Rattle.bl_ct.specs.declared.verdict.CtVerdict.{CtVerdict}
 use Rattle.bl_graph.specs.Certificates.{Certifies}
 use Rattle.bl_graph.specs.Labels.{ConstantTime}
-use Rattle.bl_graph.specs.declared.certificate.Certificate.{Certificate}
 use Rattle.bl_report.specs.Verdicts.{verdicts_text}
 use Rattle.bl_rob.specs.Observed.{HasEqualObservations}
 use Rattle.bl_sct.specs.Verdicts.{Assesses, IsStable}
@@ -16,46 +14,18 @@ use Rattle.bl_sct.specs.declared.verdict.Verdict.TheVariants.{Safe}
 use Rattle.bl_transient.specs.Verdicts.{Judges as JudgesFlow}
 use Rattle.bl_transient.specs.declared.transient.FlowVerdict.{FlowVerdict}
 use Rattle.bl_transient.specs.declared.transient.FlowVerdict.TheVariants as flow
-use Rattle.bl_witness.specs.Shapes.{Reads}
 use Rattle.bl_witness.specs.Verdicts.{AreLightest, Checks}
-use Rattle.bl_witness.specs.declared.error.CertError.TheVariants.{NotJson, Shape}
 use Rattle.bl_witness.specs.declared.verdict.CertVerdict.{CertVerdict}
 use Rattle.bl_witness.specs.declared.verdict.CertVerdict.TheVariants as rules
 use Rattle.bl_words.specs.Requests.{VerifyRequest}
-use Rattle.bl_app.specs.Entering.{imaging}
 use Rattle.bl_app.specs.Executing.{image_read}
-use Rattle.bl_app.specs.Hardening.{IsYes}
+use Rattle.bl_build.specs.Hardening.{IsYes}
 use Rattle.bl_app.specs.Jobs.{AreRead, Job, Plan, Read, saying}
-use Rattle.bl_app.specs.Refusals.{Refusal, not_json, other_shape}
-use Rattle.bl_app.specs.Stages.{Stage, chain}
+use Rattle.bl_build.specs.Refusals.{Refusal}
 use Rattle.bl_app.specs.Worlds.{World, took}
 use Rattle.bl_app.specs.declared.status.Status.{Status}
 use Rattle.bl_app.specs.declared.status.Status.TheVariants.{Done, No}
-
--- ---- certificates
-
--- a program, and a certificate that is given for it
-pub record Certified : Type 0 where
-  pub program : Program
-  pub certificate : Certificate
-
--- the bytes are the text of that certificate
-pub record IsRead (bytes : List ℕ) (program : Program) (certified : Certified) : Type 0 where
-  pub same_program : certified.program ≡ program
-  pub read : Reads bytes (Ok certified.certificate)
-
-pub data ReadingRefuses (bytes : List ℕ) (refusal : Refusal) : Type 0 where
-  -- they are the text of no JSON value
-  is_not_json : Reads bytes (Err NotJson) → refusal ≡ not_json → ReadingRefuses bytes refusal
-  -- they are that of a value that is no certificate
-  is_other_shape : Reads bytes (Err Shape) → refusal ≡ other_shape → ReadingRefuses bytes refusal
-
-abbrev pub certifying : List ℕ → Stage Program Certified
-certifying bytes = record { Passes = IsRead bytes; Refuses = λ program. ReadingRefuses bytes }
-
--- from the bytes of an image to its program, with the certificate that the bytes of another file are
-abbrev pub verifying : List ℕ → Stage (List ℕ) Certified
-verifying certificate = chain imaging (certifying certificate)
+use Rattle.bl_build.specs.Certifying.{Certified, verifying}
 
 -- ---- verdicts
 

@@ -6,19 +6,20 @@ ghost use Rattle.bl_app.specs.Commands.{IsSized, work_of};
 ghost use Rattle.bl_app.specs.Jobs.{AreRead};
 ghost use Rattle.bl_words.specs.Requests.{AreNamedApart, modules_in};
 ghost use Rattle.bl_words.specs.Words.{request_in};
-ghost use Rattle.bl_app.specs.Working.{IsWork, contents_in, read_in};
+ghost use Rattle.bl_app.specs.Working.{IsWork, read_in};
+ghost use Rattle.bl_build.specs.Working.{contents_in};
 
 use crate::generate::generate;
 use crate::harden::{harden, harden_reads};
 use crate::interp::{interp_reads, interpret};
 use crate::job::{Plan, Read};
 use crate::lower::{lower, lower_reads};
-use crate::refusal::WorkError;
 use crate::run::{execute, run_reads};
 use crate::spec::{spec_reads, speculate};
 use crate::twin::{twin, twin_reads};
 use crate::verify::{verify, verify_reads};
 use bl_base::NoMemory;
+use bl_build::WorkError;
 use bl_words::Request;
 use std::alloc::Global;
 

@@ -5,8 +5,8 @@ ghost use Rattle.bl_app.specs.Worlds.{world};
 
 use crate::job::Read;
 use crate::output::{refuse, say_line};
-use crate::refusal::Refusal;
 use crate::status::Status;
+use bl_build::Refusal;
 use bl_outside::{Shelf, ShelfError, Sink};
 use std::alloc::Global;
 

@@ -4,40 +4,22 @@ ghost use Rattle.bl_base.specs.Quantity.{limit_of};
 ghost use Rattle.bl_base.specs.declared.quantity.Quantity.TheVariants as quantity;
 ghost use Rattle.bl_graph.specs.Certificates.{Certifies};
 ghost use Rattle.bl_ct.specs.Verdicts.{Judges};
-ghost use Rattle.bl_app.specs.Hardening.{IsHardened, harden_job, harden_plan};
+ghost use Rattle.bl_app.specs.Hardening.{harden_job, harden_plan};
 ghost use Rattle.bl_app.specs.Jobs.{AreRead};
 ghost use Rattle.bl_words.specs.Requests.{AreNamedApart};
 ghost use Rattle.bl_words.specs.Words.{harden_in};
-ghost use Rattle.bl_app.specs.Working.{IsWork, contents_in, hardened_in, plan_in, read_in};
+ghost use Rattle.bl_app.specs.Working.{IsWork, plan_in, read_in};
+ghost use Rattle.bl_build.specs.Working.{contents_in, hardened_in};
 
-use crate::build::compile;
 use crate::job::{Keep, Plan, Read};
 use crate::module::read_modules;
-use crate::refusal::WorkError;
 use crate::status::Status;
 use bl_base::NoMemory;
-use bl_cmd::WellFormed;
-use bl_ct::{CtVerdict, constant_time};
-use bl_cut::{least_protects, protect};
-use bl_graph::{Certificate, graph};
-use bl_image::encode;
+use bl_build::{Hardened, WorkError, compile, protect_least};
 use bl_report::report;
 use bl_witness::to_json;
 use bl_words::HardenWords;
 use std::alloc::Global;
-
-/// A program with its protects.
-#[derive(Drop)]
-pub struct Hardened {
-    /// The program.
-    pub program: WellFormed,
-    /// A flow that shows that no lighter protects do.
-    pub certificate: Certificate,
-    /// Whether it is constant-time.
-    pub verdict: CtVerdict,
-    /// The image's bytes.
-    pub image: Vec<u8>,
-}
 
 /// The files that `harden` reads.
 pub fn harden_reads<'a>(alloc: Global, words: &HardenWords<'a>) -> Result<Vec<Read<'a>>, NoMemory>
@@ -68,23 +50,6 @@ pub fn harden<'a>(
         }
         Err(error) => Err(error),
     }
-}
-
-/// A program with exactly the least protects, a certificate of that, the verdict on constant time, and the image.
-pub fn protect_least(alloc: Global, bare: WellFormed) -> Result<Hardened, NoMemory>
-    ensures { IfOk result (λ hardened. IsHardened bare (hardened_in hardened)) }
-{
-    let choice = least_protects(alloc, &bare)?;
-    let program = protect(bare, &choice.protects);
-    let facts = graph(alloc, &program)?;
-    let verdict = constant_time(alloc, &program, &facts)?;
-    let image = encode(alloc, &program)?;
-    Ok(Hardened {
-        program,
-        certificate: choice.certificate,
-        verdict,
-        image,
-    })
 }
 
 /// The plan of a program with its protects.

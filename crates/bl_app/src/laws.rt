@@ -5,21 +5,21 @@ ghost use Rattle.bl_wasm.specs.Linked.{IsLinked};
 ghost use Rattle.bl_wasm.specs.declared.linked.Tree.{Tree};
 ghost use Rattle.bl_lower.specs.Trees.{step_bound};
 ghost use Rattle.bl_report.specs.Verdicts.{safe_line};
-ghost use Rattle.bl_app.specs.Building.{AreCompiled, Builds, Built, Makes, compiling};
+ghost use Rattle.bl_build.specs.Building.{AreCompiled, Builds, Built};
+ghost use Rattle.bl_app.specs.Compiling.{Makes};
 ghost use Rattle.bl_app.specs.Causes.{Causes, NoneRose};
 ghost use Rattle.bl_app.specs.Commands.{job_of};
-ghost use Rattle.bl_app.specs.Entering.{entering};
 ghost use Rattle.bl_app.specs.Executing.{RunDoes};
-ghost use Rattle.bl_app.specs.Hardening.{HardenPlans, Hardened, IsHardened, IsYes, harden_job};
-ghost use Rattle.bl_app.specs.Interpreting.{InterpDoes, preparing};
+ghost use Rattle.bl_app.specs.Hardening.{HardenPlans, harden_job};
+ghost use Rattle.bl_build.specs.Hardening.{Hardened, IsHardened, IsYes};
+ghost use Rattle.bl_app.specs.Interpreting.{InterpDoes};
 ghost use Rattle.bl_app.specs.Jobs.{AreRead, FirstRefusal, IsLawful, Plan};
 ghost use Rattle.bl_app.specs.Lowering.{lower_job};
-ghost use Rattle.bl_app.specs.Refusals.{Refusal};
+ghost use Rattle.bl_build.specs.Refusals.{Refusal};
 ghost use Rattle.bl_words.specs.Requests.{HardenRequest, InterpRequest, LowerRequest, Request, RunRequest, SpecRequest, TwinRequest};
-ghost use Rattle.bl_app.specs.Speculating.{SpecDoes, speculating};
-ghost use Rattle.bl_app.specs.Stages.{IsLawfulStage};
-ghost use Rattle.bl_app.specs.Twinning.{TwinDoes, twinning};
-ghost use Rattle.bl_app.specs.Verifying.{VerifyDoes, verifying};
+ghost use Rattle.bl_app.specs.Speculating.{SpecDoes};
+ghost use Rattle.bl_app.specs.Twinning.{TwinDoes};
+ghost use Rattle.bl_app.specs.Verifying.{VerifyDoes};
 ghost use Rattle.bl_app.specs.Worlds.{World};
 ghost use Rattle.bl_app.specs.declared.status.Status.{Status};
 ghost use Rattle.bl_app.specs.declared.status.Status.TheVariants as status;
@@ -78,16 +78,6 @@ pub fn one_image()
         → slice_get p.keeps 1 ≡ slice_get q.keeps 1 }
     ensures whole { (request : HardenRequest) (contents : Listed (Listed ℕ)) (p q : Plan) (h : Makes request.modules (HardenPlans request) contents p)
         (k : Makes request.modules (HardenPlans request) contents q) → h.plans.hardened.certificate ≡ k.plans.hardened.certificate → IsYes h.plans.hardened.verdict → p ≡ q }
-{}
-
-/// Each stage of work on contents makes one thing of them, or refuses them for one reason, and never both.
-pub fn stages_are_lawful()
-    ensures compiling { IsLawfulStage compiling }
-    ensures preparing { (request : InterpRequest) (start : Listed ℕ) → IsLawfulStage (preparing request start) }
-    ensures entering { (export start : Listed ℕ) → IsLawfulStage (entering export start) }
-    ensures speculating { (export trace start : Listed ℕ) → IsLawfulStage (speculating export trace start) }
-    ensures twinning { (export trace start other : Listed ℕ) → IsLawfulStage (twinning export trace start other) }
-    ensures verifying { (certificate : Listed ℕ) → IsLawfulStage (verifying certificate) }
 {}
 
 /// An image runs as the modules do that it was made of: where `interp` tells a return or a trap within its steps, `run` tells

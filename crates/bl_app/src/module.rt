@@ -1,6 +1,6 @@
 //! The files of a request's modules.
 ghost use Rattle.std.specs.Prelude.{◌≡◌, ◌++◌, IfOk, map};
-ghost use Rattle.bl_app.specs.Loading.{module_read};
+ghost use Rattle.bl_app.specs.Compiling.{module_read};
 ghost use Rattle.bl_app.specs.Working.{read_in};
 
 use crate::job::Read;

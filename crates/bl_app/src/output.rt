@@ -1,12 +1,12 @@
 //! Text to the sink.
 ghost use Rattle.std.specs.Prelude.{◌++◌, [], ◌∷◌};
 ghost use Rattle.bl_app.specs.Status.{status_of};
-ghost use Rattle.bl_app.specs.Texts.{refusal_text};
-ghost use Rattle.bl_app.specs.Working.{refusal_in};
+ghost use Rattle.bl_build.specs.Texts.{refusal_text};
+ghost use Rattle.bl_build.specs.Working.{refusal_in};
 ghost use Rattle.bl_app.specs.Worlds.{Pushes, Said, SaidIfRoom, stream};
 
-use crate::refusal::Refusal;
-use crate::status::Status;
+use crate::status::{Status, status_of};
+use bl_build::Refusal;
 use bl_outside::{Sink, SinkFault};
 use std::alloc::Global;
 
@@ -58,5 +58,5 @@ pub fn refuse<O: Sink>(alloc: Global, refusal: Refusal<'_>, out: &mut O) -> Stat
     let Ok(text) = refusal.text(alloc) else {
         return Status::Memory;
     };
-    say(out, &text, refusal.status())
+    say(out, &text, status_of(refusal))
 }

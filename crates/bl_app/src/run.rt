@@ -4,13 +4,13 @@ ghost use Rattle.bl_cmd.specs.Outcomes.{IsStart};
 ghost use Rattle.bl_app.specs.Executing.{run_job};
 ghost use Rattle.bl_app.specs.Jobs.{AreRead};
 ghost use Rattle.bl_words.specs.Words.{run_in};
-ghost use Rattle.bl_app.specs.Working.{IsPlainTold, IsWork, contents_in, entered_in, entry_in, read_in};
+ghost use Rattle.bl_app.specs.Working.{IsPlainTold, IsWork, read_in};
+ghost use Rattle.bl_build.specs.Working.{contents_in, entered_in, entry_in};
 
-use crate::entry::{Entry, find_entry, read_entry_start, read_image};
 use crate::job::{Plan, Read};
 use crate::outcome::outcome_status;
-use crate::refusal::{Refusal, WorkError};
 use bl_base::{NoMemory, Quantity, Start};
+use bl_build::{Entry, Refusal, WorkError, find_entry, read_entry_start, read_image};
 use bl_cmd::WellFormed;
 use bl_outcome::outcome_text;
 use bl_seq::{first_memories, run};

@@ -11,18 +11,20 @@ ghost use Rattle.bl_trace.specs.Observations.{observation_text};
 ghost use Rattle.bl_app.specs.Jobs.{AreRead};
 ghost use Rattle.bl_app.specs.Speculating.{last_text, spec_job, spec_plan, spec_status};
 ghost use Rattle.bl_words.specs.Words.{spec_in};
-ghost use Rattle.bl_app.specs.Working.{IsTraced, IsWork, contents_in, entered_in, entry_in, plan_in, read_in, speculated_in, trace_error};
+ghost use Rattle.bl_build.specs.Working.{contents_in, entered_in, entry_in};
+ghost use Rattle.bl_app.specs.Working.{IsWork, plan_in, read_in, speculated_in};
 
-use crate::entry::{Entry, find_entry, read_entry_start, read_image};
 use crate::job::{Plan, Read};
-use crate::refusal::{Refusal, WorkError};
 use crate::status::Status;
-use bl_base::{List, NoMemory, Quantity, Run, Start};
+use bl_base::{NoMemory, Quantity, Run, Start};
+use bl_build::{
+    Entry, Refusal, WorkError, find_entry, read_directives, read_entry_start, read_image,
+};
 use bl_cmd::WellFormed;
 use bl_outcome::outcome_text;
 use bl_rob::{Directive, Observation, Rob};
 use bl_seq::first_memories;
-use bl_trace::{TraceError, count_lines, print_observation, read_trace};
+use bl_trace::print_observation;
 use bl_words::SpecWords;
 use std::alloc::Global;
 
@@ -91,33 +93,6 @@ fn speculate_image<'a>(
     match observe(alloc, &program, &entry, &start, directives.as_slice()) {
         Ok(plan) => Ok(plan),
         Err(NoMemory) => Err(WorkError::Memory),
-    }
-}
-
-/// The directives of a trace file; Refused exactly where it has too many lines, or a line is no directive.
-pub fn read_directives<'a>(alloc: Global, bytes: &[u8]) -> Result<List<Directive>, WorkError<'a>>
-    ensures { IsTraced bytes.now result }
-{
-    let count = count_lines(bytes);
-    if count > Quantity::Directives.limit() {
-        return Err(WorkError::Refused(Refusal::Limit {
-            which: Quantity::Directives,
-            value: count,
-        }));
-    }
-    match read_trace(alloc, bytes) {
-        Ok(directives) => Ok(directives),
-        Err(error) => Err(of_trace(error)),
-    }
-}
-
-/// Why there are no directives.
-fn of_trace<'a>(error: TraceError) -> WorkError<'a>
-    ensures { result ≡ trace_error error }
-{
-    match error {
-        TraceError::Line(number) => WorkError::Refused(Refusal::BadDirective(number)),
-        TraceError::Memory => WorkError::Memory,
     }
 }
 

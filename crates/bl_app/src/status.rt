@@ -1,6 +1,9 @@
 //! Exit statuses.
 ghost use Rattle.std.specs.Prelude.{◌≡◌};
-ghost use Rattle.bl_app.specs.Status.{code_of};
+ghost use Rattle.bl_app.specs.Status.{code_of, status_of};
+ghost use Rattle.bl_build.specs.Working.{refusal_in};
+
+use bl_build::Refusal;
 
 /// How a call ended.
 #[derive(Clone, Copy, Debug, PartialEq, Eq)]
@@ -71,5 +74,24 @@ impl Status {
             Status::Spent => 17,
             Status::Stuck => 18,
         }
+    }
+}
+
+/// The exit status of a refusal.
+pub fn status_of(refusal: Refusal<'_>) -> Status
+    ensures { result ≡ status_of (refusal_in refusal.entry) }
+{
+    match refusal {
+        Refusal::Malformed(_) => Status::Malformed,
+        Refusal::InvalidFunction(_, _) | Refusal::InvalidModule(_) => Status::Invalid,
+        Refusal::Unsupported(_) => Status::Unsupported,
+        Refusal::Limit { .. } => Status::Limit,
+        Refusal::UnknownImport(_, _) | Refusal::MismatchedImport(_, _) => Status::Link,
+        Refusal::ElementRange(_) | Refusal::DataRange(_) => Status::Link,
+        Refusal::BadLabels(_, _) => Status::Labels,
+        Refusal::NotAnImage | Refusal::BrokenRule { .. } => Status::Image,
+        Refusal::NotJson | Refusal::OtherShape => Status::Certificate,
+        Refusal::BadDirective(_) => Status::Trace,
+        Refusal::NoExport | Refusal::BadLine(_) | Refusal::FewArguments(_) => Status::Start,
     }
 }

@@ -1,19 +1,20 @@
 //! `twin`: from the bytes of an image, a trace file and two start files to how the two runs are observed, side by side.
-ghost use Rattle.std.specs.Prelude.{◌≡◌, ◌↔◌, ◌∷◌, [], None, IfOk, IsTrue, map};
+ghost use Rattle.std.specs.Prelude.{◌≡◌, ◌∷◌, [], None, IfOk, map};
 ghost use Rattle.bl_cmd.specs.Outcomes.{IsStart};
 ghost use Rattle.bl_rob.specs.Answers.{seen_in};
 ghost use Rattle.bl_rob.specs.Observed.{observed};
 ghost use Rattle.bl_app.specs.Jobs.{AreRead};
 ghost use Rattle.bl_app.specs.Twinning.{twin_job, twin_status};
-ghost use Rattle.bl_app.specs.Working.{IsTwinTold, IsWork, contents_in, entry_in, read_in, speculated_in, twinned_in};
+ghost use Rattle.bl_app.specs.Working.{IsTwinTold, IsWork, read_in, speculated_in, twinned_in};
+ghost use Rattle.bl_build.specs.Working.{contents_in, entry_in};
 ghost use Rattle.bl_words.specs.Words.{twin_in};
 
-use crate::entry::{Entry, find_entry, read_entry_start, read_image};
 use crate::job::{Plan, Read};
-use crate::refusal::{Refusal, WorkError};
-use crate::spec::read_directives;
 use crate::status::Status;
 use bl_base::{NoMemory, Quantity, Start};
+use bl_build::{
+    Entry, Refusal, WorkError, find_entry, read_directives, read_entry_start, read_image,
+};
 use bl_cmd::WellFormed;
 use bl_rob::{Directive, Rob, Seen};
 use bl_twin::{Comparison, agree, compare};

@@ -2,21 +2,21 @@
 ghost use Rattle.std.specs.Prelude.{◌≡◌, ◌∷◌, [], None, IfOk, map};
 ghost use Rattle.bl_app.specs.Jobs.{AreRead};
 ghost use Rattle.bl_app.specs.Verifying.{AreVerdicts, verify_job, verify_plan, verify_status};
-ghost use Rattle.bl_app.specs.Working.{IsCertificateOf, IsWork, cert_error, certified_in, contents_in, plan_in, read_in, verdicts_in};
+ghost use Rattle.bl_build.specs.Working.{contents_in};
+ghost use Rattle.bl_app.specs.Working.{IsWork, certified_in, plan_in, read_in, verdicts_in};
 ghost use Rattle.bl_words.specs.Words.{verify_in};
 
-use crate::entry::read_image;
 use crate::job::{Plan, Read};
-use crate::refusal::{Refusal, WorkError};
 use crate::status::Status;
 use bl_base::{NoMemory, Quantity};
+use bl_build::{WorkError, read_certificate, read_image};
 use bl_cmd::WellFormed;
 use bl_ct::{CtVerdict, constant_time};
 use bl_graph::{Certificate, graph};
 use bl_report::verdicts_text;
 use bl_sct::stability;
 use bl_transient::FlowVerdict;
-use bl_witness::{CertError, CertVerdict, check_certificate, from_json};
+use bl_witness::{CertVerdict, check_certificate};
 use bl_words::VerifyWords;
 use std::alloc::Global;
 
@@ -83,27 +83,6 @@ fn verify_image<'a>(
     match judge(alloc, &program, &certificate) {
         Ok(verdicts) => Ok(tell(alloc, &verdicts)?),
         Err(NoMemory) => Err(WorkError::Memory),
-    }
-}
-
-/// The certificate that bytes are; Refused exactly where they are none.
-fn read_certificate<'a>(alloc: Global, bytes: &[u8]) -> Result<Certificate, WorkError<'a>>
-    ensures { IsCertificateOf bytes.now result }
-{
-    match from_json(alloc, bytes) {
-        Ok(certificate) => Ok(certificate),
-        Err(error) => Err(of_certificate(error)),
-    }
-}
-
-/// Why there is no certificate.
-fn of_certificate<'a>(error: CertError) -> WorkError<'a>
-    ensures { result ≡ cert_error error }
-{
-    match error {
-        CertError::NotJson => WorkError::Refused(Refusal::NotJson),
-        CertError::Shape => WorkError::Refused(Refusal::OtherShape),
-        CertError::Memory => WorkError::Memory,
     }
 }
 

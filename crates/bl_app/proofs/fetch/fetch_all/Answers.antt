@@ -1,7 +1,8 @@
 use Rattle.std.proofs.Common.{map, subst}
 use Rattle.std.proofs.lemmas.List.{take_all}
 use Rattle.bl_app.specs.Jobs.{AreRead}
-use Rattle.bl_app.specs.Working.{contents_in, read_in}
+use Rattle.bl_build.specs.Working.{contents_in}
+use Rattle.bl_app.specs.Working.{read_in}
 use Rattle.bl_app.proofs.FetchLemmas.{next_fetched, next_not_fetched, pushed}
 use Rattle.bl_app.proofs.fetch.fetch_all.Goals as goal
 

@@ -1,5 +1,6 @@
 use Rattle.std.proofs.Common.{map, take}
-use Rattle.bl_app.specs.Working.{contents_in, read_in}
+use Rattle.bl_build.specs.Working.{contents_in}
+use Rattle.bl_app.specs.Working.{read_in}
 use Rattle.bl_app.specs.Worlds.{world}
 use Rattle.bl_app.proofs.FetchLemmas.{FetchedSo}
 use Rattle.bl_app.proofs.fetch.fetch_all.Given as goal

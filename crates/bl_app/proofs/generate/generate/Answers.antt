@@ -1,16 +1,15 @@
-use Rattle.std.proofs.Common.{◌≡◌, ◌≤◌, ◌++◌, [], ◌∷◌, ◌∙◌, None, List, ap, codes, length, subst, sym, ℕ}
+use Rattle.std.proofs.Common.{◌≡◌, ◌≤◌, ◌++◌, [], ◌∷◌, ◌∙◌, List, ap, codes, length, subst, sym, ℕ}
 use Rattle.std.specs.Prelude.{Vec}
 use Rattle.std.specs.declared.alloc.Global.{Global}
 use Rattle.bl_gen.proofs.Lengths.{made_short}
-use Rattle.bl_app.specs.Jobs.{AreRead}
-use Rattle.bl_app.specs.Loading.{module_read}
-use Rattle.bl_app.specs.Working.{contents_in}
+use Rattle.bl_build.specs.Loading.{AreShort}
+use Rattle.bl_build.specs.Working.{contents_in}
 use Rattle.bl_app.proofs.generate.generate.Goals as goal
 
-pub compile-requires-clause-read : goal.compile-requires-clause-read
-compile-requires-clause-read c =
+pub compile-requires-clause-short : goal.compile-requires-clause-short
+compile-requires-clause-short c =
     let these : c.as_slice.result.now ≡ c.in_ok-bytes.bytes ∷ [] = c.as_slice.ensures.value ∙ c.in_ok-push.ensures.items
     ∙ ap (λ (all : List (Vec ℕ Global)). all ++ c.in_ok-bytes.bytes ∷ []) c.new-contents.ensures.items in
     let short : length c.in_ok-bytes.bytes.items ≤ 4194304 =
     subst (λ (bytes : List ℕ). length bytes ≤ 4194304) (sym c.in_ok-bytes.ensures) (made_short c.args.words.now.seed c.args.words.now.size c.requires.1) in
-    subst (λ (contents : List (Vec ℕ Global)). AreRead None (module_read (codes "gen") ∷ []) (contents_in contents)) (sym these) (record { file = tt; short = short }, tt)
+    subst (λ (contents : List (Vec ℕ Global)). AreShort (codes "gen" ∷ []) (contents_in contents)) (sym these) (short, tt)

@@ -6,10 +6,12 @@ use Rattle.bl_base.specs.declared.quantity.Quantity.TheVariants as quantity
 use Rattle.bl_wasm.specs.declared.linked.Tree.{Tree}
 use Rattle.bl_app.specs.Interpreting.{interp_job}
 use Rattle.bl_app.specs.Jobs.{AreRead}
-use Rattle.bl_app.specs.Loading.{loading, module_read, parts_of}
+use Rattle.bl_build.specs.Loading.{loading, parts_of, AreShort}
 use Rattle.bl_words.specs.Requests.{AreNamedApart}
 use Rattle.bl_words.specs.Words.{interp_in}
-use Rattle.bl_app.specs.Working.{IsRunOf, IsStaged, IsWork, contents_in}
+use Rattle.bl_app.specs.Working.{IsRunOf, IsWork}
+use Rattle.bl_build.specs.Working.{IsStaged, contents_in}
+use Rattle.bl_app.proofs.HardenLemmas.{short_modules}
 use Rattle.bl_app.proofs.StartLemmas.{not_run, was_run}
 use Rattle.bl_app.proofs.WorkLemmas.{first_and_rest}
 use Rattle.bl_app.proofs.interp.interpret.Goals as goal
@@ -34,11 +36,12 @@ load-requires-clause-few c = subst (λ (words : Words). length words ≤ limit_o
 pub load-requires-clause-apart : goal.load-requires-clause-apart
 load-requires-clause-apart c = subst (λ (words : Words). AreNamedApart (texts words)) (sym c.as_slice.ensures.value) c.requires.apart
 
-pub load-requires-clause-read : goal.load-requires-clause-read
-load-requires-clause-read c =
+pub load-requires-clause-short : goal.load-requires-clause-short
+load-requires-clause-short c =
     let shape = first_and_rest c.args.contents.now c.start-item.result c.in-len1-up.len_at_least c.start-item.is in
     let read = subst (λ (all : Contents). AreRead None (interp_job (interp_in c.args.words.now)).reads (contents_in all)) shape c.requires.read in
-    subst (λ (words : Words). AreRead None (map module_read (texts words)) (behind c.args.contents.now)) (sym c.as_slice.ensures.value) read.1
+    subst (λ (words : Words). AreShort (texts words) (behind c.args.contents.now)) (sym c.as_slice.ensures.value)
+    (short_modules (texts c.args.words.now.modules.items) (behind c.args.contents.now) read.1)
 
 pub returns-in-Err : goal.returns-in-Err
 returns-in-Err c =

@@ -1,8 +1,8 @@
 use Rattle.std.proofs.Common.{Err, subst}
 use Rattle.bl_wasm.specs.declared.linked.Tree.{Tree}
-use Rattle.bl_app.specs.Running.{opening}
+use Rattle.bl_build.specs.Running.{opening}
 use Rattle.bl_words.specs.Words.{interp_in}
-use Rattle.bl_app.specs.Working.{IsStaged, opened_in}
+use Rattle.bl_build.specs.Working.{IsStaged, opened_in}
 use Rattle.bl_app.proofs.StartLemmas.{not_opened}
 use Rattle.bl_app.proofs.interp.interpret_tree.Goals as goal
 

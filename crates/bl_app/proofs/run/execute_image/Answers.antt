@@ -1,5 +1,5 @@
 use Rattle.bl_words.specs.Words.{run_in}
-use Rattle.bl_app.specs.Working.{entry_in}
+use Rattle.bl_build.specs.Working.{entry_in}
 use Rattle.bl_app.proofs.RunWork.{image_refused, not_exported, start_refused, was_run}
 use Rattle.bl_app.proofs.run.execute_image.Goals as goal
 

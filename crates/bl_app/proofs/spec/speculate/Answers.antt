@@ -1,7 +1,8 @@
 use Rattle.std.proofs.Common.{◌≡◌, [], ◌∷◌, ◌∙◌, ap, subst, sym}
 use Rattle.bl_app.specs.Speculating.{spec_job}
 use Rattle.bl_words.specs.Words.{spec_in}
-use Rattle.bl_app.specs.Working.{IsWork, contents_in}
+use Rattle.bl_app.specs.Working.{IsWork}
+use Rattle.bl_build.specs.Working.{contents_in}
 use Rattle.bl_app.proofs.SpecWork.{three_contents}
 use Rattle.bl_app.proofs.spec.speculate.Goals as goal
 

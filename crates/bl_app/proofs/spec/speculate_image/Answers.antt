@@ -1,7 +1,8 @@
 use Rattle.std.proofs.Common.{◌∙◌, ap}
 use Rattle.bl_app.specs.Speculating.{spec_plan}
 use Rattle.bl_words.specs.Words.{spec_in}
-use Rattle.bl_app.specs.Working.{entry_in, speculated_in}
+use Rattle.bl_build.specs.Working.{entry_in}
+use Rattle.bl_app.specs.Working.{speculated_in}
 use Rattle.bl_app.proofs.SpecWork.{image_refused, not_exported, start_refused, trace_refused, was_observed}
 use Rattle.bl_app.proofs.spec.speculate_image.Goals as goal
 

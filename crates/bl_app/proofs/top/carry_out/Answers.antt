@@ -3,7 +3,7 @@ use Rattle.std.proofs.lemmas.List.{length-map}
 use Rattle.bl_base.specs.Quantity.{limit_of}
 use Rattle.bl_base.specs.declared.quantity.Quantity.TheVariants as quantity
 use Rattle.bl_app.specs.Commands.{job_of, work_of}
-use Rattle.bl_app.specs.Refusals.{limit}
+use Rattle.bl_build.specs.Refusals.{limit}
 use Rattle.bl_words.specs.Requests.{modules_in}
 use Rattle.bl_words.specs.Words.{request_in}
 use Rattle.bl_app.proofs.CarryLemmas.{refused_ends}

@@ -3,7 +3,8 @@ use Rattle.bl_app.specs.Commands.{job_of, work_of}
 use Rattle.bl_app.specs.Jobs.{AreRead}
 use Rattle.bl_words.specs.Requests.{modules_in}
 use Rattle.bl_words.specs.Words.{request_in}
-use Rattle.bl_app.specs.Working.{IsWork, contents_in, plan_in, read_in, refusal_in}
+use Rattle.bl_app.specs.Working.{IsWork, plan_in, read_in}
+use Rattle.bl_build.specs.Working.{contents_in, refusal_in}
 use Rattle.bl_app.proofs.CarryLemmas.{against_ends, contents_fit, done_ends, unfetched_ends}
 use Rattle.bl_app.proofs.CountLemmas.{against_with, does_with, reads_with}
 use Rattle.bl_app.proofs.top.do_job.Goals as goal

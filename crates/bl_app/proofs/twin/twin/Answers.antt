@@ -1,7 +1,8 @@
 use Rattle.std.proofs.Common.{◌≡◌, [], ◌∷◌, ◌∙◌, ap, subst, sym}
 use Rattle.bl_app.specs.Twinning.{twin_job}
 use Rattle.bl_words.specs.Words.{twin_in}
-use Rattle.bl_app.specs.Working.{IsWork, contents_in}
+use Rattle.bl_app.specs.Working.{IsWork}
+use Rattle.bl_build.specs.Working.{contents_in}
 use Rattle.bl_app.proofs.TwinWork.{four_contents}
 use Rattle.bl_app.proofs.twin.twin.Goals as goal
 

@@ -1,7 +1,8 @@
 use Rattle.std.proofs.Common.{List, subst}
 use Rattle.bl_rob.specs.declared.directive.Directive.{Directive}
 use Rattle.bl_words.specs.Words.{twin_in}
-use Rattle.bl_app.specs.Working.{IsTwinTold, entry_in, speculated_in, twinned_in}
+use Rattle.bl_app.specs.Working.{IsTwinTold, speculated_in, twinned_in}
+use Rattle.bl_build.specs.Working.{entry_in}
 use Rattle.bl_app.proofs.TwinWork.{image_refused, not_exported, other_refused, start_refused, trace_refused, was_compared}
 use Rattle.bl_app.proofs.twin.twin_image.Goals as goal
 

@@ -1,6 +1,0 @@
-use Rattle.std.proofs.Common.{◌≡◌, drop}
-use Rattle.bl_app.specs.Entering.{function_named}
-use Rattle.bl_app.proofs.entry.number_named.Given as goal
-
-abbrev pub invariant-loop-export : goal.invariant-loop-export
-invariant-loop-export l = function_named l.name (drop l.export-index l.exports) ≡ function_named l.name l.exports

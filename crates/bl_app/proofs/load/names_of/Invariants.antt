@@ -1,6 +1,0 @@
-use Rattle.std.proofs.Common.{◌≡◌, ◌++◌, map, drop}
-use Rattle.bl_app.specs.declared.load.Ready.{Ready}
-use Rattle.bl_app.proofs.load.names_of.Given as goal
-
-abbrev pub invariant-loop-one : goal.invariant-loop-one
-invariant-loop-one l = l.names.items ++ map (λ (one : Ready). one.name) (drop l.one-index l.ready) ≡ map (λ (one : Ready). one.name) l.ready

@@ -1,0 +1,104 @@
+-- Building keeps the laws of stages, and gives a program that ends as its linked tree does.
+use Rattle.std.proofs.Common.{◌≡◌, ℕ, ◌≤◌, ◌<◌, List, length, ap, sym, ◌∙◌, subst, arith}
+use Rattle.std.specs.Prelude.{Result, Ok, Err}
+use Rattle.bl_base.specs.Quantity.{limit_of}
+use Rattle.bl_base.specs.declared.quantity.Quantity.TheVariants as quantity
+use Rattle.bl_base.proofs.RunLemmas.{run_unique}
+use Rattle.bl_wasm.specs.Linked.{IsLinked}
+use Rattle.bl_wasm.specs.declared.linked.Tree.{Tree}
+use Rattle.bl_reduce.specs.Outcomes.{opening as source_opening}
+use Rattle.bl_reduce.specs.Steps.{source_step}
+use Rattle.bl_cmd.specs.Outcomes.{opening}
+use Rattle.bl_cmd.specs.Rules.{IsWellFormed}
+use Rattle.bl_cmd.specs.Steps.{plain_step}
+use Rattle.bl_cmd.specs.declared.definitions.ProgramParts.{ProgramParts as Program}
+use Rattle.bl_image.specs.Image.{Image}
+use Rattle.bl_image.proofs.Prefixes.{one_image}
+use Rattle.bl_lower.specs.Trees.{low_tree}
+use Rattle.bl_lower.proofs.Opening.{ends_after, plain_ended}
+use Rattle.bl_build.specs.Building.{AreCompiled, Builds, BuildingRefuses, Built, building, command_count, compiling, long_image, many_commands}
+use Rattle.bl_build.specs.Loading.{Part, loading, parts_of}
+use Rattle.bl_build.specs.Meaning.{SameOutcomes}
+use Rattle.bl_build.specs.Refusals.{Refusal, limit}
+use Rattle.bl_build.specs.Stages.{IsLawfulStage, at_first, at_second}
+use Rattle.bl_build.specs.Working.{IsStaged, built_in}
+use Rattle.bl_build.specs.declared.build.Built.{Built as BuiltMade}
+use Rattle.bl_build.specs.declared.refusal.WorkError.{WorkError}
+use Rattle.bl_build.specs.declared.refusal.WorkError.TheVariants as error
+use Rattle.bl_build.proofs.LoadingLemmas.{loading_lawful}
+use Rattle.bl_build.proofs.StageLemmas.{chain_lawful}
+
+-- ---- the stages
+
+module _ (tree : Tree) where
+  one_built : (a b : Built) → Builds tree a → Builds tree b → a ≡ b
+  one_built a b p q =
+      let programs = p.is_program ∙ sym q.is_program in
+      let images = one_image (low_tree tree) a.image b.image p.image q.image in
+      λ i. record { program = programs i; image = images i }
+
+  build_refusal : (a b : Refusal) → BuildingRefuses tree a → BuildingRefuses tree b → a ≡ b
+  build_refusal a b (many_commands over e) (many_commands over' f) = e ∙ sym f
+  build_refusal a b (many_commands over e) (long_image image few is long f) = absurd (omega (arith, over, few))
+  build_refusal a b (long_image image few is long e) (many_commands over f) = absurd (omega (arith, over, few))
+  build_refusal a b (long_image image few is long e) (long_image other few' is' long' f) =
+      e ∙ (ap (λ bytes. limit quantity.Image (length bytes)) (one_image (low_tree tree) image other is is') ∙ sym f)
+
+  build_not_both : (a : Built) (r : Refusal) → Builds tree a → BuildingRefuses tree r → ⊥
+  build_not_both a r p (many_commands over e) = let few = p.few in omega (arith, over, few)
+  build_not_both a r p (long_image image few is long e) =
+      let same = ap length (one_image (low_tree tree) image a.image is p.image) in
+      let short = p.short in
+      omega (arith, same, long, short)
+
+building_lawful : IsLawfulStage building
+building_lawful = record { one_result = one_built; one_refusal = build_refusal; not_both = build_not_both }
+
+pub compiling_lawful : IsLawfulStage compiling
+compiling_lawful = chain_lawful loading building loading_lawful building_lawful
+
+-- a program that was made of a tree, and its image
+module _ (tree : Tree) (program : Program) (same : program ≡ low_tree tree) (rules : IsWellFormed program) (image : List ℕ) (is : Image program image) where
+  few : command_count tree ≤ limit_of quantity.Commands
+  few = subst (λ p. length p.commands ≤ 1048576) same rules.rule2.commands
+
+  here : Image (low_tree tree) image
+  here = subst (λ p. Image p image) same is
+
+  pub too_long : (value : ℕ) → value ≡ length image → limit_of quantity.Image < value → BuildingRefuses tree (limit quantity.Image value)
+  too_long value e long = long_image image few here (omega (arith, e, long)) (ap (limit quantity.Image) e)
+
+-- ---- modules
+
+module _ (parts : List Part) where
+  -- modules that are refused
+  pub not_loaded : (e : WorkError) → IsStaged loading (λ (tree : Tree). tree) parts (Err e) → IsStaged compiling built_in parts (Err e)
+  not_loaded (error.Refused refusal) r = at_first r
+  not_loaded error.Memory r = tt
+
+  -- those that are linked
+  pub linked_builds : (tree : Tree) (result : Result BuiltMade WorkError) → loading.Passes parts tree → IsStaged building built_in tree result → IsStaged compiling built_in parts result
+  linked_builds tree (Ok built) passed b = (tree, passed, b)
+  linked_builds tree (Err (error.Refused refusal)) passed b = at_second tree passed b
+  linked_builds tree (Err error.Memory) passed b = tt
+
+-- ---- what it means
+
+-- a linked tree and its program end alike
+same_outcomes : (tree : Tree) → IsLinked tree → SameOutcomes tree (low_tree tree)
+same_outcomes tree linked = record {
+  follows = λ function start o n h. ends_after tree linked function start h.start_fits n o h;
+  comes_from = λ function start o m h. plain_ended tree linked function start m o h;
+  source_unique = λ function start o p n k h i. run_unique (source_step tree) n k (source_opening tree function start) o p h.run i.run;
+  plain_unique = λ function start o p m k h i. run_unique (plain_step (low_tree tree)) m k (opening (low_tree tree) function start) o p h.run i.run;
+}
+
+-- what is compiled of modules
+pub are_compiled : (words contents : List (List ℕ)) (built : Built) → compiling.Passes (parts_of words contents) built → AreCompiled words contents built
+are_compiled words contents built p = record {
+  tree = p.0;
+  loaded = p.1;
+  linked = p.1.2.2.2.can_run;
+  builds = p.2;
+  same_outcomes = subst (SameOutcomes p.0) (sym p.2.is_program) (same_outcomes p.0 p.1.2.2.2.can_run);
+}

@@ -1,0 +1,48 @@
+-- A certificate that is read is one; why its bytes are refused.
+use Rattle.std.proofs.Common.{◌≡◌, ℕ, List, Some, None, refl, ap, sym, ◌∙◌}
+use Rattle.bl_base.proofs.Lists.{some_same}
+use Rattle.bl_cmd.specs.declared.definitions.ProgramParts.{ProgramParts as Program}
+use Rattle.bl_witness.specs.Shapes.{certificate_of, Reads}
+use Rattle.bl_build.specs.Entering.{imaging}
+use Rattle.bl_build.specs.Refusals.{Refusal}
+use Rattle.bl_build.specs.Stages.{IsLawfulStage}
+use Rattle.bl_build.specs.Certifying.{Certified, IsRead, ReadingRefuses, certifying, is_not_json, is_other_shape, verifying}
+use Rattle.bl_build.proofs.EnteringLemmas.{imaging_lawful}
+use Rattle.bl_build.proofs.StageLemmas.{chain_lawful}
+use Rattle.std.specs.Prelude.{Err}
+use Rattle.bl_witness.specs.declared.error.CertError.{CertError}
+use Rattle.bl_witness.specs.declared.error.CertError.TheVariants as cert
+use Rattle.bl_build.specs.Working.{IsCertificateOf, cert_error}
+
+-- ---- certificates
+
+module _ (bytes : List ℕ) where
+  one_read : (program : Program) (a b : Certified) → IsRead bytes program a → IsRead bytes program b → a ≡ b
+  one_read program a b p q =
+      let programs = p.same_program ∙ sym q.same_program in
+      let values = some_same p.read.0 q.read.0 (sym p.read.1.value ∙ q.read.1.value) in
+      let certificates = some_same a.certificate b.certificate (sym p.read.2 ∙ ap certificate_of values ∙ q.read.2) in
+      λ i. record { program = programs i; certificate = certificates i }
+
+  reading_refusal : (a b : Refusal) → ReadingRefuses bytes a → ReadingRefuses bytes b → a ≡ b
+  reading_refusal a b (is_not_json none e) (is_not_json other f) = e ∙ sym f
+  reading_refusal a b (is_not_json none e) (is_other_shape there f) = absurd (none there.0 there.1)
+  reading_refusal a b (is_other_shape there e) (is_not_json none f) = absurd (none there.0 there.1)
+  reading_refusal a b (is_other_shape there e) (is_other_shape other f) = e ∙ sym f
+
+  reading_not_both : (program : Program) (a : Certified) (r : Refusal) → IsRead bytes program a → ReadingRefuses bytes r → ⊥
+  reading_not_both program a r p (is_not_json none e) = none p.read.0 p.read.1
+  reading_not_both program a r p (is_other_shape there e) =
+      let clash : None ≡ Some a.certificate = sym there.2 ∙ ap certificate_of (some_same there.0 p.read.0 (sym there.1.value ∙ p.read.1.value)) ∙ p.read.2 in cc
+
+  certifying_lawful : IsLawfulStage (certifying bytes)
+  certifying_lawful = record { one_result = one_read; one_refusal = λ program. reading_refusal; not_both = reading_not_both }
+
+  pub verifying_lawful : IsLawfulStage (verifying bytes)
+  verifying_lawful = chain_lawful imaging (certifying bytes) imaging_lawful certifying_lawful
+
+-- an error of reading a certificate is why it is refused
+pub not_read : (bytes : List ℕ) (e : CertError) → Reads bytes (Err e) → IsCertificateOf bytes (Err (cert_error e))
+not_read bytes cert.NotJson r = is_not_json r refl
+not_read bytes cert.Shape r = is_other_shape r refl
+not_read bytes cert.Memory r = tt

@@ -1,0 +1,17 @@
+pub mod BuildLemmas
+pub mod CertifyingLemmas
+pub mod EnteringLemmas
+pub mod EntryLemmas
+pub mod FewestLemmas
+pub mod JudgedPrograms
+pub mod LabelLemmas
+pub mod LinkLemmas
+pub mod LoadSteps
+pub mod LoadingLemmas
+pub mod MarkedImages
+pub mod OneVerdict
+pub mod OpeningLemmas
+pub mod Readings
+pub mod Rows
+pub mod StageLemmas
+pub mod TracingLemmas

@@ -1,0 +1,109 @@
+-- An exported function of a linked tree and its start are one; exported functions exist; why start files are refused.
+use Rattle.std.proofs.Common.{◌≡◌, ℕ, List, [], ◌∷◌, Option, Some, ap, sym, ◌∙◌, subst, ◌<◌, Bool, true, false, cond, None, refl}
+use Rattle.std.specs.Prelude.{Result, Ok, Err, slice_get, option_and_then}
+use Rattle.bl_base.specs.declared.start.Start.{Start}
+use Rattle.bl_base.proofs.Lists.{some_same}
+use Rattle.bl_wasm.specs.Exports.{number_of, Pairs}
+use Rattle.bl_wasm.specs.declared.linked.Signature.{Signature}
+use Rattle.bl_wasm.specs.declared.linked.Tree.{Tree}
+use Rattle.bl_trace.specs.Answers.{answer_of, IsAnswer}
+use Rattle.bl_trace.specs.declared.error.StartError.{StartError}
+use Rattle.bl_trace.specs.declared.error.StartError.TheVariants.{Line, Count, Memory}
+use Rattle.bl_build.specs.Running.{preparing, Opened, OpeningRefuses, Opens, line_is_bad, not_exported, opening, sizes_of, too_few, type_of}
+use Rattle.bl_build.specs.Loading.{loading}
+use Rattle.bl_build.specs.Refusals.{Refusal, bad_line, few_arguments}
+use Rattle.bl_build.specs.Stages.{IsLawfulStage}
+use Rattle.bl_build.proofs.LoadingLemmas.{loading_lawful}
+use Rattle.bl_build.proofs.StageLemmas.{chain_lawful}
+use Rattle.std.specs.List.{All}
+use Rattle.std.specs.Str.{bytes_eq}
+use Rattle.std.proofs.lemmas.List.Elements.{All-head, All-tail}
+use Rattle.bl_base.specs.Fits.{Fits}
+use Rattle.bl_wasm.specs.declared.linked.Function.{Function}
+use Rattle.bl_reduce.specs.Outcomes.{IsStart}
+use Rattle.bl_build.specs.Working.{IsStaged, start_error}
+
+module _ (export bytes : List ℕ) (tree : Tree) where
+  -- an exported name has one type
+  one_type : (f g : ℕ) (t u : Signature) → number_of export tree.exports ≡ Some f → number_of export tree.exports ≡ Some g → type_of tree f ≡ Some t → type_of tree g ≡ Some u → t ≡ u
+  one_type f g t u is other typed typed' =
+      let same = some_same f g (sym is ∙ other) in
+      some_same t u (sym (subst (λ n. type_of tree n ≡ Some t) same typed) ∙ typed')
+
+  -- and a start file one answer
+  one_answer : (f g : ℕ) (t u : Signature) (a b : Result Start StartError) → number_of export tree.exports ≡ Some f → number_of export tree.exports ≡ Some g → type_of tree f ≡ Some t → type_of tree g ≡ Some u
+      → answer_of t.params (sizes_of tree) bytes ≡ a → answer_of u.params (sizes_of tree) bytes ≡ b → a ≡ b
+  one_answer f g t u a b is other typed typed' e e' = sym e ∙ (ap (λ t. answer_of t.params (sizes_of tree) bytes) (one_type f g t u is other typed typed') ∙ e')
+
+  one_opened : (a b : Opened) → Opens export bytes tree a → Opens export bytes tree b → a ≡ b
+  one_opened a b o p =
+      let trees = o.same_tree ∙ sym p.same_tree in
+      let functions = some_same a.function b.function (sym o.exported ∙ p.exported) in
+      let types = one_type a.function b.function a.type b.type o.exported p.exported o.typed p.typed in
+      let read : Ok a.start ≡ Ok b.start = one_answer a.function b.function a.type b.type (Ok a.start) (Ok b.start) o.exported p.exported o.typed p.typed o.read p.read in
+      let starts : a.start ≡ b.start = cc in
+      λ i. record { tree = trees i; function = functions i; type = types i; start = starts i }
+
+  -- what opens is not refused
+  opens_against : (a : Opened) (refusal : Refusal) → Opens export bytes tree a → OpeningRefuses export bytes tree refusal → ⊥
+  opens_against a refusal o (not_exported none e) = let is = o.exported in cc
+  opens_against a refusal o (line_is_bad g line u is typed read e) =
+      let no : Ok a.start ≡ Err (Line line) = one_answer a.function g a.type u (Ok a.start) (Err (Line line)) o.exported is o.typed typed o.read read in cc
+  opens_against a refusal o (too_few g count u is typed read e) =
+      let no : Ok a.start ≡ Err (Count count) = one_answer a.function g a.type u (Ok a.start) (Err (Count count)) o.exported is o.typed typed o.read read in cc
+
+  start_one : (a b : Refusal) → OpeningRefuses export bytes tree a → OpeningRefuses export bytes tree b → a ≡ b
+  start_one a b (not_exported none e) (not_exported none' e') = e ∙ sym e'
+  start_one a b (not_exported none e) (line_is_bad g line u is typed read e') = cc
+  start_one a b (not_exported none e) (too_few g count u is typed read e') = cc
+  start_one a b (line_is_bad f line t is typed read e) (not_exported none e') = cc
+  start_one a b (line_is_bad f line t is typed read e) (line_is_bad g other u is' typed' read' e') =
+      let same : Err (Line line) ≡ Err (Line other) = one_answer f g t u (Err (Line line)) (Err (Line other)) is is' typed typed' read read' in
+      let number : line ≡ other = cc in
+      e ∙ (ap bad_line number ∙ sym e')
+  start_one a b (line_is_bad f line t is typed read e) (too_few g count u is' typed' read' e') =
+      let same : Err (Line line) ≡ Err (Count count) = one_answer f g t u (Err (Line line)) (Err (Count count)) is is' typed typed' read read' in cc
+  start_one a b (too_few f count t is typed read e) (not_exported none e') = cc
+  start_one a b (too_few f count t is typed read e) (line_is_bad g line u is' typed' read' e') =
+      let same : Err (Count count) ≡ Err (Line line) = one_answer f g t u (Err (Count count)) (Err (Line line)) is is' typed typed' read read' in cc
+  start_one a b (too_few f count t is typed read e) (too_few g other u is' typed' read' e') =
+      let same : Err (Count count) ≡ Err (Count other) = one_answer f g t u (Err (Count count)) (Err (Count other)) is is' typed typed' read read' in
+      let number : count ≡ other = cc in
+      e ∙ (ap few_arguments number ∙ sym e')
+
+opening_lawful : (export bytes : List ℕ) → IsLawfulStage (opening export bytes)
+opening_lawful export bytes = record {
+  one_result = one_opened export bytes;
+  one_refusal = start_one export bytes;
+  not_both = opens_against export bytes;
+}
+
+pub preparing_lawful : (export start : List ℕ) → IsLawfulStage (preparing export start)
+preparing_lawful export start = chain_lawful loading (opening export start) loading_lawful (opening_lawful export start)
+
+-- the number under a name is one of those that are listed
+pub exported_exists : (count : ℕ) (name : List ℕ) (pairs : Pairs) (function : ℕ) → All (λ pair. pair.1 < count) pairs → number_of name pairs ≡ Some function → function < count
+exported_exists count name [] function all e = cc
+exported_exists count name (pair ∷ pairs) function all e =
+    of_test (bytes_eq name pair.0) (exported_exists count name pairs function (All-tail (λ pair. pair.1 < count) pair pairs all)) e
+  where
+    of_test : (found : Bool) → (number_of name pairs ≡ Some function → function < count) → cond found (Some pair.1) (number_of name pairs) ≡ Some function → function < count
+    of_test true behind e =
+        let same : pair.1 ≡ function = cc in
+        subst (λ n. n < count) same (All-head (λ pair. pair.1 < count) pair pairs all)
+    of_test false behind e = behind e
+
+-- an error of reading a start file is why it is refused
+pub start_refused : {X : Type 0} (value : X → Opened) (tree : Tree) (export bytes : List ℕ) (function : ℕ) (type : Signature) (error : StartError) → number_of export tree.exports ≡ Some function → type_of tree function ≡ Some type
+    → IsAnswer (answer_of type.params (sizes_of tree) bytes) (Err error) → IsStaged (opening export bytes) value tree (Err (start_error error))
+start_refused value tree export bytes function type (Line number) is typed answer = line_is_bad function number type is typed (sym answer) refl
+start_refused value tree export bytes function type (Count count) is typed answer = too_few function count type is typed (sym answer) refl
+start_refused value tree export bytes function type Memory is typed answer = tt
+
+-- a start that fits a function's type is a start of the function
+pub start_of_type : (tree : Tree) (function : ℕ) (type : Signature) (start : Start) → type_of tree function ≡ Some type → Fits type.params (sizes_of tree) start → IsStart tree function start
+start_of_type tree function type start typed fits = of_found (slice_get tree.functions function) refl typed
+  where
+    of_found : (found : Option Function) → slice_get tree.functions function ≡ found → option_and_then (λ f. slice_get tree.types f.type_index) found ≡ Some type → IsStart tree function start
+    of_found None is typed = cc
+    of_found (Some f) is typed = record { function = f; exists = is; type = type; typed = typed; fits = fits }

@@ -1,0 +1,28 @@
+use Rattle.std.proofs.Common.{sym, subst, ◌∙◌}
+use Rattle.std.specs.Prelude.{Err}
+use Rattle.bl_base.specs.Fits.{Fits}
+use Rattle.bl_trace.specs.Answers.{answer_of, IsAnswer}
+use Rattle.bl_build.specs.Running.{opening}
+use Rattle.bl_build.specs.Working.{IsStaged, opened_in}
+use Rattle.bl_build.proofs.OpeningLemmas.{exported_exists, start_of_type, start_refused}
+use Rattle.bl_build.proofs.opening.prepare.Goals as goal
+
+pub signature-kind-requires-clause-exists : goal.signature-kind-requires-clause-exists
+signature-kind-requires-clause-exists c = exported_exists _ c.args.export.now _ c.in-Some.function c.requires.exports (sym c.in-Some.ensures)
+
+pub returns-clause-opened : goal.returns-clause-opened
+returns-clause-opened c =
+    let tree = c.args.tree.now in
+    let bytes = c.args.bytes.now in
+    let sizes = c.as_slice-2.ensures.value ∙ c.in_ok-sizes.ensures in
+    let by_type = subst (λ params. IsAnswer (answer_of params c.as_slice-2.result.now bytes) (Err c.in-Err.error)) c.as_slice.ensures c.in-Err.ensures.answer in
+    let answer = subst (λ pages. IsAnswer (answer_of c.signature-kind.result.now.params pages bytes) (Err c.in-Err.error)) sizes by_type in
+    let refused = start_refused (opened_in tree) tree c.args.export.now bytes c.in-Some.function c.signature-kind.result.now c.in-Err.error (sym c.in-Some.ensures) c.signature-kind.ensures answer in
+    subst (λ error. IsStaged (opening c.args.export.now bytes) (opened_in tree) tree (Err error)) (sym c.of_start.ensures) refused
+
+pub returns-in-Ok-clause-fits : goal.returns-in-Ok-clause-fits
+returns-in-Ok-clause-fits c =
+    let sizes = c.as_slice-2.ensures.value ∙ c.in_ok-sizes.ensures in
+    let by_type = subst (λ params. Fits params c.as_slice-2.result.now c.in-Ok.start) c.as_slice.ensures c.in-Ok.ensures.fits in
+    start_of_type c.args.tree.now c.in-Some.function c.signature-kind.result.now c.in-Ok.start c.signature-kind.ensures
+    (subst (λ pages. Fits c.signature-kind.result.now.params pages c.in-Ok.start) sizes by_type)

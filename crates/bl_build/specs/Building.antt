@@ -1,0 +1,54 @@
+-- From the bytes of modules to the image of their program: they are linked, and the linked tree is lowered.
+use Rattle.std.specs.Prelude.{◌≡◌, ℕ, ◌-◌, ◌^◌, ◌<◌, ◌≤◌, List, length, min}
+use Rattle.bl_base.specs.Quantity.{limit_of}
+use Rattle.bl_base.specs.declared.quantity.Quantity.TheVariants as quantity
+use Rattle.bl_wasm.specs.Linked.{IsLinked}
+use Rattle.bl_wasm.specs.declared.linked.Tree.{Tree}
+use Rattle.bl_cmd.specs.declared.definitions.ProgramParts.{ProgramParts as Program}
+use Rattle.bl_image.specs.Image.{Image}
+use Rattle.bl_lower.specs.Trees.{low_tree}
+use Rattle.bl_build.specs.Loading.{Part, loading, parts_of}
+use Rattle.bl_build.specs.Meaning.{SameOutcomes}
+use Rattle.bl_build.specs.Refusals.{Refusal, limit}
+use Rattle.bl_build.specs.Stages.{Stage, chain}
+
+-- a program and its image
+pub record Built : Type 0 where
+  pub program : Program
+  pub image : List ℕ
+
+-- how many commands the program of a linked tree has
+abbrev pub command_count : Tree → ℕ
+command_count tree = length (low_tree tree).commands
+
+-- the program is that of the linked tree, and has few enough commands; the image is the program's, and has few enough bytes
+pub record Builds (tree : Tree) (built : Built) : Type 0 where
+  pub is_program : built.program ≡ low_tree tree
+  pub few : command_count tree ≤ limit_of quantity.Commands
+  pub image : Image (low_tree tree) built.image
+  pub short : length built.image ≤ limit_of quantity.Image
+
+pub data BuildingRefuses (tree : Tree) (refusal : Refusal) : Type 0 where
+  -- the program has too many commands; their number is told, or the greatest of 64 bits where it is greater
+  many_commands : limit_of quantity.Commands < command_count tree → refusal ≡ limit quantity.Commands (min (command_count tree) (2 ^ 64 - 1))
+      → BuildingRefuses tree refusal
+  -- it has few enough, and its image has too many bytes; their number is told
+  long_image : (image : List ℕ) → command_count tree ≤ limit_of quantity.Commands → Image (low_tree tree) image
+      → limit_of quantity.Image < length image → refusal ≡ limit quantity.Image (length image) → BuildingRefuses tree refusal
+
+-- the program of a linked tree, with its image
+abbrev pub building : Stage Tree Built
+building = record { Passes = Builds; Refuses = BuildingRefuses }
+
+-- that of modules
+abbrev pub compiling : Stage (List Part) Built
+compiling = chain loading building
+
+-- the contents of the files of modules are those of modules that are linked to a tree, which is lowered; the program ends exactly as
+-- the tree does
+pub record AreCompiled (words contents : List (List ℕ)) (built : Built) : Type 0 where
+  pub tree : Tree
+  pub loaded : loading.Passes (parts_of words contents) tree
+  pub linked : IsLinked tree
+  pub builds : Builds tree built
+  pub same_outcomes : SameOutcomes tree built.program

@@ -1,0 +1,32 @@
+-- From the bytes of an image to its program, with the certificate that the bytes of another file are.
+use Rattle.std.specs.Prelude.{◌≡◌, ℕ, List, Ok, Err}
+use Rattle.bl_cmd.specs.declared.definitions.ProgramParts.{ProgramParts as Program}
+use Rattle.bl_graph.specs.declared.certificate.Certificate.{Certificate}
+use Rattle.bl_witness.specs.Shapes.{Reads}
+use Rattle.bl_witness.specs.declared.error.CertError.TheVariants.{NotJson, Shape}
+use Rattle.bl_build.specs.Entering.{imaging}
+use Rattle.bl_build.specs.Refusals.{Refusal, not_json, other_shape}
+use Rattle.bl_build.specs.Stages.{Stage, chain}
+
+-- a program, and a certificate that is given for it
+pub record Certified : Type 0 where
+  pub program : Program
+  pub certificate : Certificate
+
+-- the bytes are the text of that certificate
+pub record IsRead (bytes : List ℕ) (program : Program) (certified : Certified) : Type 0 where
+  pub same_program : certified.program ≡ program
+  pub read : Reads bytes (Ok certified.certificate)
+
+pub data ReadingRefuses (bytes : List ℕ) (refusal : Refusal) : Type 0 where
+  -- they are the text of no JSON value
+  is_not_json : Reads bytes (Err NotJson) → refusal ≡ not_json → ReadingRefuses bytes refusal
+  -- they are that of a value that is no certificate
+  is_other_shape : Reads bytes (Err Shape) → refusal ≡ other_shape → ReadingRefuses bytes refusal
+
+abbrev pub certifying : List ℕ → Stage Program Certified
+certifying bytes = record { Passes = IsRead bytes; Refuses = λ program. ReadingRefuses bytes }
+
+-- from the bytes of an image to its program, with the certificate that the bytes of another file are
+abbrev pub verifying : List ℕ → Stage (List ℕ) Certified
+verifying certificate = chain imaging (certifying certificate)

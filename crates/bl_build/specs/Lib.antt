@@ -1,0 +1,12 @@
+pub mod Building
+pub mod Certifying
+pub mod Entering
+pub mod Hardening
+pub mod Loading
+pub mod Meaning
+pub mod Refusals
+pub mod Running
+pub mod Stages
+pub mod Texts
+pub mod Tracing
+pub mod Working

@@ -1,0 +1,171 @@
+-- From the bytes of modules to the linked tree, in stages: all are decoded, then all validated, then the labels of each are read, and
+-- then they are linked.
+use Rattle.std.specs.Prelude.{◌≡◌, ◌≤◌, ℕ, List, length, map, slice_get, Option, Some, None, Result, Ok, Err}
+use Rattle.std.specs.List.{AllZip, zip}
+use Rattle.bl_base.specs.Quantity.{limit_of}
+use Rattle.bl_base.specs.declared.quantity.Quantity.{Quantity}
+use Rattle.bl_base.specs.declared.quantity.Quantity.TheVariants as quantity
+use Rattle.bl_wasm.specs.Linked.{IsLinked}
+use Rattle.bl_wasm.specs.Modules.{Spells}
+use Rattle.bl_wasm.specs.Validity.{Typed}
+use Rattle.bl_wasm.specs.declared.linked.Tree.{Tree}
+use Rattle.bl_wasm.specs.declared.module.Module.{Module}
+use Rattle.bl_wasm.specs.Limits.{first_excess}
+use Rattle.bl_decode.specs.Supported.{IsSupported}
+use Rattle.bl_validate.specs.Verdicts.{IsReason}
+use Rattle.bl_validate.specs.declared.verdict.Invalid.{Invalid}
+use Rattle.bl_validate.specs.declared.verdict.Invalid.TheVariants as reason
+use Rattle.bl_labels.specs.Faults.{sections_of}
+use Rattle.bl_labels.specs.Telling.{Tells}
+use Rattle.bl_labels.specs.declared.error.LabelError.{LabelError}
+use Rattle.bl_labels.specs.declared.error.LabelError.TheVariants as label_error
+use Rattle.bl_labels.specs.declared.labels.Labels.{Labels}
+use Rattle.bl_link.specs.Links.{links, part_of}
+use Rattle.bl_link.specs.declared.part.Part.{Part as LinkPart}
+use Rattle.bl_link.specs.declared.error.LinkError.TheVariants.{Unknown, Mismatch, ElementRange, DataRange, Limit}
+use Rattle.bl_build.specs.Refusals.{Refusal, malformed, invalid_function, invalid_module, unsupported, limit, unknown_import, mismatched_import, element_range, data_range, bad_labels}
+use Rattle.bl_build.specs.declared.refusal.LabelFault.{LabelFault}
+use Rattle.bl_build.specs.declared.refusal.LabelFault.TheVariants as fault
+use Rattle.bl_words.specs.Requests.{module_name}
+use Rattle.bl_build.specs.Stages.{Stage, chain, each}
+
+-- a module's name and its bytes
+pub record Part : Type 0 where
+  pub name : List ℕ
+  pub bytes : List ℕ
+
+-- the modules of these files with these contents
+abbrev pub parts_of : List (List ℕ) → List (List ℕ) → List Part
+parts_of words contents = map (λ each. record { name = module_name each.0; bytes = each.1 }) (zip words contents)
+
+-- there are as many contents as names of files, and each is short enough for a module
+abbrev pub AreShort : List (List ℕ) → List (List ℕ) → Type 0
+AreShort words contents = AllZip (λ word bytes. length bytes ≤ limit_of quantity.Module) words contents
+
+-- a module under its name
+pub record Named : Type 0 where
+  pub name : List ℕ
+  pub tree : Module
+
+-- ---- the stages of one module
+
+-- the bytes spell a module, all of which is supported and within the limits
+pub record Decodes (part : Part) (named : Named) : Type 0 where
+  pub same_name : named.name ≡ part.name
+  pub spelled : Spells part.bytes named.tree
+  pub supported : IsSupported named.tree
+  pub within : first_excess named.tree ≡ None
+
+pub data DecodingRefuses (part : Part) (refusal : Refusal) : Type 0 where
+  -- the bytes spell no module
+  no_module : ((tree : Module) → Spells part.bytes tree → ⊥) → refusal ≡ malformed part.name → DecodingRefuses part refusal
+  -- the module has something that isn't supported
+  not_supported : (tree : Module) → Spells part.bytes tree → (IsSupported tree → ⊥) → refusal ≡ unsupported part.name → DecodingRefuses part refusal
+  -- it exceeds a quantity; the first one and its value
+  excess : (tree : Module) (which : Quantity) (value : ℕ) → Spells part.bytes tree → IsSupported tree → first_excess tree ≡ Some (which, value) → refusal ≡ limit which value
+      → DecodingRefuses part refusal
+
+abbrev pub decoding : Stage Part Named
+decoding = record { Passes = Decodes; Refuses = DecodingRefuses }
+
+-- a module passes a test as it is
+pub record IsPassed (Holds : Module → Type 0) (old new : Named) : Type 0 where
+  pub same : new ≡ old
+  pub holds : Holds old.tree
+
+-- a reason for not being valid as a refusal; want of memory is none
+abbrev pub IsRefusalOf : List ℕ → Invalid → Refusal → Type 0
+IsRefusalOf name (reason.Function index) refusal = refusal ≡ invalid_function name index
+IsRefusalOf name reason.Module refusal = refusal ≡ invalid_module name
+IsRefusalOf name reason.Memory refusal = ⊥
+
+-- a function of the module has no typing, or it breaks another rule
+pub record ValidationRefuses (named : Named) (refusal : Refusal) : Type 0 where
+  pub reason : Invalid
+  pub is_reason : IsReason named.tree reason
+  pub is_refusal : IsRefusalOf named.name reason refusal
+
+abbrev pub validation : Stage Named Named
+validation = record { Passes = IsPassed Typed; Refuses = ValidationRefuses }
+
+-- ---- labels
+
+-- a module under its name, with its labels
+pub record Labelled : Type 0 where
+  pub name : List ℕ
+  pub tree : Module
+  pub labels : Labels
+
+-- the sections of labels that a module has say these labels, or what is wrong with them
+abbrev pub AreTold : Module → Result Labels LabelError → Type 0
+AreTold tree answer = Tells tree (sections_of tree.customs) answer
+
+-- a module's labels are read
+pub record ReadsLabels (named : Named) (labelled : Labelled) : Type 0 where
+  pub same_name : labelled.name ≡ named.name
+  pub same_tree : labelled.tree ≡ named.tree
+  pub told : AreTold named.tree (Ok labelled.labels)
+
+-- what is wrong with labels as a refusal says it; want of memory is nothing wrong
+abbrev pub fault_of : LabelError → Option LabelFault
+fault_of label_error.Malformed = Some fault.Malformed
+fault_of label_error.Twice = Some fault.Twice
+fault_of label_error.OutOfRange = Some fault.OutOfRange
+fault_of label_error.OnImport = Some fault.OnImport
+fault_of label_error.Both = Some fault.Both
+fault_of label_error.Memory = None
+
+-- the labels of a module break a rule; the first one
+pub record LabelsRefuse (named : Named) (refusal : Refusal) : Type 0 where
+  pub error : LabelError
+  pub wrong : LabelFault
+  pub told : AreTold named.tree (Err error)
+  pub is_fault : fault_of error ≡ Some wrong
+  pub is_refusal : refusal ≡ bad_labels named.name wrong
+
+abbrev pub labelling : Stage Named Labelled
+labelling = record { Passes = ReadsLabels; Refuses = LabelsRefuse }
+
+-- ---- all modules
+
+-- modules with their labels as parts to be linked
+abbrev pub linked_parts : List Labelled → List LinkPart
+linked_parts labelled = map (λ each. part_of each.name each.tree each.labels) labelled
+
+-- the modules are linked to that tree, which can be run
+pub record Links (labelled : List Labelled) (tree : Tree) : Type 0 where
+  pub is_tree : links (linked_parts labelled) ≡ Ok tree
+  pub can_run : IsLinked tree
+
+-- why modules aren't linked, with the name of the module whose import or segment it is
+pub data LinkingRefuses (labelled : List Labelled) (refusal : Refusal) : Type 0 where
+  -- nothing before a module is exported under the names of its import
+  unknown : (part import : ℕ) (one : Labelled) → links (linked_parts labelled) ≡ Err (Unknown part import) → slice_get labelled part ≡ Some one
+      → refusal ≡ unknown_import one.name import → LinkingRefuses labelled refusal
+  -- what is doesn't match
+  mismatched : (part import : ℕ) (one : Labelled) → links (linked_parts labelled) ≡ Err (Mismatch part import) → slice_get labelled part ≡ Some one
+      → refusal ≡ mismatched_import one.name import → LinkingRefuses labelled refusal
+  -- an element segment, or else a data segment, is out of range
+  element : (part : ℕ) (one : Labelled) → links (linked_parts labelled) ≡ Err (ElementRange part) → slice_get labelled part ≡ Some one
+      → refusal ≡ element_range one.name → LinkingRefuses labelled refusal
+  segment : (part : ℕ) (one : Labelled) → links (linked_parts labelled) ≡ Err (DataRange part) → slice_get labelled part ≡ Some one
+      → refusal ≡ data_range one.name → LinkingRefuses labelled refusal
+  -- the modules together are too large
+  too_large : (which : Quantity) (value : ℕ) → links (linked_parts labelled) ≡ Err (Limit which value) → refusal ≡ limit which value → LinkingRefuses labelled refusal
+
+abbrev pub linking : Stage (List Labelled) Tree
+linking = record { Passes = Links; Refuses = LinkingRefuses }
+
+-- the linked tree of modules
+abbrev pub loading : Stage (List Part) Tree
+loading = chain (each decoding) (chain (each validation) (chain (each labelling) linking))
+
+-- ---- modules that are linked
+
+-- the bytes spell that module, which is supported, within the limits and valid, and has these labels
+pub record Accepted (bytes : List ℕ) (tree : Module) (labels : Labels) : Type 0 where
+  pub spelled : Spells bytes tree
+  pub supported : IsSupported tree
+  pub within : first_excess tree ≡ None
+  pub valid : Typed tree
+  pub told : AreTold tree (Ok labels)

@@ -1,0 +1,81 @@
+-- From the bytes of an image to an exported function of its program with the directives of a trace file and a start, or two starts.
+use Rattle.std.specs.Prelude.{◌≡◌, ℕ, ◌<◌, ◌≤◌, List, length, Ok, Err}
+use Rattle.bl_base.specs.Quantity.{limit_of}
+use Rattle.bl_base.specs.declared.quantity.Quantity.TheVariants as quantity
+use Rattle.bl_rob.specs.declared.directive.Directive.{Directive}
+use Rattle.bl_trace.specs.Lines.{lines_of}
+use Rattle.bl_trace.specs.Traces.{trace_of}
+use Rattle.bl_build.specs.Entering.{Entered, Entry, Starts, StartingRefuses, finding, imaging}
+use Rattle.bl_build.specs.Refusals.{Refusal, bad_directive, limit}
+use Rattle.bl_build.specs.Stages.{Stage, chain}
+use Rattle.bl_base.specs.declared.start.Start.{Start}
+
+-- ---- trace files
+
+-- a function of a program, and directives
+pub record Traced : Type 0 where
+  pub entry : Entry
+  pub directives : List Directive
+
+-- the bytes of a trace file have at most the number of lines that is taken, and each is a directive
+pub record Traces (bytes : List ℕ) (entry : Entry) (traced : Traced) : Type 0 where
+  pub same_entry : traced.entry ≡ entry
+  pub few : length (lines_of bytes) ≤ limit_of quantity.Directives
+  pub read : trace_of bytes ≡ Ok traced.directives
+
+pub data TracingRefuses (bytes : List ℕ) (refusal : Refusal) : Type 0 where
+  -- there are more lines
+  too_many : limit_of quantity.Directives < length (lines_of bytes) → refusal ≡ limit quantity.Directives (length (lines_of bytes))
+      → TracingRefuses bytes refusal
+  -- there are no more, and one is no directive; the first one
+  no_directive : (line : ℕ) → length (lines_of bytes) ≤ limit_of quantity.Directives → trace_of bytes ≡ Err line → refusal ≡ bad_directive line
+      → TracingRefuses bytes refusal
+
+abbrev pub tracing : List ℕ → Stage Entry Traced
+tracing bytes = record { Passes = Traces bytes; Refuses = λ entry. TracingRefuses bytes }
+
+-- ---- starts
+
+-- a function of a program, a start of it, and directives
+pub record Speculated : Type 0 where
+  pub entered : Entered
+  pub directives : List Directive
+
+-- the bytes of a start file ask for that start of the function
+pub record StartsTraced (bytes : List ℕ) (traced : Traced) (speculated : Speculated) : Type 0 where
+  pub same_directives : speculated.directives ≡ traced.directives
+  pub starts : Starts bytes traced.entry speculated.entered
+
+abbrev pub starting_traced : List ℕ → Stage Traced Speculated
+starting_traced bytes = record { Passes = StartsTraced bytes; Refuses = λ traced. StartingRefuses bytes traced.entry }
+
+-- ---- all stages
+
+-- from the bytes of an image to a function that is exported under a name, with the directives of a trace file's bytes and the start
+-- that the bytes of a start file ask for
+abbrev pub speculating : List ℕ → List ℕ → List ℕ → Stage (List ℕ) Speculated
+speculating export trace start = chain imaging (chain (finding export) (chain (tracing trace) (starting_traced start)))
+
+-- ---- the other start
+
+-- a function of a program, a start of it, and directives; and another start
+pub record Twinned : Type 0 where
+  pub speculated : Speculated
+  pub other : Start
+
+-- the function of a program
+abbrev pub entry_of : Twinned → Entry
+entry_of twinned = twinned.speculated.entered.entry
+
+-- the bytes of a start file ask for that other start of the function
+pub record StartsOther (bytes : List ℕ) (speculated : Speculated) (twinned : Twinned) : Type 0 where
+  pub same : twinned.speculated ≡ speculated
+  pub starts : Starts bytes speculated.entered.entry (record { entry = speculated.entered.entry; start = twinned.other })
+
+abbrev pub starting_other : List ℕ → Stage Speculated Twinned
+starting_other bytes = record { Passes = StartsOther bytes; Refuses = λ speculated. StartingRefuses bytes speculated.entered.entry }
+
+-- from the bytes of an image to a function that is exported under a name, with the directives of a trace file's bytes and the two starts
+-- that the bytes of two start files ask for
+abbrev pub twinning : List ℕ → List ℕ → List ℕ → List ℕ → Stage (List ℕ) Twinned
+twinning export trace start other = chain (speculating export trace start) (starting_other other)

@@ -1,0 +1,72 @@
+//! From modules' bytes to their program and the program's image.
+ghost use Rattle.std.specs.Prelude.{◌≤◌, length, map};
+ghost use Rattle.bl_base.specs.Quantity.{limit_of};
+ghost use Rattle.bl_base.specs.declared.quantity.Quantity.TheVariants as quantity;
+ghost use Rattle.bl_build.specs.Building.{building, compiling};
+ghost use Rattle.bl_build.specs.Loading.{AreShort, parts_of};
+ghost use Rattle.bl_words.specs.Requests.{AreNamedApart};
+ghost use Rattle.bl_build.specs.Working.{IsStaged, built_in, contents_in};
+
+use crate::loading::load;
+use crate::refusal::{Refusal, WorkError};
+use bl_base::Quantity;
+use bl_cmd::WellFormed;
+use bl_image::encode;
+use bl_lower::{LowerError, lower};
+use bl_wasm::Linked;
+use std::alloc::Global;
+
+/// A program, and its image.
+#[derive(Drop)]
+pub struct Built {
+    /// The program.
+    pub program: WellFormed,
+    /// The image's bytes, at most 134,217,728.
+    pub image: Vec<u8>,
+}
+
+/// The program of the modules in files with these contents, and its image; Refused exactly where the modules are refused (`load`), or
+/// the program has more than 1,048,576 commands, or its image more than 134,217,728 bytes. Linear in the bytes, those
+/// of the memories and in the image.
+pub fn compile<'a>(
+    alloc: Global,
+    words: &[&'a str],
+    contents: &[Vec<u8>],
+) -> Result<Built, WorkError<'a>>
+    requires few { length words.now ≤ limit_of quantity.Modules }
+    requires apart { AreNamedApart (map (λ word. word.now) words.now) }
+    requires short { AreShort (map (λ word. word.now) words.now) (contents_in contents.now) }
+    ensures { IsStaged compiling built_in (parts_of (map (λ word. word.now) words.now) (contents_in contents.now)) result }
+{
+    match load(alloc, words, contents) {
+        Ok(linked) => build(alloc, &linked),
+        Err(error) => Err(error),
+    }
+}
+
+/// The program of a linked tree, with its image.
+fn build<'a>(alloc: Global, linked: &Linked) -> Result<Built, WorkError<'a>>
+    ensures { IsStaged building built_in linked.now result }
+{
+    let program = match lower(alloc, linked) {
+        Ok(program) => program,
+        Err(LowerError::Limit(value)) => {
+            return Err(WorkError::Refused(Refusal::Limit {
+                which: Quantity::Commands,
+                value,
+            }));
+        }
+        Err(LowerError::Memory) => return Err(WorkError::Memory),
+    };
+    // What is known of the program is read with it.
+    let _rules = program.program();
+    let image = encode(alloc, &program)?;
+    let length = image.len() as u64;
+    if length > Quantity::Image.limit() {
+        return Err(WorkError::Refused(Refusal::Limit {
+            which: Quantity::Image,
+            value: length,
+        }));
+    }
+    Ok(Built { program, image })
+}

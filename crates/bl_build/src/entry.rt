@@ -1,0 +1,114 @@
+//! From the bytes of an image to its program, to an exported function of it, and to a start of the function.
+ghost use Rattle.std.specs.Prelude.{◌≡◌, IfOk, MatchOption, None, Some, slice_get};
+ghost use Rattle.bl_cmd.specs.Outcomes.{IsStart};
+ghost use Rattle.bl_build.specs.Entering.{Finds, function_named, imaging, kinds_of, pages_of, starting};
+ghost use Rattle.bl_build.specs.Working.{IsStaged, entered_in, entry_in, image_error};
+
+use crate::refusal::{Refusal, WorkError};
+use crate::start::of_start;
+use bl_base::{NoMemory, Start, ValueType};
+use bl_cmd::{ExportDef, FunctionDef, MemoryDef, ProgramParts, WellFormed};
+use bl_image::{ImageError, decode_image};
+use bl_trace::read_start;
+use std::alloc::Global;
+
+/// A function of a program.
+#[derive(Clone, Copy)]
+pub struct Entry<'p> {
+    /// Its number.
+    pub function: u32,
+    /// What the program says of it.
+    pub defined: &'p FunctionDef,
+}
+
+/// The program of an image; Refused exactly where the bytes are no image, or its program isn't well-formed.
+pub fn read_image<'a>(alloc: Global, bytes: &[u8]) -> Result<WellFormed, WorkError<'a>>
+    ensures { IsStaged imaging (λ program. program) bytes.now result }
+{
+    match decode_image(alloc, bytes) {
+        Ok(program) => {
+            // What is known of the program is read with it.
+            let _rules = program.program();
+            Ok(program)
+        }
+        Err(error) => Err(of_image(error)),
+    }
+}
+
+/// Why there is no program.
+fn of_image<'a>(error: ImageError) -> WorkError<'a>
+    ensures { result ≡ image_error error }
+{
+    match error {
+        ImageError::NotAnImage => WorkError::Refused(Refusal::NotAnImage),
+        ImageError::IllFormed { rule, position } => WorkError::Refused(Refusal::BrokenRule {
+            rule,
+            position: position.0,
+        }),
+        ImageError::Memory => WorkError::Memory,
+    }
+}
+
+/// The function that is exported under a name; None where none is. Linear in the exports; takes no memory.
+pub fn find_entry<'p>(program: &'p WellFormed, export: &str) -> Option<Entry<'p>>
+    ensures { MatchOption result (function_named export.now program.now.exports ≡ None)
+        (λ entry. Finds export.now program.now (entry_in program.now entry)) }
+{
+    let parts = program.program().parts();
+    let function = number_named(export, parts.exports.as_slice())?;
+    let defined = &parts.functions.as_slice()[function as usize];
+    Some(Entry { function, defined })
+}
+
+/// The function of the first export of a name.
+fn number_named(name: &str, exports: &[ExportDef]) -> Option<u32>
+    ensures { result ≡ function_named name.now exports.now }
+{
+    for export in exports {
+        if name.as_bytes() == export.name.as_slice() {
+            return Some(export.function);
+        }
+    }
+    None
+}
+
+/// The start of a function that a start file asks for; Refused exactly where a line is bad or there are too few arguments.
+pub fn read_entry_start<'a>(
+    alloc: Global,
+    program: &WellFormed,
+    entry: &Entry<'_>,
+    bytes: &[u8],
+) -> Result<Start, WorkError<'a>>
+    requires { slice_get program.now.functions entry.now.function ≡ Some entry.now.defined.now }
+    ensures staged { IsStaged (starting bytes.now) (entered_in (entry_in program.now entry.now)) (entry_in program.now entry.now) result }
+    ensures fits { IfOk result (λ start. IsStart program.now entry.now.function start) }
+{
+    let kinds = kinds_of(alloc, entry.defined)?;
+    let pages = pages_of(alloc, program.program().parts())?;
+    match read_start(alloc, bytes, kinds.as_slice(), pages.as_slice()) {
+        Ok(start) => Ok(start),
+        Err(error) => Err(of_start(error)),
+    }
+}
+
+/// The types of a function's parameters.
+fn kinds_of(alloc: Global, defined: &FunctionDef) -> Result<Vec<ValueType>, NoMemory>
+    ensures { IfOk result (λ kinds. kinds.items ≡ kinds_of defined.now) }
+{
+    let mut kinds = Vec::new(alloc);
+    for param in defined.params.as_slice() {
+        kinds.push(param.kind)?;
+    }
+    Ok(kinds)
+}
+
+/// The first pages of a program's memories.
+fn pages_of(alloc: Global, parts: &ProgramParts) -> Result<Vec<u32>, NoMemory>
+    ensures { IfOk result (λ pages. pages.items ≡ pages_of parts.now) }
+{
+    let mut pages = Vec::new(alloc);
+    for memory in parts.memories.as_slice() {
+        pages.push(memory.pages)?;
+    }
+    Ok(pages)
+}

@@ -1,0 +1,23 @@
+//! From the bytes of modules to a hardened program, and from those of images, trace files, start files and certificates to what is run or
+//! judged: stages, each of which passes a value on or refuses it.
+#![tactic(auto)]
+
+mod build;
+mod certificate;
+mod directives;
+mod entry;
+mod harden;
+pub mod laws;
+mod loading;
+mod opening;
+mod refusal;
+mod start;
+
+pub use build::{Built, compile};
+pub use certificate::read_certificate;
+pub use directives::read_directives;
+pub use entry::{Entry, find_entry, read_entry_start, read_image};
+pub use harden::{Hardened, protect_least};
+pub use loading::load;
+pub use opening::{Opening, prepare};
+pub use refusal::{LabelFault, Refusal, WorkError};
