@@ -8,20 +8,33 @@ use std::test::Fail;
 /// Magic number and version.
 const HEAD: &[u8] = b"\0asm\x01\0\0\0";
 
-/// Calls `blade` with the words of a line, and answers its status and what it printed.
-pub(crate) fn say(
-    alloc: Global,
-    shelf: &mut MemoryShelf,
-    line: &str,
-) -> Result<(u8, MemorySink), Fail> {
-    let mut out = MemorySink::new(alloc, None);
-    out.reserve(400)?;
+/// The words of a line.
+fn words_of(alloc: Global, line: &str) -> Result<Vec<String>, Fail> {
     let mut words = Vec::new(alloc);
     for word in line.split(' ') {
         words.push(String::from_str(alloc, word)?)?;
     }
-    let status = blade(alloc, words.as_slice(), shelf, &mut out);
-    Ok((status, out))
+    Ok(words)
+}
+
+/// Whether a call of `blade` with the words of a line ends with that status and prints that text.
+pub(crate) fn ends(
+    alloc: Global,
+    shelf: &mut MemoryShelf,
+    line: &str,
+    status: u8,
+    text: &str,
+) -> Result<bool, Fail> {
+    let words = words_of(alloc, line)?;
+    let mut out = MemorySink::new(alloc, None);
+    out.reserve(400)?;
+    let answer = blade(alloc, words.as_slice(), shelf, &mut out);
+    Ok(answer == status && out.bytes() == text.as_bytes())
+}
+
+/// Whether a file stands on a shelf.
+pub(crate) fn stands(shelf: &MemoryShelf, name: &str) -> bool {
+    shelf.entry(name).is_some()
 }
 
 /// Puts the module of some sections, with a custom section `blade.labels` of those bytes behind them; with none where there are no bytes.

@@ -1,5 +1,5 @@
 //! Labels and images of version 2. The images are written by hand from the rules of lowering.
-use crate::calls::{put, say, shelf_of};
+use crate::calls::{ends, put, shelf_of, stands};
 use bl_base::List;
 use bl_outside::MemoryShelf;
 use std::alloc::Global;
@@ -23,15 +23,23 @@ const SECRET: [u8; 36] = [
     0x00, 0x00, 0x02, 0x08,
 ];
 
-/// The bytes of the label section behind its name, the last line of the report, and the image.
+/// The bytes of the label section behind its name, the report, and the image.
 static CASES: [(&[u8], &str, &[u8]); 3] = [
     (
         b"\x02\x02\0\0\0\x03\0\0",
-        "constant-time no parameter 0 0 through 8 end 9\n",
+        "functions 1\ncommands 11\nsites 2\nprotects 0 weight 0\nconstant-time no parameter 0 0 through 8 end 9\n",
         &DEMANDED,
     ),
-    (b"\x01\x01\0\0\0", "constant-time yes\n", &SECRET),
-    (b"\x02\x01\0\0\0", "constant-time yes\n", &SECRET),
+    (
+        b"\x01\x01\0\0\0",
+        "functions 1\ncommands 11\nsites 2\nprotects 0 weight 0\nconstant-time yes\n",
+        &SECRET,
+    ),
+    (
+        b"\x02\x01\0\0\0",
+        "functions 1\ncommands 11\nsites 2\nprotects 0 weight 0\nconstant-time yes\n",
+        &SECRET,
+    ),
 ];
 
 /// The certificate of no path.
@@ -46,73 +54,107 @@ fn identity(alloc: Global, labels: &[u8]) -> Result<MemoryShelf, Fail> {
     Ok(shelf)
 }
 
+/// Whether a file stands on a shelf with those bytes.
+fn holds(shelf: &MemoryShelf, name: &str, bytes: &[u8]) -> bool {
+    shelf.entry(name).unwrap_or(b"") == bytes
+}
+
+/// Whether that function with those labels has that report and that image, which runs.
+fn is_hardened(alloc: Global, labels: &[u8], report: &str, image: &[u8]) -> Result<bool, Fail> {
+    let mut shelf = identity(alloc, labels)?;
+    Ok(
+        ends(alloc, &mut shelf, "blade harden i c id.wasm", 0, report)?
+            && holds(&shelf, "i", image)
+            && holds(&shelf, "c", CERTIFICATE.as_bytes())
+            && ends(
+                alloc,
+                &mut shelf,
+                "blade run i id/f s",
+                0,
+                "returned i32 5\n",
+            )?,
+    )
+}
+
+/// How many cases pass before the first that doesn't.
+fn hardened(alloc: Global) -> Result<u32, Fail> {
+    let mut passed = 0u32;
+    for (labels, report, image) in &CASES {
+        if !is_hardened(alloc, *labels, *report, *image)? {
+            break;
+        }
+        passed = passed.wrapping_add(1);
+    }
+    Ok(passed)
+}
+
 #[test]
 fn a_result_that_is_demanded_public_stands_in_the_image_and_ends_a_chain(
     rt: HostRuntime,
 ) -> Result<(), Fail> {
-    let alloc = rt.alloc();
-    for (labels, line, image) in &CASES {
-        let mut shelf = identity(alloc, *labels)?;
-        let (status, out) = say(alloc, &mut shelf, "blade harden i c id.wasm")?;
-        let line = *line;
-        let report = format!(in alloc;
-            "functions 1\ncommands 11\nsites 2\nprotects 0 weight 0\n{line}"
-        )?;
-        assert_eq!(rt; out.bytes(), report.as_bytes());
-        assert_eq!(rt; status, 0);
-        assert_eq!(rt; shelf.entry("i").unwrap_or(b""), *image);
-        assert_eq!(rt; shelf.entry("c").unwrap_or(b""), CERTIFICATE.as_bytes());
-        let (ran, outcome) = say(alloc, &mut shelf, "blade run i id/f s")?;
-        assert_eq!(rt; outcome.bytes(), b"returned i32 5\n".as_slice());
-        assert_eq!(rt; ran, 0);
-    }
+    assert_eq!(rt; hardened(rt.alloc())?, 3);
     Ok(())
+}
+
+/// Whether those labels of that function are malformed, and nothing is kept.
+fn are_malformed(alloc: Global, labels: &[u8]) -> Result<bool, Fail> {
+    let mut shelf = identity(alloc, labels)?;
+    let refused = ends(
+        alloc,
+        &mut shelf,
+        "blade harden i c id.wasm",
+        10,
+        "labels: id malformed\n",
+    )?;
+    Ok(refused && !stands(&shelf, "i") && !stands(&shelf, "c"))
 }
 
 #[test]
 fn demands_in_a_section_of_version_1_are_malformed(rt: HostRuntime) -> Result<(), Fail> {
-    let alloc = rt.alloc();
-    let mut shelf = identity(alloc, b"\x01\x02\0\0\0\x03\0\0")?;
-    let (status, out) = say(alloc, &mut shelf, "blade harden i c id.wasm")?;
-    assert_eq!(rt; out.bytes(), b"labels: id malformed\n".as_slice());
-    assert_eq!(rt; status, 10);
-    assert!(rt; shelf.entry("i").is_none() && shelf.entry("c").is_none());
+    assert!(rt; are_malformed(rt.alloc(), b"\x01\x02\0\0\0\x03\0\0")?);
     Ok(())
 }
 
+/// Whether a call with an image beside that function and the certificate of no path ends so.
+fn answers(alloc: Global, image: &[u8], line: &str, status: u8, text: &str) -> Result<bool, Fail> {
+    let mut shelf = identity(alloc, b"")?;
+    shelf.put("i", image)?;
+    ends(alloc, &mut shelf, line, status, text)
+}
+
+/// What `verify` says of the image with the demand, and of that without it.
+const NOT_SAFE: &str =
+    "certificate yes\nstable yes\nconstant-time no parameter 0 0 through 8 end 9\nsafe no\n";
+
+const SAFE: &str = "certificate yes\nstable yes\nconstant-time yes\nsafe yes\n";
+
 #[test]
 fn a_chain_does_not_make_verify_refuse(rt: HostRuntime) -> Result<(), Fail> {
-    let alloc = rt.alloc();
-    let mut shelf = identity(alloc, b"")?;
-    shelf.put("i", &DEMANDED)?;
-    let (status, out) = say(alloc, &mut shelf, "blade verify i e")?;
-    let lines =
-        "certificate yes\nstable yes\nconstant-time no parameter 0 0 through 8 end 9\nsafe no\n";
-    assert_eq!(rt; out.bytes(), lines.as_bytes());
-    assert_eq!(rt; status, 0);
-    shelf.put("i", &SECRET)?;
-    let (status, out) = say(alloc, &mut shelf, "blade verify i e")?;
-    let lines = "certificate yes\nstable yes\nconstant-time yes\nsafe yes\n";
-    assert_eq!(rt; out.bytes(), lines.as_bytes());
-    assert_eq!(rt; status, 0);
+    assert!(rt; answers(rt.alloc(), &DEMANDED, "blade verify i e", 0, NOT_SAFE)?);
+    assert!(rt; answers(rt.alloc(), &SECRET, "blade verify i e", 0, SAFE)?);
     Ok(())
+}
+
+/// The image with the demand, of a result that does not exist.
+fn demanded_of_no_result(alloc: Global) -> Result<Vec<u8>, Fail> {
+    let mut image = DEMANDED[..25].to_vec(alloc)?;
+    image.push(0x01)?;
+    image.extend_from_slice(&DEMANDED[26..])?;
+    Ok(image)
+}
+
+/// Whether a call with that image is refused.
+fn is_refused(alloc: Global, line: &str) -> Result<bool, Fail> {
+    let image = demanded_of_no_result(alloc)?;
+    answers(alloc, &image, line, 12, "image: rule 9 at 0\n")
 }
 
 #[test]
 fn an_image_that_demands_a_result_that_does_not_exist_is_refused(
     rt: HostRuntime,
 ) -> Result<(), Fail> {
-    let alloc = rt.alloc();
-    let mut shelf = identity(alloc, b"")?;
-    let mut image = DEMANDED[..25].to_vec(alloc)?;
-    image.push(0x01)?;
-    image.extend_from_slice(&DEMANDED[26..])?;
-    shelf.put("i", &image)?;
-    for line in ["blade run i id/f s", "blade verify i e"] {
-        let (status, out) = say(alloc, &mut shelf, line)?;
-        assert_eq!(rt; out.bytes(), b"image: rule 9 at 0\n".as_slice());
-        assert_eq!(rt; status, 12);
-    }
+    assert!(rt; is_refused(rt.alloc(), "blade run i id/f s")?);
+    assert!(rt; is_refused(rt.alloc(), "blade verify i e")?);
     Ok(())
 }
 
@@ -139,16 +181,19 @@ static THREE: [u8; 69] = [
     0x04, 0x0C, 0x00, 0x00, 0x00, 0x06, 0x00, 0x04, 0x07, 0x00, 0x00, 0x00, 0x06, 0x08,
 ];
 
+/// Their report.
+const REPORT: &str = "functions 2\ncommands 15\nsites 4\nprotects 0 weight 0\nconstant-time yes\n";
+
+/// Whether those functions with those labels have that report and that image.
+fn are_hardened(alloc: Global, labels: &[u8]) -> Result<bool, Fail> {
+    let mut shelf = shelf_of(alloc, TWO, labels)?;
+    let reported = ends(alloc, &mut shelf, "blade harden i c m.wasm", 0, REPORT)?;
+    Ok(reported && holds(&shelf, "i", &THREE))
+}
+
 #[test]
 fn demands_rise_in_the_image_results_before_globals(rt: HostRuntime) -> Result<(), Fail> {
-    let alloc = rt.alloc();
     // the global, the second result, the first one
-    let labels = b"\x02\x03\x04\0\x03\x01\0\x03\0\0";
-    let mut shelf = shelf_of(alloc, TWO, labels)?;
-    let (status, out) = say(alloc, &mut shelf, "blade harden i c m.wasm")?;
-    let report = "functions 2\ncommands 15\nsites 4\nprotects 0 weight 0\nconstant-time yes\n";
-    assert_eq!(rt; out.bytes(), report.as_bytes());
-    assert_eq!(rt; status, 0);
-    assert_eq!(rt; shelf.entry("i").unwrap_or(b""), THREE.as_slice());
+    assert!(rt; are_hardened(rt.alloc(), b"\x02\x03\x04\0\x03\x01\0\x03\0\0")?);
     Ok(())
 }
