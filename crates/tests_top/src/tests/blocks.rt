@@ -1,18 +1,30 @@
 //! Runs of modules with extensions by sign, several results, and block types that name a type. The outcomes are those of node v20.20's
 //! WebAssembly, and the same modules are refused there but for one: it takes the spelling `C0 7F` of a negative number for `40`. The limit on
 //! results is this program's own.
-use super::interp::{RUN, call};
-use super::module_of;
+use super::calls::{Run, interprets};
 use std::alloc::Global;
 use std::test::Fail;
 
-/// A function that applies one operator to its parameter, of a type of values and to the same.
-pub(super) const fn of_one(kind: u8, operator: u8) -> [u8; 28] {
-    [
-        0x01, 0x06, 0x01, 0x60, 0x01, kind, 0x01, kind, 0x03, 0x02, 0x01, 0x00, 0x07, 0x05, 0x01,
-        0x01, 0x66, 0x00, 0x00, 0x0A, 0x07, 0x01, 0x05, 0x00, 0x20, 0x00, operator, 0x0B,
-    ]
+/// The sections of a function that applies one operator to its parameter, of a type of values and to the same.
+macro_rules! of_one {
+    ($kind:literal, $operator:literal) => {
+        [
+            0x01, 0x06, 0x01, 0x60, 0x01, $kind, 0x01, $kind, 0x03, 0x02, 0x01, 0x00, 0x07, 0x05,
+            0x01, 0x01, 0x66, 0x00, 0x00, 0x0A, 0x07, 0x01, 0x05, 0x00, 0x20, 0x00, $operator, 0x0B,
+        ]
+    };
 }
+
+/// The extensions by sign.
+pub(super) const I32_EXTEND8: [u8; 28] = of_one!(0x7F, 0xC0);
+
+const I32_EXTEND16: [u8; 28] = of_one!(0x7F, 0xC1);
+
+const I64_EXTEND8: [u8; 28] = of_one!(0x7E, 0xC2);
+
+const I64_EXTEND16: [u8; 28] = of_one!(0x7E, 0xC3);
+
+const I64_EXTEND32: [u8; 28] = of_one!(0x7E, 0xC4);
 
 /// A function that returns its two parameters in the other order.
 pub(super) const SWAP: [u8; 31] = [
@@ -34,53 +46,54 @@ const LONG_INDEX: [u8; 41] = [
     0x80, 0x80, 0x80, 0x00, 0x41, 0x02, 0x6A, 0x0B, 0x0B,
 ];
 
+static RUNS: [Run; 8] = [
+    (&I32_EXTEND8, "arg 200\n", 0, "returned i32 4294967240\n"),
+    (&I32_EXTEND16, "arg 32768\n", 0, "returned i32 4294934528\n"),
+    (&I64_EXTEND8, "arg 383\n", 0, "returned i64 127\n"),
+    (
+        &I64_EXTEND16,
+        "arg 65535\n",
+        0,
+        "returned i64 18446744073709551615\n",
+    ),
+    (
+        &I64_EXTEND32,
+        "arg 2147483648\n",
+        0,
+        "returned i64 18446744071562067968\n",
+    ),
+    (&SWAP, "arg 3\narg 4\n", 0, "returned i32 4 i32 3\n"),
+    (&LOOP_OF_A_TYPE, "arg 3\n", 0, "returned i32 0\n"),
+    (&LONG_INDEX, "", 0, "returned i32 9\n"),
+];
+
+/// How many runs pass before the first that doesn't.
+fn interpreted(alloc: Global) -> Result<u32, Fail> {
+    let mut passed = 0u32;
+    for (sections, start, status, text) in &RUNS {
+        if !interprets(alloc, *sections, *start, *status, *text)? {
+            break;
+        }
+        passed = passed.wrapping_add(1);
+    }
+    Ok(passed)
+}
+
 #[test]
 fn extensions_by_sign_several_results_and_blocks_of_a_type(rt: HostRuntime) -> Result<(), Fail> {
-    let alloc = rt.alloc();
-    let cases: [(&[u8], &str, &str); 8] = [
-        (
-            &of_one(0x7F, 0xC0),
-            "arg 200\n",
-            "returned i32 4294967240\n",
-        ),
-        (
-            &of_one(0x7F, 0xC1),
-            "arg 32768\n",
-            "returned i32 4294934528\n",
-        ),
-        (&of_one(0x7E, 0xC2), "arg 383\n", "returned i64 127\n"),
-        (
-            &of_one(0x7E, 0xC3),
-            "arg 65535\n",
-            "returned i64 18446744073709551615\n",
-        ),
-        (
-            &of_one(0x7E, 0xC4),
-            "arg 2147483648\n",
-            "returned i64 18446744071562067968\n",
-        ),
-        (&SWAP, "arg 3\narg 4\n", "returned i32 4 i32 3\n"),
-        (&LOOP_OF_A_TYPE, "arg 3\n", "returned i32 0\n"),
-        (&LONG_INDEX, "", "returned i32 9\n"),
-    ];
-    for (sections, start, text) in cases {
-        let bytes = module_of(alloc, sections)?;
-        let (answer, out) = call(alloc, &RUN, (&bytes, start.as_bytes()), None)?;
-        assert_eq!(rt; answer, 0);
-        assert_eq!(rt; out.bytes(), text.as_bytes());
-    }
+    assert_eq!(rt; interpreted(rt.alloc())?, 8);
     Ok(())
 }
 
-/// The module of a function of type 0, [] -> [], with one block of that block type, which is spelled in at most two bytes.
+/// The sections of a function of type 0, [] -> [], up to its code.
+const FRONT: [u8; 18] = [
+    0x01, 0x04, 0x01, 0x60, 0x00, 0x00, 0x03, 0x02, 0x01, 0x00, 0x07, 0x05, 0x01, 0x01, 0x66, 0x00,
+    0x00, 0x0A,
+];
+
+/// The sections of a function of type 0, [] -> [], with one block of that block type, which is spelled in at most two bytes.
 fn with_block(alloc: Global, block_type: &[u8]) -> Result<Vec<u8>, Fail> {
-    let mut bytes = module_of(
-        alloc,
-        &[
-            0x01, 0x04, 0x01, 0x60, 0x00, 0x00, 0x03, 0x02, 0x01, 0x00, 0x07, 0x05, 0x01, 0x01,
-            0x66, 0x00, 0x00, 0x0A,
-        ],
-    )?;
+    let mut bytes = FRONT.to_vec(alloc)?;
     let two = block_type.len() == 2;
     bytes.extend_from_slice(&[if two { 0x08 } else { 0x07 }, 0x01])?;
     bytes.extend_from_slice(&[if two { 0x06 } else { 0x05 }, 0x00, 0x02])?;
@@ -89,38 +102,52 @@ fn with_block(alloc: Global, block_type: &[u8]) -> Result<Vec<u8>, Fail> {
     Ok(bytes)
 }
 
+/// A block type, the status and the text.
+static BLOCK_TYPES: [(&[u8], u8, &str); 8] = [
+    (&[0x40], 0, "returned\n"),
+    (&[0x00], 0, "returned\n"),
+    (&[0x80, 0x00], 0, "returned\n"),
+    (&[0x01], 6, "invalid: m function 0\n"),
+    (&[0x81, 0x00], 6, "invalid: m function 0\n"),
+    (&[0xC0, 0x7F], 5, "malformed: m\n"),
+    (&[0xFF, 0x7F], 5, "malformed: m\n"),
+    (&[0x41], 5, "malformed: m\n"),
+];
+
+/// How many block types pass before the first that doesn't.
+fn block_types(alloc: Global) -> Result<u32, Fail> {
+    let mut passed = 0u32;
+    for (block_type, status, text) in &BLOCK_TYPES {
+        if !interprets(alloc, &with_block(alloc, *block_type)?, "", *status, *text)? {
+            break;
+        }
+        passed = passed.wrapping_add(1);
+    }
+    Ok(passed)
+}
+
 #[test]
 fn a_block_type_is_one_of_values_or_names_a_type(rt: HostRuntime) -> Result<(), Fail> {
-    let alloc = rt.alloc();
-    let cases: [(&[u8], u8, &str); 8] = [
-        (&[0x40], 0, "returned\n"),
-        (&[0x00], 0, "returned\n"),
-        (&[0x80, 0x00], 0, "returned\n"),
-        (&[0x01], 6, "invalid: m function 0\n"),
-        (&[0x81, 0x00], 6, "invalid: m function 0\n"),
-        (&[0xC0, 0x7F], 5, "malformed: m\n"),
-        (&[0xFF, 0x7F], 5, "malformed: m\n"),
-        (&[0x41], 5, "malformed: m\n"),
-    ];
-    for (block_type, status, text) in cases {
-        let bytes = with_block(alloc, block_type)?;
-        let (answer, out) = call(alloc, &RUN, (&bytes, b""), None)?;
-        assert_eq!(rt; answer, status);
-        assert_eq!(rt; out.bytes(), text.as_bytes());
-    }
+    assert_eq!(rt; block_types(rt.alloc())?, 8);
     Ok(())
+}
+
+/// The sections of a module with a type of 1,025 results.
+fn many_results(alloc: Global) -> Result<Vec<u8>, Fail> {
+    let mut bytes = [0x01, 0x86, 0x08, 0x01, 0x60, 0x00, 0x81, 0x08].to_vec(alloc)?;
+    for _result in 0..1_025 {
+        bytes.push(0x7F)?;
+    }
+    Ok(bytes)
+}
+
+/// Whether a module with that type is interpreted so.
+fn are_too_many(alloc: Global, status: u8, text: &str) -> Result<bool, Fail> {
+    interprets(alloc, &many_results(alloc)?, "", status, text)
 }
 
 #[test]
 fn a_type_of_1025_results_exceeds_a_limit(rt: HostRuntime) -> Result<(), Fail> {
-    let alloc = rt.alloc();
-    let front = [0x01, 0x86, 0x08, 0x01, 0x60, 0x00, 0x81, 0x08];
-    let mut bytes = module_of(alloc, &front)?;
-    for _result in 0..1_025 {
-        bytes.push(0x7F)?;
-    }
-    let (answer, out) = call(alloc, &RUN, (&bytes, b""), None)?;
-    assert_eq!(rt; answer, 8);
-    assert_eq!(rt; out.bytes(), b"limit: results 1025\n".as_slice());
+    assert!(rt; are_too_many(rt.alloc(), 8, "limit: results 1025\n")?);
     Ok(())
 }

@@ -1,6 +1,6 @@
 //! Runs near the greatest inputs, where want of memory could hide.
 use super::ADD_ONE;
-use super::interp::call;
+use super::calls::{ends, shelf_of};
 use std::alloc::Global;
 use std::test::Fail;
 
@@ -22,23 +22,18 @@ fn longest_start(alloc: Global) -> Result<Vec<u8>, Fail> {
     Ok(bytes)
 }
 
-#[test]
-fn the_longest_module_and_start_run_with_the_most_steps(rt: HostRuntime) -> Result<(), Fail> {
-    let alloc = rt.alloc();
+/// Whether the longest module runs so from the longest start.
+fn runs(alloc: Global, line: &str, text: &str) -> Result<bool, Fail> {
     let module = longest_module(alloc)?;
     let start = longest_start(alloc)?;
-    assert_eq!(rt; (module.len(), start.len()), (4_194_304, 16_777_216));
-    let words = [
-        "blade",
-        "interp",
-        "m/inc",
-        "start",
-        "m.wasm",
-        "--steps",
-        "4294967295",
-    ];
-    let (status, out) = call(alloc, &words, (module.as_slice(), start.as_slice()), None)?;
-    assert_eq!(rt; out.bytes(), b"returned i32 42\n".as_slice());
-    assert_eq!(rt; status, 0);
+    let longest = module.len() == 4_194_304 && start.len() == 16_777_216;
+    let mut shelf = shelf_of(alloc, &[("m.wasm", &module), ("start", &start)])?;
+    Ok(longest && ends(alloc, &mut shelf, line, 0, text)?)
+}
+
+#[test]
+fn the_longest_module_and_start_run_with_the_most_steps(rt: HostRuntime) -> Result<(), Fail> {
+    let line = "blade interp m/inc start m.wasm --steps 4294967295";
+    assert!(rt; runs(rt.alloc(), line, "returned i32 42\n")?);
     Ok(())
 }

@@ -1,45 +1,23 @@
-use super::{ADD_ONE, LOADS, module_of};
-use bl_app::blade;
-use bl_base::List;
-use bl_outside::{MemoryShelf, MemorySink};
+use super::calls::{ends_on, interprets};
+use super::{ADD_ONE, LOADS};
 use std::alloc::Global;
 use std::test::Fail;
 
-/// Calls `blade` on a shelf with the module and the start file, of which the call of that number fails.
-pub(super) fn call(
-    alloc: Global,
-    words: &[&str],
-    files: (&[u8], &[u8]),
-    failing: Option<u64>,
-) -> Result<(u8, MemorySink), Fail> {
-    let mut numbers = List::new(alloc);
-    if let Some(number) = failing {
-        numbers.push(number)?;
-    }
-    let mut shelf = MemoryShelf::new(alloc, numbers);
-    shelf.put("m.wasm", files.0)?;
-    shelf.put("start", files.1)?;
-    let mut out = MemorySink::new(alloc, None);
-    out.reserve(100)?;
-    let mut list = Vec::new(alloc);
-    for word in words {
-        list.push(String::from_str(alloc, word)?)?;
-    }
-    let status = blade(alloc, list.as_slice(), &mut shelf, &mut out);
-    Ok((status, out))
-}
-
-/// The words of a run of `m/f`.
-pub(super) const RUN: [&str; 5] = ["blade", "interp", "m/f", "start", "m.wasm"];
-
 /// The sections of a function of two parameters that applies that operator to them.
-pub(super) const fn of_two(operator: u8) -> [u8; 31] {
-    [
-        0x01, 0x07, 0x01, 0x60, 0x02, 0x7F, 0x7F, 0x01, 0x7F, 0x03, 0x02, 0x01, 0x00, 0x07, 0x05,
-        0x01, 0x01, 0x66, 0x00, 0x00, 0x0A, 0x09, 0x01, 0x07, 0x00, 0x20, 0x00, 0x20, 0x01,
-        operator, 0x0B,
-    ]
+macro_rules! of_two {
+    ($operator:literal) => {
+        [
+            0x01, 0x07, 0x01, 0x60, 0x02, 0x7F, 0x7F, 0x01, 0x7F, 0x03, 0x02, 0x01, 0x00, 0x07,
+            0x05, 0x01, 0x01, 0x66, 0x00, 0x00, 0x0A, 0x09, 0x01, 0x07, 0x00, 0x20, 0x00, 0x20,
+            0x01, $operator, 0x0B,
+        ]
+    };
 }
+
+/// The division of signed numbers, and its remainder.
+pub(super) const DIVISION: [u8; 31] = of_two!(0x6D);
+
+pub(super) const REMAINDER: [u8; 31] = of_two!(0x6F);
 
 /// A function that calls itself with one less until its parameter is 0.
 pub(super) const COUNT_DOWN: [u8; 40] = [
@@ -68,98 +46,169 @@ const ENDLESS: [u8; 28] = [
 
 #[test]
 fn a_million_steps_are_made_where_none_are_asked_for(rt: HostRuntime) -> Result<(), Fail> {
-    let bytes = module_of(rt.alloc(), &ENDLESS)?;
-    let (answer, out) = call(rt.alloc(), &RUN, (&bytes, b""), None)?;
-    assert_eq!(rt; answer, 17);
-    assert_eq!(rt; out.bytes(), b"spent 1000000\n".as_slice());
+    assert!(rt; interprets(rt.alloc(), &ENDLESS, "", 17, "spent 1000000\n")?);
     Ok(())
+}
+
+/// A line, the start file, the call of the shelf that fails, the status and the text.
+pub(super) type Case = (&'static str, &'static [u8], Option<u64>, u8, &'static str);
+
+static STEPS: [Case; 7] = [
+    (
+        "blade interp m/inc start m.wasm",
+        b"arg 4294967295\n",
+        None,
+        0,
+        "returned i32 0\n",
+    ),
+    (
+        "blade interp m/inc --steps 5 start m.wasm",
+        b"arg 4294967295\n",
+        None,
+        0,
+        "returned i32 0\n",
+    ),
+    (
+        "blade interp m/inc start --steps 4 m.wasm",
+        b"arg 4294967295\n",
+        None,
+        17,
+        "spent 4\n",
+    ),
+    (
+        "blade interp m/inc start m.wasm --steps=7",
+        b"arg 4294967295\n",
+        None,
+        0,
+        "returned i32 0\n",
+    ),
+    (
+        "blade interp m/inc start m.wasm --steps 0",
+        b"arg 4294967295\n",
+        None,
+        2,
+        "usage: blade COMMAND ARGUMENTS\n",
+    ),
+    (
+        "blade interp m/inc --steps 7 start m.wasm --steps=7",
+        b"arg 4294967295\n",
+        None,
+        2,
+        "usage: blade COMMAND ARGUMENTS\n",
+    ),
+    (
+        "blade interp m/inc start -- --steps=7",
+        b"arg 4294967295\n",
+        None,
+        3,
+        "read fault: --steps=7\n",
+    ),
+];
+
+/// How many cases of a file of that name beside the start file pass before the first that doesn't.
+pub(super) fn passed(alloc: Global, name: &str, bytes: &[u8], cases: &[Case]) -> Result<u32, Fail> {
+    let mut passed = 0u32;
+    for (line, start, failing, status, text) in cases {
+        let files = [(name, bytes), ("start", *start)];
+        if !ends_on(alloc, &files, *failing, *line, *status, *text)? {
+            break;
+        }
+        passed = passed.wrapping_add(1);
+    }
+    Ok(passed)
 }
 
 #[test]
 fn steps_are_counted_and_given_once(rt: HostRuntime) -> Result<(), Fail> {
-    let usage = "usage: blade COMMAND ARGUMENTS\n";
-    let cases: [(&[&str], u8, &str); 7] = [
-        (&["start", "m.wasm"], 0, "returned i32 0\n"),
-        (&["--steps", "5", "start", "m.wasm"], 0, "returned i32 0\n"),
-        (&["start", "--steps", "4", "m.wasm"], 17, "spent 4\n"),
-        (&["start", "m.wasm", "--steps=7"], 0, "returned i32 0\n"),
-        (&["start", "m.wasm", "--steps", "0"], 2, usage),
-        (&["--steps", "7", "start", "m.wasm", "--steps=7"], 2, usage),
-        (&["start", "--", "--steps=7"], 3, "read fault: --steps=7\n"),
-    ];
-    for (tail, status, text) in cases {
-        let mut words = Vec::new(rt.alloc());
-        words.extend_from_slice(&["blade", "interp", "m/inc"])?;
-        words.extend_from_slice(tail)?;
-        let (answer, out) = call(rt.alloc(), &words, (&ADD_ONE, b"arg 4294967295\n"), None)?;
-        assert_eq!(rt; answer, status);
-        assert_eq!(rt; out.bytes(), text.as_bytes());
-    }
+    assert_eq!(rt; passed(rt.alloc(), "m.wasm", &ADD_ONE, &STEPS)?, 7);
     Ok(())
 }
 
-const ABSENT: [&str; 5] = ["blade", "interp", "m/f", "absent", "absent.wasm"];
+/// What is refused of the module that adds 1.
+static REFUSALS: [Case; 6] = [
+    (
+        "blade interp m/dec start m.wasm",
+        b"arg 1\n",
+        None,
+        15,
+        "start: export\n",
+    ),
+    (
+        "blade interp m/inc start m.wasm",
+        b"",
+        None,
+        15,
+        "start: arguments 0\n",
+    ),
+    (
+        "blade interp m/inc start m.wasm",
+        b"arg 4294967296\n",
+        None,
+        15,
+        "start: line 1\n",
+    ),
+    (
+        "blade interp m/inc start m.wasm",
+        b"arg 1\n",
+        Some(1),
+        3,
+        "read fault: start\n",
+    ),
+    (
+        "blade interp m/inc start m.wasm",
+        b"arg 1\n",
+        Some(2),
+        3,
+        "read fault: m.wasm\n",
+    ),
+    (
+        "blade interp m/f absent absent.wasm",
+        b"",
+        None,
+        3,
+        "read fault: absent\n",
+    ),
+];
+
+/// What is refused of that module cut off, and of the one that loads.
+static CUT: [Case; 1] = [(
+    "blade interp m/inc start m.wasm",
+    b"arg 1\n",
+    None,
+    5,
+    "malformed: m\n",
+)];
+
+static LOADING: [Case; 1] = [(
+    "blade interp m/f start m.wasm",
+    b"",
+    None,
+    15,
+    "start: arguments 0\n",
+)];
+
+/// Whether a start file of 16,777,217 bytes is told so, where that call of the shelf fails.
+fn is_too_long(alloc: Global, failing: Option<u64>, text: &str) -> Result<bool, Fail> {
+    let long = vec![in alloc; b'a'; 16_777_217]?;
+    let files: [(&str, &[u8]); 2] = [("m.wasm", &ADD_ONE), ("start", &long)];
+    ends_on(
+        alloc,
+        &files,
+        failing,
+        "blade interp m/inc start m.wasm",
+        8,
+        text,
+    )
+}
 
 #[test]
 fn exports_and_starts_that_are_refused_and_files_that_are_not_read(
     rt: HostRuntime,
 ) -> Result<(), Fail> {
-    let alloc = rt.alloc();
-    let long = vec![in alloc; b'a'; 16_777_217]?;
-    let cases: [(&str, &[u8], &[u8], Option<u64>, u8, &str); 9] = [
-        ("m/dec", &ADD_ONE, b"arg 1\n", None, 15, "start: export\n"),
-        ("m/inc", &ADD_ONE, b"", None, 15, "start: arguments 0\n"),
-        (
-            "m/inc",
-            &ADD_ONE,
-            b"arg 4294967296\n",
-            None,
-            15,
-            "start: line 1\n",
-        ),
-        ("m/inc", &ADD_ONE, &long, None, 8, "limit: start 16777217\n"),
-        (
-            "m/inc",
-            &ADD_ONE,
-            &long,
-            Some(2),
-            8,
-            "limit: start 16777217\n",
-        ),
-        (
-            "m/inc",
-            &ADD_ONE[..39],
-            b"arg 1\n",
-            None,
-            5,
-            "malformed: m\n",
-        ),
-        ("m/f", &LOADS, b"", None, 15, "start: arguments 0\n"),
-        (
-            "m/inc",
-            &ADD_ONE,
-            b"arg 1\n",
-            Some(1),
-            3,
-            "read fault: start\n",
-        ),
-        (
-            "m/inc",
-            &ADD_ONE,
-            b"arg 1\n",
-            Some(2),
-            3,
-            "read fault: m.wasm\n",
-        ),
-    ];
-    for (export, wasm, start, failing, status, text) in cases {
-        let words = ["blade", "interp", export, "start", "m.wasm"];
-        let (answer, out) = call(alloc, &words, (wasm, start), failing)?;
-        assert_eq!(rt; answer, status);
-        assert_eq!(rt; out.bytes(), text.as_bytes());
-    }
-    let (answer, out) = call(alloc, &ABSENT, (&ADD_ONE, b""), None)?;
-    assert_eq!(rt; answer, 3);
-    assert_eq!(rt; out.bytes(), b"read fault: absent\n".as_slice());
+    assert_eq!(rt; passed(rt.alloc(), "m.wasm", &ADD_ONE, &REFUSALS)?, 6);
+    assert_eq!(rt; passed(rt.alloc(), "m.wasm", &ADD_ONE[..39], &CUT)?, 1);
+    assert_eq!(rt; passed(rt.alloc(), "m.wasm", &LOADS, &LOADING)?, 1);
+    assert!(rt; is_too_long(rt.alloc(), None, "limit: start 16777217\n")?);
+    assert!(rt; is_too_long(rt.alloc(), Some(2), "limit: start 16777217\n")?);
     Ok(())
 }

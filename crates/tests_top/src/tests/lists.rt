@@ -1,6 +1,6 @@
 //! Lists of modules that import from one another, and modules with memories and tables. What node gives of them is printed by lists.js.
-use super::lower::say;
-use super::{ADD_ONE, module_of};
+use super::ADD_ONE;
+use super::calls::{Run, alike, ends, module_of, say, shelf_with, stands, status_of};
 use bl_base::List;
 use bl_outside::MemoryShelf;
 use std::alloc::Global;
@@ -48,34 +48,26 @@ fn shelf_of(alloc: Global, modules: &[(&str, &[u8])], start: &str) -> Result<Mem
     Ok(shelf)
 }
 
+/// Whether the three modules run to that text, interpreted and lowered.
+fn is_chained(alloc: Global, start: &str, text: &str) -> Result<bool, Fail> {
+    let modules: [(&str, &[u8]); 3] = [("a.wasm", &BASE), ("b.wasm", &MIDDLE), ("d/c", &LAST)];
+    let mut shelf = shelf_of(alloc, &modules, start)?;
+    let line = "blade interp c/f start a.wasm b.wasm d/c";
+    Ok(
+        ends(alloc, &mut shelf, line, 0, text)?
+            && status_of(alloc, &mut shelf, "blade lower i.img a.wasm b.wasm d/c")? == 0
+            && ends(alloc, &mut shelf, "blade run i.img c/f start", 0, text)?,
+    )
+}
+
 #[test]
 fn three_modules_in_a_chain_run_alike_interpreted_and_lowered(rt: HostRuntime) -> Result<(), Fail> {
-    let alloc = rt.alloc();
-    let cases = [
-        (
-            "arg 7\n",
-            "returned i32 2922\nmemory 0 pages 2\nrow 0 65552 570b0000000000000000000000000000\n",
-        ),
-        (
-            "arg 4294967295\n",
-            "returned i32 2842\nmemory 0 pages 2\nrow 0 65552 170b0000000000000000000000000000\n",
-        ),
-    ];
-    for (start, text) in cases {
-        let modules: [(&str, &[u8]); 3] = [("a.wasm", &BASE), ("b.wasm", &MIDDLE), ("d/c", &LAST)];
-        let mut shelf = shelf_of(alloc, &modules, start)?;
-        let (status, out) = say(
-            alloc,
-            &mut shelf,
-            "blade interp c/f start a.wasm b.wasm d/c",
-        )?;
-        assert_eq!(rt; status, 0);
-        assert_eq!(rt; out.bytes(), text.as_bytes());
-        let (lowered, _line) = say(alloc, &mut shelf, "blade lower i.img a.wasm b.wasm d/c")?;
-        let (ran, out) = say(alloc, &mut shelf, "blade run i.img c/f start")?;
-        assert_eq!(rt; (lowered, ran), (0, 0));
-        assert_eq!(rt; out.bytes(), text.as_bytes());
-    }
+    let text =
+        "returned i32 2922\nmemory 0 pages 2\nrow 0 65552 570b0000000000000000000000000000\n";
+    assert!(rt; is_chained(rt.alloc(), "arg 7\n", text)?);
+    let text =
+        "returned i32 2842\nmemory 0 pages 2\nrow 0 65552 170b0000000000000000000000000000\n";
+    assert!(rt; is_chained(rt.alloc(), "arg 4294967295\n", text)?);
     Ok(())
 }
 
@@ -123,64 +115,65 @@ const FAR: [u8; 42] = [
     0x02, 0xFF, 0xFF, 0xFF, 0xFF, 0x0F, 0x28, 0x02, 0x00, 0x0B,
 ];
 
+static RUNS: [Run; 10] = [
+    (
+        &FAR,
+        "arg 1\n",
+        16,
+        "trapped out of bounds memory access\nmemory 0 pages 1\n",
+    ),
+    (&GROWTH, "arg 0\n", 0, "returned i32 1\nmemory 0 pages 1\n"),
+    (&GROWTH, "arg 1\n", 0, "returned i32 1\nmemory 0 pages 2\n"),
+    (
+        &GROWTH,
+        "arg 2\n",
+        0,
+        "returned i32 4294967295\nmemory 0 pages 1\n",
+    ),
+    (
+        &STORING,
+        "arg 1\n",
+        0,
+        "returned i32 1\nmemory 0 pages 2\nrow 0 65536 01000000000000000000000000000000\n",
+    ),
+    (
+        &STORING,
+        "arg 2\n",
+        16,
+        "trapped out of bounds memory access\nmemory 0 pages 1\n",
+    ),
+    (&SLOTS, "arg 2\n", 0, "returned i32 9\n"),
+    (&SLOTS, "arg 1\n", 16, "trapped uninitialized element\n"),
+    (
+        &SLOTS,
+        "arg 0\n",
+        16,
+        "trapped indirect call type mismatch\n",
+    ),
+    (&SLOTS, "arg 3\n", 16, "trapped undefined element\n"),
+];
+
 #[test]
 fn modules_with_memories_and_tables_run_alike_interpreted_and_lowered(
     rt: HostRuntime,
 ) -> Result<(), Fail> {
-    let alloc = rt.alloc();
-    let outside = "trapped out of bounds memory access\nmemory 0 pages 1\n";
-    let cases: [(&[u8], &str, u8, &str); 10] = [
-        (&FAR, "arg 1\n", 16, outside),
-        (&GROWTH, "arg 0\n", 0, "returned i32 1\nmemory 0 pages 1\n"),
-        (&GROWTH, "arg 1\n", 0, "returned i32 1\nmemory 0 pages 2\n"),
-        (
-            &GROWTH,
-            "arg 2\n",
-            0,
-            "returned i32 4294967295\nmemory 0 pages 1\n",
-        ),
-        (
-            &STORING,
-            "arg 1\n",
-            0,
-            "returned i32 1\nmemory 0 pages 2\nrow 0 65536 01000000000000000000000000000000\n",
-        ),
-        (&STORING, "arg 2\n", 16, outside),
-        (&SLOTS, "arg 2\n", 0, "returned i32 9\n"),
-        (&SLOTS, "arg 1\n", 16, "trapped uninitialized element\n"),
-        (
-            &SLOTS,
-            "arg 0\n",
-            16,
-            "trapped indirect call type mismatch\n",
-        ),
-        (&SLOTS, "arg 3\n", 16, "trapped undefined element\n"),
-    ];
-    for (sections, start, status, text) in cases {
-        let mut shelf = shelf_of(alloc, &[("m.wasm", sections)], start)?;
-        let (interpreted, out) = say(alloc, &mut shelf, "blade interp m/f start m.wasm")?;
-        assert_eq!(rt; interpreted, status);
-        assert_eq!(rt; out.bytes(), text.as_bytes());
-        let (lowered, _line) = say(alloc, &mut shelf, "blade lower i.img m.wasm")?;
-        let (ran, out) = say(alloc, &mut shelf, "blade run i.img m/f start")?;
-        assert_eq!(rt; (lowered, ran), (0, status));
-        assert_eq!(rt; out.bytes(), text.as_bytes());
-    }
+    assert_eq!(rt; alike(rt.alloc(), &RUNS)?, 10);
     Ok(())
+}
+
+/// Whether the module of a C compiler is lowered with that line, and its image runs to that text.
+fn sums(alloc: Global, start: &str, line: &str, text: &str) -> Result<bool, Fail> {
+    let mut shelf = shelf_with(alloc, &SUM, start)?;
+    Ok(
+        ends(alloc, &mut shelf, "blade lower i.img m.wasm", 0, line)?
+            && ends(alloc, &mut shelf, "blade run i.img m/sum start", 0, text)?,
+    )
 }
 
 #[test]
 fn a_module_of_a_c_compiler_sums_words(rt: HostRuntime) -> Result<(), Fail> {
-    let alloc = rt.alloc();
-    let mut shelf = shelf_of(alloc, &[("m.wasm", &SUM)], "arg 1024\narg 3\n")?;
-    let (lowered, line) = say(alloc, &mut shelf, "blade lower i.img m.wasm")?;
-    let (ran, out) = say(alloc, &mut shelf, "blade run i.img m/sum start")?;
-    assert_eq!(rt; (lowered, ran), (0, 0));
-    assert_eq!(rt; line.bytes(), b"commands 37\n".as_slice());
-    assert_eq!(rt;
-        out.bytes(),
-        b"returned i32 6\nmemory 0 pages 2\n".as_slice()
-    );
+    let text = "returned i32 6\nmemory 0 pages 2\n";
+    assert!(rt; sums(rt.alloc(), "arg 1024\narg 3\n", "commands 37\n", text)?);
     Ok(())
 }
 
@@ -194,16 +187,18 @@ const BYTES: [u8; 39] = [
 /// A memory of one page alone.
 const PAGE: [u8; 6] = [0x05, 0x04, 0x01, 0x01, 0x01, 0x01];
 
+/// Whether those two modules, with memories of their own, end so.
+fn ends_apart(alloc: Global, start: &str, status: u8, text: &str) -> Result<bool, Fail> {
+    let modules: [(&str, &[u8]); 2] = [("main.wasm", &BYTES), ("vault.wasm", &PAGE)];
+    let mut shelf = shelf_of(alloc, &modules, start)?;
+    let line = "blade interp main/f start main.wasm vault.wasm";
+    ends(alloc, &mut shelf, line, status, text)
+}
+
 #[test]
 fn each_module_has_its_own_memory(rt: HostRuntime) -> Result<(), Fail> {
-    let alloc = rt.alloc();
-    let modules: [(&str, &[u8]); 2] = [("main.wasm", &BYTES), ("vault.wasm", &PAGE)];
-    let mut shelf = shelf_of(alloc, &modules, "arg 65536\nmemory 1 0 05\n")?;
-    let line = "blade interp main/f start main.wasm vault.wasm";
-    let (status, out) = say(alloc, &mut shelf, line)?;
-    assert_eq!(rt; status, 16);
     let text = "trapped out of bounds memory access\nmemory 0 pages 1\nmemory 1 pages 1\n";
-    assert_eq!(rt; out.bytes(), text.as_bytes());
+    assert!(rt; ends_apart(rt.alloc(), "arg 65536\nmemory 1 0 05\n", 16, text)?);
     Ok(())
 }
 
@@ -238,28 +233,51 @@ const HOST: [u8; 22] = [
     0x72, 0x69, 0x6E, 0x74, 0x00, 0x00,
 ];
 
+/// Sections of a module behind `a`, and the text.
+static UNLINKED: [(&[u8], &str); 5] = [
+    (&UNKNOWN, "link: m import 1 unknown\n"),
+    (&MISMATCHED, "link: m import 0 mismatch\n"),
+    (&ELEMENT, "link: m element\n"),
+    (&DATA, "link: m data\n"),
+    (&HOST, "link: m import 0 unknown\n"),
+];
+
+/// Whether the module is named so, interpreted and lowered, and no image is kept.
+fn is_unlinked(alloc: Global, sections: &[u8], text: &str) -> Result<bool, Fail> {
+    let modules: [(&str, &[u8]); 2] = [("a.wasm", &BASE), ("m.wasm", sections)];
+    let mut shelf = shelf_of(alloc, &modules, "")?;
+    Ok(
+        ends(
+            alloc,
+            &mut shelf,
+            "blade interp a/d start a.wasm m.wasm",
+            9,
+            text,
+        )? && ends(
+            alloc,
+            &mut shelf,
+            "blade lower i.img a.wasm m.wasm",
+            9,
+            text,
+        )? && !stands(&shelf, "i.img"),
+    )
+}
+
+/// How many modules pass before the first that doesn't.
+fn unlinked(alloc: Global) -> Result<u32, Fail> {
+    let mut passed = 0u32;
+    for (sections, text) in &UNLINKED {
+        if !is_unlinked(alloc, *sections, *text)? {
+            break;
+        }
+        passed = passed.wrapping_add(1);
+    }
+    Ok(passed)
+}
+
 #[test]
 fn modules_that_are_not_linked_are_named_with_the_reason(rt: HostRuntime) -> Result<(), Fail> {
-    let alloc = rt.alloc();
-    let cases: [(&[u8], &str); 5] = [
-        (&UNKNOWN, "link: m import 1 unknown\n"),
-        (&MISMATCHED, "link: m import 0 mismatch\n"),
-        (&ELEMENT, "link: m element\n"),
-        (&DATA, "link: m data\n"),
-        (&HOST, "link: m import 0 unknown\n"),
-    ];
-    for (sections, text) in cases {
-        let mut shelf = shelf_of(alloc, &[("a.wasm", &BASE), ("m.wasm", sections)], "")?;
-        for line in [
-            "blade interp a/d start a.wasm m.wasm",
-            "blade lower i.img a.wasm m.wasm",
-        ] {
-            let (status, out) = say(alloc, &mut shelf, line)?;
-            assert_eq!(rt; status, 9);
-            assert_eq!(rt; out.bytes(), text.as_bytes());
-        }
-        assert!(rt; shelf.entry("i.img").is_none());
-    }
+    assert_eq!(rt; unlinked(rt.alloc())?, 5);
     Ok(())
 }
 
@@ -270,51 +288,77 @@ const TWICE: [u8; 44] = [
     0x0A, 0x0A, 0x01, 0x08, 0x00, 0x20, 0x00, 0x10, 0x00, 0x10, 0x00, 0x0B,
 ];
 
+/// Whether a call ends with status 0, and what it prints begins so.
+fn begins(alloc: Global, shelf: &mut MemoryShelf, line: &str, head: &[u8]) -> Result<bool, Fail> {
+    let (status, out) = say(alloc, shelf, line)?;
+    Ok(status == 0 && out.bytes().starts_with(head))
+}
+
+/// Whether the module that calls that of `inc` is hardened with it, and then runs to that text.
+fn is_hardened(alloc: Global, line: &str, head: &[u8], text: &str) -> Result<bool, Fail> {
+    let mut shelf = shelf_with(alloc, &TWICE, "arg 40\n")?;
+    shelf.put("inc.wasm", &ADD_ONE)?;
+    Ok(
+        begins(alloc, &mut shelf, line, head)?
+            && ends(alloc, &mut shelf, "blade run i.img m/f start", 0, text)?,
+    )
+}
+
+/// Whether modules that can't be linked are refused so, and no image is kept.
+fn is_refused(alloc: Global, line: &str, text: &str) -> Result<bool, Fail> {
+    let modules: [(&str, &[u8]); 2] = [("a.wasm", &BASE), ("b.wasm", &HOST)];
+    let mut shelf = shelf_of(alloc, &modules, "")?;
+    let refused = ends(alloc, &mut shelf, line, 9, text)?;
+    Ok(refused && !stands(&shelf, "j.img"))
+}
+
 #[test]
 fn harden_takes_modules_that_can_be_linked(rt: HostRuntime) -> Result<(), Fail> {
-    let alloc = rt.alloc();
-    let modules: [(&str, &[u8]); 3] = [("m.wasm", &TWICE), ("a.wasm", &BASE), ("b.wasm", &HOST)];
-    let mut shelf = shelf_of(alloc, &modules, "arg 40\n")?;
-    shelf.put("inc.wasm", &ADD_ONE)?;
-    let (hardened, report) = say(
-        alloc,
-        &mut shelf,
-        "blade harden i.img i.json inc.wasm m.wasm",
-    )?;
-    let (ran, out) = say(alloc, &mut shelf, "blade run i.img m/f start")?;
-    assert_eq!(rt; (hardened, ran), (0, 0));
-    assert!(rt; report.bytes().starts_with(b"functions 2\n"));
-    assert_eq!(rt; out.bytes(), b"returned i32 42\n".as_slice());
-    let (status, out) = say(alloc, &mut shelf, "blade harden j.img j.json a.wasm b.wasm")?;
-    assert_eq!(rt; status, 9);
-    assert_eq!(rt; out.bytes(), b"link: b import 0 unknown\n".as_slice());
-    assert!(rt; shelf.entry("j.img").is_none());
+    let line = "blade harden i.img i.json inc.wasm m.wasm";
+    assert!(rt; is_hardened(rt.alloc(), line, b"functions 2\n", "returned i32 42\n")?);
+    let line = "blade harden j.img j.json a.wasm b.wasm";
+    assert!(rt; is_refused(rt.alloc(), line, "link: b import 0 unknown\n")?);
     Ok(())
+}
+
+/// A line, the status and the text.
+static COUNTED: [(&str, u8, &str); 6] = [
+    ("blade lower i a b c d e f g h i", 8, "limit: modules 9\n"),
+    (
+        "blade interp a/f s a b c d e f g h i j",
+        8,
+        "limit: modules 10\n",
+    ),
+    (
+        "blade harden i c a b a.wasm",
+        2,
+        "usage: blade COMMAND ARGUMENTS\n",
+    ),
+    (
+        "blade lower i a b c d e f g h d/h",
+        2,
+        "usage: blade COMMAND ARGUMENTS\n",
+    ),
+    ("blade lower i a b c d e f g h", 3, "read fault: a\n"),
+    ("blade interp a/f start a b", 3, "read fault: a\n"),
+];
+
+/// How many lines pass, where none of their modules stands on the shelf, before the first that doesn't.
+fn counted(alloc: Global) -> Result<u32, Fail> {
+    let mut passed = 0u32;
+    for (line, status, text) in &COUNTED {
+        if !ends(alloc, &mut shelf_of(alloc, &[], "")?, *line, *status, *text)? {
+            break;
+        }
+        passed = passed.wrapping_add(1);
+    }
+    Ok(passed)
 }
 
 #[test]
 fn nine_modules_are_too_many_and_two_of_one_name_are_no_request(
     rt: HostRuntime,
 ) -> Result<(), Fail> {
-    let alloc = rt.alloc();
-    let usage = "usage: blade COMMAND ARGUMENTS\n";
-    let cases = [
-        ("blade lower i a b c d e f g h i", 8, "limit: modules 9\n"),
-        (
-            "blade interp a/f s a b c d e f g h i j",
-            8,
-            "limit: modules 10\n",
-        ),
-        ("blade harden i c a b a.wasm", 2, usage),
-        ("blade lower i a b c d e f g h d/h", 2, usage),
-        ("blade lower i a b c d e f g h", 3, "read fault: a\n"),
-        ("blade interp a/f start a b", 3, "read fault: a\n"),
-    ];
-    for (line, status, text) in cases {
-        let mut shelf = shelf_of(alloc, &[], "")?;
-        let (answer, out) = say(alloc, &mut shelf, line)?;
-        assert_eq!(rt; answer, status);
-        assert_eq!(rt; out.bytes(), text.as_bytes());
-    }
+    assert_eq!(rt; counted(rt.alloc())?, 6);
     Ok(())
 }

@@ -1,102 +1,50 @@
 //! Modules that are lowered and hardened: what is printed of them and written, and that their images run as they do.
-use super::blocks::{LOOP_OF_A_TYPE, SWAP, of_one};
-use super::interp::{COUNT_DOWN, UNREACHABLE, UNTYPED, of_two};
-use super::{ADD_ONE, EMPTY, EMPTY_IMAGE, IMAGE, module_of};
-use bl_app::blade;
-use bl_base::List;
-use bl_outside::{MemoryShelf, MemorySink};
+use super::blocks::{I32_EXTEND8, LOOP_OF_A_TYPE, SWAP};
+use super::calls::{
+    EMPTY, INTERP, LOWER, RUN, Run, alike, ends, holds, module_of, say, shelf_of, shelf_with,
+    stands, status_of,
+};
+use super::interp::{COUNT_DOWN, DIVISION, REMAINDER, UNREACHABLE, UNTYPED};
+use super::{ADD_ONE, EMPTY_IMAGE, IMAGE};
+use bl_outside::MemoryShelf;
 use std::alloc::Global;
 use std::test::Fail;
 
-/// A shelf with a module and a start file.
-fn shelf_of(alloc: Global, module: &[u8], start: &[u8]) -> Result<MemoryShelf, Fail> {
-    let mut shelf = MemoryShelf::new(alloc, List::new(alloc));
-    shelf.put("m.wasm", module)?;
-    shelf.put("start", start)?;
-    Ok(shelf)
-}
-
-/// Calls `blade` with the words of a line, and answers its status and what it printed.
-pub(super) fn say(
-    alloc: Global,
-    shelf: &mut MemoryShelf,
-    line: &str,
-) -> Result<(u8, MemorySink), Fail> {
-    let mut out = MemorySink::new(alloc, None);
-    out.reserve(200)?;
-    let mut words = Vec::new(alloc);
-    for word in line.split(' ') {
-        words.push(String::from_str(alloc, word)?)?;
-    }
-    let status = blade(alloc, words.as_slice(), shelf, &mut out);
-    Ok((status, out))
-}
-
-/// What the commands answer of a module: their statuses, and what they printed.
-#[derive(Drop)]
-struct Told {
-    lowered: (u8, MemorySink),
-    ran: (u8, MemorySink),
-    interpreted: (u8, MemorySink),
-}
-
-/// Lowers a module, and runs its function `f` from a start file, by its image and by itself.
-fn answers(alloc: Global, module: &[u8], start: &[u8]) -> Result<Told, Fail> {
-    let mut shelf = shelf_of(alloc, module, start)?;
-    Ok(Told {
-        lowered: say(alloc, &mut shelf, LOWER)?,
-        ran: say(alloc, &mut shelf, RUN)?,
-        interpreted: say(alloc, &mut shelf, INTERP)?,
-    })
-}
-
-const LOWER: &str = "blade lower i.img m.wasm";
-
-const HARDEN: &str = "blade harden i.img i.json m.wasm";
-
-const RUN: &str = "blade run i.img m/f start";
-
-const INTERP: &str = "blade interp m/f start m.wasm";
+static RUNS: [Run; 9] = [
+    (
+        &DIVISION,
+        "arg 2147483648\narg 4294967295\n",
+        16,
+        "trapped integer overflow\n",
+    ),
+    (
+        &DIVISION,
+        "arg 1\narg 0\n",
+        16,
+        "trapped integer divide by zero\n",
+    ),
+    (
+        &REMAINDER,
+        "arg 2147483648\narg 4294967295\n",
+        0,
+        "returned i32 0\n",
+    ),
+    (&COUNT_DOWN, "arg 1023\n", 0, "returned i32 7\n"),
+    (
+        &COUNT_DOWN,
+        "arg 1024\n",
+        16,
+        "trapped call stack exhausted\n",
+    ),
+    (&UNREACHABLE, "", 16, "trapped unreachable\n"),
+    (&I32_EXTEND8, "arg 200\n", 0, "returned i32 4294967240\n"),
+    (&SWAP, "arg 3\narg 4\n", 0, "returned i32 4 i32 3\n"),
+    (&LOOP_OF_A_TYPE, "arg 3\n", 0, "returned i32 0\n"),
+];
 
 #[test]
 fn images_run_as_their_modules_do(rt: HostRuntime) -> Result<(), Fail> {
-    let alloc = rt.alloc();
-    let overflow = "arg 2147483648\narg 4294967295\n";
-    let cases: [(&[u8], &str, u8, &str); 9] = [
-        (&of_two(0x6D), overflow, 16, "trapped integer overflow\n"),
-        (
-            &of_two(0x6D),
-            "arg 1\narg 0\n",
-            16,
-            "trapped integer divide by zero\n",
-        ),
-        (&of_two(0x6F), overflow, 0, "returned i32 0\n"),
-        (&COUNT_DOWN, "arg 1023\n", 0, "returned i32 7\n"),
-        (
-            &COUNT_DOWN,
-            "arg 1024\n",
-            16,
-            "trapped call stack exhausted\n",
-        ),
-        (&UNREACHABLE, "", 16, "trapped unreachable\n"),
-        (
-            &of_one(0x7F, 0xC0),
-            "arg 200\n",
-            0,
-            "returned i32 4294967240\n",
-        ),
-        (&SWAP, "arg 3\narg 4\n", 0, "returned i32 4 i32 3\n"),
-        (&LOOP_OF_A_TYPE, "arg 3\n", 0, "returned i32 0\n"),
-    ];
-    for (sections, start, status, text) in cases {
-        let bytes = module_of(alloc, sections)?;
-        let answers = answers(alloc, &bytes, start.as_bytes())?;
-        assert_eq!(rt; answers.lowered.0, 0);
-        assert_eq!(rt; answers.ran.0, status);
-        assert_eq!(rt; answers.ran.1.bytes(), text.as_bytes());
-        assert_eq!(rt; answers.interpreted.0, status);
-        assert_eq!(rt; answers.interpreted.1.bytes(), text.as_bytes());
-    }
+    assert_eq!(rt; alike(rt.alloc(), &RUNS)?, 9);
     Ok(())
 }
 
@@ -111,59 +59,75 @@ const LOOP_IMAGE: [u8; 94] = [
     0x00, 0x01, 0x00, 0x04, 0x00, 0x06, 0x04, 0x14, 0x07, 0x00, 0x00, 0x00, 0x04, 0x08,
 ];
 
+/// Whether the module of some sections is lowered to that image, without a certificate.
+fn is_lowered(alloc: Global, sections: &[u8], image: &[u8]) -> Result<bool, Fail> {
+    let mut shelf = shelf_with(alloc, sections, "")?;
+    let status = status_of(alloc, &mut shelf, LOWER)?;
+    Ok(status == 0 && holds(&shelf, "i.img", image) && !stands(&shelf, "i.json"))
+}
+
+/// Whether the module that adds 1 is lowered so, where another one stands beside it.
+fn is_lowered_alone(alloc: Global, line: &str, text: &str, image: &[u8]) -> Result<bool, Fail> {
+    let mut shelf = shelf_of(alloc, &[("m.wasm", &EMPTY), ("inc.wasm", &ADD_ONE)])?;
+    let lowered = ends(alloc, &mut shelf, line, 0, text)?;
+    Ok(lowered && holds(&shelf, "inc.img", image))
+}
+
 #[test]
 fn images_of_a_loop_and_of_no_function(rt: HostRuntime) -> Result<(), Fail> {
-    let alloc = rt.alloc();
-    let loops = module_of(alloc, &LOOP_OF_A_TYPE)?;
-    let cases: [(&[u8], &[u8]); 2] = [(&loops, &LOOP_IMAGE), (&EMPTY, &EMPTY_IMAGE)];
-    for (bytes, image) in cases {
-        let mut shelf = shelf_of(alloc, bytes, b"")?;
-        let (status, _) = say(alloc, &mut shelf, LOWER)?;
-        assert_eq!(rt; status, 0);
-        assert_eq!(rt; shelf.entry("i.img").unwrap_or(b""), image);
-        assert!(rt; shelf.entry("i.json").is_none());
-    }
-    let mut shelf = shelf_of(alloc, &EMPTY, b"")?;
-    shelf.put("inc.wasm", &ADD_ONE)?;
-    let (status, out) = say(alloc, &mut shelf, "blade lower -- inc.img inc.wasm")?;
-    assert_eq!(rt; status, 0);
-    assert_eq!(rt; out.bytes(), b"commands 13\n".as_slice());
-    assert_eq!(rt; shelf.entry("inc.img").unwrap_or(b""), IMAGE.as_slice());
+    assert!(rt; is_lowered(rt.alloc(), &LOOP_OF_A_TYPE, &LOOP_IMAGE)?);
+    assert!(rt; is_lowered(rt.alloc(), b"", &EMPTY_IMAGE)?);
+    let line = "blade lower -- inc.img inc.wasm";
+    assert!(rt; is_lowered_alone(rt.alloc(), line, "commands 13\n", &IMAGE)?);
     Ok(())
+}
+
+/// Sections of a module, the line that `lower` prints and the report.
+static COUNTS: [(&[u8], &str, &str); 4] = [
+    (
+        b"",
+        "commands 7\n",
+        "functions 0\ncommands 7\nsites 0\nprotects 0 weight 0\nconstant-time yes\n",
+    ),
+    (
+        &I32_EXTEND8,
+        "commands 12\n",
+        "functions 1\ncommands 12\nsites 3\nprotects 0 weight 0\nconstant-time yes\n",
+    ),
+    (
+        &SWAP,
+        "commands 13\n",
+        "functions 1\ncommands 13\nsites 4\nprotects 0 weight 0\nconstant-time yes\n",
+    ),
+    (
+        &LOOP_OF_A_TYPE,
+        "commands 22\n",
+        "functions 1\ncommands 22\nsites 9\nprotects 0 weight 0\nconstant-time yes\n",
+    ),
+];
+
+/// Whether `lower` and `harden` count so.
+fn is_counted(alloc: Global, sections: &[u8], line: &str, report: &str) -> Result<bool, Fail> {
+    let mut shelf = shelf_with(alloc, sections, "")?;
+    let harden = "blade harden i.img i.json m.wasm";
+    Ok(ends(alloc, &mut shelf, LOWER, 0, line)? && ends(alloc, &mut shelf, harden, 0, report)?)
+}
+
+/// How many modules pass before the first that doesn't.
+fn counted(alloc: Global) -> Result<u32, Fail> {
+    let mut passed = 0u32;
+    for (sections, line, report) in &COUNTS {
+        if !is_counted(alloc, *sections, *line, *report)? {
+            break;
+        }
+        passed = passed.wrapping_add(1);
+    }
+    Ok(passed)
 }
 
 #[test]
 fn commands_and_sites_are_counted(rt: HostRuntime) -> Result<(), Fail> {
-    let alloc = rt.alloc();
-    let none = "protects 0 weight 0\nconstant-time yes\n";
-    let cases: [(&[u8], &str, &str); 4] = [
-        (&[], "commands 7\n", "functions 0\ncommands 7\nsites 0\n"),
-        (
-            &of_one(0x7F, 0xC0),
-            "commands 12\n",
-            "functions 1\ncommands 12\nsites 3\n",
-        ),
-        (
-            &SWAP,
-            "commands 13\n",
-            "functions 1\ncommands 13\nsites 4\n",
-        ),
-        (
-            &LOOP_OF_A_TYPE,
-            "commands 22\n",
-            "functions 1\ncommands 22\nsites 9\n",
-        ),
-    ];
-    for (sections, line, counts) in cases {
-        let bytes = module_of(alloc, sections)?;
-        let mut shelf = shelf_of(alloc, &bytes, b"")?;
-        let (lowered, out) = say(alloc, &mut shelf, LOWER)?;
-        let (hardened, report) = say(alloc, &mut shelf, HARDEN)?;
-        assert_eq!(rt; (lowered, hardened), (0, 0));
-        assert_eq!(rt; out.bytes(), line.as_bytes());
-        let counted = report.bytes().strip_suffix(none.as_bytes());
-        assert_eq!(rt; counted.unwrap_or(b""), counts.as_bytes());
-    }
+    assert_eq!(rt; counted(rt.alloc())?, 4);
     Ok(())
 }
 
@@ -183,45 +147,84 @@ fn nops(alloc: Global, count: usize, section: u8, body: u8) -> Result<Vec<u8>, F
     Ok(bytes)
 }
 
+/// Whether a call on a module ends so, and an image is kept where the status is 0.
+fn is_told(alloc: Global, module: &[u8], line: &str, status: u8, text: &str) -> Result<bool, Fail> {
+    let mut shelf = shelf_of(alloc, &[("m.wasm", module), ("start", b"")])?;
+    let told = ends(alloc, &mut shelf, line, status, text)?;
+    Ok(told && stands(&shelf, "i.img") == (status == 0))
+}
+
+/// The number of nops and what `nops` asks for besides, the status and the text.
+static MANY: [(usize, u8, u8, u8, &str); 2] = [
+    (1_048_567, 0xFD, 0xF9, 0, "commands 1048576\n"),
+    (1_048_568, 0xFE, 0xFA, 8, "limit: commands 1048577\n"),
+];
+
+/// How many of those pass before the first that doesn't.
+fn many(alloc: Global) -> Result<u32, Fail> {
+    let mut passed = 0u32;
+    for (count, section, body, status, text) in &MANY {
+        let module = nops(alloc, *count, *section, *body)?;
+        if !is_told(alloc, &module, LOWER, *status, *text)? {
+            break;
+        }
+        passed = passed.wrapping_add(1);
+    }
+    Ok(passed)
+}
+
 #[test]
 fn a_program_has_at_most_1048576_commands(rt: HostRuntime) -> Result<(), Fail> {
-    let alloc = rt.alloc();
-    let cases = [
-        (1_048_567, 0xFD, 0xF9, 0, "commands 1048576\n"),
-        (1_048_568, 0xFE, 0xFA, 8, "limit: commands 1048577\n"),
-    ];
-    for (count, section, body, status, text) in cases {
-        let bytes = nops(alloc, count, section, body)?;
-        let mut shelf = shelf_of(alloc, &bytes, b"")?;
-        let (answer, out) = say(alloc, &mut shelf, LOWER)?;
-        assert_eq!(rt; answer, status);
-        assert_eq!(rt; out.bytes(), text.as_bytes());
-        assert_eq!(rt; shelf.entry("i.img").is_some(), status == 0);
-    }
+    assert_eq!(rt; many(rt.alloc())?, 2);
     Ok(())
+}
+
+/// A line, sections of the module, the status and the text.
+static REFUSED: [(&str, &[u8], u8, &str); 5] = [
+    (LOWER, &UNTYPED, 6, "invalid: m function 0\n"),
+    (
+        LOWER,
+        b"\x00\x0D\x0Cblade.labels",
+        10,
+        "labels: m malformed\n",
+    ),
+    (
+        "blade lower i.img",
+        b"",
+        2,
+        "usage: blade COMMAND ARGUMENTS\n",
+    ),
+    (
+        "blade lower i.img m.wasm m.wasm",
+        b"",
+        2,
+        "usage: blade COMMAND ARGUMENTS\n",
+    ),
+    (
+        "blade lower i.img m.wasm --steps 7",
+        b"",
+        2,
+        "usage: blade COMMAND ARGUMENTS\n",
+    ),
+];
+
+/// How many of those pass before the first that doesn't.
+fn refused(alloc: Global) -> Result<u32, Fail> {
+    let mut passed = 0u32;
+    for (line, sections, status, text) in &REFUSED {
+        let module = module_of(alloc, *sections)?;
+        if !is_told(alloc, &module, *line, *status, *text)? {
+            break;
+        }
+        passed = passed.wrapping_add(1);
+    }
+    Ok(passed)
 }
 
 #[test]
 fn lowering_is_refused_as_running_is(rt: HostRuntime) -> Result<(), Fail> {
-    let alloc = rt.alloc();
-    let usage = "usage: blade COMMAND ARGUMENTS\n";
-    let untyped = module_of(alloc, &UNTYPED)?;
-    let labelled = module_of(alloc, b"\x00\x0D\x0Cblade.labels")?;
-    let cases: [(&str, &[u8], u8, &str); 6] = [
-        (LOWER, &untyped, 6, "invalid: m function 0\n"),
-        (LOWER, &ADD_ONE[..39], 5, "malformed: m\n"),
-        (LOWER, &labelled, 10, "labels: m malformed\n"),
-        ("blade lower i.img", &EMPTY, 2, usage),
-        ("blade lower i.img m.wasm m.wasm", &EMPTY, 2, usage),
-        ("blade lower i.img m.wasm --steps 7", &EMPTY, 2, usage),
-    ];
-    for (line, bytes, status, text) in cases {
-        let mut shelf = shelf_of(alloc, bytes, b"")?;
-        let (answer, out) = say(alloc, &mut shelf, line)?;
-        assert_eq!(rt; answer, status);
-        assert_eq!(rt; out.bytes(), text.as_bytes());
-        assert!(rt; shelf.entry("i.img").is_none());
-    }
+    assert_eq!(rt; refused(rt.alloc())?, 5);
+    assert!(rt; is_told(rt.alloc(), &ADD_ONE[..39], LOWER, 5, "malformed: m\n")?);
     Ok(())
 }
 
@@ -265,6 +268,13 @@ fn of_operator(
     Ok(bytes)
 }
 
+/// Whether a lowered module runs by its image and by itself to the same text.
+fn run_alike(alloc: Global, shelf: &mut MemoryShelf) -> Result<bool, Fail> {
+    let (ran, out) = say(alloc, shelf, RUN)?;
+    let (interpreted, other) = say(alloc, shelf, INTERP)?;
+    Ok(ran == 0 && interpreted == 0 && out.bytes() == other.bytes())
+}
+
 /// Whether an operator gives the same by an image and by the module itself, from those arguments.
 fn is_alike(alloc: Global, operator: u8, kind: u8, two: bool, given: u8) -> Result<bool, Fail> {
     let start = if two {
@@ -272,10 +282,9 @@ fn is_alike(alloc: Global, operator: u8, kind: u8, two: bool, given: u8) -> Resu
     } else {
         "arg 2147483653\n"
     };
-    let bytes = of_operator(alloc, operator, kind, two, given)?;
-    let answers = answers(alloc, &bytes, start.as_bytes())?;
-    let done = answers.lowered.0 == 0 && answers.ran.0 == 0 && answers.interpreted.0 == 0;
-    Ok(done && answers.ran.1.bytes() == answers.interpreted.1.bytes())
+    let module = of_operator(alloc, operator, kind, two, given)?;
+    let mut shelf = shelf_of(alloc, &[("m.wasm", &module), ("start", start.as_bytes())])?;
+    Ok(status_of(alloc, &mut shelf, LOWER)? == 0 && run_alike(alloc, &mut shelf)?)
 }
 
 /// How many operators of a row of the table don't give the same.
@@ -289,14 +298,20 @@ fn unlike(alloc: Global, first: u8, last: u8, kind: u8, two: bool, given: u8) ->
     Ok(count)
 }
 
-#[test]
-fn each_operator_runs_alike_lowered_and_not(rt: HostRuntime) -> Result<(), Fail> {
+/// How many operators there are, where each of them gives the same; None where one doesn't.
+fn operators(alloc: Global) -> Result<Option<u32>, Fail> {
     let mut count = 0u32;
     for (first, last, kind, operands, given) in &OPERATORS {
-        let others = unlike(rt.alloc(), *first, *last, *kind, *operands == 2, *given)?;
-        assert_eq!(rt; others, 0);
+        if unlike(alloc, *first, *last, *kind, *operands == 2, *given)? != 0 {
+            return Ok(None);
+        }
         count = count.wrapping_add(u32::from(last.wrapping_sub(*first)) + 1);
     }
-    assert_eq!(rt; count, 66);
+    Ok(Some(count))
+}
+
+#[test]
+fn each_operator_runs_alike_lowered_and_not(rt: HostRuntime) -> Result<(), Fail> {
+    assert_eq!(rt; operators(rt.alloc())?, Some(66));
     Ok(())
 }

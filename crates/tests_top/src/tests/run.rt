@@ -1,39 +1,8 @@
 use super::IMAGE;
-use bl_app::blade;
-use bl_base::List;
-use bl_outside::{MemoryShelf, MemorySink};
+use super::calls::ends_on;
+use super::interp::{Case, passed};
 use std::alloc::Global;
 use std::test::Fail;
-
-/// Calls `blade` on a shelf with the image and the start file, of which the call of that number fails.
-fn call(
-    alloc: Global,
-    words: &[&str],
-    files: (&[u8], &[u8]),
-    failing: Option<u64>,
-) -> Result<(u8, MemorySink), Fail> {
-    let mut numbers = List::new(alloc);
-    if let Some(number) = failing {
-        numbers.push(number)?;
-    }
-    let mut shelf = MemoryShelf::new(alloc, numbers);
-    shelf.put("i.img", files.0)?;
-    shelf.put("start", files.1)?;
-    let mut out = MemorySink::new(alloc, None);
-    out.reserve(200)?;
-    let mut list = Vec::new(alloc);
-    for word in words {
-        list.push(String::from_str(alloc, word)?)?;
-    }
-    let status = blade(alloc, list.as_slice(), &mut shelf, &mut out);
-    Ok((status, out))
-}
-
-/// The words of a run of `inc/inc`.
-const INC: [&str; 5] = ["blade", "run", "i.img", "inc/inc", "start"];
-
-/// The words of a run of `m/f`.
-const RUN: [&str; 5] = ["blade", "run", "i.img", "m/f", "start"];
 
 /// The image of a load whose value is the address of another.
 const LOADS: [u8; 86] = [
@@ -58,62 +27,146 @@ const GROWS: [u8; 123] = [
     0x00, 0x00, 0x07, 0x00, 0x08, 0x07, 0x00, 0x00, 0x00, 0x06, 0x08,
 ];
 
+static LOADED: [Case; 2] = [
+    (
+        "blade run i.img m/f start",
+        b"arg 0",
+        None,
+        0,
+        "returned i32 0\nmemory 0 pages 1\n",
+    ),
+    (
+        "blade run i.img m/f start",
+        b"arg 65533",
+        None,
+        16,
+        "trapped out of bounds memory access\nmemory 0 pages 1\n",
+    ),
+];
+
+static GROWN: [Case; 3] = [
+    (
+        "blade run i.img m/f start",
+        b"arg 1",
+        None,
+        0,
+        "returned i32 1\nmemory 0 pages 2\nrow 0 65536 01000000000000000000000000000000\n",
+    ),
+    (
+        "blade run i.img m/f start",
+        b"memory 0 3 AB\narg 1",
+        None,
+        0,
+        "returned i32 1\nmemory 0 pages 2\nrow 0 65536 01000000000000000000000000000000\n",
+    ),
+    (
+        "blade run i.img m/f start",
+        b"arg 2",
+        None,
+        16,
+        "trapped out of bounds memory access\nmemory 0 pages 1\n",
+    ),
+];
+
 #[test]
 fn outcomes_with_memories_and_their_rows(rt: HostRuntime) -> Result<(), Fail> {
-    let grown = "returned i32 1\nmemory 0 pages 2\nrow 0 65536 01000000000000000000000000000000\n";
-    let outside = "trapped out of bounds memory access\nmemory 0 pages 1\n";
-    let cases: [(&[u8], &str, u8, &str); 5] = [
-        (&LOADS, "arg 0", 0, "returned i32 0\nmemory 0 pages 1\n"),
-        (&LOADS, "arg 65533", 16, outside),
-        (&GROWS, "arg 1", 0, grown),
-        (&GROWS, "memory 0 3 AB\narg 1", 0, grown),
-        (&GROWS, "arg 2", 16, outside),
-    ];
-    for (image, start, status, text) in cases {
-        let (answer, out) = call(rt.alloc(), &RUN, (image, start.as_bytes()), None)?;
-        assert_eq!(rt; answer, status);
-        assert_eq!(rt; out.bytes(), text.as_bytes());
-    }
+    assert_eq!(rt; passed(rt.alloc(), "i.img", &LOADS, &LOADED)?, 2);
+    assert_eq!(rt; passed(rt.alloc(), "i.img", &GROWS, &GROWN)?, 3);
     Ok(())
 }
+
+static STEPS: [Case; 5] = [
+    (
+        "blade run i.img inc/inc start",
+        b"arg 4294967295\n",
+        None,
+        0,
+        "returned i32 0\n",
+    ),
+    (
+        "blade run i.img inc/inc start --steps 6",
+        b"arg 4294967295\n",
+        None,
+        0,
+        "returned i32 0\n",
+    ),
+    (
+        "blade run i.img inc/inc start --steps=5",
+        b"arg 4294967295\n",
+        None,
+        17,
+        "spent 5\n",
+    ),
+    (
+        "blade run i.img inc/inc start --steps=0",
+        b"arg 4294967295\n",
+        None,
+        2,
+        "usage: blade COMMAND ARGUMENTS\n",
+    ),
+    (
+        "blade run i.img inc/inc start i.img",
+        b"arg 4294967295\n",
+        None,
+        2,
+        "usage: blade COMMAND ARGUMENTS\n",
+    ),
+];
 
 #[test]
 fn each_command_is_a_step(rt: HostRuntime) -> Result<(), Fail> {
-    let usage = "usage: blade COMMAND ARGUMENTS\n";
-    let cases: [(&[&str], u8, &str); 5] = [
-        (&[], 0, "returned i32 0\n"),
-        (&["--steps", "6"], 0, "returned i32 0\n"),
-        (&["--steps=5"], 17, "spent 5\n"),
-        (&["--steps=0"], 2, usage),
-        (&["i.img"], 2, usage),
-    ];
-    for (tail, status, text) in cases {
-        let mut words = INC.to_vec(rt.alloc())?;
-        words.extend_from_slice(tail)?;
-        let (answer, out) = call(rt.alloc(), &words, (&IMAGE, b"arg 4294967295\n"), None)?;
-        assert_eq!(rt; answer, status);
-        assert_eq!(rt; out.bytes(), text.as_bytes());
-    }
+    assert_eq!(rt; passed(rt.alloc(), "i.img", &IMAGE, &STEPS)?, 5);
     Ok(())
 }
 
+static REFUSALS: [Case; 6] = [
+    (
+        "blade run i.img inc/dec start",
+        b"",
+        None,
+        15,
+        "start: export\n",
+    ),
+    (
+        "blade run i.img inc/inc start",
+        b"",
+        None,
+        15,
+        "start: arguments 0\n",
+    ),
+    (
+        "blade run i.img inc/inc start",
+        b"arg 4294967296",
+        None,
+        15,
+        "start: line 1\n",
+    ),
+    (
+        "blade run i.img inc/inc start",
+        b"memory 0 0 00",
+        None,
+        15,
+        "start: line 1\n",
+    ),
+    (
+        "blade run i.img inc/inc start",
+        b"arg 1",
+        Some(1),
+        3,
+        "read fault: i.img\n",
+    ),
+    (
+        "blade run i.img inc/dec start",
+        b"arg 1",
+        Some(2),
+        3,
+        "read fault: start\n",
+    ),
+];
+
 #[test]
 fn exports_and_starts_of_an_image_that_are_refused(rt: HostRuntime) -> Result<(), Fail> {
-    let alloc = rt.alloc();
-    let cases: [(&str, &str, Option<u64>, u8, &str); 6] = [
-        ("inc/dec", "", None, 15, "start: export\n"),
-        ("inc/inc", "", None, 15, "start: arguments 0\n"),
-        ("inc/inc", "arg 4294967296", None, 15, "start: line 1\n"),
-        ("inc/inc", "memory 0 0 00", None, 15, "start: line 1\n"),
-        ("inc/inc", "arg 1", Some(1), 3, "read fault: i.img\n"),
-        ("inc/dec", "arg 1", Some(2), 3, "read fault: start\n"),
-    ];
-    for (export, start, failing, status, text) in cases {
-        let words = ["blade", "run", "i.img", export, "start"];
-        let (answer, out) = call(alloc, &words, (&IMAGE, start.as_bytes()), failing)?;
-        assert_eq!(rt; answer, status);
-        assert_eq!(rt; out.bytes(), text.as_bytes());
-    }
+    assert_eq!(rt; passed(rt.alloc(), "i.img", &IMAGE, &REFUSALS)?, 6);
     Ok(())
 }
 
@@ -124,27 +177,41 @@ fn with_end(alloc: Global, without: usize, end: &[u8]) -> Result<Vec<u8>, Fail> 
     Ok(bytes)
 }
 
+/// Whether the run of an image ends so.
+fn runs(alloc: Global, image: &[u8], status: u8, text: &str) -> Result<bool, Fail> {
+    let files = [("i.img", image), ("start", b"arg 1\n".as_slice())];
+    ends_on(
+        alloc,
+        &files,
+        None,
+        "blade run i.img inc/inc start",
+        status,
+        text,
+    )
+}
+
+/// Whether the run of the image with another end ends so.
+fn runs_with_end(
+    alloc: Global,
+    without: usize,
+    end: &[u8],
+    status: u8,
+    text: &str,
+) -> Result<bool, Fail> {
+    runs(alloc, &with_end(alloc, without, end)?, status, text)
+}
+
+/// Whether a file of 134,217,729 bytes is told so.
+fn is_too_long(alloc: Global, text: &str) -> Result<bool, Fail> {
+    runs(alloc, &vec![in alloc; 0x42; 134_217_729]?, 8, text)
+}
+
 #[test]
 fn images_with_another_end_and_one_that_is_too_long(rt: HostRuntime) -> Result<(), Fail> {
-    let alloc = rt.alloc();
-    let cases: [(Vec<u8>, u8, &str); 4] = [
-        (with_end(alloc, 1, b"")?, 12, "image: not an image\n"),
-        (with_end(alloc, 0, b"\x08")?, 12, "image: not an image\n"),
-        (
-            with_end(alloc, 1, b"\x09\x00")?,
-            16,
-            "trapped unreachable\n",
-        ),
-        (
-            vec![in alloc; 0x42; 134_217_729]?,
-            8,
-            "limit: image 134217729\n",
-        ),
-    ];
-    for (image, status, text) in cases {
-        let (answer, out) = call(alloc, &INC, (&image, b"arg 1\n"), None)?;
-        assert_eq!(rt; answer, status);
-        assert_eq!(rt; out.bytes(), text.as_bytes());
-    }
+    let none = "image: not an image\n";
+    assert!(rt; runs_with_end(rt.alloc(), 1, b"", 12, none)?);
+    assert!(rt; runs_with_end(rt.alloc(), 0, b"\x08", 12, none)?);
+    assert!(rt; runs_with_end(rt.alloc(), 1, b"\x09\x00", 16, "trapped unreachable\n")?);
+    assert!(rt; is_too_long(rt.alloc(), "limit: image 134217729\n")?);
     Ok(())
 }

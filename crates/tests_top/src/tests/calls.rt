@@ -1,0 +1,186 @@
+//! Calls of the program over files in memory, and what they leave.
+use bl_app::blade;
+use bl_base::List;
+use bl_outside::{MemoryShelf, MemorySink};
+use std::alloc::Global;
+use std::test::Fail;
+
+/// The words of a line.
+fn words_of(alloc: Global, line: &str) -> Result<Vec<String>, Fail> {
+    let mut words = Vec::new(alloc);
+    for word in line.split(' ') {
+        words.push(String::from_str(alloc, word)?)?;
+    }
+    Ok(words)
+}
+
+/// Calls `blade` with the words of a line, and answers its status and what it printed to a sink with that limit.
+fn say_within(
+    alloc: Global,
+    shelf: &mut MemoryShelf,
+    line: &str,
+    limit: Option<u64>,
+) -> Result<(u8, MemorySink), Fail> {
+    let words = words_of(alloc, line)?;
+    let mut out = MemorySink::new(alloc, limit);
+    out.reserve(200)?;
+    let status = blade(alloc, words.as_slice(), shelf, &mut out);
+    Ok((status, out))
+}
+
+/// Calls `blade` with the words of a line, and answers its status and what it printed.
+pub(super) fn say(
+    alloc: Global,
+    shelf: &mut MemoryShelf,
+    line: &str,
+) -> Result<(u8, MemorySink), Fail> {
+    say_within(alloc, shelf, line, None)
+}
+
+/// Whether a call ends with that status and prints that text, on a sink with that limit.
+pub(super) fn ends_within(
+    alloc: Global,
+    shelf: &mut MemoryShelf,
+    line: &str,
+    limit: Option<u64>,
+    status: u8,
+    text: &str,
+) -> Result<bool, Fail> {
+    let (answer, out) = say_within(alloc, shelf, line, limit)?;
+    Ok(answer == status && out.bytes() == text.as_bytes())
+}
+
+/// Whether a call ends with that status and prints that text.
+pub(super) fn ends(
+    alloc: Global,
+    shelf: &mut MemoryShelf,
+    line: &str,
+    status: u8,
+    text: &str,
+) -> Result<bool, Fail> {
+    ends_within(alloc, shelf, line, None, status, text)
+}
+
+/// The status of a call.
+pub(super) fn status_of(alloc: Global, shelf: &mut MemoryShelf, line: &str) -> Result<u8, Fail> {
+    let (status, _out) = say(alloc, shelf, line)?;
+    Ok(status)
+}
+
+/// Whether a file stands on a shelf.
+pub(super) fn stands(shelf: &MemoryShelf, name: &str) -> bool {
+    shelf.entry(name).is_some()
+}
+
+/// Whether a file stands on a shelf with those bytes.
+pub(super) fn holds(shelf: &MemoryShelf, name: &str, bytes: &[u8]) -> bool {
+    shelf.entry(name).unwrap_or(b"") == bytes
+}
+
+/// The numbers of the calls of a shelf that fail: that one, if any.
+fn failing_calls(alloc: Global, failing: Option<u64>) -> Result<List<u64>, Fail> {
+    let mut numbers = List::new(alloc);
+    if let Some(number) = failing {
+        numbers.push(number)?;
+    }
+    Ok(numbers)
+}
+
+/// A shelf with these files, of which the call of that number fails.
+pub(super) fn shelf_failing(
+    alloc: Global,
+    files: &[(&str, &[u8])],
+    failing: Option<u64>,
+) -> Result<MemoryShelf, Fail> {
+    let mut shelf = MemoryShelf::new(alloc, failing_calls(alloc, failing)?);
+    for (name, bytes) in files {
+        shelf.put(*name, *bytes)?;
+    }
+    Ok(shelf)
+}
+
+/// A shelf with these files.
+pub(super) fn shelf_of(alloc: Global, files: &[(&str, &[u8])]) -> Result<MemoryShelf, Fail> {
+    shelf_failing(alloc, files, None)
+}
+
+/// Whether a call on a shelf with these files, of which the call of that number fails, ends with that status and prints that text.
+pub(super) fn ends_on(
+    alloc: Global,
+    files: &[(&str, &[u8])],
+    failing: Option<u64>,
+    line: &str,
+    status: u8,
+    text: &str,
+) -> Result<bool, Fail> {
+    let mut shelf = shelf_failing(alloc, files, failing)?;
+    ends(alloc, &mut shelf, line, status, text)
+}
+
+/// Magic number and version, which are a module without functions.
+pub(super) const EMPTY: [u8; 8] = [0x00, 0x61, 0x73, 0x6D, 0x01, 0x00, 0x00, 0x00];
+
+/// The module of some sections behind the magic and the version.
+pub(super) fn module_of(alloc: Global, sections: &[u8]) -> Result<Vec<u8>, Fail> {
+    let mut bytes = EMPTY.to_vec(alloc)?;
+    bytes.extend_from_slice(sections)?;
+    Ok(bytes)
+}
+
+/// The lines of calls of the function `f` of a module `m.wasm` with a start file, by its image and by itself.
+pub(super) const LOWER: &str = "blade lower i.img m.wasm";
+
+pub(super) const RUN: &str = "blade run i.img m/f start";
+
+pub(super) const INTERP: &str = "blade interp m/f start m.wasm";
+
+/// A shelf with the module of some sections and a start file.
+pub(super) fn shelf_with(alloc: Global, sections: &[u8], start: &str) -> Result<MemoryShelf, Fail> {
+    let mut shelf = MemoryShelf::new(alloc, List::new(alloc));
+    shelf.put("m.wasm", &module_of(alloc, sections)?)?;
+    shelf.put("start", start.as_bytes())?;
+    Ok(shelf)
+}
+
+/// Whether the module of some sections is interpreted so.
+pub(super) fn interprets(
+    alloc: Global,
+    sections: &[u8],
+    start: &str,
+    status: u8,
+    text: &str,
+) -> Result<bool, Fail> {
+    let mut shelf = shelf_with(alloc, sections, start)?;
+    ends(alloc, &mut shelf, INTERP, status, text)
+}
+
+/// Whether the module of some sections is lowered, and its image and the module itself end so.
+pub(super) fn runs_alike(
+    alloc: Global,
+    sections: &[u8],
+    start: &str,
+    status: u8,
+    text: &str,
+) -> Result<bool, Fail> {
+    let mut shelf = shelf_with(alloc, sections, start)?;
+    Ok(
+        status_of(alloc, &mut shelf, LOWER)? == 0
+            && ends(alloc, &mut shelf, RUN, status, text)?
+            && ends(alloc, &mut shelf, INTERP, status, text)?,
+    )
+}
+
+/// Sections of a module, a start file, the status and the text.
+pub(super) type Run = (&'static [u8], &'static str, u8, &'static str);
+
+/// How many modules run alike before the first that doesn't.
+pub(super) fn alike(alloc: Global, runs: &[Run]) -> Result<u32, Fail> {
+    let mut passed = 0u32;
+    for (sections, start, status, text) in runs {
+        if !runs_alike(alloc, *sections, *start, *status, *text)? {
+            break;
+        }
+        passed = passed.wrapping_add(1);
+    }
+    Ok(passed)
+}
