@@ -157,10 +157,10 @@ module _ (one other : Observed) where
       let before = front_within one.made other.made in
       let after = front_within_other one.made other.made in
       same_seen one other
-        (ends_equal one.made other.made (slice_get_past one.made (length (common one.made other.made)) (omega (arith, here, all)))
-          (slice_get_past other.made (length (common one.made other.made)) (omega (arith, there, all))))
-        (none_refused count one.made one.refused first (omega (arith, here, before, all))
-          ∙ sym (none_refused count other.made other.refused second (omega (arith, there, after, all))))
+      (ends_equal one.made other.made (slice_get_past one.made (length (common one.made other.made)) (omega (arith, here, all)))
+      (slice_get_past other.made (length (common one.made other.made)) (omega (arith, there, all))))
+      (none_refused count one.made one.refused first (omega (arith, here, before, all))
+      ∙ sym (none_refused count other.made other.refused second (omega (arith, there, after, all))))
 
   differ_within : (count : ℕ) → IsAsLong 1 count one.made one.refused → IsAsLong 1 count other.made other.refused
       → comparison one other ≡ Differ → length (common one.made other.made) < count
@@ -169,7 +169,7 @@ module _ (one other : Observed) where
       let before = front_within one.made other.made in
       let le : length (common one.made other.made) ≤ count = omega (arith, here, before) in
       elim (eq-or-lt_of_le le) as (λ _. length (common one.made other.made) < count) [
-        inl e ↦ absurd ((tells count first second).differ apart_are (all_seen count first second e))
+        | inl e ↦ absurd ((tells count first second).differ apart_are (all_seen count first second e))
         | inr lt ↦ lt
       ]
 
@@ -180,8 +180,8 @@ module _ (one other : Observed) where
       let n = length (common one.made other.made) in
       let seen = seen_both (shown_behind one n) (ap (compared (shown_behind one n)) same ∙ apart_are) in
       apart one.made other.made seen.0
-        (sym (seen_by_is (slice_get one.made n) one.refused) ∙ ap seen_of seen.1)
-        (sym (seen_by_is (slice_get other.made n) other.refused) ∙ ap seen_of (sym same ∙ seen.1))
+      (sym (seen_by_is (slice_get one.made n) one.refused) ∙ ap seen_of seen.1)
+      (sym (seen_by_is (slice_get other.made n) other.refused) ∙ ap seen_of (sym same ∙ seen.1))
 
   pub counts : (count : ℕ) → IsAsLong 1 count one.made one.refused → IsAsLong 1 count other.made other.refused → Counts count one other
   counts count first second = record {
