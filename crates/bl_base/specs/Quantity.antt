@@ -1,4 +1,4 @@
--- The quantities that have limits: the word of each, and the greatest number that is within it.
+-- The quantities that have limits: the word of each, and the greatest number that is within it; and how deep calls go.
 use Rattle.std.specs.Prelude.{ℕ, List, codes}
 use Rattle.bl_base.specs.declared.quantity.Quantity.{Quantity}
 use Rattle.bl_base.specs.declared.quantity.Quantity.TheVariants.{Modules, Module, Functions, Locals, Nesting, Targets, Table, Memory, Reserve, Commands, Image, Certificate, Trace, Start, Directives, Results, Counts, Interface, Variables, Weight}
@@ -47,3 +47,7 @@ limit_of Counts = 67108864
 limit_of Interface = 1048576
 limit_of Variables = 2147483647
 limit_of Weight = 9223372036854775807
+
+-- the greatest depth of calls: a call at that depth traps
+abbrev pub most_calls : ℕ
+most_calls = 1024

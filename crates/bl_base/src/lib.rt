@@ -1,5 +1,5 @@
 //! What every crate of Blade speaks of: lists and texts, labels, value types, positions, sets of
-//! sites, traps, starts and the ways in which a run ends.
+//! sites, traps, limits, starts and the ways in which a run ends.
 #![tactic(auto)]
 
 mod list;
@@ -17,7 +17,7 @@ pub use list::List;
 pub use memory::NoMemory;
 pub use names::{Flow, Label, ValueType};
 pub use number::{Pos, Var};
-pub use quantity::Quantity;
+pub use quantity::{MOST_CALLS, Quantity};
 pub use run::{Pages, Run};
 pub use sites::SiteSet;
 pub use start::{Patch, Start, fits};

@@ -1,6 +1,9 @@
-//! What is limited: the word by which a limit is printed, and its number.
+//! What is limited: the word by which a limit is printed, and its number; and how deep calls go.
 ghost use Rattle.std.specs.Prelude.{◌≡◌};
 ghost use Rattle.bl_base.specs.Quantity.{limit_of, word_of};
+
+/// The greatest depth of calls: a call at that depth traps.
+pub const MOST_CALLS: u32 = 1_024;
 
 /// Something that has a limit.
 #[derive(Clone, Copy, Debug, PartialEq, Eq, PartialOrd, Ord)]

@@ -5,6 +5,7 @@ use Rattle.std.specs.List.{AllZip}
 use Rattle.std.proofs.lemmas.List.{length-replicate}
 use Rattle.std.proofs.lemmas.Bool.{lt-ltb, le-ltb, cases_lt}
 use Rattle.std.proofs.lemmas.Option.{none-some}
+use Rattle.bl_base.specs.Quantity.{most_calls}
 use Rattle.bl_base.specs.Runs.{Next, Comes, last, goes, ends, trapped}
 use Rattle.bl_base.specs.declared.trap.Trap.TheVariants.{StackExhausted}
 use Rattle.bl_base.proofs.RunLemmas.{comes_then, comes_to_end}
@@ -12,7 +13,7 @@ use Rattle.bl_wasm.specs.Validity.{locals_of}
 use Rattle.bl_wasm.specs.declared.linked.Signature.{Signature}
 use Rattle.bl_wasm.specs.declared.linked.Function.{Function}
 use Rattle.bl_wasm.specs.declared.linked.Tree.{Tree}
-use Rattle.bl_reduce.specs.Calls.{depth as source_depth, most_depth, type_of, entered, enter, operands, caller, call_at, call}
+use Rattle.bl_reduce.specs.Calls.{depth as source_depth, type_of, entered, enter, operands, caller, call_at, call}
 use Rattle.bl_reduce.specs.Configurations.{Store, Frame, State, Config, entering, go, trap, known}
 use Rattle.bl_base.proofs.Lists.{some_same, zip_reverse, zip_length}
 use Rattle.bl_access.specs.Templates.{arg_of, jump_to, shift}
@@ -85,10 +86,10 @@ module _ (tree : Tree) (program : Program) (bound : ℕ) (is : IsProgram tree pr
       (live (point after_it (reverse (reads results_at (program.shape f).results) ++ drop (program.shape f).params stack) (results_at + (program.shape f).results))) state.frame.rest
       → Reaches tree program bound used (call_at type f state) s
   call_at_reaches used f type open_ones stack next results_at after_it state s h typed calls_commands calls_enough calls_most later limit jumps laid =
-      subst (λ n. Reaches tree program bound used (called n) s) typed (elim (cases_lt (source_depth state) most_depth) [ inl lt ↦ goes_in lt | inr le ↦ exhausted le ])
+      subst (λ n. Reaches tree program bound used (called n) s) typed (elim (cases_lt (source_depth state) most_calls) [ inl lt ↦ goes_in lt | inr le ↦ exhausted le ])
     where
       called : ℕ → Next Config
-      called n = if nat_lt (source_depth state) most_depth then goes (entering state.store f (operands n state) (caller n state ∷ state.callers)) else trap StackExhausted state
+      called n = if nat_lt (source_depth state) most_calls then goes (entering state.store f (operands n state) (caller n state ∷ state.callers)) else trap StackExhausted state
 
       mark : ℕ
       mark = mark_of open_ones
@@ -126,15 +127,15 @@ module _ (tree : Tree) (program : Program) (bound : ℕ) (is : IsProgram tree pr
       same_depth : length state.callers ≡ length s.chain
       same_depth = as_deep s.registers state.frame.number state.callers s.chain h.callers
 
-      exhausted : most_depth ≤ source_depth state → Reaches tree program bound used (called count) s
+      exhausted : most_calls ≤ source_depth state → Reaches tree program bound used (called count) s
       exhausted le =
-          subst (λ b. Reaches tree program bound used (if b then goes (entering state.store f (operands count state) (caller count state ∷ state.callers)) else trap StackExhausted state) s) (sym (le-ltb (source_depth state) most_depth le)) (
+          subst (λ b. Reaches tree program bound used (if b then goes (entering state.store f (operands count state) (caller count state ∷ state.callers)) else trap StackExhausted state) s) (sym (le-ltb (source_depth state) most_calls le)) (
             count + 1,
             omega arith,
             omega (arith, calls_most),
             comes_to_end (plain_step program) count 1 s t (trapped StackExhausted state.store.memories) p.comes
                 (last t (trapped StackExhausted state.store.memories) (does program t (CallOf f) behind.0
-                ∙ ap (λ b. if b then goes (record t { position = (program.shape f).entry; chain = suc t.position ∷ t.chain }) else ends (trapped StackExhausted (states program t))) (le-ltb (depth t) 1024 (omega (arith, same_depth, le)))
+                ∙ ap (λ b. if b then goes (record t { position = (program.shape f).entry; chain = suc t.position ∷ t.chain }) else ends (trapped StackExhausted (states program t))) (le-ltb (depth t) most_calls (omega (arith, same_depth, le)))
                 ∙ ap (λ m. ends (trapped StackExhausted m)) (states_are program t state.store (store_kept program bound layout s.registers p.registers s state.store (λ x lt. p.kept 0 x (λ same above below. omega (arith, same))) h.store)))),
           )
 
@@ -145,9 +146,9 @@ module _ (tree : Tree) (program : Program) (bound : ℕ) (is : IsProgram tree pr
       before : (e x : ℕ) → e ≤ depth s → p.registers e x ≡ s.registers e x
       before e x le = p.kept e x (λ same above below. omega (arith, same, le))
 
-      goes_in : source_depth state < most_depth → Reaches tree program bound used (called count) s
+      goes_in : source_depth state < most_calls → Reaches tree program bound used (called count) s
       goes_in lt =
-          subst (λ b. Reaches tree program bound used (if b then goes (entering state.store f (operands count state) (caller count state ∷ state.callers)) else trap StackExhausted state) s) (sym (lt-ltb (source_depth state) most_depth lt)) (
+          subst (λ b. Reaches tree program bound used (if b then goes (entering state.store f (operands count state) (caller count state ∷ state.callers)) else trap StackExhausted state) s) (sym (lt-ltb (source_depth state) most_calls lt)) (
             count + 1,
             u,
             omega arith,
@@ -155,7 +156,7 @@ module _ (tree : Tree) (program : Program) (bound : ℕ) (is : IsProgram tree pr
             comes_then (plain_step program) count 1 s t u p.comes (
               u,
               does program t (CallOf f) behind.0
-                  ∙ ap (λ b. if b then goes u else ends (trapped StackExhausted (states program t))) (lt-ltb (depth t) 1024 (omega (arith, same_depth, lt))),
+                  ∙ ap (λ b. if b then goes u else ends (trapped StackExhausted (states program t))) (lt-ltb (depth t) most_calls (omega (arith, same_depth, lt))),
               refl,
             ),
             record {

@@ -5,13 +5,14 @@ use Rattle.std.proofs.lemmas.Bool.{lt-ltb, le-ltb, ltb-true, ltb-false}
 use Rattle.std.proofs.lemmas.List.{length-reverse, length-take, reverse-append, take-append-drop}
 use Rattle.std.proofs.lemmas.Option.{slice_get-map}
 use Rattle.bl_base.specs.Fits.{ArgumentFits}
+use Rattle.bl_base.specs.Quantity.{most_calls}
 use Rattle.bl_base.specs.Runs.{goes, trapped as trapped_with}
 use Rattle.bl_base.specs.declared.names.ValueType.{ValueType}
 use Rattle.bl_base.specs.declared.trap.Trap.TheVariants as trap_kind
 use Rattle.bl_wasm.specs.declared.linked.Signature.{Signature}
 use Rattle.bl_wasm.specs.declared.linked.Function.{Function}
 use Rattle.bl_wasm.specs.declared.linked.Tree.{Tree}
-use Rattle.bl_reduce.specs.Calls.{most_depth, depth, type_of, operands, caller, call_at, call, entered as entered_frame, enter}
+use Rattle.bl_reduce.specs.Calls.{depth, type_of, operands, caller, call_at, call, entered as entered_frame, enter}
 use Rattle.bl_reduce.specs.Configurations.{Store, Frame, State, entering, go, known, trap}
 use Rattle.bl_reduce.specs.TypedConfigurations.{IsEntering}
 use Rattle.bl_base.proofs.Lists.{zip_length}
@@ -151,9 +152,9 @@ module _ (tree : Tree) where
     many : length state.callers ≡ length m.callers
     many = as_many_callers state.callers (reverse m.callers) is.lower is.callers ∙ length-reverse m.callers
 
-    by_depth : (b : Bool) → nat_lt (length m.callers) most_callers ≡ b → nat_lt (depth state) most_depth ≡ b
-    by_depth true e = let h = ltb-true (length m.callers) most_callers e in lt-ltb (depth state) most_depth (omega (arith, h, many))
-    by_depth false e = let h = ltb-false (length m.callers) most_callers e in le-ltb (depth state) most_depth (omega (arith, h, many))
+    by_depth : (b : Bool) → nat_lt (length m.callers) most_callers ≡ b → nat_lt (depth state) most_calls ≡ b
+    by_depth true e = let h = ltb-true (length m.callers) most_callers e in lt-ltb (depth state) most_calls (omega (arith, h, many))
+    by_depth false e = let h = ltb-false (length m.callers) most_callers e in le-ltb (depth state) most_calls (omega (arith, h, many))
 
     call_at_simulates : (type : Signature) → length type.params ≤ length state.frame.values
         → simulates tree (if nat_lt (length m.callers) most_callers then called number (length type.params) m else trapped trap_kind.StackExhausted m) (call_at type number state)

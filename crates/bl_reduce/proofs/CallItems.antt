@@ -9,6 +9,7 @@ use Rattle.std.proofs.lemmas.List.{length-map, length-reverse}
 use Rattle.std.proofs.lemmas.Option.{none-some}
 use Rattle.std.proofs.lemmas.Slice.Eq.{slice_eq-Decides}
 use Rattle.bl_base.specs.Fits.{ArgumentFits}
+use Rattle.bl_base.specs.Quantity.{most_calls}
 use Rattle.bl_base.specs.Runs.{Next, goes}
 use Rattle.bl_base.specs.declared.names.ValueType.{ValueType}
 use Rattle.bl_base.specs.declared.names.ValueType.TheVariants as value
@@ -23,7 +24,7 @@ use Rattle.bl_wasm.specs.declared.types.WasmType.TheVariants.{I32}
 use Rattle.bl_wasm.specs.declared.linked.Function.{Function}
 use Rattle.bl_wasm.specs.declared.linked.Signature.{Signature}
 use Rattle.bl_wasm.specs.declared.linked.Tree.{Tree}
-use Rattle.bl_reduce.specs.Calls.{most_depth, depth, type_of, enter, entered, call_at, call, is_same, is_same_type, call_through, call_indirect}
+use Rattle.bl_reduce.specs.Calls.{depth, type_of, enter, entered, call_at, call, is_same, is_same_type, call_through, call_indirect}
 use Rattle.bl_reduce.specs.Configurations.{Store, Frame, State, Config, entering, go, trap, known, with_values}
 use Rattle.bl_reduce.specs.TypedConfigurations.{IsValue, BeginsWith, IsEntering, IsRunning, IsTypedStep}
 use Rattle.bl_reduce.proofs.ControlItems.{topmost, above}
@@ -113,7 +114,7 @@ module _ (tree : Tree) (linked : IsLinked tree) (results : List ValueType) where
         → ReadyAt (reverse (map integer called.params) ++ reverse lower) state → to ≡ lower ++ map integer called.results → BeginsWith tree type open_ones to state.frame
         → Steps (call_at called number state)
     call_at_steps number function called lower to state exists typed ready e begins =
-        at_test (ltb (depth state) most_depth)
+        at_test (ltb (depth state) most_calls)
         (goes (entering state.store number (reverse (take (length called.params) state.frame.values))
         ((with_values (drop (length called.params) state.frame.values) state).frame ∷ state.callers)))
         (trap StackExhausted state)
@@ -144,7 +145,7 @@ module _ (tree : Tree) (linked : IsLinked tree) (results : List ValueType) where
             },
             ready.callers_are,
           );
-          depth = omega (arith, ltb-true (depth state) most_depth lt);
+          depth = omega (arith, ltb-true (depth state) most_calls lt);
         })
         (trapping tree results type open_ones (reverse (map integer called.params) ++ reverse lower) StackExhausted state ready)
 

@@ -7,6 +7,7 @@ use Rattle.std.proofs.lemmas.List.{length-map, length-reverse, reverse-append}
 use Rattle.std.proofs.lemmas.List.Elements.{All-drop, All-get_or}
 use Rattle.std.proofs.lemmas.Option.{none-some}
 use Rattle.bl_base.specs.Fits.{ArgumentFits}
+use Rattle.bl_base.specs.Quantity.{most_calls}
 use Rattle.bl_base.specs.Runs.{Next, stuck}
 use Rattle.bl_base.specs.declared.names.ValueType.{ValueType}
 use Rattle.bl_wasm.specs.Linked.{context}
@@ -20,7 +21,6 @@ use Rattle.bl_wasm.specs.declared.types.WasmType.{WasmType}
 use Rattle.bl_wasm.specs.declared.types.WasmType.TheVariants.{I32}
 use Rattle.bl_wasm.specs.declared.linked.Signature.{Signature}
 use Rattle.bl_wasm.specs.declared.linked.Tree.{Tree}
-use Rattle.bl_reduce.specs.Calls.{most_depth}
 use Rattle.bl_reduce.specs.Configurations.{Store, Label, Frame, State, Config, go, with_values}
 use Rattle.bl_reduce.specs.Control.{items_behind_end, items_of_else, enter_with, enter_block, enter_loop, enter_if, leave_label, branch_to, branch, branch_if, branch_by}
 use Rattle.bl_reduce.specs.Returns.{return_to, return}
@@ -83,7 +83,7 @@ chosen P (l ∷ ls) default (suc index) h = chosen P ls default index (All-drop 
 
 module _ (tree : Tree) (results : List ValueType) where
   pub return_to_steps : (callers : List Frame) (awaited : List ValueType) (values : List ℕ) (store : Store) → IsStore tree store → AreCallers tree results awaited callers
-      → length callers < most_depth → AllZip IsValue (reverse (map integer awaited)) values → IsTypedStep tree results (return_to callers values store)
+      → length callers < most_calls → AllZip IsValue (reverse (map integer awaited)) values → IsTypedStep tree results (return_to callers values store)
   return_to_steps [] awaited values store store_is callers_are depth h =
       let in_order : AllZip ArgumentFits awaited (reverse values) =
       zip_unmap integer IsValue ArgumentFits integer_argument awaited (reverse values) (zip_unreverse IsValue (map integer awaited) values h) in

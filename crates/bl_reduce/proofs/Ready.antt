@@ -3,6 +3,7 @@ use Rattle.std.proofs.Common.{◌≡◌, ℕ, ◌<◌, ◌^◌, List, [], ◌∷
 use Rattle.std.proofs.lemmas.List.{reverse-append}
 use Rattle.std.specs.List.{AllZip}
 use Rattle.bl_base.specs.Fits.{ArgumentFits}
+use Rattle.bl_base.specs.Quantity.{most_calls}
 use Rattle.bl_base.specs.Runs.{Next}
 use Rattle.bl_base.specs.declared.names.ValueType.{ValueType}
 use Rattle.bl_base.specs.declared.names.ValueType.TheVariants as value
@@ -13,7 +14,6 @@ use Rattle.bl_wasm.specs.declared.types.WasmType.{WasmType}
 use Rattle.bl_wasm.specs.declared.types.WasmType.TheVariants.{I32, I64, F32, F64}
 use Rattle.bl_wasm.specs.declared.linked.Signature.{Signature}
 use Rattle.bl_wasm.specs.declared.linked.Tree.{Tree}
-use Rattle.bl_reduce.specs.Calls.{most_depth}
 use Rattle.bl_reduce.specs.Configurations.{State, Config, go, trap, known, pop_from, pop, push, with_values}
 use Rattle.bl_reduce.specs.TypedConfigurations.{IsValue, IsStore, AreLabels, BeginsWith, AreCallers, IsTypedStep}
 
@@ -52,7 +52,7 @@ module _ (tree : Tree) (results : List ValueType) where
     pub labels : AreLabels (context tree type state.frame.function) state.frame.function.code.items open_ones state.frame.labels
     pub values : AllZip IsValue top state.frame.values
     pub callers_are : AreCallers tree results type.results state.callers
-    pub depth : length state.callers < most_depth
+    pub depth : length state.callers < most_calls
 
   -- what is left of the body begins with operands of these types, topmost first
   pub record Onto (type : Signature) (open_ones : List Open) (top : List WasmType) (state : State) : Type 0 where

@@ -1,6 +1,7 @@
 -- Calls (WebAssembly 1.0, sections 4.4.5 and 4.4.7).
 use Rattle.std.specs.Prelude.{ℕ, ◌+◌, nat_lt, ◌&&◌, if◌then◌else◌, Bool, true, false, List, [], ◌∷◌, ◌++◌, length, take, drop, reverse, replicate, slice_get, Option, Some, None, option_and_then}
 use Rattle.std.specs.Cmp.Lexicographic.{pointwise}
+use Rattle.bl_base.specs.Quantity.{most_calls}
 use Rattle.bl_base.specs.Runs.{Next, goes}
 use Rattle.bl_base.specs.declared.names.ValueType.{ValueType}
 use Rattle.bl_base.specs.declared.names.ValueType.TheVariants.{I32, I64}
@@ -10,10 +11,6 @@ use Rattle.bl_wasm.specs.declared.linked.Signature.{Signature}
 use Rattle.bl_wasm.specs.declared.linked.Function.{Function}
 use Rattle.bl_wasm.specs.declared.linked.Tree.{Tree}
 use Rattle.bl_reduce.specs.Configurations.{Store, Frame, State, Config, entering, go, trap, known, pop}
-
--- the greatest depth of calls
-abbrev pub most_depth : ℕ
-most_depth = 1024
 
 -- the depth of calls: 1 in the function that was entered first
 abbrev pub depth : State → ℕ
@@ -56,7 +53,7 @@ caller count state = record state.frame { values = drop count state.frame.values
 -- a function of that type is called: its operands are taken off, and it is entered next
 abbrev pub call_at : Signature → ℕ → State → Next Config
 call_at type number state =
-    if nat_lt (depth state) most_depth
+    if nat_lt (depth state) most_calls
     then goes (entering state.store number (operands (length type.params) state) (caller (length type.params) state ∷ state.callers))
     else trap StackExhausted state
 

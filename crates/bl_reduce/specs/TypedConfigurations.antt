@@ -3,6 +3,7 @@
 use Rattle.std.specs.Prelude.{◌≡◌, ℕ, ◌*◌, ◌^◌, ◌<◌, ◌≤◌, ◌++◌, List, [], ◌∷◌, length, map, drop, reverse, slice_get, Some}
 use Rattle.std.specs.List.{AllZip}
 use Rattle.bl_base.specs.Fits.{AreBytes, ArgumentFits}
+use Rattle.bl_base.specs.Quantity.{most_calls}
 use Rattle.bl_base.specs.Runs.{MemoryState, Outcome, returned, trapped, Next, goes, ends, stuck}
 use Rattle.bl_base.specs.declared.names.ValueType.{ValueType}
 use Rattle.bl_wasm.specs.Linked.{all_locals, context}
@@ -15,7 +16,6 @@ use Rattle.bl_wasm.specs.declared.linked.Function.{Function}
 use Rattle.bl_wasm.specs.declared.linked.Global.{Global}
 use Rattle.bl_wasm.specs.declared.linked.Memory.{Memory}
 use Rattle.bl_wasm.specs.declared.linked.Tree.{Tree}
-use Rattle.bl_reduce.specs.Calls.{most_depth}
 use Rattle.bl_reduce.specs.Configurations.{Store, Label, Frame, State, Config, entering, running}
 
 -- ---- values and stores
@@ -109,7 +109,7 @@ pub record IsEntering (tree : Tree) (results : List ValueType) (store : Store) (
   pub typed : slice_get tree.types function.type_index ≡ Some type
   pub arguments_are : AllZip ArgumentFits type.params arguments
   pub callers_are : AreCallers tree results type.results callers
-  pub depth : length callers < most_depth
+  pub depth : length callers < most_calls
 
 -- a frame executes
 pub record IsRunning (tree : Tree) (results : List ValueType) (state : State) : Type 0 where
@@ -120,7 +120,7 @@ pub record IsRunning (tree : Tree) (results : List ValueType) (state : State) : 
   pub frame_is : IsFrame tree type open_ones stack state.frame
   pub begins : BeginsWith tree type open_ones stack state.frame
   pub callers_are : AreCallers tree results type.results state.callers
-  pub depth : length state.callers < most_depth
+  pub depth : length state.callers < most_calls
 
 -- a configuration of a run whose function returns values of these types
 abbrev pub IsTyped : Tree → List ValueType → Config → Type 0

@@ -2,7 +2,9 @@
 use Rattle.std.specs.Prelude.{◌≡◌, ℕ, false, ◌*◌, ◌^◌, ◌<◌, ◌≤◌, ◌++◌, List, length, map, slice_get, sum_by, Option, Some, None, IfSome}
 use Rattle.std.specs.List.{All}
 use Rattle.bl_base.specs.Fits.{AreBytes, ArgumentFits}
+use Rattle.bl_base.specs.Quantity.{limit_of}
 use Rattle.bl_base.specs.declared.names.Label.TheVariants.{Secret}
+use Rattle.bl_base.specs.declared.quantity.Quantity.TheVariants as quantity
 use Rattle.bl_wasm.specs.Exports.{AreDistinct}
 use Rattle.bl_wasm.specs.Typing.{Context, IsTyping, integer}
 use Rattle.bl_wasm.specs.Validity.{locals_of}
@@ -98,14 +100,14 @@ pub record IsFunction (tree : Tree) (function : Function) : Type 0 where
   -- and each result is demanded public, or isn't
   pub demanded : length function.demanded ≡ length type.results
   -- parameters and locals together
-  pub room : length (all_locals type function) ≤ 4096
+  pub room : length (all_locals type function) ≤ limit_of quantity.Locals
   pub memory : IfSome function.memory (λ number. number < length tree.memories)
   pub table : IfSome function.table (λ number. number < length tree.tables)
 
 -- a memory of the tree: its first pages with their bytes, and its reserve
 pub record IsMemory (memory : Memory) : Type 0 where
   pub first : memory.pages ≤ memory.reserve
-  pub most : memory.reserve ≤ 256
+  pub most : memory.reserve ≤ limit_of quantity.Memory
   pub size : length memory.bytes ≡ memory.pages * 65536
   pub bytes : AreBytes memory.bytes
 
@@ -116,8 +118,8 @@ IsSlot tree slot = IfSome slot (λ function. function < length tree.functions)
 -- ---- the whole
 
 pub record IsLinked (tree : Tree) : Type 0 where
-  -- no type has more than 1,024 results
-  pub types : All (λ type. length type.results ≤ 1024) tree.types
+  -- no type has too many results
+  pub types : All (λ type. length type.results ≤ limit_of quantity.Results) tree.types
   pub functions : All (IsFunction tree) tree.functions
   pub globals : All (λ global. ArgumentFits global.kind global.first) tree.globals
   -- no global is both declared secret and demanded public
@@ -127,8 +129,9 @@ pub record IsLinked (tree : Tree) : Type 0 where
   -- exported functions exist, by names of their own
   pub exports : All (λ pair. pair.1 < length tree.functions) tree.exports
   pub distinct : AreDistinct tree.exports
-  pub function_count : length tree.functions ≤ 80000
-  pub memory_count : length tree.memories ≤ 8
+  -- each of the modules has few enough functions, and at most one memory
+  pub function_count : length tree.functions ≤ limit_of quantity.Modules * limit_of quantity.Functions
+  pub memory_count : length tree.memories ≤ limit_of quantity.Modules
   pub global_count : length tree.globals < 2 ^ 29
   -- all reserves together
-  pub reserves : sum_by (λ memory. memory.reserve) tree.memories ≤ 1024
+  pub reserves : sum_by (λ memory. memory.reserve) tree.memories ≤ limit_of quantity.Reserve
