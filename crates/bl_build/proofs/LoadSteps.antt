@@ -1,17 +1,12 @@
 -- One module more is decoded, or validated, or its labels are read.
-use Rattle.std.proofs.Common.{◌≡◌, ℕ, ◌<◌, ◌≤◌, ◌^◌, List, [], ◌∷◌, ◌++◌, length, map, Option, Some, None, Bor, refl, ap, sym, ◌∙◌, subst, arith}
+use Rattle.std.proofs.Common.{◌≡◌, ℕ, List, [], ◌∷◌, ◌++◌, map, Bor, refl, ap, sym, ◌∙◌, subst}
 use Rattle.std.specs.Prelude.{Result, Ok, Err, Vec}
-use Rattle.std.specs.Option.{option_or}
 use Rattle.std.specs.declared.alloc.Global.{Global}
 use Rattle.std.specs.List.{All}
 use Rattle.std.specs.Str.{IsUtf8}
 use Rattle.std.proofs.lemmas.List.{map-append}
 use Rattle.std.proofs.lemmas.List.Elements.{All-cons, All-head, All-nil, All-tail}
-use Rattle.bl_base.specs.Quantity.{limit_of}
-use Rattle.bl_base.specs.declared.quantity.Quantity.{Quantity}
-use Rattle.bl_base.specs.declared.quantity.Quantity.TheVariants as quantity
-use Rattle.bl_wasm.specs.Limits.{above, first_excess}
-use Rattle.bl_wasm.specs.Validity.{Typed, functions_of}
+use Rattle.bl_wasm.specs.Validity.{Typed}
 use Rattle.bl_wasm.specs.declared.module.Module.{Module}
 use Rattle.bl_decode.specs.Decoding.{Answers}
 use Rattle.bl_decode.specs.declared.error.DecodeError.{DecodeError}
@@ -43,20 +38,6 @@ module _ {A B C Y : Type 0} (first : Stage A B) (second : Stage B C) (given : Y 
   then_staged b (Ok y) p h = (b, p, h)
   then_staged b (Err (error.Refused refusal)) p h = at_second b p h
   then_staged b (Err error.Memory) p h = tt
-
--- ---- a module within the limits has few functions
-
-above_none : (which : Quantity) (value : ℕ) → above which value ≡ None → value ≤ limit_of which
-above_none which value none = grind arith
-
-first_none : {A : Type 0} (a b : Option A) → option_or a b ≡ None → a ≡ None
-first_none None b none = refl
-first_none (Some x) b none = absurd cc
-
-pub few_functions : (tree : Module) → first_excess tree ≡ None → length (functions_of tree) < 2 ^ 32
-few_functions tree none =
-    let few = above_none quantity.Functions (length (functions_of tree)) (first_none (above quantity.Functions (length (functions_of tree))) _ none) in
-    omega (arith, few)
 
 -- ---- decoding
 

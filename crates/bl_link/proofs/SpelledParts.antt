@@ -1,15 +1,13 @@
 -- What the spelling of a module says of a part that it is.
-use Rattle.std.proofs.Common.{◌≡◌, refl, sym, subst, ℕ, zero, suc, ◌<◌, ◌≤◌, ◌^◌, List, [], ◌∷◌, length, length-append, map, ap, arith, Option, Some, None}
+use Rattle.std.proofs.Common.{◌≡◌, refl, sym, subst, ℕ, zero, suc, ◌<◌, ◌≤◌, ◌^◌, List, [], ◌∷◌, length, length-append, map, ap, arith, Option, None}
 use Rattle.std.specs.List.{All, zip}
 use Rattle.std.specs.Str.{IsUtf8}
-use Rattle.std.specs.Option.{option_or}
 use Rattle.std.proofs.lemmas.List.{length-map}
 use Rattle.std.proofs.lemmas.List.Elements.{All-nil, All-cons, All-weaker}
 use Rattle.std.proofs.lemmas.Option.{none-some}
 use Rattle.std.proofs.lemmas.Str.{IsUtf8-from_ascii}
 use Rattle.std.proofs.lemmas.Str.Ascii.{IsAscii-nil, IsAscii-cons}
 use Rattle.bl_base.specs.Quantity.{limit_of}
-use Rattle.bl_base.specs.declared.quantity.Quantity.{Quantity}
 use Rattle.bl_base.specs.declared.quantity.Quantity.TheVariants.{Functions, Locals, Memory, Results, Table}
 use Rattle.bl_labels.specs.Faults.{IsConsistent}
 use Rattle.bl_labels.specs.Marked.{unlabelled}
@@ -27,6 +25,7 @@ use Rattle.bl_wasm.specs.declared.module.Module.{Module}
 use Rattle.bl_wasm.specs.declared.module.Code.{Code}
 use Rattle.bl_wasm.specs.declared.types.FuncType.{FuncType}
 use Rattle.bl_wasm.specs.declared.types.Limits.{Limits}
+use Rattle.bl_wasm.proofs.LimitLemmas.{above_none, either_none}
 use Rattle.bl_link.specs.Linkable.{AreParts, IsName, IsPart}
 use Rattle.bl_link.specs.Links.{part_of}
 use Rattle.bl_link.specs.Stores.{AreApart}
@@ -79,13 +78,6 @@ is_spelled bytes tree h =
 
 -- ---- the limits
 
-above_none : (which : Quantity) (value : ℕ) → above which value ≡ None → value ≤ limit_of which
-above_none which value none = grind arith
-
-either_none : {A : Type 0} (a b : Option A) → option_or a b ≡ None → (a ≡ None) × (b ≡ None)
-either_none None b none = (refl, none)
-either_none (Some x) b none = absurd (cc)
-
 all_none : {A : Type 0} (found : A → Option Excess) (xs : List A) → first_in found xs ≡ None → All (λ x. found x ≡ None) xs
 all_none found [] none = All-nil (λ x. found x ≡ None)
 all_none found (x ∷ xs) none =
@@ -137,10 +129,6 @@ pub part_from : (name bytes : List ℕ) (tree : Module) → IsName name → Spel
 part_from name bytes tree named spelled few none = labelled_part name bytes tree unlabelled none_consistent named spelled few none
 
 -- ---- what is read
-
--- a module within the limits has few functions
-pub few_functions : (tree : Module) → first_excess tree ≡ None → length (functions_of tree) < 2 ^ 32
-few_functions tree none = omega (arith, above_none Functions (length (functions_of tree)) (either_none (above Functions (length (functions_of tree))) _ none).0)
 
 -- a letter is a name
 pub is_name : (letter : ℕ) → letter < 128 → (letter ≡ 0x2F → ⊥) → IsName (letter ∷ [])

@@ -1,5 +1,6 @@
 pub mod ExportLemmas
 pub mod LeadingLemmas
+pub mod LimitLemmas
 pub mod NestingLemmas
 pub mod ReachedLemmas
 pub mod RenamingLemmas

@@ -8,11 +8,12 @@ use Rattle.std.specs.declared.alloc.Global.{Global}
 use Rattle.std.proofs.lemmas.List.Elements.{All-push}
 use Rattle.std.proofs.lemmas.Slice.Zip.{Zip-more, either_empty_from_Zip}
 use Rattle.bl_wasm.specs.Validity.{functions_of}
+use Rattle.bl_wasm.proofs.LimitLemmas.{few_functions}
 use Rattle.bl_decode.specs.Decoding.{Answers}
 use Rattle.bl_build.specs.Loading.{decoding, parts_of}
 use Rattle.bl_build.specs.Working.{contents_in, spelled_in}
 use Rattle.bl_build.specs.declared.loading.Spelled.{Spelled}
-use Rattle.bl_build.proofs.LoadSteps.{few_functions, names_now, next_decoded, not_decoded}
+use Rattle.bl_build.proofs.LoadSteps.{names_now, next_decoded, not_decoded}
 use Rattle.bl_build.proofs.StageLemmas.{goes_ends}
 use Rattle.bl_build.proofs.loading.decode_all.Goals as goal
 
