@@ -1,5 +1,7 @@
 //! `gen`: from a number and a size to the summary of a large module that is made of them.
 ghost use Rattle.std.specs.Prelude.{◌≡◌, ◌≤◌, [], IfOk};
+ghost use Rattle.bl_base.specs.Quantity.{limit_of};
+ghost use Rattle.bl_base.specs.declared.quantity.Quantity.TheVariants as quantity;
 ghost use Rattle.bl_app.specs.Generating.{gen_job, summary_of};
 ghost use Rattle.bl_app.specs.Jobs.{saying};
 ghost use Rattle.bl_app.specs.declared.status.Status.TheVariants.{Done};
@@ -21,7 +23,7 @@ use std::alloc::Global;
 /// Printing the summary of a module that is made of a number and a size, compiled and hardened. Costs a maximum flow in a network that
 /// is linear in the program.
 pub fn generate<'a>(alloc: Global, words: &GenWords) -> Result<Plan<'a>, WorkError<'a>>
-    requires { (1 ≤ words.now.size) × (words.now.size ≤ 10000) }
+    requires { (1 ≤ words.now.size) × (words.now.size ≤ limit_of quantity.Functions) }
     ensures { IsWork (gen_job (gen_in words.now)) [] result }
 {
     let bytes = make(alloc, words.seed, words.size)?;

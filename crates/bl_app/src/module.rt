@@ -6,7 +6,7 @@ ghost use Rattle.bl_app.specs.Working.{read_in};
 use crate::job::Read;
 use bl_base::{NoMemory, Quantity};
 
-/// Puts the files of modules behind those that are read before, each of at most 4,194,304 bytes.
+/// Puts the files of modules behind those that are read before, each of as many bytes as a module may have.
 pub fn read_modules<'a>(reads: &mut Vec<Read<'a>>, words: &[&'a str]) -> Result<(), NoMemory>
     ensures { IfOk result (λ _. map read_in reads.new.items ≡ map read_in reads.old.items ++ map module_read (map (λ word. word.now) words.now)) }
 {

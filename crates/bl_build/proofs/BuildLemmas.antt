@@ -60,7 +60,7 @@ compiling_lawful = chain_lawful loading building loading_lawful building_lawful
 -- a program that was made of a tree, and its image
 module _ (tree : Tree) (program : Program) (same : program ≡ low_tree tree) (rules : IsWellFormed program) (image : List ℕ) (is : Image program image) where
   few : command_count tree ≤ limit_of quantity.Commands
-  few = subst (λ p. length p.commands ≤ 1048576) same rules.rule2.commands
+  few = subst (λ p. length p.commands ≤ limit_of quantity.Commands) same rules.rule2.commands
 
   here : Image (low_tree tree) image
   here = subst (λ p. Image p image) same is

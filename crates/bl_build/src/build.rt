@@ -21,13 +21,13 @@ use std::alloc::Global;
 pub struct Built {
     /// The program.
     pub program: WellFormed,
-    /// The image's bytes, at most 134,217,728.
+    /// The image's bytes, within their limit.
     pub image: Vec<u8>,
 }
 
 /// The program of the modules in files with these contents, and its image; Refused exactly where the modules are refused (`load`), or
-/// the program has more than 1,048,576 commands, or its image more than 134,217,728 bytes. Linear in the bytes, those
-/// of the memories and in the image.
+/// the commands of the program or the bytes of its image are above their limit. Linear in the bytes, those of the memories and in
+/// the image.
 pub fn compile<'a>(
     alloc: Global,
     words: &[&'a str],

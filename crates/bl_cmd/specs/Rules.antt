@@ -1,9 +1,11 @@
 -- The nine rules of well-formed programs, and the first one that is broken.
 use Rattle.std.specs.Prelude.{◌≡◌, ◌≢◌, ◌⊎◌, ◌+◌, ◌*◌, ◌^◌, ◌<◌, ◌≤◌, ℕ, suc, true, IfSome, IsSomeAnd, option_map, List, [], ◌∷◌, length, Option, Some, None, slice_get}
 use Rattle.std.specs.List.{All, AllPairs}
+use Rattle.bl_base.specs.Quantity.{limit_of}
 use Rattle.bl_base.specs.declared.names.Label.TheVariants.{Public}
 use Rattle.bl_base.specs.declared.names.ValueType.{ValueType}
 use Rattle.bl_base.specs.declared.names.ValueType.TheVariants.{I32, I64}
+use Rattle.bl_base.specs.declared.quantity.Quantity.TheVariants as quantity
 use Rattle.bl_ops.specs.Access.{width_of}
 use Rattle.bl_ops.specs.declared.op.Op.{Op}
 use Rattle.bl_ops.specs.declared.op.Op.TheVariants.{I32Add, I32Sub, I32GtU, Move, Outside}
@@ -30,17 +32,17 @@ pub record IsRow (pages : ℕ) (row : MemRow) : Type 0 where
   pub filled : All (λ byte. byte ≡ 0) row.bytes → ⊥
   pub within : row.number * 16 + 16 ≤ pages * 65536
 
--- first pages are at most the reserve, and the reserve at most 256; rows rise, aren't all zero, and lie in the first pages
+-- first pages are at most the reserve, which is within its limit; rows rise, aren't all zero, and lie in the first pages
 pub record IsMemory (memory : MemoryDef) : Type 0 where
   pub pages : memory.pages ≤ memory.reserve
-  pub reserve : memory.reserve ≤ 256
+  pub reserve : memory.reserve ≤ limit_of quantity.Memory
   pub rising : AllPairs (λ row next. row.number < next.number) memory.rows
   pub rows : All (IsRow memory.pages) memory.rows
 
--- each memory is one, and all reserves are at most 1,024
+-- each memory is one, and all reserves are within their limit
 pub record Rule1 (program : Program) : Type 0 where
   pub memories : All IsMemory program.memories
-  pub total : sum_before (λ memory. memory.reserve) program.memories (length program.memories) ≤ 1024
+  pub total : sum_before (λ memory. memory.reserve) program.memories (length program.memories) ≤ limit_of quantity.Reserve
 
 -- ---- rule 2: functions and globals
 
@@ -54,12 +56,12 @@ abbrev pub IsValue : ValueType → ℕ → Type 0
 IsValue I32 value = value < 2 ^ 32
 IsValue I64 value = value < 2 ^ 64
 
--- there are at most 80,000 functions, and each is one; all variables are fewer than 2^31, and all commands at most 1,048,576
+-- there are at most as many functions as all modules may have, and each is one; variables are fewer than 2^31, and commands in their limit
 pub record Rule2 (program : Program) : Type 0 where
-  pub functions : length program.functions ≤ 80000
+  pub functions : length program.functions ≤ limit_of quantity.Modules * limit_of quantity.Functions
   pub each : All IsFunction program.functions
   pub variables : first_of program (length program.functions) < 2 ^ 31
-  pub commands : length program.commands ≤ 1048576
+  pub commands : length program.commands ≤ limit_of quantity.Commands
   pub globals : All (λ global. IsValue global.kind global.first) program.globals
 
 -- ---- rule 3: exports

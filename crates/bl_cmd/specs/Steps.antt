@@ -1,6 +1,7 @@
 -- Plain runs: one command a step, in the order of the program. Marks play no part.
 use Rattle.std.specs.Prelude.{ℕ, zero, suc, ◌+◌, ◌*◌, ◌%◌, ◌^◌, ◌==◌, ◌&&◌, nat_eq, nat_lt, if◌then◌else◌, List, [], ◌∷◌, ◌++◌, length, take, drop, Option, Some, None}
 use Rattle.bl_base.specs.Bytes.{number_of, bytes_of}
+use Rattle.bl_base.specs.Quantity.{most_calls}
 use Rattle.bl_base.specs.Runs.{MemoryState, Next, goes, ends, stuck, returned, trapped}
 use Rattle.bl_base.specs.declared.trap.Trap.TheVariants as trap_kind
 use Rattle.bl_ops.specs.Access.{extended, narrowed, width_of}
@@ -105,10 +106,10 @@ ret program [] s =
     ends (returned (values_from s.registers 0 (result program function 0) (results_of program function)) (states program s))
 ret program (back ∷ chain) s = goes (record s { position = back; chain = chain })
 
--- a call: at depth 1,024 the run traps
+-- a call: at the greatest depth the run traps
 abbrev pub call : Program → ℕ → Plain → Next Plain
 call program function s =
-    if nat_lt (depth s) 1024
+    if nat_lt (depth s) most_calls
     then goes (record s { position = entry_of program function; chain = suc s.position ∷ s.chain })
     else ends (trapped trap_kind.StackExhausted (states program s))
 

@@ -92,7 +92,7 @@ pub enum Command {
         /// The value.
         value: Operand,
     },
-    /// Enters the function one call deeper; it will return to the next position. At a depth of 1,024 calls the run traps.
+    /// Enters the function one call deeper; it will return to the next position. At a depth of `MOST_CALLS` the run traps.
     Call {
         /// The number of the function.
         function: u32,

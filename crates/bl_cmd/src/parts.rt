@@ -1,6 +1,8 @@
 //! The rules on the whole program: its memories, functions, globals and exports, its demands and weights.
-ghost use Rattle.std.specs.Prelude.{◌≡◌, ◌≤◌, ◌<◌, ◌^◌, ◌↔◌, IfOk, IsTrue, MatchOption, length};
+ghost use Rattle.std.specs.Prelude.{◌≡◌, ◌≤◌, ◌<◌, ◌*◌, ◌^◌, ◌↔◌, IfOk, IsTrue, MatchOption, length};
 ghost use Rattle.std.specs.List.{All, AllPairs};
+ghost use Rattle.bl_base.specs.Quantity.{limit_of};
+ghost use Rattle.bl_base.specs.declared.quantity.Quantity.TheVariants as quantity;
 ghost use Rattle.bl_cmd.specs.Layout.{first_of, sum_before};
 ghost use Rattle.bl_cmd.specs.Rules.{IsDemand, IsFunction, IsMemory, IsRow, IsValue, IsWeight, Precedes, Rule2, Rule3, Rule9};
 ghost use Rattle.bl_cmd.specs.declared.definitions.Demand.TheVariants as demand_is;
@@ -10,15 +12,9 @@ use crate::definitions::{
     Demand, ExportDef, FunctionDef, GlobalDef, MemRow, MemoryDef, ProgramParts, SiteWeight,
 };
 use crate::weights::{has_mark, is_total_small};
-use bl_base::{Label, NoMemory, ValueType};
+use bl_base::{Label, NoMemory, Quantity, ValueType};
 use std::alloc::Global;
 use std::collections::BTreeSet;
-
-/// The most functions of a program.
-const MOST_FUNCTIONS: usize = 80_000;
-
-/// The most commands of a program.
-const MOST_COMMANDS: usize = 1_048_576;
 
 /// The number of the first of rules 1 to 3 and 9 that the program breaks; None where it keeps them.
 pub(crate) fn broken_part(alloc: Global, parts: &ProgramParts) -> Result<Option<u8>, NoMemory>
@@ -41,18 +37,19 @@ pub(crate) fn broken_part(alloc: Global, parts: &ProgramParts) -> Result<Option<
 
 /// Whether each memory is one, and their reserves are small enough.
 fn keeps_memories(memories: &[MemoryDef]) -> bool
-    ensures { IsTrue result ↔ All IsMemory memories.now × (sum_before (λ memory. memory.reserve) memories.now (length memories.now) ≤ 1024) }
+    ensures { IsTrue result ↔ All IsMemory memories.now × (sum_before (λ memory. memory.reserve) memories.now (length memories.now) ≤ limit_of quantity.Reserve) }
 {
     memories.iter().all(|memory| is_memory(memory)) && have_room(memories)
 }
 
 /// Whether all reserves together are small enough.
 fn have_room(memories: &[MemoryDef]) -> bool
-    ensures { IsTrue result ↔ (sum_before (λ memory. memory.reserve) memories.now (length memories.now) ≤ 1024) }
+    ensures { IsTrue result ↔ (sum_before (λ memory. memory.reserve) memories.now (length memories.now) ≤ limit_of quantity.Reserve) }
 {
+    let most = Quantity::Reserve.limit() as u32;
     let mut total: u32 = 0;
     for memory in memories {
-        if memory.reserve > 1024 - total {
+        if memory.reserve > most - total {
             return false;
         }
         total += memory.reserve;
@@ -65,7 +62,7 @@ fn is_memory(memory: &MemoryDef) -> bool
     ensures { IsTrue result ↔ IsMemory memory.now }
 {
     memory.pages <= memory.reserve
-        && memory.reserve <= 256
+        && u64::from(memory.reserve) <= Quantity::Memory.limit()
         && rows_rise(memory.rows.as_slice())
         && are_rows(memory.pages, memory.rows.as_slice())
 }
@@ -103,14 +100,21 @@ fn is_zero(bytes: &[u8]) -> bool
     bytes.iter().all(|byte| *byte == 0)
 }
 
+/// The most functions of a program: each of its modules has few enough.
+fn most_functions() -> u64
+    ensures { result ≡ limit_of quantity.Modules * limit_of quantity.Functions }
+{
+    Quantity::Modules.limit() * Quantity::Functions.limit()
+}
+
 /// Whether the functions, the variables, the commands and the globals' first values are as they have to be.
 fn keeps_functions(parts: &ProgramParts) -> bool
     ensures { IsTrue result ↔ Rule2 parts.now }
 {
-    parts.functions.len() <= MOST_FUNCTIONS
+    parts.functions.len() as u64 <= most_functions()
         && are_functions(parts.functions.as_slice())
         && are_few(parts)
-        && parts.commands.len() <= MOST_COMMANDS
+        && parts.commands.len() as u64 <= Quantity::Commands.limit()
         && are_values(parts.globals.as_slice())
 }
 

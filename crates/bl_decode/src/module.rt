@@ -84,12 +84,11 @@ fn check(tree: &Module) -> Option<Option<(Quantity, u64)>>
 ///
 /// Malformed comes exactly where the bytes spell no module. Unsupported comes exactly where they spell one that has a
 /// float type, an instruction on floats or a start function. Limit comes exactly where they spell one that has none of these
-/// and exceeds a limit: more than 10,000 functions with the imported ones, a type of more than 1,024 results, a table of
-/// more than 1,024 slots, a memory of more than 256 pages, or a function with more than 4,096 locals with its parameters,
-/// more than 256 blocks, loops and ifs open at one place, or a br_table of more than 1,024 targets beside the default. The
-/// first four are tested in this order, and then the last three, in this order, for each function in turn; the value is that
-/// of the first type, table, memory, function or br_table that has too many. Nothing is read by recursion but the spelling
-/// of a number, and no room is made that the bytes don't fill.
+/// and exceeds a limit: too many functions with the imported ones, a type of too many results, a table of too many slots, a
+/// memory of too many pages, or a function with too many locals with its parameters, too many blocks, loops and ifs open at
+/// one place, or a br_table of too many targets beside the default. The first four are tested in this order, and then the last
+/// three, in this order, for each function in turn; the value is that of the first type, table, memory, function or br_table
+/// that has too many. Nothing is read by recursion but the spelling of a number, and no room is made that the bytes don't fill.
 pub fn decode(alloc: Global, bytes: &[u8]) -> Result<Module, DecodeError>
     ensures answer { Answers bytes.now result }
     ensures only { (tree : Module) → Spells bytes.now tree → AnswersOf tree result }

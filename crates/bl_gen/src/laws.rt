@@ -1,5 +1,7 @@
 //! Laws of the modules that are made. Each function is its contract alone.
 ghost use Rattle.std.specs.Prelude.{◌≤◌, ◌<◌, ◌^◌, ℕ, Result, length};
+ghost use Rattle.bl_base.specs.Quantity.{limit_of};
+ghost use Rattle.bl_base.specs.declared.quantity.Quantity.TheVariants as quantity;
 ghost use Rattle.bl_leb.specs.Numbers.{IsUnsigned};
 ghost use Rattle.bl_leb.specs.Spellings.{IsShortest};
 ghost use Rattle.bl_wasm.specs.Modules.{Spells};
@@ -12,14 +14,14 @@ ghost use Rattle.bl_gen.specs.Made.{leb, made};
 /// The bytes of each module that is made spell a module that is supported, exceeds no limit and is valid. So what decoding
 /// promises of its answer, for every module that the bytes spell, is that a valid module comes, but for want of memory.
 pub fn made_modules_are_accepted()
-    ensures spelled { (seed size : ℕ) → 1 ≤ size → size ≤ 10000 → IsAccepted (made seed size) }
-    ensures decoded { (seed size : ℕ) (answer : Result Module DecodeError) → 1 ≤ size → size ≤ 10000
+    ensures spelled { (seed size : ℕ) → 1 ≤ size → size ≤ limit_of quantity.Functions → IsAccepted (made seed size) }
+    ensures decoded { (seed size : ℕ) (answer : Result Module DecodeError) → 1 ≤ size → size ≤ limit_of quantity.Functions
         → ((tree : Module) → Spells (made seed size) tree → AnswersOf tree answer) → GivesValid answer }
 {}
 
-/// A module that is made has at most 4,194,304 bytes.
+/// A module that is made has few enough bytes.
 pub fn made_modules_are_short()
-    ensures { (seed size : ℕ) → size ≤ 10000 → length (made seed size) ≤ 4194304 }
+    ensures { (seed size : ℕ) → size ≤ limit_of quantity.Functions → length (made seed size) ≤ limit_of quantity.Module }
 {}
 
 /// Numbers are in their shortest spellings, at each width that they fit.

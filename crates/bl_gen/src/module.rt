@@ -1,6 +1,8 @@
 //! The module.
 ghost use Rattle.std.specs.Prelude.{◌≡◌, ◌≤◌, ◌++◌, IfOk};
 ghost use Rattle.std.specs.List.{flat_map, range_with_len};
+ghost use Rattle.bl_base.specs.Quantity.{limit_of};
+ghost use Rattle.bl_base.specs.declared.quantity.Quantity.TheVariants as quantity;
 ghost use Rattle.bl_gen.specs.Made.{code_section, export_section, function, function_section, made, sized};
 
 use crate::function::push_function;
@@ -13,7 +15,7 @@ use std::alloc::Global;
 #[tactic(auto, unfolding(crate::specs::Made::made, crate::specs::Made::type_section, crate::specs::Made::memory_section))]
 pub fn make(alloc: Global, seed: u64, size: u32) -> Result<Vec<u8>, NoMemory>
     requires least { 1 ≤ size }
-    requires most { size ≤ 10000 }
+    requires most { size ≤ limit_of quantity.Functions }
     ensures { IfOk result (λ bytes. bytes.items ≡ made seed size) }
 {
     let mut bytes = Vec::new(alloc);

@@ -4,7 +4,7 @@ use Rattle.std.specs.List.{enumerate_from, range_with_len, list_all}
 use Rattle.bl_base.specs.declared.names.Label.{Label}
 use Rattle.bl_base.specs.declared.names.Label.TheVariants.{Public, Secret}
 use Rattle.bl_base.specs.Quantity.{limit_of}
-use Rattle.bl_base.specs.declared.quantity.Quantity.TheVariants.{Reserve}
+use Rattle.bl_base.specs.declared.quantity.Quantity.TheVariants as quantity
 use Rattle.bl_labels.specs.Marked.{is_listed, is_place}
 use Rattle.bl_labels.specs.declared.labels.Labels.{Labels}
 use Rattle.bl_wasm.specs.declared.instruction.Instr.{Instr}
@@ -74,11 +74,11 @@ global globals labels spaces defined = record {
   demanded = is_listed labels.demanded defined.0;
 }
 
--- a memory by its index in the part; its reserve is its maximum, or 256 pages where that is greater or absent
+-- a memory by its index in the part; its reserve is its maximum, or the limit of a memory where that is greater or absent
 abbrev pub memory : Labels → ℕ × Limits → Memory
 memory labels defined = record {
   pages = defined.1.min;
-  reserve = min 256 (unwrap_or defined.1.max 256);
+  reserve = min (limit_of quantity.Memory) (unwrap_or defined.1.max (limit_of quantity.Memory));
   label = secret_if (is_listed labels.memories defined.0);
   bytes = replicate (defined.1.min * 65536) 0;
 }
@@ -214,7 +214,7 @@ reserves tree = sum_by (λ memory. memory.reserve) tree.memories
 
 -- the tree, where they are within their limit
 abbrev pub within_reserve : Store → Result Tree LinkError
-within_reserve store = if nat_le (reserves store.tree) (limit_of Reserve) then Ok store.tree else Err (Limit Reserve (reserves store.tree))
+within_reserve store = if nat_le (reserves store.tree) (limit_of quantity.Reserve) then Ok store.tree else Err (Limit quantity.Reserve (reserves store.tree))
 
 -- the linked tree of parts, or the first fault: part by part, and the limit on reserves last
 abbrev pub links : List Part → Result Tree LinkError

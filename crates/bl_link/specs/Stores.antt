@@ -2,7 +2,9 @@
 use Rattle.std.specs.Prelude.{◌≡◌, ℕ, ◌+◌, ◌*◌, ◌^◌, ◌<◌, ◌≤◌, ◌++◌, ◌∷◌, false, List, length, slice_get, Option, Some, IfSome}
 use Rattle.std.specs.List.{All, Contains}
 use Rattle.bl_base.specs.Fits.{ArgumentFits}
+use Rattle.bl_base.specs.Quantity.{limit_of}
 use Rattle.bl_base.specs.declared.names.Label.TheVariants.{Secret}
+use Rattle.bl_base.specs.declared.quantity.Quantity.TheVariants as quantity
 use Rattle.bl_wasm.specs.Exports.{AreDistinct}
 use Rattle.bl_wasm.specs.Linked.{IsFunction, IsMemory}
 use Rattle.bl_wasm.specs.declared.linked.Tree.{Tree}
@@ -31,7 +33,7 @@ ValueOfPart done value = IsOfPart done value.0
 pub record IsStore (done : List Part) (store : Store) : Type 0 where
   pub tables : length store.tables ≡ length store.tree.tables
   pub sizes : length store.memories ≡ length store.tree.memories
-  pub types : All (λ type. length type.results ≤ 1024) store.tree.types
+  pub types : All (λ type. length type.results ≤ limit_of quantity.Results) store.tree.types
   -- the functions have typings in every later tree
   pub functions : (later : Tree) → Grows store.tree later → All (IsFunction later) store.tree.functions
   pub globals : All (λ global. ArgumentFits global.kind global.first) store.tree.globals
@@ -46,6 +48,6 @@ pub record IsStore (done : List Part) (store : Store) : Type 0 where
   pub values_named : All (ValueOfPart done) store.exports
   pub type_count : length store.tree.types + length done ≤ 2 ^ 26 * length done
   pub table_count : length store.tree.tables ≤ length done
-  pub function_count : length store.tree.functions ≤ 10000 * length done
+  pub function_count : length store.tree.functions ≤ limit_of quantity.Functions * length done
   pub memory_count : length store.tree.memories ≤ length done
   pub global_count : length store.tree.globals + length done ≤ 2 ^ 26 * length done

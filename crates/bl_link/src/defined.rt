@@ -1,6 +1,8 @@
 //! What a part defines beside its functions.
 ghost use Rattle.std.specs.Prelude.{◌≡◌, ◌+◌, ◌<◌, ◌^◌, ◌++◌, length, map, min, option_map, slice_get, unwrap_or, IfOk};
 ghost use Rattle.std.specs.List.{enumerate_from};
+ghost use Rattle.bl_base.specs.Quantity.{limit_of};
+ghost use Rattle.bl_base.specs.declared.quantity.Quantity.TheVariants as quantity;
 ghost use Rattle.bl_link.specs.Links.{first_value as first_value_of, global as global_of, memory as memory_of, table as table_of};
 ghost use Rattle.bl_link.specs.Signatures.{signature as signature_of};
 
@@ -8,7 +10,7 @@ use crate::bodies::secret_if;
 use crate::rename::number;
 use crate::signatures::{signature, value_type};
 use crate::store::Spaces;
-use bl_base::{List, NoMemory, Text};
+use bl_base::{List, NoMemory, Quantity, Text};
 use bl_labels::Marks;
 use bl_wasm::{DefinedGlobal, FuncType, Instr, Limits, Memory, Signature};
 use std::alloc::Global;
@@ -104,13 +106,14 @@ pub(crate) fn with_globals(
     Ok(List::of(cells))
 }
 
-/// The most pages that a memory grows to: its maximum, or 256 where that is greater or absent.
+/// The most pages that a memory grows to: its maximum, or the limit where that is greater or absent.
 fn reserve(max: Option<u32>) -> u32
-    ensures { result ≡ min 256 (unwrap_or max 256) }
+    ensures { result ≡ min (limit_of quantity.Memory) (unwrap_or max (limit_of quantity.Memory)) }
 {
+    let most = Quantity::Memory.limit() as u32;
     match max {
-        Some(max) if max < 256 => max,
-        _ => 256,
+        Some(max) if max < most => max,
+        _ => most,
     }
 }
 

@@ -1,6 +1,7 @@
 -- Plain steps of the program of a linked tree, by shapes and as the program's own.
 use Rattle.std.proofs.Common.{◌≡◌, ℕ, zero, suc, ◌+◌, ◌*◌, ◌%◌, ◌^◌, cond, List, [], ◌∷◌, ◌++◌, length, map, take, drop, Option, Some, None, slice_get, refl, sym, ap, ap₂, ◌∙◌, arith}
 use Rattle.std.specs.Prelude.{nat_lt, ◌==◌}
+use Rattle.bl_base.specs.Quantity.{most_calls}
 use Rattle.bl_base.specs.Runs.{MemoryState, Outcome, Next, goes, ends, returned, trapped, EndsAfter, last, more}
 use Rattle.bl_base.specs.declared.trap.Trap.TheVariants as trap_kind
 use Rattle.bl_ops.specs.Numerics.{meaning}
@@ -100,7 +101,7 @@ module _ (tree : Tree) (linked : IsLinked tree) where
   perform_is (Some (Arg mark function index a)) s =
       ap₂ (λ x v. on s (written s.registers (suc (depth s)) x v)) (param_is function index) (value_is s a)
   perform_is (Some (Call function)) s =
-      ap₂ (λ next those. cond (nat_lt (depth s) 1024) (goes (record s { position = next; chain = suc s.position ∷ s.chain })) (ends (trapped trap_kind.StackExhausted those)))
+      ap₂ (λ next those. cond (nat_lt (depth s) most_calls) (goes (record s { position = next; chain = suc s.position ∷ s.chain })) (ends (trapped trap_kind.StackExhausted those)))
       (entry_is tree function) (states_same s)
   perform_is (Some (Out mark index a)) s =
       ap₂ (λ x v. on s (written s.registers (length s.chain) x v)) (result_is (running (low_tree tree) s.position) index) (value_is s a)

@@ -1,6 +1,7 @@
 -- Plain steps by what lowering knows of a program: where its functions and variables stand is given by shapes, and where its
 -- memories stand by the linked tree's.
 use Rattle.std.specs.Prelude.{ℕ, zero, suc, ◌+◌, ◌-◌, ◌*◌, ◌%◌, ◌^◌, ◌==◌, List, [], ◌∷◌, ◌++◌, length, take, drop, replicate, Option, Some, None, slice_get, nat_lt, if◌then◌else◌}
+use Rattle.bl_base.specs.Quantity.{most_calls}
 use Rattle.bl_base.specs.Runs.{MemoryState, Next, goes, ends, stuck, returned, trapped}
 use Rattle.bl_base.specs.declared.trap.Trap.TheVariants as trap_kind
 use Rattle.bl_ops.specs.Numerics.{meaning}
@@ -87,7 +88,7 @@ perform program (Some (Jump position)) s = to position.0 s
 perform program (Some (Arg mark function index a)) s =
     on s (written s.registers (suc (depth s)) (param (program.shape function) index) (value_of program a s))
 perform program (Some (Call function)) s =
-    if nat_lt (depth s) 1024
+    if nat_lt (depth s) most_calls
     then goes (record s { position = (program.shape function).entry; chain = suc s.position ∷ s.chain })
     else ends (trapped trap_kind.StackExhausted (states program s))
 perform program (Some (Out mark index a)) s =

@@ -8,8 +8,8 @@ use thiserror::Error;
 /// Why a linked tree isn't lowered.
 #[derive(Clone, Copy, Debug, PartialEq, Eq, Error)]
 pub enum LowerError {
-    /// Its program would have more than 1,048,576 commands: so many, the seven traps among them; 2^64 - 1 stands for every
-    /// greater number.
+    /// Its program would have too many commands: so many, the seven traps among them; 2^64 - 1 stands for every greater
+    /// number.
     #[error("{0} commands")]
     Limit(u64),
     /// Memory ran out.

@@ -4,7 +4,7 @@ ghost use Rattle.bl_machine.specs.Machines.{Becomes, Gives, at_place, called, cl
 
 use crate::body::Body;
 use crate::stack::Stack;
-use bl_base::{NoMemory, Trap};
+use bl_base::{MOST_CALLS, NoMemory, Trap};
 use bl_memory::Spaces;
 use bl_ops::AccessKind;
 
@@ -12,7 +12,7 @@ use bl_ops::AccessKind;
 const REFUSED: u64 = 0xFFFF_FFFF;
 
 /// The most functions that wait for one that they called.
-const MOST_CALLERS: usize = 1_023;
+const MOST_CALLERS: usize = MOST_CALLS as usize - 1;
 
 /// A block, loop or if that was entered.
 #[derive(Clone, Copy, Debug)]

@@ -2,6 +2,7 @@
 use Rattle.std.proofs.Common.{◌≡◌, ℕ, zero, suc, ◌+◌, Bool, true, false, List, [], ◌∷◌, ◌++◌, length, take, drop, Option, Some, None, refl, sym, ap, ◌∙◌, subst, arith}
 use Rattle.std.specs.Prelude.{if◌then◌else◌, slice_get, nat_lt}
 use Rattle.std.proofs.lemmas.List.{append-nil}
+use Rattle.bl_base.specs.Quantity.{most_calls}
 use Rattle.bl_base.specs.Runs.{Next, goes, ends, stuck, Comes, EndsAfter, last}
 use Rattle.bl_base.proofs.RunLemmas.{comes_then, comes_to_end}
 use Rattle.bl_base.specs.declared.start.Start.{Start}
@@ -141,7 +142,7 @@ fresh_of Q position chain (Some (command.Store kind memory offset address value)
 fresh_of Q position chain (Some (command.Test cond one other)) = tt
 fresh_of Q position chain (Some (command.Jump to)) = tt
 fresh_of Q position chain (Some (command.Arg mark function index value)) = tt
-fresh_of Q position chain (Some (command.Call function)) = fresh_call Q function position chain (nat_lt (suc (length chain)) 1024) _ _ tt refl
+fresh_of Q position chain (Some (command.Call function)) = fresh_call Q function position chain (nat_lt (suc (length chain)) most_calls) _ _ tt refl
 fresh_of Q position chain (Some (command.Out mark index value)) = tt
 fresh_of Q position chain (Some command.Ret) = tt
 fresh_of Q position chain (Some (command.Trap kind)) = refl

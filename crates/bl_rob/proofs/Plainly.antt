@@ -1,6 +1,7 @@
 -- The plain run over what is fetched is the plain run.
 use Rattle.std.proofs.Common.{◌≡◌, ℕ, suc, ◌%◌, ◌^◌, ◌==◌, Bool, true, false, List, [], ◌∷◌, length, Option, Some, None, refl}
 use Rattle.std.specs.Prelude.{not, nat_lt, if◌then◌else◌}
+use Rattle.bl_base.specs.Quantity.{most_calls}
 use Rattle.bl_base.specs.Runs.{Outcome, Next, goes, ends, stuck}
 use Rattle.bl_base.specs.declared.trap.Trap.TheVariants as trap_kind
 use Rattle.bl_ops.specs.Numerics.{meaning}
@@ -89,7 +90,7 @@ module _ (program : Program) where
   follows_at s (Some (Jump position)) = refl
   follows_at s (Some (Arg mark function index a)) =
       rw (source_is s.registers (suc (length s.chain)) a, moves (value_at program s.registers (suc (length s.chain)) a) 0 0) refl
-  follows_at s (Some (Call function)) = calls s function (nat_lt (suc (length s.chain)) 1024) _
+  follows_at s (Some (Call function)) = calls s function (nat_lt (suc (length s.chain)) most_calls) _
   follows_at s (Some (Out mark index a)) =
       rw (source_is s.registers (suc (length s.chain)) a, moves (value_at program s.registers (suc (length s.chain)) a) 0 0) refl
   follows_at s (Some Ret) = returns s.position s.chain s.registers s.space

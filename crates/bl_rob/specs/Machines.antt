@@ -1,6 +1,7 @@
 -- The buffer machine: what its states are, and what each directive does.
 use Rattle.std.specs.Prelude.{ℕ, suc, ◌+◌, ◌*◌, ◌%◌, ◌^◌, ◌==◌, ◌&&◌, ◌||◌, not, nat_eq, nat_lt, Bool, true, false, if◌then◌else◌, List, [], ◌∷◌, ◌++◌, length, take, drop, Option, Some, None, slice_get}
 use Rattle.std.specs.List.{fold}
+use Rattle.bl_base.specs.Quantity.{most_calls}
 use Rattle.bl_base.specs.Runs.{Outcome, returned, trapped}
 use Rattle.bl_base.specs.declared.start.Start.{Start}
 use Rattle.bl_base.specs.declared.trap.Trap.TheVariants as trap_kind
@@ -97,10 +98,10 @@ abbrev pub back : ℕ → List ℕ → Front
 back position [] = ended_at position [] ending.Returned
 back position (caller ∷ chain) = at_position caller chain
 
--- a call, which at depth 1,024 traps
+-- a call, which at the greatest depth traps
 abbrev pub called : Program → ℕ → ℕ → List ℕ → Fetched
 called program function position chain =
-    if nat_lt (suc (length chain)) 1024
+    if nat_lt (suc (length chain)) most_calls
     then Straight Nop (at_position (entry_of program function) (suc position ∷ chain))
     else Straight (Fail trap_kind.StackExhausted) (ended_at position chain (ending.Trapped trap_kind.StackExhausted))
 

@@ -1,12 +1,13 @@
 //! The positions to which the open calls return.
 ghost use Rattle.std.specs.Prelude.{◌≡◌, ◌≤◌, ◌<◌, [], ◌∷◌, suc, IfOk, OnErr, OnOk, length};
+ghost use Rattle.bl_base.specs.Quantity.{most_calls};
 ghost use Rattle.bl_seq.specs.Taken.{Taken};
 
 use bl_base::NoMemory;
 use std::alloc::Global;
 use std::marker::Model;
 
-/// The positions to which the open calls return, fewer than 1,024. Contracts see them as a list, the one of the innermost
+/// The positions to which the open calls return, fewer than the most calls. Contracts see them as a list, the one of the innermost
 /// call first.
 #[derive(Debug, Drop)]
 pub struct Chain {
@@ -15,12 +16,13 @@ pub struct Chain {
 
 impl Model for Chain {
     ghost use Rattle.std.specs.Prelude.{◌<◌, ℕ, List, length, reverse};
+    ghost use Rattle.bl_base.specs.Quantity.{most_calls};
 
     ghost Value = { List ℕ };
 
     ghost view = { λ chain. reverse chain.positions.items };
 
-    ghost invariant = { λ chain. length chain.positions.items < 1024 };
+    ghost invariant = { λ chain. length chain.positions.items < most_calls };
 }
 
 impl Chain {
@@ -36,14 +38,14 @@ impl Chain {
     /// The number of open calls, the run's own function included.
     pub fn depth(&self) -> u32
         ensures value { result ≡ suc (length self.now) }
-        ensures few { result ≤ 1024 }
+        ensures few { result ≤ most_calls }
     {
         self.positions.len() as u32 + 1
     }
 
     /// Opens a call that will return to the position. A refusal leaves the chain as it was.
     pub fn open(&mut self, position: u32) -> Result<(), NoMemory>
-        requires { suc (length self.old) < 1024 }
+        requires { suc (length self.old) < most_calls }
         ensures ok { OnOk result (self.new ≡ position ∷ self.old) }
         ensures err { OnErr result (self.new ≡ self.old) }
     {

@@ -15,14 +15,11 @@ use crate::chain::Chain;
 use crate::directive::{End, Observation, StepError};
 use crate::entry::{Entry, LoadKind, Register, Source, Work};
 use crate::machine::Machine;
-use bl_base::{NoMemory, Pos, Trap, Var};
+use bl_base::{MOST_CALLS, NoMemory, Pos, Trap, Var};
 use bl_cmd::{Command, Operand};
 use bl_ops::{AccessKind, Op};
 use bl_seq::Layout;
 use std::alloc::Global;
-
-/// The most calls that are open at once, the run's own function included.
-const MOST_CALLS: u32 = 1_024;
 
 /// A variable as a frame of that depth finds it.
 fn register_of(layout: &Layout, depth: u32, x: Var) -> Register

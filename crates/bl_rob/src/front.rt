@@ -1,5 +1,6 @@
 //! The front end.
 ghost use Rattle.std.specs.Prelude.{◌≡◌, ◌+◌, ◌<◌, ◌^◌, ◌∷◌, None, Some, suc, length, OnOk, OnErr};
+ghost use Rattle.bl_base.specs.Quantity.{most_calls};
 ghost use Rattle.bl_rob.specs.Machines.{at_position, back, ended_at};
 
 use crate::chain::Chain;
@@ -39,7 +40,7 @@ impl Front {
     /// Goes to a function's entry, to return to the next position.
     pub fn call(&mut self, entry: u32) -> Result<(), NoMemory>
         requires running { self.old.end ≡ None }
-        requires few { suc (length self.old.chain) < 1024 }
+        requires few { suc (length self.old.chain) < most_calls }
         requires position { self.old.position + 1 < 2 ^ 32 }
         ensures ok { OnOk result (self.new ≡ at_position entry (suc self.old.position ∷ self.old.chain)) }
         ensures err { OnErr result (self.new ≡ self.old) }

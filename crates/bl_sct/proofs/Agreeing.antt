@@ -5,6 +5,7 @@ use Rattle.std.specs.Prelude.{◌&&◌, not, nat_eq, nat_lt, if◌then◌else◌
 use Rattle.bl_base.proofs.Lists.{within_get, some_same}
 use Rattle.bl_base.proofs.RunLemmas.{IsNext}
 use Rattle.bl_base.specs.Bytes.{number_of, bytes_of}
+use Rattle.bl_base.specs.Quantity.{most_calls}
 use Rattle.bl_base.specs.Runs.{Next, goes, ends, stuck, HasStep}
 use Rattle.bl_base.specs.declared.names.Label.{Label}
 use Rattle.bl_base.specs.declared.names.Label.TheVariants.{Public, Secret}
@@ -124,7 +125,7 @@ module _ (program : Program) where
     inside_at (Some (command.Test cond one other)) e = tt
     inside_at (Some (command.Jump to)) e = tt
     inside_at (Some (command.Arg mark function index value)) e = tt
-    inside_at (Some (command.Call function)) e = inside_call c (nat_lt (suc (length c.front.chain)) 1024) _ _ tt tt
+    inside_at (Some (command.Call function)) e = inside_call c (nat_lt (suc (length c.front.chain)) most_calls) _ _ tt tt
     inside_at (Some (command.Out mark index value)) e = tt
     inside_at (Some command.Ret) e = tt
     inside_at (Some (command.Trap kind)) e = tt

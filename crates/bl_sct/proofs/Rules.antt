@@ -1,6 +1,7 @@
 -- The label rules and the transient rules at a command, said of what it becomes when it is fetched.
 use Rattle.std.proofs.Common.{◌≡◌, ◌⊎◌, inl, inr, ℕ, suc, Bool, true, false, List, [], ◌∷◌, length, Option, Some, None, refl, sym, ap, ◌∙◌, subst, cond}
 use Rattle.std.specs.Prelude.{◌&&◌, not, nat_lt, if◌then◌else◌, slice_get, IsSomeAnd, IsTrue, option_map, option_and_then, unwrap_or}
+use Rattle.bl_base.specs.Quantity.{most_calls}
 use Rattle.bl_base.specs.declared.names.Label.{Label}
 use Rattle.bl_base.specs.declared.names.Label.TheVariants.{Public, Secret}
 use Rattle.bl_ops.specs.declared.op.Op.TheVariants.{Move}
@@ -149,7 +150,7 @@ module _ (program : Program) (labelling : ℕ → Bool) (ok : Labelled program l
   labels_at p chain (Some (command.Arg mark function index value)) e = λ q.
       let k : Command = command.Arg mark function index value in
       (fine public program (suc (length chain)) value (λ x n. public_move p k e x (param program function index) (inl n) refl q), tt, tt)
-  labels_at p chain (Some (command.Call function)) e = call_labels (nat_lt (suc (length chain)) 1024) _ _ tt tt
+  labels_at p chain (Some (command.Call function)) e = call_labels (nat_lt (suc (length chain)) most_calls) _ _ tt tt
   labels_at p chain (Some (command.Out mark index value)) e = λ q.
       let k : Command = command.Out mark index value in
       (fine public program (suc (length chain)) value (λ x n. public_move p k e x (result program (running program p) index) (inl n) refl q), tt, tt)
@@ -247,7 +248,7 @@ module _ (program : Program) (typing labelling : ℕ → Bool) (flows : Flows pr
           tt,
         ),
       )
-  keeps_at p chain (Some (command.Call function)) e = call_keeps (nat_lt (suc (length chain)) 1024) _ _ tt tt
+  keeps_at p chain (Some (command.Call function)) e = call_keeps (nat_lt (suc (length chain)) most_calls) _ _ tt tt
   keeps_at p chain (Some (command.Out mark index value)) e =
       let k : Command = command.Out mark index value in (
         λ d. absurd (no_move d),

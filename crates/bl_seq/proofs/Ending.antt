@@ -6,6 +6,7 @@ use Rattle.std.proofs.lemmas.List.{length-append, length-drop, length-replicate,
 use Rattle.std.proofs.lemmas.List.Elements.{All-cons, All-head, All-tail}
 use Rattle.bl_base.specs.Bytes.{patched}
 use Rattle.bl_base.specs.Fits.{PatchFits}
+use Rattle.bl_base.specs.Quantity.{most_calls}
 use Rattle.bl_base.specs.Runs.{MemoryState, Outcome, Next, goes, ends, stuck, trapped, Comes, EndsAfter, last, more}
 use Rattle.bl_base.specs.declared.start.Patch.{Patch}
 use Rattle.bl_base.specs.declared.start.Start.{Start}
@@ -52,7 +53,7 @@ module _ (program : Program) where
   ends_by s (Some (Jump p)) o h = absurd h
   ends_by s (Some (Arg m callee i a)) o h = absurd h
   ends_by s (Some (Call callee)) o h =
-      called_ends s (record s { position = entry_of program callee; chain = suc s.position ∷ s.chain }) (nat_lt (depth s) 1024) o h
+      called_ends s (record s { position = entry_of program callee; chain = suc s.position ∷ s.chain }) (nat_lt (depth s) most_calls) o h
   ends_by s (Some (Out m i a)) o h = absurd h
   ends_by s (Some Ret) o h = ret_ends s.chain s o h
   ends_by s (Some (Trap kind)) o h = ap memories_at (sym h)
@@ -80,7 +81,7 @@ module _ (program : Program) where
   kept_by s t (Some (Jump p)) h = ap (λ (x : Plain). length x.space) (sym h)
   kept_by s t (Some (Arg m callee i a)) h = ap (λ (x : Plain). length x.space) (sym h)
   kept_by s t (Some (Call callee)) h =
-      called_keeps s t (record s { position = entry_of program callee; chain = suc s.position ∷ s.chain }) (trapped trap_kind.StackExhausted (states program s)) (nat_lt (depth s) 1024) refl h
+      called_keeps s t (record s { position = entry_of program callee; chain = suc s.position ∷ s.chain }) (trapped trap_kind.StackExhausted (states program s)) (nat_lt (depth s) most_calls) refl h
   kept_by s t (Some (Out m i a)) h = ap (λ (x : Plain). length x.space) (sym h)
   kept_by s t (Some Ret) h = ret_keeps s.chain s t h
   kept_by s t (Some (Trap kind)) h = absurd h

@@ -3,6 +3,7 @@ use Rattle.std.proofs.Common.{◌≡◌, ◌≢◌, inl, inr, ℕ, zero, suc, �
 use Rattle.std.specs.Prelude.{nat_lt, ◌==◌, if◌then◌else◌, slice_index, option_map}
 use Rattle.std.proofs.lemmas.Bool.{cases_eq}
 use Rattle.std.proofs.lemmas.Option.{none-some, slice_get_within}
+use Rattle.bl_base.specs.Quantity.{most_calls}
 use Rattle.bl_base.proofs.Lists.{some_same, all_get}
 use Rattle.bl_base.proofs.RunLemmas.{IsNext}
 use Rattle.bl_base.specs.Runs.{Outcome, goes, ends, trapped}
@@ -170,7 +171,7 @@ module _ (program : Program) (facts : IsProgram program) (rules : IsWellFormed p
     sized_by (Some (Jump p)) e h = kept (ap (λ (x : Plain). x.registers) h)
     sized_by (Some (Arg m callee i a)) e h =
         wrote (suc (depth s)) _ _ (ap (λ (x : Plain). x.registers) h) (λ memory defined found. subst (λ n. n ≤ defined.reserve) (sym (deep_written s.registers (depth s) _ _ (size_of program memory))) (z memory defined found))
-    sized_by (Some (Call callee)) e h = call_sized callee (trapped trap_kind.StackExhausted (states program s)) (nat_lt (depth s) 1024) h
+    sized_by (Some (Call callee)) e h = call_sized callee (trapped trap_kind.StackExhausted (states program s)) (nat_lt (depth s) most_calls) h
     sized_by (Some (Out m i a)) e h =
         wrote (length s.chain) (result program (running program s.position) i) _ (ap (λ (x : Plain). x.registers) h) (λ memory defined found. let lt = exists memory defined found in
         apart_from (length s.chain) (result program (running program s.position) i) _ memory defined found (λ u. omega (arith, u)))

@@ -2,6 +2,7 @@
 use Rattle.std.proofs.Common.{◌≡◌, ◌⊎◌, inl, inr, ℕ, zero, suc, ◌%◌, ◌^◌, ◌<◌, List, [], ◌∷◌, length, Option, Some, None, true, false, Bool, refl, sym, ap, ◌∙◌, subst, arith}
 use Rattle.std.specs.Prelude.{nat_lt, ◌==◌, if◌then◌else◌}
 use Rattle.std.proofs.lemmas.Bool.{cases_lt}
+use Rattle.bl_base.specs.Quantity.{most_calls}
 use Rattle.bl_base.proofs.Lists.{some_same, all_get, within_get}
 use Rattle.bl_base.proofs.RunLemmas.{IsNext}
 use Rattle.bl_base.specs.Runs.{Outcome, goes, ends, trapped, Comes, HasStep}
@@ -130,7 +131,7 @@ module _ (program : Program) (facts : IsProgram program) (rules : IsWellFormed p
         tested one.0 other.0 (value_of program cond s % 2 ^ 32 == 0) (placed f one.0 (targets one.0 (inl refl))) (placed f other.0 (targets other.0 (inr refl))) h
     stands_by (Some (Jump p)) e h = moved p.0 (placed f p.0 ((rules.rule5 s.position f (Jump p) holds e).targets p.0 refl)) (sym (ap (λ (x : Plain). x.position) h)) (sym (ap (λ (x : Plain). x.chain) h))
     stands_by (Some (Arg m callee i a)) e h = on _ e (λ l. l) (ap (λ (x : Plain). x.position) h) (ap (λ (x : Plain). x.chain) h)
-    stands_by (Some (Call callee)) e h = called callee (too_deep s) (nat_lt (depth s) 1024) e h
+    stands_by (Some (Call callee)) e h = called callee (too_deep s) (nat_lt (depth s) most_calls) e h
     stands_by (Some (Out m i a)) e h = on _ e (λ l. l) (ap (λ (x : Plain). x.position) h) (ap (λ (x : Plain). x.chain) h)
     stands_by (Some Ret) e h = returned_to s.chain returns h
     stands_by (Some (Trap kind)) e h = absurd h
@@ -170,7 +171,7 @@ module _ (program : Program) (facts : IsProgram program) (rules : IsWellFormed p
     command_steps (Test cond one other) = test_steps one.0 other.0 (value_of program cond s % 2 ^ 32 == 0)
     command_steps (Jump p) = tt
     command_steps (Arg m callee i a) = tt
-    command_steps (Call callee) = call_steps (too_deep s) callee (nat_lt (depth s) 1024)
+    command_steps (Call callee) = call_steps (too_deep s) callee (nat_lt (depth s) most_calls)
     command_steps (Out m i a) = tt
     command_steps Ret = ret_steps s.chain
     command_steps (Trap kind) = tt
@@ -217,7 +218,7 @@ module _ (program : Program) (facts : IsProgram program) (rules : IsWellFormed p
           came_tested (value_of program cond s % 2 ^ 32 == 0) one.0 other.0 (λ u. guarded.others s.position (Test cond one other) e (inl u)) (λ u. guarded.others s.position (Test cond one other) e (inr u)) h
       came_by (Some (Jump p)) e h = here (guarded.others s.position (Jump p) e (ap (λ (x : Plain). x.position) h ∙ is))
       came_by (Some (Arg m callee i a)) e h = went_on (ap (λ (x : Plain). x.position) h)
-      came_by (Some (Call callee)) e h = came_called callee (too_deep s) (nat_lt (depth s) 1024) e h
+      came_by (Some (Call callee)) e h = came_called callee (too_deep s) (nat_lt (depth s) most_calls) e h
       came_by (Some (Out m i a)) e h = went_on (ap (λ (x : Plain). x.position) h)
       came_by (Some Ret) e h = came_back s.chain returns h
       came_by (Some (Trap kind)) e h = absurd h

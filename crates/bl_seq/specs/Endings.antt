@@ -1,7 +1,9 @@
 -- The memories at a run's end.
 use Rattle.std.specs.Prelude.{◌≡◌, ◌≤◌, ◌*◌, ℕ, List, length, take, drop}
 use Rattle.std.specs.List.{All}
+use Rattle.bl_base.specs.Quantity.{limit_of}
 use Rattle.bl_base.specs.Runs.{MemoryState, Outcome, returned, trapped, Next, goes, ends, stuck}
+use Rattle.bl_base.specs.declared.quantity.Quantity.TheVariants as quantity
 use Rattle.bl_cmd.specs.Layout.{size_of}
 use Rattle.bl_cmd.specs.Steps.{Plain, Registers, states_from}
 use Rattle.bl_cmd.specs.declared.definitions.ProgramParts.{ProgramParts as Program}
@@ -17,7 +19,7 @@ pages_at space from pages = record { pages = pages; bytes = take (pages * 65536)
 -- a memory has all bytes of its pages, of which there are few
 pub record IsWhole (state : MemoryState) : Type 0 where
   pub len : length state.bytes ≡ state.pages * 65536
-  pub few : state.pages ≤ 256
+  pub few : state.pages ≤ limit_of quantity.Memory
 
 abbrev pub memories_at : Outcome → List MemoryState
 memories_at (returned values memories) = memories

@@ -1,5 +1,7 @@
 //! What is known of a program before a run.
 ghost use Rattle.std.specs.Prelude.{◌≡◌, ◌≤◌, ◌+◌, ◌*◌, ◌^◌, ◌<◌, ◌∷◌, ◌++◌, IfOk, OnOk, length, replicate};
+ghost use Rattle.bl_base.specs.Quantity.{limit_of};
+ghost use Rattle.bl_base.specs.declared.quantity.Quantity.TheVariants as quantity;
 ghost use Rattle.bl_cmd.specs.Layout.{base, entry_of, first_of, params_of, result as variable_of_result, results_of, running, statics, sum_before};
 ghost use Rattle.bl_cmd.specs.Rules.{IsWellFormed};
 ghost use Rattle.bl_cmd.specs.Programs.{IsProgram};
@@ -90,7 +92,7 @@ impl<'p> Layout<'p> {
     pub fn base(&self, memory: u32) -> usize
         requires { IsLayout self.now }
         ensures place { result ≡ base self.now.parts.now memory }
-        ensures small { result ≤ 1024 * 65536 }
+        ensures small { result ≤ limit_of quantity.Reserve * 65536 }
     {
         let last = self.bases.len() - 1;
         self.bases[last.min(memory as usize)]
@@ -111,7 +113,7 @@ fn frames_of(
     functions: &[FunctionDef],
     statics: usize,
 ) -> Result<Vec<Frame>, NoMemory>
-    requires functions { length functions.now ≤ 80000 }
+    requires functions { length functions.now ≤ limit_of quantity.Modules * limit_of quantity.Functions }
     requires statics { statics < 2 ^ 31 }
     ensures { IfOk result (λ frames. frames.items ≡ frames_from 7 statics functions.now) }
 {
@@ -139,7 +141,7 @@ fn frames_of(
 
 /// The function that holds each position; the traps are the first one's.
 fn owners_of(alloc: Global, functions: &[FunctionDef]) -> Result<Vec<u32>, NoMemory>
-    requires { length functions.now ≤ 80000 }
+    requires { length functions.now ≤ limit_of quantity.Modules * limit_of quantity.Functions }
     ensures { IfOk result (λ owners. owners.items ≡ replicate 7 0 ++ owners_from 0 functions.now) }
 {
     let mut owners = Vec::new(alloc);
@@ -162,7 +164,7 @@ fn push_owner(owners: &mut Vec<u32>, number: u32, count: u32) -> Result<(), NoMe
 
 /// Where each memory begins.
 fn bases_of(alloc: Global, memories: &[MemoryDef]) -> Result<Vec<usize>, NoMemory>
-    requires { sum_before (λ memory. memory.reserve) memories.now (length memories.now) ≤ 1024 }
+    requires { sum_before (λ memory. memory.reserve) memories.now (length memories.now) ≤ limit_of quantity.Reserve }
     ensures { IfOk result (λ bases. bases.items ≡ 0 ∷ ends_from 0 memories.now) }
 {
     let mut bases = Vec::new(alloc);

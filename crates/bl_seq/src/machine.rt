@@ -1,5 +1,6 @@
 //! The machine of plain runs, which executes a command a step.
 ghost use Rattle.std.specs.Prelude.{◌≡◌, ◌≤◌, ◌+◌, ◌%◌, ◌^◌, ◌<◌, ◌==◌, if◌then◌else◌, suc, IfOk, OnOk, Some, length};
+ghost use Rattle.bl_base.specs.Quantity.{most_calls};
 ghost use Rattle.bl_ops.specs.Numerics.{meaning};
 ghost use Rattle.bl_cmd.specs.declared.definitions.ProgramParts.{ProgramParts};
 ghost use Rattle.bl_cmd.specs.Layout.{param, result as variable_of_result, running};
@@ -11,19 +12,16 @@ ghost use Rattle.bl_seq.specs.Machines.{Leads, next_of, shown};
 
 use crate::layout::Layout;
 use crate::state::{Machine, Progress};
-use bl_base::{NoMemory, Pos, Trap, Var};
+use bl_base::{MOST_CALLS, NoMemory, Pos, Trap, Var};
 use bl_cmd::{Command, Operand};
 use bl_ops::{AccessKind, Op, eval};
 use std::alloc::Global;
-
-/// The most calls that are open at once, the run's own function included.
-const MOST_CALLS: usize = 1_024;
 
 impl Machine {
     /// The number of open calls, the run's own function included.
     fn depth(&self) -> usize
         ensures value { result ≡ depth (shown self.now) }
-        ensures few { result ≤ 1024 }
+        ensures few { result ≤ most_calls }
     {
         self.chain.len() + 1
     }
@@ -272,7 +270,7 @@ impl Machine {
         requires position { self.old.position + 1 < 2 ^ 64 }
         ensures { IfOk result (λ progress. call layout.now.parts.now function (shown self.old) ≡ next_of layout.now.parts.now progress (shown self.new)) }
     {
-        if self.depth() >= MOST_CALLS {
+        if self.depth() >= MOST_CALLS as usize {
             return Ok(Progress::Trapped(Trap::StackExhausted));
         }
         self.chain.open(self.position + 1)?;

@@ -1,5 +1,6 @@
 //! A run between two steps.
 ghost use Rattle.std.specs.Prelude.{◌<◌, length};
+ghost use Rattle.bl_base.specs.Quantity.{most_calls};
 
 use crate::chain::Chain;
 use crate::registers::Registers;
@@ -30,5 +31,5 @@ pub struct Machine {
     pub registers: Registers,
     /// The bytes of all memories.
     pub space: Space,
-    pub ghost few: { length chain < 1024 },
+    pub ghost few: { length chain < most_calls },
 }

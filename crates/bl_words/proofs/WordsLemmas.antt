@@ -9,6 +9,8 @@ use Rattle.std.proofs.lemmas.Bool.Decides.{not_from_Decides}
 use Rattle.std.proofs.lemmas.List.{take-append-drop}
 use Rattle.std.proofs.lemmas.Option.{none-some}
 use Rattle.std.proofs.lemmas.Slice.Eq.{bytes_eq-Decides}
+use Rattle.bl_base.specs.Quantity.{limit_of}
+use Rattle.bl_base.specs.declared.quantity.Quantity.TheVariants as quantity
 use Rattle.bl_words.specs.Requests.{AreNamedApart, GenRequest, HardenRequest, IsGenInRange, Parts, Request, are_distinct, command_named, gen, gen_of, harden, harden_of, interp, interp_of, lower, lower_of, module_name, modules_in, modules_of, parts_behind_steps, parts_of, request_by, request_of, run, run_of, seed_of, size_of, spec, spec_of, steps_of, twin, twin_of, verify, verify_of}
 use Rattle.bl_trace.specs.Digits.{decimal_below, is_decimal}
 use Rattle.bl_words.specs.Requests.{BeginsWithDash, IsOption, IsTakenApart, no_words, options_end, argument, value_in_next_word, value_in_same_word}
@@ -169,11 +171,11 @@ seed_below word =
     (λ seed below. of_cond (λ found. IfSome found (λ seed. seed < 2 ^ 64)) (nat_lt (length word) 21) (Some seed) None (λ _. below) (λ _. tt))
 
 abbrev IsSize : ℕ → Type 0
-IsSize size = (1 ≤ size) × (size ≤ 10000)
+IsSize size = (1 ≤ size) × (size ≤ limit_of quantity.Functions)
 
 size_within : (word : List ℕ) → IfSome (size_of word) IsSize
 size_within word =
-    found_then (λ size. size < 10001) IsSize _ (decimal_below 10001 word) (below_limit 10001 word)
+    found_then (λ size. size < limit_of quantity.Functions + 1) IsSize _ (decimal_below (limit_of quantity.Functions + 1) word) (below_limit (limit_of quantity.Functions + 1) word)
     (λ size below. of_cond (λ found. IfSome found IsSize) (nat_lt 0 size && nat_lt (length word) 6) (Some size) None
     (λ e.
     let positive = ltb-true 0 size (and_parts (nat_lt 0 size) (nat_lt (length word) 6) e).0 in

@@ -3,6 +3,8 @@ use Rattle.std.specs.Prelude.{◌≡◌, ℕ, ◌-◌, ◌^◌, ◌<◌, ◌≤�
 use Rattle.std.specs.List.{after_last, list_any}
 use Rattle.std.specs.Option.{option_map}
 use Rattle.std.specs.Str.{bytes_eq}
+use Rattle.bl_base.specs.Quantity.{limit_of}
+use Rattle.bl_base.specs.declared.quantity.Quantity.TheVariants as quantity
 use Rattle.bl_trace.specs.Digits.{decimal_below}
 use Rattle.bl_words.specs.declared.command.Command.{Command}
 use Rattle.bl_words.specs.declared.command.Command.TheVariants.{Gen, Harden, Interp, Lower, Run, Spec, Twin, Verify}
@@ -165,16 +167,16 @@ steps_of values = None
 abbrev pub seed_of : List ℕ → Option ℕ
 seed_of word = option_and_then (λ seed. if nat_lt (length word) 21 then Some seed else None) (decimal_below (2 ^ 64) word)
 
--- SIZE of `gen`: one to five decimal digits, leading zeros among them, of a number from 1 to 10,000; so it has no sign
+-- SIZE of `gen`: one to five decimal digits, leading zeros among them, of a number from 1 to the most functions; so it has no sign
 abbrev pub size_of : List ℕ → Option ℕ
 size_of word =
-    option_and_then (λ size. if nat_lt 0 size && nat_lt (length word) 6 then Some size else None) (decimal_below 10001 word)
+    option_and_then (λ size. if nat_lt 0 size && nat_lt (length word) 6 then Some size else None) (decimal_below (limit_of quantity.Functions + 1) word)
 
 -- the seed and the size of a `gen` are in range
 pub record IsGenInRange (request : GenRequest) : Type 0 where
   pub seed_fits : request.seed < 2 ^ 64
   pub size_is_positive : 1 ≤ request.size
-  pub size_is_within : request.size ≤ 10000
+  pub size_is_within : request.size ≤ limit_of quantity.Functions
 
 -- a name without one final `.wasm`
 abbrev pub without_ending : List ℕ → List ℕ

@@ -8,7 +8,7 @@ pub fn words_are_taken_apart()
         → (parts_of words ≡ Some (record { arguments = arguments; steps_values = values })) ↔ IsTakenApart words arguments values }
 {}
 
-/// The seed of a `gen` is below 2^64, and its size is from 1 to 10,000.
+/// The seed of a `gen` is below 2^64, and its size is from 1 to the most functions of a module.
 pub fn gen_in_range()
     ensures { (words : Listed (Listed ℕ)) (request : GenRequest) → request_of words ≡ Some (gen request) → IsGenInRange request }
 {}

@@ -2,10 +2,8 @@
 ghost use Rattle.std.specs.Prelude.{◌≡◌};
 ghost use Rattle.bl_words.specs.Requests.{seed_of, size_of};
 
+use bl_base::Quantity;
 use bl_trace::read_decimal;
-
-/// The greatest size that may be asked for.
-const GREATEST_SIZE: u64 = 10_000;
 
 /// A number below 2^64 in one to twenty decimal digits, without a sign.
 pub fn read_seed(word: &str) -> Option<u64>
@@ -17,11 +15,11 @@ pub fn read_seed(word: &str) -> Option<u64>
     }
 }
 
-/// A number from 1 to 10,000 in one to five decimal digits, without a sign.
+/// A number from 1 to the most functions of a module, in one to five decimal digits, without a sign.
 pub fn read_size(word: &str) -> Option<u32>
     ensures { result ≡ size_of word.now }
 {
-    match read_decimal(word.as_bytes(), GREATEST_SIZE) {
+    match read_decimal(word.as_bytes(), Quantity::Functions.limit()) {
         Some(size) if size > 0 && word.len() < 6 => Some(size as u32),
         _ => None,
     }

@@ -109,6 +109,6 @@ pub struct TwinWords<'a> {
 pub struct GenWords {
     /// The number that the module is made from.
     pub seed: u64,
-    /// The size of the module, from 1 to 10,000.
+    /// The size of the module, from 1 to the most functions of one.
     pub size: u32,
 }

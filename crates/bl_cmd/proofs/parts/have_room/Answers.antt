@@ -4,8 +4,8 @@ use Rattle.bl_cmd.specs.declared.definitions.MemoryDef.{MemoryDef}
 use Rattle.bl_cmd.proofs.Totals.{total_next, total_whole}
 use Rattle.bl_cmd.proofs.parts.have_room.Goals as goal
 
-pub returns-then-memory-total : goal.returns-then-memory-total
-returns-then-memory-total c =
+pub returns-then-memory-most : goal.returns-then-memory-most
+returns-then-memory-most c =
     let whole = total_whole (λ (m : MemoryDef). m.reserve) c.args.memories.now c.loop-memory.memory-index c.loop-memory.total c.memory-item.result c.loop-memory-test.true c.memory-item.is c.loop-memory.invariant.is in
     (λ t. absurd (false≢true t), λ le. absurd (omega arith))
 
