@@ -53,10 +53,6 @@ values_next f count y xs new is values e =
 
 -- ---- what stands at a place of a list
 
--- the item of a loop
-pub item_at : {X : Type 0} (xs ys : List X) (i : ℕ) (x : X) → ys ≡ xs → i < length ys → x ≡ get_or ys i x → slice_get xs i ≡ Some x
-item_at xs ys i x e lt is = subst (λ l. slice_get l i ≡ Some x) e (slice_get_read ys (length ys) i x refl lt is)
-
 pub reads_at : {X : Type 0} (xs ys : List X) (i : ℕ) (d : X) → ys ≡ xs → i < length xs → slice_get xs i ≡ Some (get_or ys i d)
 reads_at xs ys i d e lt = subst (λ l. slice_get xs i ≡ Some (get_or l i d)) (sym e) (slice_get-get_or xs i d lt)
 

@@ -62,10 +62,3 @@ module _ (known : Known) (is : IsKnown known) (arcs : List Arc) where
     (λ h. hold.full x s (subst (λ l. Contains l (record { from = x; to = s })) (sym same)
         (in_map from_var known.graph.now.reads (use_of s x) ((is.graph.reads.each s x).1 h)))),
   )
-
-pub marked_in : (marks : List Bool) (v : ℕ) → IsTrue (is_in marks v) → v < length marks
-marked_in marks v h =
-    elim (cases_lt v (length marks)) as (λ _. v < length marks) [
-      | inl lt ↦ lt
-      | inr past ↦ absurd (false≢true (sym (get_or_past marks v false past) ∙ h))
-    ]

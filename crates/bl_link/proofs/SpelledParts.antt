@@ -11,6 +11,8 @@ use Rattle.std.proofs.lemmas.Str.Ascii.{IsAscii-nil, IsAscii-cons}
 use Rattle.bl_base.specs.Quantity.{limit_of}
 use Rattle.bl_base.specs.declared.quantity.Quantity.{Quantity}
 use Rattle.bl_base.specs.declared.quantity.Quantity.TheVariants.{Functions, Locals, Memory, Results, Table}
+use Rattle.bl_base.proofs.OptionLemmas.{either_none}
+use Rattle.bl_base.proofs.Lists.{length-filter_map}
 use Rattle.bl_labels.specs.Faults.{IsConsistent}
 use Rattle.bl_labels.specs.Marked.{unlabelled}
 use Rattle.bl_labels.specs.declared.labels.Labels.{Labels}
@@ -31,8 +33,8 @@ use Rattle.bl_link.specs.Linkable.{AreParts, IsName, IsPart}
 use Rattle.bl_link.specs.Links.{part_of}
 use Rattle.bl_link.specs.Stores.{AreApart}
 use Rattle.bl_link.specs.declared.part.Part.{Part}
-use Rattle.bl_link.proofs.Room.{fewer_filtered}
 use Rattle.bl_link.proofs.Spelled.{export_spelled, global_spelled, section_all, section_length, stands}
+use Rattle.bl_wasm.proofs.LimitLemmas.{above_none}
 
 type_spelled : (type : FuncType) (bytes : List ℕ) → function_type type bytes → 1 ≤ length bytes
 type_spelled type bytes h = omega (arith, ap length h.whole, length-append h.front h.rest, ap length h.first)
@@ -79,13 +81,6 @@ is_spelled bytes tree h =
 
 -- ---- the limits
 
-above_none : (which : Quantity) (value : ℕ) → above which value ≡ None → value ≤ limit_of which
-above_none which value none = grind arith
-
-either_none : {A : Type 0} (a b : Option A) → option_or a b ≡ None → (a ≡ None) × (b ≡ None)
-either_none None b none = (refl, none)
-either_none (Some x) b none = absurd (cc)
-
 all_none : {A : Type 0} (found : A → Option Excess) (xs : List A) → first_in found xs ≡ None → All (λ x. found x ≡ None) xs
 all_none found [] none = All-nil (λ x. found x ≡ None)
 all_none found (x ∷ xs) none =
@@ -119,7 +114,7 @@ labelled_part name bytes tree labels consistent named spelled few none =
         few,
         length-append (imported global_of tree) (map (λ (global : DefinedGlobal). global.kind) tree.globals),
         length-map tree.globals (λ (global : DefinedGlobal). global.kind),
-        fewer_filtered (λ (entry : Import). global_of entry.kind) tree.imports,
+        length-filter_map (λ (entry : Import). global_of entry.kind) tree.imports,
       );
       types = omega (arith, s.types, few);
       imports = omega (arith, s.imports, few);
@@ -137,10 +132,6 @@ pub part_from : (name bytes : List ℕ) (tree : Module) → IsName name → Spel
 part_from name bytes tree named spelled few none = labelled_part name bytes tree unlabelled none_consistent named spelled few none
 
 -- ---- what is read
-
--- a module within the limits has few functions
-pub few_functions : (tree : Module) → first_excess tree ≡ None → length (functions_of tree) < 2 ^ 32
-few_functions tree none = omega (arith, above_none Functions (length (functions_of tree)) (either_none (above Functions (length (functions_of tree))) _ none).0)
 
 -- a letter is a name
 pub is_name : (letter : ℕ) → letter < 128 → (letter ≡ 0x2F → ⊥) → IsName (letter ∷ [])

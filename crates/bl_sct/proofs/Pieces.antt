@@ -70,7 +70,3 @@ overlay_other (byte ∷ new) xs from i (inl lt) =
 overlay_other (byte ∷ new) xs from i (inr le) =
     ap (λ l. slice_get l i) (sym (overlay_next from byte new xs)) ∙ overlay_other new (set xs from byte) (suc from) i (inr (omega arith))
     ∙ set_other xs from i byte (λ e. omega arith)
-
-pub bytes_length : (width number : ℕ) → length (bytes_of width number) ≡ width
-bytes_length zero number = refl
-bytes_length (suc width) number = ap suc (bytes_length width _)

@@ -19,6 +19,7 @@ use Rattle.bl_words.specs.declared.words.GenWords.{GenWords}
 use Rattle.bl_words.specs.declared.words.Request.TheVariants.{Gen}
 use Rattle.bl_words.specs.declared.command.Command.{Command}
 use Rattle.bl_words.specs.declared.command.Command.TheVariants.{Gen as GenNamed, Harden, Interp, Lower, Run, Spec, Twin, Verify}
+use Rattle.bl_trace.proofs.Fitting.{below_limit}
 
 -- the tests of a word say what they are named for
 begins : (word : List ℕ) → begins_with_dash word ≡ true → BeginsWithDash word
@@ -151,11 +152,6 @@ with_modules made None apart h = tt
 with_modules made (Some modules) apart h = h modules apart
 
 -- ---- numbers
-
-below_limit : (limit : ℕ) (word : List ℕ) → IfSome (decimal_below limit word) (λ number. number < limit)
-below_limit limit word =
-    of_cond (λ found. IfSome found (λ number. number < limit)) (is_decimal word && nat_lt (digits_value 10 word) limit) (Some (digits_value 10 word)) None
-    (λ e. ltb-true _ _ (and_parts (is_decimal word) (nat_lt (digits_value 10 word) limit) e).1) (λ _. tt)
 
 -- what holds of what is found, and of what comes of it
 found_then : {A B : Type 0} (P : A → Type 0) (Q : B → Type 0) (next : A → Option B) (found : Option A) → IfSome found P → ((a : A) → P a → IfSome (next a) Q)

@@ -71,7 +71,7 @@ fn the_sum_with_the_greatest_seed_is_a_whole_number(rt: HostRuntime) -> Result<(
 }
 
 /// Whether the bytes are decoded and found valid.
-#[tactic(auto, using(crate::proofs::Few::few_functions))]
+#[tactic(auto, using(bl_wasm::proofs::LimitLemmas::few_functions))]
 fn is_accepted(alloc: Global, bytes: &[u8]) -> bool {
     let Ok(tree) = decode(alloc, bytes) else {
         return false;

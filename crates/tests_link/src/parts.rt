@@ -19,7 +19,7 @@ fn is_plain(name: &[u8]) -> bool
 }
 
 /// The part of that name whose module the bytes spell, with the labels in them; None where there is none.
-#[tactic(auto, using(bl_link::proofs::SpelledParts::few_functions))]
+#[tactic(auto, using(bl_wasm::proofs::LimitLemmas::few_functions))]
 fn part(alloc: Global, name: &str, bytes: &[u8]) -> Result<Option<Part>, NoMemory>
     ensures { IfOk result (λ part. IfSome part IsPart) }
 {

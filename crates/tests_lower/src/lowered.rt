@@ -13,7 +13,7 @@ use std::alloc::Global;
 use std::test::Fail;
 
 /// The part "m" whose module the bytes spell, without labels; None where they spell no valid one, or are more than 1,000.
-#[tactic(auto, using(bl_link::proofs::SpelledParts::few_functions))]
+#[tactic(auto, using(bl_wasm::proofs::LimitLemmas::few_functions))]
 fn part(alloc: Global, bytes: &[u8]) -> Result<Option<Part>, Fail>
     ensures { IfOk result (λ part. IfSome part IsPart) }
 {
