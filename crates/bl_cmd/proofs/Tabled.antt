@@ -5,7 +5,7 @@ use Rattle.bl_base.specs.declared.number.Var.{Var}
 use Rattle.bl_cmd.specs.declared.command.Operand.{Operand}
 use Rattle.bl_cmd.specs.declared.command.Operand.TheVariants as named
 use Rattle.std.proofs.lemmas.Bool.{cases_lt, false≢true}
-use Rattle.std.proofs.lemmas.Option.{none-some, slice_get-get_or, slice_get_read}
+use Rattle.std.proofs.lemmas.Option.{none-some, slice_get-get_or}
 use Rattle.bl_cmd.specs.Layout.{first_of, entry_of, Holds}
 use Rattle.bl_cmd.specs.Rules.{Rule2, GoesTo, IsOwn, IsReadable, IsResult, IsPassed, IsGuarded}
 use Rattle.bl_cmd.specs.Entrants.{Goes, Spans}

@@ -1,6 +1,5 @@
 -- Spellings are prefix-free: each combinator of the grammar.
 use Rattle.std.proofs.Common.{◌≡◌, ℕ, List, [], ◌∷◌, ◌++◌, length, append_assoc, ap, sym, ◌∙◌, refl, subst, arith}
-use Rattle.std.proofs.lemmas.List.{append_cancel_left}
 use Rattle.bl_leb.proofs.Signed as signed
 use Rattle.std.specs.Int.{w32, w64, from_le_bytes}
 use Rattle.bl_base.proofs.Lists.{front_same, rest_same}

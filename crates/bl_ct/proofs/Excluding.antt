@@ -1,7 +1,6 @@
 -- Secret variables are secret in each labelling, so that a chain leaves none that keeps the rules.
-use Rattle.std.proofs.Common.{ℕ, Bool, true, false, List, [], ◌∷◌, inl, inr, not}
+use Rattle.std.proofs.Common.{ℕ, Bool, List, [], ◌∷◌, inl, inr}
 use Rattle.std.specs.Prelude.{IsTrue}
-use Rattle.std.proofs.lemmas.Bool.{false≢true}
 use Rattle.bl_base.proofs.BoolLemmas.{never_both}
 use Rattle.bl_cmd.specs.declared.definitions.ProgramParts.{ProgramParts as Program}
 use Rattle.bl_graph.specs.declared.secret.Origin.{Origin}

@@ -1,9 +1,7 @@
 -- Rows of uses.
-use Rattle.std.proofs.Common.{◌≡◌, ℕ, ◌<◌, Bool, false, List, length, sym, ap, subst, ◌∙◌, inl, inr, map, arith}
-use Rattle.std.specs.Prelude.{◌↔◌, IsTrue}
+use Rattle.std.proofs.Common.{◌≡◌, ℕ, ◌<◌, List, length, sym, ap, subst, ◌∙◌, map, arith}
+use Rattle.std.specs.Prelude.{◌↔◌}
 use Rattle.std.specs.List.{All, Contains, slice_index_or}
-use Rattle.std.proofs.lemmas.Bool.{cases_lt, false≢true}
-use Rattle.std.proofs.lemmas.List.{get_or_past}
 use Rattle.std.proofs.lemmas.List.Elements.{Contains-get_or}
 use Rattle.bl_cmd.specs.Sites.{Reads, Writes}
 use Rattle.bl_graph.specs.Graphs.{use_of}
@@ -12,7 +10,7 @@ use Rattle.bl_graph.specs.declared.facts.Use.{Use}
 use Rattle.bl_ct.specs.declared.facts.Known.{Known}
 use Rattle.bl_ct.specs.declared.search.Arc.{Arc}
 use Rattle.bl_ct.specs.Facts.{IsKnown}
-use Rattle.bl_ct.specs.Finding.{RowsOf, row_at, from_site, from_var, is_in}
+use Rattle.bl_ct.specs.Finding.{RowsOf, row_at, from_site, from_var}
 use Rattle.bl_graph.proofs.Members.{in_map, from_map}
 use Rattle.bl_ct.proofs.Knowing.{writes_in, reads_in}
 

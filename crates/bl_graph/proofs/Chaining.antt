@@ -1,8 +1,8 @@
 -- Chains: what meets them, and which sites they have.
-use Rattle.std.proofs.Common.{◌≡◌, ℕ, ◌<◌, ◌≤◌, ◌*◌, Bool, true, false, List, [], ◌∷◌, Option, Some, None, unwrap_or, sym, ap, ◌∙◌, arith, inl, inr, not, nat_eq}
-use Rattle.std.specs.Prelude.{IsTrue, IsSome}
+use Rattle.std.proofs.Common.{◌≡◌, ℕ, ◌<◌, ◌≤◌, ◌*◌, Bool, List, [], ◌∷◌, Some, unwrap_or, sym, ap, ◌∙◌, arith, inl, inr, not, nat_eq}
+use Rattle.std.specs.Prelude.{IsTrue}
 use Rattle.std.specs.List.{All, Any, Contains, count_by}
-use Rattle.std.proofs.lemmas.Bool.{cases_Bool, not_from_false, false≢true}
+use Rattle.std.proofs.lemmas.Bool.{cases_Bool, not_from_false}
 use Rattle.std.proofs.lemmas.List.Elements.{All-contains, All-cons, All-nil, Contains-get_or}
 use Rattle.bl_base.proofs.Sums.{sum_le}
 use Rattle.bl_base.proofs.BoolLemmas.{never_both}

@@ -1,6 +1,6 @@
 -- The variables of the functions before one, with those of one more.
-use Rattle.std.proofs.Common.{◌≡◌, ℕ, suc, ◌+◌, ◌^◌, ◌<◌, ◌≤◌, List, length, get_or, Some, slice_get, subst, arith}
-use Rattle.std.proofs.lemmas.Option.{slice_get_read, slice_get_within}
+use Rattle.std.proofs.Common.{◌≡◌, ℕ, suc, ◌+◌, ◌^◌, ◌<◌, ◌≤◌, List, length, get_or, arith}
+use Rattle.std.proofs.lemmas.Option.{slice_get_within}
 use Rattle.bl_base.proofs.Lists.{item_at}
 use Rattle.bl_cmd.specs.Layout.{first_of, entry_of}
 use Rattle.bl_cmd.specs.Rules.{Rule2}

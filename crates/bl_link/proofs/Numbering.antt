@@ -1,8 +1,6 @@
 -- Lists of numbers beside lists of what they number.
-use Rattle.std.proofs.Common.{◌≡◌, ◌∙◌, refl, ap, subst, ℕ, zero, suc, ◌+◌, List, [], ◌∷◌, ◌++◌, length, get_or, map, true, Bool, Option, Some, None, slice_get, filter_map, arith, add-zero}
-use Rattle.std.specs.List.{All, AllZip, cons_option, range_with_len, enumerate_from}
-use Rattle.std.proofs.lemmas.List.Elements.{All-get_or}
-use Rattle.std.proofs.lemmas.Option.{get_or_from_slice_get, slice_get_within, slice_get-get_or}
+use Rattle.std.proofs.Common.{◌≡◌, ◌∙◌, refl, ap, subst, ℕ, zero, suc, ◌+◌, List, [], ◌∷◌, ◌++◌, length, get_or, true, Bool, Option, Some, None, slice_get, filter_map, arith, add-zero}
+use Rattle.std.specs.List.{AllZip, cons_option, range_with_len, enumerate_from}
 use Rattle.bl_link.specs.Matching.{passes}
 
 pub by_place : {A : Type 0} (R : A → ℕ → Type 0) (xs : List A) (ys : List ℕ) → AllZip R xs ys → (i : ℕ) (x : A) → slice_get xs i ≡ Some x → R x (get_or ys i 0)

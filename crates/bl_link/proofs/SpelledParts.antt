@@ -1,15 +1,13 @@
 -- What the spelling of a module says of a part that it is.
-use Rattle.std.proofs.Common.{◌≡◌, refl, sym, subst, ℕ, zero, suc, ◌<◌, ◌≤◌, ◌^◌, List, [], ◌∷◌, length, length-append, map, ap, arith, Option, Some, None}
+use Rattle.std.proofs.Common.{◌≡◌, refl, sym, subst, ℕ, zero, suc, ◌<◌, ◌≤◌, ◌^◌, List, [], ◌∷◌, length, length-append, map, ap, arith, Option, None}
 use Rattle.std.specs.List.{All, zip}
 use Rattle.std.specs.Str.{IsUtf8}
-use Rattle.std.specs.Option.{option_or}
 use Rattle.std.proofs.lemmas.List.{length-map}
 use Rattle.std.proofs.lemmas.List.Elements.{All-nil, All-cons, All-weaker}
 use Rattle.std.proofs.lemmas.Option.{none-some}
 use Rattle.std.proofs.lemmas.Str.{IsUtf8-from_ascii}
 use Rattle.std.proofs.lemmas.Str.Ascii.{IsAscii-nil, IsAscii-cons}
 use Rattle.bl_base.specs.Quantity.{limit_of}
-use Rattle.bl_base.specs.declared.quantity.Quantity.{Quantity}
 use Rattle.bl_base.specs.declared.quantity.Quantity.TheVariants.{Functions, Locals, Memory, Results, Table}
 use Rattle.bl_base.proofs.OptionLemmas.{either_none}
 use Rattle.bl_base.proofs.Lists.{length-filter_map}

@@ -1,9 +1,8 @@
 -- What a typing says of the values that an item takes: they are there.
-use Rattle.std.proofs.Common.{◌≡◌, ℕ, zero, suc, ◌≤◌, List, [], ◌∷◌, ◌++◌, length, map, reverse, replicate, Some, slice_get, ◌⊎◌, inl, inr, refl, sym, ap, ◌∙◌, subst, arith, length-append}
-use Rattle.std.specs.Prelude.{option_and_then, unwrap_or}
-use Rattle.std.specs.List.{All, AllZip}
+use Rattle.std.proofs.Common.{◌≡◌, ℕ, ◌≤◌, List, [], ◌∷◌, ◌++◌, length, map, reverse, replicate, Some, slice_get, ◌⊎◌, inl, inr, refl, sym, ap, ◌∙◌, subst, arith, length-append}
+use Rattle.std.specs.Prelude.{option_and_then}
+use Rattle.std.specs.List.{AllZip}
 use Rattle.std.proofs.lemmas.List.{length-map, length-reverse, length-replicate}
-use Rattle.std.proofs.lemmas.List.Elements.{All-drop, All-get_or}
 use Rattle.std.proofs.lemmas.Option.{same_Some}
 use Rattle.bl_ops.specs.Table.{row_of}
 use Rattle.bl_ops.specs.declared.op.Op.{Op}

@@ -1,7 +1,7 @@
 -- Bytes that are written over others, and bytes as numbers.
 use Rattle.std.proofs.Common.{◌≡◌, ℕ, zero, suc, ◌+◌, ◌-◌, ◌*◌, ◌/◌, ◌%◌, ◌<◌, ◌≤◌, List, [], ◌∷◌, ◌++◌, length, take, drop, set, get_or, refl, ap, arith, length-append}
 use Rattle.std.proofs.lemmas.List.{length-take, length-drop}
-use Rattle.bl_base.specs.Bytes.{number_of, bytes_of}
+use Rattle.bl_base.specs.Bytes.{bytes_of}
 use Rattle.bl_base.proofs.ByteLemmas.{length-bytes_of}
 use Rattle.bl_memory.specs.Spaces.{over}
 

@@ -1,18 +1,16 @@
 -- Runs from starts that agree in public begin alike.
-use Rattle.std.proofs.Common.{◌≡◌, inl, inr, ℕ, zero, suc, ◌+◌, ◌-◌, ◌*◌, ◌<◌, ◌≤◌, Bool, true, false, List, [], ◌∷◌, ◌++◌, length, map, replicate, Some, slice_get, refl, sym, ap, ◌∙◌, subst, arith}
+use Rattle.std.proofs.Common.{◌≡◌, inl, inr, ℕ, zero, suc, ◌+◌, ◌-◌, ◌*◌, ◌<◌, ◌≤◌, Bool, true, false, List, [], ◌∷◌, ◌++◌, length, map, Some, slice_get, refl, sym, ap, ◌∙◌, subst, arith}
 use Rattle.std.proofs.lemmas.Bool.{ltb-false}
-use Rattle.std.proofs.lemmas.List.{length-append, length-map, length-replicate}
+use Rattle.std.proofs.lemmas.List.{length-map}
 use Rattle.std.proofs.lemmas.List.Elements.{All-head, All-tail}
 use Rattle.std.proofs.lemmas.Option.{slice_get_cases, slice_get_past, unwrap_or-slice_get, same_Some}
-use Rattle.std.specs.List.{All, fold}
+use Rattle.std.specs.List.{All}
 use Rattle.std.specs.Prelude.{not, nat_lt, if◌then◌else◌, slice_index, unwrap_or, IsTrue, IsSomeAnd}
 use Rattle.bl_base.proofs.Lists.{zip_length}
-use Rattle.bl_base.specs.Bytes.{patched}
-use Rattle.bl_base.specs.Fits.{ArgumentFits, PatchFits}
+use Rattle.bl_base.specs.Fits.{ArgumentFits}
 use Rattle.bl_base.specs.Runs.{MemoryState}
 use Rattle.bl_base.specs.declared.names.Label.{Label}
 use Rattle.bl_base.specs.declared.names.Label.TheVariants.{Public, Secret}
-use Rattle.bl_base.specs.declared.start.Patch.{Patch}
 use Rattle.bl_base.specs.declared.start.Start.{Start}
 use Rattle.bl_cmd.specs.Layout.{sum_before, first_of, param}
 use Rattle.bl_cmd.specs.Outcomes.{first_memory, first_memories, padded, space_of, first_registers, opening, IsStart, Agree}
@@ -27,7 +25,7 @@ use Rattle.bl_graph.specs.declared.secret.Origin.TheVariants.{Parameter}
 use Rattle.bl_seq.specs.Openings.{AreSized}
 use Rattle.bl_seq.proofs.OwnSizes.{whole}
 use Rattle.bl_seq.proofs.OwnSteps.{Reached}
-use Rattle.bl_seq.proofs.Starting.{lies_inside, sized_first, sized_patched}
+use Rattle.bl_seq.proofs.Starting.{sized_first}
 use Rattle.bl_sct.specs.Lockstep.{IsPublicPlace}
 use Rattle.bl_sct.proofs.Together.{Twins, twins}
 use Rattle.bl_seq.proofs.Ending.{sized_all, padded_length}

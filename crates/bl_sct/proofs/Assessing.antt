@@ -1,5 +1,5 @@
 -- From the two verdicts to the one on two runs.
-use Rattle.std.proofs.Common.{◌≡◌, ℕ, Bool, true, false, not, subst}
+use Rattle.std.proofs.Common.{◌≡◌, ℕ, Bool, subst}
 use Rattle.std.proofs.Math.Path.{fun_ext}
 use Rattle.std.specs.Prelude.{IsTrue}
 use Rattle.bl_cmd.specs.Programs.{IsProgram}

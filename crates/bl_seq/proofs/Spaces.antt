@@ -1,7 +1,7 @@
 -- Bytes that are written over others, and bytes as numbers.
 use Rattle.std.proofs.Common.{◌≡◌, ℕ, zero, suc, ◌+◌, ◌-◌, ◌*◌, ◌/◌, ◌%◌, ◌<◌, ◌≤◌, min, List, [], ◌∷◌, length, take, drop, set, get_or, refl, sym, ap, ◌∙◌, arith}
 use Rattle.std.proofs.lemmas.List.{drop_min, length-drop, take_all, take_min}
-use Rattle.bl_base.specs.Bytes.{number_of, bytes_of}
+use Rattle.bl_base.specs.Bytes.{bytes_of}
 use Rattle.bl_cmd.specs.Steps.{overlay}
 
 -- ---- bytes over others

@@ -6,7 +6,6 @@ use Rattle.std.proofs.lemmas.List.Elements.{All-get_or}
 use Rattle.std.proofs.Math.Seq.{drop-cons}
 use Rattle.std.proofs.lemmas.Bool.{ltb-true, ltb-false}
 use Rattle.std.proofs.lemmas.List.{length-append, length-drop, length-take, length-replicate, take_all}
-use Rattle.std.proofs.lemmas.Option.{none-some}
 use Rattle.bl_base.specs.Bytes.{patch_over, patched, write}
 use Rattle.bl_base.specs.Fits.{LiesIn, PatchFits}
 use Rattle.bl_base.specs.Runs.{MemoryState}

@@ -1,5 +1,5 @@
 -- The least typing, as a test, and what passes.
-use Rattle.std.proofs.Common.{◌≡◌, ℕ, zero, suc, ◌<◌, Bool, true, false, length, refl, sym, subst, arith, ◌⊎◌, inl, inr, not, ◌&&◌, ◌||◌, nat_eq}
+use Rattle.std.proofs.Common.{◌≡◌, ℕ, zero, suc, ◌<◌, Bool, true, length, refl, sym, subst, arith, ◌⊎◌, inl, inr, not, ◌&&◌, ◌||◌, nat_eq}
 use Rattle.std.specs.Prelude.{IsTrue}
 use Rattle.std.proofs.lemmas.Bool.{not_from_false, false_from_ne_true, and_from, and_parts, or_left, or_right, or_cases, eqb-true, eq-eqb}
 use Rattle.bl_base.proofs.Sums.{last_or_before}

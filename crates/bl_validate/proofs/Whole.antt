@@ -1,6 +1,5 @@
 -- Typings of what is left of a body.
-use Rattle.std.proofs.Common.{◌≡◌, ◌↔◌, List, [], ◌∷◌, Some, Bool, true, false, IsTrue, refl, sym, subst, slice_get, ℕ, suc, ◌+◌, ◌<◌, length, get_or, drop, ap, ◌∙◌, arith}
-use Rattle.std.proofs.Math.Seq.{drop-cons}
+use Rattle.std.proofs.Common.{◌≡◌, ◌↔◌, List, [], ◌∷◌, Some, Bool, true, false, IsTrue, refl, subst, slice_get, ◌+◌, ◌<◌, ◌∙◌}
 use Rattle.bl_wasm.specs.Typing.{Open, Context, Rule, Types, IsTyping}
 use Rattle.bl_wasm.specs.declared.types.WasmType.{WasmType}
 use Rattle.bl_wasm.specs.declared.instruction.Instr.{Instr}

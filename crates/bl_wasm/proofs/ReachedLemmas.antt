@@ -1,5 +1,5 @@
 -- At a place that can be reached, all typings of a body agree.
-use Rattle.std.proofs.Common.{◌≡◌, ◌∙◌, refl, sym, ap, subst, ℕ, zero, suc, List, [], ◌∷◌, ◌++◌, length, replicate, take, true, false, Bool, Option, Some, slice_get, arith, length-append}
+use Rattle.std.proofs.Common.{◌≡◌, ◌∙◌, refl, sym, ap, subst, ℕ, zero, suc, List, [], ◌∷◌, ◌++◌, length, replicate, take, true, false, Bool, Some, slice_get, arith, length-append}
 use Rattle.std.specs.Prelude.{fold}
 use Rattle.std.proofs.lemmas.List.{append_cancel_right}
 use Rattle.bl_base.proofs.OptionLemmas.{same_value}

@@ -1,12 +1,12 @@
 -- The grammar on worked modules.
-use Rattle.std.proofs.Common.{ℕ, ◌<◌, List, [], ◌∷◌, ◌++◌, length, None, inl, inr, refl, sym, arith, append-nil}
+use Rattle.std.proofs.Common.{ℕ, ◌<◌, List, [], ◌∷◌, ◌++◌, length, None, inl, inr, refl, arith}
 use Rattle.std.specs.Prelude.{codes, pos, negsuc}
 use Rattle.std.specs.Str.{IsAscii}
 use Rattle.std.proofs.lemmas.Str.{IsUtf8-from_ascii}
 use Rattle.std.proofs.lemmas.Str.Ascii.{IsAscii-nil, IsAscii-cons}
 use Rattle.bl_ops.specs.declared.op.Op.TheVariants.{I32Add}
 use Rattle.bl_ops.specs.declared.access.AccessKind.TheVariants.{I32Load, I64Store8}
-use Rattle.bl_wasm.specs.Values.{Spellings, ◌⨾◌, byte, u32, each, vec, name, sized}
+use Rattle.bl_wasm.specs.Values.{Spellings, ◌⨾◌, u32, each, vec, name, sized}
 use Rattle.bl_wasm.specs.Types.{value_type, function_type}
 use Rattle.bl_wasm.specs.Instructions.{Nests, none, plain, loop, if_else, instruction, expression}
 use Rattle.bl_wasm.proofs.NestingLemmas.{closes, known_open}

@@ -3,14 +3,13 @@ use Rattle.std.proofs.Common.{◌≡◌, ◌∙◌, ap, sym, ℕ, ◌^◌, ◌<�
 use Rattle.std.specs.Prelude.{⊤, Decides, IfSome, codes, option_and_then}
 use Rattle.std.specs.Option.{option_map}
 use Rattle.std.specs.Str.{bytes_eq}
-use Rattle.std.specs.Str.Parse.{digits_value}
 use Rattle.std.proofs.lemmas.Bool.{and_parts, cond-false, eqb-true, ltb-true, false_from_ne_true}
 use Rattle.std.proofs.lemmas.Bool.Decides.{not_from_Decides}
 use Rattle.std.proofs.lemmas.List.{take-append-drop}
 use Rattle.std.proofs.lemmas.Option.{none-some}
 use Rattle.std.proofs.lemmas.Slice.Eq.{bytes_eq-Decides}
 use Rattle.bl_words.specs.Requests.{AreNamedApart, GenRequest, HardenRequest, IsGenInRange, Parts, Request, are_distinct, command_named, gen, gen_of, harden, harden_of, interp, interp_of, lower, lower_of, module_name, modules_in, modules_of, parts_behind_steps, parts_of, request_by, request_of, run, run_of, seed_of, size_of, spec, spec_of, steps_of, twin, twin_of, verify, verify_of}
-use Rattle.bl_trace.specs.Digits.{decimal_below, is_decimal}
+use Rattle.bl_trace.specs.Digits.{decimal_below}
 use Rattle.bl_words.specs.Requests.{BeginsWithDash, IsOption, IsTakenApart, no_words, options_end, argument, value_in_next_word, value_in_same_word}
 use Rattle.bl_words.specs.Requests.{begins_with_dash, is_option, is_steps_value, with_argument, with_steps}
 use Rattle.bl_words.proofs.ModuleWords.{named_apart}
