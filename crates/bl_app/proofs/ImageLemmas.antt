@@ -2,9 +2,9 @@
 use Rattle.std.proofs.Common.{◌≡◌, ℕ, ◌*◌, ◌≤◌, List, [], ◌∷◌, map, cond, Option, Some, None, slice_get, refl, sym, ap, ◌∙◌, subst, arith}
 use Rattle.std.specs.Str.{bytes_eq}
 use Rattle.std.proofs.Math.Nat.{mul-le-mul_left}
+use Rattle.std.proofs.lemmas.Option.{same_Some}
 use Rattle.bl_base.specs.Runs.{MemoryState, Outcome, returned, trapped}
 use Rattle.bl_base.specs.declared.names.ValueType.{ValueType}
-use Rattle.bl_base.proofs.Lists.{some_same}
 use Rattle.bl_wasm.specs.Exports.{Pairs, number_of}
 use Rattle.bl_wasm.specs.declared.linked.Signature.{Signature}
 use Rattle.bl_wasm.specs.declared.linked.Tree.{Tree}
@@ -14,9 +14,9 @@ use Rattle.bl_image.proofs.Prefixes.{one_program}
 use Rattle.bl_lower.specs.Trees.{export_def, low_tree, memory_def, step_bound}
 use Rattle.bl_lower.proofs.Defined.{IsDefined, has_type, is_defined}
 use Rattle.bl_lower.proofs.Opening.{memories_first}
-use Rattle.bl_lower.proofs.Parts.{map_map}
+use Rattle.bl_lower.proofs.TreeLayout.{map_map}
 use Rattle.bl_lower.proofs.WellFormed.{rules}
-use Rattle.bl_trace.specs.Answers.{answer_of}
+use Rattle.bl_trace.specs.StartFiles.{answer_of}
 use Rattle.bl_outcome.specs.Outcomes.{outcome_text}
 use Rattle.bl_build.specs.Building.{AreCompiled, Built}
 use Rattle.bl_build.specs.Entering.{Entered, entering, function_named, kinds_of, pages_of}
@@ -114,7 +114,7 @@ module _ (request : InterpRequest) (image_name start_name start : List ℕ) (con
       let exists = subst (λ q. slice_get q.functions number ≡ Some p.2.0.defined) program p.2.1.defined in
       let typed = has_type tree compiled.linked number p.2.0.defined exists in
       let d = is_defined tree compiled.linked number typed.0 typed.1 in
-      let kinds : kinds_of p.2.0.defined ≡ typed.0.params = ap kinds_of (some_same p.2.0.defined d.defined (sym exists ∙ d.exists)) ∙ d.kinds in
+      let kinds : kinds_of p.2.0.defined ≡ typed.0.params = ap kinds_of (same_Some p.2.0.defined d.defined (sym exists ∙ d.exists)) ∙ d.kinds in
       let pages : pages_of p.2.0.program ≡ sizes_of tree = ap pages_of (p.2.1.same_program ∙ program) ∙ map_map memory_def (λ memory. memory.pages) tree.memories in (
         typed.0,
         record {

@@ -11,7 +11,7 @@ use Rattle.bl_cmd.specs.declared.definitions.MemoryDef.{MemoryDef}
 use Rattle.bl_cmd.specs.declared.definitions.ProgramParts.{ProgramParts as Program}
 use Rattle.bl_image.specs.Image.{Image}
 use Rattle.bl_image.proofs.Prefixes.{one_program}
-use Rattle.bl_trace.specs.Answers.{answer_of}
+use Rattle.bl_trace.specs.StartFiles.{answer_of}
 use Rattle.bl_cut.specs.Marks.{protected}
 use Rattle.bl_cut.proofs.Marking.{run_back, run_same}
 use Rattle.bl_outcome.specs.Outcomes.{outcome_text}

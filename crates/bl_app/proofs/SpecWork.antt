@@ -6,7 +6,7 @@ use Rattle.bl_base.specs.Runs.{Outcome, outcome_of}
 use Rattle.bl_base.specs.declared.run.Run.{Run}
 use Rattle.bl_base.specs.declared.start.Start.{Start}
 use Rattle.bl_cmd.specs.declared.definitions.ProgramParts.{ProgramParts as Program}
-use Rattle.bl_rob.specs.Answers.{Told}
+use Rattle.bl_rob.specs.CallResults.{Told}
 use Rattle.bl_rob.specs.Machines.{State, opening}
 use Rattle.bl_rob.specs.Observed.{Observed, Observes, observed, reached}
 use Rattle.bl_rob.specs.declared.directive.Directive.{Directive}

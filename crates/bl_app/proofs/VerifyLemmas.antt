@@ -1,5 +1,6 @@
 -- The job of `verify` keeps the laws; what is said where it is done.
 use Rattle.std.proofs.Common.{◌↔◌, ◌≡◌, ℕ, List, [], ◌∷◌, Option, Some, refl, ap, sym, ◌∙◌, subst, map}
+use Rattle.bl_base.proofs.BoolLemmas.{never_both}
 use Rattle.bl_cmd.specs.Programs.{IsProgram}
 use Rattle.bl_cmd.specs.Rules.{IsWellFormed}
 use Rattle.bl_cmd.specs.Sites.{is_protected}
@@ -13,7 +14,7 @@ use Rattle.bl_ct.specs.declared.verdict.CtVerdict.{CtVerdict}
 use Rattle.bl_sct.specs.Verdicts.{Assesses, IsStable}
 use Rattle.bl_sct.specs.declared.verdict.Verdict.{Verdict}
 use Rattle.bl_sct.specs.declared.verdict.Verdict.TheVariants as assess
-use Rattle.bl_sct.proofs.Assessing.{hot, opposite}
+use Rattle.bl_sct.proofs.Assessing.{hot}
 use Rattle.bl_sct.proofs.Whole.{equal}
 use Rattle.bl_transient.proofs.Meeting.{chain_met}
 use Rattle.bl_transient.specs.Verdicts.{Judges, typing_of}
@@ -49,7 +50,7 @@ module _ (program : Program) where
   stable_back : (verdict : FlowVerdict) → Judges program (is_protected program) verdict → IsStable program → Stable verdict
   stable_back (flow.Yes typing) h p = tt
   stable_back (flow.No position) h p =
-      absurd (opposite (p.0 h.var) (hot program (is_protected program) p.0 p.1.assigns h.var h.hot) (p.1.sinks position.0 h.var h.sink))
+      absurd (never_both (p.0 h.var) (hot program (is_protected program) p.0 p.1.assigns h.var h.hot) (p.1.sinks position.0 h.var h.sink))
 
   -- a certificate keeps its rules exactly where the verdict says so
   module _ (certificate : Certificate) where

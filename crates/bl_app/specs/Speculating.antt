@@ -5,7 +5,7 @@ use Rattle.std.specs.List.{flat_map}
 use Rattle.bl_base.specs.Runs.{Outcome}
 use Rattle.bl_base.specs.declared.quantity.Quantity.TheVariants as quantity
 use Rattle.bl_cmd.specs.Outcomes.{plain}
-use Rattle.bl_rob.specs.Answers.{outcome_in}
+use Rattle.bl_rob.specs.CallResults.{outcome_in}
 use Rattle.bl_rob.specs.Machines.{State}
 use Rattle.bl_rob.specs.Observed.{Observed, observed, reached}
 use Rattle.bl_trace.specs.Observations.{observation_text}

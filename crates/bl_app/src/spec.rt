@@ -6,7 +6,7 @@ ghost use Rattle.bl_base.specs.Runs.{outcome_of};
 ghost use Rattle.bl_cmd.specs.Outcomes.{IsStart};
 ghost use Rattle.bl_outcome.specs.Lines.{line};
 ghost use Rattle.bl_app.specs.Executing.{plain_text};
-ghost use Rattle.bl_rob.specs.Answers.{outcome_in, shown};
+ghost use Rattle.bl_rob.specs.CallResults.{outcome_in, shown};
 ghost use Rattle.bl_trace.specs.Observations.{observation_text};
 ghost use Rattle.bl_app.specs.Jobs.{AreRead};
 ghost use Rattle.bl_app.specs.Speculating.{last_text, spec_job, spec_plan, spec_status};

@@ -1,7 +1,7 @@
 //! `twin`: from the bytes of an image, a trace file and two start files to how the two runs are observed, side by side.
 ghost use Rattle.std.specs.Prelude.{◌≡◌, ◌∷◌, [], None, IfOk, map};
 ghost use Rattle.bl_cmd.specs.Outcomes.{IsStart};
-ghost use Rattle.bl_rob.specs.Answers.{seen_in};
+ghost use Rattle.bl_rob.specs.CallResults.{seen_in};
 ghost use Rattle.bl_rob.specs.Observed.{observed};
 ghost use Rattle.bl_app.specs.Jobs.{AreRead};
 ghost use Rattle.bl_app.specs.Twinning.{twin_job, twin_status};

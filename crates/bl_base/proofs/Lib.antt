@@ -1,4 +1,9 @@
+pub mod BoolLemmas
+pub mod ByteLemmas
 pub mod Lists
+pub mod NameSets
+pub mod OptionLemmas
+pub mod PieceLemmas
 pub mod RunLemmas
 pub mod SetLemmas
 pub mod Sums

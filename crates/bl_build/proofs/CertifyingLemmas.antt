@@ -1,6 +1,5 @@
 -- A certificate that is read is one; why its bytes are refused.
 use Rattle.std.proofs.Common.{◌≡◌, ℕ, List, Some, None, refl, ap, sym, ◌∙◌}
-use Rattle.bl_base.proofs.Lists.{some_same}
 use Rattle.bl_cmd.specs.declared.definitions.ProgramParts.{ProgramParts as Program}
 use Rattle.bl_witness.specs.Shapes.{certificate_of, Reads}
 use Rattle.bl_build.specs.Entering.{imaging}
@@ -10,6 +9,7 @@ use Rattle.bl_build.specs.Certifying.{Certified, IsRead, ReadingRefuses, certify
 use Rattle.bl_build.proofs.EnteringLemmas.{imaging_lawful}
 use Rattle.bl_build.proofs.StageLemmas.{chain_lawful}
 use Rattle.std.specs.Prelude.{Err}
+use Rattle.std.proofs.lemmas.Option.{same_Some}
 use Rattle.bl_witness.specs.declared.error.CertError.{CertError}
 use Rattle.bl_witness.specs.declared.error.CertError.TheVariants as cert
 use Rattle.bl_build.specs.Working.{IsCertificateOf, cert_error}
@@ -20,8 +20,8 @@ module _ (bytes : List ℕ) where
   one_read : (program : Program) (a b : Certified) → IsRead bytes program a → IsRead bytes program b → a ≡ b
   one_read program a b p q =
       let programs = p.same_program ∙ sym q.same_program in
-      let values = some_same p.read.0 q.read.0 (sym p.read.1.value ∙ q.read.1.value) in
-      let certificates = some_same a.certificate b.certificate (sym p.read.2 ∙ ap certificate_of values ∙ q.read.2) in
+      let values = same_Some p.read.0 q.read.0 (sym p.read.1.value ∙ q.read.1.value) in
+      let certificates = same_Some a.certificate b.certificate (sym p.read.2 ∙ ap certificate_of values ∙ q.read.2) in
       λ i. record { program = programs i; certificate = certificates i }
 
   reading_refusal : (a b : Refusal) → ReadingRefuses bytes a → ReadingRefuses bytes b → a ≡ b
@@ -33,7 +33,7 @@ module _ (bytes : List ℕ) where
   reading_not_both : (program : Program) (a : Certified) (r : Refusal) → IsRead bytes program a → ReadingRefuses bytes r → ⊥
   reading_not_both program a r p (is_not_json none e) = none p.read.0 p.read.1
   reading_not_both program a r p (is_other_shape there e) =
-      let clash : None ≡ Some a.certificate = sym there.2 ∙ ap certificate_of (some_same there.0 p.read.0 (sym there.1.value ∙ p.read.1.value)) ∙ p.read.2 in cc
+      let clash : None ≡ Some a.certificate = sym there.2 ∙ ap certificate_of (same_Some there.0 p.read.0 (sym there.1.value ∙ p.read.1.value)) ∙ p.read.2 in cc
 
   certifying_lawful : IsLawfulStage (certifying bytes)
   certifying_lawful = record { one_result = one_read; one_refusal = λ program. reading_refusal; not_both = reading_not_both }

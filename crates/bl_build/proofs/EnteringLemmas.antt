@@ -1,7 +1,7 @@
 -- An image, an exported function of its program and a start of it are one; why bytes are refused.
 use Rattle.std.proofs.Common.{◌≡◌, ℕ, List, Some, refl, ap, sym, ◌∙◌, subst, arith}
 use Rattle.std.specs.Prelude.{Ok, Err, slice_get, Result}
-use Rattle.bl_base.proofs.Lists.{some_same}
+use Rattle.std.proofs.lemmas.Option.{same_Some}
 use Rattle.bl_cmd.specs.Rules.{IsFirstBroken}
 use Rattle.bl_cmd.specs.declared.definitions.ProgramParts.{ProgramParts as Program}
 use Rattle.bl_cmd.proofs.Faults.{unbroken}
@@ -16,7 +16,7 @@ use Rattle.bl_base.specs.declared.start.Start.{Start}
 use Rattle.bl_image.specs.Reading.{IsReason}
 use Rattle.bl_image.specs.declared.error.ImageError.{ImageError}
 use Rattle.bl_image.specs.declared.error.ImageError.TheVariants as image_reason
-use Rattle.bl_trace.specs.Answers.{IsAnswer, answer_of}
+use Rattle.bl_trace.specs.StartFiles.{IsAnswer, answer_of}
 use Rattle.bl_trace.specs.declared.error.StartError.{StartError}
 use Rattle.bl_trace.specs.declared.error.StartError.TheVariants as start_reason
 use Rattle.bl_build.specs.Working.{IsStaged, entered_in, image_error, start_error}
@@ -62,8 +62,8 @@ module _ (export : List ℕ) (program : Program) where
   one_entry : (a b : Entry) → Finds export program a → Finds export program b → a ≡ b
   one_entry a b f g =
       let programs = f.same_program ∙ sym g.same_program in
-      let functions = some_same a.function b.function (sym f.exported ∙ g.exported) in
-      let defined = some_same a.defined b.defined (sym (subst (λ n. slice_get program.functions n ≡ Some a.defined) functions f.defined) ∙ g.defined) in
+      let functions = same_Some a.function b.function (sym f.exported ∙ g.exported) in
+      let defined = same_Some a.defined b.defined (sym (subst (λ n. slice_get program.functions n ≡ Some a.defined) functions f.defined) ∙ g.defined) in
       λ i. record { program = programs i; function = functions i; defined = defined i }
 
   not_found : (a : Entry) (r : Refusal) → Finds export program a → FindingRefuses export program r → ⊥

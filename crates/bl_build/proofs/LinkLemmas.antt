@@ -3,7 +3,7 @@ use Rattle.std.proofs.Common.{◌≡◌, ℕ, suc, ◌≤◌, List, [], ◌∷�
 use Rattle.std.specs.List.{All, AllZip}
 use Rattle.std.specs.Str.{IsUtf8}
 use Rattle.std.proofs.lemmas.List.Elements.{All-cons, All-head, All-nil, All-tail}
-use Rattle.bl_base.proofs.Lists.{zip_get}
+use Rattle.bl_base.proofs.Lists.{zip_get, mapped_get}
 use Rattle.bl_base.specs.Quantity.{limit_of}
 use Rattle.bl_base.specs.declared.quantity.Quantity.TheVariants as quantity
 use Rattle.bl_labels.specs.Faults.{IsConsistent}
@@ -16,7 +16,6 @@ use Rattle.bl_words.specs.Requests.{AreNamedApart, module_name}
 use Rattle.bl_build.specs.Stages.{AllPass}
 use Rattle.bl_build.proofs.LoadingLemmas.{IsAccepted, all_accepted}
 use Rattle.bl_words.proofs.ModuleNames.{no_solidus}
-use Rattle.bl_words.proofs.ModuleWords.{mapped_at}
 
 -- ---- each module beside the word of its file
 
@@ -106,8 +105,8 @@ linkable words contents xs ys zs few apart read d v l text sane =
       each = each_part zs words text sane h;
       few = omega (arith, are_many zs words h, few);
       distinct = λ i j a b first second same.
-          let x = mapped_at (λ (one : Labelled). part_of one.name one.tree one.labels) zs i a first in
-          let y = mapped_at (λ (one : Labelled). part_of one.name one.tree one.labels) zs j b second in
+          let x = mapped_get (λ (one : Labelled). part_of one.name one.tree one.labels) zs i a first in
+          let y = mapped_get (λ (one : Labelled). part_of one.name one.tree one.labels) zs j b second in
           let u = zip_get IsOf zs words i x.0 h x.1 in
           let w = zip_get IsOf zs words j y.0 h y.1 in
           let names = sym u.2.same_name ∙ (ap (λ (p : LinkPart). p.name) x.2 ∙ (same ∙ (sym (ap (λ (p : LinkPart). p.name) y.2) ∙ w.2.same_name))) in

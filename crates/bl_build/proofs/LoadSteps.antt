@@ -26,6 +26,7 @@ use Rattle.bl_build.specs.declared.refusal.WorkError.{WorkError}
 use Rattle.bl_build.specs.declared.refusal.WorkError.TheVariants as error
 use Rattle.bl_build.proofs.Readings.{decoded, not_labelled_yet, validated}
 use Rattle.bl_build.proofs.StageLemmas.{Goes, goes_on}
+use Rattle.bl_words.proofs.ModuleWords.{words_in}
 
 -- ---- one stage, and then another one
 
@@ -41,21 +42,18 @@ module _ {A B C Y : Type 0} (first : Stage A B) (second : Stage B C) (given : Y 
 
 -- ---- decoding
 
-abbrev pub names_now : List (Bor (List ℕ)) → List (List ℕ)
-names_now words = map (λ word. word.now) words
-
 module _ (whole : List Part) (words left : List (Bor (List ℕ))) (contents after : List (Vec ℕ Global)) (done : List Spelled) (word name : Bor (List ℕ)) (bytes : Vec ℕ Global)
     (first : words ≡ word ∷ left) (second : contents ≡ bytes ∷ after) (same : name.now ≡ module_name word.now)
-    (goes : Goes decoding whole (map spelled_in done) (parts_of (names_now words) (contents_in contents))) where
+    (goes : Goes decoding whole (map spelled_in done) (parts_of (words_in words) (contents_in contents))) where
   abbrev rest : List Part
-  rest = parts_of (names_now left) (contents_in after)
+  rest = parts_of (words_in left) (contents_in after)
 
   -- what is to come, with the name that is found
   ahead : Goes decoding whole (map spelled_in done) (record { name = name.now; bytes = bytes.items } ∷ rest)
   ahead =
       subst (λ (n : List ℕ). Goes decoding whole (map spelled_in done) (record { name = n; bytes = bytes.items } ∷ rest)) (sym same)
-      (subst (λ (cs : List (Vec ℕ Global)). Goes decoding whole (map spelled_in done) (parts_of (names_now (word ∷ left)) (contents_in cs))) second
-      (subst (λ (ws : List (Bor (List ℕ))). Goes decoding whole (map spelled_in done) (parts_of (names_now ws) (contents_in contents))) first goes))
+      (subst (λ (cs : List (Vec ℕ Global)). Goes decoding whole (map spelled_in done) (parts_of (words_in (word ∷ left)) (contents_in cs))) second
+      (subst (λ (ws : List (Bor (List ℕ))). Goes decoding whole (map spelled_in done) (parts_of (words_in ws) (contents_in contents))) first goes))
 
   pub next_decoded : (tree : Module) (next : List Spelled) → next ≡ done ++ record { name = name; tree = tree } ∷ [] → Answers bytes.items (Ok tree) → Goes decoding whole (map spelled_in next) rest
   next_decoded tree next e is =

@@ -2,7 +2,7 @@
 use Rattle.std.proofs.Common.{◌≡◌, ℕ, ◌⊎◌, inl, inr, List, [], ◌∷◌, Option, Some, None, refl, ap, sym, slice_get, ◌∙◌, subst}
 use Rattle.std.specs.Prelude.{Ok, Err}
 use Rattle.std.specs.List.{AllZip}
-use Rattle.bl_base.proofs.Lists.{some_same}
+use Rattle.std.proofs.lemmas.Option.{same_Some}
 use Rattle.bl_base.specs.declared.quantity.Quantity.{Quantity}
 use Rattle.bl_wasm.specs.declared.linked.Tree.{Tree}
 use Rattle.bl_wasm.specs.declared.module.Module.{Module}
@@ -28,7 +28,7 @@ use Rattle.bl_build.proofs.StageLemmas.{chain_lawful, each_lawful}
 
 -- one excess is one limit
 one_limit : (found : Option Excess) (which other : Quantity) (value count : ℕ) → found ≡ Some (which, value) → found ≡ Some (other, count) → limit which value ≡ limit other count
-one_limit found which other value count e f = ap (λ each. limit each.0 each.1) (some_same (which, value) (other, count) (sym e ∙ f))
+one_limit found which other value count e f = ap (λ each. limit each.0 each.1) (same_Some (which, value) (other, count) (sym e ∙ f))
 
 module _ (part : Part) where
   one_decoded : (a b : Named) → Decodes part a → Decodes part b → a ≡ b
@@ -129,7 +129,7 @@ module _ (labelled : List Labelled) where
 
   -- a module by its number is one
   one_named : (part other : ℕ) (a b : Labelled) → part ≡ other → slice_get labelled part ≡ Some a → slice_get labelled other ≡ Some b → a.name ≡ b.name
-  one_named part other a b same is these = ap (λ n. n.name) (some_same a b (sym is ∙ (ap (slice_get labelled) same ∙ these)))
+  one_named part other a b same is these = ap (λ n. n.name) (same_Some a b (sym is ∙ (ap (slice_get labelled) same ∙ these)))
 
   -- the error, as a refusal
   abbrev Tells : LinkError → Refusal → Type 0

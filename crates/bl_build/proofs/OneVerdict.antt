@@ -4,6 +4,7 @@ use Rattle.std.specs.Prelude.{◌↔◌, IsTrue}
 use Rattle.std.proofs.Math.Path.{fun_ext}
 use Rattle.bl_base.specs.declared.names.Flow.{Flow}
 use Rattle.bl_base.specs.declared.names.Flow.TheVariants.{Stable, Transient}
+use Rattle.bl_base.proofs.BoolLemmas.{never_both}
 use Rattle.bl_cmd.specs.declared.definitions.ProgramParts.{ProgramParts as Program}
 use Rattle.bl_image.specs.Image.{Image}
 use Rattle.bl_image.proofs.Prefixes.{one_image}
@@ -16,7 +17,6 @@ use Rattle.bl_ct.specs.declared.verdict.CtVerdict.{CtVerdict}
 use Rattle.bl_ct.specs.Verdicts.{Judges as JudgesLabels}
 use Rattle.bl_cut.specs.Marks.{protected}
 use Rattle.bl_cut.proofs.Leaving.{only_one}
-use Rattle.bl_sct.proofs.Assessing.{opposite}
 use Rattle.bl_witness.specs.Verdicts.{Checks}
 use Rattle.bl_witness.specs.declared.verdict.CertVerdict.{CertVerdict}
 use Rattle.bl_witness.specs.declared.verdict.CertVerdict.TheVariants as rules
@@ -55,7 +55,7 @@ module _ (program : Program) (set : ℕ → Bool) where
 
   -- where a sink reads a transient variable no typing keeps all rules
   no_typing : (a : List Flow) (position : ℕ) → IsLeastTyping program set a → IsFirstSink program set position → ⊥
-  no_typing a position h k = opposite (typing_of a k.var) ((h.trans k.var).1 k.hot) (h.flows_hold.sinks position k.var k.sink)
+  no_typing a position h k = never_both (typing_of a k.var) ((h.trans k.var).1 k.hot) (h.flows_hold.sinks position k.var k.sink)
 
   first_once : (one other : ℕ) → IsFirstSink program set one → IsFirstSink program set other → one ≡ other
   first_once one other h k =

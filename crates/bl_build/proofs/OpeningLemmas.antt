@@ -2,11 +2,10 @@
 use Rattle.std.proofs.Common.{◌≡◌, ℕ, List, [], ◌∷◌, Option, Some, ap, sym, ◌∙◌, subst, ◌<◌, Bool, true, false, cond, None, refl}
 use Rattle.std.specs.Prelude.{Result, Ok, Err, slice_get, option_and_then}
 use Rattle.bl_base.specs.declared.start.Start.{Start}
-use Rattle.bl_base.proofs.Lists.{some_same}
 use Rattle.bl_wasm.specs.Exports.{number_of, Pairs}
 use Rattle.bl_wasm.specs.declared.linked.Signature.{Signature}
 use Rattle.bl_wasm.specs.declared.linked.Tree.{Tree}
-use Rattle.bl_trace.specs.Answers.{answer_of, IsAnswer}
+use Rattle.bl_trace.specs.StartFiles.{answer_of, IsAnswer}
 use Rattle.bl_trace.specs.declared.error.StartError.{StartError}
 use Rattle.bl_trace.specs.declared.error.StartError.TheVariants.{Line, Count, Memory}
 use Rattle.bl_build.specs.Running.{preparing, Opened, OpeningRefuses, Opens, line_is_bad, not_exported, opening, sizes_of, too_few, type_of}
@@ -18,6 +17,7 @@ use Rattle.bl_build.proofs.StageLemmas.{chain_lawful}
 use Rattle.std.specs.List.{All}
 use Rattle.std.specs.Str.{bytes_eq}
 use Rattle.std.proofs.lemmas.List.Elements.{All-head, All-tail}
+use Rattle.std.proofs.lemmas.Option.{same_Some}
 use Rattle.bl_base.specs.Fits.{Fits}
 use Rattle.bl_wasm.specs.declared.linked.Function.{Function}
 use Rattle.bl_reduce.specs.Outcomes.{IsStart}
@@ -27,8 +27,8 @@ module _ (export bytes : List ℕ) (tree : Tree) where
   -- an exported name has one type
   one_type : (f g : ℕ) (t u : Signature) → number_of export tree.exports ≡ Some f → number_of export tree.exports ≡ Some g → type_of tree f ≡ Some t → type_of tree g ≡ Some u → t ≡ u
   one_type f g t u is other typed typed' =
-      let same = some_same f g (sym is ∙ other) in
-      some_same t u (sym (subst (λ n. type_of tree n ≡ Some t) same typed) ∙ typed')
+      let same = same_Some f g (sym is ∙ other) in
+      same_Some t u (sym (subst (λ n. type_of tree n ≡ Some t) same typed) ∙ typed')
 
   -- and a start file one answer
   one_answer : (f g : ℕ) (t u : Signature) (a b : Result Start StartError) → number_of export tree.exports ≡ Some f → number_of export tree.exports ≡ Some g → type_of tree f ≡ Some t → type_of tree g ≡ Some u
@@ -38,7 +38,7 @@ module _ (export bytes : List ℕ) (tree : Tree) where
   one_opened : (a b : Opened) → Opens export bytes tree a → Opens export bytes tree b → a ≡ b
   one_opened a b o p =
       let trees = o.same_tree ∙ sym p.same_tree in
-      let functions = some_same a.function b.function (sym o.exported ∙ p.exported) in
+      let functions = same_Some a.function b.function (sym o.exported ∙ p.exported) in
       let types = one_type a.function b.function a.type b.type o.exported p.exported o.typed p.typed in
       let read : Ok a.start ≡ Ok b.start = one_answer a.function b.function a.type b.type (Ok a.start) (Ok b.start) o.exported p.exported o.typed p.typed o.read p.read in
       let starts : a.start ≡ b.start = cc in

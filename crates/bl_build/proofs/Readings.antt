@@ -1,8 +1,7 @@
 -- What the stages of modules answer, one module after another.
 use Rattle.std.proofs.Common.{◌≡◌, ℕ, zero, suc, List, [], ◌∷◌, length, map, Some, slice_get, refl, ap, sym, ◌∙◌, subst, Bor}
 use Rattle.std.proofs.lemmas.List.{length-map}
-use Rattle.std.proofs.lemmas.Option.{none-some}
-use Rattle.bl_base.proofs.Lists.{some_same}
+use Rattle.std.proofs.lemmas.Option.{none-some, same_Some}
 use Rattle.std.specs.Prelude.{Ok, Err}
 use Rattle.bl_wasm.specs.declared.linked.Tree.{Tree}
 use Rattle.bl_wasm.specs.declared.module.Module.{Module}
@@ -74,7 +73,7 @@ module _ {X : Type 0} (value : X → List Labelled) (name : Bor (List ℕ)) (tre
 -- the name of a module by its number
 named_by : (ready : List Ready) (place : ℕ) (name : Bor (List ℕ)) → slice_get (map (λ (one : Ready). one.name) ready) place ≡ Some name → (one : Labelled) × (slice_get (map ready_in ready) place ≡ Some one) × (one.name ≡ name.now)
 named_by [] place name there = absurd (none-some name there)
-named_by (one ∷ ready) zero name there = (ready_in one, refl, ap (λ (n : Bor (List ℕ)). n.now) (some_same one.name name there))
+named_by (one ∷ ready) zero name there = (ready_in one, refl, ap (λ (n : Bor (List ℕ)). n.now) (same_Some one.name name there))
 named_by (one ∷ ready) (suc place) name there = named_by ready place name there
 
 -- modules that aren't linked

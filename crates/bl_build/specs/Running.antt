@@ -4,7 +4,7 @@ use Rattle.bl_base.specs.declared.start.Start.{Start}
 use Rattle.bl_wasm.specs.Exports.{number_of}
 use Rattle.bl_wasm.specs.declared.linked.Signature.{Signature}
 use Rattle.bl_wasm.specs.declared.linked.Tree.{Tree}
-use Rattle.bl_trace.specs.Answers.{answer_of}
+use Rattle.bl_trace.specs.StartFiles.{answer_of}
 use Rattle.bl_trace.specs.declared.error.StartError.TheVariants.{Line, Count}
 use Rattle.bl_build.specs.Refusals.{Refusal, no_export, bad_line, few_arguments}
 use Rattle.bl_build.specs.Stages.{Stage, chain}

@@ -4,7 +4,7 @@ use Rattle.std.specs.Prelude.{option_map, is_some, not, MatchOption}
 use Rattle.bl_base.specs.declared.number.Var.{Var as Var'}
 use Rattle.bl_ops.specs.declared.access.AccessKind.{AccessKind}
 use Rattle.std.proofs.lemmas.Bool.{false≢true}
-use Rattle.bl_base.proofs.Lists.{some_same}
+use Rattle.std.proofs.lemmas.Option.{same_Some}
 use Rattle.bl_ops.specs.declared.op.Op.{Op}
 use Rattle.bl_ops.specs.declared.op.Op.TheVariants.{I32Sub, I32GtU, Move, Outside}
 use Rattle.bl_cmd.specs.Layout.{size_of, entry_of, command_at}
@@ -310,5 +310,5 @@ is_assigned command mark op' to a' b' c' op a b c e f g h i =
 pub not_assigned : (command : Command) (mark : Mark) (op' : Op) (to : Var') (a' b' c' : Operand) (op : Op) (a b c : Operand) (other : Mark) (t : ℕ) → command ≡ Set mark op' to a' b' c' → Some command ≡ assign other op t a b c
     → (op' ≡ op) × (a' ≡ a) × (b' ≡ b) × (c' ≡ c)
 not_assigned command mark op' to a' b' c' op a b c other t e f =
-    let same : Set mark op' to a' b' c' ≡ Set other op (record { 0 = t }) a b c = sym e ∙ some_same _ _ f in
+    let same : Set mark op' to a' b' c' ≡ Set other op (record { 0 = t }) a b c = sym e ∙ same_Some _ _ f in
     (cc, cc, cc, cc)

@@ -2,8 +2,7 @@
 use Rattle.std.proofs.Common.{◌≡◌, ◌⊎◌, ◌↔◌, inl, inr, ℕ, zero, suc, ◌+◌, ◌<◌, ◌≤◌, List, [], ◌∷◌, length, set, replicate, get_or, Option, Some, None, slice_get, refl, sym, ap, ◌∙◌, subst, arith}
 use Rattle.std.specs.Prelude.{unwrap_or}
 use Rattle.std.proofs.lemmas.Bool.{cases_lt}
-use Rattle.std.proofs.lemmas.Option.{none-some, slice_get_within, slice_get-get_or}
-use Rattle.bl_base.proofs.Lists.{some_same}
+use Rattle.std.proofs.lemmas.Option.{none-some, slice_get_within, slice_get-get_or, same_Some}
 use Rattle.bl_cmd.proofs.Tabled.{and_some, some_and}
 use Rattle.bl_cmd.specs.Rules.{GoesTo}
 use Rattle.bl_cmd.specs.Entrants.{Goes, Spans, AreNoted, AreEntrants, joined, noted, noted_by}
@@ -22,7 +21,7 @@ noted_same G H same entrants are to entry found = by entry (are to entry found)
 -- at a place that is set, and at another one
 set_here : {X : Type 0} (xs : List X) (i : ℕ) (x y : X) → slice_get (set xs i x) i ≡ Some y → y ≡ x
 set_here [] i x y e = absurd (none-some y e)
-set_here (z ∷ xs) zero x y e = sym (some_same x y e)
+set_here (z ∷ xs) zero x y e = sym (same_Some x y e)
 set_here (z ∷ xs) (suc i) x y e = set_here xs i x y e
 
 set_there : {X : Type 0} (xs : List X) (i j : ℕ) (x y : X) → (j ≡ i → ⊥) → slice_get (set xs i x) j ≡ Some y → slice_get xs j ≡ Some y
@@ -94,7 +93,7 @@ noted_none commands count to entry found = by count to found
   where
     by : (count to : ℕ) → slice_get (replicate count None) to ≡ Some entry → Spans (λ from. Before commands 0 from to) entry
     by zero to e = absurd (none-some entry e)
-    by (suc count) zero e = subst (Spans (λ from. Before commands 0 from 0)) (some_same None entry e) (λ from goes. omega (arith, goes.0))
+    by (suc count) zero e = subst (Spans (λ from. Before commands 0 from 0)) (same_Some None entry e) (λ from goes. omega (arith, goes.0))
     by (suc count) (suc to) e = weaker entry (by count to e)
       where
         weaker : (entry : Option Entrants) → Spans (λ from. Before commands 0 from to) entry → Spans (λ from. Before commands 0 from (suc to)) entry
@@ -114,7 +113,7 @@ module _ (commands : List Command) (i : ℕ) (command : Command) (stands : slice
       | inr more ↦
           let same : from ≡ i = omega (arith, h.0) in
           let goes = and_some (λ c. GoesTo c to) _ (subst (λ (k : ℕ). Goes commands k to) same h.1) in
-          inr (same, subst (λ c. GoesTo c to) (some_same goes.0 command (sym goes.1 ∙ stands)) goes.2)
+          inr (same, subst (λ c. GoesTo c to) (same_Some goes.0 command (sym goes.1 ∙ stands)) goes.2)
     ],
   )
 

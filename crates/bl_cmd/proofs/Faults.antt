@@ -1,7 +1,7 @@
 -- The first rule that is broken.
 use Rattle.std.proofs.Common.{◌≡◌, ◌⊎◌, inl, inr, ℕ, suc, ◌+◌, ◌<◌, ◌≤◌, length, Option, Some, None, MatchOption, refl, sym, ap, ◌∙◌, subst, arith}
 use Rattle.std.proofs.lemmas.Bool.{cases_lt}
-use Rattle.bl_base.proofs.Lists.{some_same}
+use Rattle.std.proofs.lemmas.Option.{same_Some}
 use Rattle.bl_cmd.specs.Layout.{entry_of, command_at, Holds}
 use Rattle.bl_cmd.specs.Programs.{IsProgram}
 use Rattle.bl_cmd.specs.Rules.{Rule4, Rule5, Rule6, Rule7, Breaks, memories, functions, exports, variables, targets, ranges, accesses, growths, demands, IsFirstBroken, IsWellFormed}
@@ -24,7 +24,7 @@ module _ (program : Program) where
     | inl less ↦ below other found holds less also
     | inr more ↦
         let same : other ≡ position = omega arith in
-        let is : command ≡ found = some_same command found (sym stands ∙ ap (command_at program) (sym same) ∙ also) in
+        let is : command ≡ found = same_Some command found (sym stands ∙ ap (command_at program) (sym same) ∙ also) in
         subst (λ (k : ℕ). KeepsRules program function k found) (sym same) (subst (KeepsRules program function position) is keeps)
   ]
 
@@ -129,7 +129,7 @@ module _ (program : Program) where
     at_here : (Keeps : ℕ → Command → Type 0) → Keeps Here fault.fault.command → (function : ℕ) (command : Command) → Holds program function position → command_at program position ≡ Some command → Keeps function command
     at_here Keeps keeps function command holds stands =
         let same = holds_apart program Here function position fault.fault.holds holds in
-        let is = some_same fault.fault.command command (sym fault.fault.stands ∙ stands) in
+        let is = same_Some fault.fault.command command (sym fault.fault.stands ∙ stands) in
         subst (λ (f : ℕ). Keeps f command) same (subst (Keeps Here) is keeps)
 
     abbrev Rules : Type 0

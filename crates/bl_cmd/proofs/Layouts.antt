@@ -2,8 +2,8 @@
 use Rattle.std.proofs.Common.{◌≡◌, ◌≢◌, inl, inr, ℕ, zero, suc, ◌+◌, ◌-◌, ◌<◌, ◌≤◌, List, [], ◌∷◌, length, Some, slice_get, true, false, Bool, refl, ap, subst, arith}
 use Rattle.std.specs.Prelude.{nat_lt, if◌then◌else◌, option_map, unwrap_or}
 use Rattle.std.proofs.lemmas.Bool.{cases_lt, ltb-true, ltb-false}
-use Rattle.std.proofs.lemmas.Option.{none-some}
-use Rattle.bl_base.proofs.Lists.{some_same, all_get, within_get}
+use Rattle.std.proofs.lemmas.Option.{none-some, same_Some}
+use Rattle.bl_base.proofs.Lists.{all_get, within_get}
 use Rattle.bl_cmd.specs.Layout.{sum_before, number_at, holding, statics, first_of, params_of, results_of, entry_of, running, Holds}
 use Rattle.bl_cmd.specs.Programs.{IsProgram}
 use Rattle.bl_cmd.specs.Rules.{Rule2, IsFunction, IsOwn, IsResult}
@@ -14,7 +14,7 @@ module _ {X : Type 0} (f : X → ℕ) where
   -- one item more
   pub sum_more : (xs : List X) (i : ℕ) (x : X) → slice_get xs i ≡ Some x → sum_before f xs (suc i) ≡ sum_before f xs i + f x
   sum_more [] i x e = absurd (none-some x e)
-  sum_more (y ∷ xs) zero x e = let same : f y ≡ f x = ap f (some_same y x e) in let none : sum_before f xs 0 ≡ 0 = refl in omega arith
+  sum_more (y ∷ xs) zero x e = let same : f y ≡ f x = ap f (same_Some y x e) in let none : sum_before f xs 0 ≡ 0 = refl in omega arith
   sum_more (y ∷ xs) (suc i) x e = let more = sum_more xs i x e in omega arith
 
   -- the item that makes a difference

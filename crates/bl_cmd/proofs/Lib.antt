@@ -2,7 +2,6 @@ pub mod Commands
 pub mod Entering
 pub mod Faults
 pub mod Layouts
-pub mod Names
 pub mod Rising
 mod Rows
 pub mod Tabled

@@ -5,7 +5,7 @@ use Rattle.bl_base.specs.declared.number.Var.{Var}
 use Rattle.bl_cmd.specs.declared.command.Operand.{Operand}
 use Rattle.bl_cmd.specs.declared.command.Operand.TheVariants as named
 use Rattle.std.proofs.lemmas.Bool.{cases_lt, false≢true}
-use Rattle.std.proofs.lemmas.Option.{none-some, slice_get-get_or, slice_get_read}
+use Rattle.std.proofs.lemmas.Option.{none-some, slice_get-get_or}
 use Rattle.bl_cmd.specs.Layout.{first_of, entry_of, Holds}
 use Rattle.bl_cmd.specs.Rules.{Rule2, GoesTo, IsOwn, IsReadable, IsResult, IsPassed, IsGuarded}
 use Rattle.bl_cmd.specs.Entrants.{Goes, Spans}
@@ -52,10 +52,6 @@ values_next f count y xs new is values e =
     subst (AreValues f (count + 1)) (sym is) (subst (λ (k : ℕ). AreValues f k (xs ++ y ∷ [])) (sym next) (values_more f count y xs values (e ∙ ap f next)))
 
 -- ---- what stands at a place of a list
-
--- the item of a loop
-pub item_at : {X : Type 0} (xs ys : List X) (i : ℕ) (x : X) → ys ≡ xs → i < length ys → x ≡ get_or ys i x → slice_get xs i ≡ Some x
-item_at xs ys i x e lt is = subst (λ l. slice_get l i ≡ Some x) e (slice_get_read ys (length ys) i x refl lt is)
 
 pub reads_at : {X : Type 0} (xs ys : List X) (i : ℕ) (d : X) → ys ≡ xs → i < length xs → slice_get xs i ≡ Some (get_or ys i d)
 reads_at xs ys i d e lt = subst (λ l. slice_get xs i ≡ Some (get_or l i d)) (sym e) (slice_get-get_or xs i d lt)

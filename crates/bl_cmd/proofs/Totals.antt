@@ -5,10 +5,11 @@ use Rattle.std.specs.List.{AllPairs}
 use Rattle.std.proofs.Math.Nat.{pow-le-pow_right}
 use Rattle.std.proofs.Common.{eq-eqb}
 use Rattle.std.proofs.lemmas.Bool.{eqb-true, cases_lt, false≢true}
-use Rattle.std.proofs.lemmas.Option.{none-some, get_or_from_slice_get, slice_get-get_or, slice_get_within, slice_get_read}
-use Rattle.bl_base.proofs.Lists.{some_same, all_get}
+use Rattle.std.proofs.lemmas.Option.{none-some, get_or_from_slice_get, slice_get-get_or, slice_get_within, slice_get_read, same_Some}
+use Rattle.bl_base.proofs.Lists.{all_get}
 use Rattle.bl_base.proofs.Sums.{sum_le, sum_term}
 use Rattle.bl_base.specs.Sums.{sum_below}
+use Rattle.bl_base.proofs.OptionLemmas.{some_value}
 use Rattle.bl_cmd.specs.Layout.{sum_before, command_at}
 use Rattle.bl_cmd.specs.Rules.{Precedes, IsWeight, IsWellFormed}
 use Rattle.bl_cmd.specs.Sites.{listed, mark_of, mark_at, site_weight, IsSite}
@@ -64,7 +65,7 @@ pub listed_is : (weights : List SiteWeight) (k s : ℕ) (entry : SiteWeight) →
     → Some entry.weight ≡ listed weights s
 listed_is [] k s entry stands is none = absurd (none-some entry stands)
 listed_is (w ∷ weights) zero s entry stands is none =
-    let same = some_same w entry stands in
+    let same = same_Some w entry stands in
     let passes : (w.at.0 == s) ≡ true = eq-eqb w.at.0 s (ap (λ (e : SiteWeight). e.at.0) same ∙ is) in
     sym (ap (λ b. weight_by (if b then Some w else find (λ (e : SiteWeight). e.at.0 == s) weights)) passes ∙ ap (λ (e : SiteWeight). Some e.weight) same)
 listed_is (w ∷ weights) (suc k) s entry stands is none = by (w.at.0 == s) refl (listed_is weights k s entry stands is (λ j other lt. none (suc j) other (omega arith)))
@@ -100,7 +101,7 @@ module _ (weights : List SiteWeight) (m s : ℕ) (d : SiteWeight) (pairs : AllPa
     | inl under ↦ let below = rises_get Rises weights k m entry (get_or weights m d) pairs under stands at_m in omega arith
     | inr over ↦
         let same : k ≡ m = omega arith in
-        let here : get_or weights m d ≡ entry = some_same (get_or weights m d) entry (sym at_m ∙ ap (slice_get weights) (sym same) ∙ stands) in
+        let here : get_or weights m d ≡ entry = same_Some (get_or weights m d) entry (sym at_m ∙ ap (slice_get weights) (sym same) ∙ stands) in
         subst (λ (e : SiteWeight). e.at.0 < s) here is
   ]
 
@@ -110,7 +111,7 @@ module _ (weights : List SiteWeight) (m s : ℕ) (d : SiteWeight) (pairs : AllPa
     | inl under ↦ let above = rises_get Rises weights m k (get_or weights m d) entry pairs under at_m stands in omega arith
     | inr over ↦
         let same : k ≡ m = omega arith in
-        let here : get_or weights m d ≡ entry = some_same (get_or weights m d) entry (sym at_m ∙ ap (slice_get weights) (sym same) ∙ stands) in
+        let here : get_or weights m d ≡ entry = same_Some (get_or weights m d) entry (sym at_m ∙ ap (slice_get weights) (sym same) ∙ stands) in
         subst (λ (e : SiteWeight). s < e.at.0) here is
   ]
 
@@ -184,10 +185,6 @@ module _ (weight : ℕ → ℕ) (limit n : ℕ) (set : ℕ → Bool) (whole : su
 
 -- ---- the weight of one site
 
-some_is : (o : Option ℕ) → IsSome o → (x : ℕ) × (o ≡ Some x)
-some_is None h = absurd (false≢true h)
-some_is (Some x) h = (x, refl)
-
 -- a command stands at a site
 within_site : (weights : Option ℕ) (o : Option Command) → IsSome (option_map (λ (mark : Mark). unwrap_or weights (10 ^ mark.depth)) (option_and_then mark_of o)) → (c : Command) × (o ≡ Some c)
 within_site weights None h = absurd (false≢true h)
@@ -201,7 +198,7 @@ listed_in (x ∷ weights) s w e = by (x.at.0 == s) e (listed_in weights s w)
     by : (b : Bool) → weight_by (if b then Some x else find (λ (e : SiteWeight). e.at.0 == s) weights) ≡ Some w
         → (listed weights s ≡ Some w → (k : ℕ) × (entry : SiteWeight) × (slice_get weights k ≡ Some entry) × (entry.weight ≡ w))
         → (k : ℕ) × (entry : SiteWeight) × (slice_get (x ∷ weights) k ≡ Some entry) × (entry.weight ≡ w)
-    by true e rest = (0, x, refl, some_same x.weight w e)
+    by true e rest = (0, x, refl, same_Some x.weight w e)
     by false e rest = let got = rest e in (suc got.0, got.1, got.2, got.3)
 
 pow_positive : (n : ℕ) → 1 ≤ 10 ^ n
@@ -210,7 +207,7 @@ pow_positive n = pow-le-pow_right {n = 10} (omega arith) {i = 0} {j = n} (omega 
 -- it is at least 1
 weight_positive : (program : Program) → IsWellFormed program → (o : Option Mark) (s w : ℕ) → option_map (λ (mark : Mark). unwrap_or (listed program.weights s) (10 ^ mark.depth)) o ≡ Some w → 1 ≤ w
 weight_positive program well None s w e = absurd (none-some w e)
-weight_positive program well (Some mark) s w e = by (listed program.weights s) refl (some_same _ w e)
+weight_positive program well (Some mark) s w e = by (listed program.weights s) refl (same_Some _ w e)
   where
     by : (o : Option ℕ) → listed program.weights s ≡ o → unwrap_or o (10 ^ mark.depth) ≡ w → 1 ≤ w
     by None e is = let positive : 1 ≤ 10 ^ mark.depth = pow_positive mark.depth in omega arith
@@ -221,7 +218,7 @@ weight_positive program well (Some mark) s w e = by (listed program.weights s) r
 
 pub site_exact : (program parts : Program) (s r : ℕ) → parts ≡ program → IsWellFormed program → IsSite program s → r ≡ min (unwrap_or (site_weight parts s) 0) (2 ^ 63) → (site_weight program s ≡ Some r) × (1 ≤ r)
 site_exact program parts s r same well site is =
-    let got = some_is (site_weight program s) site in
+    let got = some_value (site_weight program s) site in
     let command = within_site (listed program.weights s) (command_at program s) site in
     let lt = slice_get_within program.commands s command.0 command.1 in
     let term = sum_term (length program.commands) (λ k. unwrap_or (site_weight program k) 0) s lt in

@@ -145,7 +145,7 @@ fn may_end(place: &Place, command: Command) -> bool
     }
 }
 
-/// Whether the functions, indices and memories that the command names exist, and its mark is one.
+/// Whether the functions, indices and memories that the command names are in range, and its mark is one.
 fn keeps_ranges(place: &Place, command: Command) -> bool
     requires { IsPlace place.now }
     ensures { IsTrue result ↔ Rule6 place.now.parts.now place.now.function command }

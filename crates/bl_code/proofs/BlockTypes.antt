@@ -1,4 +1,4 @@
--- No value type begins another, and no block type does: each is a spelling of one signed number of 33 bits.
+-- Value types and block types are prefix-free: each is a spelling of one signed number of 33 bits.
 use Rattle.std.proofs.Common.{◌≡◌, ◌≢◌, ℕ, ℤ, pos, negsuc, ◌≤◌, ◌<◌, List, [], ◌∷◌, ap, sym, ◌∙◌, refl, subst, arith, inr, slice_range}
 use Rattle.std.specs.Prelude.{◌==◌, ◌-ℤ◌, if◌then◌else◌}
 use Rattle.bl_leb.proofs.Signed as signed

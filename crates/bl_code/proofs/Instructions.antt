@@ -1,11 +1,10 @@
--- No instruction begins another.
+-- Instructions are prefix-free.
 use Rattle.std.proofs.Common.{◌≡◌, ◌≢◌, ℕ, ◌≤◌, ◌<◌, List, [], ◌∷◌, ◌++◌, Some, None, Bool, true, false, ap, ap₂, sym, ◌∙◌, refl, subst, arith, ◌⊎◌, inl, inr, lit<}
 use Rattle.std.specs.Prelude.{Option, ◌==◌, nat_lt, if◌then◌else◌, find, IsTrue}
 use Rattle.std.proofs.lemmas.Bool.Decides.{nat_tests}
 use Rattle.bl_ops.specs.Access.{code_of as access_code, kind_of, is_load}
 use Rattle.bl_ops.specs.Table.{code_of, operator_of, operators, image_code_of}
 use Rattle.bl_ops.specs.declared.access.AccessKind.{AccessKind}
-use Rattle.bl_ops.specs.declared.access.AccessKind.TheVariants.{I32Load}
 use Rattle.bl_ops.specs.declared.op.Op.{Op}
 use Rattle.bl_ops.specs.declared.op.Op.TheVariants.{I32Eqz, Move, Select as Selected, Outside}
 use Rattle.bl_wasm.specs.Codes.{IsFloatCode, float_access_code}
@@ -21,6 +20,7 @@ use Rattle.bl_code.specs.Unique.{Same, IsOne}
 use Rattle.bl_code.proofs.BlockTypes.{block_type_one}
 use Rattle.bl_code.proofs.Shapes.{after_byte, only_byte, never_empty, shaped}
 use Rattle.bl_code.proofs.Unique.{byte_same, u32_same, seq_same, vec_one, then_same, nothing_same, int_same, f32_same, f64_same}
+use Rattle.bl_ops.proofs.AccessLemmas.{access_found}
 
 -- the instruction of a numeric code
 abbrev numeric : ℕ → Option Op → Instr
@@ -57,10 +57,6 @@ rebuilt code (Int32 n) = I32Const n
 rebuilt code (Int64 n) = I64Const n
 rebuilt code (Float32 bits) = F32Const bits
 rebuilt code (Float64 bits) = F64Const bits
-
--- an access is that of its code
-access_found : (kind : AccessKind) → kind_of (access_code kind) ≡ Some kind
-access_found kind = elim kind as (λ (k : AccessKind). kind_of (access_code k) ≡ Some k) [ I32Load ↦ refl | _ ↦ refl ]
 
 load_rebuilt : (kind : AccessKind) (argument : MemoryArgument) → IsTrue (is_load kind) → access (access_code kind) argument (kind_of (access_code kind)) ≡ Load kind argument
 load_rebuilt kind argument load = rw (access_found, load) refl
@@ -170,7 +166,7 @@ immediates_same (Float32 x) (Float32 y) code c d = then_same (ap Float32) (f32_s
 immediates_same (Float64 x) (Float64 y) code c d = then_same (ap Float64) (f64_same x y)
 immediates_same s t code c d = absurd (omega arith)
 
--- no instruction begins another
+-- instructions are prefix-free
 instruction_same : (x y : Instr) (a b u v : List ℕ) → instruction x a → instruction y b → a ++ u ≡ b ++ v → (a ≡ b) × (x ≡ y)
 instruction_same x y [] b u v p q e = absurd (never_empty x p)
 instruction_same x y (c ∷ a) [] u v p q e = absurd (never_empty y q)

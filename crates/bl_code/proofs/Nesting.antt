@@ -5,10 +5,10 @@ use Rattle.std.specs.Option.{option_map}
 use Rattle.std.proofs.lemmas.List.{append_cancel_right, length-reverse}
 use Rattle.bl_wasm.specs.Values.{◌⨾◌, byte, each}
 use Rattle.bl_wasm.specs.Instructions.{instruction, expression, Nests}
-use Rattle.bl_wasm.specs.Nesting.{Construct, Kind, construct, of_block, of_loop, then_part, else_part, open_behind, open_through, behind_else, behind_end, Closes}
+use Rattle.bl_wasm.specs.Nesting.{Construct, Kind, construct, of_block, of_loop, then_part, else_part, open_behind, open_through, behind_else, behind_end}
 use Rattle.bl_wasm.specs.declared.instruction.Instr.{Instr}
 use Rattle.bl_wasm.specs.declared.instruction.Instr.TheVariants.{End}
-use Rattle.bl_wasm.proofs.NestingLemmas.{closes, nests}
+use Rattle.bl_wasm.proofs.NestingLemmas.{closes, nests, from_through, through}
 use Rattle.bl_code.specs.Constructs.{kept, kept_kind}
 use Rattle.bl_code.specs.Reading.{IsAt, NoneAt, Refuses}
 use Rattle.bl_code.specs.Unique.{IsOne}
@@ -28,20 +28,11 @@ one_step : (o : Option (List Construct)) (xs : List Instr) (st : List Construct)
 one_step None xs st e = absurd cc
 one_step (Some next) xs st e = (next, refl, e)
 
--- items close what is open where nothing is open behind them
-through_closes : (xs : List Instr) (st : List Construct) → open_through xs st ≡ Some [] → Closes st xs
-through_closes [] st e = cc
-through_closes (x ∷ xs) st e = let p = one_step (open_behind x st) xs [] e in (p.0, p.1, through_closes xs p.0 p.2)
-
-closes_through : (xs : List Instr) (st : List Construct) → Closes st xs → open_through xs st ≡ Some []
-closes_through [] st h = ap Some h
-closes_through (x ∷ xs) st h = ap (option_and_then (open_through xs)) h.1 ∙ closes_through xs h.0 h.2
-
 nests_if : (xs : List Instr) → open_through xs [] ≡ Some [] → Nests xs
-nests_if xs e = nests xs (through_closes xs [] e)
+nests_if xs e = nests xs (from_through xs [] e)
 
 nests_through : (xs : List Instr) → Nests xs → open_through xs [] ≡ Some []
-nests_through xs n = closes_through xs [] (closes xs n)
+nests_through xs n = through xs [] (closes xs n)
 
 -- behind some items, and then behind others
 through_behind : (xs ys : List Instr) (before st : List Construct) → open_through xs before ≡ Some st → open_through (xs ++ ys) before ≡ open_through ys st
@@ -122,7 +113,7 @@ pub err_expression : (bytes : List ℕ) (i j : ℕ) (p : List Instr) (st : List 
 err_expression bytes i j p st Malformed front nested h = none_expression bytes i j p st front nested (λ x k q _. h x k q)
 err_expression bytes i j p st Memory front nested h = tt
 
--- no expression begins another
+-- expressions are prefix-free
 pub expression_one : IsOne expression
 expression_one = record { same = λ x y. record { both = λ a b u v p q e. expression_same x y a b u v p q e } }
   where

@@ -4,13 +4,14 @@ use Rattle.std.proofs.lemmas.List.{take_at, drop_at, drop-drop}
 use Rattle.std.specs.Result.{IsErrAnd}
 use Rattle.std.proofs.lemmas.Result.{err_from_is_err_and}
 use Rattle.std.proofs.lemmas.List.Folds.{drop_split}
+use Rattle.bl_base.proofs.Lists.{rest_same}
 use Rattle.bl_wasm.specs.Values.{Spellings, ◌⨾◌, byte, given}
 use Rattle.bl_code.specs.Reading.{IsAt, NoneAt, Refuses, Reads, Finds, behind}
 use Rattle.bl_code.specs.Unique.{Same, IsOne}
 use Rattle.bl_code.specs.declared.error.CodeError.{CodeError}
 use Rattle.bl_code.specs.declared.error.CodeError.TheVariants.{Malformed, Memory}
 use Rattle.bl_code.specs.declared.error.Malformed.{Malformed as NotSpelled}
-use Rattle.bl_code.proofs.Unique.{rest_same, byte_same}
+use Rattle.bl_code.proofs.Unique.{byte_same}
 
 -- the bytes from a place to another are such a spelling
 pub record Stands (S : Spellings) (bytes : List ℕ) (start end : ℕ) : Type 0 where

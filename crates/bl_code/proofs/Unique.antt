@@ -1,27 +1,13 @@
--- No spelling begins another: each combinator of the grammar.
+-- Spellings are prefix-free: each combinator of the grammar.
 use Rattle.std.proofs.Common.{◌≡◌, ℕ, List, [], ◌∷◌, ◌++◌, length, append_assoc, ap, sym, ◌∙◌, refl, subst, arith}
-use Rattle.std.proofs.lemmas.List.{append_cancel_left}
 use Rattle.bl_leb.proofs.Signed as signed
 use Rattle.std.specs.Int.{w32, w64, from_le_bytes}
+use Rattle.bl_base.proofs.Lists.{front_same, rest_same}
 use Rattle.bl_leb.specs.Numbers.{IsSigned}
 use Rattle.bl_ops.specs.Integer.{unsigned as unsigned_of}
 use Rattle.bl_wasm.specs.Values.{Spellings, ◌⨾◌, nothing, exactly, byte, given, each, u32, int, f32, f64, vec, byte_vec, name, sized}
 use Rattle.bl_code.specs.Laws.{u32_one}
 use Rattle.bl_code.specs.Unique.{Same, IsOne}
-
--- lists as long as each other that begin the same list are one
-pub front_same : {A : Type 0} (a b u v : List A) → length a ≡ length b → a ++ u ≡ b ++ v → a ≡ b
-front_same [] [] u v l e = refl
-front_same [] (y ∷ b) u v l e = absurd (omega arith)
-front_same (x ∷ a) [] u v l e = absurd (omega arith)
-front_same (x ∷ a) (y ∷ b) u v l e =
-    let tails : a ++ u ≡ b ++ v = cc in
-    let same = front_same a b u v (omega arith) tails in
-    cc
-
--- what follows one front
-pub rest_same : {A : Type 0} (a b u v : List A) → a ≡ b → a ++ u ≡ b ++ v → u ≡ v
-rest_same a b u v same e = append_cancel_left a u v (e ∙ ap (λ t. t ++ v) (sym same))
 
 -- no bytes
 pub nothing_same : {P : Type 0} → P → Same nothing nothing P

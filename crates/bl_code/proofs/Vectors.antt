@@ -1,11 +1,11 @@
 -- Spellings of a format one after another.
 use Rattle.std.proofs.Common.{◌≡◌, ℕ, ◌+◌, ◌<◌, ◌≤◌, List, [], ◌∷◌, ◌++◌, length, drop, append_assoc, append-nil, ap, ap₂, sym, ◌∙◌, refl, arith, ◌⊎◌, inl, inr, length-append}
+use Rattle.bl_base.proofs.Lists.{rest_same}
 use Rattle.bl_wasm.specs.Values.{Spellings, given, each}
 use Rattle.bl_code.specs.Reading.{IsAt, NoneAt, Refuses}
 use Rattle.bl_code.specs.Unique.{IsOne}
 use Rattle.bl_code.specs.declared.error.CodeError.{CodeError}
 use Rattle.bl_code.specs.declared.error.CodeError.TheVariants.{Malformed, Memory}
-use Rattle.bl_code.proofs.Unique.{rest_same}
 use Rattle.bl_code.proofs.Places.{stands, is_at, at_front}
 
 -- none

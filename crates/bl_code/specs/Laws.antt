@@ -1,4 +1,4 @@
--- That no spelling of a rule begins another, for the readers of the rules.
+-- That the spellings of a rule are prefix-free, for the readers of the rules.
 use Rattle.std.specs.Prelude.{List, ℕ}
 use Rattle.std.proofs.Common.{subst}
 use Rattle.bl_leb.proofs.Unsigned.{one_end, one_value}

@@ -1,4 +1,4 @@
--- Grammars in which no spelling begins another (WebAssembly 1.0, section 5.1.1).
+-- Prefix-free grammars (WebAssembly 1.0, section 5.1.1).
 use Rattle.std.specs.Prelude.{◌≡◌, ℕ, List, ◌++◌}
 use Rattle.bl_wasm.specs.Values.{Spellings}
 

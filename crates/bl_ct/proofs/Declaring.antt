@@ -2,8 +2,8 @@
 use Rattle.std.proofs.Common.{◌≡◌, ◌↔◌, ◌⊎◌, inl, inr, ℕ, suc, ◌+◌, ◌^◌, ◌<◌, List, [], ◌∷◌, ◌++◌, length, get_or, map, Option, Some, None, slice_get, refl, sym, ap, subst, ◌∙◌, arith}
 use Rattle.std.specs.Prelude.{IsSomeAnd, option_map}
 use Rattle.std.specs.List.{Contains, slice_index_or}
-use Rattle.std.proofs.lemmas.Option.{none-some, slice_get_within, slice_get-get_or}
-use Rattle.bl_base.proofs.Lists.{some_same, all_get, within_get}
+use Rattle.std.proofs.lemmas.Option.{none-some, slice_get_within, slice_get-get_or, same_Some}
+use Rattle.bl_base.proofs.Lists.{all_get, within_get}
 use Rattle.bl_base.specs.declared.names.Label.{Label}
 use Rattle.bl_base.specs.declared.number.Var.{Var}
 use Rattle.bl_base.specs.declared.names.Label.TheVariants as label
@@ -158,7 +158,7 @@ pub load_one : (at_ : ℕ) (o : Option ℕ) (memory : ℕ) (old new : List Secre
 load_one at_ o memory old new some is =
     gathers_one (λ load. (load.at ≡ at_) × (o ≡ Some load.memory)) old new (record { at = at_; memory = memory }) is (λ x. (
       (λ h.
-          let same : memory ≡ x.memory = some_same memory x.memory (sym some ∙ h.1) in
+          let same : memory ≡ x.memory = same_Some memory x.memory (sym some ∙ h.1) in
           subst (λ m. loaded_at at_ m ≡ x) (sym same) (subst (λ a. loaded_at a x.memory ≡ x) h.0 refl)),
       (λ e. subst (λ (y : SecretLoad). (y.at ≡ at_) × (o ≡ Some y.memory)) e (refl, some)),
     ))
@@ -172,7 +172,7 @@ store_one at_ o var old new some is =
     let is_some : option_map (λ (v : Var). v.0) o ≡ Some var.0 = ap (option_map (λ (v : Var). v.0)) some in
     gathers_one (λ store. (store.at.0 ≡ at_) × (option_map (λ (v : Var). v.0) o ≡ Some store.var.0)) old new (use_of at_ var.0) is (λ x. (
       (λ h.
-          let same : var.0 ≡ x.var.0 = some_same var.0 x.var.0 (sym is_some ∙ h.1) in
+          let same : var.0 ≡ x.var.0 = same_Some var.0 x.var.0 (sym is_some ∙ h.1) in
           subst (λ v. use_of at_ v ≡ x) (sym same) (subst (λ a. use_of a x.var.0 ≡ x) h.0 refl)),
       (λ e. subst (λ (y : Use). (y.at.0 ≡ at_) × (option_map (λ (v : Var). v.0) o ≡ Some y.var.0)) e (refl, is_some)),
     ))

@@ -1,7 +1,7 @@
 -- Secret variables are secret in each labelling, so that a chain leaves none that keeps the rules.
-use Rattle.std.proofs.Common.{ℕ, Bool, true, false, List, [], ◌∷◌, inl, inr, not}
+use Rattle.std.proofs.Common.{ℕ, Bool, List, [], ◌∷◌, inl, inr}
 use Rattle.std.specs.Prelude.{IsTrue}
-use Rattle.std.proofs.lemmas.Bool.{false≢true}
+use Rattle.bl_base.proofs.BoolLemmas.{never_both}
 use Rattle.bl_cmd.specs.declared.definitions.ProgramParts.{ProgramParts as Program}
 use Rattle.bl_graph.specs.declared.secret.Origin.{Origin}
 use Rattle.bl_graph.specs.declared.secret.Origin.TheVariants.{Parameter, Global, Memory}
@@ -13,15 +13,11 @@ least program labelling x assigns (declared _ origin h) = assigns.declared x ori
 least program labelling x assigns (loaded s memory _ h w) = assigns.loads s memory x h w
 least program labelling x assigns (moved s y _ r w t) = assigns.moves s y x r w (least program labelling y assigns t)
 
-apart : (b : Bool) → IsTrue b → IsTrue (not b) → ⊥
-apart true h cold = false≢true cold
-apart false h cold = false≢true h
-
 module _ (program : Program) (labelling : ℕ → Bool) (labelled : Labelled program labelling) where
   ends_not : (x end : ℕ) → Ends program x end → IsTrue (labelling x) → ⊥
-  ends_not x end (sunk h) t = apart (labelling x) t (labelled.sinks end x h)
-  ends_not x end (stored h) t = apart (labelling x) t (labelled.stores end x h)
-  ends_not x end (given y r w d) t = apart (labelling y) (labelled.assigns.moves end x y r w t) (labelled.demanded y d)
+  ends_not x end (sunk h) t = never_both (labelling x) t (labelled.sinks end x h)
+  ends_not x end (stored h) t = never_both (labelling x) t (labelled.stores end x h)
+  ends_not x end (given y r w d) t = never_both (labelling y) (labelled.assigns.moves end x y r w t) (labelled.demanded y d)
 
   leads_not : (x : ℕ) (through : List ℕ) (end : ℕ) → Leads program x through end → IsTrue (labelling x) → ⊥
   leads_not x [] end h t = ends_not x end h t
@@ -35,5 +31,5 @@ module _ (program : Program) (labelling : ℕ → Bool) (labelled : Labelled pro
       let t : IsTrue (labelling h.1.0) = labelled.assigns.loads s m h.1.0 h.0 h.1.1 in
       elim h.1.2 as (λ _. ⊥) [
         | inl leads ↦ leads_not h.1.0 rest end leads t
-        | inr alone ↦ apart (labelling h.1.0) t (labelled.demanded h.1.0 alone.2)
+        | inr alone ↦ never_both (labelling h.1.0) t (labelled.demanded h.1.0 alone.2)
       ]

@@ -3,8 +3,7 @@ use Rattle.std.proofs.Common.{◌≡◌, ◌↔◌, ◌⊎◌, inl, inr, ℕ, �
 use Rattle.std.specs.List.{Contains}
 use Rattle.std.proofs.lemmas.Bool.{cases_lt}
 use Rattle.std.proofs.lemmas.List.Elements.{Contains-push_cases, Contains-append_left, Contains-push}
-use Rattle.std.proofs.lemmas.Option.{slice_get_within}
-use Rattle.bl_base.proofs.Lists.{some_same}
+use Rattle.std.proofs.lemmas.Option.{slice_get_within, same_Some}
 use Rattle.bl_graph.proofs.Members.{none_in}
 use Rattle.bl_ct.specs.Facts.{Gathers, SomeAt}
 
@@ -78,7 +77,7 @@ module _ {A X : Type 0} (items : List A) (Fits : ℕ → A → X → Type 0) whe
           let high = h.1 in
           let place : h.0 ≡ n = omega arith in
           let same : h.2 ≡ item =
-          some_same h.2 item (sym h.3 ∙ ap (slice_get items) place ∙ is) in
+          same_Some h.2 item (sym h.3 ∙ ap (slice_get items) place ∙ is) in
           inr (subst (λ k. Fits k item x) place (subst (λ i. Fits h.0 i x) same h.4))
     ]),
   )

@@ -2,8 +2,8 @@
 use Rattle.std.proofs.Common.{◌≡◌, inl, inr, ℕ, suc, ◌<◌, length, Option, Some, None, slice_get, refl, sym, ap, subst, ◌∙◌, arith}
 use Rattle.std.specs.Prelude.{IsSomeAnd}
 use Rattle.std.specs.List.{Contains}
-use Rattle.std.proofs.lemmas.Option.{slice_get_within}
-use Rattle.bl_base.proofs.Lists.{some_same, all_get, within_get}
+use Rattle.std.proofs.lemmas.Option.{slice_get_within, same_Some}
+use Rattle.bl_base.proofs.Lists.{all_get, within_get}
 use Rattle.bl_base.specs.declared.names.Label.{Label}
 use Rattle.bl_base.specs.declared.names.Label.TheVariants as label
 use Rattle.bl_cmd.specs.Layout.{command_at, statics, params_of, results_of, result}
@@ -131,7 +131,7 @@ module _ (program : Program) (facts : IsProgram program) (rules : IsWellFormed p
       let g = found (slice_get program.globals number) (λ global. global.label ≡ label.Secret) h.0 in
       let k = found (slice_get program.globals other) (λ global. global.label ≡ label.Public) d in
       let same : number ≡ other = h.1 ∙ sym e in
-      let one : g.0 ≡ k.0 = some_same g.0 k.0 (sym g.1 ∙ (ap (slice_get program.globals) same ∙ k.1)) in
+      let one : g.0 ≡ k.0 = same_Some g.0 k.0 (sym g.1 ∙ (ap (slice_get program.globals) same ∙ k.1)) in
       secret_public (sym g.2 ∙ (ap (λ (d : GlobalDef). d.label) one ∙ k.2))
   one_apart (Memory number) one x h d e = h
 

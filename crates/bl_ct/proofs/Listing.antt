@@ -3,8 +3,7 @@ use Rattle.std.proofs.Common.{◌≡◌, ◌↔◌, inl, inr, ℕ, zero, suc, �
 use Rattle.std.specs.Prelude.{IsSomeAnd}
 use Rattle.std.specs.List.{Contains}
 use Rattle.std.proofs.lemmas.List.Elements.{Contains-append_left, Contains-append_right, Contains-append_cases}
-use Rattle.std.proofs.lemmas.Option.{none-some}
-use Rattle.bl_base.proofs.Lists.{some_same}
+use Rattle.std.proofs.lemmas.Option.{none-some, same_Some}
 use Rattle.bl_base.specs.declared.names.Label.{Label}
 use Rattle.bl_base.specs.declared.names.Label.TheVariants as label
 use Rattle.bl_cmd.specs.Layout.{command_at, first_of}
@@ -56,7 +55,7 @@ made f (item ∷ items) = f 0 item ++ made (λ k. f (suc k)) items
 made_in : {A X : Type 0} (f : ℕ → A → List X) (items : List A) (k : ℕ) (item : A) (x : X) → slice_get items k ≡ Some item → Contains (f k item) x → Contains (made f items) x
 made_in f [] k item x e h = absurd (none-some item e)
 made_in f (first ∷ items) zero item x e h =
-    Contains-append_left (f 0 first) (made (λ k. f (suc k)) items) x (subst (λ i. Contains (f 0 i) x) (sym (some_same first item e)) h)
+    Contains-append_left (f 0 first) (made (λ k. f (suc k)) items) x (subst (λ i. Contains (f 0 i) x) (sym (same_Some first item e)) h)
 made_in f (first ∷ items) (suc k) item x e h =
     Contains-append_right (f 0 first) (made (λ k. f (suc k)) items) x (made_in (λ k. f (suc k)) items k item x e h)
 
@@ -122,7 +121,7 @@ one_is : (o : Option ℕ) (x : ℕ) → Contains (one o) x ↔ (o ≡ Some x)
 one_is None x = ((λ h. absurd (none_in x h)), (λ e. absurd (none-some x e)))
 one_is (Some y) x = (
   (λ h. elim (in_cases y x [] h) as (λ _. Some y ≡ Some x) [ inl e ↦ ap Some e | inr h ↦ absurd (none_in x h) ]),
-  (λ e. subst (Contains (y ∷ [])) (some_same y x e) (first_in y [])),
+  (λ e. subst (Contains (y ∷ [])) (same_Some y x e) (first_in y [])),
 )
 
 -- ---- labels

@@ -1,9 +1,7 @@
 -- Rows of uses.
-use Rattle.std.proofs.Common.{◌≡◌, ℕ, ◌<◌, Bool, false, List, length, sym, ap, subst, ◌∙◌, inl, inr, map, arith}
-use Rattle.std.specs.Prelude.{◌↔◌, IsTrue}
+use Rattle.std.proofs.Common.{◌≡◌, ℕ, ◌<◌, List, length, sym, ap, subst, ◌∙◌, map, arith}
+use Rattle.std.specs.Prelude.{◌↔◌}
 use Rattle.std.specs.List.{All, Contains, slice_index_or}
-use Rattle.std.proofs.lemmas.Bool.{cases_lt, false≢true}
-use Rattle.std.proofs.lemmas.List.{get_or_past}
 use Rattle.std.proofs.lemmas.List.Elements.{Contains-get_or}
 use Rattle.bl_cmd.specs.Sites.{Reads, Writes}
 use Rattle.bl_graph.specs.Graphs.{use_of}
@@ -12,7 +10,7 @@ use Rattle.bl_graph.specs.declared.facts.Use.{Use}
 use Rattle.bl_ct.specs.declared.facts.Known.{Known}
 use Rattle.bl_ct.specs.declared.search.Arc.{Arc}
 use Rattle.bl_ct.specs.Facts.{IsKnown}
-use Rattle.bl_ct.specs.Finding.{RowsOf, row_at, from_site, from_var, is_in}
+use Rattle.bl_ct.specs.Finding.{RowsOf, row_at, from_site, from_var}
 use Rattle.bl_graph.proofs.Members.{in_map, from_map}
 use Rattle.bl_ct.proofs.Knowing.{writes_in, reads_in}
 
@@ -62,10 +60,3 @@ module _ (known : Known) (is : IsKnown known) (arcs : List Arc) where
     (λ h. hold.full x s (subst (λ l. Contains l (record { from = x; to = s })) (sym same)
         (in_map from_var known.graph.now.reads (use_of s x) ((is.graph.reads.each s x).1 h)))),
   )
-
-pub marked_in : (marks : List Bool) (v : ℕ) → IsTrue (is_in marks v) → v < length marks
-marked_in marks v h =
-    elim (cases_lt v (length marks)) as (λ _. v < length marks) [
-      | inl lt ↦ lt
-      | inr past ↦ absurd (false≢true (sym (get_or_past marks v false past) ∙ h))
-    ]

@@ -3,10 +3,11 @@ use Rattle.std.proofs.Common.{◌≡◌, ℕ, suc, zero, ◌+◌, ◌<◌, ◌�
 use Rattle.std.specs.Prelude.{IsTrue, ◌↔◌}
 use Rattle.std.specs.List.{Contains, slice_get, slice_index_or}
 use Rattle.std.proofs.lemmas.Bool.{cases_lt, cases_eq, false≢true}
-use Rattle.std.proofs.lemmas.List.{get_or-set_same, get_or-set_other, get_or_append_left, get_or-append-add, get_or_past, get_or-replicate, length-replicate, append_assoc, append-nil}
+use Rattle.std.proofs.lemmas.List.{get_or-set_same, get_or-set_other, get_or_append_left, get_or-append-add, length-replicate, append_assoc, append-nil}
 use Rattle.std.proofs.lemmas.List.Sums.{sum_by-set}
 use Rattle.std.proofs.lemmas.List.Elements.{Contains-push_cases, Contains-append_left, Contains-append_right, Contains-append_cases, Contains-push}
 use Rattle.std.proofs.lemmas.Option.{slice_get_within, get_or_from_slice_get, slice_get-get_or, same_Some}
+use Rattle.bl_base.proofs.Lists.{replicate_or}
 use Rattle.bl_cmd.specs.declared.definitions.ProgramParts.{ProgramParts as Program}
 use Rattle.bl_ct.specs.declared.search.Step.{Step}
 use Rattle.bl_ct.specs.declared.search.Cause.{Cause}
@@ -150,13 +151,6 @@ stands_more program q a more front old new = subst (Stands program) (sym front) 
       | inr behind ↦ new place step behind.0 behind.1
     ])
 
-nothing_marked : (n v : ℕ) → is_in (replicate n false) v ≡ false
-nothing_marked n v =
-    elim (cases_lt v n) as (λ _. is_in (replicate n false) v ≡ false) [
-      | inl lt ↦ get_or-replicate n v false false lt
-      | inr past ↦ get_or_past (replicate n false) v false (let e = length-replicate {A = Bool} n false in omega arith)
-    ]
-
 module _ (program : Program) (facts : Facts) (are : AreFacts program facts) (written : List (List ℕ)) (writes : (s x : ℕ) → Contains (row_at written s) x ↔ Writes program s x) where
   -- all but causes, after a visit
   queued_more : (fits : Step → Type 0) (asks : ℕ → Type 0) (old new : List Bool) (q more : List Step) → Visits fits asks old new q more → ((step : Step) → Contains q step → IsTrue (is_in old step.var)) → (step : Step) → Contains more step → IsTrue (is_in new step.var)
@@ -186,7 +180,7 @@ module _ (program : Program) (facts : Facts) (are : AreFacts program facts) (wri
       → Visits (Some_fits facts.loads (λ d. RowFits (row_at written d.at) (Loaded d.at d.memory))) (Some_asks facts.loads (λ d. RowAsks (row_at written d.at))) one two first second
       → Searching program two second 0
   search_begins none one two first second clear by_declared by_loaded =
-      let unmarked_ : (v : ℕ) → IsTrue (is_in none v) → ⊥ = λ v h. false≢true (sym (ap (λ l. is_in l v) clear ∙ nothing_marked (variables program) v) ∙ h) in
+      let unmarked_ : (v : ℕ) → IsTrue (is_in none v) → ⊥ = λ v h. false≢true (sym (ap (λ l. is_in l v) clear ∙ replicate_or (variables program) v false) ∙ h) in
       let queued_ = queued_more _ _ none one [] first by_declared (λ s h. absurd (none_in s h)) in
       let back_ = back_more _ _ none one [] first by_declared (λ v h. absurd (unmarked_ v h)) in
       record {

@@ -6,6 +6,7 @@ use Rattle.std.proofs.lemmas.Bool.{false≢true}
 use Rattle.std.proofs.lemmas.List.Elements.{All-push, All-contains}
 use Rattle.bl_base.specs.Sums.{sum_below}
 use Rattle.bl_base.proofs.Sums.{sum_same, sum_front}
+use Rattle.bl_base.proofs.BoolLemmas.{never_both}
 use Rattle.bl_cmd.specs.Sites.{site_weight, IsSite, weight_of}
 use Rattle.bl_cmd.specs.declared.definitions.ProgramParts.{ProgramParts as Program}
 use Rattle.bl_flow.specs.declared.network.Arc.{Arc}
@@ -13,7 +14,7 @@ use Rattle.bl_flow.specs.declared.network.Network.{Network}
 use Rattle.bl_flow.specs.Networks.{Walk, here, along, size, weight_at, InRange, total_weight}
 use Rattle.bl_flow.specs.Cuts.{IsCut, Meets, cut_weight}
 use Rattle.bl_graph.specs.Ranges.{commands, variables, AreSites, AreInRange}
-use Rattle.bl_graph.proofs.Chaining.{all_from, both_ways}
+use Rattle.bl_graph.proofs.Chaining.{all_from}
 use Rattle.bl_graph.proofs.Counting.{amount_if}
 use Rattle.bl_graph.proofs.Members.{any_here, any_in, in_any}
 use Rattle.bl_transient.specs.Transient.{Passes}
@@ -103,4 +104,4 @@ module _ (program : Program) (is : AreInRange program) (n : Network) (net : IsNe
       let last : Contains n.ends (commands program + x) = (net.ends (commands program + x)).1 (x, refl, (position, sink)) in
       let met = in_any (λ u. IsTrue (set u)) (near.1 ++ (commands program + x) ∷ []) (cut.meets near.0 (commands program + x) near.1 near.2 last near.3) in
       let free = All-push (λ u. IsTrue (not (set u))) near.1 (commands program + x) near.4 (no_var program is set sites x) in
-      both_ways (set met.0) met.2 (All-contains (λ u. IsTrue (not (set u))) (near.1 ++ (commands program + x) ∷ []) met.0 free met.1))
+      never_both (set met.0) met.2 (All-contains (λ u. IsTrue (not (set u))) (near.1 ++ (commands program + x) ∷ []) met.0 free met.1))

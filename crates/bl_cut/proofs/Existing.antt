@@ -7,10 +7,10 @@ use Rattle.std.proofs.Math.Nat.{suc-mul}
 use Rattle.std.proofs.lemmas.List.Elements.{Contains-append_left, Contains-append_right, Contains-append_cases}
 use Rattle.bl_base.specs.Sums.{sum_below}
 use Rattle.bl_base.proofs.Sums.{sum_le, sum_plus, sum_tight, sum_bound}
+use Rattle.bl_base.proofs.BoolLemmas.{never_both}
 use Rattle.bl_cmd.specs.Sites.{site_weight, IsSite, Writes, Reads, SinkReads, weight_of}
 use Rattle.bl_cmd.specs.declared.definitions.ProgramParts.{ProgramParts as Program}
 use Rattle.bl_graph.specs.Ranges.{commands, variables, AreSites, AreInRange}
-use Rattle.bl_graph.proofs.Chaining.{both_ways}
 use Rattle.bl_graph.proofs.Counting.{amount_if, once}
 use Rattle.bl_graph.proofs.Members.{first_in, later_in, in_cases, in_map, from_map, none_in}
 use Rattle.bl_transient.specs.Transient.{Assigns, Passes, Trans, loaded, moved}
@@ -149,7 +149,7 @@ module _ (program : Program) (is : AreInRange program) where
       written s x writes may fed =
           elim (cases_Bool (t x)) as (λ _. IsTrue (t x)) [
             | inl e ↦ e
-            | inr e ↦ absurd (both_ways (crossed_by program t s) (and_from (feeds program t s) (cools program t s) fed (cool_write program t s x writes e)) may)
+            | inr e ↦ absurd (never_both (crossed_by program t s) (and_from (feeds program t s) (cools program t s) fed (cool_write program t s x writes e)) may)
           ]
 
   crossed_passes : (t : ℕ → Bool) → Valid t → Passes program (crossed_by program t)
@@ -226,7 +226,7 @@ module _ (program : Program) (is : AreInRange program) where
   valid_if : (l : List Bool) → is_valid l ≡ true → Valid (is_in l)
   unfolding is_valid
   valid_if l h position x sink = false_from_ne_true (is_in l x) (λ e.
-      both_ways (any_below (commands program) (λ p. sinks_some program (is_in l) p))
+      never_both (any_below (commands program) (λ p. sinks_some program (is_in l) p))
       (below_if (commands program) (λ p. sinks_some program (is_in l) p) position (within program position _ sink) (sinks_then program (is_in l) position x sink e)) h)
 
   valid_then : (l : List Bool) → Valid (is_in l) → is_valid l ≡ true

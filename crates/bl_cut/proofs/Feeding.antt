@@ -2,9 +2,9 @@
 use Rattle.std.proofs.Common.{◌≡◌, ℕ, Bool, true, false, ◌⊎◌, inl, inr, not, ◌&&◌, ◌||◌}
 use Rattle.std.specs.Prelude.{IsTrue}
 use Rattle.std.proofs.lemmas.Bool.{not_from_false, false_from_ne_true, or_left, or_right, or_cases}
+use Rattle.bl_base.proofs.BoolLemmas.{never_both}
 use Rattle.bl_cmd.specs.Sites.{IsLoad, Writes, Reads}
 use Rattle.bl_cmd.specs.declared.definitions.ProgramParts.{ProgramParts as Program}
-use Rattle.bl_graph.proofs.Chaining.{both_ways}
 use Rattle.bl_transient.proofs.Tests.{is_load, load_then, load_so, reads_some, reads_then, reads_so, writes_some, writes_then, writes_so}
 
 module _ (program : Program) where
@@ -42,4 +42,4 @@ module _ (program : Program) where
   unfolding cools
   cool_how t s h =
       let found = writes_so program (λ y. not (t y)) s h in
-      (found.0, found.1, false_from_ne_true (t found.0) (λ e. both_ways (t found.0) e found.2))
+      (found.0, found.1, false_from_ne_true (t found.0) (λ e. never_both (t found.0) e found.2))

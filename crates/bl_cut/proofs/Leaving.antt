@@ -3,10 +3,11 @@ use Rattle.std.proofs.Common.{◌≡◌, ℕ, ◌+◌, ◌<◌, ◌≤◌, Bool,
 use Rattle.std.specs.Prelude.{IsTrue, ◌↔◌}
 use Rattle.std.proofs.lemmas.Bool.{cases_Bool, false≢true, not_from_false, not_from_true, false_from_ne_true, and_from, and_parts, eqb-true, eq-eqb, and_left, and_right, ne_eqb}
 use Rattle.bl_base.proofs.Sums.{sum_change}
+use Rattle.bl_base.proofs.BoolLemmas.{never_both}
+use Rattle.bl_base.proofs.OptionLemmas.{some_value}
 use Rattle.bl_cmd.specs.Sites.{site_weight, Writes, weight_of}
 use Rattle.bl_cmd.specs.declared.definitions.ProgramParts.{ProgramParts as Program}
 use Rattle.bl_graph.specs.Ranges.{commands, AreSites, AreInRange}
-use Rattle.bl_graph.proofs.Chaining.{both_ways, some_weight}
 use Rattle.bl_graph.proofs.Counting.{amount_if}
 use Rattle.bl_transient.specs.Transient.{Passes, Trans, IsFed}
 use Rattle.bl_transient.proofs.Typings.{is_trans, typing_trans, least_typing, least_assigns, fed_writes, passing_sinks}
@@ -24,7 +25,7 @@ left_or_it set s t h =
       | inl e ↦
           elim (cases_Bool (nat_eq t s)) as (λ _. (IsTrue (not (set t))) ⊎ (t ≡ s)) [
             | inl q ↦ inr (eqb-true t s q)
-            | inr q ↦ absurd (both_ways (without set s t) (and_from (set t) (not (nat_eq t s)) e (not_from_false (nat_eq t s) q)) h)
+            | inr q ↦ absurd (never_both (without set s t) (and_from (set t) (not (nat_eq t s)) e (not_from_false (nat_eq t s) q)) h)
           ]
     ]
 
@@ -43,7 +44,7 @@ module _ (program : Program) (is : AreInRange program) (set : ℕ → Bool) (sit
   lighter : (s : ℕ) → IsTrue (set s) → weight_of program (without set s) < weight_of program set
   lighter s h =
       let some = sites s h in
-      let w = some_weight (site_weight program s) some in
+      let w = some_value (site_weight program s) some in
       let positive = is.weights s w.0 w.1 in
       let gone : without set s s ≡ false = and_right (set s) (not (nat_eq s s)) (not_from_true (nat_eq s s) (eq-eqb s s Rattle.std.proofs.Common.refl)) in
       let here : amount_if (set s) (unwrap_or (site_weight program s) 0) ≡ amount_if (without set s s) (unwrap_or (site_weight program s) 0) + w.0 =

@@ -3,10 +3,9 @@ use Rattle.std.proofs.Common.{◌≡◌, ℕ, zero, suc, ◌+◌, ◌^◌, ◌<�
 use Rattle.std.specs.Prelude.{IsSomeAnd, IfSome, IsSome, IsTrue, option_map, option_and_then, if◌then◌else◌, count_by}
 use Rattle.std.specs.List.{All}
 use Rattle.std.proofs.lemmas.Bool.{false≢true, cases_Bool}
-use Rattle.std.proofs.lemmas.Option.{none-some}
+use Rattle.std.proofs.lemmas.Option.{none-some, same_Some}
 use Rattle.std.proofs.lemmas.List.Elements.{All-cons, All-nil, All-contains}
 use Rattle.bl_base.specs.Sums.{sum_below}
-use Rattle.bl_base.proofs.Lists.{some_same}
 use Rattle.bl_base.proofs.Sums.{sum_same}
 use Rattle.bl_ops.specs.declared.op.Op.{Op}
 use Rattle.bl_cmd.specs.Layout.{command_at, Holds}
@@ -163,7 +162,7 @@ module _ (set : ℕ → Bool) (program : Program) where
     where
       by : (o : Option Command) → command_at program s ≡ o → (old : Command) × (command_at program s ≡ Some old) × (command ≡ marked (set s) old)
       by None f = absurd (none-some command (sym (command_is set program s ∙ ap (option_map (marked (set s))) f) ∙ e))
-      by (Some old) f = (old, f, some_same command (marked (set s) old) (sym e ∙ (command_is set program s ∙ ap (option_map (marked (set s))) f)))
+      by (Some old) f = (old, f, same_Some command (marked (set s) old) (sym e ∙ (command_is set program s ∙ ap (option_map (marked (set s))) f)))
 
   still : (s : ℕ) (command : Command) → command_at program s ≡ Some command → command_at after s ≡ Some (marked (set s) command)
   still s command e = command_is set program s ∙ ap (option_map (marked (set s))) e
@@ -439,7 +438,7 @@ pub made_is : (set : ℕ → Bool) (program parts : Program) (commands : List Co
     → (let made : Program = record parts { commands = commands } in made) ≡ protected set program
 made_is set program parts commands e f = ap (λ (p : Program). record p { commands = commands }) e ∙ ap (λ l. record program { commands = l }) f
 
--- the front of a list
+-- the prefix of a list
 pub whole_again : (n : ℕ) (front rest : List Command) → n ≡ length front → take n (front ++ rest) ≡ front
 whole_again n front rest e = ap (λ m. take m (front ++ rest)) e ∙ take_front front rest
   where

@@ -4,6 +4,7 @@ use Rattle.std.specs.Result.{IsErrAnd}
 use Rattle.std.proofs.lemmas.List.{drop_all}
 use Rattle.std.proofs.lemmas.Option.{slice_get_within}
 use Rattle.std.proofs.lemmas.Result.{err_from_is_err_and}
+use Rattle.bl_base.proofs.Lists.{rest_same}
 use Rattle.bl_wasm.specs.Values.{Spellings, ◌⨾◌, each}
 use Rattle.bl_wasm.specs.Sections.{custom_section}
 use Rattle.bl_wasm.specs.Modules.{◌▷◌}
@@ -12,7 +13,6 @@ use Rattle.bl_code.specs.Reading.{IsAt, Refuses}
 use Rattle.bl_code.specs.declared.error.CodeError.{CodeError}
 use Rattle.bl_code.specs.declared.error.CodeError.TheVariants.{Malformed, Memory}
 use Rattle.bl_code.proofs.Vectors.{each_more}
-use Rattle.bl_code.proofs.Unique.{rest_same}
 use Rattle.bl_code.proofs.Places.{stands, is_at, at_front}
 use Rattle.bl_decode.specs.Chains.{Begins, IsSection, CustomFirst, IsTail, IsLink, CustomsRead, CustomsPassed, CustomMalformed, TailRead, ReadsCustoms, ReadsSection, ReadsTail}
 use Rattle.bl_decode.proofs.Firsts.{one_first, begins_all, begins_rest, begins_at, at_begins}

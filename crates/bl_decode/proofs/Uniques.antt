@@ -1,10 +1,11 @@
--- No custom section begins another.
+-- Custom sections are prefix-free.
 use Rattle.std.proofs.Common.{◌≡◌, ℕ, List, ◌++◌, length, append_assoc, ap, ap₂, sym, ◌∙◌, subst}
+use Rattle.bl_base.proofs.Lists.{front_same, rest_same}
 use Rattle.bl_wasm.specs.Values.{Spellings, ◌⨾◌, exactly, name, sized}
 use Rattle.bl_wasm.specs.Sections.{custom_section}
 use Rattle.bl_wasm.specs.declared.module.CustomSection.{CustomSection}
 use Rattle.bl_code.specs.Unique.{Same, IsOne}
-use Rattle.bl_code.proofs.Unique.{front_same, rest_same, byte_same, seq_same, u32_same, name_one}
+use Rattle.bl_code.proofs.Unique.{byte_same, seq_same, u32_same, name_one}
 use Rattle.bl_decode.specs.Chains.{Begins}
 
 -- what stands behind a size, by all of it

@@ -12,8 +12,8 @@ pub record Begins (first : ℕ) (bytes : List ℕ) : Type 0 where
   pub behind : List ℕ
   pub whole : bytes ≡ first ∷ behind
 
--- A section that may be missing: no bytes spell it then. Where it stands it begins with its id, and no spelling of one
--- begins another.
+-- A section that may be missing: no bytes spell it then. Where it stands it begins with its id, and its spellings are
+-- prefix-free.
 pub record IsSection {A : Type 0} (id : ℕ) (S : A → Spellings) : Type 0 where
   pub begins : (x : A) (bytes : List ℕ) → S x bytes → (bytes ≡ []) ⊎ Begins id bytes
   pub missing : (x y : A) → S x [] → S y [] → x ≡ y

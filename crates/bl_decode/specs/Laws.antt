@@ -1,4 +1,4 @@
--- No spelling of an entry of a section begins another.
+-- The spellings of the entries of a section are prefix-free.
 use Rattle.std.specs.Prelude.{◌≡◌, ℕ, Bool, true, false, List, refl}
 use Rattle.std.proofs.Common.{sym, ◌∙◌, ap, ap₂}
 use Rattle.bl_wasm.specs.Values.{Spellings, ◌⨾◌, byte, u32, vec, byte_vec, name}

@@ -19,8 +19,9 @@ use Rattle.bl_wasm.specs.declared.types.WasmType.TheVariants.{I32}
 use Rattle.bl_gen.specs.Made.{call_before, function, item, items, kind_of, leb}
 use Rattle.bl_gen.specs.Made.{sized as sized_bytes}
 use Rattle.bl_gen.proofs.Numbers.{number_short, number_spelled}
-use Rattle.bl_gen.proofs.Pieces.{IsHere, IsShallow, IsUsed, Piece, get, both, call_piece, each_append, get_spelled, get_typed, item_piece, pieces, small, two_pieces}
+use Rattle.bl_gen.proofs.Pieces.{IsHere, IsShallow, IsUsed, Piece, get, call_piece, each_append, get_spelled, get_typed, item_piece, pieces, two_pieces}
 use Rattle.bl_gen.proofs.Trees.{body, code_of, first_code, run}
+use Rattle.bl_wasm.proofs.SpellingLemmas.{both, small}
 
 -- ---- a function
 

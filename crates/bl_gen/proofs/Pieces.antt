@@ -6,7 +6,7 @@ use Rattle.std.proofs.lemmas.Option.{slice_get-get_or}
 use Rattle.std.specs.List.{All, flat_map}
 use Rattle.std.proofs.lemmas.List.Concat.{flat_map-cons}
 use Rattle.std.proofs.lemmas.List.Elements.{All-append, All-cons, All-nil}
-use Rattle.bl_wasm.specs.Values.{Spellings, ◌⨾◌, byte, u32, each}
+use Rattle.bl_wasm.specs.Values.{Spellings, ◌⨾◌, each}
 use Rattle.bl_wasm.specs.Instructions.{Nests, instruction}
 use Rattle.bl_wasm.specs.Instructions.{none as no_items, plain as plain_item, loop as loop_items}
 use Rattle.bl_wasm.specs.Nesting.{depth_at}
@@ -22,20 +22,9 @@ use Rattle.bl_ops.specs.declared.op.Op.TheVariants.{I32Add}
 use Rattle.bl_gen.specs.Made.{call_before, item, leb}
 use Rattle.bl_gen.proofs.Numbers.{number_spelled}
 use Rattle.bl_gen.proofs.Trees.{call_code, code_2, code_3, code_of, inside_2, load, type}
+use Rattle.bl_wasm.proofs.SpellingLemmas.{both, after, small}
 
 -- ---- spellings
-
--- a spelling of the first, and then one of the second
-pub both : {First Second : Spellings} (front rest : List ℕ) → First front → Second rest → (First ⨾ Second) (front ++ rest)
-both front rest first second = record { front = front; rest = rest; whole = refl; first = first; second = second }
-
--- a byte, and then a spelling
-pub after : {n : ℕ} {Second : Spellings} (rest : List ℕ) → Second rest → (byte n ⨾ Second) (n ∷ rest)
-after {n} rest second = both (n ∷ []) rest refl second
-
--- a number below 128 in one byte
-pub small : (n : ℕ) → n < 128 → u32 n (n ∷ [])
-small n lt = (omega (arith, lt), omega (arith, lt), refl)
 
 -- spellings one after another
 pub each_append : {A : Type 0} (B : A → Spellings) (xs ys : List A) (a b : List ℕ) → each B xs a → each B ys b → each B (xs ++ ys) (a ++ b)

@@ -16,8 +16,8 @@ use Rattle.bl_gen.specs.Made.{code_section, export_section, function, function_s
 use Rattle.bl_gen.specs.Made.{section as section_bytes, sized as sized_bytes}
 use Rattle.bl_gen.proofs.Bodies.{all_below, all_short, entries_spelled, entry_short}
 use Rattle.bl_gen.proofs.Numbers.{number_short, number_spelled}
-use Rattle.bl_gen.proofs.Pieces.{after, both, small}
 use Rattle.bl_gen.proofs.Trees.{body, last, memory, tree, type}
+use Rattle.bl_wasm.proofs.SpellingLemmas.{both, after, small, single}
 
 -- a section that stands there, or one that is missing, and what follows
 here : {Section : Spellings} {Behind : List CustomSection → Spellings} (front rest : List ℕ) → Section front → Behind [] rest → (Section ▷ Behind) [] (front ++ rest)
@@ -29,10 +29,6 @@ packed contents few spelled = record { size = leb (length contents); contents = 
 
 stands : {Contents : Spellings} (id : ℕ) (contents : List ℕ) → length contents < 2 ^ 32 → Contents contents → section id Contents (section_bytes id contents)
 stands id contents few spelled = after _ (packed contents few spelled)
-
--- one element behind the count
-single : {A : Type 0} (B : A → Spellings) (x : A) (bytes : List ℕ) → B x bytes → vec B (x ∷ []) (1 ∷ bytes)
-single B x bytes spelled = both (1 ∷ []) bytes (small 1 (omega arith)) (record { front = bytes; rest = []; whole = sym (append-nil bytes); first = spelled; second = refl })
 
 -- elements behind their count
 counted : {A : Type 0} (B : A → Spellings) (xs : List A) (n : ℕ) (bytes : List ℕ) → length xs ≡ n → n < 2 ^ 32 → each B xs bytes → vec B xs (leb n ++ bytes)

@@ -1,10 +1,12 @@
 -- Chains: what meets them, and which sites they have.
-use Rattle.std.proofs.Common.{◌≡◌, ℕ, ◌<◌, ◌≤◌, ◌*◌, Bool, true, false, List, [], ◌∷◌, Option, Some, None, unwrap_or, sym, ap, ◌∙◌, arith, inl, inr, not, nat_eq}
-use Rattle.std.specs.Prelude.{IsTrue, IsSome}
+use Rattle.std.proofs.Common.{◌≡◌, ℕ, ◌<◌, ◌≤◌, ◌*◌, Bool, List, [], ◌∷◌, Some, unwrap_or, sym, ap, ◌∙◌, arith, inl, inr, not, nat_eq}
+use Rattle.std.specs.Prelude.{IsTrue}
 use Rattle.std.specs.List.{All, Any, Contains, count_by}
-use Rattle.std.proofs.lemmas.Bool.{cases_Bool, not_from_false, false≢true}
+use Rattle.std.proofs.lemmas.Bool.{cases_Bool, not_from_false}
 use Rattle.std.proofs.lemmas.List.Elements.{All-contains, All-cons, All-nil, Contains-get_or}
 use Rattle.bl_base.proofs.Sums.{sum_le}
+use Rattle.bl_base.proofs.BoolLemmas.{never_both}
+use Rattle.bl_base.proofs.OptionLemmas.{some_value}
 use Rattle.bl_cmd.specs.Sites.{IsLoad, Writes, Reads, SinkReads, site_weight, weight_of}
 use Rattle.bl_cmd.specs.declared.definitions.ProgramParts.{ProgramParts as Program}
 use Rattle.bl_graph.specs.Ranges.{commands, AreSites, AreInRange}
@@ -19,10 +21,6 @@ use Rattle.bl_graph.proofs.Counting.{amount_if, crossed, both_counts, crossed_le
 pub all_from : {X : Type 0} (P : X → Type 0) (xs : List X) → ((x : X) → Contains xs x → P x) → All P xs
 all_from P xs each = λ k d lt. each (Rattle.std.specs.List.slice_index_or xs k d) (Contains-get_or xs k d lt)
 
-pub both_ways : (b : Bool) → b ≡ true → not b ≡ true → ⊥
-both_ways true e f = cc
-both_ways false e f = cc
-
 -- a set meets a chain in one of its sites
 abbrev pub Protected : (ℕ → Bool) → List ℕ → Type 0
 Protected set sites = Any (λ s. IsTrue (set s)) sites
@@ -34,7 +32,7 @@ module _ (program : Program) (set typing : ℕ → Bool)
     (moves : (s x y : ℕ) → Reads program s x → Writes program s y → IsTrue (not (set s)) → IsTrue (typing x) → IsTrue (typing y))
     (sinks : (position x : ℕ) → SinkReads program position x → IsTrue (not (typing x))) where
   rest_met : (x : ℕ) (sites : List ℕ) (sink : ℕ) → IsTrue (typing x) → Carries program x sites sink → Protected set sites
-  rest_met x [] sink hot carries = absurd (both_ways (typing x) hot (sinks sink x carries))
+  rest_met x [] sink hot carries = absurd (never_both (typing x) hot (sinks sink x carries))
   rest_met x (s ∷ rest) sink hot carries =
       elim (cases_Bool (set s)) as (λ _. Protected set (s ∷ rest)) [
         | inl e ↦ any_here (λ t. IsTrue (set t)) s rest e
@@ -68,17 +66,13 @@ module _ (program : Program) (is : AreInRange program) where
 abbrev pub amount_of : FlowPath → ℕ
 amount_of path = path.amount
 
-pub some_weight : (o : Option ℕ) → IsSome o → (w : ℕ) × (o ≡ Some w)
-some_weight None h = absurd (false≢true h)
-some_weight (Some w) h = (w, Rattle.std.proofs.Common.refl)
-
 module _ (program : Program) (set : ℕ → Bool) (sites : AreSites program set) (paths : List FlowPath)
     (fits : (s w : ℕ) → site_weight program s ≡ Some w → flow_through paths s ≤ w) where
   pub share_le : (s : ℕ) → amount_if (set s) (flow_through paths s) ≤ amount_if (set s) (unwrap_or (site_weight program s) 0)
   share_le s =
       elim (cases_Bool (set s)) as (λ _. amount_if (set s) (flow_through paths s) ≤ amount_if (set s) (unwrap_or (site_weight program s) 0)) [
         | inl e ↦
-            let w = some_weight (site_weight program s) (sites s e) in
+            let w = some_value (site_weight program s) (sites s e) in
             let most = fits s w.0 w.1 in
             let left : amount_if (set s) (flow_through paths s) ≡ flow_through paths s = ap (λ b. amount_if b (flow_through paths s)) e in
             let right : amount_if (set s) (unwrap_or (site_weight program s) 0) ≡ w.0 =

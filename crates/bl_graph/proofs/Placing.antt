@@ -1,8 +1,8 @@
 -- What a pass over commands keeps.
 use Rattle.std.proofs.Common.{◌≡◌, ℕ, zero, suc, ◌+◌, ◌^◌, ◌<◌, ◌≤◌, List, [], ◌∷◌, ◌++◌, length, get_or, Option, Some, None, slice_get, refl, sym, ap, subst, ◌∙◌, arith, ◌⊎◌, inl, inr}
 use Rattle.std.specs.Prelude.{◌↔◌, IsSomeAnd, option_map}
-use Rattle.std.proofs.lemmas.Option.{none-some, slice_get-get_or, slice_get_within}
-use Rattle.bl_base.proofs.Lists.{some_same, all_get}
+use Rattle.std.proofs.lemmas.Option.{none-some, slice_get-get_or, slice_get_within, same_Some}
+use Rattle.bl_base.proofs.Lists.{all_get}
 use Rattle.bl_base.specs.declared.number.Pos.{Pos}
 use Rattle.bl_base.specs.declared.number.Var.{Var}
 use Rattle.bl_cmd.specs.Layout.{first_of, entry_of, params_of, result, command_at, Holds}
@@ -52,7 +52,7 @@ pub row_some : (o : Option Var) (var : Var) (position : ℕ) (old new : List Use
     → AddsRow (λ x. option_map (λ (v : Var). v.0) o ≡ Some x) position old new
 row_some o var position old new is e =
     row_one (λ x. option_map (λ (v : Var). v.0) o ≡ Some x) position var.0 old new (ap (option_map (λ (v : Var). v.0)) is)
-    (λ y h. some_same var.0 y (sym (ap (option_map (λ (v : Var). v.0)) is) ∙ h)) e
+    (λ y h. same_Some var.0 y (sym (ap (option_map (λ (v : Var). v.0)) is) ∙ h)) e
 
 pub written_same : (program : Program) (at : ℕ) (ys : List Command) (d : Command) (o : Option ℕ) → ys ≡ program.commands → at < length ys → o ≡ written_by program at (get_or ys at d)
     → (x : ℕ) → (o ≡ Some x) ↔ Writes program at x

@@ -2,8 +2,8 @@
 use Rattle.std.proofs.Common.{◌≡◌, ℕ, zero, suc, ◌+◌, ◌^◌, ◌<◌, ◌≤◌, Bool, true, false, List, [], ◌∷◌, length, Option, Some, None, slice_get, unwrap_or, min, refl, sym, ap, subst, ◌∙◌, arith, ◌⊎◌, inl, inr}
 use Rattle.std.specs.Prelude.{IsSomeAnd, IsSome, IfSome, option_map, option_and_then, if◌then◌else◌}
 use Rattle.std.proofs.lemmas.Bool.{cases_lt, cases_Bool, false≢true}
-use Rattle.std.proofs.lemmas.Option.{none-some, slice_get_within, slice_get_past}
-use Rattle.bl_base.proofs.Lists.{some_same, all_get, within_get}
+use Rattle.std.proofs.lemmas.Option.{none-some, slice_get_within, slice_get_past, same_Some}
+use Rattle.bl_base.proofs.Lists.{all_get, within_get}
 use Rattle.bl_base.specs.Trap.{code_of}
 use Rattle.bl_ops.specs.declared.op.Op.{Op}
 use Rattle.bl_cmd.specs.Layout.{command_at, first_of, param, result, running, params_of, results_of, statics, Holds}
@@ -116,7 +116,7 @@ writes_one program s x y one other = same (command_at program s) one other
   where
     same : (o : Option Command) → IsSomeAnd o (λ command. written_by program s command ≡ Some x) → IsSomeAnd o (λ command. written_by program s command ≡ Some y) → x ≡ y
     same None one other = absurd one
-    same (Some command) one other = some_same x y (sym one ∙ other)
+    same (Some command) one other = same_Some x y (sym one ∙ other)
 
 -- ---- variables
 
@@ -149,16 +149,16 @@ module _ (program : Program) (facts : IsProgram program) (rules : IsWellFormed p
   result_small function index low = any_own function (result program function index) (result_own program function (result program function index) rules.rule2 (omega arith, omega arith))
 
   written_small : (s function x : ℕ) (command : Command) → Holds program function s → Rule4 program function command → Rule6 program function command → written_by program s command ≡ Some x → x < variables program
-  written_small s function x (Set mark op to a b c) holds reads ranges e = subst (λ y. y < variables program) (some_same to.0 x e) (writable_small function to.0 reads.writes)
-  written_small s function x (Load mark kind memory to offset address) holds reads ranges e = subst (λ y. y < variables program) (some_same to.0 x e) (writable_small function to.0 reads.writes)
+  written_small s function x (Set mark op to a b c) holds reads ranges e = subst (λ y. y < variables program) (same_Some to.0 x e) (writable_small function to.0 reads.writes)
+  written_small s function x (Load mark kind memory to offset address) holds reads ranges e = subst (λ y. y < variables program) (same_Some to.0 x e) (writable_small function to.0 reads.writes)
   written_small s function x (Store kind memory offset address value) holds reads ranges e = absurd (none-some x e)
   written_small s function x (Test cond one other) holds reads ranges e = absurd (none-some x e)
   written_small s function x (Jump to) holds reads ranges e = absurd (none-some x e)
   written_small s function x (Arg mark callee index value) holds reads ranges e =
-      subst (λ y. y < variables program) (some_same (param program callee index) x e) (param_small callee index ranges.1 ranges.2)
+      subst (λ y. y < variables program) (same_Some (param program callee index) x e) (param_small callee index ranges.1 ranges.2)
   written_small s function x (Call callee) holds reads ranges e = absurd (none-some x e)
   written_small s function x (Out mark index value) holds reads ranges e =
-      subst (λ y. y < variables program) (ap (λ f. result program f index) (sym (running_is program function s holds)) ∙ some_same (result program (running program s) index) x e) (result_small function index ranges.1)
+      subst (λ y. y < variables program) (ap (λ f. result program f index) (sym (running_is program function s holds)) ∙ same_Some (result program (running program s) index) x e) (result_small function index ranges.1)
   written_small s function x Ret holds reads ranges e = absurd (none-some x e)
   written_small s function x (Trap kind) holds reads ranges e = absurd (none-some x e)
 
@@ -196,7 +196,7 @@ module _ (program : Program) (facts : IsProgram program) (rules : IsWellFormed p
 
   -- the first seven commands are traps
   trap_low : (s : ℕ) (command : Command) → s < 7 → command_at program s ≡ Some command → (kind : Rattle.bl_base.specs.declared.trap.Trap.Trap) × (command ≡ Trap kind)
-  trap_low s command low at = let trap = facts.traps s low in (trap.0, some_same command (Trap trap.0) (sym at ∙ trap.2))
+  trap_low s command low at = let trap = facts.traps s low in (trap.0, same_Some command (Trap trap.0) (sym at ∙ trap.2))
 
   pub held : (s : ℕ) (command : Command) → command_at program s ≡ Some command → Marked command ⊎ ((x : ℕ) × Among (operands_of command) x) → (function : ℕ) × Holds program function s
   held s command at some =
@@ -231,7 +231,7 @@ module _ (program : Program) (facts : IsProgram program) (rules : IsWellFormed p
     sites = site_within program;
     weights = λ s w e.
         let exact = site_exact program program s (min (unwrap_or (site_weight program s) 0) (2 ^ 63)) refl rules (subst (λ o. IsSome o) (sym e) refl) refl in
-        let same = some_same w (min (unwrap_or (site_weight program s) 0) (2 ^ 63)) (sym e ∙ exact.0) in
+        let same = same_Some w (min (unwrap_or (site_weight program s) 0) (2 ^ 63)) (sym e ∙ exact.0) in
         let least = exact.1 in
         omega arith;
     total = rules.rule9.total;

@@ -7,6 +7,7 @@ use Rattle.std.proofs.lemmas.List.Elements.{All-contains}
 use Rattle.std.proofs.lemmas.List.Sums.{sum_by-cons}
 use Rattle.std.proofs.Math.Nat.{mul-zero, mul-one}
 use Rattle.bl_base.proofs.Sums.{sum_tight}
+use Rattle.bl_base.proofs.OptionLemmas.{some_value}
 use Rattle.bl_cmd.specs.Sites.{site_weight}
 use Rattle.bl_cmd.specs.declared.definitions.ProgramParts.{ProgramParts as Program}
 use Rattle.bl_graph.specs.Ranges.{commands, AreSites, AreInRange}
@@ -15,7 +16,7 @@ use Rattle.bl_graph.specs.declared.certificate.FlowPath.{FlowPath}
 use Rattle.bl_graph.specs.declared.certificate.Certificate.{Certificate}
 use Rattle.bl_graph.proofs.Members.{first_in, later_in}
 use Rattle.bl_graph.proofs.Counting.{amount_if, once, count_cons, all_head, all_tail, both_counts, crossed}
-use Rattle.bl_graph.proofs.Chaining.{chain_sites, share_le, some_weight}
+use Rattle.bl_graph.proofs.Chaining.{chain_sites, share_le}
 
 -- what is counted is there
 counted_in : (s : ℕ) (xs : List ℕ) → 0 < count_by (λ t. nat_eq t s) xs → Contains xs s
@@ -63,7 +64,7 @@ reason program is set sites c certifies s h =
     let lt = is.sites s (sites s h) in
     let tight = sum_tight (commands program) (λ t. amount_if (set t) (flow_through c.paths t)) (λ t. amount_if (set t) (unwrap_or (site_weight program t) 0))
     (λ t _. share_le program set sites c.paths certifies.fits t) (omega arith) s lt in
-    let w = some_weight (site_weight program s) (sites s h) in
+    let w = some_value (site_weight program s) (sites s h) in
     let positive = is.weights s w.0 w.1 in
     let left = ap (λ b. amount_if b (flow_through c.paths s)) h in
     let right = ap (λ b. amount_if b (unwrap_or (site_weight program s) 0)) h ∙ ap (λ o. unwrap_or o 0) w.1 in

@@ -1,15 +1,12 @@
 -- The variables of the functions before one, with those of one more.
-use Rattle.std.proofs.Common.{◌≡◌, ℕ, suc, ◌+◌, ◌^◌, ◌<◌, ◌≤◌, List, length, get_or, Some, slice_get, subst, arith}
-use Rattle.std.proofs.lemmas.Option.{slice_get_read, slice_get_within}
+use Rattle.std.proofs.Common.{◌≡◌, ℕ, suc, ◌+◌, ◌^◌, ◌<◌, ◌≤◌, List, length, get_or, arith}
+use Rattle.std.proofs.lemmas.Option.{slice_get_within}
+use Rattle.bl_base.proofs.Lists.{item_at}
 use Rattle.bl_cmd.specs.Layout.{first_of, entry_of}
 use Rattle.bl_cmd.specs.Rules.{Rule2}
 use Rattle.bl_cmd.specs.declared.definitions.FunctionDef.{FunctionDef}
 use Rattle.bl_cmd.specs.declared.definitions.ProgramParts.{ProgramParts as Program}
 use Rattle.bl_cmd.proofs.Layouts.{next_first, next_entry, first_below}
-
--- the item of a loop
-pub item_at : {X : Type 0} (xs ys : List X) (i : ℕ) (x : X) → ys ≡ xs → i < length ys → x ≡ get_or ys i x → slice_get xs i ≡ Some x
-item_at xs ys i x e lt is = subst (λ l. slice_get l i ≡ Some x) e (slice_get_read ys (length ys) i x Rattle.std.proofs.Common.refl lt is)
 
 module _ (program : Program) (ys : List FunctionDef) (i count : ℕ) (function : FunctionDef) where
   pub one_more : ys ≡ program.functions → i < length ys → function ≡ get_or ys i function → count ≡ first_of program i → count + function.vars ≡ first_of program (i + 1)

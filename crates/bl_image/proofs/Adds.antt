@@ -1,6 +1,6 @@
 -- What writers add, by the combinators of the grammar.
-use Rattle.std.proofs.Common.{◌≡◌, ◌<◌, ◌+◌, ℕ, suc, List, [], ◌∷◌, ◌++◌, length, take, drop, get_or, append_assoc, append-nil, ap, sym, ◌∙◌, refl, subst, arith}
-use Rattle.std.proofs.Math.Seq.{take-suc, drop-cons}
+use Rattle.std.proofs.Common.{◌≡◌, ◌<◌, ◌+◌, ℕ, suc, List, [], ◌∷◌, ◌++◌, length, take, get_or, append_assoc, append-nil, ap, sym, ◌∙◌, refl, subst, arith}
+use Rattle.std.proofs.Math.Seq.{take-suc}
 use Rattle.bl_image.specs.Grammar.{Spellings, ◌⨾◌, each_after}
 use Rattle.bl_image.specs.Writing.{Adds}
 use Rattle.bl_image.proofs.Chains.{behind, one_more}
@@ -34,9 +34,3 @@ pub taken : {A : Type 0} (xs : List A) (i : ℕ) (x : A) → i < length xs → x
 taken xs i x less is =
     let next : i + 1 ≡ suc i = omega arith in
     ap (λ k. take k xs) next ∙ take-suc xs i x less ∙ ap (λ y. take i xs ++ y ∷ []) (sym is)
-
--- what is left begins with the next one
-pub dropped : {A : Type 0} (xs : List A) (i : ℕ) (x : A) → i < length xs → x ≡ get_or xs i x → drop i xs ≡ x ∷ drop (i + 1) xs
-dropped xs i x less is =
-    let next : suc i ≡ i + 1 = omega arith in
-    drop-cons xs i x less ∙ ap (λ y. y ∷ drop (suc i) xs) (sym is) ∙ ap (λ k. x ∷ drop k xs) next

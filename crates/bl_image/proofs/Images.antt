@@ -2,7 +2,7 @@
 use Rattle.std.proofs.Common.{◌≡◌, ℕ, zero, suc, ◌+◌, ◌<◌, ◌≤◌, Bool, true, false, List, [], ◌∷◌, ◌++◌, length, drop, take, Some, ap, ap₂, sym, ◌∙◌, refl, subst, arith}
 use Rattle.std.specs.Prelude.{nat_lt, if◌then◌else◌}
 use Rattle.std.proofs.lemmas.Bool.{ltb-true}
-use Rattle.bl_base.proofs.Lists.{some_same}
+use Rattle.std.proofs.lemmas.Option.{same_Some}
 use Rattle.bl_base.specs.Trap.{trap_of, code_of as trap_code}
 use Rattle.bl_base.specs.declared.number.Pos.{Pos}
 use Rattle.bl_base.specs.declared.number.Var.{Var as Variable}
@@ -13,8 +13,6 @@ use Rattle.bl_base.specs.declared.names.Label.TheVariants.{Public, Secret}
 use Rattle.bl_base.specs.declared.names.ValueType.{ValueType}
 use Rattle.bl_base.specs.declared.names.ValueType.TheVariants.{I32, I64}
 use Rattle.bl_ops.specs.Access.{kind_of, code_of as access_code}
-use Rattle.bl_ops.specs.declared.access.AccessKind.{AccessKind}
-use Rattle.bl_ops.specs.declared.access.AccessKind.TheVariants.{I32Load}
 use Rattle.bl_ops.specs.declared.op.Op.{Op}
 use Rattle.bl_ops.specs.declared.op.Op.TheVariants.{Move}
 use Rattle.bl_ops.specs.Table.{image_code_of, image_operator_of}
@@ -39,6 +37,7 @@ use Rattle.bl_image.specs.Reading.{operands_of}
 use Rattle.bl_image.proofs.Cases.{is_var, is_const, ResultParts, to_result, is_result, is_global, LoadParts, to_load, is_load, StoreParts, to_store, is_store, TestParts, to_test, is_test, is_jump, ArgParts, to_arg, is_arg, is_call, OutParts, to_out, is_out, is_ret, is_trap, Operands, SetParts, to_set, is_set}
 use Rattle.bl_image.proofs.Operands.{only_part, second_part, two, three, three_only, set_parts, set_spelled, set_from}
 use Rattle.bl_image.proofs.Unique.{IsUnique, unique_via, unique_from, unique_given, unique_after, unique_both, unique_pair, unique_case, unique_nothing, unique_byte, unique_code, unique_exactly, unique_u64, unique_u32, unique_each, unique_vec, unique_rising}
+use Rattle.bl_ops.proofs.AccessLemmas.{access_found}
 
 -- ---- parts of several tables
 
@@ -57,9 +56,6 @@ label_same Secret Secret e = refl
 op_found : (op : Op) → image_operator_of (image_code_of op) ≡ Some op
 op_found op = elim op as (λ o. image_operator_of (image_code_of o) ≡ Some o) [ Move ↦ refl | _ ↦ refl ]
 
-access_found : (kind : AccessKind) → kind_of (access_code kind) ≡ Some kind
-access_found kind = elim kind as (λ k. kind_of (access_code k) ≡ Some k) [ I32Load ↦ refl | _ ↦ refl ]
-
 trap_found : (kind : TrapKind) → trap_of (trap_code kind) ≡ Some kind
 trap_found kind = elim kind as (λ k. trap_of (trap_code k) ≡ Some k) [ kinds.Unreachable ↦ refl | _ ↦ refl ]
 
@@ -70,13 +66,13 @@ label_one : IsUnique label
 label_one = unique_code label_code label_same
 
 operator_one : IsUnique operator
-operator_one = unique_code image_code_of (λ x y e. some_same x y (sym (op_found x) ∙ ap image_operator_of e ∙ op_found y))
+operator_one = unique_code image_code_of (λ x y e. same_Some x y (sym (op_found x) ∙ ap image_operator_of e ∙ op_found y))
 
 access_one : IsUnique access
-access_one = unique_code access_code (λ x y e. some_same x y (sym (access_found x) ∙ ap kind_of e ∙ access_found y))
+access_one = unique_code access_code (λ x y e. same_Some x y (sym (access_found x) ∙ ap kind_of e ∙ access_found y))
 
 trap_one : IsUnique trap_kind
-trap_one = unique_code trap_code (λ x y e. some_same x y (sym (trap_found x) ∙ ap trap_of e ∙ trap_found y))
+trap_one = unique_code trap_code (λ x y e. same_Some x y (sym (trap_found x) ∙ ap trap_of e ∙ trap_found y))
 
 variable_one : IsUnique (λ (x : Variable). u32 x.0)
 variable_one = unique_from unique_u32 (λ (x : Variable). x.0) (λ n. record { 0 = n }) (λ y. refl)

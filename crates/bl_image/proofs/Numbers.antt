@@ -1,20 +1,13 @@
 -- Numbers in their shortest spelling, and bytes as they stand.
 use Rattle.std.proofs.Common.{◌≡◌, ℕ, ◌+◌, ◌-◌, ◌<◌, ◌≤◌, ◌^◌, List, [], ◌∷◌, ◌++◌, length, take, drop, slice_range, append_assoc, ap, sym, ◌∙◌, refl, subst, arith, length-append, length-drop}
-use Rattle.std.proofs.lemmas.List.{take_at, drop_at, drop-drop, append_cancel_left}
+use Rattle.std.proofs.lemmas.List.{take_at, drop_at, drop-drop}
 use Rattle.std.proofs.lemmas.List.Folds.{drop_split}
+use Rattle.bl_base.proofs.Lists.{front_same, rest_same}
 use Rattle.bl_leb.specs.Numbers.{IsUnsigned}
 use Rattle.bl_leb.specs.Spellings.{IsSpelledAt, IsShortest}
 use Rattle.bl_leb.proofs.Unsigned.{one_end, one_value, shortest_one}
 use Rattle.bl_image.specs.Grammar.{Spellings, u64, byte, given, exactly}
 use Rattle.bl_image.specs.Reading.{Begins, NoneBegins}
-
--- lists as long as each other that begin the same list are one
-pub front_same : {A : Type 0} (a b u v : List A) → length a ≡ length b → a ++ u ≡ b ++ v → a ≡ b
-front_same a b u v long e = sym (take_at a u (length a) refl) ∙ ap (take (length a)) e ∙ take_at b v (length a) (sym long)
-
--- what follows one front
-pub rest_same : {A : Type 0} (a b u v : List A) → a ≡ b → a ++ u ≡ b ++ v → u ≡ v
-rest_same a b u v same e = append_cancel_left a u v (e ∙ ap (λ t. t ++ v) (sym same))
 
 -- a number in its shortest spelling
 pub begins_number : (s front rest : List ℕ) (n : ℕ) → s ≡ front ++ rest → u64 n front → Begins u64 s n rest

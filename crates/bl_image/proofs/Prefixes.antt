@@ -1,4 +1,4 @@
--- No image begins another one, and an image is one program's.
+-- Images are prefix-free, and an image is one program's.
 use Rattle.std.proofs.Common.{◌≡◌, ℕ, ◌+◌, List, [], ◌∷◌, ◌++◌, length, drop, ap, ap₂, sym, ◌∙◌, refl, arith, length-drop, append-nil}
 use Rattle.bl_cmd.specs.Layout.{sum_before}
 use Rattle.bl_cmd.specs.declared.command.Command.{Command}

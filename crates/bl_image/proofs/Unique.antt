@@ -1,9 +1,9 @@
 -- What is spelled in one way and spells one thing, by the combinators of the grammar.
 use Rattle.std.proofs.Common.{◌≡◌, ℕ, suc, ◌+◌, ◌^◌, ◌<◌, List, [], ◌∷◌, ◌++◌, length, drop, get_or, append_assoc, ap, ap₂, sym, ◌∙◌, refl, subst, arith}
+use Rattle.bl_base.proofs.Lists.{front_same, rest_same}
 use Rattle.bl_leb.proofs.Unsigned.{one_end, one_value, one_shortest}
 use Rattle.bl_leb.specs.Numbers.{IsUnsigned}
 use Rattle.bl_image.specs.Grammar.{Spellings, ◌⨾◌, nothing, exactly, byte, given, each, each_after, u32, u64, vec, gap, rising}
-use Rattle.bl_image.proofs.Numbers.{front_same, rest_same}
 
 -- where two spellings begin the same bytes they are of one thing, and the same rest stands behind them; and one thing has one
 -- spelling

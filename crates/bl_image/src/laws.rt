@@ -13,7 +13,7 @@ pub fn one_image()
     ensures { (program : ProgramParts) (bytes other : List ℕ) → Image program bytes → Image program other → bytes ≡ other }
 {}
 
-/// No image begins another one: of two images of which the one begins with the other, nothing stands behind it.
+/// Images are prefix-free: where one image is a prefix of another, nothing stands behind it.
 pub fn no_prefix()
     ensures { (program other : ProgramParts) (bytes rest : List ℕ) → Image program bytes → Image other (bytes ++ rest) → rest ≡ [] }
 {}

@@ -6,6 +6,7 @@ use Rattle.std.proofs.lemmas.Bool.Decides.{eqb_tells}
 use Rattle.std.proofs.lemmas.List.{drop_all, drop_more, get_or_default, take_all, take_more}
 use Rattle.std.proofs.lemmas.List.Elements.{filter_map-append}
 use Rattle.std.proofs.lemmas.List.Folds.{list_any-append}
+use Rattle.bl_base.proofs.OptionLemmas.{either_none}
 use Rattle.bl_wasm.specs.declared.module.Module.{Module}
 use Rattle.bl_wasm.specs.declared.types.FuncType.{FuncType}
 use Rattle.bl_labels.specs.Entries.{section}
@@ -106,10 +107,6 @@ whole tree entries i labels given so_far past same =
     sym (ap (λ o. judged_by o entries) left ∙ ap (λ l. Ok l) all)
 
 -- ---- no global is both
-
-either_none : {A : Type 0} (a b : Option A) → option_or a b ≡ None → (a ≡ None) × (b ≡ None)
-either_none None b none = (refl, none)
-either_none (Some x) b none = absurd (cc)
 
 -- an entry that nothing is wrong with wasn't named by the other kind
 not_both : (outside on_import twice both : Bool) → first_broken outside on_import twice both ≡ None → both ≡ false

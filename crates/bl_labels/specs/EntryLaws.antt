@@ -1,4 +1,4 @@
--- That no spelling of an entry begins another, for its reader.
+-- That the spellings of entries are prefix-free, for their reader.
 use Rattle.std.proofs.Common.{◌≡◌, ◌∙◌, ℕ, ap, arith}
 use Rattle.bl_code.specs.Laws.{u32_one}
 use Rattle.bl_code.specs.Unique.{Same, IsOne}

@@ -78,7 +78,7 @@ results_of types spaces function = unwrap_or (option_map (λ type. length type.r
 
 -- ---- the rules
 
--- the first of the rules that an entry breaks: what it names exists, isn't imported, wasn't named so before, and wasn't named by the
+-- the first of the rules that an entry breaks: its index is in range, isn't imported, wasn't named so before, and wasn't named by the
 -- other kind of entry on globals before
 abbrev pub first_broken : Bool → Bool → Bool → Bool → Option LabelError
 first_broken true on_import twice both = Some OutOfRange

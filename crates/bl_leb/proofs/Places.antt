@@ -50,7 +50,7 @@ begins Spells bytes i j n v inside is never h =
 pub length_range : (bytes : List ℕ) (i j : ℕ) → i ≤ j → j ≤ length bytes → length (slice_range bytes i j) ≡ j - i
 length_range bytes i j less inside = length-take-le (j - i) (drop i bytes) (omega (arith, length-drop i bytes))
 
--- where no spelling begins another, one ends at each place
+-- where spellings are prefix-free, one ends at each place
 pub one_place : {A : Type 0} (Spells : List ℕ → A → Type 0) (bytes : List ℕ) (i j k : ℕ) (v w : A) → ((a b x y : List ℕ) → Spells a v → Spells b w → a ++ x ≡ b ++ y → a ≡ b) → IsSpelledAt Spells bytes i j v → IsSpelledAt Spells bytes i k w → (j ≡ k) × (slice_range bytes i j ≡ slice_range bytes i k)
 one_place Spells bytes i j k v w one p q =
     let f = p.forward in

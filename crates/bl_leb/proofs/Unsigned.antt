@@ -29,7 +29,7 @@ one_value width (n ∷ next ∷ rest) v w p q =
     let same = one_value (width - 7) (next ∷ rest) p.3 q.3 p.4 q.4 in
     omega arith
 
--- no spelling begins another
+-- spellings are prefix-free
 pub one_end : (width other : ℕ) (a b x y : List ℕ) (v w : ℕ) → IsUnsigned width a v → IsUnsigned other b w → a ++ x ≡ b ++ y → a ≡ b
 one_end width other [] b x y v w p q e = absurd p
 one_end width other (n ∷ a) [] x y v w p q e = absurd q

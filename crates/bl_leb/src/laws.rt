@@ -11,7 +11,7 @@ pub fn one_value()
         IsSigned width bytes v → IsSigned width bytes w → v ≡ w }
 {}
 
-/// No spelling begins another one, of whatever width; so what is read does not depend on what follows.
+/// Spellings of all widths are prefix-free; so what is read does not depend on what follows.
 pub fn one_end()
     ensures unsigned { (width other : ℕ) (a b x y : List ℕ) (v w : ℕ) →
         IsUnsigned width a v → IsUnsigned other b w → a ++ x ≡ b ++ y → a ≡ b }

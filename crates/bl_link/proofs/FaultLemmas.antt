@@ -11,7 +11,7 @@ use Rattle.bl_wasm.specs.declared.module.Module.{Module}
 use Rattle.bl_link.specs.Faults.{NamesPart}
 use Rattle.bl_link.specs.Links.{data_fits, element_fits, initialised, links, nothing, reserves, with_given, with_next, with_part, with_segments, within_reserve}
 use Rattle.bl_link.specs.Matching.{all_given, given, given_of, matches, named}
-use Rattle.bl_link.specs.Parts.{DataRange, ElementRange, External, Limit, LinkError, Mismatch, Part, Spaces, Store, all_ok, on_ok, spaces_of}
+use Rattle.bl_link.specs.IndexSpaces.{DataRange, ElementRange, External, Limit, LinkError, Mismatch, Part, Spaces, Store, all_ok, on_ok, spaces_of}
 
 module _ (count : ℕ) where
   -- where there is a fault, it names a part

@@ -6,11 +6,12 @@ use Rattle.bl_wasm.specs.Linked.{IsLinked}
 use Rattle.bl_link.specs.CanLink.{AreLeft, CanLink}
 use Rattle.bl_base.specs.Quantity.{limit_of}
 use Rattle.bl_base.specs.declared.quantity.Quantity.TheVariants.{Reserve}
+use Rattle.bl_base.proofs.Lists.{all_get}
 use Rattle.bl_link.specs.Linkable.{AreParts, IsPart, IsSound}
 use Rattle.bl_link.specs.Links.{nothing, reserves, with_next}
-use Rattle.bl_link.specs.Parts.{LinkError, Limit, Part, Store}
+use Rattle.bl_link.specs.IndexSpaces.{LinkError, Limit, Part, Store}
 use Rattle.bl_link.specs.Stores.{IsStore}
-use Rattle.bl_link.proofs.Numbering.{element, get_right}
+use Rattle.bl_link.proofs.Numbering.{get_right}
 use Rattle.std.specs.Prelude.{sum_by, IsTrue}
 use Rattle.std.specs.List.{All}
 use Rattle.std.proofs.lemmas.List.Elements.{All-head, All-tail}
@@ -27,8 +28,8 @@ can store number rest left part l next =
       done = l.done;
       is = l.is;
       few = omega (arith, n, l.are.few);
-      good = element IsPart l.parts (length l.done + 0) part (subst (λ (x : List Part). slice_get x (length l.done + 0) ≡ Some part) split (get_right l.done (part ∷ left) 0)) l.are.each;
-      sound = element IsSound l.parts (length l.done + 0) part (subst (λ (x : List Part). slice_get x (length l.done + 0) ≡ Some part) split (get_right l.done (part ∷ left) 0)) l.sound;
+      good = all_get IsPart l.parts (length l.done + 0) part l.are.each (subst (λ (x : List Part). slice_get x (length l.done + 0) ≡ Some part) split (get_right l.done (part ∷ left) 0));
+      sound = all_get IsSound l.parts (length l.done + 0) part l.sound (subst (λ (x : List Part). slice_get x (length l.done + 0) ≡ Some part) split (get_right l.done (part ∷ left) 0));
       fresh = fresh_of l.parts left l.done part l.are split;
     }
 

@@ -26,7 +26,7 @@ use Rattle.bl_wasm.specs.declared.linked.Global.{Global}
 use Rattle.bl_wasm.specs.declared.linked.Tree.{Tree}
 use Rattle.bl_link.specs.Growing.{Grows}
 use Rattle.bl_link.specs.Matching.{matches, passes, same, same_type, same_global, same_mutable, type_of, within}
-use Rattle.bl_link.specs.Parts.{External, Store, of_kind, same_kind}
+use Rattle.bl_link.specs.IndexSpaces.{External, Store, of_kind, same_kind}
 use Rattle.bl_link.proofs.Numbering.{passes_some, Both, zip_filtered}
 
 pub and_left : (a b : Bool) → (a && b) ≡ true → a ≡ true

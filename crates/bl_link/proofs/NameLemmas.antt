@@ -5,6 +5,8 @@ use Rattle.std.proofs.lemmas.List.{append_cancel_left}
 use Rattle.std.proofs.lemmas.List.Elements.{All-head, All-tail}
 use Rattle.std.specs.Str.{IsUtf8}
 use Rattle.std.proofs.lemmas.Str.{IsUtf8-append}
+use Rattle.std.proofs.Math.Nat.{suc_inj}
+use Rattle.bl_base.proofs.Lists.{mapped_get}
 use Rattle.bl_wasm.specs.Exports.{Pairs, AreDistinct}
 use Rattle.bl_link.specs.Stores.{AreApart}
 
@@ -37,9 +39,6 @@ absent_cons these pair pairs distinct absent zero (suc j) a b first second same 
 absent_cons these pair pairs distinct absent (suc i) zero a b first second same = let e : pair ≡ b = cc in absurd (absent i a first (ap (λ (q : List ℕ × ℕ). q.0) e ∙ sym same))
 absent_cons these pair pairs distinct absent (suc i) (suc j) a b first second same = ap suc (distinct i j a b first second same)
 
-suc_same : (i j : ℕ) → suc i ≡ suc j → i ≡ j
-suc_same i j e = omega arith
-
 distinct_by : {A : Type 0} (name : A → List ℕ) (h : A → Option (List ℕ × ℕ)) → ((x : A) (a : List ℕ × ℕ) → h x ≡ Some a → (y : A) (b : List ℕ × ℕ) → h y ≡ Some b → a.0 ≡ b.0 → name x ≡ name y)
     → (x : A) (xs : List A) → AreApart name (x ∷ xs) → AreDistinct (filter_map h xs) → (o : Option (List ℕ × ℕ)) → h x ≡ o → AreDistinct (cons_option o (filter_map h xs))
 distinct_by name h named x xs apart again None e = again
@@ -53,7 +52,7 @@ pub distinct_filtered : {A : Type 0} (name : A → List ℕ) (h : A → Option (
     → (xs : List A) → AreApart name xs → AreDistinct (filter_map h xs)
 distinct_filtered name h named [] apart = λ i j a b first second same. absurd (cc)
 distinct_filtered name h named (x ∷ xs) apart =
-    distinct_by name h named x xs apart (distinct_filtered name h named xs (λ i j a b first second same. suc_same i j (apart (suc i) (suc j) a b first second same))) (h x) refl
+    distinct_by name h named x xs apart (distinct_filtered name h named xs (λ i j a b first second same. suc_inj (apart (suc i) (suc j) a b first second same))) (h x) refl
 
 -- ---- of two lists
 
@@ -81,16 +80,10 @@ apart_cases name xs ys dx dy apart i j a b same (inr h) (inr k) = let e : h.plac
 pub apart_append : {A : Type 0} (name : A → List ℕ) (xs ys : List A) → AreApart name xs → AreApart name ys → ((i j : ℕ) (a b : A) → slice_get xs i ≡ Some a → slice_get ys j ≡ Some b → name a ≡ name b → ⊥) → AreApart name (xs ++ ys)
 apart_append name xs ys dx dy apart i j a b first second same = apart_cases name xs ys dx dy apart i j a b same (either_part xs ys i a first) (either_part xs ys j b second)
 
--- what a mapped list has came from the list
-pub mapped : {A B : Type 0} (f : A → B) (xs : List A) (i : ℕ) (b : B) → slice_get (map f xs) i ≡ Some b → (a : A) × (slice_get xs i ≡ Some a) × (f a ≡ b)
-mapped f [] i b found = absurd (cc)
-mapped f (x ∷ xs) zero b found = let e : f x ≡ b = cc in (x, refl, e)
-mapped f (x ∷ xs) (suc i) b found = mapped f xs i b found
-
 pub apart_map : {A B : Type 0} (name : A → List ℕ) (other : B → List ℕ) (f : A → B) (xs : List A) → ((x y : A) → other (f x) ≡ other (f y) → name x ≡ name y) → AreApart name xs → AreApart other (map f xs)
 apart_map name other f xs each apart i j a b first second same =
-    let x = mapped f xs i a first in
-    let y = mapped f xs j b second in
+    let x = mapped_get f xs i a first in
+    let y = mapped_get f xs j b second in
     apart i j x.0 y.0 x.1 y.1 (each x.0 y.0 (ap other x.2 ∙ same ∙ ap other (sym y.2)))
 
 -- ---- a solidus

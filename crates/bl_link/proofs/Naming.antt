@@ -12,7 +12,7 @@ use Rattle.bl_wasm.specs.declared.module.ExportKind.TheVariants as export
 use Rattle.bl_link.specs.Links.{exported, pair}
 use Rattle.bl_link.specs.Named.{qualified, value_named}
 use Rattle.bl_link.specs.NamedPairs.{Values}
-use Rattle.bl_link.specs.Parts.{External, Spaces, number, space}
+use Rattle.bl_link.specs.IndexSpaces.{External, Spaces, number, space}
 use Rattle.bl_link.specs.Stores.{AreApart}
 use Rattle.bl_link.proofs.Numbering.{get_left, get_right}
 

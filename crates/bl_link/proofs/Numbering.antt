@@ -1,8 +1,6 @@
 -- Lists of numbers beside lists of what they number.
-use Rattle.std.proofs.Common.{◌≡◌, ◌∙◌, refl, ap, subst, ℕ, zero, suc, ◌+◌, List, [], ◌∷◌, ◌++◌, length, get_or, map, true, Bool, Option, Some, None, slice_get, filter_map, arith, add-zero}
-use Rattle.std.specs.List.{All, AllZip, cons_option, range_with_len, enumerate_from}
-use Rattle.std.proofs.lemmas.List.Elements.{All-get_or}
-use Rattle.std.proofs.lemmas.Option.{get_or_from_slice_get, slice_get_within, slice_get-get_or}
+use Rattle.std.proofs.Common.{◌≡◌, ◌∙◌, refl, ap, subst, ℕ, zero, suc, ◌+◌, List, [], ◌∷◌, ◌++◌, length, get_or, true, Bool, Option, Some, None, slice_get, filter_map, arith, add-zero}
+use Rattle.std.specs.List.{AllZip, cons_option, range_with_len, enumerate_from}
 use Rattle.bl_link.specs.Matching.{passes}
 
 pub by_place : {A : Type 0} (R : A → ℕ → Type 0) (xs : List A) (ys : List ℕ) → AllZip R xs ys → (i : ℕ) (x : A) → slice_get xs i ≡ Some x → R x (get_or ys i 0)
@@ -12,30 +10,12 @@ by_place R (a ∷ xs) [] h i x found = absurd h
 by_place R (a ∷ xs) (y ∷ ys) h zero x found = let e : a ≡ x = cc in subst (λ a. R a y) e h.0
 by_place R (a ∷ xs) (y ∷ ys) h (suc i) x found = by_place R xs ys h.1 i x found
 
-pub zip_append : {A B : Type 0} (R : A → B → Type 0) (xs zs : List A) (ys ws : List B) → AllZip R xs ys → AllZip R zs ws → AllZip R (xs ++ zs) (ys ++ ws)
-zip_append R [] zs [] ws h k = k
-zip_append R [] zs (y ∷ ys) ws h k = absurd h
-zip_append R (x ∷ xs) zs [] ws h k = absurd h
-zip_append R (x ∷ xs) zs (y ∷ ys) ws h k = (h.0, zip_append R xs zs ys ws h.1 k)
-
 pub zip_range : {A : Type 0} (R : A → ℕ → Type 0) (xs : List A) (base : ℕ) → ((i : ℕ) (x : A) → slice_get xs i ≡ Some x → R x (base + i)) → AllZip R xs (range_with_len base (length xs))
 zip_range R [] base each = tt
 zip_range R (x ∷ xs) base each = (
   subst (R x) (add-zero base) (each 0 x refl),
   zip_range R xs (base + 1) (λ i y found. let e : base + suc i ≡ base + 1 + i = omega arith in subst (R y) e (each (suc i) y found)),
 )
-
-pub zip_weaker : {A B : Type 0} (R S : A → B → Type 0) → ((x : A) (y : B) → R x y → S x y) → (xs : List A) (ys : List B) → AllZip R xs ys → AllZip S xs ys
-zip_weaker R S each [] [] h = h
-zip_weaker R S each [] (y ∷ ys) h = h
-zip_weaker R S each (x ∷ xs) [] h = h
-zip_weaker R S each (x ∷ xs) (y ∷ ys) h = (each x y h.0, zip_weaker R S each xs ys h.1)
-
-pub zip_length : {A B : Type 0} (R : A → B → Type 0) (xs : List A) (ys : List B) → AllZip R xs ys → length xs ≡ length ys
-zip_length R [] [] h = refl
-zip_length R [] (y ∷ ys) h = absurd h
-zip_length R (x ∷ xs) [] h = absurd h
-zip_length R (x ∷ xs) (y ∷ ys) h = ap suc (zip_length R xs ys h.1)
 
 -- what holds of the numbers alone
 pub zip_numbers : {A B : Type 0} (P : B → Type 0) (xs : List A) (ys : List B) → AllZip (λ x y. P y) xs ys → (i : ℕ) (y : B) → slice_get ys i ≡ Some y → P y
@@ -56,23 +36,10 @@ pub get_right : {A : Type 0} (xs ys : List A) (i : ℕ) → slice_get (xs ++ ys)
 get_right [] ys i = let e : 0 + i ≡ i = omega arith in ap (slice_get ys) e
 get_right (a ∷ xs) ys i = let e : length (a ∷ xs) + i ≡ suc (length xs + i) = omega arith in ap (slice_get (a ∷ (xs ++ ys))) e ∙ get_right xs ys i
 
-pub get_map : {A B : Type 0} (f : A → B) (xs : List A) (i : ℕ) (x : A) → slice_get xs i ≡ Some x → slice_get (map f xs) i ≡ Some (f x)
-get_map f [] i x found = absurd (cc)
-get_map f (a ∷ xs) zero x found = let e : a ≡ x = cc in ap (λ a. Some (f a)) e
-get_map f (a ∷ xs) (suc i) x found = get_map f xs i x found
-
 pub get_numbered : {A : Type 0} (n : ℕ) (xs : List A) (i : ℕ) (x : A) → slice_get xs i ≡ Some x → slice_get (enumerate_from n xs) i ≡ Some (n + i, x)
 get_numbered n [] i x found = absurd (cc)
 get_numbered n (a ∷ xs) zero x found = let e : a ≡ x = cc in let z : n ≡ n + 0 = omega arith in ap (λ a. Some (n, a)) e ∙ ap (λ n. Some (n, x)) z
 get_numbered n (a ∷ xs) (suc i) x found = let e : n + 1 + i ≡ n + suc i = omega arith in get_numbered (n + 1) xs i x found ∙ ap (λ n. Some (n, x)) e
-
--- an element by its place
-pub element : {A : Type 0} (P : A → Type 0) (xs : List A) (i : ℕ) (x : A) → slice_get xs i ≡ Some x → All P xs → P x
-element P xs i x found all = subst P (get_or_from_slice_get xs i x x found) (All-get_or P xs i x (slice_get_within xs i x found) all)
-
--- and back
-pub each_element : {A : Type 0} (P : A → Type 0) (xs : List A) → ((i : ℕ) (x : A) → slice_get xs i ≡ Some x → P x) → All P xs
-each_element P xs each k d below = each k (get_or xs k d) (slice_get-get_or xs k d below)
 
 -- ---- tests
 

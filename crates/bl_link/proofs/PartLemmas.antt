@@ -7,7 +7,7 @@ use Rattle.bl_link.specs.Giving.{Makes}
 use Rattle.bl_link.specs.HasRoom.{HasRoom}
 use Rattle.bl_link.specs.Links.{exported, part_of, with_given, with_next, with_part, with_segments}
 use Rattle.bl_link.specs.Matching.{all_given}
-use Rattle.bl_link.specs.Parts.{External, LinkError, Part, Spaces, Store, on_ok, spaces_of}
+use Rattle.bl_link.specs.IndexSpaces.{External, LinkError, Part, Spaces, Store, on_ok, spaces_of}
 use Rattle.bl_link.specs.Stores.{AreApart}
 use Rattle.bl_link.proofs.Room.{room_of, values_apart}
 

@@ -37,16 +37,18 @@ use Rattle.bl_labels.specs.declared.labels.Labels.{Labels}
 use Rattle.bl_labels.specs.Marked.{is_listed}
 use Rattle.bl_base.specs.Quantity.{limit_of}
 use Rattle.bl_base.specs.declared.quantity.Quantity.TheVariants.{Locals, Results}
+use Rattle.bl_base.proofs.Lists.{mapped_get, get_mapped, all_from, zip_length, all_get}
+use Rattle.bl_base.proofs.OptionLemmas.{same_value}
 use Rattle.bl_wasm.specs.Limits.{local_count, param_count}
 use Rattle.bl_link.specs.Linkable.{IsPart, IsSound}
 use Rattle.bl_link.specs.Links.{exported, first_value, function, global, indexed, memory, of_function, pair, secret_if, table, with_part}
-use Rattle.bl_link.specs.Parts.{External, Part, Spaces, Store, number, of_kind, space, spaces_of}
+use Rattle.bl_link.specs.IndexSpaces.{External, Part, Spaces, Store, number, of_kind, space, spaces_of}
 use Rattle.bl_link.specs.Signatures.{signature, value_of}
 use Rattle.bl_link.specs.Stores.{IsStore, IsTable, OfPart, ValueOfPart}
 use Rattle.bl_link.proofs.Matched.{HasGlobal, OfIndex, Suits, globals_suit}
-use Rattle.bl_link.proofs.NameLemmas.{before_solidus, behind_solidus, came, apart_append, apart_map, mapped, distinct_filtered, NoSolidus}
-use Rattle.bl_link.proofs.Numbering.{by_place, each_element, element, get_map, get_numbered, get_right, zip_length}
-use Rattle.bl_link.proofs.Placed.{at_place, functions_numbered, grows_itself, grows_on, grows_part, is_function, pair_at, some_same}
+use Rattle.bl_link.proofs.NameLemmas.{before_solidus, behind_solidus, came, apart_append, apart_map, distinct_filtered, NoSolidus}
+use Rattle.bl_link.proofs.Numbering.{by_place, get_numbered, get_right}
+use Rattle.bl_link.proofs.Placed.{at_place, functions_numbered, grows_itself, grows_on, grows_part, is_function, pair_at}
 use Rattle.bl_link.proofs.SegmentLemmas.{NamesFunctions}
 
 -- ---- lists
@@ -60,7 +62,7 @@ all_made : {A B : Type 0} (Q : A → Type 0) (P : B → Type 0) (f : ℕ × A �
 all_made Q P f each n xs all = All-map P f (enumerate_from n xs) (all_indexed Q (λ p. P (f p)) each n xs all)
 
 all_right : {A : Type 0} (P : A → Type 0) (xs ys : List A) → All P (xs ++ ys) → All P ys
-all_right P xs ys all = each_element P ys (λ i y found. element P (xs ++ ys) (length xs + i) y (get_right xs ys i ∙ found) all)
+all_right P xs ys all = all_from P ys (λ i y found. all_get P (xs ++ ys) (length xs + i) y all (get_right xs ys i ∙ found))
 
 -- ---- memories and tables
 
@@ -102,7 +104,7 @@ module _ (imports : List GlobalType) (tree : Tree) (spaces : Spaces)
       let same : integer one.0.kind ≡ kind = ap (λ (type : GlobalType). type.kind) one.2 in
       let kinds : one.0.kind ≡ value_of kind = sym (value_again one.0.kind) ∙ ap value_of same in
       let value : one.0.first ≡ first_value tree.globals spaces (GlobalGet x ∷ []) = sym (ap (λ (o : Option Global). unwrap_or (option_map (λ global. global.first) o) 0) one.1) in
-      let fits : ArgumentFits one.0.kind one.0.first = element (λ (global : Global). ArgumentFits global.kind global.first) tree.globals (number spaces.globals x) one.0 one.1 fit in
+      let fits : ArgumentFits one.0.kind one.0.first = all_get (λ (global : Global). ArgumentFits global.kind global.first) tree.globals (number spaces.globals x) one.0 fit one.1 in
       subst (λ v. ArgumentFits (value_of kind) v) value (subst (λ k. ArgumentFits k one.0.first) kinds fits)
   first_fits kind items h all = absurd h
 
@@ -138,22 +140,22 @@ module _ (done : List Part) (store : Store) (part : Part) (given : List External
       let spaces : Spaces = spaces_of store part.wasm given in
       let first : ℕ = length spaces.functions - length (zip part.wasm.functions part.wasm.bodies) in
       let all : List (ℕ × (ℕ × Code)) = enumerate_from first (zip part.wasm.functions part.wasm.bodies) in
-      each_element (IsFunction later) (map (function part.wasm.types part.labels spaces) all) (λ i one found.
+      all_from (IsFunction later) (map (function part.wasm.types part.labels spaces) all) (λ i one found.
       let below : i < length part.wasm.functions = omega (arith, slice_get_within (map (function part.wasm.types part.labels spaces) all) i one found, length-map all (function part.wasm.types part.labels spaces), length-enumerate_from first (zip part.wasm.functions part.wasm.bodies), count_zip) in
       let t : HasTyping part.wasm i = sound.typed.functions i below in
       let pair : slice_get (zip part.wasm.functions part.wasm.bodies) i ≡ Some (t.index, t.code) = pair_at part.wasm.functions part.wasm.bodies i t.index t.code t.named t.body in
       let there : slice_get (map (function part.wasm.types part.labels spaces) all) i ≡ Some (function part.wasm.types part.labels spaces (first + i, (t.index, t.code))) =
-      get_map (function part.wasm.types part.labels spaces) all i (first + i, (t.index, t.code)) (get_numbered first (zip part.wasm.functions part.wasm.bodies) i (t.index, t.code) pair) in
+      get_mapped (function part.wasm.types part.labels spaces) all i (first + i, (t.index, t.code)) (get_numbered first (zip part.wasm.functions part.wasm.bodies) i (t.index, t.code) pair) in
       let few : param_count (Some t.type) + sum_by (λ run. run.count) t.code.locals ≤ limit_of Locals = subst (λ (o : Option FuncType). param_count o + sum_by (λ run. run.count) t.code.locals ≤ limit_of Locals) t.exists
-      (element (λ defined. local_count part.wasm.types defined ≤ limit_of Locals) (zip part.wasm.functions part.wasm.bodies) i (t.index, t.code) pair good.locals) in
-      subst {A = Function} (IsFunction later) {x = function part.wasm.types part.labels spaces (first + i, (t.index, t.code))} {y = one} (some_same (slice_get (map (function part.wasm.types part.labels spaces) all) i) (function part.wasm.types part.labels spaces (first + i, (t.index, t.code))) one there found)
-      (is_function store part given later grows suit sound.typed.rules is.tables is.sizes (first + i) i t (element (λ (code : Code). All HasImmediates code.items) part.wasm.bodies i t.code t.body sound.widths.bodies) few))
+      (all_get (λ defined. local_count part.wasm.types defined ≤ limit_of Locals) (zip part.wasm.functions part.wasm.bodies) i (t.index, t.code) good.locals pair) in
+      subst {A = Function} (IsFunction later) {x = function part.wasm.types part.labels spaces (first + i, (t.index, t.code))} {y = one} (same_value (slice_get (map (function part.wasm.types part.labels spaces) all) i) (function part.wasm.types part.labels spaces (first + i, (t.index, t.code))) one there found)
+      (is_function store part given later grows suit sound.typed.rules is.tables is.sizes (first + i) i t (all_get (λ (code : Code). All HasImmediates code.items) part.wasm.bodies i t.code sound.widths.bodies t.body) few))
 
   -- a function that the part names
   function_number : (index : ℕ) → index < length (functions_of part.wasm) → number (spaces_of store part.wasm given).functions index < length behind.tree.functions
   function_number index below =
       let type = at_place (functions_of part.wasm) (length (functions_of part.wasm)) index refl below in
-      let exists = at_place part.wasm.types (length part.wasm.types) type.0 refl (element (λ index. index < length part.wasm.types) (functions_of part.wasm) index type.0 type.1 sound.typed.rules.functions) in
+      let exists = at_place part.wasm.types (length part.wasm.types) type.0 refl (all_get (λ index. index < length part.wasm.types) (functions_of part.wasm) index type.0 sound.typed.rules.functions type.1) in
       let one = by_place (OfIndex part.wasm behind.tree) (functions_of part.wasm) (spaces_of store part.wasm given).functions
       (functions_numbered store part given behind.tree (grows_itself behind.tree) suit sound.typed.rules is.tables is.sizes) index type.0 type.1 exists.0 exists.1 in
       slice_get_within behind.tree.functions (number (spaces_of store part.wasm given).functions index) one.0 one.2
@@ -189,11 +191,11 @@ module _ (done : List Part) (store : Store) (part : Part) (given : List External
   made_is entry a h = pair_is part.name entry.name entry.kind (spaces_of store part.wasm given) entry.index a h
 
   pairs_exist : All (λ pair. pair.1 < length behind.tree.functions) (filter_map made part.wasm.exports)
-  pairs_exist = each_element (λ pair. pair.1 < length behind.tree.functions) (filter_map made part.wasm.exports) (λ i a found.
+  pairs_exist = all_from (λ pair. pair.1 < length behind.tree.functions) (filter_map made part.wasm.exports) (λ i a found.
       let c = came made part.wasm.exports i a found in
       let what = made_is c.source a c.gave in
       let below : c.source.index < length (functions_of part.wasm) = subst (λ (kind : ExportKind). c.source.index < space_of part.wasm kind) what.0
-      (element (λ entry. entry.index < space_of part.wasm entry.kind) part.wasm.exports c.place c.source c.found sound.typed.rules.exports) in
+      (all_get (λ entry. entry.index < space_of part.wasm entry.kind) part.wasm.exports c.place c.source sound.typed.rules.exports c.found) in
       subst (λ n. n < length behind.tree.functions) (sym what.2) (function_number c.source.index below))
 
   pairs_distinct : AreDistinct (filter_map made part.wasm.exports)
@@ -202,20 +204,20 @@ module _ (done : List Part) (store : Store) (part : Part) (given : List External
       part.wasm.exports sound.typed.rules.distinct
 
   pairs_named : All (OfPart (done ++ part ∷ [])) (filter_map made part.wasm.exports)
-  pairs_named = each_element (OfPart (done ++ part ∷ [])) (filter_map made part.wasm.exports) (λ i a found.
+  pairs_named = all_from (OfPart (done ++ part ∷ [])) (filter_map made part.wasm.exports) (λ i a found.
       let c = came made part.wasm.exports i a found in
       (part, Contains-push done part, c.source.name, (made_is c.source a c.gave).1))
 
   pairs_apart : (i j : ℕ) (a b : List ℕ × ℕ) → slice_get store.tree.exports i ≡ Some a → slice_get (filter_map made part.wasm.exports) j ≡ Some b → a.0 ≡ b.0 → ⊥
   pairs_apart i j a b first second same =
-      let old = element (OfPart done) store.tree.exports i a first is.named in
+      let old = all_get (OfPart done) store.tree.exports i a is.named first in
       let c = came made part.wasm.exports j b second in
       (fresh old.0 old.1).1 (before_solidus old.0.name part.name old.2 c.source.name (fresh old.0 old.1).0 good.name.solidus (sym old.3 ∙ same ∙ (made_is c.source b c.gave).1))
 
   values_apart : (i j : ℕ) (a b : List ℕ × External) → slice_get store.exports i ≡ Some a → slice_get (map (exported part.name (spaces_of store part.wasm given)) part.wasm.exports) j ≡ Some b → a.0 ≡ b.0 → ⊥
   values_apart i j a b first second same =
-      let old = element (ValueOfPart done) store.exports i a first is.values_named in
-      let x = mapped (exported part.name (spaces_of store part.wasm given)) part.wasm.exports j b second in
+      let old = all_get (ValueOfPart done) store.exports i a is.values_named first in
+      let x = mapped_get (exported part.name (spaces_of store part.wasm given)) part.wasm.exports j b second in
       (fresh old.0 old.1).1 (before_solidus old.0.name part.name old.2 x.0.name (fresh old.0 old.1).0 good.name.solidus (sym old.3 ∙ same ∙ ap (λ (v : List ℕ × External). v.0) (sym x.2)))
 
   grown : length store.tree.functions ≤ length behind.tree.functions
@@ -259,7 +261,7 @@ module _ (done : List Part) (store : Store) (part : Part) (given : List External
             values_apart;
         values_named = All-append (ValueOfPart (done ++ part ∷ [])) store.exports (map (exported part.name spaces) part.wasm.exports)
             (All-weaker (ValueOfPart done) (ValueOfPart (done ++ part ∷ [])) (λ value h. (h.0, Contains-append_left done (part ∷ []) h.0 h.1, h.2, h.3)) store.exports is.values_named)
-            (each_element (ValueOfPart (done ++ part ∷ [])) (map (exported part.name spaces) part.wasm.exports) (λ i a found. let x = mapped (exported part.name spaces) part.wasm.exports i a found in (part, Contains-push done part, x.0.name, ap (λ (v : List ℕ × External). v.0) (sym x.2))));
+            (all_from (ValueOfPart (done ++ part ∷ [])) (map (exported part.name spaces) part.wasm.exports) (λ i a found. let x = mapped_get (exported part.name spaces) part.wasm.exports i a found in (part, Contains-push done part, x.0.name, ap (λ (v : List ℕ × External). v.0) (sym x.2))));
         type_count = omega (arith, is.type_count, more, length-append store.tree.types (map signature part.wasm.types), length-map part.wasm.types signature, good.types);
         table_count = omega (arith, is.table_count, more, length-append store.tree.tables (map table part.wasm.tables), length-map part.wasm.tables table, sound.typed.rules.one_table, length-append (imported table_of part.wasm) part.wasm.tables);
         function_count = omega (arith, is.function_count, more, made_functions, length-append store.tree.functions (map (function part.wasm.types part.labels spaces) functions), good.functions, length-append (imported function_of part.wasm) part.wasm.functions);

@@ -8,6 +8,8 @@ use Rattle.std.proofs.lemmas.List.Elements.{All-head, All-tail, All-map, All-wea
 use Rattle.std.proofs.lemmas.List.FromFn.{length-range_with_len, get_or-range_with_len, length-enumerate_from}
 use Rattle.std.proofs.lemmas.List.Sums.{sum_by-cons}
 use Rattle.std.proofs.lemmas.Option.{slice_get_within}
+use Rattle.bl_base.proofs.OptionLemmas.{same_value}
+use Rattle.bl_base.proofs.Lists.{get_mapped, zip_append, all_get}
 use Rattle.bl_wasm.specs.Linked.{HasImmediates, IsFunction, function_type, global_type, seen}
 use Rattle.bl_wasm.specs.Typing.{Types, integer}
 use Rattle.bl_wasm.specs.Validity.{HasTyping, IsFunctionType, IsInteger, IsValid, functions_of, globals_of, locals_of, memories_of, tables_of, imported, function_of, table_of, memory_of, global_of}
@@ -29,10 +31,10 @@ use Rattle.bl_link.specs.Growing.{Grows}
 use Rattle.bl_labels.specs.Marked.{is_place}
 use Rattle.bl_link.specs.Signatures.{signature, value_of}
 use Rattle.bl_link.specs.Links.{count, function, global, indexed, memory, secret_if, table, with_part}
-use Rattle.bl_link.specs.Parts.{External, Part, Spaces as PartSpaces, Store, names, number, of_kind, spaces_of}
+use Rattle.bl_link.specs.IndexSpaces.{External, Part, Spaces as PartSpaces, Store, names, number, of_kind, spaces_of}
 use Rattle.bl_wasm.specs.Renaming.{NameAlike, Names, Spaces, placed, renamed, IsOfType}
 use Rattle.bl_link.proofs.Matched.{HasGlobal, OfIndex, Suits, functions_suit, globals_suit, tables_suit, memories_suit, made_type, made_global}
-use Rattle.bl_link.proofs.Numbering.{by_place, element, get_left, get_map, get_numbered, get_right, zip_append, zip_range}
+use Rattle.bl_link.proofs.Numbering.{by_place, get_left, get_numbered, get_right, zip_range}
 use Rattle.bl_wasm.proofs.RenamingLemmas.{carries}
 
 -- ---- types of integers
@@ -92,9 +94,6 @@ pair_at [] ys k x y one two = absurd (cc)
 pair_at (a ∷ xs) [] k x y one two = absurd (cc)
 pair_at (a ∷ xs) (b ∷ ys) zero x y one two = cc
 pair_at (a ∷ xs) (b ∷ ys) (suc k) x y one two = pair_at xs ys k x y one two
-
-pub some_same : {A : Type 0} (o : Option A) (x y : A) → o ≡ Some x → o ≡ Some y → x ≡ y
-some_same o x y p q = cc
 
 -- immediates stay
 immediate : (names : Names) (item : Instr) → HasImmediates item → HasImmediates (renamed names item)
@@ -158,7 +157,7 @@ module _ (store : Store) (part : Part) (given : List External) (later : Tree)
       let e : get_or (range_with_len (length store.tree.types) (length part.wasm.types)) index 0 ≡ length store.tree.types + index =
       get_or-range_with_len (length store.tree.types) (length part.wasm.types) index 0 (slice_get_within part.wasm.types index type found) in
       rw e (now.types (length store.tree.types + index) (signature type)
-      (get_right store.tree.types (map signature part.wasm.types) index ∙ get_map signature part.wasm.types index type found))
+      (get_right store.tree.types (map signature part.wasm.types) index ∙ get_mapped signature part.wasm.types index type found))
 
   -- a function that the part defines
   defined_function : (i index : ℕ) → slice_get part.wasm.functions i ≡ Some index → OfIndex part.wasm later index (length store.tree.functions + i)
@@ -169,26 +168,26 @@ module _ (store : Store) (part : Part) (given : List External) (later : Tree)
       let one : Function = function part.wasm.types part.labels spaces (first + i, (index, body.0)) in
       let at : slice_get (store.tree.functions ++ map (function part.wasm.types part.labels spaces) (indexed spaces.functions (zip part.wasm.functions part.wasm.bodies))) (length store.tree.functions + i) ≡ Some one =
       get_right store.tree.functions (map (function part.wasm.types part.labels spaces) (indexed spaces.functions (zip part.wasm.functions part.wasm.bodies))) i
-      ∙ get_map (function part.wasm.types part.labels spaces) (indexed spaces.functions (zip part.wasm.functions part.wasm.bodies)) i (first + i, (index, body.0))
+      ∙ get_mapped (function part.wasm.types part.labels spaces) (indexed spaces.functions (zip part.wasm.functions part.wasm.bodies)) i (first + i, (index, body.0))
       (get_numbered first (zip part.wasm.functions part.wasm.bodies) i (index, body.0) (pair_at part.wasm.functions part.wasm.bodies i index body.0 found body.1)) in
-      (one, signature type, now.functions (length store.tree.functions + i) one at, type_found index type exists, same_signature type (element IsFunctionType part.wasm.types index type exists valid.types))
+      (one, signature type, now.functions (length store.tree.functions + i) one at, type_found index type exists, same_signature type (all_get IsFunctionType part.wasm.types index type valid.types exists))
 
   -- a global that the part defines
   defined_global : (i : ℕ) (type : GlobalType) → slice_get (map (λ global. global.kind) part.wasm.globals) i ≡ Some type → HasGlobal later (length store.tree.globals + i) type
   defined_global i type found =
       let spaces : PartSpaces = spaces_of store part.wasm given in
       let source = at_place part.wasm.globals (length part.wasm.globals) i refl (found_below (map (λ (global : DefinedGlobal). global.kind) part.wasm.globals) i (length part.wasm.globals) type found (length-map part.wasm.globals (λ (global : DefinedGlobal). global.kind))) in
-      let kind : source.0.kind ≡ type = some_same (slice_get (map (λ (global : DefinedGlobal). global.kind) part.wasm.globals) i) source.0.kind type (get_map (λ (global : DefinedGlobal). global.kind) part.wasm.globals i source.0 source.1) found in
+      let kind : source.0.kind ≡ type = same_value (slice_get (map (λ (global : DefinedGlobal). global.kind) part.wasm.globals) i) source.0.kind type (get_mapped (λ (global : DefinedGlobal). global.kind) part.wasm.globals i source.0 source.1) found in
       let first : ℕ = length spaces.globals - length part.wasm.globals in
       let one : Global = global store.tree.globals part.labels spaces (first + i, source.0) in
       let at : slice_get (store.tree.globals ++ map (global store.tree.globals part.labels spaces) (indexed spaces.globals part.wasm.globals)) (length store.tree.globals + i) ≡ Some one =
       get_right store.tree.globals (map (global store.tree.globals part.labels spaces) (indexed spaces.globals part.wasm.globals)) i
-      ∙ get_map (global store.tree.globals part.labels spaces) (indexed spaces.globals part.wasm.globals) i (first + i, source.0) (get_numbered first part.wasm.globals i source.0 source.1) in
+      ∙ get_mapped (global store.tree.globals part.labels spaces) (indexed spaces.globals part.wasm.globals) i (first + i, source.0) (get_numbered first part.wasm.globals i source.0 source.1) in
       let integers : IsInteger source.0.kind.kind = subst (λ (type : GlobalType). IsInteger type.kind) (sym kind) (defined_kind i type found) in
       (one, now.globals (length store.tree.globals + i) one at, made_global (integer (value_of source.0.kind.kind)) source.0.kind.mutable source.0.kind (integer_value source.0.kind.kind integers) refl ∙ kind)
     where
       defined_kind : (i : ℕ) (type : GlobalType) → slice_get (map (λ (global : DefinedGlobal). global.kind) part.wasm.globals) i ≡ Some type → IsInteger type.kind
-      defined_kind i type found = element (λ (type : GlobalType). IsInteger type.kind) (globals_of part.wasm) (length (imported global_of part.wasm) + i) type (get_right (imported global_of part.wasm) (map (λ (global : DefinedGlobal). global.kind) part.wasm.globals) i ∙ found) valid.kinds
+      defined_kind i type found = all_get (λ (type : GlobalType). IsInteger type.kind) (globals_of part.wasm) (length (imported global_of part.wasm) + i) type valid.kinds (get_right (imported global_of part.wasm) (map (λ (global : DefinedGlobal). global.kind) part.wasm.globals) i ∙ found)
 
   -- the spaces
   pub functions_numbered : AllZip (OfIndex part.wasm later) (functions_of part.wasm) (spaces_of store part.wasm given).functions
@@ -220,18 +219,18 @@ module _ (store : Store) (part : Part) (given : List External) (later : Tree)
   function_alike index type h =
       let one = by_place (OfIndex part.wasm later) (functions_of part.wasm) (spaces_of store part.wasm given).functions functions_numbered index h.0 h.1 type h.2 in (
         one.0.type_index,
-        get_map (λ (function : Function). function.type_index) later.functions (number (spaces_of store part.wasm given).functions index) one.0 one.2,
-        get_map function_type later.types one.0.type_index one.1 one.3 ∙ ap (λ (t : FuncType). Some t) one.4,
+        get_mapped (λ (function : Function). function.type_index) later.functions (number (spaces_of store part.wasm given).functions index) one.0 one.2,
+        get_mapped function_type later.types one.0.type_index one.1 one.3 ∙ ap (λ (t : FuncType). Some t) one.4,
       )
 
   -- the spaces name there what the indices name here
   pub alike : NameAlike (names (spaces_of store part.wasm given)) (here part.wasm) (there later (spaces_of store part.wasm given))
   alike = record {
-    types = λ index type found. get_map function_type later.types (number (spaces_of store part.wasm given).types index) (signature type) (type_found index type found)
-        ∙ ap (λ (t : FuncType). Some t) (same_signature type (element IsFunctionType part.wasm.types index type found valid.types));
+    types = λ index type found. get_mapped function_type later.types (number (spaces_of store part.wasm given).types index) (signature type) (type_found index type found)
+        ∙ ap (λ (t : FuncType). Some t) (same_signature type (all_get IsFunctionType part.wasm.types index type valid.types found));
     functions = λ index type h. function_alike index type h;
     globals = λ index type found. let one = by_place (λ type number. HasGlobal later number type) (globals_of part.wasm) (spaces_of store part.wasm given).globals globals_numbered index type found in
-        get_map global_type later.globals (number (spaces_of store part.wasm given).globals index) one.0 one.1 ∙ ap (λ (t : GlobalType). Some t) one.2;
+        get_mapped global_type later.globals (number (spaces_of store part.wasm given).globals index) one.0 one.1 ∙ ap (λ (t : GlobalType). Some t) one.2;
     tables = λ some. one_seen (λ limits number. number < length later.tables) (tables_of part.wasm) (spaces_of store part.wasm given).tables tables_numbered some;
     memories = λ some. one_seen (λ limits number. number < length later.memories) (memories_of part.wasm) (spaces_of store part.wasm given).memories memories_numbered some;
   }
@@ -241,7 +240,7 @@ module _ (store : Store) (part : Part) (given : List External) (later : Tree)
       → IsFunction later (function part.wasm.types part.labels (spaces_of store part.wasm given) (at, (t.index, t.code)))
   is_function at i t immediates few =
       let spaces : PartSpaces = spaces_of store part.wasm given in
-      let is : IsFunctionType t.type = element IsFunctionType part.wasm.types t.index t.type t.exists valid.types in
+      let is : IsFunctionType t.type = all_get IsFunctionType part.wasm.types t.index t.type valid.types t.exists in
       let typing : Types (placed (there later spaces) (t.type.params ++ locals_of t.code) t.type.results) [] (map (renamed (names spaces)) t.code.items) t.places =
       carries (names spaces) (here part.wasm) (there later spaces) alike (t.type.params ++ locals_of t.code) t.type.results t.code.items [] t.places t.typing.1 in
       let with_params : Types (placed (there later spaces) (map integer (map value_of t.type.params) ++ locals_of t.code) t.type.results) [] (map (renamed (names spaces)) t.code.items) t.places =

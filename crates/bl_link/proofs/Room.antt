@@ -1,9 +1,10 @@
 -- There are few enough of what is linked for numbers of 32 bits.
-use Rattle.std.proofs.Common.{◌≡◌, ◌∙◌, ap, ℕ, ◌+◌, ◌^◌, ◌<◌, ◌≤◌, List, [], ◌∷◌, ◌++◌, length, map, Option, Some, None, filter_map, arith, length-append, Ok}
-use Rattle.std.specs.List.{AllZip, cons_option, range_with_len}
+use Rattle.std.proofs.Common.{◌≡◌, ◌∙◌, ap, ℕ, ◌+◌, ◌^◌, ◌<◌, ◌≤◌, List, [], ◌∷◌, ◌++◌, length, map, Some, None, arith, length-append, Ok}
+use Rattle.std.specs.List.{AllZip, range_with_len}
 use Rattle.std.proofs.lemmas.List.{length-map}
 use Rattle.std.proofs.lemmas.List.FromFn.{length-range_with_len}
 use Rattle.std.specs.Prelude.{if◌then◌else◌}
+use Rattle.bl_base.proofs.Lists.{length-filter_map, zip_length}
 use Rattle.bl_wasm.specs.Validity.{imported, function_of, memory_of, global_of}
 use Rattle.bl_wasm.specs.declared.module.DefinedGlobal.{DefinedGlobal}
 use Rattle.bl_wasm.specs.declared.module.ExportKind.{ExportKind}
@@ -12,28 +13,19 @@ use Rattle.bl_link.specs.CanLink.{CanLink}
 use Rattle.bl_link.specs.HasRoom.{HasRoom, IsSpace}
 use Rattle.bl_link.specs.Links.{exported, with_part}
 use Rattle.bl_link.specs.Matching.{all_given}
-use Rattle.bl_link.specs.Parts.{External, Part, Store, of_kind, same_kind, spaces_of}
+use Rattle.bl_link.specs.IndexSpaces.{External, Part, Store, of_kind, same_kind, spaces_of}
 use Rattle.bl_link.specs.Stores.{AreApart, IsStore}
 use Rattle.bl_link.proofs.Matched.{Suits}
-use Rattle.bl_link.proofs.Numbering.{zip_length}
 use Rattle.bl_link.proofs.Parted.{part_kept}
 use Rattle.bl_link.proofs.Whole.{all_suit}
 
 -- ---- the spaces of a part
 
-some_kept : {A : Type 0} (o : Option A) (xs : List A) → length (cons_option o xs) ≤ 1 + length xs
-some_kept None xs = omega arith
-some_kept (Some x) xs = omega arith
-
-pub fewer_filtered : {A B : Type 0} (h : A → Option B) (xs : List A) → length (filter_map h xs) ≤ length xs
-fewer_filtered h [] = omega arith
-fewer_filtered h (x ∷ xs) = omega (arith, some_kept (h x) (filter_map h xs), fewer_filtered h xs)
-
 -- a space of what is imported, and then so many
 is_space : (kind : ExportKind) (given : List External) (first many : ℕ) → length given < 2 ^ 26 → many < 2 ^ 27 → IsSpace (of_kind kind given ++ range_with_len first many) many
 is_space kind given first many few some =
     let all : length (of_kind kind given ++ range_with_len first many) ≡ length (of_kind kind given) + many = length-append (of_kind kind given) (range_with_len first many) ∙ ap (λ n. length (of_kind kind given) + n) (length-range_with_len first many) in
-    let less : length (of_kind kind given) ≤ length given = fewer_filtered (λ value. if same_kind kind value.kind then Some value.number else None) given in
+    let less : length (of_kind kind given) ≤ length given = length-filter_map (λ value. if same_kind kind value.kind then Some value.number else None) given in
     record { within = omega (arith, all); few = omega (arith, all, less, few, some) }
 
 module _ (store : Store) (part : Part) (number : ℕ) (given : List External) (can : CanLink store part) (made : all_given store part.wasm number ≡ Ok given) where

@@ -10,7 +10,7 @@ use Rattle.bl_wasm.specs.declared.module.ElementSegment.{ElementSegment}
 use Rattle.bl_wasm.specs.declared.linked.Global.{Global}
 use Rattle.bl_wasm.specs.declared.linked.Memory.{Memory}
 use Rattle.bl_link.specs.Links.{data_fits, first_value, put_data, put_element, size}
-use Rattle.bl_link.specs.Parts.{Spaces, changed, number, written}
+use Rattle.bl_link.specs.IndexSpaces.{Spaces, changed, number, written}
 use Rattle.bl_link.specs.Stores.{IsTable}
 use Rattle.bl_link.proofs.Matched.{and_left, and_right}
 

@@ -9,6 +9,8 @@ use Rattle.std.proofs.lemmas.Str.{IsUtf8-from_ascii}
 use Rattle.std.proofs.lemmas.Str.Ascii.{IsAscii-nil, IsAscii-cons}
 use Rattle.bl_base.specs.Quantity.{limit_of}
 use Rattle.bl_base.specs.declared.quantity.Quantity.TheVariants.{Functions, Locals, Memory, Results, Table}
+use Rattle.bl_base.proofs.OptionLemmas.{either_none}
+use Rattle.bl_base.proofs.Lists.{length-filter_map}
 use Rattle.bl_labels.specs.Faults.{IsConsistent}
 use Rattle.bl_labels.specs.Marked.{unlabelled}
 use Rattle.bl_labels.specs.declared.labels.Labels.{Labels}
@@ -25,12 +27,11 @@ use Rattle.bl_wasm.specs.declared.module.Module.{Module}
 use Rattle.bl_wasm.specs.declared.module.Code.{Code}
 use Rattle.bl_wasm.specs.declared.types.FuncType.{FuncType}
 use Rattle.bl_wasm.specs.declared.types.Limits.{Limits}
-use Rattle.bl_wasm.proofs.LimitLemmas.{above_none, either_none}
+use Rattle.bl_wasm.proofs.LimitLemmas.{above_none}
 use Rattle.bl_link.specs.Linkable.{AreParts, IsName, IsPart}
 use Rattle.bl_link.specs.Links.{part_of}
 use Rattle.bl_link.specs.Stores.{AreApart}
 use Rattle.bl_link.specs.declared.part.Part.{Part}
-use Rattle.bl_link.proofs.Room.{fewer_filtered}
 use Rattle.bl_link.proofs.Spelled.{export_spelled, global_spelled, section_all, section_length, stands}
 
 type_spelled : (type : FuncType) (bytes : List ℕ) → function_type type bytes → 1 ≤ length bytes
@@ -111,7 +112,7 @@ labelled_part name bytes tree labels consistent named spelled few none =
         few,
         length-append (imported global_of tree) (map (λ (global : DefinedGlobal). global.kind) tree.globals),
         length-map tree.globals (λ (global : DefinedGlobal). global.kind),
-        fewer_filtered (λ (entry : Import). global_of entry.kind) tree.imports,
+        length-filter_map (λ (entry : Import). global_of entry.kind) tree.imports,
       );
       types = omega (arith, s.types, few);
       imports = omega (arith, s.imports, few);

@@ -16,14 +16,15 @@ use Rattle.bl_wasm.specs.declared.module.Module.{Module}
 use Rattle.bl_link.specs.Growing.{Grows}
 use Rattle.bl_base.specs.Quantity.{limit_of}
 use Rattle.bl_base.specs.declared.quantity.Quantity.TheVariants.{Reserve}
+use Rattle.bl_base.proofs.Lists.{all_get}
 use Rattle.bl_link.specs.Linkable.{AreParts, IsPart, IsSound}
 use Rattle.bl_link.specs.Links.{data_fits, element_fits, initialised, links, nothing, reserves, with_given, with_next, with_part, within_reserve}
 use Rattle.bl_link.specs.Matching.{all_given, given, given_of, matches, named}
-use Rattle.bl_link.specs.Parts.{External, LinkError, Part, Spaces, Store, all_ok, DataRange, ElementRange, Limit, Mismatch, number, on_ok, spaces_of}
+use Rattle.bl_link.specs.IndexSpaces.{External, LinkError, Part, Spaces, Store, all_ok, DataRange, ElementRange, Limit, Mismatch, number, on_ok, spaces_of}
 use Rattle.bl_link.specs.Stores.{IsStore, IsTable, OfPart, ValueOfPart}
 use Rattle.bl_link.proofs.Matched.{Suits}
 use Rattle.bl_link.proofs.NameLemmas.{NoSolidus}
-use Rattle.bl_link.proofs.Numbering.{element, get_left, get_right}
+use Rattle.bl_link.proofs.Numbering.{get_left, get_right}
 use Rattle.bl_link.proofs.Parted.{part_kept, segments_name}
 use Rattle.bl_link.proofs.Placed.{grows_itself}
 use Rattle.bl_link.proofs.SegmentLemmas.{data_kept, elements_kept, le_of}
@@ -142,14 +143,14 @@ fresh_of parts rest done part are split p contains =
     let there : slice_get done i ≡ Some p = slice_get-get_or done i p place.1 ∙ ap (λ (q : Part). Some q) (place.2 p) in
     let first : slice_get parts i ≡ Some p = subst (λ (l : List Part). slice_get l i ≡ Some p) split (get_left done (part ∷ rest) i p there) in
     let second : slice_get parts (length done + 0) ≡ Some part = subst (λ (l : List Part). slice_get l (length done + 0) ≡ Some part) split (get_right done (part ∷ rest) 0) in
-    ((element IsPart parts i p first are.each).name.solidus, λ same. let clash : i ≡ length done + 0 = are.distinct i (length done + 0) p part first second same in absurd (omega (arith, clash, place.1)))
+    ((all_get IsPart parts i p are.each first).name.solidus, λ same. let clash : i ≡ length done + 0 = are.distinct i (length done + 0) p part first second same in absurd (omega (arith, clash, place.1)))
 
 pub step_kept : (parts rest done : List Part) (part : Part) (so_far : Result Store LinkError) (next : Store) → AreParts parts → All IsSound parts → done ++ part ∷ rest ≡ parts → ((store : Store) → so_far ≡ Ok store → IsStore done store)
     → with_next so_far (length done, part) ≡ Ok next → IsStore (done ++ part ∷ []) next
 step_kept parts rest done part (Err fault) next are sound split is h = absurd (cc h)
 step_kept parts rest done part (Ok store) next are sound split is h =
     let here : slice_get parts (length done + 0) ≡ Some part = subst (λ (l : List Part). slice_get l (length done + 0) ≡ Some part) split (get_right done (part ∷ rest) 0) in
-    next_kept done store next part (length done) (is store refl) (element IsPart parts (length done + 0) part here are.each) (element IsSound parts (length done + 0) part here sound) (fresh_of parts rest done part are split) h
+    next_kept done store next part (length done) (is store refl) (all_get IsPart parts (length done + 0) part are.each here) (all_get IsSound parts (length done + 0) part sound here) (fresh_of parts rest done part are split) h
 
 pub fold_kept : (parts : List Part) (store : Store) → AreParts parts → All IsSound parts → (rest done : List Part) (so_far : Result Store LinkError) → done ++ rest ≡ parts → ((store : Store) → so_far ≡ Ok store → IsStore done store)
     → fold with_next so_far (enumerate_from (length done) rest) ≡ Ok store → IsStore parts store

@@ -22,7 +22,7 @@ use Rattle.bl_wasm.specs.declared.linked.Tree.{Tree}
 use Rattle.bl_base.specs.declared.quantity.Quantity.TheVariants.{Reserve}
 use Rattle.bl_labels.specs.Marked.{unlabelled}
 use Rattle.bl_link.specs.Links.{links}
-use Rattle.bl_link.specs.Parts.{LinkError, Part, DataRange, ElementRange, Limit, Mismatch, Unknown}
+use Rattle.bl_link.specs.IndexSpaces.{LinkError, Part, DataRange, ElementRange, Limit, Mismatch, Unknown}
 
 -- ---- parts
 

@@ -2,7 +2,7 @@
 use Rattle.std.specs.Prelude.{◌≡◌, ℕ, ◌<◌, ◌++◌, List, length}
 use Rattle.std.specs.List.{All, Contains}
 use Rattle.bl_link.specs.Linkable.{AreParts, IsPart, IsSound}
-use Rattle.bl_link.specs.Parts.{Part, Store}
+use Rattle.bl_link.specs.IndexSpaces.{Part, Store}
 use Rattle.bl_link.specs.Stores.{IsStore}
 
 -- the store is what is linked of fewer than 8 parts, of which none has the name of this one

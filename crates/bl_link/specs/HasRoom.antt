@@ -4,7 +4,7 @@ use Rattle.bl_wasm.specs.Exports.{AreDistinct}
 use Rattle.bl_wasm.specs.declared.linked.Tree.{Tree}
 use Rattle.bl_wasm.specs.declared.module.Module.{Module}
 use Rattle.bl_link.specs.Links.{exported, pair}
-use Rattle.bl_link.specs.Parts.{Part, Spaces, Store}
+use Rattle.bl_link.specs.IndexSpaces.{Part, Spaces, Store}
 
 -- what a module defines gets numbers of 32 bits behind all that is linked
 pub record HasNumbers (store : Store) (wasm : Module) : Type 0 where

@@ -8,6 +8,6 @@ pub mod Links
 pub mod Matching
 pub mod Named
 pub mod NamedPairs
-pub mod Parts
+pub mod IndexSpaces
 pub mod Signatures
 pub mod Stores

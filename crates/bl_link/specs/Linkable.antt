@@ -9,7 +9,7 @@ use Rattle.bl_labels.specs.Marked.{is_listed}
 use Rattle.bl_wasm.specs.Limits.{local_count}
 use Rattle.bl_wasm.specs.Linked.{HasImmediates}
 use Rattle.bl_wasm.specs.Validity.{Typed, functions_of, globals_of}
-use Rattle.bl_link.specs.Parts.{Part}
+use Rattle.bl_link.specs.IndexSpaces.{Part}
 
 -- the name of a part is text without a solidus
 pub record IsName (name : List ℕ) : Type 0 where

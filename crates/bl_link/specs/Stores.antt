@@ -9,7 +9,7 @@ use Rattle.bl_wasm.specs.Exports.{AreDistinct}
 use Rattle.bl_wasm.specs.Linked.{IsFunction, IsMemory}
 use Rattle.bl_wasm.specs.declared.linked.Tree.{Tree}
 use Rattle.bl_link.specs.Growing.{Grows}
-use Rattle.bl_link.specs.Parts.{External, Part, Store}
+use Rattle.bl_link.specs.IndexSpaces.{External, Part, Store}
 
 -- slots name functions that exist, of so many
 abbrev pub IsTable : ℕ → List (Option ℕ) → Type 0

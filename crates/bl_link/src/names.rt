@@ -5,7 +5,7 @@ ghost use Rattle.std.specs.Str.{IsUtf8};
 ghost use Rattle.bl_wasm.specs.Exports.{AreDistinct};
 ghost use Rattle.bl_link.specs.Links.{exported as exported_of, pair};
 ghost use Rattle.bl_link.specs.Named.{qualified as qualified_of};
-ghost use Rattle.bl_link.specs.Parts.{space as space_of};
+ghost use Rattle.bl_link.specs.IndexSpaces.{space as space_of};
 ghost use Rattle.bl_link.specs.Stores.{AreApart};
 
 use crate::named::Named;

@@ -1,7 +1,7 @@
 //! Items by the numbers of the tree.
 ghost use Rattle.std.specs.Prelude.{◌≡◌, map};
 ghost use Rattle.bl_wasm.specs.Renaming.{renamed as renamed_of, renamed_block_type};
-ghost use Rattle.bl_link.specs.Parts.{names, number as number_of};
+ghost use Rattle.bl_link.specs.IndexSpaces.{names, number as number_of};
 
 use crate::store::Spaces;
 use bl_base::List;

@@ -2,7 +2,7 @@
 ghost use Rattle.std.specs.Prelude.{◌≡◌, ◌+◌, ◌≤◌, length, fold, map, nat_le, Some, IsTrue};
 ghost use Rattle.std.specs.List.{list_all};
 ghost use Rattle.bl_link.specs.Links.{data_fits as data_fits_of, element_fits as element_fits_of, put_data as put_data_of, put_element as put_element_of, size as size_of, slots as slots_of};
-ghost use Rattle.bl_link.specs.Parts.{number as number_of, written};
+ghost use Rattle.bl_link.specs.IndexSpaces.{number as number_of, written};
 
 use crate::defined::first_value;
 use crate::rename::number;

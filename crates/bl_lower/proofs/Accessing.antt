@@ -4,14 +4,13 @@ use Rattle.std.specs.Prelude.{nat_lt, if◌then◌else◌}
 use Rattle.std.specs.List.{AllZip}
 use Rattle.std.proofs.Math.Nat.{mod-eq_of_lt}
 use Rattle.std.proofs.lemmas.Bool.{lt-ltb, le-ltb, le-leb, lt-leb, cases_lt}
-use Rattle.std.proofs.lemmas.Option.{none-some, slice_get_within}
+use Rattle.std.proofs.lemmas.Option.{none-some, slice_get_within, same_Some}
 use Rattle.bl_base.specs.Runs.{MemoryState, Next, Comes, goes}
 use Rattle.bl_base.proofs.RunLemmas.{comes_then}
 use Rattle.bl_base.specs.declared.trap.Trap.TheVariants as trap_kind
 use Rattle.bl_ops.specs.Access.{extended, narrowed, width_of}
 use Rattle.bl_ops.specs.Numerics.{meaning}
 use Rattle.bl_ops.specs.declared.access.AccessKind.{AccessKind}
-use Rattle.bl_ops.specs.declared.access.AccessKind.TheVariants.{I32Load}
 use Rattle.bl_ops.specs.declared.op.Op.TheVariants as op
 use Rattle.bl_wasm.specs.declared.instruction.MemoryArgument.{MemoryArgument}
 use Rattle.bl_wasm.specs.declared.linked.Memory.{Memory}
@@ -19,8 +18,9 @@ use Rattle.bl_wasm.specs.declared.linked.Tree.{Tree}
 use Rattle.bl_reduce.specs.Configurations.{State, Config, go, trap, known, push, pop, with_values}
 use Rattle.bl_reduce.specs.Memory.{number_of, bytes_of, read, write, grow, with_memory, set_memory, within, load_at, load, store_at, store, grow_within, memory_size, memory_grow}
 use Rattle.bl_reduce.specs.TypedConfigurations.{IsMemoryState}
-use Rattle.bl_reduce.proofs.MemoryItems.{written_state, grown_state, bytes_all, length-bytes_of}
-use Rattle.bl_base.proofs.Lists.{some_same, zip_set, zip_got}
+use Rattle.bl_reduce.proofs.MemoryItems.{written_state, grown_state, bytes_all}
+use Rattle.bl_base.proofs.Lists.{zip_set, zip_got}
+use Rattle.bl_base.proofs.ByteLemmas.{length-bytes_of}
 use Rattle.bl_lower.proofs.Laid.{guard, grows}
 use Rattle.bl_access.specs.Templates.{variable, jump_to, load_of, shift, set as set_command, move}
 use Rattle.bl_cmd.specs.Steps.{Registers, written, Plain, depth, overlay, on}
@@ -39,11 +39,12 @@ use Rattle.bl_lower.proofs.Operating.{zero_test, tested, falls}
 use Rattle.bl_lower.proofs.Space.{Segment, segment, reads_same, writes_same, grows_same, padded_length}
 use Rattle.bl_lower.proofs.States.{states_are}
 use Rattle.bl_lower.proofs.Ways.{Kept, at, does, sets, holds_value, value_is, holds_later, kept_written, read_written, read_other, read_deeper, place_static, move_is}
+use Rattle.bl_ops.proofs.AccessLemmas.{width_small}
 
 -- an element of a list in which one was replaced
 set_gets : {X : Type 0} (xs : List X) (i j : ℕ) (old w v : X) → slice_get xs i ≡ Some old → slice_get (set xs i w) j ≡ Some v → (i ≡ j) × (w ≡ v) ⊎ (i ≡ j → ⊥) × (slice_get xs j ≡ Some v)
 set_gets [] i j old w v e f = absurd (none-some old e)
-set_gets (x ∷ xs) zero zero old w v e f = inl (refl, some_same w v f)
+set_gets (x ∷ xs) zero zero old w v e f = inl (refl, same_Some w v f)
 set_gets (x ∷ xs) zero (suc j) old w v e f = inr (λ g. omega (arith, g), f)
 set_gets (x ∷ xs) (suc i) zero old w v e f = inr (λ g. omega (arith, g), f)
 set_gets (x ∷ xs) (suc i) (suc j) old w v e f = elim (set_gets xs i j old w v e f) [
@@ -75,9 +76,6 @@ outside_is a pages reach small few near =
     ap (λ n. if nat_lt (pages % 2 ^ 32 * 65536) (n + reach % 2 ^ 34) then 1 else 0) (mod-eq_of_lt small)
     ∙ ap (λ n. if nat_lt (n * 65536) (a + reach % 2 ^ 34) then 1 else 0) (mod-eq_of_lt few)
     ∙ ap (λ n. if nat_lt (pages * 65536) (a + n) then 1 else 0) (mod-eq_of_lt near)
-
-width_small : (kind : AccessKind) → width_of kind ≤ 8
-width_small kind = elim kind as (λ kind. width_of kind ≤ 8) [ I32Load ↦ omega arith | _ ↦ omega arith ]
 
 -- what the commands of memory.grow compute
 room_is : (reserve pages : ℕ) → reserve ≤ 256 → pages ≤ reserve → meaning op.I32Sub reserve pages 0 ≡ reserve - pages
@@ -493,7 +491,7 @@ module _ (tree : Tree) (program : Program) (bound : ℕ) (is : IsProgram tree pr
               globals = λ x n got. read_other r3 0 (program.sizes + m) (memory.pages + v) 0 x (λ same. omega (arith, same, slice_get_within state.store.globals x n got, here.store.few)) ∙ (stored 0 r3 3 k3).globals x n got;
               within = zip_set IsMemoryState program.memories state.store.memories m u.defined (grow memory v) here.store.within u.found (grown_state u.defined memory v le u.within_it);
               sizes = sizes_after;
-              space_is = here.store.space_is ∙ sym (grows_same program.memories state.store.memories m memory seg v (subst (λ x. memory.pages + v ≤ x.reserve) (some_same u.defined seg.memory (sym u.found ∙ seg.found)) le));
+              space_is = here.store.space_is ∙ sym (grows_same program.memories state.store.memories m memory seg v (subst (λ x. memory.pages + v ≤ x.reserve) (same_Some u.defined seg.memory (sym u.found ∙ seg.found)) le));
             };
             frame_is = frame_kept program bound layout r3 r4 d open_ones (variable (shift 2 next) ∷ stack) (suc (shift 2 next)) (record state.frame { values = memory.pages ∷ state.frame.values }) (λ y own side. deeper d y (λ f. omega (arith, f))) pushed.frame_is;
             callers = callers_kept program bound layout r3 r4 state.frame.number state.callers s.chain (λ e y some le. deeper e y (λ f. omega (arith, some, f))) pushed.callers;
@@ -561,6 +559,6 @@ module _ (tree : Tree) (program : Program) (bound : ℕ) (is : IsProgram tree pr
         popping tree program bound open_ones next 0 stack state s (λ delta state. with_memory state (λ number memory. known (slice_get tree.memories number) (λ defined. grow_within defined.reserve delta number memory state))) h (λ v vs e holds here.
         using 0 (with_values vs state) s (λ number memory. known (slice_get tree.memories number) (λ defined. grow_within defined.reserve v number memory (with_values vs state))) here.store exists (λ m memory u.
         knowing tree program bound 0 (slice_get tree.memories m) s (λ defined. grow_within defined.reserve v m memory (with_values vs state)) (λ defined found has.
-        let same : u.defined ≡ defined = some_same u.defined defined (sym u.found ∙ ap (λ ms. slice_get ms m) (sym is.memories) ∙ found) in
+        let same : u.defined ≡ defined = same_Some u.defined defined (sym u.found ∙ ap (λ ms. slice_get ms m) (sym is.memories) ∙ found) in
         subst (λ d. Reaches tree program bound 0 (grow_within d.reserve v m memory (with_values vs state)) s) same
         (grow_within_reaches mark (top stack) (drop 1 stack) (with_values vs state) s v m memory stands (subst IsSmall e small) holds here u most limit laid))))

@@ -19,7 +19,7 @@ use Rattle.bl_emit.specs.Shapes.{Shape, result, param}
 use Rattle.bl_lower.specs.Trees.{global_def, memory_def, low_tree}
 use Rattle.bl_emit.specs.Numbers.{shape}
 use Rattle.bl_lower.proofs.Machine.{base, padded, space_of, place, value_of, results_from, states_from, states, effective, ret, perform, plain_step}
-use Rattle.bl_lower.proofs.Parts.{statics_are, entry_is, first_is, results_number, params_number}
+use Rattle.bl_lower.proofs.TreeLayout.{statics_are, entry_is, first_is, results_number, params_number}
 use Rattle.bl_lower.proofs.Placing.{shaped}
 use Rattle.std.proofs.lemmas.List.{length-map}
 

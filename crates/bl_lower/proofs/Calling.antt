@@ -4,7 +4,7 @@ use Rattle.std.specs.Prelude.{if◌then◌else◌, option_and_then}
 use Rattle.std.specs.List.{AllZip}
 use Rattle.std.proofs.lemmas.List.{length-replicate}
 use Rattle.std.proofs.lemmas.Bool.{lt-ltb, le-ltb, cases_lt}
-use Rattle.std.proofs.lemmas.Option.{none-some}
+use Rattle.std.proofs.lemmas.Option.{none-some, same_Some}
 use Rattle.bl_base.specs.Quantity.{most_calls}
 use Rattle.bl_base.specs.Runs.{Next, Comes, last, goes, ends, trapped}
 use Rattle.bl_base.specs.declared.trap.Trap.TheVariants.{StackExhausted}
@@ -15,7 +15,7 @@ use Rattle.bl_wasm.specs.declared.linked.Function.{Function}
 use Rattle.bl_wasm.specs.declared.linked.Tree.{Tree}
 use Rattle.bl_reduce.specs.Calls.{depth as source_depth, type_of, entered, enter, operands, caller, call_at, call}
 use Rattle.bl_reduce.specs.Configurations.{Store, Frame, State, Config, entering, go, trap, known}
-use Rattle.bl_base.proofs.Lists.{some_same, zip_reverse, zip_length}
+use Rattle.bl_base.proofs.Lists.{zip_reverse, zip_length}
 use Rattle.bl_access.specs.Templates.{arg_of, jump_to, shift}
 use Rattle.bl_cmd.specs.Steps.{Registers, written, Plain, depth, on}
 use Rattle.bl_cmd.specs.declared.command.Command.{Command}
@@ -224,13 +224,13 @@ module _ (tree : Tree) (program : Program) (bound : ℕ) (is : IsProgram tree pr
   argument_at : (r : Registers) (d number index x v : ℕ) (vs : List ℕ) → ArgumentsAt program bound r d number index vs → slice_get vs x ≡ Some v → r d (param (program.shape number) (index + x)) ≡ v
   argument_at r d number index x v [] h e = absurd (none-some v e)
   argument_at r d number index zero v (u ∷ vs) h e =
-      let same : index ≡ index + 0 = omega arith in subst (λ n. r d (param (program.shape number) n) ≡ v) same (h.0 ∙ some_same u v e)
+      let same : index ≡ index + 0 = omega arith in subst (λ n. r d (param (program.shape number) n) ≡ v) same (h.0 ∙ same_Some u v e)
   argument_at r d number index (suc x) v (u ∷ vs) h e =
       let same : suc index + x ≡ index + suc x = omega arith in subst (λ n. r d (param (program.shape number) n) ≡ v) same (argument_at r d number (suc index) x v vs h.1 e)
 
   read_at : (r : Registers) (d low high first x v : ℕ) (vs : List ℕ) → AllHold r d low high (reads first (length vs)) vs → slice_get vs x ≡ Some v → r d (first + x) ≡ v
   read_at r d low high first x v [] h e = absurd (none-some v e)
-  read_at r d low high first zero v (u ∷ vs) h e = let same : first ≡ first + 0 = omega arith in subst (λ n. r d n ≡ v) same (h.0.2 ∙ some_same u v e)
+  read_at r d low high first zero v (u ∷ vs) h e = let same : first ≡ first + 0 = omega arith in subst (λ n. r d n ≡ v) same (h.0.2 ∙ same_Some u v e)
   read_at r d low high first (suc x) v (u ∷ vs) h e =
       let same : suc first + x ≡ first + suc x = omega arith in subst (λ n. r d n ≡ v) same (read_at r d low high (suc first) x v vs h.1 e)
 

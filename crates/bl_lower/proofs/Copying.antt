@@ -3,8 +3,7 @@ use Rattle.std.proofs.Common.{◌≡◌, ℕ, suc, ◌+◌, ◌-◌, ◌<◌, tr
 use Rattle.std.specs.Prelude.{option_map, get_or}
 use Rattle.std.specs.List.{filter, range_with_len, zip}
 use Rattle.std.proofs.lemmas.List.{drop_more}
-use Rattle.std.proofs.lemmas.Option.{none-some, get_or_from_slice_get, slice_get_within}
-use Rattle.bl_base.proofs.Lists.{some_same}
+use Rattle.std.proofs.lemmas.Option.{none-some, get_or_from_slice_get, slice_get_within, same_Some}
 use Rattle.bl_base.specs.declared.names.Label.{Label}
 use Rattle.bl_base.specs.declared.names.ValueType.{ValueType}
 use Rattle.bl_cmd.specs.declared.definitions.ParamDef.{ParamDef}
@@ -17,7 +16,7 @@ use Rattle.bl_lower.specs.Trees.{demanded_from, demanded_results, export_def, is
 
 both : (o : Option (List ℕ × ℕ)) (name : List ℕ) (number : ℕ) → option_map (λ pair. pair.0) o ≡ Some name → option_map (λ pair. pair.1) o ≡ Some number → o ≡ Some (name, number)
 both None name number e f = absurd (none-some name e)
-both (Some pair) name number e f = ap₂ (λ x y. Some (x, y)) (some_same pair.0 name e) (some_same pair.1 number f)
+both (Some pair) name number e f = ap₂ (λ x y. Some (x, y)) (same_Some pair.0 name e) (same_Some pair.1 number f)
 
 pub export_more : (exports : List (List ℕ × ℕ)) (i : ℕ) (name : List ℕ) (number : ℕ) (all whole : List ExportDef)
     → option_map (λ pair. pair.0) (slice_get exports i) ≡ Some name → option_map (λ pair. pair.1) (slice_get exports i) ≡ Some number

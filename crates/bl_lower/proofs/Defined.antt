@@ -10,7 +10,7 @@ use Rattle.bl_wasm.specs.declared.linked.Tree.{Tree}
 use Rattle.bl_reduce.specs.Calls.{type_of}
 use Rattle.bl_cmd.specs.declared.definitions.FunctionDef.{FunctionDef}
 use Rattle.bl_lower.specs.Trees.{function_def, low_tree, results_by}
-use Rattle.bl_lower.proofs.Parts.{params_of_type}
+use Rattle.bl_lower.proofs.TreeLayout.{params_of_type}
 
 -- what a program says of a function of that type
 pub record IsDefined (tree : Tree) (number : ℕ) (type : Signature) : Type 0 where

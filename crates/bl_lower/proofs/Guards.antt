@@ -17,7 +17,7 @@ use Rattle.bl_lower.proofs.Finding.{Found, bounds_of, found_other}
 use Rattle.bl_lower.proofs.Goods.{Access, Growing, Sort, quiet, accesses, grows}
 use Rattle.bl_lower.proofs.Laid.{HasAt}
 use Rattle.bl_lower.proofs.Lawful.{no_size}
-use Rattle.bl_lower.proofs.Parts.{entry_is}
+use Rattle.bl_lower.proofs.TreeLayout.{entry_is}
 use Rattle.bl_lower.proofs.Pieces.{EachAt}
 use Rattle.bl_lower.proofs.Goods.{Quiet}
 use Rattle.bl_lower.proofs.Rules.{entry, those, Begin, Place, place_at, there, holds_of, inside_only, access_stays}

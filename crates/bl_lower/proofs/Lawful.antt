@@ -19,7 +19,7 @@ use Rattle.bl_emit.specs.Shapes.{Shape, result, bottom, result_reads}
 use Rattle.bl_emit.specs.Constructs.{moves, args, outs, mark_of, Target}
 use Rattle.bl_lower.specs.Trees.{low_tree, global_def}
 use Rattle.bl_emit.specs.Numbers.{shape, statics}
-use Rattle.bl_lower.proofs.Parts.{statics_are, first_is, results_number, params_number}
+use Rattle.bl_lower.proofs.TreeLayout.{statics_are, first_is, results_number, params_number}
 use Rattle.bl_lower.proofs.Pieces.{EachAt}
 
 pub mark_small : (open_ones : List Target) → mark_of open_ones ≤ 6

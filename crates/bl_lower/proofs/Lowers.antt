@@ -3,7 +3,7 @@ use Rattle.std.proofs.Common.{◌≡◌, ℕ, zero, suc, ◌+◌, ◌*◌, ◌�
 use Rattle.std.specs.List.{All}
 use Rattle.std.proofs.lemmas.List.{length-reverse, length-replicate, length-take-le}
 use Rattle.std.proofs.lemmas.List.Elements.{All-head, All-tail}
-use Rattle.std.proofs.lemmas.Option.{none-some}
+use Rattle.std.proofs.lemmas.Option.{none-some, same_Some}
 use Rattle.bl_ops.specs.Access.{type_of}
 use Rattle.bl_ops.specs.Table.{row_of}
 use Rattle.bl_wasm.specs.Nesting.{of_block, of_loop, then_part, else_part}
@@ -15,7 +15,6 @@ use Rattle.bl_wasm.specs.declared.types.WasmType.{WasmType}
 use Rattle.bl_wasm.specs.declared.types.WasmType.TheVariants.{I32, I64}
 use Rattle.bl_wasm.specs.declared.types.FuncType.{FuncType}
 use Rattle.bl_reduce.proofs.Places.{behind_item}
-use Rattle.bl_base.proofs.Lists.{some_same}
 use Rattle.bl_access.specs.Templates.{chain, variable, jump_to, shift, set as set_command}
 use Rattle.bl_cmd.specs.declared.command.Command.{Command}
 use Rattle.bl_cmd.specs.declared.command.Operand.{Operand}
@@ -101,12 +100,12 @@ module _ (program : Program) (bound number : ℕ) where
 
     branches : (used next : ℕ) (open_ones : List Target) (ones : List Open) (l : ℕ) (types : List WasmType) (stack : List Operand) → AreOpen open_ones ones → Neat open_ones stack next → slice_get (labels c ones) l ≡ Some types
         → length types ≤ length stack → used + branch_most results (slice_get (takes_of open_ones) l) ≤ bound → HasFor used stack (slice_get open_ones l)
-    branches used next [] [] zero types stack h neat e room most = (omega (arith, ap length (some_same c.results types e), results_are, room), most)
+    branches used next [] [] zero types stack h neat e room most = (omega (arith, ap length (same_Some c.results types e), results_are, room), most)
     branches used next [] [] (suc l) types stack h neat e room most = absurd (none-some types e)
     branches used next [] (one ∷ ones) l types stack h neat e room most = absurd h
     branches used next (t ∷ ts) [] l types stack h neat e room most = absurd h
     branches used next (t ∷ ts) (one ∷ ones) zero types stack h neat e room most =
-        let enough : taken t ≤ length stack = omega (arith, ap length (some_same (taken_by one.kind one.type) types e), h.0.taken_is, room) in
+        let enough : taken t ≤ length stack = omega (arith, ap length (same_Some (taken_by one.kind one.type) types e), h.0.taken_is, room) in
         (enough, branch_fresh t stack next enough neat.below neat.walls.1 neat.clear.0, most)
     branches used next (t ∷ ts) (one ∷ ones) (suc l) types stack h neat e room most =
         branches used next ts ones l types stack h.1 (record { below = neat.below; clear = neat.clear.1; walls = neat.walls.2 }) e room most

@@ -2,8 +2,8 @@
 use Rattle.std.proofs.Common.{◌≡◌, ℕ, suc, ◌+◌, ◌<◌, ◌≤◌, List, length, Some, slice_get, sym, ap, ◌∙◌, subst, arith, ◌⊎◌, inl, inr}
 use Rattle.std.proofs.lemmas.Bool.{cases_lt}
 use Rattle.std.proofs.lemmas.List.{length-map}
-use Rattle.std.proofs.lemmas.Option.{none-some, slice_get_within}
-use Rattle.bl_base.proofs.Lists.{all_get, within_get, some_same}
+use Rattle.std.proofs.lemmas.Option.{none-some, slice_get_within, same_Some}
+use Rattle.bl_base.proofs.Lists.{all_get, within_get}
 use Rattle.bl_wasm.specs.Linked.{IsLinked, IsFunction}
 use Rattle.bl_wasm.specs.declared.linked.Function.{Function}
 use Rattle.bl_wasm.specs.declared.linked.Tree.{Tree}
@@ -21,7 +21,7 @@ use Rattle.bl_lower.proofs.Goods.{Good}
 use Rattle.bl_lower.proofs.Laid.{HasAt}
 use Rattle.bl_lower.proofs.Lawful.{Lawful, Goes}
 use Rattle.bl_lower.proofs.Lowers.{has}
-use Rattle.bl_lower.proofs.Parts.{entry_is}
+use Rattle.bl_lower.proofs.TreeLayout.{entry_is}
 use Rattle.bl_lower.proofs.Pieces.{all_of, AllAt, EachAt, all_at_map, each_got}
 use Rattle.bl_lower.proofs.Placing.{shaped, stands_at, low_length, total_some}
 use Rattle.bl_lower.specs.Trees.{step_bound}
@@ -155,7 +155,7 @@ module _ (tree : Tree) (linked : IsLinked tree) where
   trap_stays : (facts : IsProgram (low_tree tree)) (from : ℕ) (command : Command) (y : ℕ) → from < 7 → command_at (low_tree tree) from ≡ Some command → GoesTo command y → ⊥
   trap_stays facts from command y small e goes =
       let t = facts.traps from small in
-      subst (λ k. GoesTo k y) (sym (some_same (Trap t.0) command (sym t.2 ∙ e))) goes
+      subst (λ k. GoesTo k y) (sym (same_Some (Trap t.0) command (sym t.2 ∙ e))) goes
 
   module _ (facts : IsProgram (low_tree tree)) (number : ℕ) (function : Function) (exists : slice_get tree.functions number ≡ Some function) (is : IsFunction tree function) where
     -- what goes inside a piece is in the piece, whatever its function

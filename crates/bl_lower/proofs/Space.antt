@@ -3,12 +3,11 @@ use Rattle.std.proofs.Common.{◌≡◌, ℕ, zero, suc, ◌+◌, ◌-◌, ◌*�
 use Rattle.std.specs.List.{AllZip}
 use Rattle.std.proofs.lemmas.List.{length-replicate, take-append-le, drop-append-le}
 use Rattle.std.proofs.Math.Seq.{take-append-add, drop-append-add}
-use Rattle.std.proofs.lemmas.Option.{none-some}
+use Rattle.std.proofs.lemmas.Option.{none-some, same_Some}
 use Rattle.bl_base.specs.Runs.{MemoryState}
 use Rattle.bl_wasm.specs.declared.linked.Memory.{Memory}
 use Rattle.bl_reduce.specs.Memory.{write, grow}
 use Rattle.bl_reduce.specs.TypedConfigurations.{IsMemoryState}
-use Rattle.bl_base.proofs.Lists.{some_same}
 use Rattle.bl_lower.proofs.Machine.{base, padded, space_of}
 
 abbrev zeros_of : ℕ → List ℕ
@@ -48,8 +47,8 @@ segment (memory ∷ memories) (s ∷ states) zero state h e = record {
   behind = space_of memories states;
   begins = refl;
   is = λ other. refl;
-  now = ap (λ s. padded memory s ++ space_of memories states) (some_same s state e);
-  within = subst (IsMemoryState memory) (some_same s state e) h.0;
+  now = ap (λ s. padded memory s ++ space_of memories states) (same_Some s state e);
+  within = subst (IsMemoryState memory) (same_Some s state e) h.0;
 }
 segment (memory ∷ memories) (s ∷ states) (suc index) state h e =
     let g = segment memories states index state h.1 e in

@@ -3,7 +3,7 @@ use Rattle.std.proofs.Common.{◌≡◌, ℕ, zero, suc, ◌+◌, ◌%◌, ◌^�
 use Rattle.std.specs.Prelude.{◌==◌, if◌then◌else◌}
 use Rattle.std.proofs.Math.Nat.{mod-eq_of_lt}
 use Rattle.std.proofs.lemmas.List.{length-set}
-use Rattle.std.proofs.lemmas.Option.{slice_get_within, none-some}
+use Rattle.std.proofs.lemmas.Option.{slice_get_within, none-some, same_Some}
 use Rattle.bl_base.specs.Runs.{Next, Comes, goes}
 use Rattle.bl_ops.specs.Numerics.{meaning}
 use Rattle.bl_ops.specs.declared.op.Op.{Op}
@@ -11,7 +11,6 @@ use Rattle.bl_ops.specs.declared.op.Op.TheVariants as op
 use Rattle.bl_wasm.specs.declared.linked.Tree.{Tree}
 use Rattle.bl_reduce.specs.Configurations.{State, Config, go, push, pop, with_values}
 use Rattle.bl_reduce.specs.Variables.{local_get, local_set, local_tee, set_local, global_get, global_set, set_global}
-use Rattle.bl_base.proofs.Lists.{some_same}
 use Rattle.bl_access.specs.Templates.{variable, set_of, test_of, jump_to, move}
 use Rattle.bl_cmd.specs.Steps.{Registers, written, Plain, depth, on}
 use Rattle.bl_cmd.specs.declared.command.Operand.{Operand}
@@ -27,7 +26,7 @@ use Rattle.bl_lower.proofs.Ways.{at, does, sets, place_static, value_is, holds_v
 -- an element of a list in which one was replaced
 pub set_get : (xs : List ℕ) (i j old w v : ℕ) → slice_get xs i ≡ Some old → slice_get (set xs i w) j ≡ Some v → (i ≡ j) × (w ≡ v) ⊎ (i ≡ j → ⊥) × (slice_get xs j ≡ Some v)
 set_get [] i j old w v e f = absurd (none-some old e)
-set_get (x ∷ xs) zero zero old w v e f = inl (refl, some_same w v f)
+set_get (x ∷ xs) zero zero old w v e f = inl (refl, same_Some w v f)
 set_get (x ∷ xs) zero (suc j) old w v e f = inr (λ g. omega (arith, g), f)
 set_get (x ∷ xs) (suc i) zero old w v e f = inr (λ g. omega (arith, g), f)
 set_get (x ∷ xs) (suc i) (suc j) old w v e f = elim (set_get xs i j old w v e f) [

@@ -1,5 +1,5 @@
 -- What an item becomes keeps the rules as far as it goes itself.
-use Rattle.std.proofs.Common.{◌≡◌, ◌≢◌, ℕ, zero, suc, ◌+◌, ◌-◌, ◌^◌, ◌<◌, ◌≤◌, true, false, Bool, List, [], ◌∷◌, ◌++◌, length, reverse, map, Option, Some, None, slice_get, unwrap_or, refl, sym, ap, ◌∙◌, subst, arith, length-append, inl, inr}
+use Rattle.std.proofs.Common.{◌≡◌, ◌≢◌, ℕ, suc, ◌+◌, ◌-◌, ◌^◌, ◌<◌, ◌≤◌, true, false, Bool, List, [], ◌∷◌, ◌++◌, length, reverse, map, Option, Some, None, slice_get, unwrap_or, refl, sym, ap, ◌∙◌, subst, arith, length-append, inl, inr}
 use Rattle.std.specs.Prelude.{IfSome, IsTrue, IsFalse, not, option_map, option_and_then, if◌then◌else◌}
 use Rattle.std.proofs.lemmas.Bool.{cases_lt}
 use Rattle.std.proofs.lemmas.List.{length-map}
@@ -40,6 +40,7 @@ use Rattle.bl_lower.proofs.Pieces.{EachAt, each_both}
 use Rattle.bl_lower.proofs.Placing.{shaped, type_is, room_of}
 use Rattle.bl_lower.proofs.Ranged.{Ranged, AllRanged, ranged_pad}
 use Rattle.bl_lower.proofs.Sizes.{padded_length, args_length, reads_length, label_length, slot_arm_length}
+use Rattle.bl_emit.proofs.Operands.{right_one}
 
 -- the tests before a division have operators of two operands where two are written
 abbrev pub CheckFits : Check → Type 0
@@ -50,16 +51,11 @@ CheckFits (quotient eqz eq least ones) = arity eq ≡ 2
 pub check_fits : (o : Op) → CheckFits (check_of o)
 check_fits o = elim o as (λ o. CheckFits (check_of o)) [ op.I32DivS ↦ refl | op.I64DivS ↦ refl | _ ↦ tt ]
 
-right_none : (n : ℕ) (stack : List Operand) → n < 2 → right n stack ≡ Const 0
-right_none zero stack lt = refl
-right_none (suc zero) stack lt = refl
-right_none (suc (suc n)) stack lt = absurd (omega (arith, lt))
-
 pub row_padded : (o : Op) (row : OpRow) (stack : List Operand) → row_of o ≡ Some row → ArePadded o (right (count_of (row_of o)) stack) (Const 0)
 row_padded o row stack e =
     let counted : arity o ≡ row.operands = ap (arity_by o) e in
     let same : count_of (row_of o) ≡ row.operands = ap count_of e in
-    ((λ lt. right_none (count_of (row_of o)) stack (omega (arith, lt, counted, same))), λ lt. refl)
+    ((λ lt. right_one (count_of (row_of o)) stack (omega (arith, lt, counted, same))), λ lt. refl)
 
 -- a variable below another isn't it
 not_new : (low next x : ℕ) (a : Operand) → next ≤ x → Ranged low next a → a ≢ variable x

@@ -1,6 +1,6 @@
 -- The operands of lowering: variables that rise from the bottom to the top, and none of what is still to be written.
 use Rattle.std.proofs.Common.{◌≡◌, ℕ, zero, suc, ◌+◌, ◌<◌, ◌≤◌, List, [], ◌∷◌, ◌++◌, length, take, drop, reverse, refl, sym, ap, ◌∙◌, subst, arith, ◌⊎◌, inl, inr}
-use Rattle.std.proofs.lemmas.List.{reverse-append, append_assoc}
+use Rattle.std.proofs.lemmas.List.{reverse-append, append_assoc, append-nil}
 use Rattle.bl_access.specs.Templates.{variable}
 use Rattle.bl_cmd.specs.declared.command.Operand.{Operand}
 use Rattle.bl_cmd.specs.declared.command.Operand.TheVariants.{Var, Const}
@@ -147,10 +147,6 @@ below_front (suc n) next (Const c ∷ stack) h = absurd h
 neat_front : (open_ones : List Target) (n : ℕ) (stack : List Operand) (next : ℕ) → Neat open_ones stack next → Neat open_ones (take n stack) next
 neat_front open_ones n stack next h = record { below = below_front n next stack h.below; clear = clear_front open_ones n stack h.clear; walls = h.walls }
 
-append_nil : {X : Type 0} (l : List X) → l ++ [] ≡ l
-append_nil [] = refl
-append_nil (a ∷ l) = ap (λ m. a ∷ m) (append_nil l)
-
 -- inside a block or a part of an if, with the parameters
 pub neat_taken : (t : Target) (open_ones : List Target) (n : ℕ) (stack : List Operand) (from next : ℕ) → from ≤ t.first → t.first + t.arity ≤ next → lowest t.kind ≡ 0 → Neat open_ones stack from → Neat (t ∷ open_ones) (take n stack) next
 neat_taken t open_ones n stack from next le room low h =
@@ -160,8 +156,8 @@ neat_taken t open_ones n stack from next le room low h =
 pub neat_looped : (t : Target) (open_ones : List Target) (n : ℕ) (stack : List Operand) (from next : ℕ) → from + n ≤ t.first → t.first + t.arity ≤ next → lowest t.kind ≡ from → Neat open_ones stack from → Neat (t ∷ open_ones) (reverse (reads from n)) next
 neat_looped t open_ones n stack from next le room low h =
     neat_within t open_ones (reverse (reads from n)) (from + n) next le room (omega (arith, low, le, room))
-    (subst (λ k. AtLeast k (reverse (reads from n))) (sym low) (subst (AtLeast from) (append_nil (reverse (reads from n))) (at_least_reads from n from [] (omega arith) tt)))
-    (subst (λ l. Neat open_ones l (from + n)) (append_nil (reverse (reads from n))) (neat_reads n from open_ones [] (record { below = tt; clear = none open_ones; walls = h.walls })))
+    (subst (λ k. AtLeast k (reverse (reads from n))) (sym low) (subst (AtLeast from) (append-nil (reverse (reads from n))) (at_least_reads from n from [] (omega arith) tt)))
+    (subst (λ l. Neat open_ones l (from + n)) (append-nil (reverse (reads from n))) (neat_reads n from open_ones [] (record { below = tt; clear = none open_ones; walls = h.walls })))
   where
     none : (open_ones : List Target) → Clear open_ones []
     none [] = tt
@@ -230,7 +226,7 @@ rising_pad (suc n) low next (Const c ∷ stack) acc le from h g rest = absurd h
 -- the moves of a construct's results
 pub avoids_fresh : (t : Target) (stack : List Operand) → AllAvoid t stack → Fresh t.first (reverse (pad t.arity stack))
 avoids_fresh t stack h = outside_fresh t.first (t.first + t.arity) t.first (reverse (pad t.arity stack)) (omega arith) (omega (arith, padded_length t.arity stack))
-    (subst (AllOutside t.first (t.first + t.arity)) (append_nil (reverse (pad t.arity stack))) (outside_pad t.first (t.first + t.arity) t.arity stack [] (out stack h) tt))
+    (subst (AllOutside t.first (t.first + t.arity)) (append-nil (reverse (pad t.arity stack))) (outside_pad t.first (t.first + t.arity) t.arity stack [] (out stack h) tt))
   where
     out : (stack : List Operand) → AllAvoid t stack → AllOutside t.first (t.first + t.arity) stack
     out [] h = tt
@@ -252,13 +248,13 @@ branch_fresh t stack next enough below low h = by_kind t.kind refl
     by_kind (again start params first) e =
         subst (λ k. Fresh (first_to (record t { kind = k })) (reverse (pad (taken (record t { kind = k })) stack))) (sym e)
         (rising_fresh first first (reverse (pad params stack)) (omega arith)
-        (subst (Rising first) (append_nil (reverse (pad params stack)))
+        (subst (Rising first) (append-nil (reverse (pad params stack)))
         (rising_pad params first next stack [] (omega (arith, enough, ap (λ k. taken (record t { kind = k })) e)) (omega (arith, low, ap lowest e)) below (least first stack (ap lowest e) h) tt)))
 
 -- moves to variables above all operands
 pub new_fresh : (n next : ℕ) (stack : List Operand) → Below next stack → Fresh next (reverse (pad n stack))
 new_fresh n next stack h = outside_fresh next (next + n) next (reverse (pad n stack)) (omega arith) (omega (arith, padded_length n stack))
-    (subst (AllOutside next (next + n)) (append_nil (reverse (pad n stack))) (outside_pad next (next + n) n stack [] (go next stack h (omega arith)) tt))
+    (subst (AllOutside next (next + n)) (append-nil (reverse (pad n stack))) (outside_pad next (next + n) n stack [] (go next stack h (omega arith)) tt))
   where
     go : (top : ℕ) (stack : List Operand) → Below top stack → top ≤ next → AllOutside next (next + n) stack
     go top [] h le = tt

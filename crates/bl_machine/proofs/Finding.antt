@@ -1,12 +1,13 @@
 -- Kinds that are found by the texts of types.
-use Rattle.std.proofs.Common.{◌≡◌, ℕ, zero, suc, ◌+◌, ◌<◌, ◌≤◌, Bool, true, false, List, [], ◌∷◌, ◌++◌, length, map, take, drop, get_or, Option, Some, None, slice_get, refl, sym, ap, ◌∙◌, subst, arith}
+use Rattle.std.proofs.Common.{◌≡◌, ℕ, zero, suc, ◌+◌, ◌<◌, ◌≤◌, Bool, true, false, List, [], ◌∷◌, ◌++◌, length, map, take, drop, Option, Some, None, slice_get, refl, sym, ap, ◌∙◌, subst, arith}
 use Rattle.std.specs.Prelude.{nat_lt, if◌then◌else◌, unwrap_or}
 use Rattle.std.specs.Str.{bytes_eq}
 use Rattle.std.proofs.lemmas.Bool.{false≢true, lt-ltb, le-ltb, ltb-true, ltb-false}
 use Rattle.std.proofs.lemmas.Slice.Eq.{bytes_eq-Decides}
+use Rattle.std.proofs.lemmas.Option.{same_Some}
 use Rattle.bl_base.specs.declared.names.ValueType.{ValueType}
 use Rattle.bl_base.specs.declared.names.ValueType.TheVariants.{I32, I64}
-use Rattle.bl_base.proofs.Lists.{some_same}
+use Rattle.bl_base.proofs.Lists.{first_same}
 use Rattle.bl_wasm.specs.Exports.{Pairs, number_of}
 use Rattle.bl_wasm.specs.declared.linked.Signature.{Signature}
 use Rattle.bl_wasm.proofs.ExportLemmas.{number-pairs, pairs-insert}
@@ -25,15 +26,12 @@ same_letter I32 I64 e = absurd (omega (arith, e))
 same_letter I64 I32 e = absurd (omega (arith, e))
 same_letter I64 I64 e = refl
 
-first_is : (a b : ℕ) (xs ys : List ℕ) → a ∷ xs ≡ b ∷ ys → a ≡ b
-first_is a b xs ys e = ap (λ l. get_or l 0 0) e
-
 same_letters : (xs ys : List ValueType) → map letter xs ≡ map letter ys → xs ≡ ys
 same_letters [] [] e = refl
 same_letters [] (y ∷ ys) e = cc
 same_letters (x ∷ xs) [] e = cc
 same_letters (x ∷ xs) (y ∷ ys) e =
-    let first = same_letter x y (first_is (letter x) (letter y) (map letter xs) (map letter ys) e) in
+    let first = same_letter x y (first_same (letter x) (letter y) (map letter xs) (map letter ys) e) in
     let later = same_letters xs ys (ap (drop 1) e) in
     λ i. first i ∷ later i
 
@@ -43,10 +41,10 @@ not_colon I64 e = omega (arith, e)
 
 same_parts : (xs ys us vs : List ValueType) → map letter xs ++ 58 ∷ map letter us ≡ map letter ys ++ 58 ∷ map letter vs → (xs ≡ ys) × (us ≡ vs)
 same_parts [] [] us vs e = (refl, same_letters us vs (ap (drop 1) e))
-same_parts [] (y ∷ ys) us vs e = absurd (not_colon y (sym (first_is 58 (letter y) (map letter us) (map letter ys ++ 58 ∷ map letter vs) e)))
-same_parts (x ∷ xs) [] us vs e = absurd (not_colon x (first_is (letter x) 58 (map letter xs ++ 58 ∷ map letter us) (map letter vs) e))
+same_parts [] (y ∷ ys) us vs e = absurd (not_colon y (sym (first_same 58 (letter y) (map letter us) (map letter ys ++ 58 ∷ map letter vs) e)))
+same_parts (x ∷ xs) [] us vs e = absurd (not_colon x (first_same (letter x) 58 (map letter xs ++ 58 ∷ map letter us) (map letter vs) e))
 same_parts (x ∷ xs) (y ∷ ys) us vs e =
-    let first = same_letter x y (first_is (letter x) (letter y) (map letter xs ++ 58 ∷ map letter us) (map letter ys ++ 58 ∷ map letter vs) e) in
+    let first = same_letter x y (first_same (letter x) (letter y) (map letter xs ++ 58 ∷ map letter us) (map letter ys ++ 58 ∷ map letter vs) e) in
     let later = same_parts xs ys us vs (ap (drop 1) e) in
     ((λ i. first i ∷ later.0 i), later.1)
 
@@ -64,7 +62,7 @@ first_at (other ∷ types) type i e = from (first_at types type) (is_same_type o
     from : ((i : ℕ) → slice_get types i ≡ Some type → first_of types type ≤ i) → (b : Bool) → is_same_type other type ≡ b
         → (i : ℕ) → slice_get (other ∷ types) i ≡ Some type → (if b then 0 else suc (first_of types type)) ≤ i
     from later true same i e = omega arith
-    from later false other_one zero e = absurd (false≢true (sym other_one ∙ ap (λ t. is_same_type other t) (sym (some_same other type e)) ∙ same_as_itself other))
+    from later false other_one zero e = absurd (false≢true (sym other_one ∙ ap (λ t. is_same_type other t) (sym (same_Some other type e)) ∙ same_as_itself other))
     from later false other_one (suc i) e = omega (arith, later i e)
 
 first_there : (types : List Signature) (type : Signature) → first_of types type < length types → slice_get types (first_of types type) ≡ Some type
@@ -96,7 +94,7 @@ got_below : (n i m : ℕ) → below n i ≡ Some m → (m ≡ n) × (n < i)
 got_below n i m e = from (nat_lt n i) refl e
   where
     from : (b : Bool) → nat_lt n i ≡ b → (if b then Some n else None) ≡ Some m → (m ≡ n) × (n < i)
-    from true t e = (sym (some_same n m e), ltb-true n i t)
+    from true t e = (sym (same_Some n m e), ltb-true n i t)
     from false t e = cc
 
 none_below : (n i : ℕ) → below n i ≡ None → i ≤ n
@@ -153,7 +151,7 @@ module _ (types : List Signature) (i : ℕ) (type : Signature) (pairs : Pairs) (
   is_here : (other : Signature) → first_of types other ≡ i → other ≡ type
   is_here other e =
       let there = first_there types other (omega (arith, e, inside types i type here)) in
-      some_same other type (sym there ∙ ap (slice_get types) e ∙ here)
+      same_Some other type (sym there ∙ ap (slice_get types) e ∙ here)
 
   -- a type that was met before
   pub met_again : (n : ℕ) → number_of (spelled type) pairs ≡ Some n → (n ≡ first_of types type) × Knows types (i + 1) pairs
@@ -191,7 +189,7 @@ module _ (types : List Signature) (i : ℕ) (type : Signature) (pairs : Pairs) (
 more : (f : Signature → ℕ) (types : List Signature) (i : ℕ) (type : Signature) → slice_get types i ≡ Some type
     → map f (take i types) ++ f type ∷ [] ≡ map f (take (suc i) types)
 more f [] i type e = cc
-more f (other ∷ types) zero type e = ap (λ t. f t ∷ []) (sym (some_same other type e))
+more f (other ∷ types) zero type e = ap (λ t. f t ∷ []) (sym (same_Some other type e))
 more f (other ∷ types) (suc i) type e = ap (λ ns. f other ∷ ns) (more f types i type e)
 
 pub one_more : (f : Signature → ℕ) (types : List Signature) (i : ℕ) (type : Signature) (numbers : List ℕ) (n : ℕ) → slice_get types i ≡ Some type

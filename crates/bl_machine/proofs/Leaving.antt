@@ -7,6 +7,7 @@ use Rattle.std.proofs.lemmas.Option.{none-some}
 use Rattle.std.proofs.Math.Dec.{eqb-suc-zero}
 use Rattle.std.proofs.Math.Seq.{take-append_seam, get_or-append_seam}
 use Rattle.bl_base.specs.Runs.{stuck, returned as returned_with}
+use Rattle.bl_base.proofs.Lists.{past_end}
 use Rattle.bl_wasm.specs.declared.instruction.Instr.{Instr}
 use Rattle.bl_wasm.specs.declared.linked.Tree.{Tree}
 use Rattle.bl_reduce.specs.Configurations.{Label, Frame, State, go, with_values}
@@ -75,11 +76,6 @@ as_many body base [] [] h = refl
 as_many body base [] (exit ∷ exits) h = absurd h
 as_many body base (label ∷ labels) [] h = absurd h
 as_many body base (label ∷ labels) (exit ∷ exits) h = ap suc (as_many body base labels exits h.1)
-
-pub past_all : {A : Type 0} (xs : List A) (l : ℕ) → slice_get xs l ≡ None → length xs ≤ l
-past_all [] l e = omega arith
-past_all (x ∷ xs) zero e = cc
-past_all (x ∷ xs) (suc l) e = let h = past_all xs l e in omega (arith, h)
 
 module _ (tree : Tree) where
   abbrev items_of : State → List Instr
@@ -269,7 +265,7 @@ module _ (tree : Tree) where
   none_found : (m : Machine) (state : State) (is : IsState tree m state) (l : ℕ) → slice_get state.frame.labels l ≡ None → label_at l m ≡ None
   none_found m state is l got =
       let many = as_many (items_of state) (length is.lower.values) state.frame.labels is.current.exits is.current.are_exits in
-      let past = past_all state.frame.labels l got in
+      let past = past_end state.frame.labels l got in
       let count : label_count m ≤ l =
       omega (arith, past, many, is.current.labels_below, ap length is.current.labels, length-append is.lower.labels (reverse is.current.exits), length-reverse is.current.exits) in
       ap (λ b. if b then Some (get_or m.labels (length m.labels - 1 - l) no_exit, length m.labels - 1 - l) else None) (le-ltb l (label_count m) count)

@@ -19,7 +19,7 @@ use Rattle.bl_reduce.specs.Steps.{execute, frame_step, source_step}
 use Rattle.bl_reduce.specs.TypedConfigurations.{IsRest, IsRunning, IsTyped, AreLabels}
 use Rattle.bl_reduce.proofs.Places.{next_place, at_last}
 use Rattle.bl_reduce.proofs.Soundness.{progress as has_step}
-use Rattle.bl_base.proofs.Lists.{all_get}
+use Rattle.bl_base.proofs.Lists.{all_get, all_chosen}
 use Rattle.bl_machine.specs.Bodies.{body_of, prepared_of}
 use Rattle.bl_machine.specs.Jumps.{counts_of, counts_of_type, jumps_of}
 use Rattle.bl_machine.specs.Machines.{running as on, at_place}
@@ -35,7 +35,7 @@ use Rattle.bl_machine.proofs.Landing.{IsJump, behind, item_there, none_there, ju
 use Rattle.bl_machine.proofs.Memories.{load_simulates, store_simulates, size_simulates, grow_simulates}
 use Rattle.bl_machine.proofs.Leaving.{branch_simulates, branch_if_simulates, branch_by_simulates, return_simulates}
 use Rattle.bl_machine.proofs.Operators.{operate_simulates}
-use Rattle.bl_machine.proofs.Typed.{Typed, enough, enough_below, chosen, counts_are, wanted_are_there, returns_are_there, branches_are_there, operands_are_there, operator_operands}
+use Rattle.bl_machine.proofs.Typed.{Typed, enough, enough_below, counts_are, wanted_are_there, returns_are_there, branches_are_there, operands_are_there, operator_operands}
 use Rattle.bl_machine.proofs.Tables.{call_indirect_simulates}
 use Rattle.bl_machine.proofs.Values.{Then, push_simulates, drop_simulates, select_simulates, local_get_simulates, local_set_simulates, local_tee_simulates, global_get_simulates, global_set_simulates}
 
@@ -67,7 +67,7 @@ module _ (tree : Tree) (linked : IsLinked tree) where
     plain_simulates (BrTable default ls) from to place jump m state h s =
         branch_by_simulates tree m state ls default s.is (λ v vs e.
         branches_are_there tree type state s.arity open_ones (unwrap_or (slice_get ls v) default) h.0 vs s.labels_are
-        (chosen (λ l. slice_get (labels (context tree type state.frame.function) open_ones) l ≡ Some h.0) ls default v h.1)
+        (all_chosen (λ l. slice_get (labels (context tree type state.frame.function) open_ones) l ≡ Some h.0) ls default v h.1)
         (enough_below from h.2.lower h.0 v vs state.frame.values h.2.before s.values e))
     plain_simulates Return from to place jump m state h s =
         λ has. return_simulates tree m state s.is (returns_are_there tree type state s.arity from h.lower h.before s.values)

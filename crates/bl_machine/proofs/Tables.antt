@@ -3,12 +3,11 @@ use Rattle.std.proofs.Common.{◌≡◌, ℕ, zero, suc, ◌==◌, ◌≤◌, Bo
 use Rattle.std.specs.Prelude.{◌&&◌, if◌then◌else◌, option_and_then, option_map, unwrap_or}
 use Rattle.std.specs.Cmp.Lexicographic.{pointwise}
 use Rattle.std.proofs.lemmas.Bool.{false≢true, eq-eqb, eqb-true}
-use Rattle.std.proofs.lemmas.Option.{slice_get-map}
+use Rattle.std.proofs.lemmas.Option.{slice_get-map, same_Some}
 use Rattle.bl_base.specs.Runs.{trapped as trapped_with}
 use Rattle.bl_base.specs.declared.names.ValueType.{ValueType}
 use Rattle.bl_base.specs.declared.names.ValueType.TheVariants.{I32, I64}
 use Rattle.bl_base.specs.declared.trap.Trap.TheVariants as trap_kind
-use Rattle.bl_base.proofs.Lists.{some_same}
 use Rattle.bl_wasm.specs.declared.linked.Function.{Function}
 use Rattle.bl_wasm.specs.declared.linked.Signature.{Signature}
 use Rattle.bl_wasm.specs.declared.linked.Tree.{Tree}
@@ -41,7 +40,7 @@ first_found (other ∷ types) type i e = from (first_found types type) (is_same_
     from : ((i : ℕ) → slice_get types i ≡ Some type → slice_get types (first_of types type) ≡ Some type) → (b : Bool) → is_same_type other type ≡ b
         → (i : ℕ) → slice_get (other ∷ types) i ≡ Some type → slice_get (other ∷ types) (if b then 0 else suc (first_of types type)) ≡ Some type
     from later true same i e = ap Some (same_type other type same)
-    from later false other_one zero e = absurd (false≢true (sym other_one ∙ ap (λ t. is_same_type other t) (sym (some_same other type e)) ∙ same_as_itself other))
+    from later false other_one zero e = absurd (false≢true (sym other_one ∙ ap (λ t. is_same_type other t) (sym (same_Some other type e)) ∙ same_as_itself other))
     from later false other_one (suc i) e = later i e
 
 pub kinds_tell : (types : List Signature) (a b : Signature) (i j : ℕ) → slice_get types i ≡ Some a → slice_get types j ≡ Some b
@@ -55,7 +54,7 @@ kinds_tell types a b i j e f = from (is_same_type a b) refl (first_of types a ==
         absurd (false≢true (sym equal ∙ eq-eqb (first_of types a) (first_of types b) (ap (first_of types) (same_type a b same))))
     from false same true equal =
         let one : Some a ≡ Some b = sym (first_found types a i e) ∙ ap (slice_get types) (eqb-true (first_of types a) (first_of types b) equal) ∙ first_found types b j f in
-        absurd (false≢true (sym same ∙ ap (is_same_type a) (sym (some_same a b one)) ∙ same_as_itself a))
+        absurd (false≢true (sym same ∙ ap (is_same_type a) (sym (same_Some a b one)) ∙ same_as_itself a))
 
 -- ---- calls
 
@@ -89,7 +88,7 @@ module _ (tree : Tree) (index : ℕ) where
       by_test type typed true same =
           subst (λ o. Then tree (call_of (slice_get (bodies tree) number) number m) (known o (λ type. call_at type number state))) typed
           (call_simulates tree m state is number (λ found there.
-          subst (λ t. length t.params ≤ length state.frame.values) (sym (some_same found type (sym there ∙ typed) ∙ same_type type wanted same)) (enough wanted got)))
+          subst (λ t. length t.params ≤ length state.frame.values) (sym (same_Some found type (sym there ∙ typed) ∙ same_type type wanted same)) (enough wanted got)))
       by_test type typed false same = λ has. ap (trapped_with trap_kind.TypeMismatch) (sym is.memories)
 
     through : (slot : Option (Option ℕ)) → Then tree (called_through (prepared_of tree) kind slot m) (call_through tree wanted slot state)

@@ -1,9 +1,9 @@
 -- What a typing says of the values that an item takes: they are there.
-use Rattle.std.proofs.Common.{◌≡◌, ℕ, zero, suc, ◌≤◌, List, [], ◌∷◌, ◌++◌, length, map, reverse, replicate, Some, slice_get, ◌⊎◌, inl, inr, refl, sym, ap, ◌∙◌, subst, arith, length-append}
-use Rattle.std.specs.Prelude.{option_and_then, unwrap_or}
-use Rattle.std.specs.List.{All, AllZip}
+use Rattle.std.proofs.Common.{◌≡◌, ℕ, ◌≤◌, List, [], ◌∷◌, ◌++◌, length, map, reverse, replicate, Some, slice_get, ◌⊎◌, inl, inr, refl, sym, ap, ◌∙◌, subst, arith, length-append}
+use Rattle.std.specs.Prelude.{option_and_then}
+use Rattle.std.specs.List.{AllZip}
 use Rattle.std.proofs.lemmas.List.{length-map, length-reverse, length-replicate}
-use Rattle.std.proofs.lemmas.List.Elements.{All-drop, All-get_or}
+use Rattle.std.proofs.lemmas.Option.{same_Some}
 use Rattle.bl_ops.specs.Table.{row_of}
 use Rattle.bl_ops.specs.declared.op.Op.{Op}
 use Rattle.bl_ops.specs.declared.op.OpRow.{OpRow}
@@ -20,7 +20,7 @@ use Rattle.bl_reduce.specs.Calls.{type_of}
 use Rattle.bl_reduce.specs.Configurations.{State, with_values}
 use Rattle.bl_reduce.specs.TypedConfigurations.{IsValue, AreLabels}
 use Rattle.bl_reduce.proofs.ControlItems.{ToLabel, OutOfAll, find_label}
-use Rattle.bl_base.proofs.Lists.{some_same, zip_length, mapped_get}
+use Rattle.bl_base.proofs.Lists.{zip_length, mapped_get}
 use Rattle.bl_machine.specs.Jumps.{counted, counts_of_type}
 use Rattle.bl_machine.specs.declared.jumps.Counts.{Counts}
 use Rattle.bl_machine.proofs.Leaving.{Branches}
@@ -41,19 +41,14 @@ enough_below stack lower types v vs values e h f =
     let n = enough stack lower (types ++ I32 ∷ []) values e h in
     omega (arith, n, length-append types (I32 ∷ []), ap length f)
 
-pub chosen : (P : ℕ → Type 0) (ls : List ℕ) (default index : ℕ) → All P (ls ++ default ∷ []) → P (unwrap_or (slice_get ls index) default)
-chosen P [] default index h = All-get_or P (default ∷ []) 0 0 (omega arith) h
-chosen P (l ∷ ls) default zero h = All-get_or P (l ∷ ls ++ default ∷ []) 0 0 (omega arith) h
-chosen P (l ∷ ls) default (suc index) h = chosen P ls default index (All-drop P 1 (l ∷ ls ++ default ∷ []) h)
-
 -- the counts that were found are those of the type
 module _ (types : List Signature) where
   abbrev Counted : Counts → FuncType → Type 0
   Counted counts type = (counts.params ≡ length type.params) × (counts.results ≡ length type.results)
 
   pub counts_are : (kind : BlockType) (type : FuncType) → expanded (map function_type types) kind ≡ Some type → Counted (counts_of_type types kind) type
-  counts_are Empty type e = subst (Counted (counts_of_type types Empty)) (some_same (record { params = []; results = [] }) type e) (refl, refl)
-  counts_are (Value value) type e = subst (Counted (counts_of_type types (Value value))) (some_same (record { params = []; results = value ∷ [] }) type e) (refl, refl)
+  counts_are Empty type e = subst (Counted (counts_of_type types Empty)) (same_Some (record { params = []; results = [] }) type e) (refl, refl)
+  counts_are (Value value) type e = subst (Counted (counts_of_type types (Value value))) (same_Some (record { params = []; results = value ∷ [] }) type e) (refl, refl)
   counts_are (Index number) type e =
       let t = mapped_get function_type types number type e in
       subst (λ o. Counted (counted o) type) (sym t.1) (subst (Counted (counted (Some t.0))) t.2 (sym (length-map t.0.params integer), sym (length-map t.0.results integer)))
@@ -63,7 +58,7 @@ pub wanted_are_there : (tree : Tree) (index : ℕ) (type : FuncType) (values : L
     → (wanted : Signature) → slice_get tree.types index ≡ Some wanted → length wanted.params ≤ length values
 wanted_are_there tree index type values e room wanted got =
     let t = mapped_get function_type tree.types index type e in
-    let same : wanted ≡ t.0 = some_same wanted t.0 (sym got ∙ t.1) in
+    let same : wanted ≡ t.0 = same_Some wanted t.0 (sym got ∙ t.1) in
     let long : length type.params ≡ length wanted.params = ap (λ type. length type.params) (sym t.2) ∙ length-map t.0.params integer ∙ ap (λ s. length s.params) (sym same) in
     omega (arith, room, long)
 
@@ -92,7 +87,7 @@ module _ (tree : Tree) (type : Signature) (state : State) (arity : state.frame.a
       let t = mapped_get function_type tree.types has.0 called has.2 in
       let there : type_of tree number ≡ Some t.0 =
       ap (option_and_then (λ function. slice_get tree.types function.type_index)) f.1 ∙ ap (slice_get tree.types) f.2 ∙ t.1 in
-      let same : found ≡ t.0 = some_same found t.0 (sym got ∙ there) in
+      let same : found ≡ t.0 = same_Some found t.0 (sym got ∙ there) in
       let long : length called.params ≡ length found.params = ap (λ type. length type.params) (sym t.2) ∙ length-map t.0.params integer ∙ ap (λ s. length s.params) (sym same) in
       let n = enough stack lower called.params state.frame.values e h in
       omega (arith, n, long)
@@ -100,6 +95,6 @@ module _ (tree : Tree) (type : Signature) (state : State) (arity : state.frame.a
   pub operator_operands : (op : Op) (row : OpRow) (kind : WasmType) (stack lower : List WasmType) → row_of op ≡ Some row → stack ≡ lower ++ replicate row.operands kind
       → Typed stack state.frame.values → (found : OpRow) → row_of op ≡ Some found → found.operands ≤ length state.frame.values
   operator_operands op row kind stack lower is e h found got =
-      let same : found ≡ row = some_same found row (sym got ∙ is) in
+      let same : found ≡ row = same_Some found row (sym got ∙ is) in
       let n = enough stack lower (replicate row.operands kind) state.frame.values e h in
       omega (arith, n, length-replicate row.operands kind, ap (λ r. r.operands) same)

@@ -120,7 +120,7 @@ impl Bytes {
     }
 
     /// Two bytes from a place on, as a number.
-    #[tactic(auto, using(crate::proofs::Writes::two_is))]
+    #[tactic(auto, using(bl_base::proofs::ByteLemmas::two_is))]
     fn two(&self, from: usize) -> u64
         requires { from + 2 < 2 ^ 64 }
         ensures value { result ≡ number_of (take 2 (drop from self.now)) }
@@ -130,7 +130,7 @@ impl Bytes {
     }
 
     /// Four bytes from a place on, as a number.
-    #[tactic(auto, using(crate::proofs::Writes::four_is))]
+    #[tactic(auto, using(bl_base::proofs::ByteLemmas::four_is))]
     fn four(&self, from: usize) -> u64
         requires { from + 4 < 2 ^ 64 }
         ensures value { result ≡ number_of (take 4 (drop from self.now)) }
@@ -140,7 +140,7 @@ impl Bytes {
     }
 
     /// Eight bytes from a place on, as a number.
-    #[tactic(auto, using(crate::proofs::Writes::eight_is))]
+    #[tactic(auto, using(bl_base::proofs::ByteLemmas::eight_is))]
     fn eight(&self, from: usize) -> u64
         requires { from + 8 < 2 ^ 64 }
         ensures { result ≡ number_of (take 8 (drop from self.now)) }

@@ -1,3 +1,4 @@
+pub mod AccessLemmas
 pub mod Bits
 pub mod Fits
 pub mod Shifts

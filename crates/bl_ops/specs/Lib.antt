@@ -1,5 +1,5 @@
 pub mod Access
-pub mod Groups
+pub mod GroupMeanings
 pub mod Integer
 pub mod Numerics
 pub mod Table

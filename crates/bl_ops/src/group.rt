@@ -1,6 +1,6 @@
 //! The operators by shape, on numbers of 32 and of 64 bits, by the machine's operations.
 ghost use Rattle.std.specs.Prelude.{◌≡◌, ℕ, ◌%◌, ◌^◌};
-ghost use Rattle.bl_ops.specs.Groups.{arithmetic, bitwise, comparison, conversion, division, extension, shift, unary, undefined};
+ghost use Rattle.bl_ops.specs.GroupMeanings.{arithmetic, bitwise, comparison, conversion, division, extension, shift, unary, undefined};
 
 use bl_base::Trap;
 

@@ -13,20 +13,6 @@ use Rattle.bl_base.specs.Runs.{MemoryState, memory_of}
 use Rattle.bl_base.specs.declared.run.Pages.{Pages}
 use Rattle.bl_outcome.specs.Outcomes.{bytes_at, hex_text, memory_text, opening_bytes, row_text}
 
--- ---- a piece for each number from one on
-
-module _ (piece : ℕ → List ℕ) where
-  pub pieces_next : (text : List ℕ) (i n : ℕ) → i < n → (text ++ piece i) ++ flat_map piece (range_with_len (i + 1) (n - (i + 1))) ≡ text ++ flat_map piece (range_with_len i (n - i))
-  pieces_next text i n lt =
-      let count : n - i ≡ suc (n - (i + 1)) = omega arith in
-      append_assoc text (piece i) (flat_map piece (range_with_len (i + 1) (n - (i + 1))))
-      ∙ ap (λ k. text ++ flat_map piece (range_with_len i k)) (sym count)
-
-  pub pieces_all : (text all : List ℕ) (i n : ℕ) → n ≤ i → text ++ flat_map piece (range_with_len i (n - i)) ≡ all → text ≡ all
-  pieces_all text all i n le e =
-      let none : n - i ≡ 0 = omega arith in
-      sym (append-nil text) ∙ ap (λ k. text ++ flat_map piece (range_with_len i k)) (sym none) ∙ e
-
 -- ---- memories
 
 module _ (opening : List MemoryState) (memories : List Pages) where

@@ -19,7 +19,7 @@ pub record Faults : Type 0 where
   pub last : List ℕ
 
 -- the bytes are the first of the entry of that name, at most so many and one more; nothing is said
--- where the map isn't told
+-- where the map isn't exposed
 abbrev pub Gives : Option Files → List ℕ → ℕ → List ℕ → Type 0
 Gives None name most bytes = Unit {0}
 Gives (Some files) name most bytes = option_map (take (most + 1)) (fin.get files name) ≡ Some bytes

@@ -1,4 +1,4 @@
-//! The files of the system as a shelf. What they hold isn't told.
+//! The files of the system as a shelf. It doesn't expose its contents.
 ghost use Rattle.std.specs.Prelude.{◌≡◌, ◌+◌, ◌≤◌, [], None, Option, IfOk, OnOk, OnErr, length};
 ghost use Rattle.bl_outside.specs.Shelf.{Files as Told, FetchFaults, KeepFaults, Gives, faults_after_fetch, faults_after_keep};
 

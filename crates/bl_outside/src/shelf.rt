@@ -28,7 +28,7 @@ impl From<NoMemory> for ShelfError {
 /// A finite map from names to bytes, with a count of read faults, a count of write faults and the name
 /// at which a call last failed. Counts never fall; one that stands at 2^64 - 1 stays there.
 pub trait Shelf {
-    /// The map, where it is told.
+    /// The map, if the shelf exposes its contents.
     ghost files: { Self → Option Files };
 
     /// The two counts, and the name at which a call last failed.

@@ -12,7 +12,7 @@ pub struct SinkFault;
 /// The bytes taken so far, and a count of faults that never falls. One that stands at 2^64 - 1 stays
 /// there.
 pub trait Sink {
-    /// The bytes taken so far, where that is told.
+    /// The bytes taken so far, if the sink exposes them.
     ghost taken: { Self → Option (List ℕ) };
 
     /// The count of faults.

@@ -1,4 +1,4 @@
-//! Standard output as a sink. What was written isn't told.
+//! Standard output as a sink. It doesn't expose what was written.
 ghost use Rattle.std.specs.Prelude.{◌≡◌, ℕ, ◌<◌, ◌≤◌, List, Option, None, IfOk, length};
 ghost use Rattle.bl_outside.specs.Sink.{PushFaults, after_push, count_after_push};
 

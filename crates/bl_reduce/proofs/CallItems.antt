@@ -6,7 +6,7 @@ use Rattle.std.specs.Cmp.Lexicographic.{pointwise}
 use Rattle.std.specs.List.{All, AllZip}
 use Rattle.std.proofs.lemmas.Bool.{ltb-true, false≢true}
 use Rattle.std.proofs.lemmas.List.{length-map, length-reverse}
-use Rattle.std.proofs.lemmas.Option.{none-some}
+use Rattle.std.proofs.lemmas.Option.{none-some, same_Some}
 use Rattle.std.proofs.lemmas.Slice.Eq.{slice_eq-Decides}
 use Rattle.bl_base.specs.Fits.{ArgumentFits}
 use Rattle.bl_base.specs.Quantity.{most_calls}
@@ -29,7 +29,8 @@ use Rattle.bl_reduce.specs.Configurations.{Store, Frame, State, Config, entering
 use Rattle.bl_reduce.specs.TypedConfigurations.{IsValue, BeginsWith, IsEntering, IsRunning, IsTypedStep}
 use Rattle.bl_reduce.proofs.ControlItems.{topmost, above}
 use Rattle.bl_reduce.proofs.Ready.{Ready, taken, popping, trapping, knowing, integer_value, integer_argument, zero_value}
-use Rattle.bl_base.proofs.Lists.{some_same, zip_append, zip_back, zip_map, zip_unmap, zip_unreverse, zip_replicate, mapped_get, all_get, within_get}
+use Rattle.bl_base.proofs.Lists.{zip_append, zip_back, zip_map, zip_unmap, zip_unreverse, zip_replicate, mapped_get, all_get, within_get}
+use Rattle.bl_base.proofs.BoolLemmas.{each_true}
 
 -- ---- types of functions
 
@@ -39,14 +40,9 @@ one_same value.I64 value.I64 = (λ e. refl, λ e. refl)
 one_same value.I32 value.I64 = (λ e. absurd (false≢true e), λ e. absurd (false≢true (subst (λ t. is_same value.I32 t ≡ true) e refl)))
 one_same value.I64 value.I32 = (λ e. absurd (false≢true e), λ e. absurd (false≢true (subst (λ t. is_same value.I64 t ≡ true) e refl)))
 
-both_true : (a b : Bool) → (a && b) ≡ true → (a ≡ true) × (b ≡ true)
-both_true true true e = (refl, refl)
-both_true true false e = absurd (false≢true e)
-both_true false b e = absurd (false≢true e)
-
 pub same_type : (a b : Signature) → is_same_type a b ≡ true → a ≡ b
 same_type a b e =
-    let both = both_true (pointwise is_same a.params b.params) (pointwise is_same a.results b.results) e in
+    let both = each_true (pointwise is_same a.params b.params) (pointwise is_same a.results b.results) e in
     let params : a.params ≡ b.params = (slice_eq-Decides one_same a.params b.params (pointwise is_same a.params b.params) refl).0 both.0 in
     let outcomes : a.results ≡ b.results = (slice_eq-Decides one_same a.results b.results (pointwise is_same a.results b.results) refl).0 both.1 in
     ap (λ ps. record { params = ps; results = a.results }) params ∙ ap (λ rs. record { params = b.params; results = rs }) outcomes
@@ -54,7 +50,7 @@ same_type a b e =
 -- a typing of a body begins without operands
 first_place : (c : Context) (body : List Instr) (places : List (List WasmType)) → IsTyping c body places → (later : List (List WasmType)) × Types c [] body ([] ∷ later)
 first_place c body [] h = absurd (none-some [] h.0)
-first_place c body (first ∷ later) h = (later, subst (λ stack. Types c [] body (stack ∷ later)) (some_same first [] h.0) h.1)
+first_place c body (first ∷ later) h = (later, subst (λ stack. Types c [] body (stack ∷ later)) (same_Some first [] h.0) h.1)
 
 module _ (tree : Tree) (linked : IsLinked tree) (results : List ValueType) where
   -- ---- entering
@@ -68,7 +64,7 @@ module _ (tree : Tree) (linked : IsLinked tree) (results : List ValueType) where
       is.exists
       (knowing tree results (slice_get tree.types is.function.type_index) is.type
       (λ type. go (record { store = store; frame = entered number is.function type arguments; callers = callers })) is.typed
-      (running_entered function (some_same function.type is.type (sym function.exists ∙ is.typed))))
+      (running_entered function (same_Some function.type is.type (sym function.exists ∙ is.typed))))
     where
       running_entered : (function : IsFunction tree is.function) → function.type ≡ is.type
           → IsRunning tree results (record { store = store; frame = entered number is.function is.type arguments; callers = callers })

@@ -4,8 +4,7 @@ use Rattle.std.specs.Prelude.{unwrap_or}
 use Rattle.std.specs.List.{All, AllZip}
 use Rattle.std.proofs.lemmas.Bool.{eq-eqb}
 use Rattle.std.proofs.lemmas.List.{length-map, length-reverse, reverse-append}
-use Rattle.std.proofs.lemmas.List.Elements.{All-drop, All-get_or}
-use Rattle.std.proofs.lemmas.Option.{none-some}
+use Rattle.std.proofs.lemmas.Option.{none-some, same_Some}
 use Rattle.bl_base.specs.Fits.{ArgumentFits}
 use Rattle.bl_base.specs.Quantity.{most_calls}
 use Rattle.bl_base.specs.Runs.{Next, stuck}
@@ -27,7 +26,7 @@ use Rattle.bl_reduce.specs.Returns.{return_to, return}
 use Rattle.bl_reduce.specs.TypedConfigurations.{IsValue, IsStore, IsRest, IsLabel, AreLabels, BeginsWith, AreCallers, IsTypedStep}
 use Rattle.bl_reduce.proofs.Places.{parted, place_onward, place_behind_end}
 use Rattle.bl_reduce.proofs.Ready.{Ready, onto, taken, going, popping, integer_argument}
-use Rattle.bl_base.proofs.Lists.{some_same, zip_append, zip_front, zip_back, zip_unmap, zip_unreverse}
+use Rattle.bl_base.proofs.Lists.{zip_append, zip_front, zip_back, zip_unmap, zip_unreverse, all_chosen}
 
 -- ---- labels
 
@@ -51,12 +50,12 @@ module _ (c : Context) (body : List Instr) where
   -- where a label that the typing names leads
   pub find_label : (open_ones : List Open) (frame_labels : List Label) (l : ℕ) (types : List WasmType) → AreLabels c body open_ones frame_labels
       → slice_get (labels c open_ones) l ≡ Some types → ToLabel open_ones frame_labels l types ⊎ OutOfAll frame_labels l types
-  find_label [] [] zero types h e = inr (record { got = refl; last = refl; takes = some_same c.results types e })
+  find_label [] [] zero types h e = inr (record { got = refl; last = refl; takes = same_Some c.results types e })
   find_label [] [] (suc l) types h e = absurd (none-some types e)
   find_label [] (label ∷ frame_labels) l types h e = absurd h
   find_label (one ∷ outer) [] l types h e = absurd h
   find_label (one ∷ outer) (label ∷ frame_labels) zero types h e =
-      inl (record { label = label; one = one; outer = outer; got = refl; is = h.0; others = h.1; takes = some_same (taken_by one.kind one.type) types e })
+      inl (record { label = label; one = one; outer = outer; got = refl; is = h.0; others = h.1; takes = same_Some (taken_by one.kind one.type) types e })
   find_label (one ∷ outer) (label ∷ frame_labels) (suc l) types h e = further (find_label outer frame_labels l types h.1 e)
     where
       further : ToLabel outer frame_labels l types ⊎ OutOfAll frame_labels l types → ToLabel (one ∷ outer) (label ∷ frame_labels) (suc l) types ⊎ OutOfAll (label ∷ frame_labels) (suc l) types
@@ -72,12 +71,6 @@ module _ (c : Context) (body : List Instr) where
             takes = t.takes;
           })
       further (inr o) = inr (record { got = o.got; last = ap suc o.last; takes = o.takes })
-
--- the label that a br_table chooses is one of its labels
-chosen : (P : ℕ → Type 0) (ls : List ℕ) (default index : ℕ) → All P (ls ++ default ∷ []) → P (unwrap_or (slice_get ls index) default)
-chosen P [] default index h = All-get_or P (default ∷ []) 0 0 (omega arith) h
-chosen P (l ∷ ls) default zero h = All-get_or P (l ∷ ls ++ default ∷ []) 0 0 (omega arith) h
-chosen P (l ∷ ls) default (suc index) h = chosen P ls default index (All-drop P 1 (l ∷ ls ++ default ∷ []) h)
 
 -- ---- returns
 
@@ -207,7 +200,7 @@ module _ (tree : Tree) (results : List ValueType) (type : Signature) (open_ones 
       popping tree results type open_ones (reverse types ++ reverse a.lower) I32 state (λ index state. branch (unwrap_or (slice_get ls index) default) state)
       (above from a.lower types state a.before ready)
       (λ index below h r. branch_steps (unwrap_or (slice_get ls index) default) types (reverse a.lower) (with_values below state) r
-      (chosen (λ l. slice_get (labels (of_state state) open_ones) l ≡ Some types) ls default index e))
+      (all_chosen (λ l. slice_get (labels (of_state state) open_ones) l ≡ Some types) ls default index e))
 
   -- ---- blocks
 

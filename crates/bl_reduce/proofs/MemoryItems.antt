@@ -25,6 +25,7 @@ use Rattle.bl_reduce.specs.Memory.{number_of, bytes_of, read, write, grow, with_
 use Rattle.bl_reduce.specs.TypedConfigurations.{IsValue, IsMemoryState, BeginsWith, IsTypedStep}
 use Rattle.bl_reduce.proofs.Ready.{Ready, Onto, onto, taken, going, pushing, popping, trapping, knowing, integer_value}
 use Rattle.bl_base.proofs.Lists.{zip_get, zip_set, all_get, within_get}
+use Rattle.bl_base.proofs.ByteLemmas.{length-bytes_of}
 
 -- ---- bytes
 
@@ -43,10 +44,6 @@ number_below (byte ∷ bytes) (suc n) all le =
 pub bytes_all : (width number : ℕ) → All (λ byte. byte < 2 ^ 8) (bytes_of width number)
 bytes_all zero number = All-nil (λ byte. byte < 2 ^ 8)
 bytes_all (suc width) number = All-cons (λ byte. byte < 2 ^ 8) (number % 256) (bytes_of width (number / 256)) (mod-lt number (omega arith)) (bytes_all width (number / 256))
-
-pub length-bytes_of : (width number : ℕ) → length (bytes_of width number) ≡ width
-length-bytes_of zero number = refl
-length-bytes_of (suc width) number = ap suc (length-bytes_of width (number / 256))
 
 -- ---- memories
 

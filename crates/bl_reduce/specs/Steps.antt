@@ -37,7 +37,7 @@ execute tree (Load kind argument) state = load kind argument state
 execute tree (Store kind argument) state = store kind argument state
 execute tree MemorySize state = memory_size state
 execute tree MemoryGrow state = memory_grow tree state
--- control instructions (sections 4.4.5 and 4.4.6); the type that a block names exists
+-- control instructions (sections 4.4.5 and 4.4.6); the type index of a block is in range
 execute tree Nop state = go state
 execute tree Unreachable state = trap trap_kind.Unreachable state
 execute tree (Block immediate) state =

@@ -10,7 +10,7 @@ use Rattle.bl_cmd.specs.Rules.{IsWellFormed}
 use Rattle.bl_cmd.specs.declared.definitions.ProgramParts.{ProgramParts as Program}
 use Rattle.bl_seq.specs.Endings.{IsWhole, memories_at, memories_of}
 use Rattle.bl_seq.proofs.Ending.{ends_whole}
-use Rattle.bl_rob.specs.Answers.{Executes, Steps}
+use Rattle.bl_rob.specs.CallResults.{Executes, Steps}
 use Rattle.bl_rob.specs.Machines.{State, end_in, opening, outcome_by}
 use Rattle.bl_rob.specs.Observed.{HasEnded, IsConsistent_by}
 use Rattle.bl_rob.specs.Reached.{IsReached, Leads, more, stays}

@@ -13,7 +13,7 @@ use Rattle.bl_cmd.specs.declared.command.Command.{Command}
 use Rattle.bl_cmd.specs.declared.command.Command.TheVariants as command
 use Rattle.bl_cmd.specs.declared.command.Operand.{Operand}
 use Rattle.bl_cmd.specs.declared.definitions.ProgramParts.{ProgramParts as Program}
-use Rattle.bl_rob.specs.Answers.{Comes_by, Steps, act_by, command_from, next_command, front_in, turned_at, work_in}
+use Rattle.bl_rob.specs.CallResults.{Comes_by, Steps, act_by, command_from, next_command, front_in, turned_at, work_in}
 use Rattle.bl_rob.specs.Effects.{carried, effect_of, first_effect}
 use Rattle.bl_rob.specs.Machines.{State, at_position, Fetched, Straight, Branch, Nowhere, fetched, fetched_from, grown, fetch, source_of, guess, predict, has_room, directive_step, is_guard, assigns, loads, stores, frees, act, become, turned, acted, exec_entry, retire_work, retire}
 use Rattle.bl_rob.specs.declared.directive.Directive.TheVariants.{Predict}

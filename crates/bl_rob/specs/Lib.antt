@@ -1,4 +1,4 @@
-pub mod Answers
+pub mod CallResults
 pub mod Effects
 pub mod LastWriters
 pub mod Machines

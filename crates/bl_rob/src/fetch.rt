@@ -4,7 +4,7 @@ ghost use Rattle.bl_cmd.specs.Layout.{entry_of};
 ghost use Rattle.bl_cmd.specs.Programs.{IsCommand};
 ghost use Rattle.bl_cmd.specs.declared.definitions.ProgramParts.{ProgramParts};
 ghost use Rattle.bl_seq.specs.Layouts.{IsLayout};
-ghost use Rattle.bl_rob.specs.Answers.{Steps, front_in, is_enabled, next_command, shown, work_in};
+ghost use Rattle.bl_rob.specs.CallResults.{Steps, front_in, is_enabled, next_command, shown, work_in};
 ghost use Rattle.bl_rob.specs.Machines.{at_position, back, called, ended_at, fetched, grown, moved, register_of, source_of};
 ghost use Rattle.bl_rob.specs.declared.directive.Directive.TheVariants.{Fetch, Predict};
 ghost use Rattle.bl_rob.specs.declared.directive.Observation.TheVariants.{Nothing};

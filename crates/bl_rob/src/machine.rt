@@ -3,7 +3,7 @@ ghost use Rattle.std.specs.Prelude.{◌≡◌, ◌≤◌, ◌<◌, ◌^◌, leng
 ghost use Rattle.bl_cmd.specs.Sites.{is_division};
 ghost use Rattle.bl_cmd.specs.Steps.{effective};
 ghost use Rattle.bl_seq.specs.Layouts.{IsLayout};
-ghost use Rattle.bl_rob.specs.Answers.{act_at, shown};
+ghost use Rattle.bl_rob.specs.CallResults.{act_at, shown};
 ghost use Rattle.bl_rob.specs.Machines.{act, assigns, frees, guards, has_guard, has_store, judges, loads, stores, valued};
 
 use crate::directive::Observation;

@@ -1,6 +1,6 @@
 //! Lists of directives.
 ghost use Rattle.std.specs.Prelude.{◌≡◌, IfOk};
-ghost use Rattle.bl_rob.specs.Answers.{seen_in, shown};
+ghost use Rattle.bl_rob.specs.CallResults.{seen_in, shown};
 ghost use Rattle.bl_rob.specs.Observed.{Observes};
 
 use crate::directive::{Directive, Observation, StepError};

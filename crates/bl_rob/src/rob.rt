@@ -1,7 +1,7 @@
 //! The buffer machine as its callers see it.
 ghost use Rattle.std.specs.Prelude.{◌≡◌, ◌≤◌, IfOk, slice_get, slice_index, option_map};
 ghost use Rattle.bl_cmd.specs.Outcomes.{IsStart};
-ghost use Rattle.bl_rob.specs.Answers.{IsTold, Steps, Told, is_enabled, kind_of, outcome_in, position_of, shown};
+ghost use Rattle.bl_rob.specs.CallResults.{IsTold, Steps, Told, is_enabled, kind_of, outcome_in, position_of, shown};
 ghost use Rattle.bl_rob.specs.Machines.{end_in, opening};
 ghost use Rattle.bl_rob.specs.declared.directive.Directive.TheVariants.{Exec, Fetch, Predict, Retire};
 
@@ -27,7 +27,7 @@ pub struct Rob<'p, const W: usize> {
 impl<'p, const W: usize> Model for Rob<'p, W> {
     ghost use Rattle.std.specs.Prelude.{◌≤◌, length};
     ghost use Rattle.bl_seq.specs.Layouts.{IsLayout};
-    ghost use Rattle.bl_rob.specs.Answers.{shown};
+    ghost use Rattle.bl_rob.specs.CallResults.{shown};
     ghost use Rattle.bl_rob.specs.Reached.{IsReached};
     ghost use Rattle.bl_rob.specs.Robs.{RobView};
 

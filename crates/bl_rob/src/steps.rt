@@ -3,7 +3,7 @@ ghost use Rattle.std.specs.Prelude.{◌≡◌, ◌≤◌, ◌<◌, ◌^◌, ℕ,
 ghost use Rattle.bl_cmd.specs.Steps.{stored, written};
 ghost use Rattle.bl_cmd.specs.declared.definitions.ProgramParts.{ProgramParts};
 ghost use Rattle.bl_seq.specs.Layouts.{IsLayout};
-ghost use Rattle.bl_rob.specs.Answers.{Executes, Steps, is_enabled, shown, turned_at};
+ghost use Rattle.bl_rob.specs.CallResults.{Executes, Steps, is_enabled, shown, turned_at};
 ghost use Rattle.bl_rob.specs.Effects.{effect_of, first_effect};
 ghost use Rattle.bl_rob.specs.Machines.{at_position, become, ended_at, is_guard, without};
 ghost use Rattle.bl_rob.specs.declared.directive.Directive.TheVariants.{Retire};

@@ -1,18 +1,16 @@
 -- Runs from starts that agree in public begin alike.
-use Rattle.std.proofs.Common.{◌≡◌, inl, inr, ℕ, zero, suc, ◌+◌, ◌-◌, ◌*◌, ◌<◌, ◌≤◌, Bool, true, false, List, [], ◌∷◌, ◌++◌, length, map, replicate, Some, slice_get, refl, sym, ap, ◌∙◌, subst, arith}
+use Rattle.std.proofs.Common.{◌≡◌, inl, inr, ℕ, zero, suc, ◌+◌, ◌-◌, ◌*◌, ◌<◌, ◌≤◌, Bool, true, false, List, [], ◌∷◌, ◌++◌, length, map, Some, slice_get, refl, sym, ap, ◌∙◌, subst, arith}
 use Rattle.std.proofs.lemmas.Bool.{ltb-false}
-use Rattle.std.proofs.lemmas.List.{length-append, length-map, length-replicate}
+use Rattle.std.proofs.lemmas.List.{length-map}
 use Rattle.std.proofs.lemmas.List.Elements.{All-head, All-tail}
-use Rattle.std.proofs.lemmas.Option.{slice_get_cases, slice_get_past, unwrap_or-slice_get}
-use Rattle.std.specs.List.{All, fold}
+use Rattle.std.proofs.lemmas.Option.{slice_get_cases, slice_get_past, unwrap_or-slice_get, same_Some}
+use Rattle.std.specs.List.{All}
 use Rattle.std.specs.Prelude.{not, nat_lt, if◌then◌else◌, slice_index, unwrap_or, IsTrue, IsSomeAnd}
-use Rattle.bl_base.proofs.Lists.{some_same, zip_length}
-use Rattle.bl_base.specs.Bytes.{patched}
-use Rattle.bl_base.specs.Fits.{ArgumentFits, PatchFits}
+use Rattle.bl_base.proofs.Lists.{zip_length}
+use Rattle.bl_base.specs.Fits.{ArgumentFits}
 use Rattle.bl_base.specs.Runs.{MemoryState}
 use Rattle.bl_base.specs.declared.names.Label.{Label}
 use Rattle.bl_base.specs.declared.names.Label.TheVariants.{Public, Secret}
-use Rattle.bl_base.specs.declared.start.Patch.{Patch}
 use Rattle.bl_base.specs.declared.start.Start.{Start}
 use Rattle.bl_cmd.specs.Layout.{sum_before, first_of, param}
 use Rattle.bl_cmd.specs.Outcomes.{first_memory, first_memories, padded, space_of, first_registers, opening, IsStart, Agree}
@@ -27,9 +25,10 @@ use Rattle.bl_graph.specs.declared.secret.Origin.TheVariants.{Parameter}
 use Rattle.bl_seq.specs.Openings.{AreSized}
 use Rattle.bl_seq.proofs.OwnSizes.{whole}
 use Rattle.bl_seq.proofs.OwnSteps.{Reached}
-use Rattle.bl_seq.proofs.Starting.{lies_inside, sized_first, sized_patched}
+use Rattle.bl_seq.proofs.Starting.{sized_first}
 use Rattle.bl_sct.specs.Lockstep.{IsPublicPlace}
 use Rattle.bl_sct.proofs.Together.{Twins, twins}
+use Rattle.bl_seq.proofs.Ending.{sized_all, padded_length}
 
 -- ---- the space of all memories
 
@@ -43,21 +42,6 @@ module _ {A : Type 0} where
   append_right [] ys i j e = let same : i ≡ j = omega arith in ap (slice_get ys) same
   append_right (x ∷ xs) ys zero j e = absurd (omega arith)
   append_right (x ∷ xs) ys (suc i) j e = append_right xs ys i j (omega arith)
-
-sized_all : (memories : List MemoryDef) (patches : List Patch) (states : List MemoryState) → AreSized memories states
-    → All (PatchFits (map (λ memory. memory.pages) memories)) patches → AreSized memories (fold patched states patches)
-sized_all memories [] states sized fits = sized
-sized_all memories (patch ∷ patches) states sized fits =
-    sized_all memories patches (patched states patch)
-    (sized_patched memories states patch sized
-    (lies_inside memories states patch sized (All-head (PatchFits (map (λ memory. memory.pages) memories)) patch patches fits)))
-    (All-tail (PatchFits (map (λ memory. memory.pages) memories)) patch patches fits)
-
-padded_length : (memory : MemoryDef) (state : MemoryState) → length state.bytes ≡ memory.pages * 65536 → memory.pages ≤ memory.reserve
-    → length (padded memory state) ≡ memory.reserve * 65536
-padded_length memory state len le =
-    length-append state.bytes (replicate (memory.reserve * 65536 - length state.bytes) 0)
-    ∙ ap (λ k. length state.bytes + k) (length-replicate (memory.reserve * 65536 - length state.bytes) 0) ∙ omega arith
 
 abbrev room : MemoryDef → ℕ
 room memory = memory.reserve * 65536
@@ -74,7 +58,7 @@ space_alike (memory ∷ memories) (one ∷ ones) (other ∷ others) s t rules h 
     let pages = (All-head IsMemory memory memories rules).pages in
     let size = padded_length memory one s.0.len pages in
     let size' = padded_length memory other t.0.len pages in
-    let same : one ≡ other = some_same one other (h zero m e p) in
+    let same : one ≡ other = same_Some one other (h zero m e p) in
     append_left (padded memory one) (space_of memories ones) place (omega arith)
     ∙ ap (λ x. slice_get (padded memory x) place) same
     ∙ sym (append_left (padded memory other) (space_of memories others) place (omega arith))
@@ -106,7 +90,7 @@ module _ (program : Program) (facts : IsProgram program) (rules : IsWellFormed p
   both_many : length agree.other_fits.defined.params ≡ length agree.one_fits.defined.params
   both_many =
       ap (λ (f : FunctionDef). length f.params)
-      (some_same agree.other_fits.defined agree.one_fits.defined (sym agree.other_fits.exists ∙ agree.one_fits.exists))
+      (same_Some agree.other_fits.defined agree.one_fits.defined (sym agree.other_fits.exists ∙ agree.one_fits.exists))
 
   opposite : (t : Bool) → IsTrue t → IsTrue (not t) → ⊥
   opposite true h q = cc

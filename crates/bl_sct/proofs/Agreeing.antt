@@ -2,13 +2,16 @@
 use Rattle.std.proofs.Common.{◌≡◌, ◌⊎◌, inl, inr, ℕ, zero, suc, ◌+◌, ◌*◌, ◌<◌, ◌≤◌, Bool, true, false, List, length, Option, Some, None, refl, sym, ap, ◌∙◌, subst, arith, lit≤}
 use Rattle.std.proofs.lemmas.Bool.{cases_lt, eqb-true}
 use Rattle.std.specs.Prelude.{◌&&◌, not, nat_eq, nat_lt, if◌then◌else◌, slice_get, IsTrue}
-use Rattle.bl_base.proofs.Lists.{within_get, some_same}
+use Rattle.std.proofs.lemmas.Option.{same_Some}
+use Rattle.bl_base.proofs.Lists.{within_get}
 use Rattle.bl_base.proofs.RunLemmas.{IsNext}
 use Rattle.bl_base.specs.Bytes.{number_of, bytes_of}
 use Rattle.bl_base.specs.Quantity.{most_calls}
 use Rattle.bl_base.specs.Runs.{Next, goes, ends, stuck, HasStep}
 use Rattle.bl_base.specs.declared.names.Label.{Label}
 use Rattle.bl_base.specs.declared.names.Label.TheVariants.{Public, Secret}
+use Rattle.bl_base.proofs.BoolLemmas.{each_true}
+use Rattle.bl_base.proofs.ByteLemmas.{length-bytes_of}
 use Rattle.bl_ops.specs.Access.{extended, narrowed, width_of}
 use Rattle.bl_ops.specs.declared.access.AccessKind.{AccessKind}
 use Rattle.bl_ops.specs.declared.access.AccessKind.TheVariants.{I32Load}
@@ -38,8 +41,8 @@ use Rattle.bl_rob.specs.declared.front.Front.{Front}
 use Rattle.bl_rob.proofs.Plainly.{config_of, Follows, follows}
 use Rattle.bl_rob.proofs.Tracks.{Config, value_in, registers_after, space_after, next_at, next, IsThere}
 use Rattle.bl_sct.specs.Lockstep.{IsPublicPlace}
-use Rattle.bl_sct.proofs.Pieces.{parts, overlay_same, overlay_other, bytes_length}
-use Rattle.bl_sct.proofs.Rules.{IsClear, both_of, IsPublicMemory, Labels, LabelsOf, labels_before}
+use Rattle.bl_sct.proofs.Pieces.{parts, overlay_same, overlay_other}
+use Rattle.bl_sct.proofs.Rules.{IsClear, IsPublicMemory, Labels, LabelsOf, labels_before}
 
 -- ---- one write each
 
@@ -59,7 +62,7 @@ module _ (clear : ℕ → Bool) where
       → AgreeIn clear (written rs to.depth to.var v) (written ss to.depth to.var w)
   written_agrees rs ss to v w h e depth x q =
       choose (nat_eq depth to.depth && nat_eq x to.var) v w (rs depth x) (ss depth x)
-      (λ t. e (subst (λ y. IsTrue (clear y)) (eqb-true x to.var (both_of _ _ t).1) q)) (h depth x q)
+      (λ t. e (subst (λ y. IsTrue (clear y)) (eqb-true x to.var (each_true _ _ t).1) q)) (h depth x q)
 
 -- ---- where an access lies
 
@@ -201,7 +204,7 @@ module _ (program : Program) (labelling : ℕ → Bool) (ok : Labelled program l
           let same : memory ≡ p.memory =
           sum_apart (λ (m : MemoryDef). m.reserve * 65536) program.memories 0 memory p.memory i (omega arith) (omega arith) (omega arith) (omega arith) in
           let one : lies.defined ≡ p.defined =
-          some_same lies.defined p.defined (sym lies.exists ∙ ap (λ k. slice_get program.memories k) same ∙ p.exists) in
+          same_Some lies.defined p.defined (sym lies.exists ∙ ap (λ k. slice_get program.memories k) same ∙ p.exists) in
           let label : Secret ≡ Public = sym s ∙ ap (λ (m : MemoryDef). m.label) one ∙ p.label in
           cc
 
@@ -212,9 +215,9 @@ module _ (program : Program) (labelling : ℕ → Bool) (ok : Labelled program l
       ∙ ap (λ x. slice_get (overlay from (bytes_of (width_of kind) (narrowed kind x)) n) place) (same e)
   stores_alike kind memory from v w m n lies Secret e h same place p =
       let apart = elsewhere memory from (width_of kind) place lies p e in
-      overlay_other (bytes_of (width_of kind) (narrowed kind v)) m from place (subst (λ k. (place < from) ⊎ (from + k ≤ place)) (sym (bytes_length (width_of kind) (narrowed kind v))) apart)
+      overlay_other (bytes_of (width_of kind) (narrowed kind v)) m from place (subst (λ k. (place < from) ⊎ (from + k ≤ place)) (sym (length-bytes_of (width_of kind) (narrowed kind v))) apart)
       ∙ h place p
-      ∙ sym (overlay_other (bytes_of (width_of kind) (narrowed kind w)) n from place (subst (λ k. (place < from) ⊎ (from + k ≤ place)) (sym (bytes_length (width_of kind) (narrowed kind w))) apart))
+      ∙ sym (overlay_other (bytes_of (width_of kind) (narrowed kind w)) n from place (subst (λ k. (place < from) ⊎ (from + k ≤ place)) (sym (length-bytes_of (width_of kind) (narrowed kind w))) apart))
 
   space_agrees : (c d : Config) (work : Work) → Agrees program open_ c d → Labels program labelling ok work → Inside program c work
       → AgreeAt program (space_after program work c.registers c.space) (space_after program work d.registers d.space)

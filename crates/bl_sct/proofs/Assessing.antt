@@ -1,5 +1,5 @@
 -- From the two verdicts to the one on two runs.
-use Rattle.std.proofs.Common.{◌≡◌, ℕ, Bool, true, false, not, subst}
+use Rattle.std.proofs.Common.{◌≡◌, ℕ, Bool, subst}
 use Rattle.std.proofs.Math.Path.{fun_ext}
 use Rattle.std.specs.Prelude.{IsTrue}
 use Rattle.bl_cmd.specs.Programs.{IsProgram}
@@ -13,6 +13,7 @@ use Rattle.bl_transient.specs.declared.transient.FlowVerdict.{FlowVerdict}
 use Rattle.bl_transient.specs.declared.transient.FlowVerdict.TheVariants.{Yes, No}
 use Rattle.bl_base.specs.declared.names.Flow.{Flow}
 use Rattle.bl_base.specs.declared.number.Pos.{Pos}
+use Rattle.bl_base.proofs.BoolLemmas.{never_both}
 use Rattle.std.specs.Prelude.{List}
 use Rattle.bl_sct.specs.Verdicts.{Assesses, IsStable, IsUnstable}
 use Rattle.bl_sct.specs.declared.verdict.Verdict.TheVariants.{Safe}
@@ -22,10 +23,6 @@ use Rattle.bl_sct.proofs.Whole.{equal}
 pub hot : (program : Program) (set typing : ℕ → Bool) → Assigns program typing set → (x : ℕ) → Trans program set x → IsTrue (typing x)
 hot program set typing a x (loaded s _ l w f) = a.loads s x l w f
 hot program set typing a x (moved s y _ r w f t) = a.moves s y x r w f (hot program set typing a y t)
-
-pub opposite : (b : Bool) → IsTrue b → IsTrue (not b) → ⊥
-opposite true h k = cc
-opposite false h k = cc
 
 module _ (program : Program) (constant : ConstantTime program) (set : ℕ → Bool) (own : (s : ℕ) → set s ≡ is_protected program s) (verdict : FlowVerdict)
     (judged : Judges program set verdict) where
@@ -44,6 +41,6 @@ module _ (program : Program) (constant : ConstantTime program) (set : ℕ → Bo
       let first = subst (λ v. Judges program (is_protected program) v) is by_own in
       record {
         constant_time = constant;
-        passes_not = λ p. opposite (p.0 first.var) (hot program (is_protected program) p.0 p.1.assigns first.var first.hot) (p.1.sinks position.0 first.var first.sink);
+        passes_not = λ p. never_both (p.0 first.var) (hot program (is_protected program) p.0 p.1.assigns first.var first.hot) (p.1.sinks position.0 first.var first.sink);
         first = first;
       }

@@ -3,6 +3,7 @@ use Rattle.std.proofs.Common.{◌≡◌, ℕ, zero, suc, ◌+◌, ◌*◌, Bool,
 use Rattle.std.proofs.lemmas.Bool.{eqb-true}
 use Rattle.std.specs.List.{fold}
 use Rattle.std.specs.Prelude.{◌||◌, if◌then◌else◌, IsTrue}
+use Rattle.bl_base.proofs.BoolLemmas.{each_true}
 use Rattle.bl_ops.specs.Numerics.{meaning}
 use Rattle.bl_ops.specs.declared.access.AccessKind.{AccessKind}
 use Rattle.bl_ops.specs.declared.op.Op.{Op}
@@ -21,7 +22,7 @@ use Rattle.bl_rob.specs.declared.entry.Work.{Work}
 use Rattle.bl_rob.specs.declared.entry.Work.TheVariants.{Nop, Assign, Load, Held, Done, Store, Ready, Guard, Fail}
 use Rattle.bl_rob.proofs.Tracks.{entry_at}
 use Rattle.bl_sct.proofs.Agreeing.{AgreeIn}
-use Rattle.bl_sct.proofs.Rules.{IsClear, Keeps, both_of}
+use Rattle.bl_sct.proofs.Rules.{IsClear, Keeps}
 
 -- ---- the relation of entries
 
@@ -77,7 +78,7 @@ module _ (clear : ℕ → Bool) where
   behind_same x e f o u (held to v w) h = hides (is_at to x.depth x.var) (clear x.var) o u h
   behind_same x e f o u (done to v w k) h =
       shows (is_at to x.depth x.var) (clear x.var) v w o u
-      (λ t q. k (subst (λ y. IsTrue (clear y)) (eqb-true x.var to.var (both_of _ _ t).1) q)) h
+      (λ t q. k (subst (λ y. IsTrue (clear y)) (eqb-true x.var to.var (each_true _ _ t).1) q)) h
   behind_same x e f o u (ready kind memory offset a b v w) h = h
 
   fold_same : (x : Register) (es fs : List Entry) (o u : Option ℕ) → SameAll clear es fs → AlikeAt (clear x.var) o u

@@ -2,6 +2,7 @@
 use Rattle.std.proofs.Common.{◌≡◌, ℕ, zero, suc, Bool, true, false, List, [], ◌∷◌, ◌++◌, length, take, drop, Option, Some, None, refl, sym, ap, ◌∙◌, subst}
 use Rattle.std.proofs.lemmas.Bool.{eq-eqb}
 use Rattle.std.specs.Prelude.{◌&&◌, ◌||◌, not, nat_eq, nat_lt, if◌then◌else◌, slice_get}
+use Rattle.bl_base.proofs.BoolLemmas.{each_true}
 use Rattle.bl_cmd.specs.Programs.{IsProgram}
 use Rattle.bl_cmd.specs.Rules.{IsWellFormed}
 use Rattle.bl_cmd.specs.Sites.{is_protected}
@@ -27,7 +28,7 @@ use Rattle.bl_rob.proofs.Plainly.{config_of}
 use Rattle.bl_rob.proofs.Tracks.{Config, next, Path, Tracks, entry_at}
 use Rattle.bl_sct.proofs.Agreeing.{AgreeIn, Pair, pair_run, run_on}
 use Rattle.bl_sct.proofs.Entries.{Same, equal, held, done, ready, SameAll, none, more, ActAlike, act_alike, same_kinds, same_take, same_drop, same_append}
-use Rattle.bl_sct.proofs.Rules.{both_of, Keeps, KeepsOf, clear, keeps_before}
+use Rattle.bl_sct.proofs.Rules.{Keeps, KeepsOf, clear, keeps_before}
 use Rattle.bl_sct.proofs.Together.{Twins, both_come, comes_same, not_ended}
 
 -- ---- values that are let free
@@ -206,7 +207,7 @@ module _ (program : Program) (facts : IsProgram program) (rules : IsWellFormed p
   pair_of n c d h (ended t end before e comes r m is run) right = cc
 
   clear_in : (rs ss : Registers) → AgreeIn shown rs ss → AgreeIn fit rs ss
-  clear_in rs ss h depth x q = h depth x (both_of (not (typing x)) (not (labelling x)) q).1
+  clear_in rs ss h depth x q = h depth x (each_true (not (typing x)) (not (labelling x)) q).1
 
   exec_twins : (n : ℕ) (s t : State) (o p : Option Entry) → Kept program from s → Kept program beside t → Rel fit s t → SameGet fit o p
       → slice_get s.buffer n ≡ o → slice_get t.buffer n ≡ p → Twin (Rel fit) (exec_entry program n s o) (exec_entry program n t p)

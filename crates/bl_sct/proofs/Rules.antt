@@ -4,6 +4,7 @@ use Rattle.std.specs.Prelude.{◌&&◌, not, nat_lt, if◌then◌else◌, slice_
 use Rattle.bl_base.specs.Quantity.{most_calls}
 use Rattle.bl_base.specs.declared.names.Label.{Label}
 use Rattle.bl_base.specs.declared.names.Label.TheVariants.{Public, Secret}
+use Rattle.bl_base.proofs.BoolLemmas.{each_true}
 use Rattle.bl_ops.specs.declared.op.Op.TheVariants.{Move}
 use Rattle.bl_cmd.specs.Layout.{param, result, running, command_at}
 use Rattle.bl_cmd.specs.Sites.{Names, Among, mark_of, Loads, written_by, moved_by, is_division, sunk_by, is_protected}
@@ -31,11 +32,6 @@ use Rattle.bl_rob.specs.declared.front.Front.{Front}
 abbrev pub IsClear : (ℕ → Bool) → Source → Type 0
 IsClear clear (Const number) = Unit {0}
 IsClear clear (Holds x) = IsTrue (clear x.var)
-
-pub both_of : (a b : Bool) → (a && b) ≡ true → (a ≡ true) × (b ≡ true)
-both_of true true h = (refl, refl)
-both_of true false h = cc
-both_of false b h = cc
 
 both_is : (a b : Bool) → a ≡ true → b ≡ true → (a && b) ≡ true
 both_is a b h k = rw (h, k) refl
@@ -198,7 +194,7 @@ module _ (program : Program) (typing labelling : ℕ → Bool) (flows : Flows pr
 
     clear_move : (x y : ℕ) → Among (moved_by k) x → written_by program p k ≡ Some y → IsTrue (not (is_protected program p)) → IsTrue (clear y) → IsTrue (clear x)
     clear_move x y h w open_ q =
-        let parts = both_of (not (typing y)) (not (labelling y)) q in
+        let parts = each_true (not (typing y)) (not (labelling y)) q in
         both_is _ _
         (turned (typing x) (typing y)
         (flows.assigns.moves p x y (stands program p k (λ c. Among (moved_by c) x) e h) (stands program p k (λ c. written_by program p c ≡ Some y) e w) open_) parts.0)

@@ -97,7 +97,7 @@ module _ (program : Program) where
 
 -- ---- the number of bytes at the start
 
-sized_all : (memories : List MemoryDef) (patches : List Patch) (states : List MemoryState) → AreSized memories states → All (PatchFits (map (λ memory. memory.pages) memories)) patches
+pub sized_all : (memories : List MemoryDef) (patches : List Patch) (states : List MemoryState) → AreSized memories states → All (PatchFits (map (λ memory. memory.pages) memories)) patches
     → AreSized memories (fold patched states patches)
 sized_all memories [] states sized fits = sized
 sized_all memories (patch ∷ patches) states sized fits =
@@ -105,7 +105,7 @@ sized_all memories (patch ∷ patches) states sized fits =
     (sized_patched memories states patch sized (lies_inside memories states patch sized (All-head (PatchFits (map (λ memory. memory.pages) memories)) patch patches fits)))
     (All-tail (PatchFits (map (λ memory. memory.pages) memories)) patch patches fits)
 
-padded_length : (memory : MemoryDef) (state : MemoryState) → length state.bytes ≡ memory.pages * 65536 → memory.pages ≤ memory.reserve → length (padded memory state) ≡ memory.reserve * 65536
+pub padded_length : (memory : MemoryDef) (state : MemoryState) → length state.bytes ≡ memory.pages * 65536 → memory.pages ≤ memory.reserve → length (padded memory state) ≡ memory.reserve * 65536
 padded_length memory state len le =
     length-append state.bytes (replicate (memory.reserve * 65536 - length state.bytes) 0)
     ∙ ap (λ k. length state.bytes + k) (length-replicate (memory.reserve * 65536 - length state.bytes) 0) ∙ omega arith

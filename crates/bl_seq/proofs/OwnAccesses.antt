@@ -1,10 +1,9 @@
 -- Each access lies in its own memory.
-use Rattle.std.proofs.Common.{◌≡◌, inl, inr, ℕ, suc, ◌+◌, ◌*◌, ◌%◌, ◌^◌, ◌<◌, ◌≤◌, length, Some, refl, sym, ◌∙◌, subst, arith, lit≤}
+use Rattle.std.proofs.Common.{◌≡◌, inl, inr, ℕ, suc, ◌+◌, ◌*◌, ◌%◌, ◌^◌, ◌<◌, ◌≤◌, length, Some, refl, sym, ◌∙◌, subst, arith}
 use Rattle.std.specs.Prelude.{IfSome}
-use Rattle.bl_base.proofs.Lists.{some_same, all_get, within_get}
+use Rattle.std.proofs.lemmas.Option.{same_Some}
+use Rattle.bl_base.proofs.Lists.{all_get, within_get}
 use Rattle.bl_ops.specs.Access.{width_of}
-use Rattle.bl_ops.specs.declared.access.AccessKind.{AccessKind}
-use Rattle.bl_ops.specs.declared.access.AccessKind.TheVariants.{I32Load}
 use Rattle.bl_ops.specs.declared.op.Op.TheVariants.{Outside}
 use Rattle.bl_cmd.proofs.Layouts.{sum_more}
 use Rattle.bl_cmd.specs.Layout.{size_of, command_at, Holds}
@@ -21,9 +20,7 @@ use Rattle.bl_seq.specs.OwnMemory.{IsInside}
 use Rattle.bl_seq.proofs.OwnSizes.{sized}
 use Rattle.bl_seq.proofs.OwnSteps.{Reached, stands, Came, came, passed}
 use Rattle.bl_seq.proofs.OwnWrites.{outside_then, size_value, size_apart, set_result, set_other, test_zero}
-
-width_few : (kind : AccessKind) → width_of kind ≤ 8
-width_few kind = elim kind as (λ k. width_of k ≤ 8) [ I32Load ↦ lit≤ tt | _ ↦ lit≤ tt ]
+use Rattle.bl_ops.proofs.AccessLemmas.{width_small}
 
 module _ (program : Program) (facts : IsProgram program) (rules : IsWellFormed program) where
   -- an access behind its test
@@ -68,12 +65,12 @@ module _ (program : Program) (facts : IsProgram program) (rules : IsWellFormed p
     inside_by (Load m kind memory x offset a) e =
         let k : Command = Load m kind memory x offset a in
         let small = (all_get IsCommand program.commands s.position k facts.commands e).1 in
-        let width = width_few kind in
+        let width = width_small kind in
         in_own (record { address = a; memory = memory; bytes = offset + width_of kind }) (rules.rule7 s.position f k holds e) (rules.rule6 s.position f k holds e).1 (omega arith)
     inside_by (Store kind memory offset a b) e =
         let k : Command = Store kind memory offset a b in
         let small = (all_get IsCommand program.commands s.position k facts.commands e).1 in
-        let width = width_few kind in
+        let width = width_small kind in
         in_own (record { address = a; memory = memory; bytes = offset + width_of kind }) (rules.rule7 s.position f k holds e) (rules.rule6 s.position f k holds e) (omega arith)
     inside_by (Test cond one other) e = tt
     inside_by (Jump p) e = tt
@@ -87,7 +84,7 @@ module _ (program : Program) (facts : IsProgram program) (rules : IsWellFormed p
   trap_inside : (s : Plain) (k : Command) → s.position < 7 → command_at program s.position ≡ Some k → IfSome (reach_of k) (IsInside program s)
   trap_inside s k lt e =
       let trap = facts.traps s.position lt in
-      subst (λ (k : Command). IfSome (reach_of k) (IsInside program s)) (some_same (Trap trap.0) k (sym trap.2 ∙ e)) tt
+      subst (λ (k : Command). IfSome (reach_of k) (IsInside program s)) (same_Some (Trap trap.0) k (sym trap.2 ∙ e)) tt
 
   pub inside : (s : Plain) → Reached program s → (k : Command) → command_at program s.position ≡ Some k → IfSome (reach_of k) (IsInside program s)
   inside s r k e = elim (stands program facts rules s r).position as (λ _. IfSome (reach_of k) (IsInside program s)) [

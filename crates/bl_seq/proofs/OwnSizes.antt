@@ -2,9 +2,9 @@
 use Rattle.std.proofs.Common.{◌≡◌, ◌≢◌, inl, inr, ℕ, zero, suc, ◌+◌, ◌%◌, ◌^◌, ◌<◌, ◌≤◌, List, [], ◌∷◌, ◌++◌, length, map, Option, Some, None, slice_get, true, false, Bool, refl, sym, ap, ◌∙◌, subst, arith}
 use Rattle.std.specs.Prelude.{nat_lt, ◌==◌, if◌then◌else◌, slice_index, option_map}
 use Rattle.std.proofs.lemmas.Bool.{cases_eq}
-use Rattle.std.proofs.lemmas.Option.{none-some, slice_get_within}
+use Rattle.std.proofs.lemmas.Option.{none-some, slice_get_within, same_Some}
 use Rattle.bl_base.specs.Quantity.{most_calls}
-use Rattle.bl_base.proofs.Lists.{some_same, all_get}
+use Rattle.bl_base.proofs.Lists.{all_get}
 use Rattle.bl_base.proofs.RunLemmas.{IsNext}
 use Rattle.bl_base.specs.Runs.{Outcome, goes, ends, trapped}
 use Rattle.bl_base.specs.declared.trap.Trap.TheVariants as trap_kind
@@ -31,7 +31,7 @@ use Rattle.bl_seq.proofs.OwnWrites.{other_written, deep_written, growth_then, si
 
 memory_first : (memories : List MemoryDef) (memory : ℕ) (defined : MemoryDef) → slice_get memories memory ≡ Some defined → slice_index (map (λ m. m.pages) memories) memory ≡ defined.pages
 memory_first [] memory defined e = absurd (none-some defined e)
-memory_first (m ∷ memories) zero defined e = ap (λ (m : MemoryDef). m.pages) (some_same m defined e)
+memory_first (m ∷ memories) zero defined e = ap (λ (m : MemoryDef). m.pages) (same_Some m defined e)
 memory_first (m ∷ memories) (suc memory) defined e = memory_first memories memory defined e
 
 size_first : (globals : List GlobalDef) (memories : List MemoryDef) (memory : ℕ) (defined : MemoryDef) → slice_get memories memory ≡ Some defined
@@ -129,7 +129,7 @@ module _ (program : Program) (facts : IsProgram program) (rules : IsWellFormed p
     same_size memory defined op a b c e sum g =
         let lt = exists memory defined e in
         let rule = all_get IsMemory program.memories memory defined rules.rule1.memories e in
-        let reserve_is : defined.reserve ≡ g.reserve = some_same defined.reserve g.reserve (sym (ap (option_map (λ (m : MemoryDef). m.reserve)) e) ∙ g.reserved) in
+        let reserve_is : defined.reserve ≡ g.reserve = same_Some defined.reserve g.reserve (sym (ap (option_map (λ (m : MemoryDef). m.reserve)) e) ∙ g.reserved) in
         let size_is = size_value program memory s lt in
         let few = rule.reserve in
         let old = z memory defined e in

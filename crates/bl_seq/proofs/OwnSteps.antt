@@ -2,8 +2,10 @@
 use Rattle.std.proofs.Common.{◌≡◌, ◌⊎◌, inl, inr, ℕ, zero, suc, ◌%◌, ◌^◌, ◌<◌, List, [], ◌∷◌, length, Option, Some, None, true, false, Bool, refl, sym, ap, ◌∙◌, subst, arith}
 use Rattle.std.specs.Prelude.{nat_lt, ◌==◌, if◌then◌else◌}
 use Rattle.std.proofs.lemmas.Bool.{cases_lt}
+use Rattle.std.proofs.lemmas.Option.{same_Some}
+use Rattle.std.proofs.Math.Nat.{suc_inj}
 use Rattle.bl_base.specs.Quantity.{most_calls}
-use Rattle.bl_base.proofs.Lists.{some_same, all_get, within_get}
+use Rattle.bl_base.proofs.Lists.{all_get, within_get}
 use Rattle.bl_base.proofs.RunLemmas.{IsNext}
 use Rattle.bl_base.specs.Runs.{Outcome, goes, ends, trapped, Comes, HasStep}
 use Rattle.bl_base.specs.declared.trap.Trap.TheVariants as trap_kind
@@ -53,9 +55,6 @@ pub record Came (program : Program) (q : ℕ) (k : Command) (t : Plain) : Type 0
   pub reached : Reached program before
   pub place : before.position ≡ q
   pub step : IsNext (perform program (Some k) before) t
-
-down : (p q : ℕ) → suc p ≡ suc q → p ≡ q
-down p q h = omega arith
 
 module _ (program : Program) (facts : IsProgram program) (rules : IsWellFormed program) where
   -- a trap ends the run
@@ -193,7 +192,7 @@ module _ (program : Program) (facts : IsProgram program) (rules : IsWellFormed p
       here p = record { before = s; reached = r; place = p; step = subst (λ o. IsNext (perform program o s) t) (ap (command_at program) p ∙ there) whole }
 
       went_on : suc s.position ≡ t.position → Came program q k t
-      went_on e = here (down s.position q (e ∙ is))
+      went_on e = here (suc_inj (e ∙ is))
 
       came_tested : (cond_zero : Bool) (one other : ℕ) → (one ≡ suc q → s.position ≡ q) → (other ≡ suc q → s.position ≡ q) → IsNext (if cond_zero then to other s else to one s) t → Came program q k t
       came_tested true one other g h e = here (h (ap (λ (x : Plain). x.position) e ∙ is))
@@ -202,8 +201,8 @@ module _ (program : Program) (facts : IsProgram program) (rules : IsWellFormed p
       came_back : (chain : List ℕ) → Returns program chain → IsNext (ret program chain s) t → Came program q k t
       came_back [] z h = absurd h
       came_back (back ∷ chain) z h =
-          let same : z.0.call ≡ q = down z.0.call q (sym z.0.is ∙ ap (λ (x : Plain). x.position) h ∙ is) in
-          absurd (no_call z.0.callee (some_same k (Call z.0.callee) (sym there ∙ ap (command_at program) (sym same) ∙ z.0.stands)))
+          let same : z.0.call ≡ q = suc_inj (sym z.0.is ∙ ap (λ (x : Plain). x.position) h ∙ is) in
+          absurd (no_call z.0.callee (same_Some k (Call z.0.callee) (sym there ∙ ap (command_at program) (sym same) ∙ z.0.stands)))
 
       came_called : (callee : ℕ) (deep : Outcome) (b : Bool) → command_at program s.position ≡ Some (Call callee) → IsNext (if b then goes (entered s callee) else ends deep) t → Came program q k t
       came_called callee deep true e h = absurd (guarded.entries callee (rules.rule6 s.position f (Call callee) holds e) (ap (λ (x : Plain). x.position) h ∙ is))

@@ -1,7 +1,7 @@
 -- Bytes that are written over others, and bytes as numbers.
 use Rattle.std.proofs.Common.{◌≡◌, ℕ, zero, suc, ◌+◌, ◌-◌, ◌*◌, ◌/◌, ◌%◌, ◌<◌, ◌≤◌, min, List, [], ◌∷◌, length, take, drop, set, get_or, refl, sym, ap, ◌∙◌, arith}
 use Rattle.std.proofs.lemmas.List.{drop_min, length-drop, take_all, take_min}
-use Rattle.bl_base.specs.Bytes.{number_of, bytes_of}
+use Rattle.bl_base.specs.Bytes.{bytes_of}
 use Rattle.bl_cmd.specs.Steps.{overlay}
 
 -- ---- bytes over others
@@ -60,37 +60,6 @@ store_more from i width rest space lt =
 
 pub store_none : (from i width rest : ℕ) (space : List ℕ) → width ≤ i → overlay (from + i) (bytes_of (width - i) rest) space ≡ space
 store_none from i width rest space le = let none : width - i ≡ 0 = omega arith in rw none (overlay_none (from + i) space)
-
--- ---- numbers
-
-pub one_is : (from : ℕ) (space : List ℕ) → number_of (take 1 (drop from space)) ≡ get_or space from 0
-one_is zero [] = refl
-one_is (suc from) [] = refl
-one_is zero (a ∷ space) = omega arith
-one_is (suc from) (a ∷ space) = one_is from space
-
-pub two_is : (from : ℕ) (space : List ℕ) → number_of (take 2 (drop from space)) ≡ number_of (take 1 (drop from space)) + 256 * number_of (take 1 (drop (from + 1) space))
-two_is zero [] = refl
-two_is zero (a ∷ []) = omega arith
-two_is zero (a ∷ b ∷ space) = omega arith
-two_is (suc from) [] = let next : suc from + 1 ≡ suc (from + 1) = omega arith in rw next refl
-two_is (suc from) (a ∷ space) = let next : suc from + 1 ≡ suc (from + 1) = omega arith in rw next (two_is from space)
-
-pub four_is : (from : ℕ) (space : List ℕ) → number_of (take 4 (drop from space)) ≡ number_of (take 2 (drop from space)) + 65536 * number_of (take 2 (drop (from + 2) space))
-four_is zero [] = refl
-four_is zero (a ∷ []) = omega arith
-four_is zero (a ∷ b ∷ space) = omega arith
-four_is (suc from) [] = let next : suc from + 2 ≡ suc (from + 2) = omega arith in rw next refl
-four_is (suc from) (a ∷ space) = let next : suc from + 2 ≡ suc (from + 2) = omega arith in rw next (four_is from space)
-
-pub eight_is : (from : ℕ) (space : List ℕ) → number_of (take 8 (drop from space)) ≡ number_of (take 4 (drop from space)) + 4294967296 * number_of (take 4 (drop (from + 4) space))
-eight_is zero [] = refl
-eight_is zero (a ∷ []) = omega arith
-eight_is zero (a ∷ b ∷ []) = omega arith
-eight_is zero (a ∷ b ∷ c ∷ []) = omega arith
-eight_is zero (a ∷ b ∷ c ∷ d ∷ space) = omega arith
-eight_is (suc from) [] = let next : suc from + 4 ≡ suc (from + 4) = omega arith in rw next refl
-eight_is (suc from) (a ∷ space) = let next : suc from + 4 ≡ suc (from + 4) = omega arith in rw next (eight_is from space)
 
 -- ---- lengths
 

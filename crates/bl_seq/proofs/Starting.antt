@@ -6,13 +6,12 @@ use Rattle.std.proofs.lemmas.List.Elements.{All-get_or}
 use Rattle.std.proofs.Math.Seq.{drop-cons}
 use Rattle.std.proofs.lemmas.Bool.{ltb-true, ltb-false}
 use Rattle.std.proofs.lemmas.List.{length-append, length-drop, length-take, length-replicate, take_all}
-use Rattle.std.proofs.lemmas.Option.{none-some}
 use Rattle.bl_base.specs.Bytes.{patch_over, patched, write}
 use Rattle.bl_base.specs.Fits.{LiesIn, PatchFits}
 use Rattle.bl_base.specs.Runs.{MemoryState}
 use Rattle.bl_base.specs.declared.start.Patch.{Patch}
 use Rattle.bl_base.specs.declared.start.Start.{Start}
-use Rattle.bl_base.proofs.Lists.{zip_got, zip_set}
+use Rattle.bl_base.proofs.Lists.{zip_got, zip_set, get_mapped}
 use Rattle.std.proofs.Math.Path.{fun_ext}
 use Rattle.bl_cmd.specs.Layout.{entry_of, first_of}
 use Rattle.bl_cmd.specs.Outcomes.{first_memories, first_memory, first_registers, opening, space_of, with_row}
@@ -42,21 +41,13 @@ sized_first [] = tt
 sized_first (memory ∷ memories) =
     (record { len = first_length memory }, sized_first memories)
 
-got_mapped : {A B : Type 0} (f : A → B) (xs : List A) (i : ℕ) (x : A) → slice_get xs i ≡ Some x → slice_get (map f xs) i ≡ Some (f x)
-got_mapped f [] i x e = absurd (none-some x e)
-got_mapped f (y ∷ xs) zero x e = ap (λ z. Some (f z)) (some_is y x e)
-  where
-    some_is : {A : Type 0} (a b : A) → Some a ≡ Some b → a ≡ b
-    some_is a b e = cc
-got_mapped f (y ∷ xs) (suc i) x e = got_mapped f xs i x e
-
 pub lies_inside : (memories : List MemoryDef) (states : List MemoryState) (patch : Patch) → AreSized memories states → PatchFits (map (λ memory. memory.pages) memories) patch
     → LiesInside patch states
 lies_inside memories states patch sized fits = record {
   within = λ state e.
       let got = zip_got IsSized memories states patch.memory state sized e in
       let room : patch.offset + length patch.bytes ≤ got.0.pages * 65536 =
-      subst (λ o. LiesIn patch.offset (length patch.bytes) o) (got_mapped (λ (memory : MemoryDef). memory.pages) memories patch.memory got.0 got.1) fits.0 in
+      subst (λ o. LiesIn patch.offset (length patch.bytes) o) (get_mapped (λ (memory : MemoryDef). memory.pages) memories patch.memory got.0 got.1) fits.0 in
       let len = got.2.len in
       omega arith;
 }

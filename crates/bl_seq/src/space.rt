@@ -123,7 +123,7 @@ impl Space {
     }
 
     /// Two bytes from a place on, as a number.
-    #[tactic(auto, using(crate::proofs::Spaces::two_is))]
+    #[tactic(auto, using(bl_base::proofs::ByteLemmas::two_is))]
     fn two(&self, from: usize) -> u64
         requires { from < 2 ^ 63 }
         ensures value { result ≡ number_of (take 2 (drop from self.now)) }
@@ -133,7 +133,7 @@ impl Space {
     }
 
     /// Four bytes from a place on, as a number.
-    #[tactic(auto, using(crate::proofs::Spaces::four_is))]
+    #[tactic(auto, using(bl_base::proofs::ByteLemmas::four_is))]
     fn four(&self, from: usize) -> u64
         requires { from < 2 ^ 62 }
         ensures value { result ≡ number_of (take 4 (drop from self.now)) }
@@ -143,7 +143,7 @@ impl Space {
     }
 
     /// Eight bytes from a place on, as a number.
-    #[tactic(auto, using(crate::proofs::Spaces::eight_is))]
+    #[tactic(auto, using(bl_base::proofs::ByteLemmas::eight_is))]
     fn eight(&self, from: usize) -> u64
         requires { from < 2 ^ 61 }
         ensures { result ≡ number_of (take 8 (drop from self.now)) }

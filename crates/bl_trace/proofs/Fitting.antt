@@ -19,7 +19,7 @@ use Rattle.bl_trace.specs.declared.error.StartError.{StartError}
 use Rattle.bl_trace.specs.declared.error.StartError.TheVariants.{Count}
 use Rattle.bl_trace.specs.Digits.{is_decimal, decimal_below, byte_of, byte_and, bytes_of_hex}
 use Rattle.bl_trace.specs.Lines.{lines_of, words_of, limit_of, argument_of, lies_in, patch_by, patch_of, entry_by, entry_of}
-use Rattle.bl_trace.specs.Answers.{answer_by, answer_of, arguments_in, said_before, said}
+use Rattle.bl_trace.specs.StartFiles.{answer_by, answer_of, arguments_in, said_before, said}
 
 -- an argument is one of a parameter that is left, a patch lies in its memory
 abbrev EntryFits : Option ValueType → List ℕ → Entry → Type 0
@@ -27,7 +27,7 @@ EntryFits kind sizes (Argument value) = MatchOption kind ⊥ (λ k. ArgumentFits
 EntryFits kind sizes (Contents patch) = PatchFits sizes patch
 
 -- a number read is below its limit
-below_limit : (limit : ℕ) (word : List ℕ) → IfSome (decimal_below limit word) (λ value. value < limit)
+pub below_limit : (limit : ℕ) (word : List ℕ) → IfSome (decimal_below limit word) (λ value. value < limit)
 below_limit limit word =
     cond_both (is_decimal word && nat_lt (digits_value 10 word) limit) (Some (digits_value 10 word)) None
     (λ (o : Option ℕ). IfSome o (λ value. value < limit))

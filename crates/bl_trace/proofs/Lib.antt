@@ -2,7 +2,7 @@ pub mod Decimals
 pub mod Fitting
 pub mod HexBytes
 pub mod Operands
-pub mod Parts
+pub mod LineSplits
 pub mod Pieces
 pub mod Saying
 pub mod Telling

@@ -7,7 +7,7 @@ use Rattle.std.specs.Char.{digit_value, is_digit}
 use Rattle.bl_base.specs.declared.names.ValueType.{ValueType}
 use Rattle.bl_trace.specs.Digits.{byte_of, byte_and, bytes_of_hex, decimal_below}
 use Rattle.bl_trace.specs.Lines.{words_of, limit_of, argument_of, patch_by, patch_of}
-use Rattle.bl_trace.proofs.Parts.{one_part}
+use Rattle.bl_trace.proofs.LineSplits.{one_part}
 
 -- a list with a space isn't one of digits alone
 with_space : (radix : ℕ) → is_digit 32 radix ≡ false → (xs : List ℕ) →

@@ -1,22 +1,9 @@
 -- Texts that are written piece by piece.
-use Rattle.std.proofs.Common.{◌≡◌, ◌≢◌, ℕ, ◌+◌, ◌-◌, ◌<◌, ◌≤◌, List, [], ◌∷◌, ◌++◌, append-nil, append_assoc, suc, sym, ap, ◌∙◌, arith, eq-eqb}
+use Rattle.std.proofs.Common.{◌≡◌, ◌≢◌, ℕ, ◌+◌, ◌-◌, ◌<◌, ◌≤◌, List, [], ◌∷◌, ◌++◌, append-nil, append_assoc, sym, ap, ◌∙◌, eq-eqb}
 use Rattle.std.specs.Prelude.{◌==◌, codes}
 use Rattle.std.specs.List.{flat_map, range_with_len}
 use Rattle.std.proofs.lemmas.Bool.{cond-true, cond-false, eqb-true, false_from_ne_true}
 use Rattle.bl_trace.specs.Observations.{guard_text, guards_below}
-
--- a piece for each number from one on
-module _ (piece : ℕ → List ℕ) where
-  pub pieces_next : (text : List ℕ) (i n : ℕ) → i < n → (text ++ piece i) ++ flat_map piece (range_with_len (i + 1) (n - (i + 1))) ≡ text ++ flat_map piece (range_with_len i (n - i))
-  pieces_next text i n lt =
-      let count : n - i ≡ suc (n - (i + 1)) = omega arith in
-      append_assoc text (piece i) (flat_map piece (range_with_len (i + 1) (n - (i + 1))))
-      ∙ ap (λ k. text ++ flat_map piece (range_with_len i k)) (sym count)
-
-  pub pieces_all : (text all : List ℕ) (i n : ℕ) → n ≤ i → text ++ flat_map piece (range_with_len i (n - i)) ≡ all → text ≡ all
-  pieces_all text all i n le e =
-      let none : n - i ≡ 0 = omega arith in
-      sym (append-nil text) ∙ ap (λ k. text ++ flat_map piece (range_with_len i k)) (sym none) ∙ e
 
 -- a text of two numbers
 pub two_numbers : (head one middle other : List ℕ) → head ++ (one ++ (middle ++ other)) ≡ head ++ one ++ middle ++ other

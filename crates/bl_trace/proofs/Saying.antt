@@ -7,9 +7,9 @@ use Rattle.bl_base.specs.declared.start.Start.{Start}
 use Rattle.bl_trace.specs.declared.entry.Entry.{Entry}
 use Rattle.bl_trace.specs.declared.entry.Entry.TheVariants.{Argument, Contents}
 use Rattle.bl_trace.specs.Lines.{lines_of, entry_of}
-use Rattle.bl_trace.specs.Answers.{arguments_in, said_before, said}
+use Rattle.bl_trace.specs.StartFiles.{arguments_in, said_before, said}
 use Rattle.bl_trace.specs.Reading.{entry_behind}
-use Rattle.bl_trace.proofs.Parts.{first_line}
+use Rattle.bl_trace.proofs.LineSplits.{first_line}
 
 -- a start and what is said behind so many lines
 abbrev pub behind : ℕ → Start → Result Start ℕ → Result Start ℕ

@@ -9,7 +9,7 @@ use Rattle.bl_trace.specs.declared.entry.Entry.TheVariants.{Argument, Contents}
 use Rattle.bl_trace.specs.declared.error.StartError.{StartError}
 use Rattle.bl_trace.specs.declared.error.StartError.TheVariants.{Line, Count}
 use Rattle.bl_trace.specs.Lines.{lines_of, entry_of}
-use Rattle.bl_trace.specs.Answers.{arguments_in, said_before, said, answer_by, answer_of}
+use Rattle.bl_trace.specs.StartFiles.{arguments_in, said_before, said, answer_by, answer_of}
 use Rattle.bl_trace.specs.Told.{arguments, patches, AreEntries, Tells, start, bad, few}
 use Rattle.bl_trace.proofs.Saying.{by_entry}
 

@@ -1,4 +1,4 @@
-pub mod Answers
+pub mod StartFiles
 pub mod Digits
 pub mod Lines
 pub mod Observations

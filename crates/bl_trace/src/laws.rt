@@ -5,7 +5,7 @@ ghost use Rattle.bl_base.specs.declared.names.ValueType.{ValueType};
 ghost use Rattle.bl_base.specs.declared.start.Start.{Start};
 ghost use Rattle.bl_rob.specs.declared.directive.Directive.{Directive};
 ghost use Rattle.bl_trace.specs.declared.error.StartError.{StartError};
-ghost use Rattle.bl_trace.specs.Answers.{answer_of};
+ghost use Rattle.bl_trace.specs.StartFiles.{answer_of};
 ghost use Rattle.bl_trace.specs.Lines.{lines_of};
 ghost use Rattle.bl_trace.specs.Told.{Tells};
 ghost use Rattle.bl_trace.specs.Traces.{TellsTrace, trace_of};

@@ -1,7 +1,7 @@
 //! A start file, read line by line.
 ghost use Rattle.std.specs.Prelude.{◌≡◌, IfOk, OnOk, slice_get};
 ghost use Rattle.bl_base.specs.Fits.{Fits};
-ghost use Rattle.bl_trace.specs.Answers.{said, answer_of, IsAnswer};
+ghost use Rattle.bl_trace.specs.StartFiles.{said, answer_of, IsAnswer};
 ghost use Rattle.bl_trace.specs.Lines.{lines_of};
 ghost use Rattle.bl_trace.specs.Reading.{entry_behind, IsRead};
 

@@ -3,14 +3,13 @@ use Rattle.std.proofs.Common.{◌≡◌, ℕ, zero, suc, ◌+◌, ◌<◌, ◌�
 use Rattle.std.specs.Prelude.{◌↔◌, IsTrue}
 use Rattle.std.specs.List.{Contains, slice_index_or}
 use Rattle.std.proofs.lemmas.Bool.{cases_eq, cases_lt, false≢true}
-use Rattle.std.proofs.lemmas.Option.{none-some}
+use Rattle.std.proofs.lemmas.Option.{none-some, same_Some}
 use Rattle.std.proofs.lemmas.List.{take_more, take_all, get_or-set_same, get_or-set_other, get_or-replicate, get_or_past, length-replicate}
 use Rattle.std.proofs.lemmas.List.Elements.{Contains-append_left, Contains-append_right, Contains-append_cases, Contains-push, Contains-push_cases, Contains-get_or}
-use Rattle.bl_base.proofs.Lists.{some_same}
 use Rattle.bl_base.specs.declared.number.Pos.{Pos}
+use Rattle.bl_base.proofs.BoolLemmas.{never_both}
 use Rattle.bl_graph.specs.Graphs.{use_of}
 use Rattle.bl_graph.specs.declared.facts.Use.{Use}
-use Rattle.bl_graph.proofs.Chaining.{both_ways}
 use Rattle.bl_graph.proofs.Members.{first_in, later_in, in_cases, none_in}
 use Rattle.bl_transient.specs.Reaching.{AreFree, noted, listed, moved_to, roots_from, moves_from}
 use Rattle.bl_transient.specs.declared.search.Move.{Move}
@@ -59,7 +58,7 @@ module _ (writes : List Use) (chosen : ℕ → Bool) (i : ℕ) (d : Use) (lt : i
       (λ h. let had = (so_far.each s x).0 h in (subst (λ l. Contains l (use_of s x)) (sym more) (Contains-append_left (take i writes) (next ∷ []) (use_of s x) had.0), had.1)),
       (λ h. elim (Contains-push_cases (take i writes) next (use_of s x) (subst (λ l. Contains l (use_of s x)) more h.0)) as (λ _. noted written s ≡ Some x) [
         | inl there ↦ (so_far.each s x).1 (there, h.1)
-        | inr same ↦ absurd (both_ways (chosen s) (sym (ap (λ (u : Use). chosen u.at.0) same) ∙ e) h.1)
+        | inr same ↦ absurd (never_both (chosen s) (sym (ap (λ (u : Use). chosen u.at.0) same) ∙ e) h.1)
       ]),
     );
   }
@@ -74,7 +73,7 @@ module _ (writes : List Use) (chosen : ℕ → Bool) (i : ℕ) (d : Use) (lt : i
               let value : noted (set written next.at.0 (Some next.var.0)) s ≡ Some next.var.0 =
               noted_or (set written next.at.0 (Some next.var.0)) s ∙ (ap (λ k. get_or (set written next.at.0 (Some next.var.0)) k None) same ∙ get_or-set_same written next.at.0 (Some next.var.0) None within) in (
                 (λ h.
-                    let var : next.var.0 ≡ x = some_same next.var.0 x (sym value ∙ h) in (
+                    let var : next.var.0 ≡ x = same_Some next.var.0 x (sym value ∙ h) in (
                       subst (λ l. Contains l (use_of s x)) (sym more) (subst (λ v. Contains (take i writes ++ next ∷ []) (use_of s v)) var
                           (subst (λ p. Contains (take i writes ++ next ∷ []) (use_of p next.var.0)) (sym same) (Contains-push (take i writes) next))),
                       ap (λ p. not (chosen p)) same ∙ e,
@@ -101,7 +100,7 @@ listed_in (Some y) x h = elim (in_cases y x [] h) as (λ _. Some y ≡ Some x) [
 
 in_listed : (o : Option ℕ) (x : ℕ) → o ≡ Some x → Contains (listed o) x
 in_listed None x e = absurd (none-some x e)
-in_listed (Some y) x e = subst (Contains (y ∷ [])) (some_same y x e) (first_in y [])
+in_listed (Some y) x e = subst (Contains (y ∷ [])) (same_Some y x e) (first_in y [])
 
 pub root_from : (written : List (Option ℕ)) (loads : List Pos) (x : ℕ) → Contains (roots_from written loads) x → (s : ℕ) × Contains loads (record { 0 = s }) × (noted written s ≡ Some x)
 root_from written [] x h = absurd (none_in x h)
@@ -129,7 +128,7 @@ moved_in x (Some y) u v h =
 
 in_moved : (x : ℕ) (o : Option ℕ) (v : ℕ) → o ≡ Some v → Contains (moved_to x o) (record { from = x; to = v })
 in_moved x None v e = absurd (none-some v e)
-in_moved x (Some y) v e = subst (λ w. Contains (moved_to x (Some y)) (record { from = x; to = w })) (some_same y v e) (first_in (record { from = x; to = y }) [])
+in_moved x (Some y) v e = subst (λ w. Contains (moved_to x (Some y)) (record { from = x; to = w })) (same_Some y v e) (first_in (record { from = x; to = y }) [])
 
 pub move_from : (written : List (Option ℕ)) (reads : List Use) (u v : ℕ) → Contains (moves_from written reads) (record { from = u; to = v })
     → (s : ℕ) × Contains reads (use_of s u) × (noted written s ≡ Some v)

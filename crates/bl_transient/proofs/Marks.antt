@@ -3,19 +3,13 @@ use Rattle.std.proofs.Common.{◌≡◌, ℕ, ◌+◌, ◌<◌, ◌≤◌, Bool,
 use Rattle.std.specs.Prelude.{IsTrue, ◌↔◌}
 use Rattle.std.specs.List.{Contains}
 use Rattle.std.proofs.lemmas.Bool.{cases_lt, cases_eq, false≢true}
-use Rattle.std.proofs.lemmas.List.{get_or-set_same, get_or-set_other, get_or_append_left, get_or_past, get_or-replicate, length-replicate, append_assoc, append-nil, get_or_default}
+use Rattle.std.proofs.lemmas.List.{get_or-set_same, get_or-set_other, get_or_append_left, length-replicate, append_assoc, append-nil, get_or_default}
 use Rattle.std.proofs.lemmas.List.Sums.{sum_by-set}
 use Rattle.std.proofs.lemmas.List.Elements.{Contains-push_cases, Contains-append_left, Contains-push, Contains-get_or}
+use Rattle.bl_base.proofs.Lists.{replicate_or}
 use Rattle.bl_transient.specs.Reaching.{row_at}
 use Rattle.bl_transient.specs.Reaching.{is_in, Reached, root, step, unmarked, IsVisited, Searching}
 use Rattle.bl_graph.proofs.Members.{none_in}
-
-pub marked_in : (marks : List Bool) (v : ℕ) → IsTrue (is_in marks v) → v < length marks
-marked_in marks v h =
-    elim (cases_lt v (length marks)) as (λ _. v < length marks) [
-      | inl lt ↦ lt
-      | inr past ↦ absurd (false≢true (sym (get_or_past marks v false past) ∙ h))
-    ]
 
 pub visited_none : (marks : List Bool) (queue : List ℕ) → IsVisited [] marks marks queue queue
 visited_none marks queue = record {
@@ -94,17 +88,10 @@ module _ (row : List ℕ) (old new : List Bool) (queue more : List ℕ) (visited
       counts = let less = one_less in let counts = visited.counts in omega arith;
     }
 
-nothing_marked : (n v : ℕ) → is_in (replicate n false) v ≡ false
-nothing_marked n v =
-    elim (cases_lt v n) as (λ _. is_in (replicate n false) v ≡ false) [
-      | inl lt ↦ get_or-replicate n v false false lt
-      | inr past ↦ get_or_past (replicate n false) v false (let e = length-replicate {A = Bool} n false in omega arith)
-    ]
-
 -- the roots are visited first
 pub search_begins : (rows : List (List ℕ)) (roots : List ℕ) (n : ℕ) (none marks : List Bool) (queue : List ℕ) → n ≡ length rows → none ≡ replicate n false → IsVisited roots none marks [] queue → Searching rows roots marks queue 0
 search_begins rows roots n none marks queue same clear visited =
-    let unmarked_ : (v : ℕ) → IsTrue (is_in none v) → ⊥ = λ v h. false≢true (sym (ap (λ l. is_in l v) clear ∙ nothing_marked n v) ∙ h) in
+    let unmarked_ : (v : ℕ) → IsTrue (is_in none v) → ⊥ = λ v h. false≢true (sym (ap (λ l. is_in l v) clear ∙ replicate_or n v false) ∙ h) in
     record {
       places = visited.places ∙ (ap length clear ∙ (length-replicate {A = Bool} n false ∙ same));
       in_order = omega arith;

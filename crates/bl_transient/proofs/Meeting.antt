@@ -4,9 +4,10 @@ use Rattle.std.specs.Prelude.{IsTrue}
 use Rattle.std.specs.List.{All}
 use Rattle.std.proofs.lemmas.List.Elements.{All-push, All-contains, All-cons, All-nil}
 use Rattle.std.proofs.lemmas.List.{append_assoc, append-nil}
+use Rattle.bl_base.proofs.BoolLemmas.{never_both}
 use Rattle.bl_cmd.specs.declared.definitions.ProgramParts.{ProgramParts as Program}
 use Rattle.bl_graph.specs.Chains.{Carries, IsChain}
-use Rattle.bl_graph.proofs.Chaining.{Protected, both_ways, chain_met as typed_met}
+use Rattle.bl_graph.proofs.Chaining.{Protected, chain_met as typed_met}
 use Rattle.bl_graph.proofs.Members.{in_any}
 use Rattle.bl_transient.specs.Transient.{Passes, Trans, loaded, moved}
 use Rattle.bl_transient.proofs.Typings.{passes_if}
@@ -39,7 +40,7 @@ module _ (program : Program) (set : ℕ → Bool) where
   no_both : (sites : List ℕ) → All (λ s. IsTrue (not (set s))) sites → Protected set sites → ⊥
   no_both sites free met =
       let found = in_any (λ s. IsTrue (set s)) sites met in
-      both_ways (set found.0) found.2 (All-contains (λ s. IsTrue (not (set s))) sites found.0 free found.1)
+      never_both (set found.0) found.2 (All-contains (λ s. IsTrue (not (set s))) sites found.0 free found.1)
 
   -- and a set that meets every chain passes
   pub passes_where_met : ((sites : List ℕ) (sink : ℕ) → IsChain program sites sink → Protected set sites) → Passes program set

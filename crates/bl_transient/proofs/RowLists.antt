@@ -1,23 +1,17 @@
 -- The rows of moves, move by move.
-use Rattle.std.proofs.Common.{◌≡◌, ℕ, ◌<◌, Bool, List, [], ◌∷◌, ◌++◌, length, map, take, set, Vec, Global, refl, sym, ap, subst, ◌∙◌, arith, inl, inr, replicate}
+use Rattle.std.proofs.Common.{◌≡◌, ℕ, ◌<◌, Bool, List, [], ◌∷◌, ◌++◌, length, map, take, set, Vec, Global, refl, sym, ap, subst, ◌∙◌, inl, inr, replicate}
 use Rattle.std.specs.List.{Contains}
-use Rattle.std.proofs.lemmas.Bool.{cases_lt, cases_eq}
-use Rattle.std.proofs.lemmas.List.{get_or-set_same, get_or-set_other, get_or-replicate, get_or_past, length-replicate}
+use Rattle.std.proofs.lemmas.Bool.{cases_eq}
+use Rattle.std.proofs.lemmas.List.{get_or-set_same, get_or-set_other}
 use Rattle.std.proofs.lemmas.List.Elements.{Contains-push_cases, Contains-append_left, Contains-push}
+use Rattle.bl_base.proofs.Lists.{replicate_or}
 use Rattle.bl_graph.proofs.Members.{none_in}
 use Rattle.bl_transient.specs.Reaching.{RowsOf, row_at}
 use Rattle.bl_transient.specs.declared.search.Move.{Move}
 
-nothing : (n u : ℕ) → row_at (replicate n []) u ≡ []
-nothing n u =
-    elim (cases_lt u n) as (λ _. row_at (replicate n []) u ≡ []) [
-      | inl lt ↦ get_or-replicate n u [] [] lt
-      | inr past ↦ get_or_past (replicate n []) u [] (let e = length-replicate {A = List ℕ} n [] in omega arith)
-    ]
-
 pub no_rows : (n : ℕ) → RowsOf [] (replicate n [])
 no_rows n = record {
-  sound = λ u v h. absurd (none_in v (subst (λ l. Contains l v) (nothing n u) h));
+  sound = λ u v h. absurd (none_in v (subst (λ l. Contains l v) (replicate_or n u []) h));
   full = λ u v h. absurd (none_in (record { from = u; to = v }) h);
 }
 

@@ -2,8 +2,7 @@
 use Rattle.std.proofs.Common.{◌≡◌, ℕ, zero, suc, ◌<◌, Bool, true, false, List, [], ◌∷◌, length, Option, Some, None, slice_get, refl, sym, subst, ◌∙◌, arith, ◌⊎◌, inl, inr, ◌||◌}
 use Rattle.std.specs.Prelude.{IsTrue, IsSomeAnd}
 use Rattle.std.proofs.lemmas.Bool.{or_left, or_right, or_cases, false≢true}
-use Rattle.std.proofs.lemmas.Option.{none-some, slice_get_within}
-use Rattle.bl_base.proofs.Lists.{some_same}
+use Rattle.std.proofs.lemmas.Option.{none-some, slice_get_within, same_Some}
 use Rattle.bl_base.proofs.Sums.{last_or_before}
 use Rattle.bl_cmd.specs.Layout.{command_at}
 use Rattle.bl_cmd.specs.Sites.{Names, Among, Loads, moved_by, sunk_by, written_by, IsLoad, Writes, Reads, SinkReads}
@@ -96,7 +95,7 @@ option_has t (Some x) h = (x, refl, h)
 
 option_if : (t : ℕ → Bool) (o : Option ℕ) (x : ℕ) → o ≡ Some x → t x ≡ true → option_some t o ≡ true
 option_if t None x same e = absurd (none-some x same)
-option_if t (Some y) x same e = subst (λ z. t z ≡ true) (sym (some_same y x same)) e
+option_if t (Some y) x same e = subst (λ z. t z ≡ true) (sym (same_Some y x same)) e
 
 abbrev pub write_some : Program → ℕ → (ℕ → Bool) → Option Command → Bool
 write_some program s t None = false

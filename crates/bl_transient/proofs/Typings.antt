@@ -1,8 +1,9 @@
 -- The least typing, as a test, and what passes.
-use Rattle.std.proofs.Common.{◌≡◌, ℕ, zero, suc, ◌<◌, Bool, true, false, length, refl, sym, subst, arith, ◌⊎◌, inl, inr, not, ◌&&◌, ◌||◌, nat_eq}
+use Rattle.std.proofs.Common.{◌≡◌, ℕ, zero, suc, ◌<◌, Bool, true, length, refl, sym, subst, arith, ◌⊎◌, inl, inr, not, ◌&&◌, ◌||◌, nat_eq}
 use Rattle.std.specs.Prelude.{IsTrue}
 use Rattle.std.proofs.lemmas.Bool.{not_from_false, false_from_ne_true, and_from, and_parts, or_left, or_right, or_cases, eqb-true, eq-eqb}
 use Rattle.bl_base.proofs.Sums.{last_or_before}
+use Rattle.bl_base.proofs.BoolLemmas.{never_both}
 use Rattle.bl_cmd.specs.Sites.{IsLoad, Writes, Reads, SinkReads, Loads, moved_by}
 use Rattle.bl_cmd.specs.declared.definitions.ProgramParts.{ProgramParts as Program}
 use Rattle.bl_transient.specs.Transient.{Assigns, Passes, Trans, loaded, moved, IsFed}
@@ -13,14 +14,10 @@ pub trans_least : (program : Program) (typing set : ℕ → Bool) (x : ℕ) → 
 trans_least program typing set x keeps (loaded s _ load writes may) = keeps.loads s x load writes may
 trans_least program typing set x keeps (moved s y _ reads writes may t) = keeps.moves s y x reads writes may (trans_least program typing set y keeps t)
 
-pub both_ways : (b : Bool) → b ≡ true → not b ≡ true → ⊥
-both_ways true e f = cc
-both_ways false e f = cc
-
 -- where a set passes, no sink variable is in the least set
 pub passing_sinks : (program : Program) (set : ℕ → Bool) → Passes program set → (position x : ℕ) → SinkReads program position x → Trans program set x → ⊥
 passing_sinks program set passes position x sink t =
-    both_ways (passes.0 x) (trans_least program passes.0 set x passes.1.assigns t) (passes.1.sinks position x sink)
+    never_both (passes.0 x) (trans_least program passes.0 set x passes.1.assigns t) (passes.1.sinks position x sink)
 
 -- what flows out of a fed site that isn't protected
 pub fed_writes : (program : Program) (set : ℕ → Bool) (s x : ℕ) → IsFed program set s → Writes program s x → IsTrue (not (set s)) → Trans program set x

@@ -97,7 +97,7 @@ module _ (one other : Observed) where
   Told o p r q = Verdict one other (compared (shown_by o r) (shown_by p q))
 
   module _ (count : ℕ) (first : IsAsLong 1 count one.made one.refused) (second : IsAsLong 1 count other.made other.refused) where
-    -- what both runs show behind the common front, where both observations end there
+    -- what both runs show behind the common prefix, where both observations end there
     at_ends : (r q : Option ℕ) → one.made ≡ other.made → one.refused ≡ r → other.refused ≡ q → Told None None r q
     at_ends None None e f g = equal (same_seen one other e (f ∙ sym g)) f refl
     at_ends None (Some b) e f g = differ (λ h. none-some b (sym f ∙ ap (λ (seen : Observed). seen.refused) h ∙ g)) refl
@@ -148,7 +148,7 @@ module _ (one other : Observed) where
   all_common : one ≡ other → length (common one.made other.made) ≡ length one.made
   all_common e = ap length (sym (ap (λ (seen : Observed). common one.made seen.made) e) ∙ common_self one.made)
 
-  -- runs whose common front is as long as the directives are equal
+  -- runs whose common prefix is as long as the directives are equal
   all_seen : (count : ℕ) → IsAsLong 1 count one.made one.refused → IsAsLong 1 count other.made other.refused
       → length (common one.made other.made) ≡ count → one ≡ other
   all_seen count first second all =
@@ -173,7 +173,7 @@ module _ (one other : Observed) where
         | inr lt ↦ lt
       ]
 
-  -- what they show behind their common front is an observation of both, or it isn't the same
+  -- what they show behind their common prefix is an observation of both, or it isn't the same
   differ_shown : comparison one other ≡ Differ
       → shown_behind one (length (common one.made other.made)) ≡ shown_behind other (length (common one.made other.made)) → ⊥
   differ_shown apart_are same =

@@ -1,4 +1,4 @@
--- The length of the longest common front of two lists, as far as a loop has come.
+-- The length of the longest common prefix of two lists, as far as a loop has come.
 use Rattle.std.proofs.Common.{◌≡◌, ◌∙◌, ℕ, ◌+◌, ◌<◌, ◌≤◌, Bool, true, false, cond, List, [], ◌∷◌, length, take, drop, get_or, refl, ap, arith}
 use Rattle.std.proofs.lemmas.List.{drop_more, drop_all}
 use Rattle.bl_rob.specs.declared.directive.Observation.{Observation}

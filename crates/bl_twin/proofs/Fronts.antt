@@ -1,18 +1,14 @@
--- The longest common front of two lists.
+-- The longest common prefix of two lists.
 use Rattle.std.proofs.Common.{◌≡◌, ◌∙◌, ℕ, Bool, true, false, List, [], ◌∷◌, ◌++◌, length, Some, None, slice_get, refl, sym, ap, subst, arith}
 use Rattle.std.proofs.lemmas.Bool.{eqb-true, eq-eqb, false≢true}
-use Rattle.std.proofs.lemmas.Option.{none-some, slice_get_past}
+use Rattle.std.proofs.lemmas.Option.{none-some, slice_get_past, same_Some}
 use Rattle.std.specs.Prelude.{◌==◌, ◌&&◌, ◌↔◌, if◌then◌else◌}
-use Rattle.bl_base.proofs.Lists.{some_same}
+use Rattle.bl_base.proofs.BoolLemmas.{each_true}
 use Rattle.bl_rob.specs.declared.directive.Observation.{Observation}
 use Rattle.bl_rob.specs.declared.directive.Observation.TheVariants.{Nothing, Read, Write, Divide, Rollback, Fail}
 use Rattle.bl_twin.specs.Comparing.{IsLongestFront, is_same, common}
 
 -- ---- equal observations
-
-both : (a b : Bool) → (a && b) ≡ true → (a ≡ true) × (b ≡ true)
-both true b e = (refl, e)
-both false b e = absurd (false≢true e)
 
 both_true : (a b : Bool) → a ≡ true → b ≡ true → (a && b) ≡ true
 both_true true b e f = f
@@ -27,14 +23,14 @@ numbers_equal a = eq-eqb a a refl
 pub same_is : (x y : Observation) → is_same x y ≡ true → x ≡ y
 same_is Nothing Nothing e = refl
 same_is (Read a g) (Read b h) e =
-    let t = both (a == b) (g == h) e in
+    let t = each_true (a == b) (g == h) e in
     ap (λ n. Read n g) (equal_numbers a b t.0) ∙ ap (Read b) (equal_numbers g h t.1)
 same_is (Write a g) (Write b h) e =
-    let t = both (a == b) (g == h) e in
+    let t = each_true (a == b) (g == h) e in
     ap (λ n. Write n g) (equal_numbers a b t.0) ∙ ap (Write b) (equal_numbers g h t.1)
 same_is (Divide a b g) (Divide c d h) e =
-    let t = both ((a == c) && (b == d)) (g == h) e in
-    let u = both (a == c) (b == d) t.0 in
+    let t = each_true ((a == c) && (b == d)) (g == h) e in
+    let u = each_true (a == c) (b == d) t.0 in
     ap (λ n. Divide n b g) (equal_numbers a c u.0) ∙ ap (λ n. Divide c n g) (equal_numbers b d u.1) ∙ ap (Divide c d) (equal_numbers g h t.1)
 same_is (Rollback p) (Rollback q) e = ap Rollback (equal_numbers p q e)
 same_is Fail Fail e = refl
@@ -59,7 +55,7 @@ pub common_self : (xs : List Observation) → common xs xs ≡ xs
 common_self [] = refl
 common_self (x ∷ xs) = ap (λ b. grown b x (common xs xs)) (is_itself x) ∙ ap (λ l. x ∷ l) (common_self xs)
 
--- lists that both end where their common front does are equal
+-- lists that both end where their common prefix does are equal
 ends_by : (b : Bool) (x y : Observation) (xs ys front : List Observation) → (b ≡ true → x ≡ y)
     → (slice_get xs (length front) ≡ None → slice_get ys (length front) ≡ None → xs ≡ ys)
     → slice_get (x ∷ xs) (length (grown b x front)) ≡ None → slice_get (y ∷ ys) (length (grown b x front)) ≡ None → x ∷ xs ≡ y ∷ ys
@@ -86,7 +82,7 @@ apart_by : (b : Bool) (x y z : Observation) (xs ys front : List Observation) →
     → slice_get (x ∷ xs) (length (grown b x front)) ≡ Some z → slice_get (y ∷ ys) (length (grown b x front)) ≡ Some z → ⊥
 apart_by true x y z xs ys front same rest e f = rest e f
 apart_by false x y z xs ys front same rest e f =
-    let is = some_same x z e ∙ sym (some_same y z f) in
+    let is = same_Some x z e ∙ sym (same_Some y z f) in
     false≢true (sym same ∙ ap (is_same x) (sym is) ∙ is_itself x)
 
 pub apart : (xs ys : List Observation) (z : Observation) → slice_get xs (length (common xs ys)) ≡ Some z
@@ -102,7 +98,7 @@ abbrev DontBegin : List Observation → List Observation → Type 0
 DontBegin rest other = (x : Observation) (tail behind : List Observation) → rest ≡ x ∷ tail → other ≡ x ∷ behind → ⊥
 
 first_same : (a b : Observation) (xs ys : List Observation) → a ∷ xs ≡ b ∷ ys → a ≡ b
-first_same a b xs ys e = some_same a b (ap (λ l. slice_get l 0) e)
+first_same a b xs ys e = same_Some a b (ap (λ l. slice_get l 0) e)
 
 longer : (x : Observation) (front xs ys : List Observation) → IsLongestFront front xs ys → IsLongestFront (x ∷ front) (x ∷ xs) (x ∷ ys)
 longer x front xs ys h = record { rest = h.rest; other = h.other; one_is = ap (λ l. x ∷ l) h.one_is; other_is = ap (λ l. x ∷ l) h.other_is; ends = h.ends }

@@ -1,10 +1,9 @@
 -- Lists that agree in public, as far as a loop has come.
 use Rattle.std.proofs.Common.{◌≡◌, ◌∙◌, ℕ, ◌+◌, ◌<◌, ◌≤◌, List, [], ◌∷◌, length, map, Option, Some, None, slice_get, get_or, option_map, below_more, refl, sym, ap, subst, arith}
 use Rattle.std.proofs.lemmas.List.{length-map, length-set}
-use Rattle.std.proofs.lemmas.Option.{slice_get_within, slice_get-get_or, slice_get-map, slice_get_read, get_or_from_slice_get}
+use Rattle.std.proofs.lemmas.Option.{slice_get_within, slice_get-get_or, slice_get-map, slice_get_read, get_or_from_slice_get, same_Some}
 use Rattle.std.proofs.lemmas.Slice.Zip.{AllZip-long}
 use Rattle.std.specs.List.{fold}
-use Rattle.bl_base.proofs.Lists.{some_same}
 use Rattle.bl_base.specs.Bytes.{patch_over, patched}
 use Rattle.bl_base.specs.Fits.{ArgumentFits}
 use Rattle.bl_base.specs.Runs.{MemoryState}
@@ -33,7 +32,7 @@ module _ {A B : Type 0} (label_of : A → Label) (things : List A) (one other : 
   below_next n thing below here agree =
       let P : ℕ → Type 0 = λ k. (x : A) → slice_get things k ≡ Some x → label_of x ≡ Public → slice_get one k ≡ slice_get other k in
       let all : (k : ℕ) → k < n + 1 → P k = below_more P n (λ k lt x. below.each k x lt)
-      (λ x got is. agree (subst (λ y. label_of y ≡ Public) (some_same x thing (sym got ∙ here)) is)) in
+      (λ x got is. agree (subst (λ y. label_of y ≡ Public) (same_Some x thing (sym got ∙ here)) is)) in
       record { each = λ index x lt. all index lt x }
 
   pub below_all : (n : ℕ) → length things ≤ n → AgreeBelow label_of things one other n → AgreeWherePublic label_of things one other
@@ -46,7 +45,7 @@ module _ {A B : Type 0} (label_of : A → Label) (things : List A) (one other : 
 
     -- what is said of one of the things
     pub agree_there : AgreeWherePublic label_of things one other → label_of x ≡ Public → y ≡ z
-    agree_there agree is = some_same y z (sym first ∙ agree.each n x there is ∙ second)
+    agree_there agree is = same_Some y z (sym first ∙ agree.each n x there is ∙ second)
 
 -- the item at a place of a list, and its image
 pub item_at : {A : Type 0} (xs : List A) (n : ℕ) (d : A) → n < length xs → slice_get xs n ≡ Some (get_or xs n d)
@@ -93,7 +92,7 @@ there all held n x y same got is =
 
 module _ (program : Program) (function : ℕ) (defined : FunctionDef) (exists : slice_get program.functions function ≡ Some defined) where
   pub one_function : (start : Start) (fits : IsStart program function start) → fits.defined ≡ defined
-  one_function start fits = some_same fits.defined defined (sym fits.exists ∙ exists)
+  one_function start fits = same_Some fits.defined defined (sym fits.exists ∙ exists)
 
   -- there are as many arguments as parameters
   pub argument_count : (start : Start) → IsStart program function start → length start.args ≡ length defined.params

@@ -23,13 +23,13 @@ is_same (observation.Rollback place) (observation.Rollback other) = place == oth
 is_same observation.Fail observation.Fail = true
 is_same _ _ = false
 
--- the longest common front of two lists
+-- the longest common prefix of two lists
 abbrev pub common : List Observation → List Observation → List Observation
 common [] others = []
 common (x ∷ xs) [] = []
 common (x ∷ xs) (y ∷ ys) = if is_same x y then x ∷ common xs ys else []
 
--- a list is the longest common front of two lists: both go on behind it, and not with the same observation
+-- a list is the longest common prefix of two lists: both go on behind it, and not with the same observation
 pub record IsLongestFront (front xs ys : List Observation) : Type 0 where
   pub rest : List Observation
   pub other : List Observation
@@ -55,7 +55,7 @@ shown_behind seen count = shown_by (slice_get seen.made count) seen.refused
 
 -- ---- the comparison
 
--- by what both runs show behind their common front
+-- by what both runs show behind their common prefix
 abbrev pub compared : Shown → Shown → Comparison
 compared shown.Over shown.Over = Equal
 compared shown.Stuck shown.Stuck = Stuck

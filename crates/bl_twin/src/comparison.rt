@@ -1,6 +1,6 @@
 //! What two runs have in common, and what they show behind it.
 ghost use Rattle.std.specs.Prelude.{◌≡◌, ◌≤◌, take, length};
-ghost use Rattle.bl_rob.specs.Answers.{seen_in};
+ghost use Rattle.bl_rob.specs.CallResults.{seen_in};
 ghost use Rattle.bl_twin.specs.Comparing.{common, compared, is_same, shown_behind};
 
 use bl_rob::{Observation, Seen};
@@ -58,7 +58,7 @@ pub fn shown_behind(seen: &Seen, count: usize) -> Shown
     }
 }
 
-/// The comparison of two runs, by what both show behind the common front.
+/// The comparison of two runs, by what both show behind the common prefix.
 pub fn compared(one: Shown, other: Shown) -> Comparison
     ensures { result ≡ compared one other }
 {

@@ -9,7 +9,7 @@ ghost use Rattle.bl_rob.specs.declared.directive.Observation.{Observation};
 ghost use Rattle.bl_twin.specs.Comparing.{Counts, IsLongestFront, Tells, common, comparison};
 ghost use Rattle.bl_twin.specs.declared.comparison.Comparison.TheVariants as comparison_is;
 
-/// What two lists have in common is their longest common front.
+/// What two lists have in common is their longest common prefix.
 pub fn what_is_common()
     ensures { (one other front : Listed Observation) → common one other ≡ front ↔ IsLongestFront front one other }
 {}

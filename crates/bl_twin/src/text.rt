@@ -1,7 +1,7 @@
 //! The text on two runs.
 ghost use Rattle.std.specs.Prelude.{◌≡◌, ◌^◌, ◌<◌, ◌++◌, IfOk};
 ghost use Rattle.std.specs.List.{flat_map};
-ghost use Rattle.bl_rob.specs.Answers.{seen_in};
+ghost use Rattle.bl_rob.specs.CallResults.{seen_in};
 ghost use Rattle.bl_trace.specs.Observations.{observation_text};
 ghost use Rattle.bl_twin.specs.Comparing.{agreement_text, comparison, compared, ending_text, numbered, shown_text, twin_text};
 

@@ -1,7 +1,7 @@
 -- Constructs are opened, parted and ended, and items stand in those that are open.
 use Rattle.std.proofs.Common.{◌≡◌, ◌↔◌, ◌++◌, List, [], ◌∷◌, length, reverse, Some, None, Result, Ok, Err, IfOk, Bool, true, false, IsTrue, refl, sym, ap, ◌∙◌, subst, arith}
 use Rattle.std.proofs.lemmas.List.{reverse-append, length-reverse, append_assoc}
-use Rattle.bl_base.proofs.Lists.{some_same}
+use Rattle.std.proofs.lemmas.Option.{same_Some}
 use Rattle.bl_wasm.specs.Instructions.{IsPlain}
 use Rattle.bl_wasm.specs.Nesting.{then_part, else_part}
 use Rattle.bl_wasm.specs.Typing.{Open, opened, Context, labels, Plain, Begins, Stays, Rule, expanded}
@@ -122,7 +122,7 @@ pub begins : (c : Context) (k : Construct) (immediate : BlockType) (above : List
 begins c k immediate above S0 S3 ok is opens behind to = (
   λ x. let p = (opens behind to).0 x in
       (p.0, p.1 ++ (k.params.now ++ above), record { type = type_of k; lower = p.1; named = sym is; before = refl; inside = p.3; behind = p.2 }, p.4),
-  λ p. let same : p.2.type ≡ type_of k = some_same p.2.type (type_of k) (sym p.2.named ∙ sym is) in
+  λ p. let same : p.2.type ≡ type_of k = same_Some p.2.type (type_of k) (sym p.2.named ∙ sym is) in
       (opens behind to).1 (
         p.0,
         p.2.lower,

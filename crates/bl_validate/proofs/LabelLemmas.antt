@@ -4,7 +4,7 @@ use Rattle.std.specs.List.{All}
 use Rattle.std.proofs.lemmas.List.Elements.{All-append}
 use Rattle.std.proofs.Math.ListN.{get_or-append}
 use Rattle.std.proofs.Math.Seq.{get_or-append_seam}
-use Rattle.bl_base.proofs.Lists.{some_same}
+use Rattle.std.proofs.lemmas.Option.{same_Some}
 use Rattle.bl_wasm.specs.Typing.{Open, Context, labels, taken_by}
 use Rattle.bl_wasm.specs.declared.types.WasmType.{WasmType}
 use Rattle.bl_validate.specs.declared.stacks.Frame.{Frame}
@@ -42,7 +42,7 @@ all_snoc P xs d h last = All-append P xs (d ∷ []) h (one P d last)
 pub all_same : {A : Type 0} (get : ℕ → Option A) (ls : List ℕ) (d : ℕ) (t : A) (Q : A → Type 0) → All (λ l. get l ≡ Some t) ls → Some t ≡ get d
     → ((type : A) × All (λ l. get l ≡ Some type) (ls ++ d ∷ []) × Q type) ↔ Q t
 all_same get ls d t Q all is = (
-  λ p. subst Q (some_same p.0 t (sym (last_of (λ l. get l ≡ Some p.0) ls d p.1) ∙ sym is)) p.2,
+  λ p. subst Q (same_Some p.0 t (sym (last_of (λ l. get l ≡ Some p.0) ls d p.1) ∙ sym is)) p.2,
   λ q. (t, all_snoc (λ l. get l ≡ Some t) ls d all (sym is), q),
 )
 
@@ -50,7 +50,7 @@ all_same get ls d t Q all is = (
 pub not_all_same : {A : Type 0} (get : ℕ → Option A) (ls : List ℕ) (d : ℕ) (t : A) (Q : A → Type 0) → (All (λ l. get l ≡ Some t) ls → ⊥) → Some t ≡ get d
     → ((type : A) × All (λ l. get l ≡ Some type) (ls ++ d ∷ []) × Q type) ↔ ⊥
 not_all_same get ls d t Q never is = (
-  λ p. let same : p.0 ≡ t = some_same p.0 t (sym (last_of (λ l. get l ≡ Some p.0) ls d p.1) ∙ sym is) in
+  λ p. let same : p.0 ≡ t = same_Some p.0 t (sym (last_of (λ l. get l ≡ Some p.0) ls d p.1) ∙ sym is) in
       never (subst (λ t. All (λ l. get l ≡ Some t) ls) same (all_front (λ l. get l ≡ Some p.0) ls d p.1)),
   λ b. absurd b,
 )

@@ -2,7 +2,6 @@ pub mod ConstructLemmas
 pub mod CoverLemmas
 pub mod LabelLemmas
 pub mod ModuleRuleLemmas
-pub mod Names
 pub mod OperandLemmas
 pub mod Reasons
 pub mod Spaces

@@ -1,6 +1,5 @@
 -- Typings of what is left of a body.
-use Rattle.std.proofs.Common.{◌≡◌, ◌↔◌, List, [], ◌∷◌, Some, Bool, true, false, IsTrue, refl, sym, subst, slice_get, ℕ, suc, ◌+◌, ◌<◌, length, get_or, drop, ap, ◌∙◌, arith}
-use Rattle.std.proofs.Math.Seq.{drop-cons}
+use Rattle.std.proofs.Common.{◌≡◌, ◌↔◌, List, [], ◌∷◌, Some, Bool, true, false, IsTrue, refl, subst, slice_get, ◌+◌, ◌<◌, ◌∙◌}
 use Rattle.bl_wasm.specs.Typing.{Open, Context, Rule, Types, IsTyping}
 use Rattle.bl_wasm.specs.declared.types.WasmType.{WasmType}
 use Rattle.bl_wasm.specs.declared.instruction.Instr.{Instr}
@@ -60,10 +59,3 @@ chained f g = (λ p. g.0 (f.0 p), λ r. f.1 (g.1 r))
 
 pub turned : {P Q : Type 0} → P ↔ Q → Q ↔ P
 turned f = (f.1, f.0)
-
--- the item at a place is the first of those that are left there
-pub here : {A : Type 0} (xs : List A) (i : ℕ) (x : A) → i < length xs → x ≡ get_or xs i x → drop i xs ≡ x ∷ drop (i + 1) xs
-here xs i x h e =
-    let one : suc i ≡ i + 1 = omega arith in
-    let next : x ∷ drop (suc i) xs ≡ x ∷ drop (i + 1) xs = ap (λ n. x ∷ drop n xs) one in
-    drop-cons xs i x h ∙ ap (λ y. y ∷ drop (suc i) xs) (sym e) ∙ next

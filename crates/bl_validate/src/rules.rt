@@ -85,7 +85,7 @@ fn has_valid_globals(
         && defined.iter().all(|global| is_first(imports, global.kind.kind, global.first.as_slice()))
 }
 
-/// The exports: what they name exists, and no two have one name.
+/// The exports: their indices are in range, and no two have one name.
 fn has_valid_exports(alloc: Global, exports: &[Export], scope: &Scope) -> Result<bool, NoMemory>
     ensures { IfOk result (λ ok. IsTrue ok ↔ AreExports scope.now exports.now) }
 {

@@ -6,4 +6,5 @@ pub mod ReachedLemmas
 pub mod RenamingLemmas
 mod Rows
 pub mod SequenceLemmas
+pub mod SpellingLemmas
 mod TypingRows

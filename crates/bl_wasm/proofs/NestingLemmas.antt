@@ -146,24 +146,24 @@ parted_in then_part type outer next items e p =
 parted_in else_part type outer next items e p = absurd (cc e)
 
 -- what is open next is known
-pub on : (known next : List Construct) (items : List Instr) → Some known ≡ Some next → Closes next items → Closes known items
-on known next items e h = let same : next ≡ known = cc e in rw same at h
+pub known_open : (known next : List Construct) (items : List Instr) → Some known ≡ Some next → Closes next items → Closes known items
+known_open known next items e h = let same : next ≡ known = cc e in rw same at h
 
 parsed : (items : List Instr) (outer : List Construct) → Closes outer items → Parsed outer items
 parsed [] [] h = none
 parsed [] (one ∷ outer) h = absurd (cc h)
 parsed (Block type ∷ items) outer h =
-    let p : Ended (Parsed outer) items = parsed items (construct of_block type ∷ outer) (on (construct of_block type ∷ outer) h.0 items h.1 h.2) in
+    let p : Ended (Parsed outer) items = parsed items (construct of_block type ∷ outer) (known_open (construct of_block type ∷ outer) h.0 items h.1 h.2) in
     whole outer (Block type) items p.inside p.rest p.split (λ more n. block type p.inside more p.nests n) p.further
 parsed (Loop type ∷ items) outer h =
-    let p : Ended (Parsed outer) items = parsed items (construct of_loop type ∷ outer) (on (construct of_loop type ∷ outer) h.0 items h.1 h.2) in
+    let p : Ended (Parsed outer) items = parsed items (construct of_loop type ∷ outer) (known_open (construct of_loop type ∷ outer) h.0 items h.1 h.2) in
     whole outer (Loop type) items p.inside p.rest p.split (λ more n. loop type p.inside more p.nests n) p.further
-parsed (If type ∷ items) outer h = chosen type outer items (parsed items (construct then_part type ∷ outer) (on (construct then_part type ∷ outer) h.0 items h.1 h.2))
+parsed (If type ∷ items) outer h = chosen type outer items (parsed items (construct then_part type ∷ outer) (known_open (construct then_part type ∷ outer) h.0 items h.1 h.2))
 parsed (Else ∷ items) [] h = absurd (cc h.1)
 parsed (Else ∷ items) (one ∷ outer) h = parted_in one.kind one.type outer h.0 items h.1 (parsed items h.0 h.2)
 parsed (End ∷ items) [] h = absurd (cc h.1)
-parsed (End ∷ items) (one ∷ outer) h = ended_in one.kind (Parsed outer) items (parsed items outer (on outer h.0 items h.1 h.2))
-parsed (item ∷ items) outer h = leads (item ∷ []) outer items (λ more n. plain item more tt n) (parsed items outer (on outer h.0 items h.1 h.2))
+parsed (End ∷ items) (one ∷ outer) h = ended_in one.kind (Parsed outer) items (parsed items outer (known_open outer h.0 items h.1 h.2))
+parsed (item ∷ items) outer h = leads (item ∷ []) outer items (λ more n. plain item more tt n) (parsed items outer (known_open outer h.0 items h.1 h.2))
 
 pub nests : (items : List Instr) → Closes [] items → Nests items
 nests items h = parsed items [] h

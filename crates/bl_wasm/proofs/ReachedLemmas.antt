@@ -1,7 +1,8 @@
 -- At a place that can be reached, all typings of a body agree.
-use Rattle.std.proofs.Common.{◌≡◌, ◌∙◌, refl, sym, ap, subst, ℕ, zero, suc, List, [], ◌∷◌, ◌++◌, length, replicate, take, true, false, Bool, Option, Some, slice_get, arith, length-append}
+use Rattle.std.proofs.Common.{◌≡◌, ◌∙◌, refl, sym, ap, subst, ℕ, zero, suc, List, [], ◌∷◌, ◌++◌, length, replicate, take, true, false, Bool, Some, slice_get, arith, length-append}
 use Rattle.std.specs.Prelude.{fold}
 use Rattle.std.proofs.lemmas.List.{append_cancel_right}
+use Rattle.bl_base.proofs.OptionLemmas.{same_value}
 use Rattle.bl_ops.specs.Table.{row_of}
 use Rattle.bl_ops.specs.declared.op.OpRow.{OpRow}
 use Rattle.bl_wasm.specs.declared.instruction.Instr.{Instr}
@@ -14,9 +15,6 @@ use Rattle.bl_wasm.specs.declared.types.BlockType.{BlockType}
 use Rattle.bl_wasm.specs.Nesting.{Kind, of_block, of_loop, then_part, else_part}
 use Rattle.bl_wasm.specs.Reached.{innermost, is_reached, reached_behind}
 use Rattle.bl_wasm.specs.Typing.{Arrow, Begins, Context, Ends, HasType, IsTyping, Open, Parts, Plain, Rule, Stays, Types, expanded, integer, labels, opened, taken_by}
-
-some_same : {A : Type 0} (o : Option A) (x y : A) → o ≡ Some x → o ≡ Some y → x ≡ y
-some_same o x y p q = cc
 
 -- ---- lists with ends of one length
 
@@ -50,8 +48,8 @@ Continues item = Unit {0}
 -- the types of a function
 type_same : (c : Context) (function : ℕ) (a b : FuncType) → HasType c function a → HasType c function b → a ≡ b
 type_same c function a b h k =
-    let e : h.0 ≡ k.0 = some_same (slice_get c.functions function) h.0 k.0 h.1 k.1 in
-    some_same (slice_get c.types k.0) a b (subst (λ i. slice_get c.types i ≡ Some a) e h.2) k.2
+    let e : h.0 ≡ k.0 = same_value (slice_get c.functions function) h.0 k.0 h.1 k.1 in
+    same_value (slice_get c.types k.0) a b (subst (λ i. slice_get c.types i ≡ Some a) e h.2) k.2
 
 same_plain : (c : Context) (ls : List (List WasmType)) (item : Instr) (from to to' : List WasmType) → Continues item → Plain c ls item from to → Plain c ls item from to' → to ≡ to'
 same_plain c ls Unreachable from to to' go h k = absurd go
@@ -59,24 +57,24 @@ same_plain c ls (Br l) from to to' go h k = absurd go
 same_plain c ls (BrTable default others) from to to' go h k = absurd go
 same_plain c ls Return from to to' go h k = absurd go
 same_plain c ls (BrIf l) from to to' go h k =
-    let e : h.0 ≡ k.0 = some_same (slice_get ls l) h.0 k.0 h.1 k.1 in same_arrow h.2 k.2 (ap (λ (t : List WasmType). length (t ++ I32 ∷ [])) e) (λ _. e)
+    let e : h.0 ≡ k.0 = same_value (slice_get ls l) h.0 k.0 h.1 k.1 in same_arrow h.2 k.2 (ap (λ (t : List WasmType). length (t ++ I32 ∷ [])) e) (λ _. e)
 same_plain c ls (Call function) from to to' go h k =
     let e : h.0 ≡ k.0 = type_same c function h.0 k.0 h.1 k.1 in same_arrow h.2 k.2 (ap (λ (t : FuncType). length t.params) e) (λ _. ap (λ (t : FuncType). t.results) e)
 same_plain c ls (CallIndirect index) from to to' go h k =
-    let e : h.0 ≡ k.0 = some_same (slice_get c.types index) h.0 k.0 h.1 k.1 in same_arrow h.3 k.3 (ap (λ (t : FuncType). length (t.params ++ I32 ∷ [])) e) (λ _. ap (λ (t : FuncType). t.results) e)
+    let e : h.0 ≡ k.0 = same_value (slice_get c.types index) h.0 k.0 h.1 k.1 in same_arrow h.3 k.3 (ap (λ (t : FuncType). length (t.params ++ I32 ∷ [])) e) (λ _. ap (λ (t : FuncType). t.results) e)
 same_plain c ls Drop from to to' go h k = same_arrow h.1 k.1 refl (λ _. refl)
 same_plain c ls Select from to to' go h k = same_arrow h.1 k.1 refl (λ e. let f : h.0 ≡ k.0 = cc in ap (λ (t : WasmType). t ∷ []) f)
-same_plain c ls (LocalGet x) from to to' go h k = let e : h.0 ≡ k.0 = some_same (slice_get c.locals x) h.0 k.0 h.1 k.1 in same_arrow h.2 k.2 refl (λ _. ap (λ (t : WasmType). t ∷ []) e)
+same_plain c ls (LocalGet x) from to to' go h k = let e : h.0 ≡ k.0 = same_value (slice_get c.locals x) h.0 k.0 h.1 k.1 in same_arrow h.2 k.2 refl (λ _. ap (λ (t : WasmType). t ∷ []) e)
 same_plain c ls (LocalSet x) from to to' go h k = same_arrow h.2 k.2 refl (λ _. refl)
 same_plain c ls (LocalTee x) from to to' go h k = same_arrow h.2 k.2 refl (λ e. e)
-same_plain c ls (GlobalGet x) from to to' go h k = let e : h.0 ≡ k.0 = some_same (slice_get c.globals x) h.0 k.0 h.1 k.1 in same_arrow h.2 k.2 refl (λ _. ap (λ (g : GlobalType). g.kind ∷ []) e)
+same_plain c ls (GlobalGet x) from to to' go h k = let e : h.0 ≡ k.0 = same_value (slice_get c.globals x) h.0 k.0 h.1 k.1 in same_arrow h.2 k.2 refl (λ _. ap (λ (g : GlobalType). g.kind ∷ []) e)
 same_plain c ls (GlobalSet x) from to to' go h k = same_arrow h.3 k.3 refl (λ _. refl)
 same_plain c ls (Load kind argument) from to to' go h k = same_arrow h.3 k.3 refl (λ _. refl)
 same_plain c ls (Store kind argument) from to to' go h k = same_arrow h.3 k.3 refl (λ _. refl)
 same_plain c ls MemorySize from to to' go h k = same_arrow h.1 k.1 refl (λ _. refl)
 same_plain c ls MemoryGrow from to to' go h k = same_arrow h.1 k.1 refl (λ _. refl)
 same_plain c ls (Integer op) from to to' go h k =
-    let e : h.0 ≡ k.0 = some_same (row_of op) h.0 k.0 h.1 k.1 in
+    let e : h.0 ≡ k.0 = same_value (row_of op) h.0 k.0 h.1 k.1 in
     same_arrow h.2 k.2 (ap (λ (row : OpRow). length (replicate row.operands (integer row.from))) e) (λ _. ap (λ (row : OpRow). integer row.to ∷ []) e)
 same_plain c ls Nop from to to' go h k = same_arrow h k refl (λ _. refl)
 same_plain c ls (I32Const n) from to to' go h k = same_arrow h k refl (λ _. refl)
@@ -131,7 +129,7 @@ module _ (c : Context) where
   begins : (kind : Kind) (i : BlockType) (above : List WasmType) (here : Bool) (outer : List Bool) (ps qs ps' qs' : List Open) (s t s' t' : List WasmType) → Agree (here ∷ outer) ps s qs t
       → Begins c kind i above ps s ps' s' → Begins c kind i above qs t qs' t' → Agree (here ∷ here ∷ outer) ps' s' qs' t'
   begins kind i above here outer ps qs ps' qs' s t s' t' h one two =
-      let same : one.type ≡ two.type = some_same (expanded c.types i) one.type two.type one.named two.named in
+      let same : one.type ≡ two.type = same_value (expanded c.types i) one.type two.type one.named two.named in
       let low : Agree (here ∷ outer) ps one.lower qs two.lower = now here here outer ps s one.lower qs t two.lower h (λ eq live. below one.lower two.lower above one.type two.type s t same one.before two.before (eq live)) in
       let whole : Agree (here ∷ here ∷ outer) (opened kind one.type one.lower ∷ ps) s' (opened kind two.type two.lower ∷ qs) t' =
       (λ live. one.behind ∙ ap (λ (f : FuncType). f.params) same ∙ sym two.behind, refl, same, low) in

@@ -1,15 +1,15 @@
 -- The grammar on worked modules.
-use Rattle.std.proofs.Common.{ℕ, ◌<◌, List, [], ◌∷◌, ◌++◌, length, None, inl, inr, refl, sym, arith, append-nil}
+use Rattle.std.proofs.Common.{ℕ, ◌<◌, List, [], ◌∷◌, ◌++◌, length, None, inl, inr, refl, arith}
 use Rattle.std.specs.Prelude.{codes, pos, negsuc}
 use Rattle.std.specs.Str.{IsAscii}
 use Rattle.std.proofs.lemmas.Str.{IsUtf8-from_ascii}
 use Rattle.std.proofs.lemmas.Str.Ascii.{IsAscii-nil, IsAscii-cons}
 use Rattle.bl_ops.specs.declared.op.Op.TheVariants.{I32Add}
 use Rattle.bl_ops.specs.declared.access.AccessKind.TheVariants.{I32Load, I64Store8}
-use Rattle.bl_wasm.specs.Values.{Spellings, ◌⨾◌, byte, u32, each, vec, name, sized}
+use Rattle.bl_wasm.specs.Values.{Spellings, ◌⨾◌, u32, each, vec, name, sized}
 use Rattle.bl_wasm.specs.Types.{value_type, function_type}
 use Rattle.bl_wasm.specs.Instructions.{Nests, none, plain, loop, if_else, instruction, expression}
-use Rattle.bl_wasm.proofs.NestingLemmas.{closes, on}
+use Rattle.bl_wasm.proofs.NestingLemmas.{closes, known_open}
 use Rattle.bl_wasm.specs.Nesting.{then_part, else_part, construct, Closes}
 use Rattle.bl_wasm.specs.Sections.{section, custom_section, export_entry, local_run, code_entry}
 use Rattle.bl_wasm.specs.Modules.{Spells, ◌▷◌}
@@ -23,23 +23,12 @@ use Rattle.bl_wasm.specs.declared.types.FuncType.{FuncType}
 use Rattle.bl_wasm.specs.declared.module.ExportKind.TheVariants.{Function}
 use Rattle.bl_wasm.specs.declared.types.WasmType.TheVariants.{I32}
 use Rattle.bl_wasm.specs.declared.types.BlockType.TheVariants.{Empty, Value}
-
--- a spelling of the first, and then one of the second
-both : {First Second : Spellings} (front rest : List ℕ) → First front → Second rest → (First ⨾ Second) (front ++ rest)
-both front rest first second = record { front = front; rest = rest; whole = refl; first = first; second = second }
-
--- a byte, and then a spelling
-after : {n : ℕ} {Second : Spellings} (rest : List ℕ) → Second rest → (byte n ⨾ Second) (n ∷ rest)
-after {n} rest second = both (n ∷ []) rest refl second
+use Rattle.bl_wasm.proofs.SpellingLemmas.{both, after, small, single}
 
 -- a section that stands there, or one that is missing, and what follows, without custom sections before it
 here : {Section : Spellings} {Behind : List CustomSection → Spellings} (customs : List CustomSection) (front rest : List ℕ)
     → Section front → Behind customs rest → (Section ▷ Behind) customs (front ++ rest)
 here customs front rest s b = record { before = []; after = customs; all = refl; spelled = both [] (front ++ rest) refl (both front rest s b) }
-
--- a number below 128 in one byte
-small : (n : ℕ) → n < 128 → u32 n (n ∷ [])
-small n lt = (omega (arith, lt), omega (arith, lt), refl)
 
 -- the module without sections
 abbrev empty : Module
@@ -87,10 +76,6 @@ stands id contents lt spelled = after _ (packed contents lt spelled)
 -- fewer than 128 elements behind their count
 counted : {A : Type 0} (B : A → Spellings) (xs : List A) (bytes : List ℕ) → length xs < 128 → each B xs bytes → vec B xs (length xs ∷ bytes)
 counted B xs bytes lt spelled = both (length xs ∷ []) bytes (small (length xs) lt) spelled
-
--- one element behind the count
-single : {A : Type 0} (B : A → Spellings) (x : A) (bytes : List ℕ) → B x bytes → vec B (x ∷ []) (1 ∷ bytes)
-single B x bytes spelled = both (1 ∷ []) bytes (small 1 (omega arith)) (record { front = bytes; rest = []; whole = sym (append-nil bytes); first = spelled; second = refl })
 
 -- a name of fewer than 128 bytes
 named : (these : List ℕ) → length these < 128 → IsAscii these → name these (length these ∷ these)
@@ -229,8 +214,8 @@ two_parts n =
     let c = closes (If Empty ∷ Else ∷ Else ∷ End ∷ []) n in
     let before = construct then_part Empty ∷ [] in
     let behind = construct else_part Empty ∷ [] in
-    let first : Closes before (Else ∷ Else ∷ End ∷ []) = on before c.0 (Else ∷ Else ∷ End ∷ []) c.1 c.2 in
-    let second : Closes behind (Else ∷ End ∷ []) = on behind first.0 (Else ∷ End ∷ []) first.1 first.2 in
+    let first : Closes before (Else ∷ Else ∷ End ∷ []) = known_open before c.0 (Else ∷ Else ∷ End ∷ []) c.1 c.2 in
+    let second : Closes behind (Else ∷ End ∷ []) = known_open behind first.0 (Else ∷ End ∷ []) first.1 first.2 in
     absurd (cc second.1)
 
 -- a custom section may hold any bytes behind its name

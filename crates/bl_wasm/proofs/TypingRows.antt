@@ -1,7 +1,8 @@
 -- Block types, typings, reached places and new names on worked bodies.
-use Rattle.std.proofs.Common.{◌≡◌, ℕ, ◌+◌, true, false, List, [], ◌∷◌, map, get_or, Option, Some, None, inl, inr, refl, sym, ap, arith}
+use Rattle.std.proofs.Common.{◌≡◌, ◌+◌, true, false, List, [], ◌∷◌, map, Option, Some, None, inl, inr, refl, sym, ap, arith}
 use Rattle.std.proofs.lemmas.Int.{ints}
 use Rattle.std.specs.Prelude.{ℤ, pos, ◌*ℤ◌, ◌+ℤ◌}
+use Rattle.bl_base.proofs.Lists.{first_same}
 use Rattle.bl_leb.specs.Numbers.{IsSigned}
 use Rattle.bl_ops.specs.declared.op.Op.TheVariants.{I32Add}
 use Rattle.bl_wasm.specs.Nesting.{of_block, else_part, open_at, construct}
@@ -50,26 +51,23 @@ long_one = (
   refl,
 )
 
-first_byte : (a b : ℕ) (xs ys : List ℕ) → a ∷ xs ≡ b ∷ ys → a ≡ b
-first_byte a b xs ys e = ap (λ l. get_or l 0 0) e
-
 -- -63 is none
 negative : (type : BlockType) → block_type type (0x41 ∷ []) → ⊥
-negative Empty h = absurd (omega (arith, first_byte 0x41 0x40 [] [] h))
-negative (Value I32) h = absurd (omega (arith, first_byte 0x41 0x7F [] [] h))
-negative (Value I64) h = absurd (omega (arith, first_byte 0x41 0x7E [] [] h))
-negative (Value F32) h = absurd (omega (arith, first_byte 0x41 0x7D [] [] h))
-negative (Value F64) h = absurd (omega (arith, first_byte 0x41 0x7C [] [] h))
+negative Empty h = absurd (omega (arith, first_same 0x41 0x40 [] [] h))
+negative (Value I32) h = absurd (omega (arith, first_same 0x41 0x7F [] [] h))
+negative (Value I64) h = absurd (omega (arith, first_same 0x41 0x7E [] [] h))
+negative (Value F32) h = absurd (omega (arith, first_same 0x41 0x7D [] [] h))
+negative (Value F64) h = absurd (omega (arith, first_same 0x41 0x7C [] [] h))
 negative (Index index) (inl h) = absurd (omega (arith, h.0))
 negative (Index index) (inr h) = absurd (omega (arith, ints, h.3))
 
 -- a longer spelling of -64 is none either, though 40 is the block type of nothing
 long_empty : (type : BlockType) → block_type type (0xC0 ∷ 0x7F ∷ []) → ⊥
-long_empty Empty h = absurd (omega (arith, first_byte 0xC0 0x40 (0x7F ∷ []) [] h))
-long_empty (Value I32) h = absurd (omega (arith, first_byte 0xC0 0x7F (0x7F ∷ []) [] h))
-long_empty (Value I64) h = absurd (omega (arith, first_byte 0xC0 0x7E (0x7F ∷ []) [] h))
-long_empty (Value F32) h = absurd (omega (arith, first_byte 0xC0 0x7D (0x7F ∷ []) [] h))
-long_empty (Value F64) h = absurd (omega (arith, first_byte 0xC0 0x7C (0x7F ∷ []) [] h))
+long_empty Empty h = absurd (omega (arith, first_same 0xC0 0x40 (0x7F ∷ []) [] h))
+long_empty (Value I32) h = absurd (omega (arith, first_same 0xC0 0x7F (0x7F ∷ []) [] h))
+long_empty (Value I64) h = absurd (omega (arith, first_same 0xC0 0x7E (0x7F ∷ []) [] h))
+long_empty (Value F32) h = absurd (omega (arith, first_same 0xC0 0x7D (0x7F ∷ []) [] h))
+long_empty (Value F64) h = absurd (omega (arith, first_same 0xC0 0x7C (0x7F ∷ []) [] h))
 long_empty (Index index) h = last h.3 h.4 h.5
   where
     last : (m : ℤ) → IsSigned 26 (0x7F ∷ []) m → pos index ≡ pos 128 *ℤ m +ℤ pos 64 → ⊥

@@ -3,8 +3,8 @@ use Rattle.std.proofs.Common.{◌≡◌, ◌∙◌, ℕ, ◌+◌, ◌<◌, ◌�
 use Rattle.std.specs.Prelude.{◌↔◌}
 use Rattle.std.specs.List.{AllPairs, Contains}
 use Rattle.std.proofs.lemmas.Bool.{cases_lt}
-use Rattle.std.proofs.lemmas.Option.{none-some, slice_get-get_or, slice_get_within, get_or_from_slice_get}
-use Rattle.bl_base.proofs.Lists.{some_same, within_get}
+use Rattle.std.proofs.lemmas.Option.{none-some, slice_get-get_or, slice_get_within, get_or_from_slice_get, same_Some}
+use Rattle.bl_base.proofs.Lists.{within_get}
 use Rattle.bl_cmd.proofs.Totals.{rises_get}
 use Rattle.bl_graph.specs.Graphs.{Precedes, use_of}
 use Rattle.bl_graph.specs.declared.facts.Use.{Use}
@@ -27,7 +27,7 @@ module _ (uses : List Use) (m : ℕ) (one d : Use) (rise : AllPairs Precedes use
   at_m = slice_get-get_or uses m d lt
 
   at_same : (k : ℕ) (u : Use) → k ≡ m → slice_get uses k ≡ Some u → get_or uses m d ≡ u
-  at_same k u same stands = some_same (get_or uses m d) u (sym at_m ∙ ap (slice_get uses) (sym same) ∙ stands)
+  at_same k u same stands = same_Some (get_or uses m d) u (sym at_m ∙ ap (slice_get uses) (sym same) ∙ stands)
 
   pub before_more : Precedes (get_or uses m d) one → (k : ℕ) (u : Use) → k < m + 1 → slice_get uses k ≡ Some u → Precedes u one
   before_more is k u less stands = elim (cases_lt k m) as (λ _. Precedes u one) [
@@ -72,7 +72,7 @@ module _ (uses : List Use) (one : Use) (place : ℕ) (rise : AllPairs Precedes u
         let le = place_within at.0 at.1 in
         elim (cases_lt place at.0) as (λ _. found ≡ one) [
           | inl under ↦ absurd (is.behind place found (omega arith) there (rises_get Precedes uses place at.0 found one rise under there at.1))
-          | inr over ↦ let same : place ≡ at.0 = omega arith in some_same found one (sym there ∙ ap (slice_get uses) same ∙ at.1)
+          | inr over ↦ let same : place ≡ at.0 = omega arith in same_Some found one (sym there ∙ ap (slice_get uses) same ∙ at.1)
         ],
   )
 
@@ -108,5 +108,5 @@ module _ (uses : List Use) (position place : ℕ) (rise : AllPairs Precedes uses
         ]
         | inr over ↦
             let e : place ≡ at.0 = omega arith in
-            other (ap (λ (u : Use). u.at.0) (some_same found (use_of position x) (sym there ∙ ap (slice_get uses) e ∙ at.1)))
+            other (ap (λ (u : Use). u.at.0) (same_Some found (use_of position x) (sym there ∙ ap (slice_get uses) e ∙ at.1)))
       ]

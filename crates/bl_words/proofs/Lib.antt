@@ -1,7 +1,6 @@
 pub mod Contents
 pub mod ModuleNames
 pub mod ModuleWords
-pub mod NameSets
 pub mod Tops
 pub mod Walks
 pub mod WordKinds

@@ -34,7 +34,7 @@ module _ (path : List ℕ) where
   behind_last : All Other (after_last (nat_eq 47) path)
   behind_last = All-from_get_or Other (drop (length path - many) path) 0 one_behind
 
--- a front of it has none either
+-- a prefix of it has none either
 front_none : (name : List ℕ) → All Other name → All Other (without_ending name)
 front_none name all = of_test (bytes_eq (drop (length name - 5) name) (codes ".wasm"))
   where

@@ -6,11 +6,10 @@ use Rattle.std.specs.Str.{bytes_eq}
 use Rattle.std.proofs.lemmas.Bool.{and_parts, cond-true, cond-false, eqb-true, false≢true, false_from_ne_true, not-true}
 use Rattle.std.proofs.lemmas.List.Folds.{Any-from_list_any}
 use Rattle.std.proofs.lemmas.Map.Keys.{any_passes_from_place}
-use Rattle.std.proofs.lemmas.Option.{none-some, slice_get_read}
+use Rattle.std.proofs.lemmas.Option.{none-some, slice_get_read, same_Some}
 use Rattle.std.proofs.lemmas.Slice.Eq.{bytes_eq-Decides}
-use Rattle.bl_base.proofs.Lists.{some_same}
 use Rattle.bl_words.specs.Requests.{AreNamedApart, are_distinct, module_name, modules_of}
-use Rattle.bl_words.proofs.NameSets.{AreApart}
+use Rattle.bl_base.proofs.NameSets.{AreApart}
 
 -- no other name is that one
 none_is : (name : List ℕ) (names : List (List ℕ)) → list_any (bytes_eq name) names ≡ false → (i : ℕ) → slice_get names i ≡ Some name → ⊥
@@ -38,12 +37,6 @@ pub named_apart : (words : List (List ℕ)) → are_distinct (map module_name wo
 named_apart words apart = record {
   apart = λ i j a b first second same. one_place (map module_name words) apart i j (module_name a) (named_at words i a first) (named_at words j b second ∙ ap Some (sym same));
 }
-
--- what stands at a place of a list of images comes from that place
-pub mapped_at : {A B : Type 0} (f : A → B) (xs : List A) (i : ℕ) (b : B) → slice_get (map f xs) i ≡ Some b → (x : A) × (slice_get xs i ≡ Some x) × (f x ≡ b)
-mapped_at f [] i b e = absurd (none-some b e)
-mapped_at f (x ∷ xs) zero b e = (x, refl, some_same (f x) b e)
-mapped_at f (x ∷ xs) (suc i) b e = mapped_at f xs i b e
 
 -- names at places of their own are distinct
 abbrev HasOnePlace : List (List ℕ) → Type 0

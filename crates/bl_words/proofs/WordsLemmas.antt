@@ -3,7 +3,6 @@ use Rattle.std.proofs.Common.{◌≡◌, ◌∙◌, ap, sym, ℕ, ◌^◌, ◌<�
 use Rattle.std.specs.Prelude.{⊤, Decides, IfSome, codes, option_and_then}
 use Rattle.std.specs.Option.{option_map}
 use Rattle.std.specs.Str.{bytes_eq}
-use Rattle.std.specs.Str.Parse.{digits_value}
 use Rattle.std.proofs.lemmas.Bool.{and_parts, cond-false, eqb-true, ltb-true, false_from_ne_true}
 use Rattle.std.proofs.lemmas.Bool.Decides.{not_from_Decides}
 use Rattle.std.proofs.lemmas.List.{take-append-drop}
@@ -12,7 +11,7 @@ use Rattle.std.proofs.lemmas.Slice.Eq.{bytes_eq-Decides}
 use Rattle.bl_base.specs.Quantity.{limit_of}
 use Rattle.bl_base.specs.declared.quantity.Quantity.TheVariants as quantity
 use Rattle.bl_words.specs.Requests.{AreNamedApart, GenRequest, HardenRequest, IsGenInRange, Parts, Request, are_distinct, command_named, gen, gen_of, harden, harden_of, interp, interp_of, lower, lower_of, module_name, modules_in, modules_of, parts_behind_steps, parts_of, request_by, request_of, run, run_of, seed_of, size_of, spec, spec_of, steps_of, twin, twin_of, verify, verify_of}
-use Rattle.bl_trace.specs.Digits.{decimal_below, is_decimal}
+use Rattle.bl_trace.specs.Digits.{decimal_below}
 use Rattle.bl_words.specs.Requests.{BeginsWithDash, IsOption, IsTakenApart, no_words, options_end, argument, value_in_next_word, value_in_same_word}
 use Rattle.bl_words.specs.Requests.{begins_with_dash, is_option, is_steps_value, with_argument, with_steps}
 use Rattle.bl_words.proofs.ModuleWords.{named_apart}
@@ -21,6 +20,7 @@ use Rattle.bl_words.specs.declared.words.GenWords.{GenWords}
 use Rattle.bl_words.specs.declared.words.Request.TheVariants.{Gen}
 use Rattle.bl_words.specs.declared.command.Command.{Command}
 use Rattle.bl_words.specs.declared.command.Command.TheVariants.{Gen as GenNamed, Harden, Interp, Lower, Run, Spec, Twin, Verify}
+use Rattle.bl_trace.proofs.Fitting.{below_limit}
 
 -- the tests of a word say what they are named for
 begins : (word : List ℕ) → begins_with_dash word ≡ true → BeginsWithDash word
@@ -153,11 +153,6 @@ with_modules made None apart h = tt
 with_modules made (Some modules) apart h = h modules apart
 
 -- ---- numbers
-
-below_limit : (limit : ℕ) (word : List ℕ) → IfSome (decimal_below limit word) (λ number. number < limit)
-below_limit limit word =
-    of_cond (λ found. IfSome found (λ number. number < limit)) (is_decimal word && nat_lt (digits_value 10 word) limit) (Some (digits_value 10 word)) None
-    (λ e. ltb-true _ _ (and_parts (is_decimal word) (nat_lt (digits_value 10 word) limit) e).1) (λ _. tt)
 
 -- what holds of what is found, and of what comes of it
 found_then : {A B : Type 0} (P : A → Type 0) (Q : B → Type 0) (next : A → Option B) (found : Option A) → IfSome found P → ((a : A) → P a → IfSome (next a) Q)

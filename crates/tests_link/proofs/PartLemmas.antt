@@ -2,8 +2,8 @@
 use Rattle.std.proofs.Common.{◌≡◌, ℕ, ◌<◌, zero, suc, List, [], ◌∷◌, ◌++◌, length, length-append, Some, slice_get, sym, subst, arith}
 use Rattle.std.specs.List.{All}
 use Rattle.std.proofs.lemmas.List.Elements.{All-append, All-cons, All-nil}
-use Rattle.std.proofs.lemmas.Option.{none-some}
-use Rattle.bl_base.proofs.Lists.{all_get, some_same}
+use Rattle.std.proofs.lemmas.Option.{none-some, same_Some}
+use Rattle.bl_base.proofs.Lists.{all_get}
 use Rattle.bl_link.specs.Linkable.{AreParts, IsPart}
 use Rattle.bl_link.specs.Stores.{AreApart}
 use Rattle.bl_link.specs.declared.part.Part.{Part}
@@ -31,5 +31,5 @@ more_parts parts these more part name are is few read named new all =
     here = subst (λ (ps : List Part). All (λ (one : Part). one.name ≡ part.name → ⊥) ps) read (subst (λ n. All (λ (one : Part). one.name ≡ n → ⊥) these) named new)
 
     clash : (i : ℕ) (a : Part) (j : ℕ) (b : Part) → slice_get parts i ≡ Some a → slice_get (part ∷ []) j ≡ Some b → a.name ≡ b.name → ⊥
-    clash i a zero b e f same = all_get (λ (one : Part). one.name ≡ part.name → ⊥) parts i a here e (subst (λ (x : Part). a.name ≡ x.name) (sym (some_same part b f)) same)
+    clash i a zero b e f same = all_get (λ (one : Part). one.name ≡ part.name → ⊥) parts i a here e (subst (λ (x : Part). a.name ≡ x.name) (sym (same_Some part b f)) same)
     clash i a (suc j) b e f same = none-some b f

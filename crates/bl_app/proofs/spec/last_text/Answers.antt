@@ -1,5 +1,5 @@
 use Rattle.std.proofs.Common.{subst}
-use Rattle.bl_rob.specs.Answers.{Told, outcome_in, shown}
+use Rattle.bl_rob.specs.CallResults.{Told, outcome_in, shown}
 use Rattle.bl_build.specs.Working.{entered_in, entry_in}
 use Rattle.bl_app.proofs.SpecWork.{said_run}
 use Rattle.bl_app.proofs.spec.last_text.Goals as goal

@@ -1,6 +1,6 @@
 use Rattle.std.proofs.Common.{◌≡◌, ◌++◌, ◌∙◌, ap, map}
 use Rattle.std.specs.List.{flat_map}
-use Rattle.bl_rob.specs.Answers.{outcome_in, seen_in, shown}
+use Rattle.bl_rob.specs.CallResults.{outcome_in, seen_in, shown}
 use Rattle.bl_rob.specs.Observed.{Observed}
 use Rattle.bl_trace.specs.Observations.{observation_text}
 use Rattle.bl_app.specs.Speculating.{last_text, spec_status}

@@ -1,4 +1,4 @@
-use Rattle.bl_rob.specs.Answers.{seen_in, shown}
+use Rattle.bl_rob.specs.CallResults.{seen_in, shown}
 use Rattle.bl_app.proofs.SpecWork.{observed_so}
 use Rattle.bl_app.proofs.twin.seen_from.Goals as goal
 

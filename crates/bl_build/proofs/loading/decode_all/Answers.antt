@@ -13,9 +13,10 @@ use Rattle.bl_decode.specs.Decoding.{Answers}
 use Rattle.bl_build.specs.Loading.{decoding, parts_of}
 use Rattle.bl_build.specs.Working.{contents_in, spelled_in}
 use Rattle.bl_build.specs.declared.loading.Spelled.{Spelled}
-use Rattle.bl_build.proofs.LoadSteps.{names_now, next_decoded, not_decoded}
+use Rattle.bl_build.proofs.LoadSteps.{next_decoded, not_decoded}
 use Rattle.bl_build.proofs.StageLemmas.{goes_ends}
 use Rattle.bl_build.proofs.loading.decode_all.Goals as goal
+use Rattle.bl_words.proofs.ModuleWords.{words_in}
 
 abbrev IsText : Spelled → Type 0
 IsText one = IsUtf8 one.name.now
@@ -31,7 +32,7 @@ loop-word-preserved c =
     record {
       can = (tt, tt);
       finite = tt;
-      goes = next_decoded (parts_of (names_now c.args.words.now) (contents_in c.args.contents.now)) (iter_rest (zip_first c.loop-word.word-iterator)) (iter_rest (zip_first c.next.new.self))
+      goes = next_decoded (parts_of (words_in c.args.words.now) (contents_in c.args.contents.now)) (iter_rest (zip_first c.loop-word.word-iterator)) (iter_rest (zip_first c.next.new.self))
           (iter_rest (zip_second c.loop-word.word-iterator)) (iter_rest (zip_second c.next.new.self)) c.loop-word.all.items _ c.module_name-name.result _ more.0 more.1 c.module_name-name.ensures
           c.loop-word.invariant.goes c.in-Ok.tree c.push.new.self.items grown (rw c.deref.ensures.value at c.in-Ok.ensures.answer);
       text = subst (All IsText) (sym grown) (All-push IsText c.loop-word.all.items value c.loop-word.invariant.text (subst IsUtf8 c.as_bytes-text.ensures.value c.as_bytes-text.ensures.utf8));
@@ -41,12 +42,12 @@ loop-word-preserved c =
 pub returns-in-Err-clause-staged : goal.returns-in-Err-clause-staged
 returns-in-Err-clause-staged c =
     let more = Zip-more c.loop-word.word-iterator c.next.new.self c.next.result _ c.in-Some.is c.next.ensures.steps in
-    not_decoded (parts_of (names_now c.args.words.now) (contents_in c.args.contents.now)) (iter_rest (zip_first c.loop-word.word-iterator)) (iter_rest (zip_first c.next.new.self))
+    not_decoded (parts_of (words_in c.args.words.now) (contents_in c.args.contents.now)) (iter_rest (zip_first c.loop-word.word-iterator)) (iter_rest (zip_first c.next.new.self))
     (iter_rest (zip_second c.loop-word.word-iterator)) (iter_rest (zip_second c.next.new.self)) c.loop-word.all.items _ c.module_name-name.result _ more.0 more.1 c.module_name-name.ensures
     c.loop-word.invariant.goes (λ (all : Vec Spelled Global). map spelled_in all.items) c.in-Err.error c.of_decoding.result c.of_decoding.ensures (subst (λ (these : List ℕ). Answers these (Err c.in-Err.error)) c.deref.ensures.value c.in-Err.ensures.answer)
 
 -- where no word or no file is left, no part is
-no_parts : (words : List (Bor (List ℕ))) (contents : List (Vec ℕ Global)) → (words ≡ []) ⊎ (contents ≡ []) → parts_of (names_now words) (contents_in contents) ≡ []
+no_parts : (words : List (Bor (List ℕ))) (contents : List (Vec ℕ Global)) → (words ≡ []) ⊎ (contents ≡ []) → parts_of (words_in words) (contents_in contents) ≡ []
 no_parts [] contents e = refl
 no_parts (word ∷ words) [] e = refl
 no_parts (word ∷ words) (bytes ∷ contents) (inl e) = absurd cc
@@ -54,5 +55,5 @@ no_parts (word ∷ words) (bytes ∷ contents) (inr e) = absurd cc
 
 pub returns-clause-staged : goal.returns-clause-staged
 returns-clause-staged c =
-    goes_ends decoding (parts_of (names_now c.args.words.now) (contents_in c.args.contents.now)) _ _
+    goes_ends decoding (parts_of (words_in c.args.words.now) (contents_in c.args.contents.now)) _ _
     (no_parts _ _ (either_empty_from_Zip c.loop-word.word-iterator c.next.new.self c.next.result c.in-None.is c.next.ensures.steps)) c.loop-word.invariant.goes

@@ -11,8 +11,9 @@ use Rattle.bl_build.specs.Working.{checked_in, contents_in, ready_in, spelled_in
 use Rattle.bl_build.specs.declared.loading.Checked.{Checked}
 use Rattle.bl_build.specs.declared.loading.Ready.{Ready}
 use Rattle.bl_build.proofs.LinkLemmas.{linkable, texts_kept, texts_kept_on}
-use Rattle.bl_build.proofs.LoadSteps.{are_sane, first_refuses, named_texts, names_now, then_staged}
+use Rattle.bl_build.proofs.LoadSteps.{are_sane, first_refuses, named_texts, then_staged}
 use Rattle.bl_build.proofs.loading.load.Goals as goal
+use Rattle.bl_words.proofs.ModuleWords.{words_in}
 
 -- the tree is what it is
 abbrev itself : Tree → Tree
@@ -22,7 +23,7 @@ pub returns-in-Err-validate_all : goal.returns-in-Err-validate_all
 returns-in-Err-validate_all c =
     let labelled = chain (each labelling) linking in
     let spelled = map spelled_in c.in-Ok.spelled.items in
-    then_staged (each decoding) (chain (each validation) labelled) itself (parts_of (names_now c.args.words.now) (contents_in c.args.contents.now)) spelled (Err c.in-Err-validate_all.error) c.in-Ok.ensures.staged
+    then_staged (each decoding) (chain (each validation) labelled) itself (parts_of (words_in c.args.words.now) (contents_in c.args.contents.now)) spelled (Err c.in-Err-validate_all.error) c.in-Ok.ensures.staged
     (first_refuses (each validation) labelled itself spelled (λ (all : Vec Checked Global). map checked_in all.items) c.in-Err-validate_all.error c.in-Err-validate_all.ensures)
 
 pub link_all-requires : goal.link_all-requires
@@ -30,9 +31,9 @@ link_all-requires c =
     let spelled = map spelled_in c.in-Ok.spelled.items in
     let checked = map checked_in c.in-Ok-validate_all.checked.items in
     let ready = map ready_in c.in-Ok-label_all.ready.items in
-    let few : length (names_now c.args.words.now) ≤ limit_of quantity.Modules = omega (arith, c.requires.few, length-map c.args.words.now (λ (word : Bor (List ℕ)). word.now)) in
+    let few : length (words_in c.args.words.now) ≤ limit_of quantity.Modules = omega (arith, c.requires.few, length-map c.args.words.now (λ (word : Bor (List ℕ)). word.now)) in
     let text = texts_kept_on checked ready c.in-Ok-label_all.ensures.staged (texts_kept spelled checked c.in-Ok-validate_all.ensures (named_texts c.in-Ok.spelled.items c.in-Ok.ensures.text)) in
-    linkable (names_now c.args.words.now) (contents_in c.args.contents.now) spelled checked ready few c.requires.apart c.requires.short c.in-Ok.ensures.staged
+    linkable (words_in c.args.words.now) (contents_in c.args.contents.now) spelled checked ready few c.requires.apart c.requires.short c.in-Ok.ensures.staged
     c.in-Ok-validate_all.ensures c.in-Ok-label_all.ensures.staged text (are_sane c.in-Ok-label_all.ready.items c.in-Ok-label_all.ensures.consistent)
 
 pub returns-in-Ok-label_all : goal.returns-in-Ok-label_all
@@ -41,7 +42,7 @@ returns-in-Ok-label_all c =
     let spelled = map spelled_in c.in-Ok.spelled.items in
     let checked = map checked_in c.in-Ok-validate_all.checked.items in
     let ready = map ready_in c.in-Ok-label_all.ready.items in
-    then_staged (each decoding) (chain (each validation) labelled) itself (parts_of (names_now c.args.words.now) (contents_in c.args.contents.now)) spelled c.link_all.result c.in-Ok.ensures.staged
+    then_staged (each decoding) (chain (each validation) labelled) itself (parts_of (words_in c.args.words.now) (contents_in c.args.contents.now)) spelled c.link_all.result c.in-Ok.ensures.staged
     (then_staged (each validation) labelled itself spelled checked c.link_all.result c.in-Ok-validate_all.ensures
     (then_staged (each labelling) linking itself checked ready c.link_all.result c.in-Ok-label_all.ensures.staged c.link_all.ensures))
 
@@ -50,6 +51,6 @@ returns-in-Err-label_all c =
     let labelled = chain (each labelling) linking in
     let spelled = map spelled_in c.in-Ok.spelled.items in
     let checked = map checked_in c.in-Ok-validate_all.checked.items in
-    then_staged (each decoding) (chain (each validation) labelled) itself (parts_of (names_now c.args.words.now) (contents_in c.args.contents.now)) spelled (Err c.in-Err-label_all.error) c.in-Ok.ensures.staged
+    then_staged (each decoding) (chain (each validation) labelled) itself (parts_of (words_in c.args.words.now) (contents_in c.args.contents.now)) spelled (Err c.in-Err-label_all.error) c.in-Ok.ensures.staged
     (then_staged (each validation) labelled itself spelled checked (Err c.in-Err-label_all.error) c.in-Ok-validate_all.ensures
     (first_refuses (each labelling) linking itself checked (λ (all : Vec Ready Global). map ready_in all.items) c.in-Err-label_all.error c.in-Err-label_all.ensures.staged))

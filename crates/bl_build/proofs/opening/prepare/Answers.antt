@@ -1,7 +1,7 @@
 use Rattle.std.proofs.Common.{sym, subst, ◌∙◌}
 use Rattle.std.specs.Prelude.{Err}
 use Rattle.bl_base.specs.Fits.{Fits}
-use Rattle.bl_trace.specs.Answers.{answer_of, IsAnswer}
+use Rattle.bl_trace.specs.StartFiles.{answer_of, IsAnswer}
 use Rattle.bl_build.specs.Running.{opening}
 use Rattle.bl_build.specs.Working.{IsStaged, opened_in}
 use Rattle.bl_build.proofs.OpeningLemmas.{exported_exists, start_of_type, start_refused}

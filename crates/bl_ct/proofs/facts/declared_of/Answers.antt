@@ -1,8 +1,8 @@
 use Rattle.std.proofs.Common.{◌≡◌, ◌<◌, ◌^◌, Some, slice_get, [], length, sym, ap, subst, arith}
 use Rattle.std.specs.List.{slice_index_or}
+use Rattle.bl_base.proofs.Lists.{item_at}
 use Rattle.bl_cmd.specs.Layout.{first_of}
 use Rattle.bl_cmd.specs.declared.definitions.FunctionDef.{FunctionDef}
-use Rattle.bl_graph.proofs.Summing.{item_at}
 use Rattle.bl_ct.specs.Facts.{Gathers, SomeAt, GlobalFits, ParamFits, FunctionFits}
 use Rattle.bl_ct.proofs.Declaring.{declared_are, first_is, firsts_count, globals_few, params_fit}
 use Rattle.bl_ct.proofs.Gathering.{behind_begin, behind_next, behind_end}

@@ -3,13 +3,14 @@ use Rattle.std.specs.Prelude.{◌↔◌}
 use Rattle.std.specs.List.{slice_index_or, Contains}
 use Rattle.std.proofs.lemmas.List.{get_or-map, length-replicate}
 use Rattle.std.proofs.lemmas.Option.{slice_get-get_or}
+use Rattle.bl_base.proofs.Lists.{marked_within}
 use Rattle.bl_cmd.specs.declared.definitions.ProgramParts.{ProgramParts as Program}
 use Rattle.bl_ct.specs.declared.search.Step.{Step}
 use Rattle.bl_ct.specs.declared.search.Cause.TheVariants as cause_
 use Rattle.bl_cmd.specs.Sites.{Reads}
 use Rattle.bl_ct.specs.Finding.{Visits, RowFits, RowAsks, Some_fits, Some_asks, rows_in, row_at, Has}
 use Rattle.bl_ct.proofs.Knowing.{range, declared_in, loads_in}
-use Rattle.bl_ct.proofs.Rowing.{elem, marked_in}
+use Rattle.bl_ct.proofs.Rowing.{elem}
 use Rattle.bl_ct.proofs.Visiting.{search_begins, search_next, search_ends}
 use Rattle.bl_ct.proofs.search.search.Goals as goal
 
@@ -53,7 +54,7 @@ bounds-readers-var c =
     let loop = c.loop-next in
     let lt : loop.next < length loop.queue.items = let e = c.len.ensures in let ok = loop.queue.ok.0 in let test = c.loop-next-test.true in omega arith in
     let step : Step = c.index.result.now in
-    let below = marked_in loop.marks.items step.var (loop.invariant.queued step (loop.next, lt, sym c.index.ensures)) in
+    let below = marked_within loop.marks.items step.var (loop.invariant.queued step (loop.next, lt, sym c.index.ensures)) in
     let places = loop.invariant.places in
     let vars = c.requires.vars in
     omega arith
@@ -63,7 +64,7 @@ find_moved-requires-clause-sites c = λ k d within.
     let loop = c.loop-next in
     let lt : loop.next < length loop.queue.items = let e = c.len.ensures in let ok = loop.queue.ok.0 in let test = c.loop-next-test.true in omega arith in
     let step : Step = c.index.result.now in
-    let low = marked_in loop.marks.items step.var (loop.invariant.queued step (loop.next, lt, sym c.index.ensures)) in
+    let low = marked_within loop.marks.items step.var (loop.invariant.queued step (loop.next, lt, sym c.index.ensures)) in
     let places = loop.invariant.places in
     let vars = c.requires.vars in
     let below : step.var < length c.args.readers.now = omega arith in
@@ -87,7 +88,7 @@ loop-next-preserved c =
     let loop = c.loop-next in
     let lt : loop.next < length loop.queue.items = let e = c.len.ensures in let ok = loop.queue.ok.0 in let test = c.loop-next-test.true in omega arith in
     let step : Step = c.index.result.now in
-    let low = marked_in loop.marks.items step.var (loop.invariant.queued step (loop.next, lt, sym c.index.ensures)) in
+    let low = marked_within loop.marks.items step.var (loop.invariant.queued step (loop.next, lt, sym c.index.ensures)) in
     let places = loop.invariant.places in
     let vars = c.requires.vars in
     let below : step.var < length c.args.readers.now = omega arith in

@@ -2,6 +2,7 @@ use Rattle.std.proofs.Common.{ℕ, List, Bool, length, arith, sym, subst, ap, �
 use Rattle.std.specs.Prelude.{◌↔◌, IsTrue}
 use Rattle.std.specs.List.{slice_index_or}
 use Rattle.std.specs.declared.option.Option.TheVariants as option_
+use Rattle.bl_base.proofs.Lists.{marked_within}
 use Rattle.bl_cmd.specs.declared.definitions.ProgramParts.{ProgramParts as Program}
 use Rattle.bl_graph.specs.SecretChains.{IsSecretChain}
 use Rattle.bl_graph.specs.Secrets.{Demands}
@@ -12,7 +13,7 @@ use Rattle.bl_ct.specs.Verdicts.{IsLeastLabelling, label_of}
 use Rattle.bl_ct.proofs.Excluding.{chain_not}
 use Rattle.bl_ct.proofs.Judging.{demanded_exact, labelling, leaks}
 use Rattle.bl_ct.proofs.Knowing.{secrets_in_range}
-use Rattle.bl_ct.proofs.Rowing.{elem, marked_in}
+use Rattle.bl_ct.proofs.Rowing.{elem}
 use Rattle.bl_ct.proofs.verdict.judge.Goals as goal
 
 pub marked-requires : goal.marked-requires
@@ -40,7 +41,7 @@ pub first_leak-requires : goal.first_leak-requires
 first_leak-requires c = λ k d lt.
     let step : Step = slice_index_or c.deref-2.result.now k d in
     let searched : Searched c.args.known.now.program.now c.in_ok-found.found.marks.items c.in_ok-found.found.queue.items = c.in_ok-found.ensures in
-    let marked = marked_in c.in_ok-found.found.marks.items step.var
+    let marked = marked_within c.in_ok-found.found.marks.items step.var
     (searched.queued step (elem c.deref-2.result.now c.in_ok-found.found.queue.items c.deref-2.ensures.value k d lt)) in
     let places = searched.places in
     let table : AreEnds c.args.known.now.program.now c.in_ok-ends.ends.items = c.in_ok-ends.ensures in

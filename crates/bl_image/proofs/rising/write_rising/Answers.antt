@@ -1,7 +1,8 @@
 use Rattle.std.proofs.Common.{◌≡◌, ◌≤◌, ◌<◌, ◌^◌, ◌+◌, ◌-◌, ℕ, suc, ◌∷◌, take, drop, length, arith, sym, ap, ◌∙◌, subst}
+use Rattle.bl_base.proofs.Lists.{rest_at}
 use Rattle.bl_image.specs.Grammar.{◌⨾◌, gap}
 use Rattle.bl_image.specs.Writing.{Adds, Rises}
-use Rattle.bl_image.proofs.Adds.{seq, adds_as, more_added, taken, dropped}
+use Rattle.bl_image.proofs.Adds.{seq, adds_as, more_added, taken}
 use Rattle.bl_image.proofs.Chains.{behind, behind_more}
 use Rattle.bl_image.proofs.rising.write_rising.Goals as goal
 
@@ -17,7 +18,7 @@ loop-thing-preserved g c =
     let front = taken xs i x less c.thing-item.is in
     let is : c.from-number.result ≡ number x = c.from-number.ensures ∙ c.number.ensures in
     let small : number x < 2 ^ 32 = omega (arith, c.number.type_inv, c.number.ensures) in
-    let left = subst (Rises number least) (dropped xs i x less c.thing-item.is) c.loop-thing.invariant.left in
+    let left = subst (Rises number least) (rest_at xs i x less c.thing-item.is) c.loop-thing.invariant.left in
     let from : least ≤ number x = left.0 in
     let far = c.from-number.result - least in
     let whole : number x ≡ least + far = omega arith in

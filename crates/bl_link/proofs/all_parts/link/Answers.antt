@@ -2,7 +2,7 @@ use Rattle.std.proofs.Common.{◌≡◌, ◌∙◌, subst, List}
 use Rattle.std.specs.List.{All}
 use Rattle.std.specs.Vec.Iter.{into_iter_items}
 use Rattle.bl_link.specs.Linkable.{IsSound}
-use Rattle.bl_link.specs.Parts.{Part}
+use Rattle.bl_link.specs.IndexSpaces.{Part}
 use Rattle.bl_link.proofs.Linking.{all_left, can_run, few_reserved, from_fold}
 use Rattle.bl_link.proofs.Whole.{all_kept}
 use Rattle.bl_link.proofs.all_parts.link.Goals as goal

@@ -1,7 +1,7 @@
 use Rattle.std.proofs.Common.{◌≡◌, ◌∙◌, ap, List}
 use Rattle.bl_wasm.specs.declared.module.Module.{Module}
 use Rattle.bl_link.specs.Links.{part_of}
-use Rattle.bl_link.specs.Parts.{External, Spaces, Store, spaces_of}
+use Rattle.bl_link.specs.IndexSpaces.{External, Spaces, Store, spaces_of}
 use Rattle.bl_link.proofs.PartLemmas.{apart_at, makes_next, room_at}
 use Rattle.bl_link.proofs.all_parts.link_module.Goals as goal
 

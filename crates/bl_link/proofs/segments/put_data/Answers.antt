@@ -1,6 +1,6 @@
 use Rattle.std.proofs.Common.{◌∙◌, sym, ap, arith}
 use Rattle.bl_link.specs.Links.{first_value}
-use Rattle.bl_link.specs.Parts.{number, written}
+use Rattle.bl_link.specs.IndexSpaces.{number, written}
 use Rattle.bl_link.proofs.SegmentLemmas.{changed_past, put_at}
 use Rattle.bl_link.proofs.segments.put_data.Goals as goal
 

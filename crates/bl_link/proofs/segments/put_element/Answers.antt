@@ -1,6 +1,6 @@
 use Rattle.std.proofs.Common.{◌∙◌, sym, ap, arith, map, Some}
 use Rattle.bl_link.specs.Links.{first_value}
-use Rattle.bl_link.specs.Parts.{number, written}
+use Rattle.bl_link.specs.IndexSpaces.{number, written}
 use Rattle.bl_link.proofs.SegmentLemmas.{changed_past}
 use Rattle.bl_link.proofs.SlotLemmas.{slots_at}
 use Rattle.bl_link.proofs.segments.put_element.Goals as goal

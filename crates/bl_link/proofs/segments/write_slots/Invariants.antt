@@ -1,5 +1,5 @@
 use Rattle.std.proofs.Common.{◌≡◌, map, take, Some}
-use Rattle.bl_link.specs.Parts.{number, written}
+use Rattle.bl_link.specs.IndexSpaces.{number, written}
 use Rattle.bl_link.proofs.segments.write_slots.Given as goal
 
 abbrev pub invariant-loop-i : goal.invariant-loop-i

@@ -1,5 +1,5 @@
 use Rattle.std.proofs.Common.{◌≡◌, ◌++◌, drop}
-use Rattle.bl_link.specs.Parts.{of_kind}
+use Rattle.bl_link.specs.IndexSpaces.{of_kind}
 use Rattle.bl_link.proofs.spaces.of_kind.Given as goal
 
 abbrev pub invariant-loop-value : goal.invariant-loop-value

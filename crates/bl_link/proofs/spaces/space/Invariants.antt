@@ -1,6 +1,6 @@
 use Rattle.std.proofs.Common.{◌≡◌, ◌++◌}
 use Rattle.std.specs.List.{range_with_len}
-use Rattle.bl_link.specs.Parts.{of_kind}
+use Rattle.bl_link.specs.IndexSpaces.{of_kind}
 use Rattle.bl_link.proofs.spaces.space.Given as goal
 
 abbrev pub invariant-loop-i : goal.invariant-loop-i

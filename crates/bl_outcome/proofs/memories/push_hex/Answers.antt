@@ -1,8 +1,9 @@
 use Rattle.std.proofs.Common.{◌+◌, ◌-◌, ◌++◌, ◌∙◌, ap, arith}
 use Rattle.std.specs.Prelude.{slice_index}
 use Rattle.std.specs.List.{flat_map, range_with_len}
+use Rattle.bl_base.proofs.PieceLemmas.{pieces_next, pieces_all}
 use Rattle.bl_outcome.specs.Outcomes.{hex_text}
-use Rattle.bl_outcome.proofs.MemoryTexts.{hex_begin, pieces_all, pieces_next}
+use Rattle.bl_outcome.proofs.MemoryTexts.{hex_begin}
 use Rattle.bl_outcome.proofs.memories.push_hex.Goals as goal
 
 pub loop-place-init : goal.loop-place-init

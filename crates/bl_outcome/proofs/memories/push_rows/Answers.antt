@@ -1,7 +1,7 @@
 use Rattle.std.proofs.Common.{◌+◌, ◌-◌, ◌*◌, ◌/◌, ◌++◌, ◌∙◌, ap, arith, length}
 use Rattle.std.specs.List.{flat_map, range_with_len}
+use Rattle.bl_base.proofs.PieceLemmas.{pieces_next, pieces_all}
 use Rattle.bl_outcome.specs.Outcomes.{row_text}
-use Rattle.bl_outcome.proofs.MemoryTexts.{pieces_all, pieces_next}
 use Rattle.bl_outcome.proofs.memories.push_rows.Goals as goal
 
 pub loop-row-preserved : goal.loop-row-preserved

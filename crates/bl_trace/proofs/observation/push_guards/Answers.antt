@@ -1,7 +1,7 @@
 use Rattle.std.proofs.Common.{◌≡◌, ◌++◌, ◌-◌, ◌+◌, ap, ◌∙◌, arith}
 use Rattle.std.specs.List.{flat_map, range_with_len}
+use Rattle.bl_base.proofs.PieceLemmas.{pieces_next, pieces_all}
 use Rattle.bl_trace.specs.Observations.{guard_text}
-use Rattle.bl_trace.proofs.Pieces.{pieces_all, pieces_next}
 use Rattle.bl_trace.proofs.observation.push_guards.Goals as goal
 
 pub loop-place-preserved : goal.loop-place-preserved

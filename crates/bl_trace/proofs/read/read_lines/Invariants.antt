@@ -1,5 +1,5 @@
 use Rattle.std.proofs.Common.{◌≡◌, ◌≤◌, ◌+◌, ◌-◌, length, drop}
-use Rattle.bl_trace.specs.Answers.{said}
+use Rattle.bl_trace.specs.StartFiles.{said}
 use Rattle.bl_trace.specs.Lines.{lines_of}
 use Rattle.bl_trace.proofs.Saying.{behind}
 use Rattle.bl_trace.proofs.read.read_lines.Given as goal

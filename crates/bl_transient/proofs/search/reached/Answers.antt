@@ -2,9 +2,10 @@ use Rattle.std.proofs.Common.{◌≡◌, ◌<◌, ◌≤◌, ◌++◌, [], List,
 use Rattle.std.proofs.lemmas.List.{get_or-map, get_or_default, length-map}
 use Rattle.std.proofs.lemmas.List.Elements.{Contains-get_or}
 use Rattle.std.specs.List.{Contains, slice_index_or}
+use Rattle.bl_base.proofs.Lists.{marked_within}
 use Rattle.bl_transient.proofs.RowLists.{rows_in, given_back}
 use Rattle.bl_transient.specs.Reaching.{IsVisited, row_at}
-use Rattle.bl_transient.proofs.Marks.{marked_in, search_begins, search_next, search_ends}
+use Rattle.bl_transient.proofs.Marks.{search_begins, search_next, search_ends}
 use Rattle.bl_transient.proofs.search.reached.Goals as goal
 
 pub loop-next-init : goal.loop-next-init
@@ -22,7 +23,7 @@ bounds-rows-node c =
     let loop = c.loop-next in
     let lt : loop.next < length loop.queue.items = let e = c.len.ensures in let ok = loop.queue.ok.0 in let test = c.loop-next-test.true in omega arith in
     let node : c.index.result.now ≡ slice_index loop.queue.items loop.next = c.index.ensures ∙ get_or_default loop.queue.items loop.next _ 0 lt in
-    let marked = marked_in loop.marks.items (slice_index loop.queue.items loop.next) (loop.invariant.queued (slice_index loop.queue.items loop.next) (Contains-get_or loop.queue.items loop.next 0 lt)) in
+    let marked = marked_within loop.marks.items (slice_index loop.queue.items loop.next) (loop.invariant.queued (slice_index loop.queue.items loop.next) (Contains-get_or loop.queue.items loop.next 0 lt)) in
     let places = loop.invariant.places in
     let long = length-map c.args.rows.now (λ r. r.items) in
     omega arith
@@ -32,7 +33,7 @@ visit-requires-in-loop-next c = λ k d within.
     let loop = c.loop-next in
     let lt : loop.next < length loop.queue.items = let e = c.len.ensures in let ok = loop.queue.ok.0 in let test = c.loop-next-test.true in omega arith in
     let node : c.index.result.now ≡ slice_index loop.queue.items loop.next = c.index.ensures ∙ get_or_default loop.queue.items loop.next _ 0 lt in
-    let marked = marked_in loop.marks.items (slice_index loop.queue.items loop.next) (loop.invariant.queued (slice_index loop.queue.items loop.next) (Contains-get_or loop.queue.items loop.next 0 lt)) in
+    let marked = marked_within loop.marks.items (slice_index loop.queue.items loop.next) (loop.invariant.queued (slice_index loop.queue.items loop.next) (Contains-get_or loop.queue.items loop.next 0 lt)) in
     let places = loop.invariant.places in
     let long = length-map c.args.rows.now (λ r. r.items) in
     let below : c.index.result.now < length c.args.rows.now = omega arith in
@@ -49,7 +50,7 @@ loop-next-preserved c =
     let loop = c.loop-next in
     let lt : loop.next < length loop.queue.items = let e = c.len.ensures in let ok = loop.queue.ok.0 in let test = c.loop-next-test.true in omega arith in
     let node : c.index.result.now ≡ slice_index loop.queue.items loop.next = c.index.ensures ∙ get_or_default loop.queue.items loop.next _ 0 lt in
-    let marked = marked_in loop.marks.items (slice_index loop.queue.items loop.next) (loop.invariant.queued (slice_index loop.queue.items loop.next) (Contains-get_or loop.queue.items loop.next 0 lt)) in
+    let marked = marked_within loop.marks.items (slice_index loop.queue.items loop.next) (loop.invariant.queued (slice_index loop.queue.items loop.next) (Contains-get_or loop.queue.items loop.next 0 lt)) in
     let places = loop.invariant.places in
     let long = length-map c.args.rows.now (λ r. r.items) in
     let below : c.index.result.now < length c.args.rows.now = omega arith in

@@ -1,6 +1,6 @@
 use Rattle.std.proofs.Common.{take, Bor, List, ℕ}
 use Rattle.bl_words.specs.Requests.{module_name}
-use Rattle.bl_words.proofs.NameSets.{Collects}
+use Rattle.bl_base.proofs.NameSets.{Collects}
 use Rattle.bl_words.proofs.modules.are_named_apart.Given as goal
 
 abbrev pub invariant-loop-word : goal.invariant-loop-word

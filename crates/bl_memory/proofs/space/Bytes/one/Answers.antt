@@ -1,5 +1,5 @@
 use Rattle.std.proofs.Common.{◌∙◌, sym}
-use Rattle.bl_memory.proofs.Writes.{one_is}
+use Rattle.bl_base.proofs.ByteLemmas.{one_is}
 use Rattle.bl_memory.proofs.space.Bytes.one.Goals as goal
 
 pub returns-clause-value : goal.returns-clause-value

@@ -1,5 +1,5 @@
 use Rattle.std.proofs.Common.{◌∙◌, ap, sym}
-use Rattle.bl_rob.specs.Answers.{is_enabled, shown}
+use Rattle.bl_rob.specs.CallResults.{is_enabled, shown}
 use Rattle.bl_rob.specs.Robs.{RobView}
 use Rattle.bl_rob.specs.declared.directive.Directive.TheVariants.{Retire}
 use Rattle.bl_rob.proofs.rob.Rob.enabled.Goals as goal

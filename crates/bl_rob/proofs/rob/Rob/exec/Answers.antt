@@ -1,5 +1,5 @@
 use Rattle.std.proofs.Common.{subst}
-use Rattle.bl_rob.specs.Answers.{Executes, shown}
+use Rattle.bl_rob.specs.CallResults.{Executes, shown}
 use Rattle.bl_rob.specs.Robs.{RobView}
 use Rattle.bl_rob.specs.declared.directive.Directive.TheVariants.{Exec}
 use Rattle.bl_rob.proofs.Reaching.{steps_reach}

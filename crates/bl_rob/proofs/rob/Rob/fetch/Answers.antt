@@ -1,4 +1,4 @@
-use Rattle.bl_rob.specs.Answers.{shown}
+use Rattle.bl_rob.specs.CallResults.{shown}
 use Rattle.bl_rob.specs.declared.directive.Directive.TheVariants.{Fetch}
 use Rattle.bl_rob.proofs.Reaching.{steps_reach}
 use Rattle.bl_rob.proofs.Rooms.{steps_fit}

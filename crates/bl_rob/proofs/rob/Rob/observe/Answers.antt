@@ -1,7 +1,7 @@
 use Rattle.std.proofs.Common.{◌≡◌, ◌+◌, ◌∙◌, get_or, refl, subst, sym, Some, None}
 use Rattle.std.specs.Prelude.{Err}
 use Rattle.bl_cmd.specs.declared.definitions.ProgramParts.{ProgramParts}
-use Rattle.bl_rob.specs.Answers.{Steps, shown}
+use Rattle.bl_rob.specs.CallResults.{Steps, shown}
 use Rattle.bl_rob.specs.Machines.{directive_step}
 use Rattle.bl_rob.specs.Observed.{Observes}
 use Rattle.bl_rob.specs.declared.directive.Directive.TheVariants.{Fetch}

@@ -1,5 +1,5 @@
 use Rattle.std.proofs.Common.{◌≡◌}
-use Rattle.bl_rob.specs.Answers.{shown}
+use Rattle.bl_rob.specs.CallResults.{shown}
 use Rattle.bl_rob.proofs.Observing.{SoFar}
 use Rattle.bl_rob.proofs.rob.Rob.observe.Given as goal
 

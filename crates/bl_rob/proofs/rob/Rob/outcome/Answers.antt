@@ -1,5 +1,5 @@
 use Rattle.std.proofs.Common.{◌∙◌, ap, sym}
-use Rattle.bl_rob.specs.Answers.{shown}
+use Rattle.bl_rob.specs.CallResults.{shown}
 use Rattle.bl_rob.specs.Machines.{end_in}
 use Rattle.bl_rob.specs.Robs.{RobView}
 use Rattle.bl_rob.proofs.Reaching.{whole_memories}

@@ -1,5 +1,5 @@
 use Rattle.std.proofs.Common.{subst}
-use Rattle.bl_rob.specs.Answers.{Steps, shown}
+use Rattle.bl_rob.specs.CallResults.{Steps, shown}
 use Rattle.bl_rob.specs.Robs.{RobView}
 use Rattle.bl_rob.specs.declared.directive.Directive.TheVariants.{Retire}
 use Rattle.bl_rob.proofs.Reaching.{steps_reach}

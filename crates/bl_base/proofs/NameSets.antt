@@ -11,6 +11,7 @@ use Rattle.std.proofs.lemmas.Map.Keys.{any_passes_from_place}
 use Rattle.std.proofs.lemmas.List.{take_more, get_or-take, length-take}
 use Rattle.std.proofs.lemmas.List.Folds.{list_any_more, Any-from_list_any}
 use Rattle.std.proofs.lemmas.Option.{slice_get_read}
+use Rattle.bl_base.proofs.Lists.{pushed_get}
 
 -- the order of the set
 abbrev pub by_bytes : Bor (List ℕ) → Bor (List ℕ) → Ordering
@@ -27,13 +28,6 @@ named_back a b = (eq_by_cmp_equiv nat_list_cmp_total).symm a b
 -- equal names are one
 named_same : (a b : List ℕ) → is_eq (slice_cmp nat_cmp a b) ≡ true → a ≡ b
 named_same a b same = exact_bytes a b ((Equal-is (slice_cmp nat_cmp a b)).0 same)
-
--- at the end of a list
-get_push : {X : Type 0} (xs : List X) (x : X) (i : ℕ) (a : X) → slice_get (xs ++ x ∷ []) i ≡ Some a → (slice_get xs i ≡ Some a) ⊎ ((i ≡ length xs) × (x ≡ a))
-get_push [] x zero a found = inr (refl, cc)
-get_push [] x (suc i) a found = absurd (cc)
-get_push (y ∷ xs) x zero a found = inl found
-get_push (y ∷ xs) x (suc i) a found = elim (get_push xs x i a found) as (λ _. (slice_get xs i ≡ Some a) ⊎ ((suc i ≡ suc (length xs)) × (x ≡ a))) [ inl before ↦ inl before | inr last ↦ inr (ap suc last.0, last.1) ]
 
 module _ {A : Type 0} (of : A → List ℕ) where
   -- no two have one name
@@ -59,12 +53,12 @@ module _ {A : Type 0} (of : A → List ℕ) where
   -- one more, of a new name
   distinct_push : (xs : List A) (entry : A) → AreApart xs → list_any (is_named (of entry)) xs ≡ false → AreApart (xs ++ entry ∷ [])
   distinct_push xs entry distinct none i j a b first second same =
-      elim (get_push xs entry i a first) as (λ _. i ≡ j) [
-        | inl before ↦ elim (get_push xs entry j b second) as (λ _. i ≡ j) [
+      elim (pushed_get xs entry i a first) as (λ _. i ≡ j) [
+        | inl before ↦ elim (pushed_get xs entry j b second) as (λ _. i ≡ j) [
           | inl also ↦ distinct i j a b before also same
           | inr last ↦ absurd (unnamed xs (of entry) none i a before (same ∙ ap (λ (x : A). of x) (sym last.1)))
         ]
-        | inr last ↦ elim (get_push xs entry j b second) as (λ _. i ≡ j) [
+        | inr last ↦ elim (pushed_get xs entry j b second) as (λ _. i ≡ j) [
           | inl also ↦ absurd (unnamed xs (of entry) none j b also (sym same ∙ ap (λ (x : A). of x) (sym last.1)))
           | inr both ↦ last.0 ∙ sym both.0
         ]
