@@ -67,10 +67,6 @@ module _ (program : Program) (is : AreInRange program) (set : ℕ → Bool) (sit
         | inr r ↦ inr (r.0, r.1, typing_trans program set r.0 r.2)
       ]
 
-  is_fed : (s : ℕ) → IsFed program set s → feeds program hot s ≡ true
-  is_fed s (inl load) = fed_load program hot s load
-  is_fed s (inr r) = fed_read program hot s r.0 r.1 (is_trans program set r.0 r.2)
-
   needed_if : (s : ℕ) → feeds program hot s ≡ true → cools program hot s ≡ true → IsNeeded s
   needed_if s fed cool =
       let how = cool_how program hot s cool in
