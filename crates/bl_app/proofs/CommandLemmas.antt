@@ -9,7 +9,7 @@ use Rattle.bl_app.specs.Jobs.{AreRead, FirstRefusal, IsLawful, Plan}
 use Rattle.bl_build.specs.Refusals.{Refusal}
 use Rattle.bl_words.specs.Requests.{Request, gen, harden, interp, lower, modules_in, request_of, run, spec, twin, verify}
 use Rattle.bl_app.specs.Worlds.{World}
-use Rattle.bl_app.specs.Status.{code_of, kind_of, of_deed, of_refusal}
+use Rattle.bl_app.specs.Status.{status_number, kind_of, of_deed, of_refusal}
 use Rattle.bl_app.specs.declared.status.Status.{Status}
 use Rattle.bl_app.specs.declared.status.Status.TheVariants as status
 use Rattle.bl_app.proofs.CountLemmas.{with_modules_lawful}
@@ -95,6 +95,6 @@ pub with_request : (request : Request) (old new : World) → Causes job_of (Some
 with_request request old new c = let none = c.usage_only refl in cc
 
 -- the number 0 says that the work was done
-pub done_by_zero : (s : Status) → code_of s ≡ 0 → kind_of s ≡ of_deed
+pub done_by_zero : (s : Status) → status_number s ≡ 0 → kind_of s ≡ of_deed
 done_by_zero s =
-    elim s as (λ t. code_of t ≡ 0 → kind_of t ≡ of_deed) [ status.Done ↦ λ e. refl | status.No ↦ λ e. refl | status.Trapped ↦ λ e. refl | status.Spent ↦ λ e. refl | _ ↦ λ e. absurd (omega (arith, e)) ]
+    elim s as (λ t. status_number t ≡ 0 → kind_of t ≡ of_deed) [ status.Done ↦ λ e. refl | status.No ↦ λ e. refl | status.Trapped ↦ λ e. refl | status.Spent ↦ λ e. refl | _ ↦ λ e. absurd (omega (arith, e)) ]

@@ -4,26 +4,26 @@ use Rattle.bl_build.specs.Refusals.{Refusal, malformed, invalid_function, invali
 use Rattle.bl_app.specs.declared.status.Status.{Status}
 use Rattle.bl_app.specs.declared.status.Status.TheVariants.{Done, No, Usage, ReadFault, WriteFault, Malformed, Invalid, Unsupported, Limit, Link, Labels, Memory, Image, Certificate, Trace, Start, Trapped, Spent, Stuck}
 
-abbrev pub code_of : Status → ℕ
-code_of Done = 0
-code_of No = 1
-code_of Usage = 2
-code_of ReadFault = 3
-code_of WriteFault = 4
-code_of Malformed = 5
-code_of Invalid = 6
-code_of Unsupported = 7
-code_of Limit = 8
-code_of Link = 9
-code_of Labels = 10
-code_of Memory = 11
-code_of Image = 12
-code_of Certificate = 13
-code_of Trace = 14
-code_of Start = 15
-code_of Trapped = 16
-code_of Spent = 17
-code_of Stuck = 18
+abbrev pub status_number : Status → ℕ
+status_number Done = 0
+status_number No = 1
+status_number Usage = 2
+status_number ReadFault = 3
+status_number WriteFault = 4
+status_number Malformed = 5
+status_number Invalid = 6
+status_number Unsupported = 7
+status_number Limit = 8
+status_number Link = 9
+status_number Labels = 10
+status_number Memory = 11
+status_number Image = 12
+status_number Certificate = 13
+status_number Trace = 14
+status_number Start = 15
+status_number Trapped = 16
+status_number Spent = 17
+status_number Stuck = 18
 
 -- the status of a refusal
 abbrev pub status_of : Refusal → Status
@@ -80,5 +80,5 @@ kind_of Stuck = of_deed
 -- the number is that of a status with that property
 pub record IsStatus (code : ℕ) (P : Status → Type 0) : Type 0 where
   pub status : Status
-  pub is_code : code ≡ code_of status
+  pub is_code : code ≡ status_number status
   pub holds : P status

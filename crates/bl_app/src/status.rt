@@ -1,6 +1,6 @@
 //! Exit statuses.
 ghost use Rattle.std.specs.Prelude.{◌≡◌};
-ghost use Rattle.bl_app.specs.Status.{code_of, status_of};
+ghost use Rattle.bl_app.specs.Status.{status_number, status_of};
 ghost use Rattle.bl_build.specs.Working.{refusal_in};
 
 use bl_build::Refusal;
@@ -51,7 +51,7 @@ pub enum Status {
 impl Status {
     /// The number that the process ends with.
     pub fn code(self) -> u8
-        ensures { result ≡ code_of self }
+        ensures { result ≡ status_number self }
     {
         match self {
             Status::Done => 0,

@@ -1,6 +1,6 @@
 -- Runs of one machine, and of two machines that keep step.
 use Rattle.std.proofs.Common.{◌≡◌, ℕ, zero, suc, ◌+◌, ◌*◌, ◌≤◌, refl, sym, ap, ◌∙◌, subst, arith}
-use Rattle.bl_base.specs.Runs.{Outcome, Next, goes, ends, stuck, Comes, EndsAfter, last, more}
+use Rattle.bl_base.specs.Runs.{Outcome, Next, goes, ends, stuck, StepsTo, EndsAfter, last, more}
 
 -- what a step that isn't stuck gives: one outcome, or one configuration
 abbrev pub IsEnd : {C : Type 0} → Next C → Outcome → Type 0
@@ -50,20 +50,20 @@ module _ {C : Type 0} (step : C → Next C) where
       (ap suc u.0 ∙ sym t.1, u.1)
 
   -- ways compose
-  pub comes_then : (j k : ℕ) (c d e : C) → Comes step j c d → Comes step k d e → Comes step (j + k) c e
+  pub comes_then : (j k : ℕ) (c d e : C) → StepsTo step j c d → StepsTo step k d e → StepsTo step (j + k) c e
   comes_then zero k c d e h i =
       let same : k ≡ 0 + k = omega arith in
-      subst (λ n. Comes step n c e) same (subst (λ x. Comes step k x e) (sym h) i)
+      subst (λ n. StepsTo step n c e) same (subst (λ x. StepsTo step k x e) (sym h) i)
   comes_then (suc j) k c d e h i =
       let same : suc (j + k) ≡ suc j + k = omega arith in
-      subst (λ n. Comes step n c e) same (h.0, h.1, comes_then j k h.0 d e h.2 i)
+      subst (λ n. StepsTo step n c e) same (h.0, h.1, comes_then j k h.0 d e h.2 i)
 
-  pub comes_to_end : (j m : ℕ) (c d : C) (o : Outcome) → Comes step j c d → EndsAfter step m d o → EndsAfter step (j + m) c o
+  pub comes_to_end : (j m : ℕ) (c d : C) (o : Outcome) → StepsTo step j c d → EndsAfter step m d o → EndsAfter step (j + m) c o
   comes_to_end zero m c d o h r = run_steps m (0 + m) c o (omega arith) (run_at m d c o h r)
   comes_to_end (suc j) m c d o h r = run_steps (suc (j + m)) (suc j + m) c o (omega arith) (more (j + m) c h.0 o h.1 (comes_to_end j m h.0 d o h.2 r))
 
   -- what is left of a run after a way
-  pub run_after : (j m : ℕ) (c d : C) (o : Outcome) → Comes step j c d → EndsAfter step m c o → (k : ℕ) × (m ≡ j + k) × EndsAfter step k d o
+  pub run_after : (j m : ℕ) (c d : C) (o : Outcome) → StepsTo step j c d → EndsAfter step m c o → (k : ℕ) × (m ≡ j + k) × EndsAfter step k d o
   run_after zero m c d o h r = (m, omega arith, run_at m c d o (sym h) r)
   run_after (suc j) m c d o h r =
       let t = run_rest m c h.0 o h.1 r in
@@ -75,7 +75,7 @@ module _ {C : Type 0} (step : C → Next C) where
 module _ {C S : Type 0} (source : C → Next C) (target : S → Next S) (bound : ℕ) (Matches : C → S → Type 0) where
   -- what the second machine does from there where the first one steps so
   abbrev pub Follows : Next C → S → Type 0
-  Follows (goes d) s = (j : ℕ) × (t : S) × (1 ≤ j) × (j ≤ bound) × Comes target j s t × Matches d t
+  Follows (goes d) s = (j : ℕ) × (t : S) × (1 ≤ j) × (j ≤ bound) × StepsTo target j s t × Matches d t
   Follows (ends o) s = (j : ℕ) × (1 ≤ j) × (j ≤ bound) × EndsAfter target j s o
   Follows stuck s = ⊥
 

@@ -29,9 +29,9 @@ HasStep stuck = ⊥
 
 module _ {C : Type 0} (step : C → Next C) where
   -- the run from a configuration comes to another one in exactly so many steps
-  abbrev pub Comes : ℕ → C → C → Type 0
-  Comes zero c d = c ≡ d
-  Comes (suc n) c d = (next : C) × (step c ≡ goes next) × Comes n next d
+  abbrev pub StepsTo : ℕ → C → C → Type 0
+  StepsTo zero c d = c ≡ d
+  StepsTo (suc n) c d = (next : C) × (step c ≡ goes next) × StepsTo n next d
 
   -- the run from a configuration ends with that outcome after exactly so many steps, the last included
   pub data EndsAfter : ℕ → C → Outcome → Type 0 where

@@ -4,15 +4,15 @@ use Rattle.bl_base.specs.declared.trap.Trap.{Trap}
 use Rattle.bl_base.specs.declared.trap.Trap.TheVariants.{Unreachable, DivideByZero, Overflow, OutOfBounds, UndefinedElement, UninitializedElement, TypeMismatch, StackExhausted}
 
 -- the number of a kind
-abbrev pub code_of : Trap → ℕ
-code_of Unreachable = 0
-code_of DivideByZero = 1
-code_of Overflow = 2
-code_of OutOfBounds = 3
-code_of UndefinedElement = 4
-code_of UninitializedElement = 5
-code_of TypeMismatch = 6
-code_of StackExhausted = 7
+abbrev pub trap_number : Trap → ℕ
+trap_number Unreachable = 0
+trap_number DivideByZero = 1
+trap_number Overflow = 2
+trap_number OutOfBounds = 3
+trap_number UndefinedElement = 4
+trap_number UninitializedElement = 5
+trap_number TypeMismatch = 6
+trap_number StackExhausted = 7
 
 -- the kinds in the order of their numbers
 abbrev pub kinds : List Trap

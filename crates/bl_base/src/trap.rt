@@ -1,6 +1,6 @@
 //! The ways in which a run can trap.
 ghost use Rattle.std.specs.Prelude.{◌≡◌};
-ghost use Rattle.bl_base.specs.Trap.{code_of, text_of, trap_of};
+ghost use Rattle.bl_base.specs.Trap.{trap_number, text_of, trap_of};
 
 /// Why a run trapped (WebAssembly 1.0, section 4.4; the texts are those of its test suite).
 #[derive(Clone, Copy, Debug, PartialEq, Eq, PartialOrd, Ord)]
@@ -26,7 +26,7 @@ pub enum Trap {
 impl Trap {
     /// The number of the kind, from 0 to 7.
     pub fn code(self) -> u8
-        ensures { result ≡ code_of self }
+        ensures { result ≡ trap_number self }
     {
         self as u8
     }

@@ -2,8 +2,8 @@
 use Rattle.std.proofs.Common.{◌≡◌, ℕ, inl, inr, List, [], ◌∷◌, Some, refl, ap, sym, ◌∙◌}
 use Rattle.std.specs.Prelude.{Result, Ok, Err}
 use Rattle.bl_wasm.specs.declared.module.Module.{Module}
-use Rattle.bl_code.proofs.Unique.{byte_same, seq_same, vec_one}
-use Rattle.bl_labels.specs.EntryLaws.{entry_one}
+use Rattle.bl_code.proofs.Unique.{byte_same, seq_same, vec_prefix_free}
+use Rattle.bl_labels.specs.EntryLaws.{entry_prefix_free}
 use Rattle.bl_labels.specs.Faults.{judged, sections_of}
 use Rattle.bl_labels.specs.Telling.{Answers, InSection, Tells}
 use Rattle.bl_labels.specs.declared.error.LabelError.{LabelError}
@@ -21,7 +21,7 @@ IsTold (Err error) = Unit {0}
 -- one list of entries is spelled, so there is one answer
 one_answer : (tree : Module) (bytes : List ℕ) (a b : Result Labels LabelError) → Answers tree bytes a → Answers tree bytes b → a ≡ b
 one_answer tree bytes a b (inl h) (inl k) =
-    let same = (seq_same (byte_same h.1.version k.1.version) (λ e. (vec_one entry_one).same h.0 k.0)).both bytes bytes [] [] h.1.spelled k.1.spelled refl in
+    let same = (seq_same (byte_same h.1.version k.1.version) (λ e. (vec_prefix_free entry_prefix_free).same h.0 k.0)).both bytes bytes [] [] h.1.spelled k.1.spelled refl in
     h.2 ∙ ap (judged tree) same.1 ∙ sym k.2
 one_answer tree bytes a b (inl h) (inr k) = absurd (k.1 h.0 h.1)
 one_answer tree bytes a b (inr h) (inl k) = absurd (h.1 k.0 k.1)

@@ -11,7 +11,7 @@ use Rattle.bl_link.specs.Linkable.{AreParts, IsPart}
 use Rattle.bl_link.specs.Links.{part_of}
 use Rattle.bl_link.specs.declared.part.Part.{Part as LinkPart}
 use Rattle.bl_link.proofs.SpelledParts.{part_from}
-use Rattle.bl_build.specs.Loading.{Accepted, AreShort, Labelled, Named, decoding, labelling, linked_parts, parts_of, validation}
+use Rattle.bl_build.specs.Loading.{Accepted, AreShort, LabelledModule, Named, decoding, labelling, linked_parts, parts_of, validation}
 use Rattle.bl_words.specs.Requests.{AreNamedApart, module_name}
 use Rattle.bl_build.specs.Stages.{AllPass}
 use Rattle.bl_build.proofs.LoadingLemmas.{IsAccepted, all_accepted}
@@ -20,13 +20,13 @@ use Rattle.bl_words.proofs.ModuleNames.{no_solidus}
 -- ---- each module beside the word of its file
 
 -- a module, with labels that don't contradict themselves, of the file of that word
-record IsOf (labelled : Labelled) (word : List ℕ) : Type 0 where
+record IsOf (labelled : LabelledModule) (word : List ℕ) : Type 0 where
   bytes : List ℕ
   short : length bytes ≤ limit_of quantity.Module
   same_name : labelled.name ≡ module_name word
   accepted : Accepted bytes labelled.tree labelled.labels
 
-are_of : (words contents : List (List ℕ)) (all : List Labelled) → AreShort words contents → AllZip IsAccepted (parts_of words contents) all → AllZip IsOf all words
+are_of : (words contents : List (List ℕ)) (all : List LabelledModule) → AreShort words contents → AllZip IsAccepted (parts_of words contents) all → AllZip IsOf all words
 are_of [] [] [] read h = tt
 are_of [] [] (one ∷ all) read h = absurd h
 are_of [] (bytes ∷ contents) all read h = absurd read
@@ -35,19 +35,19 @@ are_of (word ∷ words) (bytes ∷ contents) [] read h = absurd h
 are_of (word ∷ words) (bytes ∷ contents) (one ∷ all) read h =
     (record { bytes = bytes; short = read.0; same_name = h.0.0; accepted = h.0.1 }, are_of words contents all read.1 h.1)
 
-are_many : (all : List Labelled) (words : List (List ℕ)) → AllZip IsOf all words → length (linked_parts all) ≡ length words
+are_many : (all : List LabelledModule) (words : List (List ℕ)) → AllZip IsOf all words → length (linked_parts all) ≡ length words
 are_many [] [] h = refl
 are_many [] (word ∷ words) h = absurd h
 are_many (one ∷ all) [] h = absurd h
 are_many (one ∷ all) (word ∷ words) h = ap suc (are_many all words h.1)
 
-abbrev HasText : Labelled → Type 0
+abbrev HasText : LabelledModule → Type 0
 HasText one = IsUtf8 one.name
 
-abbrev IsSane : Labelled → Type 0
+abbrev IsSane : LabelledModule → Type 0
 IsSane one = IsConsistent one.labels
 
-is_part : (one : Labelled) (word : List ℕ) → HasText one → IsSane one → IsOf one word → IsPart (part_of one.name one.tree one.labels)
+is_part : (one : LabelledModule) (word : List ℕ) → HasText one → IsSane one → IsOf one word → IsPart (part_of one.name one.tree one.labels)
 is_part one word text sane h =
     let bare = part_from one.name h.bytes one.tree (record { text = text; solidus = subst (All (λ byte. byte ≡ 0x2F → ⊥)) (sym h.same_name) (no_solidus word) }) h.accepted.spelled
     (let short = h.short in omega (arith, short)) h.accepted.within in
@@ -66,7 +66,7 @@ is_part one word text sane h =
       labels = sane;
     }
 
-each_part : (all : List Labelled) (words : List (List ℕ)) → All HasText all → All IsSane all → AllZip IsOf all words → All IsPart (linked_parts all)
+each_part : (all : List LabelledModule) (words : List (List ℕ)) → All HasText all → All IsSane all → AllZip IsOf all words → All IsPart (linked_parts all)
 each_part [] words text sane h = All-nil IsPart
 each_part (one ∷ all) [] text sane h = absurd h
 each_part (one ∷ all) (word ∷ words) text sane h =
@@ -86,18 +86,18 @@ texts_kept (a ∷ xs) (b ∷ ys) v text =
     (texts_kept xs ys v.1 (All-tail (λ (one : Named). IsUtf8 one.name) a xs text))
 
 -- so do those whose labels are read
-pub texts_kept_on : (xs : List Named) (ys : List Labelled) → AllPass labelling xs ys → All (λ (one : Named). IsUtf8 one.name) xs → All (λ (one : Labelled). IsUtf8 one.name) ys
-texts_kept_on [] [] v text = All-nil (λ (one : Labelled). IsUtf8 one.name)
+pub texts_kept_on : (xs : List Named) (ys : List LabelledModule) → AllPass labelling xs ys → All (λ (one : Named). IsUtf8 one.name) xs → All (λ (one : LabelledModule). IsUtf8 one.name) ys
+texts_kept_on [] [] v text = All-nil (λ (one : LabelledModule). IsUtf8 one.name)
 texts_kept_on [] (b ∷ ys) v text = absurd v
 texts_kept_on (a ∷ xs) [] v text = absurd v
 texts_kept_on (a ∷ xs) (b ∷ ys) v text =
-    All-cons (λ (one : Labelled). IsUtf8 one.name) b ys (subst IsUtf8 (sym v.0.same_name) (All-head (λ (one : Named). IsUtf8 one.name) a xs text))
+    All-cons (λ (one : LabelledModule). IsUtf8 one.name) b ys (subst IsUtf8 (sym v.0.same_name) (All-head (λ (one : Named). IsUtf8 one.name) a xs text))
     (texts_kept_on xs ys v.1 (All-tail (λ (one : Named). IsUtf8 one.name) a xs text))
 
 -- ---- the parts
 
-pub linkable : (words contents : List (List ℕ)) (xs ys : List Named) (zs : List Labelled) → length words ≤ limit_of quantity.Modules → AreNamedApart words → AreShort words contents
-    → AllPass decoding (parts_of words contents) xs → AllPass validation xs ys → AllPass labelling ys zs → All (λ (one : Labelled). IsUtf8 one.name) zs → All (λ (one : Labelled). IsConsistent one.labels) zs
+pub linkable : (words contents : List (List ℕ)) (xs ys : List Named) (zs : List LabelledModule) → length words ≤ limit_of quantity.Modules → AreNamedApart words → AreShort words contents
+    → AllPass decoding (parts_of words contents) xs → AllPass validation xs ys → AllPass labelling ys zs → All (λ (one : LabelledModule). IsUtf8 one.name) zs → All (λ (one : LabelledModule). IsConsistent one.labels) zs
     → AreParts (linked_parts zs)
 linkable words contents xs ys zs few apart read d v l text sane =
     let h = are_of words contents zs read (all_accepted (parts_of words contents) xs ys zs d v l) in
@@ -105,8 +105,8 @@ linkable words contents xs ys zs few apart read d v l text sane =
       each = each_part zs words text sane h;
       few = omega (arith, are_many zs words h, few);
       distinct = λ i j a b first second same.
-          let x = mapped_get (λ (one : Labelled). part_of one.name one.tree one.labels) zs i a first in
-          let y = mapped_get (λ (one : Labelled). part_of one.name one.tree one.labels) zs j b second in
+          let x = mapped_get (λ (one : LabelledModule). part_of one.name one.tree one.labels) zs i a first in
+          let y = mapped_get (λ (one : LabelledModule). part_of one.name one.tree one.labels) zs j b second in
           let u = zip_get IsOf zs words i x.0 h x.1 in
           let w = zip_get IsOf zs words j y.0 h y.1 in
           let names = sym u.2.same_name ∙ (ap (λ (p : LinkPart). p.name) x.2 ∙ (same ∙ (sym (ap (λ (p : LinkPart). p.name) y.2) ∙ w.2.same_name))) in

@@ -15,7 +15,7 @@ use Rattle.bl_validate.specs.declared.verdict.Invalid.{Invalid}
 use Rattle.bl_labels.specs.Faults.{IsConsistent}
 use Rattle.bl_labels.specs.declared.error.LabelError.{LabelError}
 use Rattle.bl_labels.specs.declared.labels.Labels.{Labels}
-use Rattle.bl_build.specs.Loading.{AreTold, Labelled, Named, Part, decoding, labelling, parts_of, validation}
+use Rattle.bl_build.specs.Loading.{AreTold, LabelledModule, Named, Part, decoding, labelling, parts_of, validation}
 use Rattle.bl_words.specs.Requests.{module_name}
 use Rattle.bl_build.specs.Stages.{Stage, at_first, at_second, chain, each}
 use Rattle.bl_build.specs.Working.{IsStaged, checked_in, contents_in, decoding_error, labels_error, ready_in, spelled_in, validation_error}
@@ -87,11 +87,11 @@ module _ (whole : List Named) (rest left : List Checked) (done : List Ready) (on
 
   pub next_labelled : (labels : Labels) (next : List Ready) → next ≡ done ++ record { name = one.name; wasm = one.wasm; labels = labels } ∷ [] → AreTold one.wasm (Ok labels) → Goes labelling whole (map ready_in next) (map checked_in left)
   next_labelled labels next e told =
-      subst (λ (all : List Labelled). Goes labelling whole all (map checked_in left)) (sym (ap (map ready_in) e ∙ map-append ready_in done (record { name = one.name; wasm = one.wasm; labels = labels } ∷ [])))
+      subst (λ (all : List LabelledModule). Goes labelling whole all (map checked_in left)) (sym (ap (map ready_in) e ∙ map-append ready_in done (record { name = one.name; wasm = one.wasm; labels = labels } ∷ [])))
       (goes_on labelling whole (map checked_in left) (map ready_in done) (checked_in one) (record { name = one.name.now; tree = one.wasm; labels = labels }) ahead_checked
       (record { same_name = refl; same_tree = refl; told = told }))
 
-  pub not_labelled : {X : Type 0} (value : X → List Labelled) (fault : LabelError) (e : WorkError) → e ≡ labels_error one.name fault → AreTold one.wasm (Err fault) → IsStaged (each labelling) value whole (Err e)
+  pub not_labelled : {X : Type 0} (value : X → List LabelledModule) (fault : LabelError) (e : WorkError) → e ≡ labels_error one.name fault → AreTold one.wasm (Err fault) → IsStaged (each labelling) value whole (Err e)
   not_labelled value fault e is why = subst (λ (e : WorkError). IsStaged (each labelling) value whole (Err e)) (sym is) (not_labelled_yet value one.name one.wasm whole (map checked_in left) (map ready_in done) ahead_checked fault why)
 
 -- ---- names
@@ -104,8 +104,8 @@ named_texts (one ∷ spelled) text =
     (named_texts spelled (All-tail (λ (one : Spelled). IsUtf8 one.name.now) one spelled text))
 
 -- labels that don't contradict themselves
-pub are_sane : (ready : List Ready) → All (λ (one : Ready). IsConsistent one.labels) ready → All (λ (one : Labelled). IsConsistent one.labels) (map ready_in ready)
-are_sane [] sane = All-nil (λ (one : Labelled). IsConsistent one.labels)
+pub are_sane : (ready : List Ready) → All (λ (one : Ready). IsConsistent one.labels) ready → All (λ (one : LabelledModule). IsConsistent one.labels) (map ready_in ready)
+are_sane [] sane = All-nil (λ (one : LabelledModule). IsConsistent one.labels)
 are_sane (one ∷ ready) sane =
-    All-cons (λ (one : Labelled). IsConsistent one.labels) (ready_in one) (map ready_in ready) (All-head (λ (one : Ready). IsConsistent one.labels) one ready sane)
+    All-cons (λ (one : LabelledModule). IsConsistent one.labels) (ready_in one) (map ready_in ready) (All-head (λ (one : Ready). IsConsistent one.labels) one ready sane)
     (are_sane ready (All-tail (λ (one : Ready). IsConsistent one.labels) one ready sane))

@@ -18,7 +18,7 @@ use Rattle.bl_validate.proofs.Reasons.{one_reason}
 use Rattle.bl_link.specs.Links.{links}
 use Rattle.bl_link.specs.declared.error.LinkError.{LinkError}
 use Rattle.bl_link.specs.declared.error.LinkError.TheVariants.{Unknown, Mismatch, ElementRange, DataRange, Limit, Memory}
-use Rattle.bl_build.specs.Loading.{Accepted, AreTold, Decodes, DecodingRefuses, IsPassed, IsRefusalOf, Labelled, Named, Part, Links, LinkingRefuses, ReadsLabels, decoding, excess, labelling, linked_parts, linking, loading, no_module, not_supported, validation, unknown, mismatched, element, segment, too_large}
+use Rattle.bl_build.specs.Loading.{Accepted, AreTold, Decodes, DecodingRefuses, IsPassed, IsRefusalOf, LabelledModule, Named, Part, Links, LinkingRefuses, ReadsLabels, decoding, excess, labelling, linked_parts, linking, loading, no_module, not_supported, validation, unknown, mismatched, element, segment, too_large}
 use Rattle.bl_build.specs.Refusals.{Refusal, bad_labels, data_range, element_range, invalid_function, limit, mismatched_import, unknown_import}
 use Rattle.bl_build.specs.Stages.{AllPass, IsLawfulStage, chain, each}
 use Rattle.bl_build.proofs.LabelLemmas.{labels_or_fault, one_fault, one_labels}
@@ -115,7 +115,7 @@ labelling_lawful = record {
 }
 
 -- linking answers one thing
-module _ (labelled : List Labelled) where
+module _ (labelled : List LabelledModule) where
   one_tree : (a b : Tree) → Links labelled a → Links labelled b → a ≡ b
   one_tree a b p q = let same : Ok a ≡ Ok b = sym p.is_tree ∙ q.is_tree in cc
 
@@ -128,15 +128,15 @@ module _ (labelled : List Labelled) where
   linked_against tree refusal p (too_large which value e r) = let is_tree = p.is_tree in cc
 
   -- a module by its number is one
-  one_named : (part other : ℕ) (a b : Labelled) → part ≡ other → slice_get labelled part ≡ Some a → slice_get labelled other ≡ Some b → a.name ≡ b.name
+  one_named : (part other : ℕ) (a b : LabelledModule) → part ≡ other → slice_get labelled part ≡ Some a → slice_get labelled other ≡ Some b → a.name ≡ b.name
   one_named part other a b same is these = ap (λ n. n.name) (same_Some a b (sym is ∙ (ap (slice_get labelled) same ∙ these)))
 
   -- the error, as a refusal
   abbrev Tells : LinkError → Refusal → Type 0
-  Tells (Unknown part import) refusal = (one : Labelled) × (slice_get labelled part ≡ Some one) × (refusal ≡ unknown_import one.name import)
-  Tells (Mismatch part import) refusal = (one : Labelled) × (slice_get labelled part ≡ Some one) × (refusal ≡ mismatched_import one.name import)
-  Tells (ElementRange part) refusal = (one : Labelled) × (slice_get labelled part ≡ Some one) × (refusal ≡ element_range one.name)
-  Tells (DataRange part) refusal = (one : Labelled) × (slice_get labelled part ≡ Some one) × (refusal ≡ data_range one.name)
+  Tells (Unknown part import) refusal = (one : LabelledModule) × (slice_get labelled part ≡ Some one) × (refusal ≡ unknown_import one.name import)
+  Tells (Mismatch part import) refusal = (one : LabelledModule) × (slice_get labelled part ≡ Some one) × (refusal ≡ mismatched_import one.name import)
+  Tells (ElementRange part) refusal = (one : LabelledModule) × (slice_get labelled part ≡ Some one) × (refusal ≡ element_range one.name)
+  Tells (DataRange part) refusal = (one : LabelledModule) × (slice_get labelled part ≡ Some one) × (refusal ≡ data_range one.name)
   Tells (Limit which value) refusal = refusal ≡ limit which value
   Tells Memory refusal = ⊥
 
@@ -178,10 +178,10 @@ loading_lawful =
 -- ---- modules that are loaded
 
 -- each of them, by its bytes
-abbrev pub IsAccepted : Part → Labelled → Type 0
+abbrev pub IsAccepted : Part → LabelledModule → Type 0
 IsAccepted part labelled = (labelled.name ≡ part.name) × Accepted part.bytes labelled.tree labelled.labels
 
-accepted_of : (part : Part) (a b : Named) (c : Labelled) → Decodes part a → IsPassed Typed a b → ReadsLabels b c → IsAccepted part c
+accepted_of : (part : Part) (a b : Named) (c : LabelledModule) → Decodes part a → IsPassed Typed a b → ReadsLabels b c → IsAccepted part c
 accepted_of part a b c decoded valid labels =
     let last = sym labels.same_tree in
     let same = ap (λ n. n.tree) (sym valid.same) ∙ last in (
@@ -195,7 +195,7 @@ accepted_of part a b c decoded valid labels =
       },
     )
 
-pub all_accepted : (parts : List Part) (xs ys : List Named) (zs : List Labelled) → AllPass decoding parts xs → AllPass validation xs ys → AllPass labelling ys zs → AllZip IsAccepted parts zs
+pub all_accepted : (parts : List Part) (xs ys : List Named) (zs : List LabelledModule) → AllPass decoding parts xs → AllPass validation xs ys → AllPass labelling ys zs → AllZip IsAccepted parts zs
 all_accepted [] [] [] [] d v l = tt
 all_accepted [] [] [] (c ∷ zs) d v l = absurd l
 all_accepted [] [] (b ∷ ys) zs d v l = absurd v

@@ -20,7 +20,7 @@ use Rattle.bl_labels.specs.declared.error.LabelError.{LabelError}
 use Rattle.bl_labels.specs.declared.error.LabelError.TheVariants as label
 use Rattle.bl_link.specs.declared.error.LinkError.{LinkError}
 use Rattle.bl_link.specs.declared.error.LinkError.TheVariants as link
-use Rattle.bl_build.specs.Loading.{AreTold, Decodes, Labelled, Named, Part, decoding, excess, labelling, linked_parts, linking, no_module, not_supported, validation, unknown, mismatched, element, segment, too_large}
+use Rattle.bl_build.specs.Loading.{AreTold, Decodes, LabelledModule, Named, Part, decoding, excess, labelling, linked_parts, linking, no_module, not_supported, validation, unknown, mismatched, element, segment, too_large}
 use Rattle.bl_build.specs.Refusals.{data_range, element_range, mismatched_import, unknown_import}
 use Rattle.bl_build.specs.Stages.{each}
 use Rattle.bl_build.specs.Working.{IsLinkingError, IsStaged, decoding_error, labels_error, ready_in, validation_error}
@@ -56,7 +56,7 @@ module _ {X : Type 0} (value : X → List Named) (name : Bor (List ℕ)) where
     validated whole rest done g invalid.Memory why = tt
 
 -- a module whose labels break a rule, behind those whose don't
-module _ {X : Type 0} (value : X → List Labelled) (name : Bor (List ℕ)) (tree : Module) (whole rest : List Named) (done : List Labelled) (g : Goes labelling whole done (record { name = name.now; tree = tree } ∷ rest)) where
+module _ {X : Type 0} (value : X → List LabelledModule) (name : Bor (List ℕ)) (tree : Module) (whole rest : List Named) (done : List LabelledModule) (g : Goes labelling whole done (record { name = name.now; tree = tree } ∷ rest)) where
   pub not_labelled_yet : (error : LabelError) → AreTold tree (Err error) → IsStaged (each labelling) value whole (Err (labels_error name error))
   not_labelled_yet label.Malformed why =
       goes_refused labelling whole rest done (record { name = name.now; tree = tree }) _ g (record { error = label.Malformed; wrong = fault.Malformed; told = why; is_fault = refl; is_refusal = refl })
@@ -71,14 +71,14 @@ module _ {X : Type 0} (value : X → List Labelled) (name : Bor (List ℕ)) (tre
   not_labelled_yet label.Memory why = tt
 
 -- the name of a module by its number
-named_by : (ready : List Ready) (place : ℕ) (name : Bor (List ℕ)) → slice_get (map (λ (one : Ready). one.name) ready) place ≡ Some name → (one : Labelled) × (slice_get (map ready_in ready) place ≡ Some one) × (one.name ≡ name.now)
+named_by : (ready : List Ready) (place : ℕ) (name : Bor (List ℕ)) → slice_get (map (λ (one : Ready). one.name) ready) place ≡ Some name → (one : LabelledModule) × (slice_get (map ready_in ready) place ≡ Some one) × (one.name ≡ name.now)
 named_by [] place name there = absurd (none-some name there)
 named_by (one ∷ ready) zero name there = (ready_in one, refl, ap (λ (n : Bor (List ℕ)). n.now) (same_Some one.name name there))
 named_by (one ∷ ready) (suc place) name there = named_by ready place name there
 
 -- modules that aren't linked
 module _ {X : Type 0} (value : X → Tree) (ready : List Ready) where
-  abbrev all_named : List Labelled
+  abbrev all_named : List LabelledModule
   all_named = map ready_in ready
 
   pub not_linked : (fault : LinkError) (e : WorkError) → Gives (Err fault) (links (linked_parts all_named)) → IsLinkingError (map (λ (one : Ready). one.name) ready) fault e → IsStaged linking value all_named (Err e)
@@ -101,7 +101,7 @@ module _ {X : Type 0} (value : X → Tree) (ready : List Ready) where
 module _ (ready : List Ready) (names : List (Bor (List ℕ))) (parts : List LinkPart) (are_names : names ≡ map (λ (one : Ready). one.name) ready) (are_parts : parts ≡ linked_parts (map ready_in ready)) where
   same_length : length parts ≡ length names
   same_length =
-      ap length are_parts ∙ length-map (map ready_in ready) (λ (one : Labelled). part_of one.name one.tree one.labels) ∙ length-map ready ready_in
+      ap length are_parts ∙ length-map (map ready_in ready) (λ (one : LabelledModule). part_of one.name one.tree one.labels) ∙ length-map ready ready_in
       ∙ sym (ap length are_names ∙ length-map ready (λ (one : Ready). one.name))
 
   named_fault : (fault : LinkError) → links parts ≡ Err fault → NamesPart (length names) fault

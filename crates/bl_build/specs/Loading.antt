@@ -91,7 +91,7 @@ validation = record { Passes = IsPassed Typed; Refuses = ValidationRefuses }
 -- ---- labels
 
 -- a module under its name, with its labels
-pub record Labelled : Type 0 where
+pub record LabelledModule : Type 0 where
   pub name : List ℕ
   pub tree : Module
   pub labels : Labels
@@ -101,7 +101,7 @@ abbrev pub AreTold : Module → Result Labels LabelError → Type 0
 AreTold tree answer = Tells tree (sections_of tree.customs) answer
 
 -- a module's labels are read
-pub record ReadsLabels (named : Named) (labelled : Labelled) : Type 0 where
+pub record ReadsLabels (named : Named) (labelled : LabelledModule) : Type 0 where
   pub same_name : labelled.name ≡ named.name
   pub same_tree : labelled.tree ≡ named.tree
   pub told : AreTold named.tree (Ok labelled.labels)
@@ -123,37 +123,37 @@ pub record LabelsRefuse (named : Named) (refusal : Refusal) : Type 0 where
   pub is_fault : fault_of error ≡ Some wrong
   pub is_refusal : refusal ≡ bad_labels named.name wrong
 
-abbrev pub labelling : Stage Named Labelled
+abbrev pub labelling : Stage Named LabelledModule
 labelling = record { Passes = ReadsLabels; Refuses = LabelsRefuse }
 
 -- ---- all modules
 
 -- modules with their labels as parts to be linked
-abbrev pub linked_parts : List Labelled → List LinkPart
+abbrev pub linked_parts : List LabelledModule → List LinkPart
 linked_parts labelled = map (λ each. part_of each.name each.tree each.labels) labelled
 
 -- the modules are linked to that tree, which can be run
-pub record Links (labelled : List Labelled) (tree : Tree) : Type 0 where
+pub record Links (labelled : List LabelledModule) (tree : Tree) : Type 0 where
   pub is_tree : links (linked_parts labelled) ≡ Ok tree
   pub can_run : IsLinked tree
 
 -- why modules aren't linked, with the name of the module whose import or segment it is
-pub data LinkingRefuses (labelled : List Labelled) (refusal : Refusal) : Type 0 where
+pub data LinkingRefuses (labelled : List LabelledModule) (refusal : Refusal) : Type 0 where
   -- nothing before a module is exported under the names of its import
-  unknown : (part import : ℕ) (one : Labelled) → links (linked_parts labelled) ≡ Err (Unknown part import) → slice_get labelled part ≡ Some one
+  unknown : (part import : ℕ) (one : LabelledModule) → links (linked_parts labelled) ≡ Err (Unknown part import) → slice_get labelled part ≡ Some one
       → refusal ≡ unknown_import one.name import → LinkingRefuses labelled refusal
   -- what is doesn't match
-  mismatched : (part import : ℕ) (one : Labelled) → links (linked_parts labelled) ≡ Err (Mismatch part import) → slice_get labelled part ≡ Some one
+  mismatched : (part import : ℕ) (one : LabelledModule) → links (linked_parts labelled) ≡ Err (Mismatch part import) → slice_get labelled part ≡ Some one
       → refusal ≡ mismatched_import one.name import → LinkingRefuses labelled refusal
   -- an element segment, or else a data segment, is out of range
-  element : (part : ℕ) (one : Labelled) → links (linked_parts labelled) ≡ Err (ElementRange part) → slice_get labelled part ≡ Some one
+  element : (part : ℕ) (one : LabelledModule) → links (linked_parts labelled) ≡ Err (ElementRange part) → slice_get labelled part ≡ Some one
       → refusal ≡ element_range one.name → LinkingRefuses labelled refusal
-  segment : (part : ℕ) (one : Labelled) → links (linked_parts labelled) ≡ Err (DataRange part) → slice_get labelled part ≡ Some one
+  segment : (part : ℕ) (one : LabelledModule) → links (linked_parts labelled) ≡ Err (DataRange part) → slice_get labelled part ≡ Some one
       → refusal ≡ data_range one.name → LinkingRefuses labelled refusal
   -- the modules together are too large
   too_large : (which : Quantity) (value : ℕ) → links (linked_parts labelled) ≡ Err (Limit which value) → refusal ≡ limit which value → LinkingRefuses labelled refusal
 
-abbrev pub linking : Stage (List Labelled) Tree
+abbrev pub linking : Stage (List LabelledModule) Tree
 linking = record { Passes = Links; Refuses = LinkingRefuses }
 
 -- the linked tree of modules

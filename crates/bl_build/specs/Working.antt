@@ -27,7 +27,7 @@ use Rattle.bl_wasm.specs.declared.linked.Tree.{Tree}
 use Rattle.bl_build.specs.Building.{Built}
 use Rattle.bl_build.specs.Entering.{Entered, Entry}
 use Rattle.bl_build.specs.Hardening.{Hardened}
-use Rattle.bl_build.specs.Loading.{Labelled, Named}
+use Rattle.bl_build.specs.Loading.{LabelledModule, Named}
 use Rattle.bl_build.specs.Refusals.{Refusal, malformed, invalid_function, invalid_module, unsupported, limit, unknown_import, mismatched_import, element_range, data_range, bad_labels, not_an_image, broken_rule, no_export, not_json, other_shape, bad_directive, bad_line, few_arguments}
 use Rattle.bl_build.specs.Running.{Opened}
 use Rattle.bl_build.specs.Tracing.{TracingRefuses}
@@ -86,7 +86,7 @@ spelled_in spelled = record { name = spelled.name.now; tree = spelled.tree }
 abbrev pub checked_in : Checked → Named
 checked_in checked = record { name = checked.name.now; tree = checked.wasm }
 
-abbrev pub ready_in : Ready → Labelled
+abbrev pub ready_in : Ready → LabelledModule
 ready_in ready = record { name = ready.name.now; tree = ready.wasm; labels = ready.labels }
 
 -- an error of decoding a module of that name

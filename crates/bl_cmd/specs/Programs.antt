@@ -1,6 +1,6 @@
 -- What holds of every program.
 use Rattle.std.specs.Prelude.{◌≡◌, ◌<◌, ◌^◌, ℕ, IsTrue, not, List, length, All, Option, Some, None, slice_get}
-use Rattle.bl_base.specs.Trap.{code_of}
+use Rattle.bl_base.specs.Trap.{trap_number}
 use Rattle.bl_base.specs.declared.trap.Trap.{Trap as TrapKind}
 use Rattle.bl_ops.specs.Access.{is_load}
 use Rattle.bl_ops.specs.Table.{row_of}
@@ -48,7 +48,7 @@ IsCommand (Trap kind) = Unit {0}
 
 -- the command at a position is the trap of that kind
 abbrev pub IsTrapAt : List Command → ℕ → Type 0
-IsTrapAt commands position = (kind : TrapKind) × (code_of kind ≡ position) × (slice_get commands position ≡ Some (Trap kind))
+IsTrapAt commands position = (kind : TrapKind) × (trap_number kind ≡ position) × (slice_get commands position ≡ Some (Trap kind))
 
 -- the parts are those of a program
 pub record IsProgram (program : Program) : Type 0 where

@@ -12,7 +12,7 @@ use Rattle.bl_wasm.specs.declared.types.WasmType.{WasmType}
 use Rattle.bl_wasm.specs.declared.types.WasmType.TheVariants.{I32, I64, F32, F64}
 use Rattle.bl_code.specs.Reading.{IsAt, NoneAt}
 use Rattle.bl_code.specs.Types.{type_index}
-use Rattle.bl_code.specs.Unique.{IsOne}
+use Rattle.bl_code.specs.Unique.{PrefixFree}
 use Rattle.bl_code.proofs.Places.{stands, same_at, one_at, none_behind}
 use Rattle.bl_code.proofs.Unique.{byte_same}
 
@@ -50,8 +50,8 @@ spells_number (Value F32) a h = byte_number 0x7D (negsuc 2) a (omega arith) (ome
 spells_number (Value F64) a h = byte_number 0x7C (negsuc 3) a (omega arith) (omega arith) refl h
 spells_number (Index index) a h = h
 
-pub block_type_one : IsOne block_type
-block_type_one = record {
+pub block_type_prefix_free : PrefixFree block_type
+block_type_prefix_free = record {
   same = λ x y. record {
     both = λ a b u v p q e.
         let f = spells_number x a p in
@@ -62,11 +62,11 @@ block_type_one = record {
   };
 }
 
-pub value_type_one : IsOne value_type
-value_type_one = record {
+pub value_type_prefix_free : PrefixFree value_type
+value_type_prefix_free = record {
   same = λ x y. record {
     both = λ a b u v p q e.
-        let both = (block_type_one.same (Value x) (Value y)).both a b u v p q e in
+        let both = (block_type_prefix_free.same (Value x) (Value y)).both a b u v p q e in
         let whole : Value x ≡ Value y = both.1 in
         (both.0, cc);
   };
@@ -84,8 +84,8 @@ block_never_empty Empty h = cc
 block_never_empty (Value x) h = type_never_empty x h
 block_never_empty (Index index) h = absurd h
 
-signed_one : IsOne (λ (value : ℤ) these. IsSigned 33 these value)
-signed_one = record {
+signed_prefix_free : PrefixFree (λ (value : ℤ) these. IsSigned 33 these value)
+signed_prefix_free = record {
   same = λ v w. record {
     both = λ a b x y p q e.
         let same = signed.one_end 33 33 a b x y v w p q e in
@@ -98,7 +98,7 @@ pub index_same : (bytes : List ℕ) (i j k n : ℕ) (value : ℤ) → IsSpelledA
 index_same bytes i j k n value p q =
     let first : IsAt (λ (v : ℤ) these. IsSigned 33 these v) bytes i j value = record { forward = p.forward; inside = p.inside; spelled = p.spelled } in
     let second : IsAt (λ (v : ℤ) these. IsSigned 33 these v) bytes i k (pos n) = record { forward = q.forward; inside = q.inside; spelled = q.spelled } in
-    ((one_at bytes i j k value (pos n) signed_one first second).1, signed.bounded 33 (slice_range bytes i k) (pos n) q.spelled)
+    ((one_at bytes i j k value (pos n) signed_prefix_free first second).1, signed.bounded 33 (slice_range bytes i k) (pos n) q.spelled)
 
 -- a byte that is neither 40 nor a value type begins a block type only as the index of one
 pub none_block : (bytes : List ℕ) (i j code : ℕ) → IsAt byte bytes i j code → code ≢ 0x40 → ((x : WasmType) (rest : List ℕ) → value_type x (code ∷ rest) → ⊥) → NoneAt type_index bytes i → NoneAt block_type bytes i

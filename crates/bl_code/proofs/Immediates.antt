@@ -1,8 +1,8 @@
 -- What begins no instruction, by the readers of immediates.
 use Rattle.std.proofs.Common.{◌≡◌, ◌≢◌, ℕ, List, [], ◌∷◌, Some, refl, subst, arith}
-use Rattle.bl_ops.specs.Access.{code_of as access_code}
+use Rattle.bl_ops.specs.Access.{access_code}
 use Rattle.bl_ops.specs.declared.access.AccessKind.{AccessKind}
-use Rattle.bl_ops.specs.Table.{code_of}
+use Rattle.bl_ops.specs.Table.{operator_code}
 use Rattle.bl_ops.specs.declared.op.Op.{Op}
 use Rattle.bl_wasm.specs.Codes.{IsFloatCode, float_access_code}
 use Rattle.bl_wasm.specs.Types.{block_type}
@@ -14,7 +14,7 @@ use Rattle.bl_wasm.specs.declared.instruction.Instr.TheVariants.{Unreachable, No
 use Rattle.bl_wasm.specs.declared.instruction.MemoryArgument.{MemoryArgument}
 use Rattle.bl_wasm.specs.declared.types.BlockType.{BlockType}
 use Rattle.bl_wasm.specs.declared.types.BlockType.TheVariants.{Empty}
-use Rattle.bl_code.specs.Laws.{u32_one}
+use Rattle.bl_code.specs.Laws.{u32_prefix_free}
 use Rattle.bl_code.specs.Reading.{IsAt, NoneAt, Refuses, behind}
 use Rattle.bl_code.specs.Shapes.{Shape, Bare, Typed, Indexed, Labels, Indirect, Access, Zero, Int32, Int64, Float32, Float64, shape_of, IsCodeOf, immediates, IsTypedCode, IsIndexedCode, IsAccessCode, IsZeroCode, IsOtherCode, IsNumericCode}
 use Rattle.bl_code.specs.declared.error.CodeError.{CodeError}
@@ -127,7 +127,7 @@ module _ (code : ℕ) (bytes : List ℕ) (j : ℕ) (e : CodeError) where
 -- another number is no zero
 pub not_zero : (bytes : List ℕ) (j k z : ℕ) → z ≢ 0 → IsAt u32 bytes j k z → NoneAt (λ (s : Shape). u32 0) bytes j
 not_zero bytes j k z other h s end p =
-    other (one_at bytes j k end z 0 u32_one h (is_at u32 bytes j end 0 (stands (λ (s : Shape). u32 0) bytes j end s p))).1
+    other (one_at bytes j k end z 0 u32_prefix_free h (is_at u32 bytes j end 0 (stands (λ (s : Shape). u32 0) bytes j end s p))).1
 
 -- nor is another byte
 pub not_zero_byte : (bytes : List ℕ) (j k z : ℕ) → z ≢ 0 → IsAt byte bytes j k z → NoneAt (λ (s : Shape). byte 0) bytes j
@@ -150,11 +150,11 @@ none_bare code bytes j ok none x end h =
     none x bare (subst (λ (t : List ℕ). instruction x (code ∷ t)) (bare_rest (shape_of x) s.front bare p.1) s.spelled)
 
 -- a code of nothing but numeric instructions, and of no numeric one, begins none
-pub none_numeric : (code : ℕ) (bytes : List ℕ) (j : ℕ) → IsNumericCode code → ((op : Op) → code_of op ≡ Some code → ⊥) → (IsFloatCode code → ⊥) → NoneAt (behind instruction code) bytes j
+pub none_numeric : (code : ℕ) (bytes : List ℕ) (j : ℕ) → IsNumericCode code → ((op : Op) → operator_code op ≡ Some code → ⊥) → (IsFloatCode code → ⊥) → NoneAt (behind instruction code) bytes j
 none_numeric code bytes j ok integer float = none_bare code bytes j (grind arith) never
   where
     never : (x : Instr) → shape_of x ≡ Bare → instruction x (code ∷ []) → ⊥
-    never (Integer op) s h = let same : h.0 ≡ code = cc in integer op (subst (λ (c : ℕ). code_of op ≡ Some c) same h.1)
+    never (Integer op) s h = let same : h.0 ≡ code = cc in integer op (subst (λ (c : ℕ). operator_code op ≡ Some c) same h.1)
     never (Float op) s h = let same : op ≡ code = cc in float (subst IsFloatCode same h.0)
     never Unreachable s h = let same : code ≡ 0x00 = cc in absurd (omega arith)
     never Nop s h = let same : code ≡ 0x01 = cc in absurd (omega arith)

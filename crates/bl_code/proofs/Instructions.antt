@@ -2,8 +2,8 @@
 use Rattle.std.proofs.Common.{◌≡◌, ◌≢◌, ℕ, ◌≤◌, ◌<◌, List, [], ◌∷◌, ◌++◌, Some, None, Bool, true, false, ap, ap₂, sym, ◌∙◌, refl, subst, arith, ◌⊎◌, inl, inr, lit<}
 use Rattle.std.specs.Prelude.{Option, ◌==◌, nat_lt, if◌then◌else◌, find, IsTrue}
 use Rattle.std.proofs.lemmas.Bool.Decides.{nat_tests}
-use Rattle.bl_ops.specs.Access.{code_of as access_code, kind_of, is_load}
-use Rattle.bl_ops.specs.Table.{code_of, operator_of, operators, image_code_of}
+use Rattle.bl_ops.specs.Access.{access_code, access_kind, is_load}
+use Rattle.bl_ops.specs.Table.{operator_code, operator_of, operators, image_code_of}
 use Rattle.bl_ops.specs.declared.access.AccessKind.{AccessKind}
 use Rattle.bl_ops.specs.declared.op.Op.{Op}
 use Rattle.bl_ops.specs.declared.op.Op.TheVariants.{I32Eqz, Move, Select as Selected, Outside}
@@ -15,11 +15,11 @@ use Rattle.bl_wasm.specs.declared.instruction.Instr.{Instr}
 use Rattle.bl_wasm.specs.declared.instruction.Instr.TheVariants.{Unreachable, Nop, Block, Loop, If, Else, End, Br, BrIf, BrTable, Return, Call, CallIndirect, Drop, Select, LocalGet, LocalSet, LocalTee, GlobalGet, GlobalSet, Load, Store, FloatAccess as FloatAccessed, MemorySize, MemoryGrow, I32Const, I64Const, F32Const, F64Const, Integer, Float}
 use Rattle.bl_wasm.specs.declared.instruction.MemoryArgument.{MemoryArgument}
 use Rattle.bl_code.specs.Shapes.{Shape, Bare, Typed, Indexed, Labels, Indirect, Access, Zero, Int32, Int64, Float32, Float64, shape_of, IsCodeOf, immediates}
-use Rattle.bl_code.specs.Laws.{u32_one}
-use Rattle.bl_code.specs.Unique.{Same, IsOne}
-use Rattle.bl_code.proofs.BlockTypes.{block_type_one}
+use Rattle.bl_code.specs.Laws.{u32_prefix_free}
+use Rattle.bl_code.specs.Unique.{Same, PrefixFree}
+use Rattle.bl_code.proofs.BlockTypes.{block_type_prefix_free}
 use Rattle.bl_code.proofs.Shapes.{after_byte, only_byte, never_empty, shaped}
-use Rattle.bl_code.proofs.Unique.{byte_same, u32_same, seq_same, vec_one, then_same, nothing_same, int_same, f32_same, f64_same}
+use Rattle.bl_code.proofs.Unique.{byte_same, u32_same, seq_same, vec_prefix_free, then_same, nothing_same, int_same, f32_same, f64_same}
 use Rattle.bl_ops.proofs.AccessLemmas.{access_found}
 
 -- the instruction of a numeric code
@@ -51,29 +51,29 @@ rebuilt code (Typed type) = choose code ((2, Block type) ∷ (3, Loop type) ∷ 
 rebuilt code (Indexed x) = choose code ((0x0C, Br x) ∷ (0x0D, BrIf x) ∷ (0x10, Call x) ∷ (0x20, LocalGet x) ∷ (0x21, LocalSet x) ∷ (0x22, LocalTee x) ∷ (0x23, GlobalGet x) ∷ []) (GlobalSet x)
 rebuilt code (Labels labels default) = BrTable default labels
 rebuilt code (Indirect type) = CallIndirect type
-rebuilt code (Access argument) = access code argument (kind_of code)
+rebuilt code (Access argument) = access code argument (access_kind code)
 rebuilt code Zero = choose code ((0x3F, MemorySize) ∷ []) MemoryGrow
 rebuilt code (Int32 n) = I32Const n
 rebuilt code (Int64 n) = I64Const n
 rebuilt code (Float32 bits) = F32Const bits
 rebuilt code (Float64 bits) = F64Const bits
 
-load_rebuilt : (kind : AccessKind) (argument : MemoryArgument) → IsTrue (is_load kind) → access (access_code kind) argument (kind_of (access_code kind)) ≡ Load kind argument
+load_rebuilt : (kind : AccessKind) (argument : MemoryArgument) → IsTrue (is_load kind) → access (access_code kind) argument (access_kind (access_code kind)) ≡ Load kind argument
 load_rebuilt kind argument load = rw (access_found, load) refl
 
-store_rebuilt : (kind : AccessKind) (argument : MemoryArgument) → is_load kind ≡ false → access (access_code kind) argument (kind_of (access_code kind)) ≡ Store kind argument
+store_rebuilt : (kind : AccessKind) (argument : MemoryArgument) → is_load kind ≡ false → access (access_code kind) argument (access_kind (access_code kind)) ≡ Store kind argument
 store_rebuilt kind argument store = rw (access_found, store) refl
 
-float_rebuilt : (kind : FloatAccess) (argument : MemoryArgument) → access (float_access_code kind) argument (kind_of (float_access_code kind)) ≡ FloatAccessed kind argument
-float_rebuilt kind argument = elim kind as (λ (k : FloatAccess). access (float_access_code k) argument (kind_of (float_access_code k)) ≡ FloatAccessed k argument) [ F32Load ↦ refl | _ ↦ refl ]
+float_rebuilt : (kind : FloatAccess) (argument : MemoryArgument) → access (float_access_code kind) argument (access_kind (float_access_code kind)) ≡ FloatAccessed kind argument
+float_rebuilt kind argument = elim kind as (λ (k : FloatAccess). access (float_access_code k) argument (access_kind (float_access_code k)) ≡ FloatAccessed k argument) [ F32Load ↦ refl | _ ↦ refl ]
 
 -- an operator is that of its code
 abbrev IsRebuilt : Op → Option ℕ → Type 0
 IsRebuilt op None = Unit {0}
 IsRebuilt op (Some code) = bare code ≡ Integer op
 
-op_rebuilt : (op : Op) → IsRebuilt op (code_of op)
-op_rebuilt op = elim op as (λ (o : Op). IsRebuilt o (code_of o)) [ I32Eqz ↦ refl | Move ↦ tt | Selected ↦ tt | Outside ↦ tt | _ ↦ refl ]
+op_rebuilt : (op : Op) → IsRebuilt op (operator_code op)
+op_rebuilt op = elim op as (λ (o : Op). IsRebuilt o (operator_code o)) [ I32Eqz ↦ refl | Move ↦ tt | Selected ↦ tt | Outside ↦ tt | _ ↦ refl ]
 
 integer_rebuilt : (op : Op) (o : Option ℕ) (code : ℕ) → IsRebuilt op o → o ≡ Some code → bare code ≡ Integer op
 integer_rebuilt op None code h e = absurd cc
@@ -89,10 +89,10 @@ found_passes p (y ∷ xs) x e = by_test (p y) refl (found_passes p xs x)
     by_test false is rest = rest (rw is at e)
 
 -- an operator's byte in an image is its code, but for three below 45
-op_image : (op : Op) → (code_of op ≡ Some (image_code_of op)) ⊎ (image_code_of op < 0x45)
-op_image op = elim op as (λ (o : Op). (code_of o ≡ Some (image_code_of o)) ⊎ (image_code_of o < 0x45)) [ I32Eqz ↦ inl refl | Move ↦ inr (lit< tt) | Selected ↦ inr (lit< tt) | Outside ↦ inr (lit< tt) | _ ↦ inl refl ]
+op_image : (op : Op) → (operator_code op ≡ Some (image_code_of op)) ⊎ (image_code_of op < 0x45)
+op_image op = elim op as (λ (o : Op). (operator_code o ≡ Some (image_code_of o)) ⊎ (image_code_of o < 0x45)) [ I32Eqz ↦ inl refl | Move ↦ inr (lit< tt) | Selected ↦ inr (lit< tt) | Outside ↦ inr (lit< tt) | _ ↦ inl refl ]
 
-code_if : (op : Op) (code : ℕ) → image_code_of op ≡ code → 0x45 ≤ code → code_of op ≡ Some code
+code_if : (op : Op) (code : ℕ) → image_code_of op ≡ code → 0x45 ≤ code → operator_code op ≡ Some code
 code_if op code e large = elim (op_image op) [ inl is ↦ is ∙ ap Some e | inr small ↦ absurd (omega arith) ]
 
 float_op_rebuilt : (code : ℕ) → IsFloatCode code → bare code ≡ Float code
@@ -129,23 +129,23 @@ rebuilds (LocalSet x) code rest h = subst (λ (c : ℕ). rebuilt c (Indexed x) �
 rebuilds (LocalTee x) code rest h = subst (λ (c : ℕ). rebuilt c (Indexed x) ≡ LocalTee x) (after_byte 0x22 code rest h).0 refl
 rebuilds (GlobalGet x) code rest h = subst (λ (c : ℕ). rebuilt c (Indexed x) ≡ GlobalGet x) (after_byte 0x23 code rest h).0 refl
 rebuilds (GlobalSet x) code rest h = subst (λ (c : ℕ). rebuilt c (Indexed x) ≡ GlobalSet x) (after_byte 0x24 code rest h).0 refl
-rebuilds (Load kind argument) code rest h = subst (λ (c : ℕ). access c argument (kind_of c) ≡ Load kind argument) (after_byte (access_code kind) code rest h.1).0 (load_rebuilt kind argument h.0)
-rebuilds (Store kind argument) code rest h = subst (λ (c : ℕ). access c argument (kind_of c) ≡ Store kind argument) (after_byte (access_code kind) code rest h.1).0 (store_rebuilt kind argument h.0)
-rebuilds (FloatAccessed kind argument) code rest h = subst (λ (c : ℕ). access c argument (kind_of c) ≡ FloatAccessed kind argument) (after_byte (float_access_code kind) code rest h).0 (float_rebuilt kind argument)
+rebuilds (Load kind argument) code rest h = subst (λ (c : ℕ). access c argument (access_kind c) ≡ Load kind argument) (after_byte (access_code kind) code rest h.1).0 (load_rebuilt kind argument h.0)
+rebuilds (Store kind argument) code rest h = subst (λ (c : ℕ). access c argument (access_kind c) ≡ Store kind argument) (after_byte (access_code kind) code rest h.1).0 (store_rebuilt kind argument h.0)
+rebuilds (FloatAccessed kind argument) code rest h = subst (λ (c : ℕ). access c argument (access_kind c) ≡ FloatAccessed kind argument) (after_byte (float_access_code kind) code rest h).0 (float_rebuilt kind argument)
 rebuilds MemorySize code rest h = subst (λ (c : ℕ). rebuilt c (Zero) ≡ MemorySize) (after_byte 0x3F code rest h).0 refl
 rebuilds MemoryGrow code rest h = subst (λ (c : ℕ). rebuilt c (Zero) ≡ MemoryGrow) (after_byte 0x40 code rest h).0 refl
 rebuilds (I32Const x) code rest h = refl
 rebuilds (I64Const x) code rest h = refl
 rebuilds (F32Const x) code rest h = refl
 rebuilds (F64Const x) code rest h = refl
-rebuilds (Integer op) code rest h = integer_rebuilt op (code_of op) code (op_rebuilt op) (h.1 ∙ ap Some (only_byte h.0 code rest h.2).0)
+rebuilds (Integer op) code rest h = integer_rebuilt op (operator_code op) code (op_rebuilt op) (h.1 ∙ ap Some (only_byte h.0 code rest h.2).0)
 rebuilds (Float op) code rest h = let same = (only_byte op code rest h.1).0 in subst (λ (c : ℕ). bare c ≡ Float op) same (float_op_rebuilt op h.0)
 
 abbrev made : ℕ → ℕ → MemoryArgument
 made alignment offset = record { alignment = alignment; offset = offset }
 
-pub memory_argument_one : IsOne memory_argument
-memory_argument_one = record { same = λ x y. seq_same (u32_same x.alignment y.alignment) (λ first. then_same (λ second. argument_same x y first second) (u32_same x.offset y.offset)) }
+pub memory_argument_prefix_free : PrefixFree memory_argument
+memory_argument_prefix_free = record { same = λ x y. seq_same (u32_same x.alignment y.alignment) (λ first. then_same (λ second. argument_same x y first second) (u32_same x.offset y.offset)) }
   where
     argument_same : (x y : MemoryArgument) → x.alignment ≡ y.alignment → x.offset ≡ y.offset → x ≡ y
     argument_same x y first second =
@@ -154,11 +154,11 @@ memory_argument_one = record { same = λ x y. seq_same (u32_same x.alignment y.a
 -- immediates of one code
 immediates_same : (s t : Shape) (code : ℕ) → IsCodeOf s code → IsCodeOf t code → Same (immediates s) (immediates t) (s ≡ t)
 immediates_same Bare Bare code c d = nothing_same refl
-immediates_same (Typed x) (Typed y) code c d = then_same (ap Typed) (block_type_one.same x y)
+immediates_same (Typed x) (Typed y) code c d = then_same (ap Typed) (block_type_prefix_free.same x y)
 immediates_same (Indexed x) (Indexed y) code c d = then_same (ap Indexed) (u32_same x y)
-immediates_same (Labels xs x) (Labels ys y) code c d = seq_same ((vec_one u32_one).same xs ys) (λ first. then_same (λ second. ap₂ Labels first second) (u32_same x y))
+immediates_same (Labels xs x) (Labels ys y) code c d = seq_same ((vec_prefix_free u32_prefix_free).same xs ys) (λ first. then_same (λ second. ap₂ Labels first second) (u32_same x y))
 immediates_same (Indirect x) (Indirect y) code c d = seq_same (u32_same x y) (λ first. then_same (λ _. ap Indirect first) (u32_same 0 0))
-immediates_same (Access x) (Access y) code c d = then_same (ap Access) (memory_argument_one.same x y)
+immediates_same (Access x) (Access y) code c d = then_same (ap Access) (memory_argument_prefix_free.same x y)
 immediates_same Zero Zero code c d = then_same (λ _. refl) (byte_same 0 0)
 immediates_same (Int32 x) (Int32 y) code c d = then_same (ap Int32) (int_same 32 x y)
 immediates_same (Int64 x) (Int64 y) code c d = then_same (ap Int64) (int_same 64 x y)
@@ -179,5 +179,5 @@ instruction_same x y (c ∷ a) (d ∷ b) u v p q e =
     let same = (immediates_same (shape_of x) (shape_of y) c f.0 here).both a b u v f.1 g.1 tails in
     (ap₂ (λ n t. n ∷ t) code same.0, sym (rebuilds x c a p) ∙ ap₂ rebuilt code same.1 ∙ rebuilds y d b q)
 
-pub instruction_one : IsOne instruction
-instruction_one = record { same = λ x y. record { both = λ a b u v p q e. instruction_same x y a b u v p q e } }
+pub instruction_prefix_free : PrefixFree instruction
+instruction_prefix_free = record { same = λ x y. record { both = λ a b u v p q e. instruction_same x y a b u v p q e } }

@@ -6,7 +6,7 @@ use Rattle.bl_wasm.specs.Values.{Spellings, ◌⨾◌, byte, u32}
 use Rattle.bl_wasm.specs.declared.types.Limits.{Limits}
 use Rattle.bl_code.specs.Types.{maximum}
 use Rattle.bl_code.specs.Reading.{IsAt, NoneAt, Refuses, behind}
-use Rattle.bl_code.specs.Unique.{Same, IsOne}
+use Rattle.bl_code.specs.Unique.{Same, PrefixFree}
 use Rattle.bl_code.specs.declared.error.CodeError.{CodeError}
 use Rattle.bl_code.proofs.Places.{err_along, stands, is_at, join, as_other}
 use Rattle.bl_code.proofs.Shapes.{after_byte}
@@ -70,5 +70,5 @@ of_same m n None (Some b) = seq_same (byte_same 0 1) (λ e. absurd (omega arith)
 of_same m n (Some a) None = seq_same (byte_same 1 0) (λ e. absurd (omega arith))
 of_same m n (Some a) (Some b) = seq_same (byte_same 1 1) (λ _. seq_same (u32_same m n) (λ e. then_same (λ f. ap₂ (λ k l. made k (Some l)) e f) (u32_same a b)))
 
-pub limits_one : IsOne limits
-limits_one = record { same = λ x y. of_same x.min y.min x.max y.max }
+pub limits_prefix_free : PrefixFree limits
+limits_prefix_free = record { same = λ x y. of_same x.min y.min x.max y.max }

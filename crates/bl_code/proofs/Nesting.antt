@@ -11,12 +11,12 @@ use Rattle.bl_wasm.specs.declared.instruction.Instr.TheVariants.{End}
 use Rattle.bl_wasm.proofs.NestingLemmas.{closes, nests, from_through, through}
 use Rattle.bl_code.specs.Constructs.{kept, kept_kind}
 use Rattle.bl_code.specs.Reading.{IsAt, NoneAt, Refuses}
-use Rattle.bl_code.specs.Unique.{IsOne}
+use Rattle.bl_code.specs.Unique.{PrefixFree}
 use Rattle.bl_code.specs.declared.error.CodeError.{CodeError}
 use Rattle.bl_code.specs.declared.error.CodeError.TheVariants.{Malformed, Memory}
 use Rattle.bl_code.specs.declared.expression.Open.{Open}
 use Rattle.bl_code.specs.declared.expression.Open.TheVariants.{BeforeElse, Other}
-use Rattle.bl_code.proofs.Instructions.{instruction_one}
+use Rattle.bl_code.proofs.Instructions.{instruction_prefix_free}
 use Rattle.bl_code.proofs.Places.{Stands, stands, is_at, at_front, one_at, join, as_other}
 use Rattle.bl_code.proofs.Shapes.{never_empty}
 use Rattle.bl_leb.proofs.Places.{range_none}
@@ -96,7 +96,7 @@ none_expression bytes i j p st front nested never xs k h =
     let b = stands expression bytes i k xs h in
     let inside = a.inside in
     let nests = b.spelled.0 in
-    by_part inside nests (parting instruction_one p (xs ++ End ∷ []) a.front b.front (drop j bytes) (drop k bytes) a.spelled (spelled_whole xs b.front b.spelled.1) (sym a.whole ∙ b.whole))
+    by_part inside nests (parting instruction_prefix_free p (xs ++ End ∷ []) a.front b.front (drop j bytes) (drop k bytes) a.spelled (spelled_whole xs b.front b.spelled.1) (sym a.whole ∙ b.whole))
   where
     done : (x : Instr) (r : List Instr) → Whole st (x ∷ r) → ((x ≡ End) × (st ≡ [])) ⊎ ((next : List Construct) × (open_behind x st ≡ Some next))
     done x r (inl h) = inl (h.0, h.1)
@@ -114,14 +114,14 @@ err_expression bytes i j p st Malformed front nested h = none_expression bytes i
 err_expression bytes i j p st Memory front nested h = tt
 
 -- expressions are prefix-free
-pub expression_one : IsOne expression
-expression_one = record { same = λ x y. record { both = λ a b u v p q e. expression_same x y a b u v p q e } }
+pub expression_prefix_free : PrefixFree expression
+expression_prefix_free = record { same = λ x y. record { both = λ a b u v p q e. expression_same x y a b u v p q e } }
   where
     all_of : (x : List Instr) → Nests x → Whole [] (x ++ End ∷ [])
     all_of x n = whole x [] (nests_through x n)
 
     same_items : (x y : List Instr) (a b u v : List ℕ) → each instruction (x ++ End ∷ []) a → each instruction (y ++ End ∷ []) b → a ++ u ≡ b ++ v → x ++ End ∷ [] ≡ y ++ End ∷ [] → (a ≡ b) × (x ≡ y)
-    same_items x y a b u v p q e same = (((each_same instruction_one (x ++ End ∷ []) (y ++ End ∷ []) (ap length same)).both a b u v p q e).0, append_cancel_right x y (End ∷ []) same)
+    same_items x y a b u v p q e same = (((each_same instruction_prefix_free (x ++ End ∷ []) (y ++ End ∷ []) (ap length same)).both a b u v p q e).0, append_cancel_right x y (End ∷ []) same)
 
     by_part : (x y : List Instr) (a b u v : List ℕ) → Nests x → Nests y → each instruction (x ++ End ∷ []) a → each instruction (y ++ End ∷ []) b → a ++ u ≡ b ++ v → Parting instruction (x ++ End ∷ []) (y ++ End ∷ []) u → (a ≡ b) × (x ≡ y)
     by_part x y a b u v n m p q e (inl h) =
@@ -135,7 +135,7 @@ expression_one = record { same = λ x y. record { both = λ a b u v p q e. expre
     expression_same x y a b u v p q e =
         let f = spelled_whole x a p.1 in
         let g = spelled_whole y b q.1 in
-        by_part x y a b u v p.0 q.0 f g e (parting instruction_one (x ++ End ∷ []) (y ++ End ∷ []) a b u v f g e)
+        by_part x y a b u v p.0 q.0 f g e (parting instruction_prefix_free (x ++ End ∷ []) (y ++ End ∷ []) a b u v f g e)
 
 -- one more item
 pub through_more : (p : List Instr) (st next : List Construct) (x : Instr) → open_through p [] ≡ Some st → open_behind x st ≡ Some next → open_through (p ++ x ∷ []) [] ≡ Some next
@@ -147,9 +147,9 @@ pub err_nest : (bytes : List ℕ) (i j k : ℕ) (p : List Instr) (st : List Cons
 err_nest bytes i j k p st x Malformed front nested here other stuck = none_expression bytes i j p st front nested never
   where
     never : (y : Instr) (m : ℕ) → IsAt instruction bytes j m y → ((y ≡ End) × (st ≡ [])) ⊎ ((next : List Construct) × (open_behind y st ≡ Some next)) → ⊥
-    never y m q (inl h) = other ((one_at bytes j k m x y instruction_one here q).1 ∙ h.0) h.1
+    never y m q (inl h) = other ((one_at bytes j k m x y instruction_prefix_free here q).1 ∙ h.0) h.1
     never y m q (inr h) =
-        let same = (one_at bytes j k m x y instruction_one here q).1 in
+        let same = (one_at bytes j k m x y instruction_prefix_free here q).1 in
         let none_left : open_behind y st ≡ None = ap (λ z. open_behind z st) (sym same) ∙ stuck refl in
         cc
 err_nest bytes i j k p st x Memory front nested here other stuck = tt

@@ -7,7 +7,7 @@ use Rattle.std.proofs.lemmas.List.Folds.{drop_split}
 use Rattle.bl_base.proofs.Lists.{rest_same}
 use Rattle.bl_wasm.specs.Values.{Spellings, ◌⨾◌, byte, given}
 use Rattle.bl_code.specs.Reading.{IsAt, NoneAt, Refuses, Reads, Finds, behind}
-use Rattle.bl_code.specs.Unique.{Same, IsOne}
+use Rattle.bl_code.specs.Unique.{Same, PrefixFree}
 use Rattle.bl_code.specs.declared.error.CodeError.{CodeError}
 use Rattle.bl_code.specs.declared.error.CodeError.TheVariants.{Malformed, Memory}
 use Rattle.bl_code.specs.declared.error.Malformed.{Malformed as NotSpelled}
@@ -76,7 +76,7 @@ same_at bytes i j k one p q =
     let g = q.inside in
     (omega (arith, length-drop j bytes, length-drop k bytes, ap length rest), same.1)
 
-pub one_at : {A : Type 0} {B : A → Spellings} (bytes : List ℕ) (i j k : ℕ) (x y : A) → IsOne B → IsAt B bytes i j x → IsAt B bytes i k y → (j ≡ k) × (x ≡ y)
+pub one_at : {A : Type 0} {B : A → Spellings} (bytes : List ℕ) (i j k : ℕ) (x y : A) → PrefixFree B → IsAt B bytes i j x → IsAt B bytes i k y → (j ≡ k) × (x ≡ y)
 one_at {B} bytes i j k x y one p q = same_at bytes i j k (one.same x y) (stands B bytes i j x p) (stands B bytes i k y q)
 
 -- nothing is spelled where what it begins with isn't
@@ -86,7 +86,7 @@ none_first {F} {S} f bytes i none x k h =
     none (f x) two.0 (is_at F bytes i two.0 (f x) two.1)
 
 -- nor where what it goes on with isn't
-pub none_second : {A C T : Type 0} {F : A → Spellings} {S : C → Spellings} (f : T → A) (g : T → C) (bytes : List ℕ) (i j : ℕ) (a : A) → IsOne F → IsAt F bytes i j a → NoneAt S bytes j → NoneAt (λ x. F (f x) ⨾ S (g x)) bytes i
+pub none_second : {A C T : Type 0} {F : A → Spellings} {S : C → Spellings} (f : T → A) (g : T → C) (bytes : List ℕ) (i j : ℕ) (a : A) → PrefixFree F → IsAt F bytes i j a → NoneAt S bytes j → NoneAt (λ x. F (f x) ⨾ S (g x)) bytes i
 none_second {F} {S} f g bytes i j a one first none x k h =
     let two = part bytes i k (stands (λ y. F (f y) ⨾ S (g y)) bytes i k x h) in
     let same = one_at bytes i j two.0 a (f x) one first (is_at F bytes i two.0 (f x) two.1) in
@@ -97,7 +97,7 @@ pub none_along : {A T : Type 0} {F : A → Spellings} {S : T → Spellings} (f :
 none_along {F} {S} f bytes i along none x k h = none (f x) k (is_at F bytes i k (f x) (as_other bytes i k (along x) (stands S bytes i k x h)))
 
 -- nor does anything go on behind the first part
-pub none_after : {A T : Type 0} {F : A → Spellings} {S : T → Spellings} (f : T → A) (bytes : List ℕ) (i j : ℕ) (a : A) → IsOne F → IsAt F bytes i j a → NoneAt (λ x. given (f x ≡ a) (S x)) bytes j → NoneAt (λ x. F (f x) ⨾ S x) bytes i
+pub none_after : {A T : Type 0} {F : A → Spellings} {S : T → Spellings} (f : T → A) (bytes : List ℕ) (i j : ℕ) (a : A) → PrefixFree F → IsAt F bytes i j a → NoneAt (λ x. given (f x ≡ a) (S x)) bytes j → NoneAt (λ x. F (f x) ⨾ S x) bytes i
 none_after {F} {S} f bytes i j a one first none x k h =
     let two = part bytes i k (stands (λ y. F (f y) ⨾ S y) bytes i k x h) in
     let same = one_at bytes i j two.0 a (f x) one first (is_at F bytes i two.0 (f x) two.1) in
@@ -110,7 +110,7 @@ err_first F S f bytes i Malformed h = none_first {F = F} {S = S} f bytes i h
 err_first F S f bytes i Memory h = tt
 
 -- or why the second part isn't
-pub err_second : {A C T : Type 0} (F : A → Spellings) (S : C → Spellings) (f : T → A) (g : T → C) (bytes : List ℕ) (i j : ℕ) (a : A) (e : CodeError) → IsOne F → IsAt F bytes i j a → Refuses S bytes j e → Refuses (λ x. F (f x) ⨾ S (g x)) bytes i e
+pub err_second : {A C T : Type 0} (F : A → Spellings) (S : C → Spellings) (f : T → A) (g : T → C) (bytes : List ℕ) (i j : ℕ) (a : A) (e : CodeError) → PrefixFree F → IsAt F bytes i j a → Refuses S bytes j e → Refuses (λ x. F (f x) ⨾ S (g x)) bytes i e
 err_second F S f g bytes i j a Malformed one first h = none_second {F = F} {S = S} f g bytes i j a one first h
 err_second F S f g bytes i j a Memory one first h = tt
 
@@ -120,7 +120,7 @@ err_along F S f bytes i Malformed along h = none_along {F = F} {S = S} f bytes i
 err_along F S f bytes i Memory along h = tt
 
 -- a reader of what goes on behind the first part reads the whole
-pub reads_after : {A T : Type 0} (F : A → Spellings) (S : T → Spellings) (f : T → A) (bytes : List ℕ) (i j : ℕ) (a : A) (r : Result (T × ℕ) CodeError) → IsOne F → IsAt F bytes i j a → Reads (λ x. given (f x ≡ a) (S x)) bytes j r → Reads (λ x. F (f x) ⨾ S x) bytes i r
+pub reads_after : {A T : Type 0} (F : A → Spellings) (S : T → Spellings) (f : T → A) (bytes : List ℕ) (i j : ℕ) (a : A) (r : Result (T × ℕ) CodeError) → PrefixFree F → IsAt F bytes i j a → Reads (λ x. given (f x ≡ a) (S x)) bytes j r → Reads (λ x. F (f x) ⨾ S x) bytes i r
 reads_after {A} F S f bytes i j a (Ok found) one first h =
     let x = found.0 in
     let k = found.1 in

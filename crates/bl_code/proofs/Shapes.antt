@@ -2,8 +2,8 @@
 use Rattle.std.proofs.Common.{◌≡◌, ℕ, ◌≤◌, List, [], ◌∷◌, ◌++◌, Some, None, Bool, true, ◌&&◌, IsTrue, ap, ◌∙◌, refl, subst, arith}
 use Rattle.std.specs.Prelude.{nat_le, Option}
 use Rattle.std.proofs.lemmas.Bool.Decides.{nat_tests}
-use Rattle.bl_ops.specs.Access.{code_of as access_code}
-use Rattle.bl_ops.specs.Table.{code_of}
+use Rattle.bl_ops.specs.Access.{access_code}
+use Rattle.bl_ops.specs.Table.{operator_code}
 use Rattle.bl_ops.specs.declared.access.AccessKind.{AccessKind}
 use Rattle.bl_ops.specs.declared.access.AccessKind.TheVariants.{I32Load}
 use Rattle.bl_ops.specs.declared.op.Op.{Op}
@@ -38,8 +38,8 @@ abbrev is_numeric : Option ℕ → Bool
 is_numeric None = true
 is_numeric (Some code) = nat_le 0x45 code
 
-op_numeric : (op : Op) → IsTrue (is_numeric (code_of op))
-op_numeric op = elim op as (λ (o : Op). IsTrue (is_numeric (code_of o))) [ I32Eqz ↦ refl | _ ↦ refl ]
+op_numeric : (op : Op) → IsTrue (is_numeric (operator_code op))
+op_numeric op = elim op as (λ (o : Op). IsTrue (is_numeric (operator_code o))) [ I32Eqz ↦ refl | _ ↦ refl ]
 
 access_in : (kind : AccessKind) → IsTrue (nat_le 0x28 (access_code kind) && nat_le (access_code kind) 0x3E)
 access_in kind = elim kind as (λ (k : AccessKind). IsTrue (nat_le 0x28 (access_code k) && nat_le (access_code k) 0x3E)) [ I32Load ↦ refl | _ ↦ refl ]
@@ -127,5 +127,5 @@ shaped (I32Const x) code rest h = let p = after_byte 0x41 code rest h in (grind 
 shaped (I64Const x) code rest h = let p = after_byte 0x42 code rest h in (grind arith, p.1)
 shaped (F32Const x) code rest h = let p = after_byte 0x43 code rest h in (grind arith, p.1)
 shaped (F64Const x) code rest h = let p = after_byte 0x44 code rest h in (grind arith, p.1)
-shaped (Integer op) code rest h = let p = only_byte h.0 code rest h.2 in let large = numeric_in (code_of op) code (op_numeric op) (h.1 ∙ ap Some p.0) in (grind arith, p.1)
+shaped (Integer op) code rest h = let p = only_byte h.0 code rest h.2 in let large = numeric_in (operator_code op) code (op_numeric op) (h.1 ∙ ap Some p.0) in (grind arith, p.1)
 shaped (Float op) code rest h = let p = only_byte op code rest h.1 in let large : 0x45 ≤ code = rw (← p.0) h.0.0 in (grind arith, p.1)

@@ -2,9 +2,9 @@
 use Rattle.std.proofs.Common.{◌≡◌, ◌≢◌, ℕ, ◌+◌, ◌-◌, ◌≤◌, ◌<◌, List, length, take, drop, slice_range, ap, sym, ◌∙◌, refl, subst, arith, length-drop, length-append}
 use Rattle.std.proofs.lemmas.List.{length-take-le, drop-take, take-take}
 use Rattle.bl_wasm.specs.Values.{Spellings, ◌⨾◌, u32, sized}
-use Rattle.bl_code.specs.Laws.{u32_one}
+use Rattle.bl_code.specs.Laws.{u32_prefix_free}
 use Rattle.bl_code.specs.Reading.{IsAt, NoneAt, Refuses}
-use Rattle.bl_code.specs.Unique.{IsOne}
+use Rattle.bl_code.specs.Unique.{PrefixFree}
 use Rattle.bl_code.specs.declared.error.CodeError.{CodeError}
 use Rattle.bl_code.specs.declared.error.CodeError.TheVariants.{Malformed, Memory}
 use Rattle.bl_code.proofs.Places.{Stands, stands, is_at, part, join, as_other, one_at}
@@ -79,7 +79,7 @@ err_size B bytes i Memory h = tt
 pub contents_at : {A : Type 0} (B : A → Spellings) (bytes : List ℕ) (i j n : ℕ) → IsAt u32 bytes i j n → (x : A) (k : ℕ) → IsAt (λ y. sized (B y)) bytes i k x → (k ≡ j + n) × IsAt B bytes j k x
 contents_at B bytes i j n first x k h =
     let s = sized_part (B x) bytes i k (stands (λ y. sized (B y)) bytes i k x h) in
-    let same = one_at bytes i j s.1 n s.0 u32_one first (is_at u32 bytes i s.1 s.0 s.2) in
+    let same = one_at bytes i j s.1 n s.0 u32_prefix_free first (is_at u32 bytes i s.1 s.0 s.2) in
     let far = s.4 in
     let ends : k ≡ j + n = omega (arith, same.0, same.1, far) in
     (ends, is_at B bytes j k x (subst (λ (m : ℕ). Stands (B x) bytes m k) (sym same.0) s.3))
@@ -99,7 +99,7 @@ err_contents B bytes i j n Malformed first h = λ x k p.
 err_contents B bytes i j n Memory first h = tt
 
 -- the contents end elsewhere
-pub none_elsewhere : {A : Type 0} (B : A → Spellings) (bytes : List ℕ) (i j n k : ℕ) (x : A) → IsOne B → IsAt u32 bytes i j n → IsAt B (take (j + n) bytes) j k x → k ≢ j + n → NoneAt (λ y. sized (B y)) bytes i
+pub none_elsewhere : {A : Type 0} (B : A → Spellings) (bytes : List ℕ) (i j n k : ℕ) (x : A) → PrefixFree B → IsAt u32 bytes i j n → IsAt B (take (j + n) bytes) j k x → k ≢ j + n → NoneAt (λ y. sized (B y)) bytes i
 none_elsewhere B bytes i j n k x one first read other y l h =
     let c = contents_at B bytes i j n first y l h in
     let whole = subst (λ (m : ℕ). IsAt B (take m bytes) j l y) c.0 (inner B bytes j l y c.1) in

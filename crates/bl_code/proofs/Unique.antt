@@ -6,8 +6,8 @@ use Rattle.bl_base.proofs.Lists.{front_same, rest_same}
 use Rattle.bl_leb.specs.Numbers.{IsSigned}
 use Rattle.bl_ops.specs.Integer.{unsigned as unsigned_of}
 use Rattle.bl_wasm.specs.Values.{Spellings, ◌⨾◌, nothing, exactly, byte, given, each, u32, int, f32, f64, vec, byte_vec, name, sized}
-use Rattle.bl_code.specs.Laws.{u32_one}
-use Rattle.bl_code.specs.Unique.{Same, IsOne}
+use Rattle.bl_code.specs.Laws.{u32_prefix_free}
+use Rattle.bl_code.specs.Unique.{Same, PrefixFree}
 
 -- no bytes
 pub nothing_same : {P : Type 0} → P → Same nothing nothing P
@@ -52,26 +52,26 @@ then_same f one = record { both = λ a b u v p q e. let same = one.both a b u v 
 
 -- a number
 pub u32_same : (m n : ℕ) → Same (u32 m) (u32 n) (m ≡ n)
-u32_same m n = u32_one.same m n
+u32_same m n = u32_prefix_free.same m n
 
 -- as many spellings, one after another
-pub each_same : {A : Type 0} {B : A → Spellings} → IsOne B → (xs ys : List A) → length xs ≡ length ys → Same (each B xs) (each B ys) (xs ≡ ys)
+pub each_same : {A : Type 0} {B : A → Spellings} → PrefixFree B → (xs ys : List A) → length xs ≡ length ys → Same (each B xs) (each B ys) (xs ≡ ys)
 each_same one [] [] long = nothing_same refl
 each_same one [] (y ∷ ys) long = absurd (omega arith)
 each_same one (x ∷ xs) [] long = absurd (omega arith)
 each_same one (x ∷ xs) (y ∷ ys) long = seq_same (one.same x y) (λ first. then_same (λ rest. cc) (each_same one xs ys (omega arith)))
 
 -- a vector
-pub vec_one : {A : Type 0} {B : A → Spellings} → IsOne B → IsOne (vec B)
-vec_one one = record { same = λ xs ys. seq_same (u32_same (length xs) (length ys)) (λ long. each_same one xs ys long) }
+pub vec_prefix_free : {A : Type 0} {B : A → Spellings} → PrefixFree B → PrefixFree (vec B)
+vec_prefix_free one = record { same = λ xs ys. seq_same (u32_same (length xs) (length ys)) (λ long. each_same one xs ys long) }
 
 -- a vector of bytes
-pub byte_vec_one : IsOne byte_vec
-byte_vec_one = record { same = λ xs ys. seq_same (u32_same (length xs) (length ys)) (λ long. exactly_same xs ys long) }
+pub byte_vec_prefix_free : PrefixFree byte_vec
+byte_vec_prefix_free = record { same = λ xs ys. seq_same (u32_same (length xs) (length ys)) (λ long. exactly_same xs ys long) }
 
 -- a name
-pub name_one : IsOne name
-name_one = record { same = λ xs ys. given_same (byte_vec_one.same xs ys) }
+pub name_prefix_free : PrefixFree name
+name_prefix_free = record { same = λ xs ys. given_same (byte_vec_prefix_free.same xs ys) }
 
 -- behind a size
 pub sized_same : {S T : Spellings} {P : Type 0} → Same S T P → Same (sized S) (sized T) P
@@ -85,8 +85,8 @@ sized_same one = record {
       (p.whole ∙ ap (λ t. t ++ p.contents) sizes.0 ∙ ap (λ t. q.size ++ t) contents ∙ sym q.whole, inner.1);
 }
 
-pub sized_one : {A : Type 0} {B : A → Spellings} → IsOne B → IsOne (λ x. sized (B x))
-sized_one one = record { same = λ x y. sized_same (one.same x y) }
+pub sized_prefix_free : {A : Type 0} {B : A → Spellings} → PrefixFree B → PrefixFree (λ x. sized (B x))
+sized_prefix_free one = record { same = λ x y. sized_same (one.same x y) }
 
 -- a number by the signed one with the same bits
 pub int_same : (N m n : ℕ) → Same (int N m) (int N n) (m ≡ n)

@@ -3,7 +3,7 @@ use Rattle.std.proofs.Common.{◌≡◌, ℕ, ◌+◌, ◌<◌, ◌≤◌, List,
 use Rattle.bl_base.proofs.Lists.{rest_same}
 use Rattle.bl_wasm.specs.Values.{Spellings, given, each}
 use Rattle.bl_code.specs.Reading.{IsAt, NoneAt, Refuses}
-use Rattle.bl_code.specs.Unique.{IsOne}
+use Rattle.bl_code.specs.Unique.{PrefixFree}
 use Rattle.bl_code.specs.declared.error.CodeError.{CodeError}
 use Rattle.bl_code.specs.declared.error.CodeError.TheVariants.{Malformed, Memory}
 use Rattle.bl_code.proofs.Places.{stands, is_at, at_front}
@@ -47,7 +47,7 @@ longer B x y xs ys u e (inl h) = inl (h.0, ap₂ (λ z zs. z ∷ zs) e h.1)
 longer B x y xs ys u e (inr h) = inr (h.0, h.1, h.2, h.3, ap₂ (λ z zs. z ∷ zs) (sym e) h.4, h.5, h.6)
 
 -- lists whose spellings begin the same bytes
-pub parting : {A : Type 0} {B : A → Spellings} → IsOne B → (xs ys : List A) (a b u v : List ℕ) → each B xs a → each B ys b → a ++ u ≡ b ++ v → Parting B xs ys u
+pub parting : {A : Type 0} {B : A → Spellings} → PrefixFree B → (xs ys : List A) (a b u v : List ℕ) → each B xs a → each B ys b → a ++ u ≡ b ++ v → Parting B xs ys u
 parting one [] [] a b u v p q e = inl ([], refl)
 parting one [] (y ∷ ys) a b u v p q e =
     inr (y, ys, q.front, q.rest ++ v, refl, q.first, ap (λ t. t ++ u) (sym p) ∙ e ∙ ap (λ t. t ++ v) q.whole ∙ append_assoc q.front q.rest v)
@@ -59,7 +59,7 @@ parting {B} one (x ∷ xs) (y ∷ ys) a b u v p q e =
     longer B x y xs ys u fronts.1 (parting one xs ys p.rest q.rest u v p.second q.second (rest_same p.front q.front (p.rest ++ u) (q.rest ++ v) fronts.0 whole))
 
 -- where none stands behind some of them, no more of them stand
-pub none_more : {A : Type 0} {B : A → Spellings} (bytes : List ℕ) (i j : ℕ) (xs : List A) (n : ℕ) → IsOne B → IsAt (each B) bytes i j xs → length xs < n → NoneAt B bytes j → NoneAt (λ ys. given (length ys ≡ n) (each B ys)) bytes i
+pub none_more : {A : Type 0} {B : A → Spellings} (bytes : List ℕ) (i j : ℕ) (xs : List A) (n : ℕ) → PrefixFree B → IsAt (each B) bytes i j xs → length xs < n → NoneAt B bytes j → NoneAt (λ ys. given (length ys ≡ n) (each B ys)) bytes i
 none_more {B} bytes i j xs n one front less none ys k h =
     let p = stands (each B) bytes i j xs front in
     let q = stands (λ zs. given (length zs ≡ n) (each B zs)) bytes i k ys h in
@@ -71,6 +71,6 @@ none_more {B} bytes i j xs n one front less none ys k h =
     by_part inside long (inl h) = omega (arith, ap length h.1, length-append ys h.0)
     by_part inside long (inr h) = none h.0 (j + length h.2) (is_at B bytes j (j + length h.2) h.0 (at_front bytes j h.2 h.3 inside h.5 h.6))
 
-pub err_more : {A : Type 0} (B : A → Spellings) (bytes : List ℕ) (i j : ℕ) (xs : List A) (n : ℕ) (e : CodeError) → IsOne B → IsAt (each B) bytes i j xs → length xs < n → Refuses B bytes j e → Refuses (λ ys. given (length ys ≡ n) (each B ys)) bytes i e
+pub err_more : {A : Type 0} (B : A → Spellings) (bytes : List ℕ) (i j : ℕ) (xs : List A) (n : ℕ) (e : CodeError) → PrefixFree B → IsAt (each B) bytes i j xs → length xs < n → Refuses B bytes j e → Refuses (λ ys. given (length ys ≡ n) (each B ys)) bytes i e
 err_more B bytes i j xs n Malformed one front less h = none_more bytes i j xs n one front less h
 err_more B bytes i j xs n Memory one front less h = tt

@@ -7,5 +7,5 @@ pub record Same (First Second : Spellings) (P : Type 0) : Type 0 where
   pub both : (a b u v : List ℕ) → First a → Second b → a ++ u ≡ b ++ v → (a ≡ b) × P
 
 -- bytes begin with at most one spelling, and it spells one thing
-pub record IsOne {A : Type 0} (B : A → Spellings) : Type 0 where
+pub record PrefixFree {A : Type 0} (B : A → Spellings) : Type 0 where
   pub same : (x y : A) → Same (B x) (B y) (x ≡ y)

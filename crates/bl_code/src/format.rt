@@ -2,7 +2,7 @@
 ghost use Rattle.std.specs.Prelude.{◌≡◌, ◌≤◌, ℕ, List as Listed, length};
 ghost use Rattle.bl_wasm.specs.Values.{given, each, vec, sized};
 ghost use Rattle.bl_code.specs.Reading.{Reads};
-ghost use Rattle.bl_code.specs.Unique.{IsOne};
+ghost use Rattle.bl_code.specs.Unique.{PrefixFree};
 
 use crate::error::CodeError;
 use crate::values::read_u32;
@@ -23,7 +23,7 @@ pub trait Format {
         requires { at ≤ length bytes.now }
         ensures { Reads spellings bytes.now at result };
 
-    ghost one: { IsOne spellings };
+    ghost prefix_free: { PrefixFree spellings };
 }
 
 /// Reads as many of a format as `count` says, one after another from `at` on.

@@ -1,6 +1,6 @@
 //! Instructions (WebAssembly 1.0, section 5.4).
 ghost use Rattle.std.specs.Prelude.{◌≡◌, ◌≤◌, ℕ, List as Listed, [], ◌∷◌, length, IfSome, IfNone};
-ghost use Rattle.bl_ops.specs.Access.{code_of as access_code};
+ghost use Rattle.bl_ops.specs.Access.{access_code};
 ghost use Rattle.bl_wasm.specs.Codes.{float_access_code};
 ghost use Rattle.bl_wasm.specs.Types.{block_type};
 ghost use Rattle.bl_wasm.specs.Values.{u32};
@@ -25,11 +25,11 @@ impl Format for Index {
     type Tree = u32;
 
     ghost use Rattle.bl_wasm.specs.Values.{u32};
-    ghost use Rattle.bl_code.specs.Laws.{u32_one};
+    ghost use Rattle.bl_code.specs.Laws.{u32_prefix_free};
 
     ghost spellings = { u32 };
 
-    ghost one = { u32_one };
+    ghost prefix_free = { u32_prefix_free };
 
     fn read(_alloc: Global, bytes: &[u8], at: usize) -> Result<(u32, usize), CodeError> {
         Ok(read_u32(bytes, at)?)

@@ -7,7 +7,7 @@ use Rattle.bl_base.specs.declared.number.Pos.{Pos}
 use Rattle.bl_cmd.specs.declared.definitions.ProgramParts.{ProgramParts as Program}
 use Rattle.bl_graph.specs.Graphs.{use_of}
 use Rattle.bl_graph.specs.Labels.{AssignsLabels, ConstantTime, Secret, declared, loaded, moved}
-use Rattle.bl_graph.specs.SecretChains.{sunk, stored, given, Leads, IsSecretChain}
+use Rattle.bl_graph.specs.SecretChains.{sunk, stored, given, LeadsToEnd, IsSecretChain}
 use Rattle.bl_graph.specs.Secrets.{Declares, Demands}
 use Rattle.bl_graph.specs.declared.facts.Use.{Use}
 use Rattle.bl_graph.specs.declared.secret.Origin.{Origin}
@@ -41,15 +41,15 @@ abbrev SomeChain : Program → Type 0
 SomeChain program = (chain : SecretChain) × IsSecretChain program chain
 
 module _ (program : Program) (range : AreSecretsInRange program) (lists : Lists program) where
-  from_origin : (x : ℕ) (origin : Origin) → Declares program x origin → (rest : List ℕ) (end : ℕ) → Leads program x rest end → SomeChain program
-  from_origin x (Parameter f i) h rest end on = (record { origin = Parameter f i; through = map place rest; end = place end }, (x, h, subst (λ l. Leads program x l end) (sym (placed rest)) on))
-  from_origin x (Global i) h rest end on = (record { origin = Global i; through = map place rest; end = place end }, (x, h, subst (λ l. Leads program x l end) (sym (placed rest)) on))
+  from_origin : (x : ℕ) (origin : Origin) → Declares program x origin → (rest : List ℕ) (end : ℕ) → LeadsToEnd program x rest end → SomeChain program
+  from_origin x (Parameter f i) h rest end on = (record { origin = Parameter f i; through = map place rest; end = place end }, (x, h, subst (λ l. LeadsToEnd program x l end) (sym (placed rest)) on))
+  from_origin x (Global i) h rest end on = (record { origin = Global i; through = map place rest; end = place end }, (x, h, subst (λ l. LeadsToEnd program x l end) (sym (placed rest)) on))
   from_origin x (Memory m) h rest end on = absurd h
 
   -- whatever leads a secret variable to an end makes a chain
-  way : (x : ℕ) → Secret program x → (rest : List ℕ) (end : ℕ) → Leads program x rest end → SomeChain program
+  way : (x : ℕ) → Secret program x → (rest : List ℕ) (end : ℕ) → LeadsToEnd program x rest end → SomeChain program
   way x (declared _ origin h) rest end on = from_origin x origin h rest end on
-  way x (loaded s m _ h w) rest end on = (record { origin = Memory m; through = map place (s ∷ rest); end = place end }, (h, (x, w, inl (subst (λ l. Leads program x l end) (sym (placed rest)) on))))
+  way x (loaded s m _ h w) rest end on = (record { origin = Memory m; through = map place (s ∷ rest); end = place end }, (h, (x, w, inl (subst (λ l. LeadsToEnd program x l end) (sym (placed rest)) on))))
   way x (moved s y _ r w t) rest end on = way y t (s ∷ rest) end (r, (x, w, on))
 
   demanded_way : (x : ℕ) → Secret program x → Demands program x → SomeChain program

@@ -14,7 +14,7 @@ use Rattle.bl_ct.specs.Facts.{AreFacts, AreSecretsInRange}
 use Rattle.bl_ct.specs.declared.facts.Facts.{Facts}
 use Rattle.bl_graph.specs.Labels.{Secret, declared, loaded, moved}
 use Rattle.bl_graph.specs.SecretChains.{Ends, sunk, stored, given}
-use Rattle.bl_ct.specs.Finding.{is_in, Has, StandsBy, Searched, AreEnds, IsLeak, end_at}
+use Rattle.bl_ct.specs.Finding.{is_in, Has, IsJustifiedBy, Searched, AreEnds, IsLeak, end_at}
 use Rattle.bl_ct.specs.Leaks.{LeakOf, LeakFound}
 use Rattle.bl_ct.specs.Verdicts.{label_of, labelling_of, IsLeastLabelling}
 use Rattle.bl_ct.proofs.Visiting.{in_has, has_in}
@@ -36,7 +36,7 @@ module _ (program : Program) (is : AreSecretsInRange program) (marks demanded : 
         none_some (end_at ends x) (ap (end_at ends) (sym found.2) ∙ (none found.0 found.1).0) (table.full x end h)
 
     -- a demanded variable, by how it was found
-    by_cause : (step : Step) (place : ℕ) (cause : Cause) → Contains queue step → step.cause ≡ cause → StandsBy program queue place step.var cause → Demands program step.var → ⊥
+    by_cause : (step : Step) (place : ℕ) (cause : Cause) → Contains queue step → step.cause ≡ cause → IsJustifiedBy program queue place step.var cause → Demands program step.var → ⊥
     by_cause step place (Declared origin) there e h d = is.apart step.var origin h d
     by_cause step place (Loaded s m) there e h d = (none step there).1 s m e ((exact step.var).1 d)
     by_cause step place (Moved s before) there e h d =

@@ -17,7 +17,7 @@ use Rattle.bl_graph.specs.Labels.{Secret, declared, loaded, moved}
 use Rattle.bl_graph.specs.Ranges.{variables}
 use Rattle.bl_ct.specs.Facts.{AreFacts}
 use Rattle.bl_ct.specs.declared.facts.Facts.{Facts}
-use Rattle.bl_ct.specs.Finding.{is_in, unmarked, Visits, Some_fits, Some_asks, RowFits, RowAsks, Has, StandsBy, Stands, Searching, Searched, row_at}
+use Rattle.bl_ct.specs.Finding.{is_in, unmarked, Visits, Some_fits, Some_asks, RowFits, RowAsks, Has, IsJustifiedBy, AreJustified, Searching, Searched, row_at}
 use Rattle.bl_graph.proofs.Members.{none_in}
 
 pub visits_none : {A : Type 0} (fits : A → Step → Type 0) (asks : A → ℕ → Type 0) (marks : List Bool) (queue : List Step) → Visits (Some_fits [] fits) (Some_asks [] asks) marks marks queue queue
@@ -139,14 +139,14 @@ has_cases q a place step h =
     ]
 
 -- what stood stands in a longer queue
-stands_left : (program : Program) (q a : List Step) (place x : ℕ) (cause : Cause) → StandsBy program q place x cause → StandsBy program (q ++ a) place x cause
+stands_left : (program : Program) (q a : List Step) (place x : ℕ) (cause : Cause) → IsJustifiedBy program q place x cause → IsJustifiedBy program (q ++ a) place x cause
 stands_left program q a place x (Declared origin) h = h
 stands_left program q a place x (Loaded s memory) h = h
 stands_left program q a place x (Moved s before) h = (h.0, (h.1.0, has_left q a before h.1.0 h.1.1, h.1.2, h.1.3))
 
-stands_more : (program : Program) (q a more : List Step) → more ≡ q ++ a → Stands program q → ((place : ℕ) (step : Step) → length q ≤ place → Contains a step → StandsBy program (q ++ a) place step.var step.cause) → Stands program more
-stands_more program q a more front old new = subst (Stands program) (sym front) (λ place step h.
-    elim (has_cases q a place step h) as (λ _. StandsBy program (q ++ a) place step.var step.cause) [
+stands_more : (program : Program) (q a more : List Step) → more ≡ q ++ a → AreJustified program q → ((place : ℕ) (step : Step) → length q ≤ place → Contains a step → IsJustifiedBy program (q ++ a) place step.var step.cause) → AreJustified program more
+stands_more program q a more front old new = subst (AreJustified program) (sym front) (λ place step h.
+    elim (has_cases q a place step h) as (λ _. IsJustifiedBy program (q ++ a) place step.var step.cause) [
       | inl there ↦ stands_left program q a place step.var step.cause (old place step there)
       | inr behind ↦ new place step behind.0 behind.1
     ])
@@ -167,13 +167,13 @@ module _ (program : Program) (facts : Facts) (are : AreFacts program facts) (wri
         | inr s ↦ (s.0, subst (λ l. Contains l s.0) (sym visit.front) (Contains-append_right q visit.added s.0 s.1), s.2)
       ]
 
-  declared_stands : (q : List Step) (place : ℕ) (step : Step) → Some_fits facts.declared (λ d s. s ≡ record { var = d.var; cause = Declared d.origin }) step → StandsBy program q place step.var step.cause
-  declared_stands q place step f = subst (λ s. StandsBy program q place s.var s.cause) (sym f.2) ((are.declared f.0).0 f.1)
+  declared_stands : (q : List Step) (place : ℕ) (step : Step) → Some_fits facts.declared (λ d s. s ≡ record { var = d.var; cause = Declared d.origin }) step → IsJustifiedBy program q place step.var step.cause
+  declared_stands q place step f = subst (λ s. IsJustifiedBy program q place s.var s.cause) (sym f.2) ((are.declared f.0).0 f.1)
 
-  loaded_stands : (q : List Step) (place : ℕ) (step : Step) → Some_fits facts.loads (λ d. RowFits (row_at written d.at) (Loaded d.at d.memory)) step → StandsBy program q place step.var step.cause
+  loaded_stands : (q : List Step) (place : ℕ) (step : Step) → Some_fits facts.loads (λ d. RowFits (row_at written d.at) (Loaded d.at d.memory)) step → IsJustifiedBy program q place step.var step.cause
   loaded_stands q place step f =
       let row = f.2 in
-      subst (λ s. StandsBy program q place s.var s.cause) (sym row.2) ((are.loads f.0).0 f.1, (writes f.0.at row.0).0 row.1)
+      subst (λ s. IsJustifiedBy program q place s.var s.cause) (sym row.2) ((are.loads f.0).0 f.1, (writes f.0.at row.0).0 row.1)
 
   pub search_begins : (none one two : List Bool) (first second : List Step) → none ≡ replicate (variables program) false
       → Visits (Some_fits facts.declared (λ d step. step ≡ record { var = d.var; cause = Declared d.origin })) (Some_asks facts.declared (λ d v. v ≡ d.var)) none one [] first
@@ -198,11 +198,11 @@ module _ (program : Program) (facts : Facts) (are : AreFacts program facts) (wri
 
   module _ (marks : List Bool) (queue : List Step) (next : ℕ) (state : Searching program marks queue next) where
     moved_stands : (a sites : List ℕ) (added : List Step) (step : Step) → Has queue next step → ((s : ℕ) → Contains sites s → Reads program s step.var) → (place : ℕ) (new : Step) → length queue ≤ place
-        → Some_fits sites (λ s. RowFits (row_at written s) (Moved s next)) new → StandsBy program (queue ++ added) place new.var new.cause
+        → Some_fits sites (λ s. RowFits (row_at written s) (Moved s next)) new → IsJustifiedBy program (queue ++ added) place new.var new.cause
     moved_stands a sites added step has reads place new le f =
         let row = f.2 in
         let lt = slice_get_within queue next step has in
-        subst (λ s. StandsBy program (queue ++ added) place s.var s.cause) (sym row.2) (omega arith, (step, has_left queue added next step has, reads f.0 f.1, (writes f.0 row.0).0 row.1))
+        subst (λ s. IsJustifiedBy program (queue ++ added) place s.var s.cause) (sym row.2) (omega arith, (step, has_left queue added next step has, reads f.0 f.1, (writes f.0 row.0).0 row.1))
 
     pub search_next : (new : List Bool) (more : List Step) (sites : List ℕ) (step : Step) → Has queue next step → ((s : ℕ) → Contains sites s ↔ Reads program s step.var)
         → Visits (Some_fits sites (λ s. RowFits (row_at written s) (Moved s next))) (Some_asks sites (λ s. RowAsks (row_at written s))) marks new queue more
@@ -232,7 +232,7 @@ module _ (program : Program) (facts : Facts) (are : AreFacts program facts) (wri
           sound = stands_more program queue visit.added more visit.front state.sound (λ place other le h. moved_stands [] sites visit.added step has (λ s. (reads s).0) place other le (visit.causes other h));
         }
 
-    secret_by : (place x : ℕ) (cause : Cause) → ((before : ℕ) (step : Step) → before < place → Has queue before step → Secret program step.var) → StandsBy program queue place x cause → Secret program x
+    secret_by : (place x : ℕ) (cause : Cause) → ((before : ℕ) (step : Step) → before < place → Has queue before step → Secret program step.var) → IsJustifiedBy program queue place x cause → Secret program x
     secret_by place x (Declared origin) earlier h = declared x origin h
     secret_by place x (Loaded s memory) earlier h = loaded s memory x h.0 h.1
     secret_by place x (Moved s before) earlier h = moved s h.1.0.var x h.1.2 h.1.3 (earlier before h.1.0 h.0 h.1.1)

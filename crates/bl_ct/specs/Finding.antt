@@ -13,7 +13,7 @@ use Rattle.bl_ct.specs.declared.search.Cause.{Cause}
 use Rattle.bl_ct.specs.declared.search.Cause.TheVariants.{Declared, Loaded, Moved}
 use Rattle.bl_graph.specs.Secrets.{Declares, LoadsSecret, Demands}
 use Rattle.bl_graph.specs.Labels.{Secret}
-use Rattle.bl_graph.specs.SecretChains.{Ends, Leads}
+use Rattle.bl_graph.specs.SecretChains.{Ends, LeadsToEnd}
 
 -- a list's answer at a place; no past its end
 abbrev pub is_in : List Bool → ℕ → Bool
@@ -46,14 +46,14 @@ abbrev pub Has : List Step → ℕ → Step → Type 0
 Has queue place step = slice_get queue place ≡ Some step
 
 -- how a variable was found is right
-abbrev pub StandsBy : Program → List Step → ℕ → ℕ → Cause → Type 0
-StandsBy program queue place x (Declared origin) = Declares program x origin
-StandsBy program queue place x (Loaded s memory) = LoadsSecret program s memory × Writes program s x
-StandsBy program queue place x (Moved s before) =
+abbrev pub IsJustifiedBy : Program → List Step → ℕ → ℕ → Cause → Type 0
+IsJustifiedBy program queue place x (Declared origin) = Declares program x origin
+IsJustifiedBy program queue place x (Loaded s memory) = LoadsSecret program s memory × Writes program s x
+IsJustifiedBy program queue place x (Moved s before) =
     (before < place) × ((former : Step) × Has queue before former × Reads program s former.var × Writes program s x)
 
-abbrev pub Stands : Program → List Step → Type 0
-Stands program queue = (place : ℕ) (step : Step) → Has queue place step → StandsBy program queue place step.var step.cause
+abbrev pub AreJustified : Program → List Step → Type 0
+AreJustified program queue = (place : ℕ) (step : Step) → Has queue place step → IsJustifiedBy program queue place step.var step.cause
 
 -- what some element of a list asks or lets through
 abbrev pub Some_fits : {A : Type 0} → List A → (A → Step → Type 0) → Step → Type 0
@@ -91,7 +91,7 @@ pub record Searching (program : Program) (marks : List Bool) (queue : List Step)
   pub back : (v : ℕ) → IsTrue (is_in marks v) → (step : Step) × Contains queue step × (step.var ≡ v)
   pub done : (place : ℕ) (step : Step) → place < next → Has queue place step → (s y : ℕ)
       → Reads program s step.var → Writes program s y → IsTrue (is_in marks y)
-  pub sound : Stands program queue
+  pub sound : AreJustified program queue
 
 -- a whole search
 pub record Searched (program : Program) (marks : List Bool) (queue : List Step) : Type 0 where
@@ -99,7 +99,7 @@ pub record Searched (program : Program) (marks : List Bool) (queue : List Step) 
   pub exact : (x : ℕ) → IsTrue (is_in marks x) ↔ Secret program x
   pub queued : (step : Step) → Contains queue step → IsTrue (is_in marks step.var)
   pub back : (v : ℕ) → IsTrue (is_in marks v) → (step : Step) × Contains queue step × (step.var ≡ v)
-  pub sound : Stands program queue
+  pub sound : AreJustified program queue
 
 -- an entry of a table, if there is one
 abbrev pub end_at : List (Option ℕ) → ℕ → Option ℕ
@@ -125,7 +125,7 @@ IsLeak program step end = Ends program step.var end ⊎ ((memory : ℕ) × (step
 -- the way from a step on
 abbrev pub LeadsOn : Program → Step → List ℕ → ℕ → Type 0
 LeadsOn program step rest end =
-    Leads program step.var rest end ⊎ ((rest ≡ []) × ((memory : ℕ) × (step.cause ≡ Loaded end memory) × Demands program step.var))
+    LeadsToEnd program step.var rest end ⊎ ((rest ≡ []) × ((memory : ℕ) × (step.cause ≡ Loaded end memory) × Demands program step.var))
 
 -- for each position whether it writes a marked variable
 abbrev pub Gives : List Use → List Bool → List Bool → Type 0

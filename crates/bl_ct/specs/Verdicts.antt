@@ -3,7 +3,7 @@ use Rattle.std.specs.Prelude.{◌≡◌, ◌↔◌, ℕ, Bool, true, false, IsTr
 use Rattle.bl_base.specs.declared.names.Label.{Label}
 use Rattle.bl_base.specs.declared.names.Label.TheVariants as label
 use Rattle.bl_cmd.specs.declared.definitions.ProgramParts.{ProgramParts as Program}
-use Rattle.bl_graph.specs.Labels.{Labelled, ConstantTime, Secret}
+use Rattle.bl_graph.specs.Labels.{KeepsLabelRules, ConstantTime, Secret}
 use Rattle.bl_graph.specs.Ranges.{variables}
 use Rattle.bl_graph.specs.SecretChains.{IsSecretChain}
 use Rattle.bl_ct.specs.declared.verdict.CtVerdict.{CtVerdict}
@@ -26,7 +26,7 @@ label_of mark = if mark then label.Secret else label.Public
 -- the least labelling: it keeps all rules, and has exactly the variables that are secret in each one that does
 pub record IsLeastLabelling (program : Program) (labels : List Label) : Type 0 where
   pub places : length labels ≡ variables program
-  pub labelled : Labelled program (labelling_of labels)
+  pub labelled : KeepsLabelRules program (labelling_of labels)
   pub least : (x : ℕ) → IsTrue (labelling_of labels x) ↔ Secret program x
 
 -- the least labelling, or a secret chain where there is none

@@ -4,7 +4,7 @@ ghost use Rattle.bl_base.specs.declared.names.Label.TheVariants as label;
 ghost use Rattle.bl_graph.specs.Graphs.{IsGraph};
 ghost use Rattle.bl_graph.specs.SecretChains.{IsSecretChain};
 ghost use Rattle.bl_ct.specs.Facts.{IsKnown};
-ghost use Rattle.bl_ct.specs.Finding.{Has, IsLeak, Stands};
+ghost use Rattle.bl_ct.specs.Finding.{Has, IsLeak, AreJustified};
 ghost use Rattle.bl_ct.specs.Leaks.{LeakFound, LeakOf};
 ghost use Rattle.bl_ct.specs.Verdicts.{Judges, label_of};
 ghost use Rattle.bl_ct.specs.declared.search.Step.{Step as StepOf};
@@ -127,7 +127,7 @@ fn leak_of(step: Step, ends: &[Option<u32>], demanded: &[bool]) -> Option<u32>
 impl Known<'_> {
     /// The chain to a step, read back through the queue.
     fn chain_to(&self, alloc: Global, queue: &[Step], leak: Leak) -> Result<SecretChain, NoMemory>
-        requires stands { Stands self.now.program.now queue.now }
+        requires stands { AreJustified self.now.program.now queue.now }
         requires leak { (step : StepOf) × Has queue.now leak.place step × IsLeak self.now.program.now step leak.end }
         ensures { IfOk result (λ chain. IsSecretChain self.now.program.now chain) }
     {

@@ -6,14 +6,14 @@ use Rattle.std.proofs.lemmas.Result.{err_from_is_err_and}
 use Rattle.bl_wasm.specs.Values.{Spellings, u32, vec, sized}
 use Rattle.bl_wasm.specs.Sections.{section, vec_section, start_section}
 use Rattle.bl_code.specs.Reading.{IsAt, Refuses, Reads}
-use Rattle.bl_code.specs.Unique.{IsOne}
-use Rattle.bl_code.specs.Laws.{u32_one}
+use Rattle.bl_code.specs.Unique.{PrefixFree}
+use Rattle.bl_code.specs.Laws.{u32_prefix_free}
 use Rattle.bl_code.specs.declared.error.CodeError.{CodeError}
 use Rattle.bl_code.specs.declared.error.CodeError.TheVariants.{Malformed, Memory}
-use Rattle.bl_code.proofs.Unique.{vec_one, sized_one}
+use Rattle.bl_code.proofs.Unique.{vec_prefix_free, sized_prefix_free}
 use Rattle.bl_code.proofs.Places.{stands, is_at}
 use Rattle.bl_decode.specs.Chains.{Begins, IsSection, ReadsSection}
-use Rattle.bl_decode.specs.Laws.{marked_one}
+use Rattle.bl_decode.specs.Laws.{marked_prefix_free}
 use Rattle.bl_decode.proofs.Firsts.{section_begins}
 use Rattle.bl_decode.proofs.Sizes.{at_section, section_parts}
 
@@ -40,7 +40,7 @@ there is x t h full = elim (is.parts x t h) [
   | inr p ↦ absurd (full p.1)
 ]
 
-pub optional_section : {A C : Type 0} {id : ℕ} {B : C → Spellings} {some : C → A} {none : A} {S : A → Spellings} → IsOptional id B some none S → IsOne B → IsSection id S
+pub optional_section : {A C : Type 0} {id : ℕ} {B : C → Spellings} {some : C → A} {none : A} {S : A → Spellings} → IsOptional id B some none S → PrefixFree B → IsSection id S
 optional_section {id} {B} {some} is one = record {
   begins = λ x t h. elim (is.parts x t h) [
     | inl p ↦ inr (section_begins id (B p.0) t p.2)
@@ -50,7 +50,7 @@ optional_section {id} {B} {some} is one = record {
   standing = λ x y a b u v p q front other e.
       let l = there is x a p (λ empty. never empty front) in
       let r = there is y b q (λ empty. never empty other) in
-      let same = ((marked_one id (λ z. sized (B z)) (sized_one one)).same l.0 r.0).both a b u v l.2 r.2 e in
+      let same = ((marked_prefix_free id (λ z. sized (B z)) (sized_prefix_free one)).same l.0 r.0).both a b u v l.2 r.2 e in
       (same.0, l.1 ∙ ap some same.1 ∙ sym r.1);
 }
 
@@ -90,8 +90,8 @@ vectors_optional id B = record {
   missing = inr (refl, refl);
 }
 
-pub vectors_section : {A : Type 0} (id : ℕ) (B : A → Spellings) → IsOne B → IsSection id (vec_section id B)
-vectors_section id B one = optional_section (vectors_optional id B) (vec_one one)
+pub vectors_section : {A : Type 0} (id : ℕ) (B : A → Spellings) → PrefixFree B → IsSection id (vec_section id B)
+vectors_section id B one = optional_section (vectors_optional id B) (vec_prefix_free one)
 
 -- the start
 start_parts : (x : Option ℕ) (t : List ℕ) → start_section x t → ((y : ℕ) × (x ≡ Some y) × section 8 (u32 y) t) ⊎ ((x ≡ None) × (t ≡ []))
@@ -102,4 +102,4 @@ pub start_optional : IsOptional 8 u32 Some None start_section
 start_optional = record { parts = start_parts; standing = λ y t h. h; missing = refl }
 
 pub start_is_section : IsSection 8 start_section
-start_is_section = optional_section start_optional u32_one
+start_is_section = optional_section start_optional u32_prefix_free

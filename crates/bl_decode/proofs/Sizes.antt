@@ -10,8 +10,8 @@ use Rattle.bl_wasm.specs.Sections.{section}
 use Rattle.bl_code.specs.Reading.{IsAt, NoneAt, Refuses}
 use Rattle.bl_code.specs.declared.error.CodeError.{CodeError}
 use Rattle.bl_code.specs.declared.error.CodeError.TheVariants.{Malformed, Memory}
-use Rattle.bl_code.specs.Laws.{u32_one}
-use Rattle.bl_code.proofs.Unique.{byte_vec_one, byte_same}
+use Rattle.bl_code.specs.Laws.{u32_prefix_free}
+use Rattle.bl_code.proofs.Unique.{byte_vec_prefix_free, byte_same}
 use Rattle.bl_code.proofs.Places.{Stands, stands, is_at, join, part, same_at, at_front, none_after, one_at}
 use Rattle.bl_decode.specs.Whole.{ReadsAll}
 use Rattle.bl_decode.proofs.Firsts.{begins_all, begins_at, at_begins, section_begins}
@@ -19,7 +19,7 @@ use Rattle.bl_decode.proofs.Firsts.{begins_all, begins_at, at_begins, section_be
 -- fewer bytes than the size says
 pub none_short : (bytes : List ℕ) (i j size : ℕ) → IsAt u32 bytes i j size → length bytes - j < size → NoneAt byte_vec bytes i
 none_short bytes i j size first short =
-    none_after {F = u32} {S = exactly} length bytes i j size u32_one first
+    none_after {F = u32} {S = exactly} length bytes i j size u32_prefix_free first
     (λ x k h.
     let f = h.forward in
     let g = h.inside in
@@ -70,7 +70,7 @@ at_sized B bytes these i k x h spelled = is_at (λ y. sized (B y)) bytes i k x (
 pub err_sized : {A : Type 0} (B : A → Spellings) (bytes these : List ℕ) (i k : ℕ) (e : CodeError) → IsAt byte_vec bytes i k these → ReadsAll B these (Err e) → Refuses (λ y. sized (B y)) bytes i e
 err_sized B bytes these i k Malformed h none = λ x j q.
     let p = sized_bytes (B x) bytes i j (stands (λ y. sized (B y)) bytes i j x q) in
-    let same = (one_at bytes i k j these p.0 byte_vec_one h (is_at byte_vec bytes i j p.0 p.2)).1 in
+    let same = (one_at bytes i k j these p.0 byte_vec_prefix_free h (is_at byte_vec bytes i j p.0 p.2)).1 in
     none x (subst (B x) (sym same) p.1)
 err_sized B bytes these i k Memory h none = tt
 

@@ -16,7 +16,7 @@ use Rattle.bl_code.proofs.Vectors.{each_more}
 use Rattle.bl_code.proofs.Places.{stands, is_at, at_front}
 use Rattle.bl_decode.specs.Chains.{Begins, IsSection, CustomFirst, IsTail, IsLink, CustomsRead, CustomsPassed, CustomMalformed, TailRead, ReadsCustoms, ReadsSection, ReadsTail}
 use Rattle.bl_decode.proofs.Firsts.{one_first, begins_all, begins_rest, begins_at, at_begins}
-use Rattle.bl_decode.proofs.Uniques.{custom_one, custom_begins}
+use Rattle.bl_decode.proofs.Uniques.{custom_prefix_free, custom_begins}
 
 -- custom sections alone
 custom_first : (customs : List CustomSection) (bytes : List ℕ) → each custom_section customs bytes → Begins 0 bytes → CustomFirst (each custom_section) customs bytes
@@ -37,7 +37,7 @@ customs_one (c ∷ cs) [] bytes p q =
     absurd (let e : [] ≡ 0 ∷ begins.behind = sym q ∙ begins.whole in cc)
 customs_one (c ∷ cs) (d ∷ ds) bytes p q =
     let whole : p.front ++ p.rest ≡ q.front ++ q.rest = sym p.whole ∙ q.whole in
-    let same = (custom_one.same c d).both p.front q.front p.rest q.rest p.first q.first whole in
+    let same = (custom_prefix_free.same c d).both p.front q.front p.rest q.rest p.first q.first whole in
     let rests = rest_same p.front q.front p.rest q.rest same.0 whole in
     let others = customs_one cs ds q.rest (subst (each custom_section cs) rests p.second) q.second in
     let first = same.1 in
@@ -47,7 +47,7 @@ customs_one (c ∷ cs) (d ∷ ds) bytes p q =
 pub behind_custom : (Q : List CustomSection → Spellings) (customs : List CustomSection) (bytes : List ℕ) (h : CustomFirst Q customs bytes) (c : CustomSection) (front rest : List ℕ) → bytes ≡ front ++ rest → custom_section c front → (others : List CustomSection) × (customs ≡ c ∷ others) × Q others rest
 behind_custom Q customs bytes h c front rest e first =
     let whole : h.front ++ h.behind ≡ front ++ rest = sym h.whole ∙ e in
-    let same = (custom_one.same h.custom c).both h.front front h.behind rest h.first first whole in
+    let same = (custom_prefix_free.same h.custom c).both h.front front h.behind rest h.first first whole in
     let rests = rest_same h.front front h.behind rest same.0 whole in
     (h.others, h.all ∙ ap (λ d. d ∷ h.others) same.1, subst (Q h.others) rests h.second)
 

@@ -18,12 +18,12 @@ use Rattle.bl_wasm.specs.declared.module.ElementSegment.{ElementSegment}
 use Rattle.bl_wasm.specs.declared.module.DataSegment.{DataSegment}
 use Rattle.bl_wasm.specs.declared.module.Code.{Code}
 use Rattle.bl_wasm.specs.declared.module.CustomSection.{CustomSection}
-use Rattle.bl_code.specs.Laws.{u32_one}
+use Rattle.bl_code.specs.Laws.{u32_prefix_free}
 use Rattle.bl_code.specs.declared.error.CodeError.{CodeError}
 use Rattle.bl_code.specs.declared.error.CodeError.TheVariants.{Malformed, Memory}
-use Rattle.bl_code.proofs.Limits.{limits_one}
+use Rattle.bl_code.proofs.Limits.{limits_prefix_free}
 use Rattle.bl_decode.specs.Chains.{IsSection, IsTail, IsLink, ReadsTail}
-use Rattle.bl_decode.specs.Laws.{function_type_one, import_entry_one, table_type_one, global_entry_one, export_entry_one, element_entry_one, code_entry_one, data_entry_one}
+use Rattle.bl_decode.specs.Laws.{function_type_prefix_free, import_entry_prefix_free, table_type_prefix_free, global_entry_prefix_free, export_entry_prefix_free, element_entry_prefix_free, code_entry_prefix_free, data_entry_prefix_free}
 use Rattle.bl_decode.specs.Grammar.{IsInGrammar}
 use Rattle.bl_decode.specs.Whole.{ReadsAll}
 use Rattle.bl_decode.proofs.Optionals.{vectors_section, start_is_section}
@@ -107,37 +107,37 @@ abbrev pub tail_1 : Tree_1 → List CustomSection → Spellings
 tail_1 t = vec_section 1 function_type t.0 ▷ tail_2 t.1
 
 pub link_11 : IsLink 11 12 (vec_section 11 data_entry) tail_12
-link_11 = record { positive = omega arith; rising = omega arith; section = vectors_section 11 data_entry data_entry_one; tail = end_tail }
+link_11 = record { positive = omega arith; rising = omega arith; section = vectors_section 11 data_entry data_entry_prefix_free; tail = end_tail }
 
 pub link_10 : IsLink 10 11 (vec_section 10 code_entry) tail_11
-link_10 = next {S = (vec_section 11 data_entry)} {R = tail_12} 10 (vec_section 10 code_entry) (omega arith) (omega arith) (vectors_section 10 code_entry code_entry_one) link_11
+link_10 = next {S = (vec_section 11 data_entry)} {R = tail_12} 10 (vec_section 10 code_entry) (omega arith) (omega arith) (vectors_section 10 code_entry code_entry_prefix_free) link_11
 
 pub link_9 : IsLink 9 10 (vec_section 9 element_entry) tail_10
-link_9 = next {S = (vec_section 10 code_entry)} {R = tail_11} 9 (vec_section 9 element_entry) (omega arith) (omega arith) (vectors_section 9 element_entry element_entry_one) link_10
+link_9 = next {S = (vec_section 10 code_entry)} {R = tail_11} 9 (vec_section 9 element_entry) (omega arith) (omega arith) (vectors_section 9 element_entry element_entry_prefix_free) link_10
 
 pub link_8 : IsLink 8 9 start_section tail_9
 link_8 = next {S = (vec_section 9 element_entry)} {R = tail_10} 8 start_section (omega arith) (omega arith) start_is_section link_9
 
 pub link_7 : IsLink 7 8 (vec_section 7 export_entry) tail_8
-link_7 = next {S = start_section} {R = tail_9} 7 (vec_section 7 export_entry) (omega arith) (omega arith) (vectors_section 7 export_entry export_entry_one) link_8
+link_7 = next {S = start_section} {R = tail_9} 7 (vec_section 7 export_entry) (omega arith) (omega arith) (vectors_section 7 export_entry export_entry_prefix_free) link_8
 
 pub link_6 : IsLink 6 7 (vec_section 6 global_entry) tail_7
-link_6 = next {S = (vec_section 7 export_entry)} {R = tail_8} 6 (vec_section 6 global_entry) (omega arith) (omega arith) (vectors_section 6 global_entry global_entry_one) link_7
+link_6 = next {S = (vec_section 7 export_entry)} {R = tail_8} 6 (vec_section 6 global_entry) (omega arith) (omega arith) (vectors_section 6 global_entry global_entry_prefix_free) link_7
 
 pub link_5 : IsLink 5 6 (vec_section 5 memory_type) tail_6
-link_5 = next {S = (vec_section 6 global_entry)} {R = tail_7} 5 (vec_section 5 memory_type) (omega arith) (omega arith) (vectors_section 5 memory_type limits_one) link_6
+link_5 = next {S = (vec_section 6 global_entry)} {R = tail_7} 5 (vec_section 5 memory_type) (omega arith) (omega arith) (vectors_section 5 memory_type limits_prefix_free) link_6
 
 pub link_4 : IsLink 4 5 (vec_section 4 table_type) tail_5
-link_4 = next {S = (vec_section 5 memory_type)} {R = tail_6} 4 (vec_section 4 table_type) (omega arith) (omega arith) (vectors_section 4 table_type table_type_one) link_5
+link_4 = next {S = (vec_section 5 memory_type)} {R = tail_6} 4 (vec_section 4 table_type) (omega arith) (omega arith) (vectors_section 4 table_type table_type_prefix_free) link_5
 
 pub link_3 : IsLink 3 4 (vec_section 3 u32) tail_4
-link_3 = next {S = (vec_section 4 table_type)} {R = tail_5} 3 (vec_section 3 u32) (omega arith) (omega arith) (vectors_section 3 u32 u32_one) link_4
+link_3 = next {S = (vec_section 4 table_type)} {R = tail_5} 3 (vec_section 3 u32) (omega arith) (omega arith) (vectors_section 3 u32 u32_prefix_free) link_4
 
 pub link_2 : IsLink 2 3 (vec_section 2 import_entry) tail_3
-link_2 = next {S = (vec_section 3 u32)} {R = tail_4} 2 (vec_section 2 import_entry) (omega arith) (omega arith) (vectors_section 2 import_entry import_entry_one) link_3
+link_2 = next {S = (vec_section 3 u32)} {R = tail_4} 2 (vec_section 2 import_entry) (omega arith) (omega arith) (vectors_section 2 import_entry import_entry_prefix_free) link_3
 
 pub link_1 : IsLink 1 2 (vec_section 1 function_type) tail_2
-link_1 = next {S = (vec_section 2 import_entry)} {R = tail_3} 1 (vec_section 1 function_type) (omega arith) (omega arith) (vectors_section 1 function_type function_type_one) link_2
+link_1 = next {S = (vec_section 2 import_entry)} {R = tail_3} 1 (vec_section 1 function_type) (omega arith) (omega arith) (vectors_section 1 function_type function_type_prefix_free) link_2
 
 pub all_tail : IsTail 1 tail_1
 all_tail = chain_tail {S = vec_section 1 function_type} {R = tail_2} link_1

@@ -4,8 +4,8 @@ use Rattle.bl_base.proofs.Lists.{front_same, rest_same}
 use Rattle.bl_wasm.specs.Values.{Spellings, ◌⨾◌, exactly, name, sized}
 use Rattle.bl_wasm.specs.Sections.{custom_section}
 use Rattle.bl_wasm.specs.declared.module.CustomSection.{CustomSection}
-use Rattle.bl_code.specs.Unique.{Same, IsOne}
-use Rattle.bl_code.proofs.Unique.{byte_same, seq_same, u32_same, name_one}
+use Rattle.bl_code.specs.Unique.{Same, PrefixFree}
+use Rattle.bl_code.proofs.Unique.{byte_same, seq_same, u32_same, name_prefix_free}
 use Rattle.bl_decode.specs.Chains.{Begins}
 
 -- what stands behind a size, by all of it
@@ -28,12 +28,12 @@ same_custom c d p q = ap₂ made p q
 contents_one : (c d : CustomSection) (t : List ℕ) → (name c.name ⨾ exactly c.bytes) t → (name d.name ⨾ exactly d.bytes) t → c ≡ d
 contents_one c d t p q =
     let whole : p.front ++ p.rest ≡ q.front ++ q.rest = sym p.whole ∙ q.whole in
-    let names = (name_one.same c.name d.name).both p.front q.front p.rest q.rest p.first q.first whole in
+    let names = (name_prefix_free.same c.name d.name).both p.front q.front p.rest q.rest p.first q.first whole in
     let rests = rest_same p.front q.front p.rest q.rest names.0 whole in
     same_custom c d names.1 (sym p.second ∙ rests ∙ q.second)
 
-pub custom_one : IsOne custom_section
-custom_one = record { same = λ c d. seq_same (byte_same 0 0) (λ zero. sized_whole (contents_one c d)) }
+pub custom_prefix_free : PrefixFree custom_section
+custom_prefix_free = record { same = λ c d. seq_same (byte_same 0 0) (λ zero. sized_whole (contents_one c d)) }
 
 pub custom_begins : (c : CustomSection) (front : List ℕ) → custom_section c front → Begins 0 front
 custom_begins c front h = record { behind = h.rest; whole = h.whole ∙ ap (λ t. t ++ h.rest) h.first }

@@ -18,40 +18,40 @@ use Rattle.bl_wasm.specs.declared.module.ElementSegment.{ElementSegment}
 use Rattle.bl_wasm.specs.declared.module.LocalRun.{LocalRun}
 use Rattle.bl_wasm.specs.declared.module.Code.{Code}
 use Rattle.bl_wasm.specs.declared.module.DataSegment.{DataSegment}
-use Rattle.bl_code.specs.Unique.{Same, IsOne}
-use Rattle.bl_code.specs.Laws.{u32_one}
-use Rattle.bl_code.proofs.Unique.{byte_same, seq_same, given_same, then_same, vec_one, byte_vec_one, name_one, sized_one}
-use Rattle.bl_code.proofs.Limits.{limits_one}
-use Rattle.bl_code.proofs.BlockTypes.{value_type_one}
-use Rattle.bl_code.proofs.Nesting.{expression_one}
+use Rattle.bl_code.specs.Unique.{Same, PrefixFree}
+use Rattle.bl_code.specs.Laws.{u32_prefix_free}
+use Rattle.bl_code.proofs.Unique.{byte_same, seq_same, given_same, then_same, vec_prefix_free, byte_vec_prefix_free, name_prefix_free, sized_prefix_free}
+use Rattle.bl_code.proofs.Limits.{limits_prefix_free}
+use Rattle.bl_code.proofs.BlockTypes.{value_type_prefix_free}
+use Rattle.bl_code.proofs.Nesting.{expression_prefix_free}
 
 -- one after another
-pub seq_one : {A B : Type 0} {F : A → Spellings} {S : B → Spellings} → IsOne F → IsOne S → IsOne (λ (t : A × B). F t.0 ⨾ S t.1)
-seq_one first second =
+pub seq_prefix_free : {A B : Type 0} {F : A → Spellings} {S : B → Spellings} → PrefixFree F → PrefixFree S → PrefixFree (λ (t : A × B). F t.0 ⨾ S t.1)
+seq_prefix_free first second =
     record { same = λ s t. seq_same (first.same s.0 t.0) (λ e. then_same (λ f. ap₂ (λ x y. (x, y)) e f) (second.same s.1 t.1)) }
 
 -- what has the parts of another thing
-pub parts_one : {A T : Type 0} (B : A → Spellings) (parts : T → A) (whole : A → T) → ((x : T) → whole (parts x) ≡ x) → IsOne B
-    → IsOne (λ x. B (parts x))
-parts_one B parts whole back one =
+pub parts_prefix_free : {A T : Type 0} (B : A → Spellings) (parts : T → A) (whole : A → T) → ((x : T) → whole (parts x) ≡ x) → PrefixFree B
+    → PrefixFree (λ x. B (parts x))
+parts_prefix_free B parts whole back one =
     record { same = λ x y. then_same (λ e. sym (back x) ∙ ap whole e ∙ back y) (one.same (parts x) (parts y)) }
 
 -- a byte that says nothing more
-pub mark_one : (n : ℕ) → IsOne (λ (x : Unit {0}). byte n)
-mark_one n = record { same = λ x y. then_same (λ e. refl) (byte_same n n) }
+pub mark_prefix_free : (n : ℕ) → PrefixFree (λ (x : Unit {0}). byte n)
+mark_prefix_free n = record { same = λ x y. then_same (λ e. refl) (byte_same n n) }
 
 -- behind a byte
-pub marked_one : {A : Type 0} (n : ℕ) (B : A → Spellings) → IsOne B → IsOne (λ x. byte n ⨾ B x)
-marked_one n B one = record { same = λ x y. seq_same (byte_same n n) (λ e. one.same x y) }
+pub marked_prefix_free : {A : Type 0} (n : ℕ) (B : A → Spellings) → PrefixFree B → PrefixFree (λ x. byte n ⨾ B x)
+marked_prefix_free n B one = record { same = λ x y. seq_same (byte_same n n) (λ e. one.same x y) }
 
-pub function_type_one : IsOne function_type
-function_type_one = marked_one 0x60 (λ (type : FuncType). vec value_type type.params ⨾ vec value_type type.results)
-    (parts_one (λ (t : List _ × List _). vec value_type t.0 ⨾ vec value_type t.1) (λ (type : FuncType). (type.params, type.results))
+pub function_type_prefix_free : PrefixFree function_type
+function_type_prefix_free = marked_prefix_free 0x60 (λ (type : FuncType). vec value_type type.params ⨾ vec value_type type.results)
+    (parts_prefix_free (λ (t : List _ × List _). vec value_type t.0 ⨾ vec value_type t.1) (λ (type : FuncType). (type.params, type.results))
     (λ t. record { params = t.0; results = t.1 }) (λ x. refl)
-    (seq_one (vec_one value_type_one) (vec_one value_type_one)))
+    (seq_prefix_free (vec_prefix_free value_type_prefix_free) (vec_prefix_free value_type_prefix_free)))
 
-pub table_type_one : IsOne table_type
-table_type_one = marked_one 0x70 limits limits_one
+pub table_type_prefix_free : PrefixFree table_type
+table_type_prefix_free = marked_prefix_free 0x70 limits limits_prefix_free
 
 mutability_same : (x y : Bool) → Same (mutability x) (mutability y) (x ≡ y)
 mutability_same false false = then_same (λ e. refl) (byte_same 0 0)
@@ -59,45 +59,45 @@ mutability_same true true = then_same (λ e. refl) (byte_same 1 1)
 mutability_same false true = then_same (λ e. cc) (byte_same 0 1)
 mutability_same true false = then_same (λ e. cc) (byte_same 1 0)
 
-pub mutability_one : IsOne mutability
-mutability_one = record { same = mutability_same }
+pub mutability_prefix_free : PrefixFree mutability
+mutability_prefix_free = record { same = mutability_same }
 
-pub global_type_one : IsOne global_type
-global_type_one =
-    parts_one (λ t. value_type t.0 ⨾ mutability t.1) (λ (type : GlobalType). (type.kind, type.mutable))
-    (λ t. record { kind = t.0; mutable = t.1 }) (λ x. refl) (seq_one value_type_one mutability_one)
+pub global_type_prefix_free : PrefixFree global_type
+global_type_prefix_free =
+    parts_prefix_free (λ t. value_type t.0 ⨾ mutability t.1) (λ (type : GlobalType). (type.kind, type.mutable))
+    (λ t. record { kind = t.0; mutable = t.1 }) (λ x. refl) (seq_prefix_free value_type_prefix_free mutability_prefix_free)
 
 import_kind_same : (x y : ImportKind) → Same (import_kind x) (import_kind y) (x ≡ y)
-import_kind_same (import.Function x) (import.Function y) = seq_same (byte_same 0 0) (λ e. then_same (ap import.Function) (u32_one.same x y))
+import_kind_same (import.Function x) (import.Function y) = seq_same (byte_same 0 0) (λ e. then_same (ap import.Function) (u32_prefix_free.same x y))
 import_kind_same (import.Function x) (import.Table y) = seq_same (byte_same 0 1) (λ e. absurd (let no : ⊥ = cc in no))
 import_kind_same (import.Function x) (import.Memory y) = seq_same (byte_same 0 2) (λ e. absurd (let no : ⊥ = cc in no))
 import_kind_same (import.Function x) (import.Global y) = seq_same (byte_same 0 3) (λ e. absurd (let no : ⊥ = cc in no))
 import_kind_same (import.Table x) (import.Function y) = seq_same (byte_same 1 0) (λ e. absurd (let no : ⊥ = cc in no))
-import_kind_same (import.Table x) (import.Table y) = seq_same (byte_same 1 1) (λ e. then_same (ap import.Table) (table_type_one.same x y))
+import_kind_same (import.Table x) (import.Table y) = seq_same (byte_same 1 1) (λ e. then_same (ap import.Table) (table_type_prefix_free.same x y))
 import_kind_same (import.Table x) (import.Memory y) = seq_same (byte_same 1 2) (λ e. absurd (let no : ⊥ = cc in no))
 import_kind_same (import.Table x) (import.Global y) = seq_same (byte_same 1 3) (λ e. absurd (let no : ⊥ = cc in no))
 import_kind_same (import.Memory x) (import.Function y) = seq_same (byte_same 2 0) (λ e. absurd (let no : ⊥ = cc in no))
 import_kind_same (import.Memory x) (import.Table y) = seq_same (byte_same 2 1) (λ e. absurd (let no : ⊥ = cc in no))
-import_kind_same (import.Memory x) (import.Memory y) = seq_same (byte_same 2 2) (λ e. then_same (ap import.Memory) (limits_one.same x y))
+import_kind_same (import.Memory x) (import.Memory y) = seq_same (byte_same 2 2) (λ e. then_same (ap import.Memory) (limits_prefix_free.same x y))
 import_kind_same (import.Memory x) (import.Global y) = seq_same (byte_same 2 3) (λ e. absurd (let no : ⊥ = cc in no))
 import_kind_same (import.Global x) (import.Function y) = seq_same (byte_same 3 0) (λ e. absurd (let no : ⊥ = cc in no))
 import_kind_same (import.Global x) (import.Table y) = seq_same (byte_same 3 1) (λ e. absurd (let no : ⊥ = cc in no))
 import_kind_same (import.Global x) (import.Memory y) = seq_same (byte_same 3 2) (λ e. absurd (let no : ⊥ = cc in no))
 import_kind_same (import.Global x) (import.Global y) =
-    seq_same (byte_same 3 3) (λ e. then_same (ap import.Global) (global_type_one.same x y))
+    seq_same (byte_same 3 3) (λ e. then_same (ap import.Global) (global_type_prefix_free.same x y))
 
-pub import_kind_one : IsOne import_kind
-import_kind_one = record { same = import_kind_same }
+pub import_kind_prefix_free : PrefixFree import_kind
+import_kind_prefix_free = record { same = import_kind_same }
 
-pub import_entry_one : IsOne import_entry
-import_entry_one =
-    parts_one (λ t. name t.0 ⨾ (name t.1.0 ⨾ import_kind t.1.1)) (λ (entry : Import). (entry.from, (entry.name, entry.kind)))
-    (λ t. record { from = t.0; name = t.1.0; kind = t.1.1 }) (λ x. refl) (seq_one name_one (seq_one name_one import_kind_one))
+pub import_entry_prefix_free : PrefixFree import_entry
+import_entry_prefix_free =
+    parts_prefix_free (λ t. name t.0 ⨾ (name t.1.0 ⨾ import_kind t.1.1)) (λ (entry : Import). (entry.from, (entry.name, entry.kind)))
+    (λ t. record { from = t.0; name = t.1.0; kind = t.1.1 }) (λ x. refl) (seq_prefix_free name_prefix_free (seq_prefix_free name_prefix_free import_kind_prefix_free))
 
-pub global_entry_one : IsOne global_entry
-global_entry_one =
-    parts_one (λ t. global_type t.0 ⨾ expression t.1) (λ (global : DefinedGlobal). (global.kind, global.first))
-    (λ t. record { kind = t.0; first = t.1 }) (λ x. refl) (seq_one global_type_one expression_one)
+pub global_entry_prefix_free : PrefixFree global_entry
+global_entry_prefix_free =
+    parts_prefix_free (λ t. global_type t.0 ⨾ expression t.1) (λ (global : DefinedGlobal). (global.kind, global.first))
+    (λ t. record { kind = t.0; first = t.1 }) (λ x. refl) (seq_prefix_free global_type_prefix_free expression_prefix_free)
 
 export_kind_same : (x y : ExportKind) → Same (export_kind x) (export_kind y) (x ≡ y)
 export_kind_same export.Function export.Function = then_same (λ e. refl) (byte_same 0 0)
@@ -117,39 +117,39 @@ export_kind_same export.Global export.Table = then_same (λ e. cc) (byte_same 3 
 export_kind_same export.Global export.Memory = then_same (λ e. cc) (byte_same 3 2)
 export_kind_same export.Global export.Global = then_same (λ e. refl) (byte_same 3 3)
 
-pub export_kind_one : IsOne export_kind
-export_kind_one = record { same = export_kind_same }
+pub export_kind_prefix_free : PrefixFree export_kind
+export_kind_prefix_free = record { same = export_kind_same }
 
-pub export_entry_one : IsOne export_entry
-export_entry_one =
-    parts_one (λ t. name t.0 ⨾ (export_kind t.1.0 ⨾ u32 t.1.1)) (λ (entry : Export). (entry.name, (entry.kind, entry.index)))
-    (λ t. record { name = t.0; kind = t.1.0; index = t.1.1 }) (λ x. refl) (seq_one name_one (seq_one export_kind_one u32_one))
+pub export_entry_prefix_free : PrefixFree export_entry
+export_entry_prefix_free =
+    parts_prefix_free (λ t. name t.0 ⨾ (export_kind t.1.0 ⨾ u32 t.1.1)) (λ (entry : Export). (entry.name, (entry.kind, entry.index)))
+    (λ t. record { name = t.0; kind = t.1.0; index = t.1.1 }) (λ x. refl) (seq_prefix_free name_prefix_free (seq_prefix_free export_kind_prefix_free u32_prefix_free))
 
-pub element_entry_one : IsOne element_entry
-element_entry_one =
-    parts_one (λ t. u32 t.0 ⨾ (expression t.1.0 ⨾ vec u32 t.1.1))
+pub element_entry_prefix_free : PrefixFree element_entry
+element_entry_prefix_free =
+    parts_prefix_free (λ t. u32 t.0 ⨾ (expression t.1.0 ⨾ vec u32 t.1.1))
     (λ (segment : ElementSegment). (segment.table, (segment.offset, segment.functions)))
     (λ t. record { table = t.0; offset = t.1.0; functions = t.1.1 }) (λ x. refl)
-    (seq_one u32_one (seq_one expression_one (vec_one u32_one)))
+    (seq_prefix_free u32_prefix_free (seq_prefix_free expression_prefix_free (vec_prefix_free u32_prefix_free)))
 
-pub local_run_one : IsOne local_run
-local_run_one =
-    parts_one (λ t. u32 t.0 ⨾ value_type t.1) (λ (run : LocalRun). (run.count, run.kind)) (λ t. record { count = t.0; kind = t.1 })
-    (λ x. refl) (seq_one u32_one value_type_one)
+pub local_run_prefix_free : PrefixFree local_run
+local_run_prefix_free =
+    parts_prefix_free (λ t. u32 t.0 ⨾ value_type t.1) (λ (run : LocalRun). (run.count, run.kind)) (λ t. record { count = t.0; kind = t.1 })
+    (λ x. refl) (seq_prefix_free u32_prefix_free value_type_prefix_free)
 
-code_parts_one : IsOne (λ (code : Code). vec local_run code.locals ⨾ expression code.items)
-code_parts_one =
-    parts_one (λ t. vec local_run t.0 ⨾ expression t.1) (λ (code : Code). (code.locals, code.items))
-    (λ t. record { locals = t.0; items = t.1 }) (λ x. refl) (seq_one (vec_one local_run_one) expression_one)
+code_parts_prefix_free : PrefixFree (λ (code : Code). vec local_run code.locals ⨾ expression code.items)
+code_parts_prefix_free =
+    parts_prefix_free (λ t. vec local_run t.0 ⨾ expression t.1) (λ (code : Code). (code.locals, code.items))
+    (λ t. record { locals = t.0; items = t.1 }) (λ x. refl) (seq_prefix_free (vec_prefix_free local_run_prefix_free) expression_prefix_free)
 
-pub function_code_one : IsOne function_code
-function_code_one = record { same = λ x y. given_same (code_parts_one.same x y) }
+pub function_code_prefix_free : PrefixFree function_code
+function_code_prefix_free = record { same = λ x y. given_same (code_parts_prefix_free.same x y) }
 
-pub code_entry_one : IsOne code_entry
-code_entry_one = sized_one function_code_one
+pub code_entry_prefix_free : PrefixFree code_entry
+code_entry_prefix_free = sized_prefix_free function_code_prefix_free
 
-pub data_entry_one : IsOne data_entry
-data_entry_one =
-    parts_one (λ t. u32 t.0 ⨾ (expression t.1.0 ⨾ byte_vec t.1.1))
+pub data_entry_prefix_free : PrefixFree data_entry
+data_entry_prefix_free =
+    parts_prefix_free (λ t. u32 t.0 ⨾ (expression t.1.0 ⨾ byte_vec t.1.1))
     (λ (segment : DataSegment). (segment.memory, (segment.offset, segment.bytes)))
-    (λ t. record { memory = t.0; offset = t.1.0; bytes = t.1.1 }) (λ x. refl) (seq_one u32_one (seq_one expression_one byte_vec_one))
+    (λ t. record { memory = t.0; offset = t.1.0; bytes = t.1.1 }) (λ x. refl) (seq_prefix_free u32_prefix_free (seq_prefix_free expression_prefix_free byte_vec_prefix_free))

@@ -2,7 +2,7 @@
 ghost use Rattle.std.specs.Prelude.{◌≡◌, ◌<◌, ◌≤◌, ◌^◌, ◌↔◌, ℕ, IsTrue, length, sum_by, List as Listed};
 ghost use Rattle.bl_wasm.specs.Types.{function_type, table_type, global_type};
 ghost use Rattle.bl_wasm.specs.Sections.{import_kind, import_entry, global_entry, export_kind, export_entry, element_entry, local_run, code_entry, data_entry};
-ghost use Rattle.bl_decode.specs.Laws.{function_type_one, table_type_one, global_type_one, import_kind_one, import_entry_one, global_entry_one, export_kind_one, export_entry_one, element_entry_one, local_run_one, function_code_one, code_entry_one, data_entry_one};
+ghost use Rattle.bl_decode.specs.Laws.{function_type_prefix_free, table_type_prefix_free, global_type_prefix_free, import_kind_prefix_free, import_entry_prefix_free, global_entry_prefix_free, export_kind_prefix_free, export_entry_prefix_free, element_entry_prefix_free, local_run_prefix_free, function_code_prefix_free, code_entry_prefix_free, data_entry_prefix_free};
 
 use crate::formats::{
     Byte, Bytes, Expressions, Memories, Mutabilities, Names, Then, ValueTypes, Vector,
@@ -22,7 +22,7 @@ impl Format for FunctionTypes {
 
     ghost spellings = { function_type };
 
-    ghost one = { function_type_one };
+    ghost prefix_free = { function_type_prefix_free };
 
     fn read(alloc: Global, bytes: &[u8], at: usize) -> Result<(FuncType, usize), CodeError> {
         let ((_, (params, results)), end) = Then::<
@@ -41,7 +41,7 @@ impl Format for Tables {
 
     ghost spellings = { table_type };
 
-    ghost one = { table_type_one };
+    ghost prefix_free = { table_type_prefix_free };
 
     fn read(alloc: Global, bytes: &[u8], at: usize) -> Result<(Limits, usize), CodeError> {
         let ((_, limits), end) = Then::<Byte<0x70>, Memories>::read(alloc, bytes, at)?;
@@ -57,7 +57,7 @@ impl Format for GlobalTypes {
 
     ghost spellings = { global_type };
 
-    ghost one = { global_type_one };
+    ghost prefix_free = { global_type_prefix_free };
 
     fn read(alloc: Global, bytes: &[u8], at: usize) -> Result<(GlobalType, usize), CodeError> {
         let ((kind, mutable), end) = Then::<ValueTypes, Mutabilities>::read(alloc, bytes, at)?;
@@ -73,7 +73,7 @@ impl Format for ImportKinds {
 
     ghost spellings = { import_kind };
 
-    ghost one = { import_kind_one };
+    ghost prefix_free = { import_kind_prefix_free };
 
     fn read(alloc: Global, bytes: &[u8], at: usize) -> Result<(ImportKind, usize), CodeError> {
         let (code, place) = read_byte(bytes, at)?;
@@ -107,7 +107,7 @@ impl Format for Imports {
 
     ghost spellings = { import_entry };
 
-    ghost one = { import_entry_one };
+    ghost prefix_free = { import_entry_prefix_free };
 
     fn read(alloc: Global, bytes: &[u8], at: usize) -> Result<(Import, usize), CodeError> {
         let ((from, (name, kind)), end) = Then::<Names, Then<Names, ImportKinds>>::read(
@@ -125,7 +125,7 @@ impl Format for Globals {
 
     ghost spellings = { global_entry };
 
-    ghost one = { global_entry_one };
+    ghost prefix_free = { global_entry_prefix_free };
 
     fn read(alloc: Global, bytes: &[u8], at: usize) -> Result<(DefinedGlobal, usize), CodeError> {
         let ((kind, first), end) = Then::<GlobalTypes, Expressions>::read(alloc, bytes, at)?;
@@ -141,7 +141,7 @@ impl Format for ExportKinds {
 
     ghost spellings = { export_kind };
 
-    ghost one = { export_kind_one };
+    ghost prefix_free = { export_kind_prefix_free };
 
     fn read(_alloc: Global, bytes: &[u8], at: usize) -> Result<(ExportKind, usize), CodeError> {
         let (code, end) = read_byte(bytes, at)?;
@@ -163,7 +163,7 @@ impl Format for Exports {
 
     ghost spellings = { export_entry };
 
-    ghost one = { export_entry_one };
+    ghost prefix_free = { export_entry_prefix_free };
 
     fn read(alloc: Global, bytes: &[u8], at: usize) -> Result<(Export, usize), CodeError> {
         let ((name, (kind, index)), end) = Then::<Names, Then<ExportKinds, Index>>::read(
@@ -181,7 +181,7 @@ impl Format for Elements {
 
     ghost spellings = { element_entry };
 
-    ghost one = { element_entry_one };
+    ghost prefix_free = { element_entry_prefix_free };
 
     fn read(alloc: Global, bytes: &[u8], at: usize) -> Result<(ElementSegment, usize), CodeError> {
         let ((table, (offset, functions)), end) = Then::<
@@ -207,7 +207,7 @@ impl Format for LocalRuns {
 
     ghost spellings = { local_run };
 
-    ghost one = { local_run_one };
+    ghost prefix_free = { local_run_prefix_free };
 
     fn read(alloc: Global, bytes: &[u8], at: usize) -> Result<(LocalRun, usize), CodeError> {
         let ((count, kind), end) = Then::<Index, ValueTypes>::read(alloc, bytes, at)?;
@@ -225,7 +225,7 @@ impl Format for Bodies {
 
     ghost spellings = { function_code };
 
-    ghost one = { function_code_one };
+    ghost prefix_free = { function_code_prefix_free };
 
     fn read(alloc: Global, bytes: &[u8], at: usize) -> Result<(Code, usize), CodeError> {
         let ((locals, items), end) = Then::<Vector<LocalRuns>, Expressions>::read(
@@ -260,7 +260,7 @@ impl Format for Codes {
 
     ghost spellings = { code_entry };
 
-    ghost one = { code_entry_one };
+    ghost prefix_free = { code_entry_prefix_free };
 
     fn read(alloc: Global, bytes: &[u8], at: usize) -> Result<(Code, usize), CodeError> {
         read_sized::<Bodies>(alloc, bytes, at)
@@ -275,7 +275,7 @@ impl Format for Segments {
 
     ghost spellings = { data_entry };
 
-    ghost one = { data_entry_one };
+    ghost prefix_free = { data_entry_prefix_free };
 
     fn read(alloc: Global, bytes: &[u8], at: usize) -> Result<(DataSegment, usize), CodeError> {
         let ((memory, (offset, bytes)), end) = Then::<Index, Then<Expressions, Bytes>>::read(

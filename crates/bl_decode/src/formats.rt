@@ -3,11 +3,11 @@ ghost use Rattle.std.specs.Prelude.{◌≡◌, ◌≤◌, ℕ, length, List as L
 ghost use Rattle.bl_wasm.specs.Values.{◌⨾◌, byte, byte_vec, name, vec};
 ghost use Rattle.bl_wasm.specs.Types.{limits, value_type, mutability};
 ghost use Rattle.bl_wasm.specs.Instructions.{expression};
-ghost use Rattle.bl_code.proofs.Unique.{byte_vec_one, name_one, vec_one};
-ghost use Rattle.bl_code.proofs.Limits.{limits_one};
-ghost use Rattle.bl_code.proofs.BlockTypes.{value_type_one};
-ghost use Rattle.bl_code.proofs.Nesting.{expression_one};
-ghost use Rattle.bl_decode.specs.Laws.{seq_one, mark_one, mutability_one};
+ghost use Rattle.bl_code.proofs.Unique.{byte_vec_prefix_free, name_prefix_free, vec_prefix_free};
+ghost use Rattle.bl_code.proofs.Limits.{limits_prefix_free};
+ghost use Rattle.bl_code.proofs.BlockTypes.{value_type_prefix_free};
+ghost use Rattle.bl_code.proofs.Nesting.{expression_prefix_free};
+ghost use Rattle.bl_decode.specs.Laws.{seq_prefix_free, mark_prefix_free, mutability_prefix_free};
 
 use crate::sized::stands_at;
 use bl_base::{List, Text};
@@ -27,7 +27,7 @@ impl<A: Format, B: Format> Format for Then<A, B> {
 
     ghost spellings = { λ tree. A.spellings tree.0 ⨾ B.spellings tree.1 };
 
-    ghost one = { seq_one A.one B.one };
+    ghost prefix_free = { seq_prefix_free A.prefix_free B.prefix_free };
 
     fn read(alloc: Global, bytes: &[u8], at: usize) -> Result<(Self::Tree, usize), CodeError> {
         let (first, place) = A::read(alloc, bytes, at)?;
@@ -44,7 +44,7 @@ impl<const B: u8> Format for Byte<B> {
 
     ghost spellings = { λ _. byte B };
 
-    ghost one = { mark_one B };
+    ghost prefix_free = { mark_prefix_free B };
 
     fn read(_alloc: Global, bytes: &[u8], at: usize) -> Result<((), usize), CodeError> {
         if !stands_at(bytes, at, B) {
@@ -62,7 +62,7 @@ impl<F: Format> Format for Vector<F> {
 
     ghost spellings = { vec F.spellings };
 
-    ghost one = { vec_one F.one };
+    ghost prefix_free = { vec_prefix_free F.prefix_free };
 
     fn read(alloc: Global, bytes: &[u8], at: usize) -> Result<(List<F::Tree>, usize), CodeError> {
         read_vec::<F>(alloc, bytes, at)
@@ -77,7 +77,7 @@ impl Format for Bytes {
 
     ghost spellings = { byte_vec };
 
-    ghost one = { byte_vec_one };
+    ghost prefix_free = { byte_vec_prefix_free };
 
     fn read(alloc: Global, bytes: &[u8], at: usize) -> Result<(Text, usize), CodeError> {
         read_bytes(alloc, bytes, at)
@@ -92,7 +92,7 @@ impl Format for Names {
 
     ghost spellings = { name };
 
-    ghost one = { name_one };
+    ghost prefix_free = { name_prefix_free };
 
     fn read(alloc: Global, bytes: &[u8], at: usize) -> Result<(Text, usize), CodeError> {
         read_name(alloc, bytes, at)
@@ -107,7 +107,7 @@ impl Format for ValueTypes {
 
     ghost spellings = { value_type };
 
-    ghost one = { value_type_one };
+    ghost prefix_free = { value_type_prefix_free };
 
     fn read(_alloc: Global, bytes: &[u8], at: usize) -> Result<(WasmType, usize), CodeError> {
         Ok(read_value_type(bytes, at)?)
@@ -122,7 +122,7 @@ impl Format for Memories {
 
     ghost spellings = { limits };
 
-    ghost one = { limits_one };
+    ghost prefix_free = { limits_prefix_free };
 
     fn read(_alloc: Global, bytes: &[u8], at: usize) -> Result<(Limits, usize), CodeError> {
         Ok(read_limits(bytes, at)?)
@@ -137,7 +137,7 @@ impl Format for Mutabilities {
 
     ghost spellings = { mutability };
 
-    ghost one = { mutability_one };
+    ghost prefix_free = { mutability_prefix_free };
 
     fn read(_alloc: Global, bytes: &[u8], at: usize) -> Result<(bool, usize), CodeError> {
         let (code, end) = read_byte(bytes, at)?;
@@ -157,7 +157,7 @@ impl Format for Expressions {
 
     ghost spellings = { expression };
 
-    ghost one = { expression_one };
+    ghost prefix_free = { expression_prefix_free };
 
     fn read(alloc: Global, bytes: &[u8], at: usize) -> Result<(List<Instr>, usize), CodeError> {
         read_expression(alloc, bytes, at)

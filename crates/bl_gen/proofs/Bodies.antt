@@ -16,7 +16,7 @@ use Rattle.bl_wasm.specs.declared.instruction.Instr.{Instr}
 use Rattle.bl_wasm.specs.declared.instruction.Instr.TheVariants.{LocalGet}
 use Rattle.bl_wasm.specs.declared.types.WasmType.{WasmType}
 use Rattle.bl_wasm.specs.declared.types.WasmType.TheVariants.{I32}
-use Rattle.bl_gen.specs.Made.{call_before, function, item, items, kind_of, leb}
+use Rattle.bl_gen.specs.Made.{call_before, function, item, items, item_kind, leb}
 use Rattle.bl_gen.specs.Made.{sized as sized_bytes}
 use Rattle.bl_gen.proofs.Numbers.{number_short, number_spelled}
 use Rattle.bl_gen.proofs.Pieces.{IsHere, IsShallow, IsUsed, Piece, get, call_piece, each_append, get_spelled, get_typed, item_piece, pieces, two_pieces}
@@ -29,7 +29,7 @@ use Rattle.bl_wasm.proofs.SpellingLemmas.{both, small}
 pub first_piece : (seed size i : ℕ) → i ≤ size → size < 2 ^ 32 → Piece size (items seed i 8 ++ call_before i) (first_code seed i)
 unfolding items first_code
 first_piece seed size i low few =
-    two_pieces size _ _ _ _ (pieces size (λ j. item (kind_of seed i j)) (λ j. code_of (kind_of seed i j)) (λ j. item_piece size (kind_of seed i j)) (range_with_len 0 8)) (call_piece size i low few)
+    two_pieces size _ _ _ _ (pieces size (λ j. item (item_kind seed i j)) (λ j. code_of (item_kind seed i j)) (λ j. item_piece size (item_kind seed i j)) (range_with_len 0 8)) (call_piece size i low few)
 
 run_spelled : vec local_run (run ∷ []) (0x01 ∷ 0x01 ∷ 0x7F ∷ [])
 run_spelled = both (0x01 ∷ []) (0x01 ∷ 0x7F ∷ []) (small 1 (omega arith)) (both (0x01 ∷ 0x7F ∷ []) [] (both (0x01 ∷ []) (0x7F ∷ []) (small 1 (omega arith)) refl) refl)
@@ -87,7 +87,7 @@ call_short (suc before) fits =
 
 items_short : (seed i : ℕ) → length (items seed i 8) ≤ 80
 unfolding items
-items_short seed i = all_short (λ j. item (kind_of seed i j)) 10 (range_with_len 0 8) (λ k d less. item_short _)
+items_short seed i = all_short (λ j. item (item_kind seed i j)) 10 (range_with_len 0 8) (λ k d less. item_short _)
 
 pub function_short : (seed i : ℕ) → i < 2 ^ 32 → length (function seed i) ≤ 96
 unfolding function

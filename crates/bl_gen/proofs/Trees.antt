@@ -15,7 +15,7 @@ use Rattle.bl_wasm.specs.declared.types.BlockType.TheVariants.{Empty}
 use Rattle.bl_wasm.specs.declared.types.FuncType.{FuncType}
 use Rattle.bl_wasm.specs.declared.types.Limits.{Limits}
 use Rattle.bl_wasm.specs.declared.types.WasmType.TheVariants.{I32}
-use Rattle.bl_gen.specs.Made.{kind_of}
+use Rattle.bl_gen.specs.Made.{item_kind}
 
 abbrev pub load : Instr
 load = Load I32Load (record { alignment = 2; offset = 0 })
@@ -45,7 +45,7 @@ call_code (suc before) = LocalGet 1 ∷ Call before ∷ LocalSet 1 ∷ []
 
 -- the items of function i, before the last local.get 1
 unfoldable pub first_code : ℕ → ℕ → List Instr
-first_code seed i = flat_map (λ j. code_of (kind_of seed i j)) (range_with_len 0 8) ++ call_code i
+first_code seed i = flat_map (λ j. code_of (item_kind seed i j)) (range_with_len 0 8) ++ call_code i
 
 abbrev pub run : LocalRun
 run = record { count = 1; kind = I32 }

@@ -26,8 +26,8 @@ section id contents = id ∷ sized contents
 -- ---- functions
 
 -- the kind of item j of function i, from 0 to 3
-abbrev pub kind_of : ℕ → ℕ → ℕ → ℕ
-kind_of seed i j = (seed + i + j * (j + 1) / 2) % 4
+abbrev pub item_kind : ℕ → ℕ → ℕ → ℕ
+item_kind seed i j = (seed + i + j * (j + 1) / 2) % 4
 
 -- the instructions of an item of a kind (section 5.4); loads are i32.load with alignment 2 and offset 0
 unfoldable pub item : ℕ → List ℕ
@@ -43,7 +43,7 @@ item kind =
 
 -- the first items of function i
 unfoldable pub items : ℕ → ℕ → ℕ → List ℕ
-items seed i count = flat_map (λ j. item (kind_of seed i j)) (range_with_len 0 count)
+items seed i count = flat_map (λ j. item (item_kind seed i j)) (range_with_len 0 count)
 
 -- the call of the function before: local.get 1, call, local.set 1
 unfoldable pub call_before : ℕ → List ℕ

@@ -1,6 +1,6 @@
 //! The code of the functions.
 ghost use Rattle.std.specs.Prelude.{◌≡◌, ◌≤◌, ◌<◌, ◌++◌, IfOk};
-ghost use Rattle.bl_gen.specs.Made.{call_before, function, item, items, kind_of};
+ghost use Rattle.bl_gen.specs.Made.{call_before, function, item, items, item_kind};
 
 use crate::number::push_number;
 use bl_base::NoMemory;
@@ -31,7 +31,7 @@ fn push_items(to: &mut Vec<u8>, seed: u64, i: u32, count: u64) -> Result<(), NoM
 /// The kind of item j of function i. The sum doesn't wrap, since only the seed's last two bits are added.
 fn kind(seed: u64, i: u32, j: u64) -> u64
     requires { j < 8 }
-    ensures { result ≡ kind_of seed i j }
+    ensures { result ≡ item_kind seed i j }
 {
     (seed % 4 + u64::from(i) + j * (j + 1) / 2) % 4
 }

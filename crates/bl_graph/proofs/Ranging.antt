@@ -4,7 +4,7 @@ use Rattle.std.specs.Prelude.{IsSomeAnd, IsSome, IfSome, option_map, option_and_
 use Rattle.std.proofs.lemmas.Bool.{cases_lt, cases_Bool, false≢true}
 use Rattle.std.proofs.lemmas.Option.{none-some, slice_get_within, slice_get_past, same_Some}
 use Rattle.bl_base.proofs.Lists.{all_get, within_get}
-use Rattle.bl_base.specs.Trap.{code_of}
+use Rattle.bl_base.specs.Trap.{trap_number}
 use Rattle.bl_ops.specs.declared.op.Op.{Op}
 use Rattle.bl_cmd.specs.Layout.{command_at, first_of, param, result, running, params_of, results_of, statics, Holds}
 use Rattle.bl_cmd.specs.Programs.{IsProgram}

@@ -15,7 +15,7 @@ pub record AssignsLabels (program : Program) (labelling : ℕ → Bool) : Type 0
   pub moves : (s x y : ℕ) → Reads program s x → Writes program s y → IsTrue (labelling x) → IsTrue (labelling y)
 
 -- a labelling keeps all label rules
-pub record Labelled (program : Program) (labelling : ℕ → Bool) : Type 0 where
+pub record KeepsLabelRules (program : Program) (labelling : ℕ → Bool) : Type 0 where
   pub assigns : AssignsLabels program labelling
   -- each variable that a sink reads is public
   pub sinks : (position x : ℕ) → SinkReads program position x → IsTrue (not (labelling x))
@@ -26,7 +26,7 @@ pub record Labelled (program : Program) (labelling : ℕ → Bool) : Type 0 wher
 
 -- some labelling keeps all label rules
 abbrev pub ConstantTime : Program → Type 0
-ConstantTime program = (labelling : ℕ → Bool) × Labelled program labelling
+ConstantTime program = (labelling : ℕ → Bool) × KeepsLabelRules program labelling
 
 -- the least set of variables that keeps the rules on what is secret
 pub data Secret (program : Program) : ℕ → Type 0 where

@@ -17,20 +17,20 @@ pub data Ends (program : Program) (x end : ℕ) : Type 0 where
   given : (y : ℕ) → Reads program end x → Writes program end y → Demands program y → Ends program x end
 
 -- from a variable on, each site in this order reads what the former wrote, and what the last wrote may not be secret at the end
-abbrev pub Leads : Program → ℕ → List ℕ → ℕ → Type 0
-Leads program x [] end = Ends program x end
-Leads program x (s ∷ rest) end = Reads program s x × ((y : ℕ) × Writes program s y × Leads program y rest end)
+abbrev pub LeadsToEnd : Program → ℕ → List ℕ → ℕ → Type 0
+LeadsToEnd program x [] end = Ends program x end
+LeadsToEnd program x (s ∷ rest) end = Reads program s x × ((y : ℕ) × Writes program s y × LeadsToEnd program y rest end)
 
 -- the same from a variable that a Load wrote; where the chain is that Load alone and it writes a variable that is demanded to
 -- be public, the end is the Load
 abbrev pub LeadsLoaded : Program → ℕ → ℕ → List ℕ → ℕ → Type 0
-LeadsLoaded program load x rest end = Leads program x rest end ⊎ ((rest ≡ []) × (end ≡ load) × Demands program x)
+LeadsLoaded program load x rest end = LeadsToEnd program x rest end ⊎ ((rest ≡ []) × (end ≡ load) × Demands program x)
 
 -- the sites begin at a variable that is declared secret, or with a Load of a secret memory, and lead to the end
 abbrev pub IsChainFrom : Program → Origin → List ℕ → ℕ → Type 0
 IsChainFrom program (Parameter function index) through end =
-    (x : ℕ) × Declares program x (Parameter function index) × Leads program x through end
-IsChainFrom program (Global number) through end = (x : ℕ) × Declares program x (Global number) × Leads program x through end
+    (x : ℕ) × Declares program x (Parameter function index) × LeadsToEnd program x through end
+IsChainFrom program (Global number) through end = (x : ℕ) × Declares program x (Global number) × LeadsToEnd program x through end
 IsChainFrom program (Memory number) [] end = ⊥
 IsChainFrom program (Memory number) (s ∷ rest) end =
     LoadsSecret program s number × ((x : ℕ) × Writes program s x × LeadsLoaded program s x rest end)

@@ -3,7 +3,7 @@ use Rattle.std.proofs.Common.{◌≡◌, ℕ, zero, suc, ◌+◌, ◌<◌, ◌�
 use Rattle.std.specs.Prelude.{nat_lt, if◌then◌else◌}
 use Rattle.std.proofs.lemmas.Bool.{ltb-true}
 use Rattle.std.proofs.lemmas.Option.{same_Some}
-use Rattle.bl_base.specs.Trap.{trap_of, code_of as trap_code}
+use Rattle.bl_base.specs.Trap.{trap_of, trap_number as trap_code}
 use Rattle.bl_base.specs.declared.number.Pos.{Pos}
 use Rattle.bl_base.specs.declared.number.Var.{Var as Variable}
 use Rattle.bl_base.specs.declared.trap.Trap.{Trap as TrapKind}
@@ -12,7 +12,7 @@ use Rattle.bl_base.specs.declared.names.Label.{Label}
 use Rattle.bl_base.specs.declared.names.Label.TheVariants.{Public, Secret}
 use Rattle.bl_base.specs.declared.names.ValueType.{ValueType}
 use Rattle.bl_base.specs.declared.names.ValueType.TheVariants.{I32, I64}
-use Rattle.bl_ops.specs.Access.{kind_of, code_of as access_code}
+use Rattle.bl_ops.specs.Access.{access_kind, access_code}
 use Rattle.bl_ops.specs.declared.op.Op.{Op}
 use Rattle.bl_ops.specs.declared.op.Op.TheVariants.{Move}
 use Rattle.bl_ops.specs.Table.{image_code_of, image_operator_of}
@@ -69,7 +69,7 @@ operator_one : IsUnique operator
 operator_one = unique_code image_code_of (λ x y e. same_Some x y (sym (op_found x) ∙ ap image_operator_of e ∙ op_found y))
 
 access_one : IsUnique access
-access_one = unique_code access_code (λ x y e. same_Some x y (sym (access_found x) ∙ ap kind_of e ∙ access_found y))
+access_one = unique_code access_code (λ x y e. same_Some x y (sym (access_found x) ∙ ap access_kind e ∙ access_found y))
 
 trap_one : IsUnique trap_kind
 trap_one = unique_code trap_code (λ x y e. same_Some x y (sym (trap_found x) ∙ ap trap_of e ∙ trap_found y))

@@ -3,7 +3,7 @@ use Rattle.std.proofs.Common.{◌≡◌, ℕ, ◌+◌, ◌<◌, ◌≤◌, zero,
 use Rattle.std.specs.Result.{IsErrAnd}
 use Rattle.std.proofs.lemmas.Result.{err_from_is_err_and}
 use Rattle.std.proofs.lemmas.Option.{slice_get_within}
-use Rattle.bl_base.specs.Trap.{code_of}
+use Rattle.bl_base.specs.Trap.{trap_number}
 use Rattle.bl_base.specs.declared.trap.Trap.{Trap as TrapKind}
 use Rattle.bl_base.specs.declared.trap.Trap.TheVariants.{Unreachable, DivideByZero, Overflow, OutOfBounds, UndefinedElement, UninitializedElement, TypeMismatch, StackExhausted}
 use Rattle.bl_cmd.specs.Programs.{IsProgram}
@@ -91,7 +91,7 @@ begins_with (a ∷ front) (x ∷ xs) same =
     ap₂ (λ y ys. y ∷ ys) head tail
 
 -- the trap of a kind stands at its number
-trap_at : (kind : TrapKind) → code_of kind < 7 → slice_get traps (code_of kind) ≡ Some (Trap kind)
+trap_at : (kind : TrapKind) → trap_number kind < 7 → slice_get traps (trap_number kind) ≡ Some (Trap kind)
 trap_at Unreachable less = refl
 trap_at DivideByZero less = refl
 trap_at Overflow less = refl

@@ -1,12 +1,12 @@
 -- The image of a program: its bytes.
 use Rattle.std.specs.Prelude.{◌≡◌, ℕ, ◌+◌, ◌≤◌, List, [], ◌∷◌, length, take, drop, if◌then◌else◌}
-use Rattle.bl_base.specs.Trap.{code_of as trap_code}
+use Rattle.bl_base.specs.Trap.{trap_number as trap_code}
 use Rattle.bl_base.specs.declared.trap.Trap.{Trap as TrapKind}
 use Rattle.bl_base.specs.declared.names.Label.{Label}
 use Rattle.bl_base.specs.declared.names.Label.TheVariants.{Public, Secret}
 use Rattle.bl_base.specs.declared.names.ValueType.{ValueType}
 use Rattle.bl_base.specs.declared.names.ValueType.TheVariants.{I32, I64}
-use Rattle.bl_ops.specs.Access.{code_of as access_code}
+use Rattle.bl_ops.specs.Access.{access_code}
 use Rattle.bl_ops.specs.declared.access.AccessKind.{AccessKind}
 use Rattle.bl_ops.specs.declared.op.Op.{Op}
 use Rattle.bl_ops.specs.Table.{image_code_of}

@@ -6,11 +6,11 @@ use Rattle.std.proofs.lemmas.Bool.Decides.{eqb_tells}
 use Rattle.bl_wasm.specs.Values.{Spellings, ◌⨾◌, byte, vec}
 use Rattle.bl_code.specs.Reading.{IsAt, NoneAt}
 use Rattle.bl_code.proofs.Places.{Stands, is_at, join, one_at, part, stands}
-use Rattle.bl_code.proofs.Unique.{vec_one}
+use Rattle.bl_code.proofs.Unique.{vec_prefix_free}
 use Rattle.bl_labels.specs.Entries.{entry, has, section}
-use Rattle.bl_labels.specs.EntryLaws.{entry_one}
+use Rattle.bl_labels.specs.EntryLaws.{entry_prefix_free}
 use Rattle.bl_labels.specs.declared.entry.Entry.{Entry}
-use Rattle.bl_labels.proofs.EntryForms.{byte_one}
+use Rattle.bl_labels.proofs.EntryForms.{byte_prefix_free}
 
 -- all bytes
 whole_stands : {S : Spellings} (bytes : List ℕ) → S bytes → Stands S bytes 0 (length bytes)
@@ -42,7 +42,7 @@ record Parts (bytes : List ℕ) (j version : ℕ) (these : List Entry) : Type 0 
 parts : (bytes : List ℕ) (j version : ℕ) (these : List Entry) → IsAt byte bytes 0 j version → section these bytes → Parts bytes j version these
 parts bytes j version these first s =
     let cut = part bytes 0 (length bytes) (whole_stands bytes s.spelled) in
-    let same = one_at bytes 0 j cut.0 version s.version byte_one first (is_at byte bytes 0 cut.0 s.version cut.1) in
+    let same = one_at bytes 0 j cut.0 version s.version byte_prefix_free first (is_at byte bytes 0 cut.0 s.version cut.1) in
     record {
       all = subst (λ n. IsAt (vec entry) bytes n (length bytes) these) (sym same.0) (is_at (vec entry) bytes cut.0 (length bytes) these cut.2);
       known = ap (λ n. has n these) same.1 ∙ s.known;
@@ -58,12 +58,12 @@ no_vec bytes j version first none these s = none these (length bytes) (parts byt
 
 other_end : (bytes : List ℕ) (j k version : ℕ) (entries : List Entry) → IsAt byte bytes 0 j version → IsAt (vec entry) bytes j k entries → (k ≡ length bytes → ⊥) → (these : List Entry) → section these bytes → ⊥
 other_end bytes j k version entries first all other these s =
-    other (one_at bytes j k (length bytes) entries these (vec_one entry_one) all (parts bytes j version these first s).all).0
+    other (one_at bytes j k (length bytes) entries these (vec_prefix_free entry_prefix_free) all (parts bytes j version these first s).all).0
 
 unknown : (bytes : List ℕ) (j k version : ℕ) (entries : List Entry) → IsAt byte bytes 0 j version → IsAt (vec entry) bytes j k entries → has version entries ≡ false → (these : List Entry) → section these bytes → ⊥
 unknown bytes j k version entries first all not_known these s =
     let p = parts bytes j version these first s in
-    let same = one_at bytes j k (length bytes) entries these (vec_one entry_one) all p.all in
+    let same = one_at bytes j k (length bytes) entries these (vec_prefix_free entry_prefix_free) all p.all in
     let both : true ≡ false = sym p.known ∙ ap (λ es. has version es) (sym same.1) ∙ not_known in
     cc
 

@@ -7,12 +7,12 @@ use Rattle.bl_labels.specs.declared.entry.Entry.TheVariants.{SecretParam, Secret
 use Rattle.bl_labels.specs.declared.labels.Place.{Place}
 
 -- the byte that an entry begins with
-abbrev pub code_of : Entry → ℕ
-code_of (SecretParam param) = 0x00
-code_of (SecretGlobal global) = 0x01
-code_of (SecretMemory memory) = 0x02
-code_of (PublicResult found) = 0x03
-code_of (PublicGlobal global) = 0x04
+abbrev pub entry_code : Entry → ℕ
+entry_code (SecretParam param) = 0x00
+entry_code (SecretGlobal global) = 0x01
+entry_code (SecretMemory memory) = 0x02
+entry_code (PublicResult found) = 0x03
+entry_code (PublicGlobal global) = 0x04
 
 -- a function, and one of its parameters or results
 abbrev pub place : Place → Spellings
@@ -27,7 +27,7 @@ named (PublicResult found) = place found
 named (PublicGlobal global) = u32 global
 
 abbrev pub entry : Entry → Spellings
-entry one = byte (code_of one) ⨾ named one
+entry one = byte (entry_code one) ⨾ named one
 
 -- whether an entry declares something secret; the others demand that it stays public
 abbrev pub is_secret : Entry → Bool

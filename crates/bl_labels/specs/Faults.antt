@@ -66,15 +66,15 @@ spaces_of tree = record {
 }
 
 -- the type of a function, where it has one
-abbrev pub type_of : List FuncType → Spaces → ℕ → Option FuncType
-type_of types spaces function = option_and_then (slice_get types) (slice_get spaces.functions function)
+abbrev pub function_type_at : List FuncType → Spaces → ℕ → Option FuncType
+function_type_at types spaces function = option_and_then (slice_get types) (slice_get spaces.functions function)
 
 -- how many parameters and results it has
 abbrev pub params_of : List FuncType → Spaces → ℕ → ℕ
-params_of types spaces function = unwrap_or (option_map (λ type. length type.params) (type_of types spaces function)) 0
+params_of types spaces function = unwrap_or (option_map (λ type. length type.params) (function_type_at types spaces function)) 0
 
 abbrev pub results_of : List FuncType → Spaces → ℕ → ℕ
-results_of types spaces function = unwrap_or (option_map (λ type. length type.results) (type_of types spaces function)) 0
+results_of types spaces function = unwrap_or (option_map (λ type. length type.results) (function_type_at types spaces function)) 0
 
 -- ---- the rules
 

@@ -2,7 +2,7 @@
 ghost use Rattle.std.specs.Prelude.{◌≡◌, ◌≤◌, ℕ, length, List as Listed};
 ghost use Rattle.bl_code.specs.Reading.{Finds};
 ghost use Rattle.bl_labels.specs.Entries.{entry, place};
-ghost use Rattle.bl_labels.specs.EntryLaws.{entry_one};
+ghost use Rattle.bl_labels.specs.EntryLaws.{entry_prefix_free};
 
 use crate::labels::Place;
 use bl_code::{CodeError, Format, Malformed, read_byte, read_u32};
@@ -31,7 +31,7 @@ impl Format for Entries {
 
     ghost spellings = { entry };
 
-    ghost one = { entry_one };
+    ghost prefix_free = { entry_prefix_free };
 
     fn read(_alloc: Global, bytes: &[u8], at: usize) -> Result<(Entry, usize), CodeError> {
         Ok(read_entry(bytes, at)?)

@@ -1,7 +1,7 @@
 //! What a module has that labels can name.
 ghost use Rattle.std.specs.Prelude.{◌≡◌, ◌+◌, ◌++◌, ◌≤◌, nat_le, length, filter_map, option_copied, IfOk};
 ghost use Rattle.bl_wasm.specs.Validity.{function_of, global_of, memory_of};
-ghost use Rattle.bl_labels.specs.Faults.{count, params_of, results_of, spaces_of, type_of as type_of_function};
+ghost use Rattle.bl_labels.specs.Faults.{count, params_of, results_of, spaces_of, function_type_at as type_of_function};
 
 use bl_base::{List, NoMemory};
 use bl_wasm::{FuncType, Import, ImportKind, Module};

@@ -5,7 +5,7 @@ use Rattle.std.specs.List.{AllZip}
 use Rattle.std.proofs.Math.Nat.{mod-eq_of_lt}
 use Rattle.std.proofs.lemmas.Bool.{lt-ltb, le-ltb, le-leb, lt-leb, cases_lt}
 use Rattle.std.proofs.lemmas.Option.{none-some, slice_get_within, same_Some}
-use Rattle.bl_base.specs.Runs.{MemoryState, Next, Comes, goes}
+use Rattle.bl_base.specs.Runs.{MemoryState, Next, StepsTo, goes}
 use Rattle.bl_base.proofs.RunLemmas.{comes_then}
 use Rattle.bl_base.specs.declared.trap.Trap.TheVariants as trap_kind
 use Rattle.bl_ops.specs.Access.{extended, narrowed, width_of}
@@ -154,7 +154,7 @@ module _ (tree : Tree) (program : Program) (bound : ℕ) (is : IsProgram tree pr
   -- what the test leaves
   pub record Guarded (s : Plain) (t : ℕ) (to : ℕ) : Type 0 where
     pub w : ℕ
-    pub comes : Comes (plain_step program) 2 s (at to (written s.registers (depth s) t w) s)
+    pub comes : StepsTo (plain_step program) 2 s (at to (written s.registers (depth s) t w) s)
 
   guarded : (state : State) (s : Plain) (mark t v reach m : ℕ) (memory : MemoryState) (a : Operand) (b : Bool) → HasAt program.commands s.position (guard mark s.position t a (program.shape state.frame.number).size reach) → program.statics ≤ t
       → value_of program a s ≡ v → v < 2 ^ 32 → reach < 2 ^ 34 → IsStore program s.registers s.space state.store → Means state m memory → nat_lt (memory.pages * 65536) (v + reach) ≡ b
@@ -444,7 +444,7 @@ module _ (tree : Tree) (program : Program) (bound : ℕ) (is : IsProgram tree pr
           (ap (λ n. meaning op.I32GtU n (value_of program (variable next) (at (suc s.position) r1 s)) 0) (value_a (suc s.position) r1 1 k1)
           ∙ ap (λ n. meaning op.I32GtU v n 0) (value_is program (at (suc s.position) r1 s) (variable next) room (static, read_written s.registers d next room)) ∙ past_is v room fits (omega (arith, fewer)))
 
-      to_test : (b : Bool) → nat_lt room v ≡ b → Comes (plain_step program) 3 s (at (if b then shift 6 s.position else shift 3 s.position) r2 s)
+      to_test : (b : Bool) → nat_lt room v ≡ b → StepsTo (plain_step program) 3 s (at (if b then shift 6 s.position else shift 3 s.position) r2 s)
       to_test b e = (
         at (suc s.position) r1 s,
         step1,

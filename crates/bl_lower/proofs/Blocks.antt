@@ -3,7 +3,7 @@ use Rattle.std.proofs.Common.{◌≡◌, ℕ, zero, suc, ◌+◌, ◌<◌, ◌�
 use Rattle.std.specs.Prelude.{◌==◌, if◌then◌else◌}
 use Rattle.std.specs.List.{AllZip}
 use Rattle.std.proofs.lemmas.List.{reverse-reverse, length-reverse}
-use Rattle.bl_base.specs.Runs.{Comes}
+use Rattle.bl_base.specs.Runs.{StepsTo}
 use Rattle.bl_base.proofs.RunLemmas.{comes_then}
 use Rattle.bl_wasm.specs.declared.instruction.Instr.{Instr}
 use Rattle.bl_wasm.specs.declared.instruction.Instr.TheVariants.{Loop}
@@ -53,7 +53,7 @@ module _ (tree : Tree) (program : Program) (bound : ℕ) (layout : Layout progra
       → first_to t ≤ t.first → t.first + t.arity ≤ to → to ≤ (program.shape state.frame.number).limit
       → (inside_operands : List Operand) → AllHold r (depth s) (bottom (program.shape state.frame.number)) to inside_operands (take count state.frame.values)
       → LaidWith state (t ∷ open_ones) position inside_operands to items → 1 ≤ j → used + j ≤ bound
-      → Comes (plain_step program) j s (at position r s) → Reaches tree program bound used (enter_with (taken t) count continuation items state) s
+      → StepsTo (plain_step program) j s (at position r s) → Reaches tree program bound used (enter_with (taken t) count continuation items state) s
   entered used j t count position to label_next continuation items operands next state s r h kept above reached label_limit below later order le limit inside_operands values laid one most way =
       arrives tree program bound layout used j (t ∷ open_ones) inside_operands to inner s (at position r s) one most way (record {
         store = store_kept program bound layout s.registers r s state.store (λ x lt. keeps 0 x (λ same. omega (arith, same))) h.store;
@@ -108,7 +108,7 @@ module _ (tree : Tree) (program : Program) (bound : ℕ) (layout : Layout progra
       → Laid program bound state.frame.number open_ones (live (landing t label_next)) continuation
       → first_to t ≤ t.first → t.first + t.arity ≤ to → to ≤ (program.shape state.frame.number).limit
       → LaidWith state (t ∷ open_ones) position (take count operands) to items → 1 ≤ j → used + j ≤ bound
-      → Comes (plain_step program) j s (at position s.registers s) → Reaches tree program bound used (enter_with (taken t) count continuation items state) s
+      → StepsTo (plain_step program) j s (at position s.registers s) → Reaches tree program bound used (enter_with (taken t) count continuation items state) s
   stays used j t count position to label_next continuation items operands next state s h from reached label_limit below later order le limit laid one most way =
       let low = bottom (program.shape state.frame.number) in
       let all = h.frame_is.values in

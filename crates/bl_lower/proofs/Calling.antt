@@ -6,7 +6,7 @@ use Rattle.std.proofs.lemmas.List.{length-replicate}
 use Rattle.std.proofs.lemmas.Bool.{lt-ltb, le-ltb, cases_lt}
 use Rattle.std.proofs.lemmas.Option.{none-some, same_Some}
 use Rattle.bl_base.specs.Quantity.{most_calls}
-use Rattle.bl_base.specs.Runs.{Next, Comes, last, goes, ends, trapped}
+use Rattle.bl_base.specs.Runs.{Next, StepsTo, last, goes, ends, trapped}
 use Rattle.bl_base.specs.declared.trap.Trap.TheVariants.{StackExhausted}
 use Rattle.bl_base.proofs.RunLemmas.{comes_then, comes_to_end}
 use Rattle.bl_wasm.specs.Validity.{locals_of}
@@ -40,7 +40,7 @@ module _ (tree : Tree) (program : Program) (bound : ℕ) (is : IsProgram tree pr
   -- arguments were given to a deeper depth
   record Passed (called : ℕ) (s : Plain) (index count : ℕ) (vs : List ℕ) : Type 0 where
     registers : Registers
-    comes : Comes (plain_step program) count s (at (shift count s.position) registers s)
+    comes : StepsTo (plain_step program) count s (at (shift count s.position) registers s)
     kept : Kept s.registers registers (suc (depth s)) (param (program.shape called) index) count
     arguments : ArgumentsAt program bound registers (suc (depth s)) called index vs
 

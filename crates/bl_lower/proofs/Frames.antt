@@ -2,10 +2,10 @@
 use Rattle.std.proofs.Common.{◌≡◌, ℕ, suc, ◌+◌, ◌<◌, ◌≤◌, cond, List, [], ◌∷◌, length, drop, Option, Some, None, refl, ap, ◌∙◌, arith, ◌⊎◌, inl, inr}
 use Rattle.std.proofs.lemmas.Bool.{lt-ltb, le-ltb, cases_lt}
 use Rattle.std.proofs.lemmas.Option.{slice_get_within}
-use Rattle.bl_base.specs.Runs.{Next, HasStep, goes, ends, stuck, Comes, EndsAfter}
+use Rattle.bl_base.specs.Runs.{Next, HasStep, goes, ends, stuck, StepsTo, EndsAfter}
 use Rattle.bl_base.proofs.RunLemmas.{comes_then, comes_to_end}
 use Rattle.bl_wasm.specs.declared.linked.Tree.{Tree}
-use Rattle.bl_reduce.specs.Configurations.{Store, Label, Frame, State, Config, known, pop, pop_from, with_values}
+use Rattle.bl_reduce.specs.Configurations.{Store, ControlLabel, Frame, State, Config, known, pop, pop_from, with_values}
 use Rattle.bl_reduce.specs.TypedConfigurations.{IsMemoryState}
 use Rattle.bl_base.proofs.Lists.{zip_length}
 use Rattle.bl_cmd.specs.Steps.{Registers, Plain, depth}
@@ -50,14 +50,14 @@ locals_apart shape x y e = from (local_value shape x) (local_value shape y)
 module _ (program : Program) (bound : ℕ) (layout : Layout program) where
   -- ---- registers that change above or below the operands
 
-  pub floor_is_above : (r : Registers) (d number : ℕ) (open_ones : List Target) (labels : List Label) → AreTargets program bound r d number open_ones labels
+  pub floor_is_above : (r : Registers) (d number : ℕ) (open_ones : List Target) (labels : List ControlLabel) → AreTargets program bound r d number open_ones labels
       → bottom (program.shape number) ≤ floor program bound number open_ones
   floor_is_above r d number [] [] h = omega arith
   floor_is_above r d number [] (label ∷ labels) h = absurd h
   floor_is_above r d number (t ∷ open_ones) [] h = absurd h
   floor_is_above r d number (t ∷ open_ones) (label ∷ labels) h = let b = floor_is_above r d number open_ones labels h.1 in omega (arith, b, h.0.above, h.0.order)
 
-  pub targets_later : (r r' : Registers) (d number high : ℕ) (open_ones : List Target) (labels : List Label) → Agree r r' d (bottom (program.shape number)) high
+  pub targets_later : (r r' : Registers) (d number high : ℕ) (open_ones : List Target) (labels : List ControlLabel) → Agree r r' d (bottom (program.shape number)) high
       → floor program bound number open_ones ≤ high → AreTargets program bound r d number open_ones labels → AreTargets program bound r' d number open_ones labels
   targets_later r r' d number high [] [] agree le h = tt
   targets_later r r' d number high [] (label ∷ labels) agree le h = absurd h
@@ -178,7 +178,7 @@ module _ (program : Program) (bound : ℕ) (layout : Layout program) where
 module _ (tree : Tree) (program : Program) (bound : ℕ) where
   -- behind so many commands of its step
   abbrev pub Reaches : ℕ → Next Config → Plain → Type 0
-  Reaches used (goes d) s = (j : ℕ) × (t : Plain) × (1 ≤ j) × (used + j ≤ bound) × Comes (plain_step program) j s t × Matches program bound d t
+  Reaches used (goes d) s = (j : ℕ) × (t : Plain) × (1 ≤ j) × (used + j ≤ bound) × StepsTo (plain_step program) j s t × Matches program bound d t
   Reaches used (ends o) s = (j : ℕ) × (1 ≤ j) × (used + j ≤ bound) × EndsAfter (plain_step program) j s o
   Reaches used stuck s = ⊥
 
@@ -186,7 +186,7 @@ module _ (tree : Tree) (program : Program) (bound : ℕ) where
   abbrev pub Then : ℕ → Next Config → Plain → Type 0
   Then used next s = HasStep next → Reaches used next s
 
-  pub reaches_later : (used k : ℕ) (next : Next Config) (s t : Plain) → Comes (plain_step program) k s t → Reaches (used + k) next t → Reaches used next s
+  pub reaches_later : (used k : ℕ) (next : Next Config) (s t : Plain) → StepsTo (plain_step program) k s t → Reaches (used + k) next t → Reaches used next s
   reaches_later used k (goes d) s t way h =
       (k + h.0, h.1, omega (arith, h.2), omega (arith, h.3), comes_then (plain_step program) k h.0 s t h.1 way h.4, h.5)
   reaches_later used k (ends o) s t way h = (k + h.0, omega (arith, h.1), omega (arith, h.2), comes_to_end (plain_step program) k h.0 s t o way h.3)

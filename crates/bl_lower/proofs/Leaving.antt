@@ -2,11 +2,11 @@
 use Rattle.std.proofs.Common.{◌≡◌, ℕ, zero, suc, ◌+◌, ◌≤◌, List, [], ◌∷◌, ◌++◌, length, reverse, take, drop, Some, None, slice_get, refl, ap, ◌∙◌, subst, arith, ◌⊎◌, inl, inr}
 use Rattle.std.specs.List.{AllZip}
 use Rattle.std.proofs.lemmas.List.{reverse-reverse, length-reverse, length-take-le}
-use Rattle.bl_base.specs.Runs.{Comes}
+use Rattle.bl_base.specs.Runs.{StepsTo}
 use Rattle.bl_base.proofs.RunLemmas.{comes_then}
 use Rattle.bl_wasm.specs.declared.instruction.Instr.{Instr}
 use Rattle.bl_wasm.specs.declared.linked.Tree.{Tree}
-use Rattle.bl_reduce.specs.Configurations.{Label, State, go}
+use Rattle.bl_reduce.specs.Configurations.{ControlLabel, State, go}
 use Rattle.bl_reduce.specs.Control.{leave_label}
 use Rattle.bl_base.proofs.Lists.{zip_reverse, zip_append, zip_length}
 use Rattle.bl_access.specs.Templates.{jump_to, shift}
@@ -45,7 +45,7 @@ module _ (tree : Tree) (program : Program) (bound : ℕ) (layout : Layout progra
 
   pub record Gone (s : Plain) (first count : ℕ) (vs : List ℕ) (to : ℕ) : Type 0 where
     pub registers : Registers
-    pub comes : Comes (plain_step program) (count + 1) s (at to registers s)
+    pub comes : StepsTo (plain_step program) (count + 1) s (at to registers s)
     pub kept : Kept s.registers registers (depth s) first count
     pub holds : AllHold registers (depth s) first (first + count) (reverse (reads first count)) vs
 
@@ -72,7 +72,7 @@ module _ (tree : Tree) (program : Program) (bound : ℕ) (layout : Layout progra
       }
 
   -- where it leads: behind other labels, above the values of a construct
-  pub lands : (used mark : ℕ) (open_ones outer : List Target) (labels : List Label) (stack : List Operand) (from next high first count : ℕ) (below : List Operand) (under : List ℕ) (rest : List Instr) (to : ℕ) (state : State) (s : Plain)
+  pub lands : (used mark : ℕ) (open_ones outer : List Target) (labels : List ControlLabel) (stack : List Operand) (from next high first count : ℕ) (below : List Operand) (under : List ℕ) (rest : List Instr) (to : ℕ) (state : State) (s : Plain)
       → Here program bound open_ones stack from state s → HasAt program.commands s.position (moves mark first (reverse (pad count stack)) ++ jump_to to ∷ []) → count ≤ length stack
       → Fresh first (reverse (pad count stack)) → used + (count + 1) ≤ bound
       → AreTargets program bound s.registers (depth s) state.frame.number outer labels → floor program bound state.frame.number outer ≤ high → high ≤ first
@@ -106,7 +106,7 @@ module _ (tree : Tree) (program : Program) (bound : ℕ) (layout : Layout progra
       }) laid
 
   -- the end of a construct or part, and its label
-  pub leaves_label : (mark : ℕ) (t : Target) (outer : List Target) (labels : List Label) (rest : List Instr) (stack : List Operand) (next : ℕ) (state : State) (s : Plain)
+  pub leaves_label : (mark : ℕ) (t : Target) (outer : List Target) (labels : List ControlLabel) (rest : List Instr) (stack : List Operand) (next : ℕ) (state : State) (s : Plain)
       → Here program bound (t ∷ outer) stack next state s → AreTargets program bound s.registers (depth s) state.frame.number (t ∷ outer) labels
       → EndsAt program bound state.frame.number mark t s.position stack → (to : ℕ) → t.first + t.arity ≤ to → to ≤ (program.shape state.frame.number).limit
       → Laid program bound state.frame.number outer (live (behind t to)) rest
@@ -128,16 +128,16 @@ module _ (tree : Tree) (program : Program) (bound : ℕ) (layout : Layout progra
   -- ---- branches
 
   -- the construct of a label
-  pub record ToTarget (r : Registers) (d number : ℕ) (open_ones : List Target) (labels : List Label) (l : ℕ) : Type 0 where
+  pub record ToTarget (r : Registers) (d number : ℕ) (open_ones : List Target) (labels : List ControlLabel) (l : ℕ) : Type 0 where
     pub t : Target
     pub outer : List Target
-    pub label : Label
+    pub label : ControlLabel
     pub of_open : slice_get open_ones l ≡ Some t
     pub of_labels : slice_get labels l ≡ Some label
     pub is : IsTarget program bound r d number outer t label
     pub others : AreTargets program bound r d number outer (drop (l + 1) labels)
 
-  pub find_target : (r : Registers) (d number : ℕ) (open_ones : List Target) (labels : List Label) (l : ℕ) → AreTargets program bound r d number open_ones labels
+  pub find_target : (r : Registers) (d number : ℕ) (open_ones : List Target) (labels : List ControlLabel) (l : ℕ) → AreTargets program bound r d number open_ones labels
       → ToTarget r d number open_ones labels l ⊎ (slice_get open_ones l ≡ None) × (slice_get labels l ≡ None)
   find_target r d number [] [] l h = inr (refl, refl)
   find_target r d number [] (label ∷ labels) l h = absurd h

@@ -4,7 +4,7 @@ use Rattle.std.specs.List.{All}
 use Rattle.std.proofs.lemmas.List.{length-reverse, length-replicate, length-take-le}
 use Rattle.std.proofs.lemmas.List.Elements.{All-head, All-tail}
 use Rattle.std.proofs.lemmas.Option.{none-some, same_Some}
-use Rattle.bl_ops.specs.Access.{type_of}
+use Rattle.bl_ops.specs.Access.{access_type}
 use Rattle.bl_ops.specs.Table.{row_of}
 use Rattle.bl_wasm.specs.Nesting.{of_block, of_loop, then_part, else_part}
 use Rattle.bl_wasm.specs.Typing.{Context, Open, opened, Types, Rule, HasType, labels, expanded, taken_by, integer}
@@ -309,10 +309,10 @@ module _ (program : Program) (bound number : ℕ) where
             );
           }
       stepped (Load kind argument) open_ones ones p k from os to ordinary rule opens_are neat long most =
-          let a = arrow_lengths (I32 ∷ []) (integer (type_of kind) ∷ []) from to rule.rule.3 in
+          let a = arrow_lengths (I32 ∷ []) (integer (access_type kind) ∷ []) from to rule.rule.3 in
           record { lays = λ h le laid. ((has p.position (template shapes number open_ones (Load kind argument) p) h, most), le, laid); long = omega (arith, length-drop 1 p.stack, long, a.before, a.behind) }
       stepped (Store kind argument) open_ones ones p k from os to ordinary rule opens_are neat long most =
-          let a = arrow_lengths (I32 ∷ integer (type_of kind) ∷ []) [] from to rule.rule.3 in
+          let a = arrow_lengths (I32 ∷ integer (access_type kind) ∷ []) [] from to rule.rule.3 in
           record { lays = λ h le laid. ((has p.position (template shapes number open_ones (Store kind argument) p) h, most), le, laid); long = omega (arith, length-drop 1 p.stack, length-drop 1 (drop 1 p.stack), long, a.before, a.behind) }
       stepped MemorySize open_ones ones p k from os to ordinary rule opens_are neat long most =
           let a = arrow_lengths [] (I32 ∷ []) from to rule.rule.1 in record { lays = λ h le laid. ((h.0.0, tt), le, laid); long = omega (arith, long, a.before, a.behind) }

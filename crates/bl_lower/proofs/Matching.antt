@@ -20,7 +20,7 @@ use Rattle.bl_lower.proofs.Laid.{HasAt, live, landing, floor, Laid, Stand}
 use Rattle.bl_lower.proofs.Machine.{space_of, Program}
 use Rattle.bl_emit.specs.Constructs.{reads, moves, mark_of, Target, point, taken, first_to}
 use Rattle.bl_emit.specs.Shapes.{Shape, local, param, result, bottom, result_reads}
-use Rattle.bl_reduce.specs.Configurations.{Store, Label, Frame, State, Config, entering, running}
+use Rattle.bl_reduce.specs.Configurations.{Store, ControlLabel, Frame, State, Config, entering, running}
 use Rattle.bl_base.specs.Runs.{MemoryState}
 use Rattle.bl_base.specs.Trap.{kinds}
 use Rattle.bl_emit.specs.Numbers.{slot_of}
@@ -81,7 +81,7 @@ module _ (program : Program) (bound : ℕ) where
   LocalsAt r d number locals = (x v : ℕ) → slice_get locals x ≡ Some v → r d (local (program.shape number) x) ≡ v
 
   -- a label is that of an open construct
-  pub record IsTarget (r : Registers) (d number : ℕ) (open_ones : List Target) (t : Target) (label : Label) : Type 0 where
+  pub record IsTarget (r : Registers) (d number : ℕ) (open_ones : List Target) (t : Target) (label : ControlLabel) : Type 0 where
     pub arity : label.arity ≡ taken t
     pub next : ℕ
     pub order : first_to t ≤ t.first
@@ -91,7 +91,7 @@ module _ (program : Program) (bound : ℕ) where
     pub below : AllHold r d (bottom (program.shape number)) (first_to t) t.below label.below
     pub above : floor program bound number open_ones ≤ first_to t
 
-  abbrev pub AreTargets : Registers → ℕ → ℕ → List Target → List Label → Type 0
+  abbrev pub AreTargets : Registers → ℕ → ℕ → List Target → List ControlLabel → Type 0
   AreTargets r d number [] [] = Unit {0}
   AreTargets r d number (t ∷ open_ones) (label ∷ labels) = IsTarget r d number open_ones t label × AreTargets r d number open_ones labels
   AreTargets r d number open_ones labels = ⊥

@@ -1,7 +1,7 @@
 -- Operators, with the tests before those that may trap.
 use Rattle.std.proofs.Common.{◌≡◌, ℕ, zero, suc, ◌+◌, ◌%◌, ◌^◌, ◌<◌, ◌≤◌, Bool, true, false, ◌&&◌, List, [], ◌∷◌, length, take, drop, Option, Some, None, slice_get, refl, sym, ap, ◌∙◌, subst, arith, ◌⊎◌, inl, inr}
 use Rattle.std.specs.Prelude.{◌==◌, if◌then◌else◌}
-use Rattle.bl_base.specs.Runs.{MemoryState, Comes, EndsAfter, last, goes, ends, trapped}
+use Rattle.bl_base.specs.Runs.{MemoryState, StepsTo, EndsAfter, last, goes, ends, trapped}
 use Rattle.bl_base.proofs.RunLemmas.{comes_then, comes_to_end}
 use Rattle.bl_base.specs.declared.trap.Trap.{Trap as TrapKind}
 use Rattle.bl_base.specs.declared.trap.Trap.TheVariants as trap_kind
@@ -100,7 +100,7 @@ module _ (tree : Tree) (program : Program) (bound : ℕ) (layout : Layout progra
 
   -- an operator's number goes to a variable, and a test of it follows
   pub record Tried (s : Plain) (x w : ℕ) (b : Bool) (one other : ℕ) : Type 0 where
-    pub comes : Comes (plain_step program) 2 s (at (if b then other else one) (written s.registers (depth s) x w) s)
+    pub comes : StepsTo (plain_step program) 2 s (at (if b then other else one) (written s.registers (depth s) x w) s)
 
   pub tries : (s : Plain) (mark : ℕ) (o : Op) (x w : ℕ) (a c : Operand) (one other : ℕ) (b : Bool) → slice_get program.commands s.position ≡ Some (set_command mark o x a c)
       → slice_get program.commands (suc s.position) ≡ Some (test_of (variable x) one other) → program.statics ≤ x → meaning o (value_of program a s) (value_of program c s) 0 ≡ w → zero_test w ≡ b → Tried s x w b one other
@@ -113,7 +113,7 @@ module _ (tree : Tree) (program : Program) (bound : ℕ) (layout : Layout progra
   pub record Passed (s : Plain) (x : ℕ) (c : Check) (found : Option TrapKind) : Type 0 where
     pub none : found ≡ None
     pub registers : Registers
-    pub comes : Comes (plain_step program) (check_size c) s (at (shift (check_size c) s.position) registers s)
+    pub comes : StepsTo (plain_step program) (check_size c) s (at (shift (check_size c) s.position) registers s)
     pub kept : Kept s.registers registers (depth s) x (check_new c)
 
   pub record Fell (memories : List MemoryState) (s : Plain) (c : Check) (found : Option TrapKind) : Type 0 where
@@ -124,7 +124,7 @@ module _ (tree : Tree) (program : Program) (bound : ℕ) (layout : Layout progra
     pub most : steps ≤ suc (check_size c)
     pub run : EndsAfter (plain_step program) steps s (trapped kind memories)
 
-  pub falls : (memories : List MemoryState) (s t : Plain) (steps : ℕ) (kind : TrapKind) → Comes (plain_step program) steps s t → slice_get program.commands t.position ≡ Some (Trap kind) → states program t ≡ memories
+  pub falls : (memories : List MemoryState) (s t : Plain) (steps : ℕ) (kind : TrapKind) → StepsTo (plain_step program) steps s t → slice_get program.commands t.position ≡ Some (Trap kind) → states program t ≡ memories
       → EndsAfter (plain_step program) (steps + 1) s (trapped kind memories)
   falls memories s t steps kind way command same = comes_to_end (plain_step program) steps 1 s t (trapped kind memories) way
       (last t (trapped kind memories) (does program t (Trap kind) command ∙ ap (λ m. ends (trapped kind m)) same))
@@ -232,7 +232,7 @@ module _ (tree : Tree) (program : Program) (bound : ℕ) (layout : Layout progra
         last_test t e = tries s4 mark op.I32And (suc (suc (suc x))) w (variable (suc x)) (variable (suc (suc x))) 2 (suc (suc p4)) t stands.1.1.1.1.0 stands.1.1.1.1.1.0 (omega (arith, static, low_x))
             (ap (λ u. meaning op.I32And u (value_of program (variable (suc (suc x))) s4) 0) read_m ∙ ap (λ u. meaning op.I32And m u 0) read_n) e
 
-        up_to : zero_test z ≡ true → Comes (plain_step program) 4 s s4
+        up_to : zero_test z ≡ true → StepsTo (plain_step program) 4 s s4
         up_to e = comes_then (plain_step program) 2 2 s s2 s4 (zero_tried eqz true e (stands.0, (stands.1.0, tt))).comes (s3, step2, (s4, step3, refl))
 
         further : zero_test z ≡ true → (t : Bool) → zero_test w ≡ t → Passed s x (quotient eqz eq least ones) (traps o va vb) ⊎ Fell memories s (quotient eqz eq least ones) (traps o va vb)

@@ -3,7 +3,7 @@ use Rattle.std.proofs.Common.{◌≡◌, ℕ, zero, suc, ◌+◌, ◌-◌, ◌*�
 use Rattle.std.specs.List.{AllZip}
 use Rattle.std.proofs.lemmas.List.{reverse-reverse, length-reverse}
 use Rattle.bl_base.proofs.RunLemmas.{comes_then}
-use Rattle.bl_base.specs.Runs.{Comes, last, goes, ends, returned}
+use Rattle.bl_base.specs.Runs.{StepsTo, last, goes, ends, returned}
 use Rattle.bl_wasm.specs.declared.linked.Tree.{Tree}
 use Rattle.bl_reduce.specs.Configurations.{Store, Frame, State}
 use Rattle.bl_reduce.specs.Returns.{return_to, return}
@@ -52,7 +52,7 @@ module _ (tree : Tree) (program : Program) (bound : ℕ) (layout : Layout progra
   -- results were given to the caller's depth
   pub record Given (number : ℕ) (s : Plain) (index count : ℕ) (vs : List ℕ) : Type 0 where
     pub registers : Registers
-    pub comes : Comes (plain_step program) count s (at (shift count s.position) registers s)
+    pub comes : StepsTo (plain_step program) count s (at (shift count s.position) registers s)
     pub kept : Kept s.registers registers (length s.chain) (result (program.shape number) index) count
     pub results : ResultsAt registers (length s.chain) (program.shape number) index vs
     pub ret_is : slice_get program.commands (shift count s.position) ≡ Some Ret
@@ -152,9 +152,9 @@ module _ (tree : Tree) (program : Program) (bound : ℕ) (layout : Layout progra
             (callers_kept program bound layout r g.registers caller.number callers chain (λ d x some le. before d x (g.kept d x (λ same above below. omega (arith, same, up, le)))) h.1);
       }) w.laid
     where
-      jumped : (to : ℕ) (t t2 t3 : Plain) (k : ℕ) → plain_step program t ≡ goes t2 → Comes (plain_step program) k t2 t3 → (to ≡ t3.position) ⊎ (slice_get program.commands t3.position ≡ Some (jump_to to))
-          → (j : ℕ) × (1 ≤ j) × (j ≤ suc (suc k)) × Comes (plain_step program) j t (at to t3.registers t3)
-      jumped to t t2 t3 k step way (inl same) = (suc k, omega arith, omega arith, (t2, step, subst (λ n. Comes (plain_step program) k t2 (at n t3.registers t3)) (sym same) way))
+      jumped : (to : ℕ) (t t2 t3 : Plain) (k : ℕ) → plain_step program t ≡ goes t2 → StepsTo (plain_step program) k t2 t3 → (to ≡ t3.position) ⊎ (slice_get program.commands t3.position ≡ Some (jump_to to))
+          → (j : ℕ) × (1 ≤ j) × (j ≤ suc (suc k)) × StepsTo (plain_step program) j t (at to t3.registers t3)
+      jumped to t t2 t3 k step way (inl same) = (suc k, omega arith, omega arith, (t2, step, subst (λ n. StepsTo (plain_step program) k t2 (at n t3.registers t3)) (sym same) way))
       jumped to t t2 t3 k step way (inr jump) =
           (suc k + 1, omega arith, omega arith, comes_then (plain_step program) (suc k) 1 t t3 (at to t3.registers t3) (t2, step, way) (at to t3.registers t3, does program t3 (jump_to to) jump, refl))
 

@@ -4,7 +4,7 @@ use Rattle.std.specs.Prelude.{◌==◌, if◌then◌else◌}
 use Rattle.std.proofs.Math.Nat.{mod-eq_of_lt}
 use Rattle.std.proofs.lemmas.List.{length-set}
 use Rattle.std.proofs.lemmas.Option.{slice_get_within, none-some, same_Some}
-use Rattle.bl_base.specs.Runs.{Next, Comes, goes}
+use Rattle.bl_base.specs.Runs.{Next, StepsTo, goes}
 use Rattle.bl_ops.specs.Numerics.{meaning}
 use Rattle.bl_ops.specs.declared.op.Op.{Op}
 use Rattle.bl_ops.specs.declared.op.Op.TheVariants as op
@@ -39,7 +39,7 @@ module _ (tree : Tree) (program : Program) (bound : ℕ) (layout : Layout progra
   LaidOut state open_ones position stack next = Laid program bound state.frame.number open_ones (live (point position stack next)) state.frame.rest
 
   -- where a way leads to a place that is laid out
-  pub arrives : (used j : ℕ) (open_ones : List Target) (stack : List Operand) (next : ℕ) (state : State) (s t : Plain) → 1 ≤ j → used + j ≤ bound → Comes (plain_step program) j s t
+  pub arrives : (used j : ℕ) (open_ones : List Target) (stack : List Operand) (next : ℕ) (state : State) (s t : Plain) → 1 ≤ j → used + j ≤ bound → StepsTo (plain_step program) j s t
       → Here program bound open_ones stack next state t → LaidOut state open_ones t.position stack next → Reaches tree program bound used (go state) s
   arrives used j open_ones stack next state s t le most way here laid =
       (j, t, le, most, way, record { open_ones = open_ones; stack = stack; next = next; here = here; laid = laid })
@@ -229,8 +229,8 @@ module _ (tree : Tree) (program : Program) (bound : ℕ) (layout : Layout progra
 
   -- a test of an i32 goes as the rule's test of it does
   pub tests : (used : ℕ) (s : Plain) (a : Operand) (one other v : ℕ) (zero_step other_step : Next Config) → slice_get program.commands s.position ≡ Some (test_of a one other) → value_of program a s ≡ v → v < 2 ^ 32
-      → (Comes (plain_step program) 1 s (at other s.registers s) → Then tree program bound used zero_step s)
-      → (Comes (plain_step program) 1 s (at one s.registers s) → Then tree program bound used other_step s)
+      → (StepsTo (plain_step program) 1 s (at other s.registers s) → Then tree program bound used zero_step s)
+      → (StepsTo (plain_step program) 1 s (at one s.registers s) → Then tree program bound used other_step s)
       → Then tree program bound used (if v == 0 then zero_step else other_step) s
   tests used s a one other v zero_step other_step command value small h i =
       from (v == 0) (does program s (test_of a one other) command ∙ ap (λ n. if n == 0 then goes (at other s.registers s) else goes (at one s.registers s)) (ap (λ n. n % 2 ^ 32) value ∙ mod-eq_of_lt small))

@@ -3,7 +3,7 @@ use Rattle.std.proofs.Common.{◌≡◌, ◌≢◌, ℕ, suc, ◌+◌, ◌<◌, 
 use Rattle.std.proofs.lemmas.Bool.{eq-eqb, eqb-true, false_from_ne_true, le-ltb, lt-ltb}
 use Rattle.std.specs.List.{AllZip}
 use Rattle.bl_base.proofs.Lists.{zip_each}
-use Rattle.bl_base.specs.Runs.{Comes, goes}
+use Rattle.bl_base.specs.Runs.{StepsTo, goes}
 use Rattle.bl_ops.specs.declared.op.Op.{Op}
 use Rattle.bl_ops.specs.Numerics.{meaning}
 use Rattle.bl_ops.specs.declared.op.Op.TheVariants as op
@@ -134,7 +134,7 @@ module _ (program : Program) where
   -- operands were moved to variables from one on
   pub record Moved (s : Plain) (first count : ℕ) (vs : List ℕ) : Type 0 where
     pub registers : Registers
-    pub comes : Comes (plain_step program) count s (at (shift count s.position) registers s)
+    pub comes : StepsTo (plain_step program) count s (at (shift count s.position) registers s)
     pub kept : Kept s.registers registers (depth s) first count
     pub holds : AllHold registers (depth s) first (first + count) (reads first count) vs
 

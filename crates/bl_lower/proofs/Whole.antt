@@ -5,7 +5,7 @@ use Rattle.std.proofs.lemmas.List.{reverse-append}
 use Rattle.bl_base.specs.Runs.{Outcome, Next, EndsAfter, goes, ends, stuck}
 use Rattle.bl_base.specs.declared.names.ValueType.{ValueType}
 use Rattle.bl_base.proofs.RunLemmas.{Simulates, Follows, forward, backward}
-use Rattle.bl_ops.specs.Access.{type_of}
+use Rattle.bl_ops.specs.Access.{access_type}
 use Rattle.bl_wasm.specs.Linked.{IsLinked, IsFunction, HasImmediates}
 use Rattle.bl_wasm.specs.Typing.{Context, Open, Types, integer}
 use Rattle.bl_wasm.specs.declared.instruction.Instr.{Instr}
@@ -51,7 +51,7 @@ module _ (c : Context) where
   tested open_ones (Load kind argument ∷ items) stack [] values h all = absurd h
   tested open_ones (Load kind argument ∷ items) stack (to ∷ later) values h all = topmost stack h.1.rule.3.lower [] values h.1.rule.3.before all
   tested open_ones (Store kind argument ∷ items) stack [] values h all = absurd h
-  tested open_ones (Store kind argument ∷ items) stack (to ∷ later) values h all = second stack h.1.rule.3.lower (integer (type_of kind)) values h.1.rule.3.before all
+  tested open_ones (Store kind argument ∷ items) stack (to ∷ later) values h all = second stack h.1.rule.3.lower (integer (access_type kind)) values h.1.rule.3.before all
   tested open_ones (MemoryGrow ∷ items) stack [] values h all = absurd h
   tested open_ones (MemoryGrow ∷ items) stack (to ∷ later) values h all = topmost stack h.1.rule.1.lower [] values h.1.rule.1.before all
   tested open_ones (CallIndirect i ∷ items) stack [] values h all = absurd h

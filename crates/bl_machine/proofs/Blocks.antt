@@ -8,7 +8,7 @@ use Rattle.bl_wasm.specs.declared.instruction.Instr.TheVariants.{Loop}
 use Rattle.bl_wasm.specs.declared.types.BlockType.{BlockType}
 use Rattle.bl_wasm.specs.declared.types.FuncType.{FuncType}
 use Rattle.bl_wasm.specs.declared.linked.Tree.{Tree}
-use Rattle.bl_reduce.specs.Configurations.{Label, State, Config, with_values}
+use Rattle.bl_reduce.specs.Configurations.{ControlLabel, State, Config, with_values}
 use Rattle.bl_reduce.specs.Control.{items_behind_end, items_of_else, enter_block, enter_loop, enter_if, leave_label, reach_end, reach_else}
 use Rattle.bl_machine.specs.Machines.{Stepped, running, popped, at_place, opened, closed}
 use Rattle.bl_machine.specs.MatchStates.{under, values_of, IsExit, AreExits, IsState}
@@ -21,14 +21,14 @@ use Rattle.bl_machine.proofs.Piles.{front_is, on_top}
 use Rattle.bl_machine.proofs.Values.{Then, popping}
 
 -- the exit of the innermost label, and the others
-pub record Innermost (body : List Instr) (base : ℕ) (label : Label) (labels : List Label) (exits : List Exit) : Type 0 where
+pub record Innermost (body : List Instr) (base : ℕ) (label : ControlLabel) (labels : List ControlLabel) (exits : List Exit) : Type 0 where
   pub exit : Exit
   pub others : List Exit
   pub split : exits ≡ exit ∷ others
   pub is_exit : IsExit body base label labels exit
   pub are_exits : AreExits body base labels others
 
-pub innermost_exit : (body : List Instr) (base : ℕ) (label : Label) (labels : List Label) (exits : List Exit) → AreExits body base (label ∷ labels) exits
+pub innermost_exit : (body : List Instr) (base : ℕ) (label : ControlLabel) (labels : List ControlLabel) (exits : List Exit) → AreExits body base (label ∷ labels) exits
     → Innermost body base label labels exits
 innermost_exit body base label labels [] h = absurd h
 innermost_exit body base label labels (exit ∷ others) h = record { exit = exit; others = others; split = refl; is_exit = h.0; are_exits = h.1 }
@@ -137,7 +137,7 @@ module _ (tree : Tree) where
 
   -- ---- closing
 
-  closed_is : (m : Machine) (state : State) (place : ℕ) (label : Label) (labels : List Label) (rest : List Instr) (is : IsState tree m state) → state.frame.labels ≡ label ∷ labels
+  closed_is : (m : Machine) (state : State) (place : ℕ) (label : ControlLabel) (labels : List ControlLabel) (rest : List Instr) (is : IsState tree m state) → state.frame.labels ≡ label ∷ labels
       → rest ≡ drop place (body_of state)
       → IsState tree (at_place place (closed m)) (record state { frame = record state.frame { labels = labels; values = state.frame.values ++ label.below; rest = rest } })
   closed_is m state place label labels rest is e here =
@@ -171,7 +171,7 @@ module _ (tree : Tree) where
       → Then tree (running (at_place place (closed m))) (leave_label state.frame.labels rest state)
   leaving m state place rest is here = from state.frame.labels refl
     where
-      from : (labels : List Label) → state.frame.labels ≡ labels → Then tree (running (at_place place (closed m))) (leave_label labels rest state)
+      from : (labels : List ControlLabel) → state.frame.labels ≡ labels → Then tree (running (at_place place (closed m))) (leave_label labels rest state)
       from [] e has = absurd has
       from (label ∷ labels) e has = closed_is m state place label labels rest is e here
 

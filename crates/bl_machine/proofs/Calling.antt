@@ -56,7 +56,7 @@ module _ (tree : Tree) where
         place = refl;
         arity = ap (λ o. (counted o).results) typed.typed;
         values = is.values ∙ sym (append-nil is.lower.values);
-        locals = ap (λ ls. ls ++ replicate (body_of tree typed.function).zeros 0) is.locals ∙ append_assoc is.lower.locals arguments (replicate (body_of tree typed.function).zeros 0)
+        locals = ap (λ ls. ls ++ replicate (body_of tree typed.function).declared_locals 0) is.locals ∙ append_assoc is.lower.locals arguments (replicate (body_of tree typed.function).declared_locals 0)
             ∙ ap (λ n. is.lower.locals ++ (arguments ++ replicate n 0)) (sym (locals_counted typed.function.code));
         exits = [];
         labels = is.labels ∙ sym (append-nil is.lower.labels);

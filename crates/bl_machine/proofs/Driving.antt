@@ -3,7 +3,7 @@ use Rattle.std.proofs.Common.{◌≡◌, ℕ, ◌+◌, ◌≤◌, true, false, L
 use Rattle.std.specs.Prelude.{IfOk, Result, Ok, Err}
 use Rattle.std.specs.List.{AllZip}
 use Rattle.std.proofs.lemmas.List.{length-map}
-use Rattle.bl_base.specs.Runs.{MemoryState, Outcome, returned, trapped, Next, goes, ends, Comes, EndsAfter, last, IsWithin, memory_of, outcome_of}
+use Rattle.bl_base.specs.Runs.{MemoryState, Outcome, returned, trapped, Next, goes, ends, StepsTo, EndsAfter, last, IsWithin, memory_of, outcome_of}
 use Rattle.bl_base.specs.declared.run.Run.{Run}
 use Rattle.bl_base.specs.declared.run.Run.TheVariants as run
 use Rattle.bl_base.specs.declared.memory.NoMemory.{NoMemory}
@@ -21,7 +21,7 @@ use Rattle.bl_reduce.proofs.Soundness.{typed_opening, preservation}
 use Rattle.bl_machine.specs.Bodies.{prepared_of}
 use Rattle.bl_machine.specs.Interpreting.{Drives, TellsMemories, has_ended, memories_in, starting, told}
 use Rattle.bl_machine.specs.Machines.{Stepped}
-use Rattle.bl_machine.specs.MatchStates.{match_states, Leads}
+use Rattle.bl_machine.specs.MatchStates.{match_states, MatchesNext}
 use Rattle.bl_machine.specs.Transitions.{advanced}
 use Rattle.bl_machine.specs.declared.machine.Machine.{Machine}
 use Rattle.bl_machine.specs.declared.machine.Progress.{Progress}
@@ -32,7 +32,7 @@ use Rattle.bl_machine.proofs.Simulation.{step_simulates}
 -- so many steps have come to a configuration that the machine stands for
 pub record Reached (tree : Tree) (function : ℕ) (start : Start) (steps : ℕ) (progress : Progress) (m : Machine) : Type 0 where
   pub config : Config
-  pub comes : Comes (source_step tree) steps (opening tree function start) config
+  pub comes : StepsTo (source_step tree) steps (opening tree function start) config
   pub matches : match_states tree progress m config
   pub results : List ValueType
   pub typed : IsTyped tree results config
@@ -71,8 +71,8 @@ begins tree function start m linked is e = subst (Reached tree function start 0 
 
 -- ---- a step
 
-module _ (tree : Tree) (function : ℕ) (start : Start) (steps : ℕ) (config : Config) (comes : Comes (source_step tree) steps (opening tree function start) config) (results : List ValueType) where
-  onward : (next : Config) → source_step tree config ≡ goes next → Comes (source_step tree) (steps + 1) (opening tree function start) next
+module _ (tree : Tree) (function : ℕ) (start : Start) (steps : ℕ) (config : Config) (comes : StepsTo (source_step tree) steps (opening tree function start) config) (results : List ValueType) where
+  onward : (next : Config) → source_step tree config ≡ goes next → StepsTo (source_step tree) (steps + 1) (opening tree function start) next
   onward next e = comes_then (source_step tree) steps 1 (opening tree function start) config next comes (next, e, refl)
 
   ended : (outcome wanted : Outcome) → source_step tree config ≡ ends outcome → outcome ≡ wanted → EndsAfter (source_step tree) (steps + 1) (opening tree function start) wanted
@@ -81,7 +81,7 @@ module _ (tree : Tree) (function : ℕ) (start : Start) (steps : ℕ) (config : 
   as_many : (states : List MemoryState) → AllZip IsMemoryState tree.memories states → length states ≡ length tree.memories
   as_many states h = sym (zip_length IsMemoryState tree.memories states h)
 
-  led : (progress : Progress) (m : Machine) (next : Next Config) → source_step tree config ≡ next → IsTypedStep tree results next → Leads tree progress m next
+  led : (progress : Progress) (m : Machine) (next : Next Config) → source_step tree config ≡ next → IsTypedStep tree results next → MatchesNext tree progress m next
       → After tree function start (steps + 1) progress m
   led Running m (goes next) e typed leads = record { config = next; comes = onward next e; matches = leads; results = results; typed = typed }
   led (Entering number) m (goes next) e typed leads = record { config = next; comes = onward next e; matches = leads; results = results; typed = typed }
@@ -117,14 +117,14 @@ is_over tree function start steps most (Trapped kind) m e le after = (steps, aft
 
 pub is_spent : (tree : Tree) (function : ℕ) (start : Start) (steps most : ℕ) (progress : Progress) (m : Machine) → steps ≡ most → Reached tree function start steps progress m
     → Drives tree function start most progress m
-is_spent tree function start steps most Running m e r = (r.config, subst (λ n. Comes (source_step tree) n (opening tree function start) r.config) e r.comes)
-is_spent tree function start steps most (Entering number) m e r = (r.config, subst (λ n. Comes (source_step tree) n (opening tree function start) r.config) e r.comes)
+is_spent tree function start steps most Running m e r = (r.config, subst (λ n. StepsTo (source_step tree) n (opening tree function start) r.config) e r.comes)
+is_spent tree function start steps most (Entering number) m e r = (r.config, subst (λ n. StepsTo (source_step tree) n (opening tree function start) r.config) e r.comes)
 is_spent tree function start steps most Returned m e r = absurd r.matches
 is_spent tree function start steps most (Trapped kind) m e r = absurd r.matches
 
 -- ---- the answer
 
-not_within : (tree : Tree) (function : ℕ) (start : Start) (steps : ℕ) (config : Config) → Comes (source_step tree) steps (opening tree function start) config
+not_within : (tree : Tree) (function : ℕ) (start : Start) (steps : ℕ) (config : Config) → StepsTo (source_step tree) steps (opening tree function start) config
     → (n : ℕ) (outcome : Outcome) → source tree function start n outcome → n ≤ steps → ⊥
 not_within tree function start steps config comes n outcome s le =
     let rest = run_after (source_step tree) steps n (opening tree function start) config outcome comes s.run in

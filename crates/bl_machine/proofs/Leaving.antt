@@ -10,7 +10,7 @@ use Rattle.bl_base.specs.Runs.{stuck, returned as returned_with}
 use Rattle.bl_base.proofs.Lists.{past_end}
 use Rattle.bl_wasm.specs.declared.instruction.Instr.{Instr}
 use Rattle.bl_wasm.specs.declared.linked.Tree.{Tree}
-use Rattle.bl_reduce.specs.Configurations.{Label, Frame, State, go, with_values}
+use Rattle.bl_reduce.specs.Configurations.{ControlLabel, Frame, State, go, with_values}
 use Rattle.bl_reduce.specs.Control.{branch_to, branch, branch_if, branch_by}
 use Rattle.bl_reduce.specs.Returns.{return_to, return}
 use Rattle.bl_machine.specs.Machines.{Stepped, running, popped, label_count, label_at, no_exit, to_label, left, resumed, returned}
@@ -27,7 +27,7 @@ use Rattle.bl_machine.proofs.Values.{Then, popping}
 -- ---- labels
 
 -- the exit of a label
-pub record Found (body : List Instr) (base : ℕ) (labels : List Label) (exits : List Exit) (l : ℕ) (label : Label) : Type 0 where
+pub record Found (body : List Instr) (base : ℕ) (labels : List ControlLabel) (exits : List Exit) (l : ℕ) (label : ControlLabel) : Type 0 where
   pub inner : List Exit
   pub exit : Exit
   pub others : List Exit
@@ -38,7 +38,7 @@ pub record Found (body : List Instr) (base : ℕ) (labels : List Label) (exits :
   pub between : List ℕ
   pub lies : under labels ≡ between ++ (label.below ++ under (drop (l + 1) labels))
 
-pub find_exit : (body : List Instr) (base : ℕ) (labels : List Label) (exits : List Exit) (l : ℕ) (label : Label) → AreExits body base labels exits → slice_get labels l ≡ Some label
+pub find_exit : (body : List Instr) (base : ℕ) (labels : List ControlLabel) (exits : List Exit) (l : ℕ) (label : ControlLabel) → AreExits body base labels exits → slice_get labels l ≡ Some label
     → Found body base labels exits l label
 find_exit body base [] exits l label h e = absurd (none-some label e)
 find_exit body base (first ∷ labels) [] l label h e = absurd h
@@ -71,7 +71,7 @@ find_exit body base (first ∷ labels) (exit ∷ exits) (suc l) label h e =
           ∙ ap (λ n. (first.below ++ f.between) ++ (label.below ++ under (drop n (first ∷ labels)))) next;
     }
 
-pub as_many : (body : List Instr) (base : ℕ) (labels : List Label) (exits : List Exit) → AreExits body base labels exits → length labels ≡ length exits
+pub as_many : (body : List Instr) (base : ℕ) (labels : List ControlLabel) (exits : List Exit) → AreExits body base labels exits → length labels ≡ length exits
 as_many body base [] [] h = refl
 as_many body base [] (exit ∷ exits) h = absurd h
 as_many body base (label ∷ labels) [] h = absurd h
@@ -84,11 +84,11 @@ module _ (tree : Tree) where
   module _ (m : Machine) (state : State) (is : IsState tree m state) where
     -- ---- a branch within the function
 
-    module _ (l : ℕ) (label : Label) (got : slice_get state.frame.labels l ≡ Some label) where
+    module _ (l : ℕ) (label : ControlLabel) (got : slice_get state.frame.labels l ≡ Some label) where
       found : Found (items_of state) (length is.lower.values) state.frame.labels is.current.exits l label
       found = find_exit (items_of state) (length is.lower.values) state.frame.labels is.current.exits l label is.current.are_exits got
 
-      abbrev outer : List Label
+      abbrev outer : List ControlLabel
       outer = drop (l + 1) state.frame.labels
 
       abbrev kept : List Exit
@@ -258,7 +258,7 @@ module _ (tree : Tree) where
   -- ---- branches
 
   -- the values that a branch takes are there
-  abbrev pub Branches : State → Option Label → Type 0
+  abbrev pub Branches : State → Option ControlLabel → Type 0
   Branches state None = Carries state.frame.arity state.frame.values
   Branches state (Some label) = Carries label.arity state.frame.values
 
@@ -278,7 +278,7 @@ module _ (tree : Tree) where
   pub branch_simulates : (m : Machine) (state : State) (l : ℕ) → IsState tree m state → Branches state (slice_get state.frame.labels l) → Then tree (branched l m) (branch l state)
   branch_simulates m state l is carries = from (slice_get state.frame.labels l) refl carries
     where
-      from : (o : Option Label) → slice_get state.frame.labels l ≡ o → Branches state o → Then tree (branched l m) (branch_to o l state)
+      from : (o : Option ControlLabel) → slice_get state.frame.labels l ≡ o → Branches state o → Then tree (branched l m) (branch_to o l state)
       from None e carries = subst (λ o. Then tree (branched_to o m) (branch_to None l state)) (sym (none_found m state is l e)) (out_of_all (l == length state.frame.labels) m state is carries)
       from (Some label) e carries = λ has. to_label_simulates m state is l label e carries
 

@@ -1,6 +1,6 @@
 -- What the interpreter answers.
 use Rattle.std.specs.Prelude.{◌≡◌, ℕ, ◌≤◌, Bool, true, false, List, [], length, map, Option, Some, None}
-use Rattle.bl_base.specs.Runs.{Outcome, returned, trapped, Comes, EndsAfter}
+use Rattle.bl_base.specs.Runs.{Outcome, returned, trapped, StepsTo, EndsAfter}
 use Rattle.bl_base.specs.declared.run.Pages.{Pages}
 use Rattle.bl_base.specs.declared.run.Run.{Run}
 use Rattle.bl_base.specs.declared.run.Run.TheVariants as run
@@ -56,8 +56,8 @@ told (Trapped kind) m = Some (trapped kind m.memories)
 -- so many steps from the opening have come so far: to another configuration, or to an end at some step before, with as many
 -- memories as the tree has
 abbrev pub Drives : Tree → ℕ → Start → ℕ → Progress → Machine → Type 0
-Drives tree function start steps Running m = (c : Config) × Comes (source_step tree) steps (opening tree function start) c
-Drives tree function start steps (Entering number) m = (c : Config) × Comes (source_step tree) steps (opening tree function start) c
+Drives tree function start steps Running m = (c : Config) × StepsTo (source_step tree) steps (opening tree function start) c
+Drives tree function start steps (Entering number) m = (c : Config) × StepsTo (source_step tree) steps (opening tree function start) c
 Drives tree function start steps Returned m =
     (n : ℕ) × EndsAfter (source_step tree) n (opening tree function start) (returned m.stack m.memories) × (n ≤ steps)
     × (length m.memories ≡ length tree.memories)

@@ -4,7 +4,7 @@ use Rattle.std.specs.Prelude.{◌≡◌, ℕ, ◌+◌, List, [], ◌∷◌, ◌+
 use Rattle.bl_base.specs.Runs.{Next, goes, ends, returned, trapped}
 use Rattle.bl_wasm.specs.declared.instruction.Instr.{Instr}
 use Rattle.bl_wasm.specs.declared.linked.Tree.{Tree}
-use Rattle.bl_reduce.specs.Configurations.{Store, Label, Frame, State, Config, entering, running}
+use Rattle.bl_reduce.specs.Configurations.{Store, ControlLabel, Frame, State, Config, entering, running}
 use Rattle.bl_machine.specs.declared.machine.Exit.{Exit}
 use Rattle.bl_machine.specs.declared.machine.Activation.{Activation}
 use Rattle.bl_machine.specs.declared.machine.Machine.{Machine}
@@ -22,7 +22,7 @@ abbrev pub pile_of : Machine → Pile
 pile_of m = record { values = m.stack; locals = m.locals; labels = m.labels }
 
 -- the values of a function below its innermost label, topmost first
-abbrev pub under : List Label → List ℕ
+abbrev pub under : List ControlLabel → List ℕ
 under [] = []
 under (label ∷ labels) = label.below ++ under labels
 
@@ -31,13 +31,13 @@ abbrev pub values_of : Frame → List ℕ
 values_of frame = frame.values ++ under frame.labels
 
 -- a label of a function whose values begin at a height, with the labels round it
-pub record IsExit (body : List Instr) (base : ℕ) (label : Label) (outer : List Label) (exit : Exit) : Type 0 where
+pub record IsExit (body : List Instr) (base : ℕ) (label : ControlLabel) (outer : List ControlLabel) (exit : Exit) : Type 0 where
   pub arity : exit.arity ≡ label.arity
   pub place : label.continuation ≡ drop exit.place body
   pub height : exit.height ≡ base + length (label.below ++ under outer)
 
 -- labels of a function, innermost first
-abbrev pub AreExits : List Instr → ℕ → List Label → List Exit → Type 0
+abbrev pub AreExits : List Instr → ℕ → List ControlLabel → List Exit → Type 0
 AreExits body base [] [] = Unit {0}
 AreExits body base (label ∷ labels) (exit ∷ exits) = IsExit body base label labels exit × AreExits body base labels exits
 AreExits body base labels exits = ⊥
@@ -95,12 +95,12 @@ match_states tree (Entering called) m (entering store number arguments callers) 
 match_states tree progress m config = ⊥
 
 -- the machine has come where a step of the rules leads
-abbrev pub Leads : Tree → Progress → Machine → Next Config → Type 0
-Leads tree Running m (goes config) = match_states tree Running m config
-Leads tree (Entering number) m (goes config) = match_states tree (Entering number) m config
-Leads tree Returned m (ends outcome) = outcome ≡ returned m.stack m.memories
-Leads tree (Trapped kind) m (ends outcome) = outcome ≡ trapped kind m.memories
-Leads tree progress m next = ⊥
+abbrev pub MatchesNext : Tree → Progress → Machine → Next Config → Type 0
+MatchesNext tree Running m (goes config) = match_states tree Running m config
+MatchesNext tree (Entering number) m (goes config) = match_states tree (Entering number) m config
+MatchesNext tree Returned m (ends outcome) = outcome ≡ returned m.stack m.memories
+MatchesNext tree (Trapped kind) m (ends outcome) = outcome ≡ trapped kind m.memories
+MatchesNext tree progress m next = ⊥
 
 abbrev pub simulates : Tree → Stepped → Next Config → Type 0
-simulates tree stepped next = Leads tree stepped.progress stepped.machine next
+simulates tree stepped next = MatchesNext tree stepped.progress stepped.machine next

@@ -305,7 +305,7 @@ impl Machine {
         ensures { Gives result self.new (entered number body.now self.old) }
     {
         let locals = self.locals.len().saturating_sub(body.counts.params);
-        for _ in 0..body.zeros {
+        for _ in 0..body.declared_locals {
             self.locals.push(0)?;
         }
         self.current = Activation {

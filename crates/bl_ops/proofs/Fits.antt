@@ -3,7 +3,7 @@ use Rattle.std.proofs.Common.{◌≡◌, ℕ, zero, suc, ◌+◌, ◌-◌, ◌*�
 use Rattle.std.specs.Prelude.{IfSome, int_div, int_rem, unsigned_abs}
 use Rattle.bl_base.specs.Fits.{ArgumentFits}
 use Rattle.bl_ops.specs.Numerics.{meaning}
-use Rattle.bl_ops.specs.Access.{type_of, width_of, extended, narrowed}
+use Rattle.bl_ops.specs.Access.{access_type, width_of, extended, narrowed}
 use Rattle.bl_ops.specs.declared.access.AccessKind.{AccessKind}
 use Rattle.bl_ops.specs.declared.access.AccessKind.TheVariants.{I32Load}
 use Rattle.bl_ops.specs.Table.{row_of}
@@ -147,7 +147,7 @@ meaning_fits op a b c p q = search (arith, bounds)
 
 -- ---- the accesses
 
-pub load_fits : (kind : AccessKind) (number : ℕ) → number < 2 ^ (8 * width_of kind) → ArgumentFits (type_of kind) (extended kind number)
+pub load_fits : (kind : AccessKind) (number : ℕ) → number < 2 ^ (8 * width_of kind) → ArgumentFits (access_type kind) (extended kind number)
 load_fits I32Load number h = h
 load_fits kind number h = search (arith, bounds)
 

@@ -46,12 +46,12 @@ access_of I64Store16 = access 0x3D I64 2 Store
 access_of I64Store32 = access 0x3E I64 4 Store
 
 -- the byte of an access in the binary format
-abbrev pub code_of : AccessKind → ℕ
-code_of kind = (access_of kind).code
+abbrev pub access_code : AccessKind → ℕ
+access_code kind = (access_of kind).code
 
 -- the type of its value
-abbrev pub type_of : AccessKind → ValueType
-type_of kind = (access_of kind).type
+abbrev pub access_type : AccessKind → ValueType
+access_type kind = (access_of kind).type
 
 -- how many bytes it reads or writes
 abbrev pub width_of : AccessKind → ℕ
@@ -80,7 +80,7 @@ extended_by Store m n bytes = iextend_u m n bytes
 
 -- the value that a load makes of the number that its bytes are, little endian
 abbrev pub extended : AccessKind → ℕ → ℕ
-extended kind bytes = extended_by (access_of kind).way (8 * width_of kind) (bits_of (type_of kind)) bytes
+extended kind bytes = extended_by (access_of kind).way (8 * width_of kind) (bits_of (access_type kind)) bytes
 
 -- the number that the bytes of a store are, little endian
 abbrev pub narrowed : AccessKind → ℕ → ℕ
@@ -91,5 +91,5 @@ abbrev pub kinds : List AccessKind
 kinds = I32Load ∷ I64Load ∷ I32Load8S ∷ I32Load8U ∷ I32Load16S ∷ I32Load16U ∷ I64Load8S ∷ I64Load8U ∷ I64Load16S ∷ I64Load16U ∷ I64Load32S ∷ I64Load32U ∷ I32Store ∷ I64Store ∷ I32Store8 ∷ I32Store16 ∷ I64Store8 ∷ I64Store16 ∷ I64Store32 ∷ []
 
 -- the kind of a code, where there is one
-abbrev pub kind_of : ℕ → Option AccessKind
-kind_of code = find (λ kind. code_of kind == code) kinds
+abbrev pub access_kind : ℕ → Option AccessKind
+access_kind code = find (λ kind. access_code kind == code) kinds

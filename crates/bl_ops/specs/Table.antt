@@ -87,15 +87,15 @@ row_of Select = None
 row_of Outside = None
 
 -- the code of an integer operator
-abbrev pub code_of : Op → Option ℕ
-code_of op = option_map (λ row. row.code) (row_of op)
+abbrev pub operator_code : Op → Option ℕ
+operator_code op = option_map (λ row. row.code) (row_of op)
 
 -- the code of an operator in an image: that of an integer operator is its own
 abbrev pub image_code_of : Op → ℕ
 image_code_of Move = 0x00
 image_code_of Outside = 0x01
 image_code_of Select = 0x1B
-image_code_of op = unwrap_or (code_of op) 0
+image_code_of op = unwrap_or (operator_code op) 0
 
 -- the integer operators in the order of their codes
 abbrev pub operators : List Op

@@ -1,6 +1,6 @@
 //! The kinds of accesses to memory.
 ghost use Rattle.std.specs.Prelude.{◌≡◌, ℕ, ◌*◌, ◌^◌, ◌<◌, IsTrue, IfSome};
-ghost use Rattle.bl_ops.specs.Access.{code_of, extended, is_load, narrowed, type_of, width_of};
+ghost use Rattle.bl_ops.specs.Access.{access_code, extended, is_load, narrowed, access_type, width_of};
 ghost use Rattle.bl_ops.specs.declared.access.AccessKind.{AccessKind};
 
 use bl_base::ValueType;
@@ -105,22 +105,22 @@ macro_rules! by_access {
 impl AccessKind {
     /// The byte of the access in the binary format.
     pub fn code(self) -> u8
-        ensures { result ≡ code_of self }
+        ensures { result ≡ access_code self }
     {
         by_access!(code(self))
     }
 
     /// The access of that code; None where the byte is the code of none.
     pub fn by_code(code: u8) -> Option<AccessKind>
-        ensures found { IfSome result (λ kind. code_of kind ≡ code) }
-        ensures only { (kind : AccessKind) → code_of kind ≡ code → result ≡ Some kind }
+        ensures found { IfSome result (λ kind. access_code kind ≡ code) }
+        ensures only { (kind : AccessKind) → access_code kind ≡ code → result ≡ Some kind }
     {
         by_access!(by_code(code))
     }
 
     /// The type of the value that is loaded or stored.
     pub fn value_type(self) -> ValueType
-        ensures { result ≡ type_of self }
+        ensures { result ≡ access_type self }
     {
         by_access!(value_type(self))
     }

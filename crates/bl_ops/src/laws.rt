@@ -1,7 +1,7 @@
 //! Laws of the operators. Each is the contract of a function that does nothing.
 ghost use Rattle.std.specs.Prelude.{◌≡◌, ℕ, ◌*◌, ◌^◌, ◌<◌, IfSome, IsTrue, map};
 ghost use Rattle.bl_base.specs.Fits.{ArgumentFits};
-ghost use Rattle.bl_ops.specs.Access.{code_of, extended, kind_of, narrowed, type_of, width_of};
+ghost use Rattle.bl_ops.specs.Access.{access_code, extended, access_kind, narrowed, access_type, width_of};
 ghost use Rattle.bl_ops.specs.Numerics.{meaning};
 ghost use Rattle.bl_ops.specs.Table.{image_code_of, image_operator_of, operator_of, rise, row_of, rows};
 
@@ -28,13 +28,13 @@ pub fn values_fit(op: Op, a: u64, b: u64, c: u64)
 
 /// A code that is taken to its access and back is the same code.
 pub fn access_codes_return(kind: AccessKind)
-    ensures { kind_of (code_of kind) ≡ Some kind }
+    ensures { access_kind (access_code kind) ≡ Some kind }
 {}
 
 /// What a load makes of its bytes is a value of its type, and what a store makes of a value are bytes of its width.
 #[tactic(auto, using(crate::proofs::Fits::load_fits, crate::proofs::Fits::store_fits))]
 pub fn accesses_fit(kind: AccessKind, number: u64)
     ensures load { number < 2 ^ (8 * width_of kind)
-        → ArgumentFits (type_of kind) (extended kind number) }
+        → ArgumentFits (access_type kind) (extended kind number) }
     ensures store { narrowed kind number < 2 ^ (8 * width_of kind) }
 {}

@@ -1,7 +1,7 @@
 //! The table of the operators, and the calls that it makes.
 ghost use Rattle.std.specs.Prelude.{◌≡◌, IfSome, ℕ};
 ghost use Rattle.bl_ops.specs.Numerics.{meaning, outside, select, traps};
-ghost use Rattle.bl_ops.specs.Table.{code_of, image_code_of, row_of, rows};
+ghost use Rattle.bl_ops.specs.Table.{operator_code, image_code_of, row_of, rows};
 ghost use Rattle.bl_ops.specs.declared.op.Op.{Op};
 
 use crate::group::{
@@ -172,8 +172,8 @@ pub fn table() -> OpTable<66>
 
 /// The integer operator of that code; None where the byte is the code of none.
 pub fn by_code(code: u8) -> Option<Op>
-    ensures found { IfSome result (λ op. code_of op ≡ Some code) }
-    ensures only { (op : Op) → code_of op ≡ Some code → result ≡ Some op }
+    ensures found { IfSome result (λ op. operator_code op ≡ Some code) }
+    ensures only { (op : Op) → operator_code op ≡ Some code → result ≡ Some op }
 {
     by_row!(by_code(code))
 }

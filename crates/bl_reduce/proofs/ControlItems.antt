@@ -20,7 +20,7 @@ use Rattle.bl_wasm.specs.declared.types.WasmType.{WasmType}
 use Rattle.bl_wasm.specs.declared.types.WasmType.TheVariants.{I32}
 use Rattle.bl_wasm.specs.declared.linked.Signature.{Signature}
 use Rattle.bl_wasm.specs.declared.linked.Tree.{Tree}
-use Rattle.bl_reduce.specs.Configurations.{Store, Label, Frame, State, Config, go, with_values}
+use Rattle.bl_reduce.specs.Configurations.{Store, ControlLabel, Frame, State, Config, go, with_values}
 use Rattle.bl_reduce.specs.Control.{items_behind_end, items_of_else, enter_with, enter_block, enter_loop, enter_if, leave_label, branch_to, branch, branch_if, branch_by}
 use Rattle.bl_reduce.specs.Returns.{return_to, return}
 use Rattle.bl_reduce.specs.TypedConfigurations.{IsValue, IsStore, IsRest, IsLabel, AreLabels, BeginsWith, AreCallers, IsTypedStep}
@@ -32,8 +32,8 @@ use Rattle.bl_base.proofs.Lists.{zip_append, zip_front, zip_back, zip_unmap, zip
 
 module _ (c : Context) (body : List Instr) where
   -- a branch within the function
-  pub record ToLabel (open_ones : List Open) (frame_labels : List Label) (l : ℕ) (types : List WasmType) : Type 0 where
-    pub label : Label
+  pub record ToLabel (open_ones : List Open) (frame_labels : List ControlLabel) (l : ℕ) (types : List WasmType) : Type 0 where
+    pub label : ControlLabel
     pub one : Open
     pub outer : List Open
     pub got : slice_get frame_labels l ≡ Some label
@@ -42,13 +42,13 @@ module _ (c : Context) (body : List Instr) where
     pub takes : taken_by one.kind one.type ≡ types
 
   -- a branch out of it
-  pub record OutOfAll (frame_labels : List Label) (l : ℕ) (types : List WasmType) : Type 0 where
+  pub record OutOfAll (frame_labels : List ControlLabel) (l : ℕ) (types : List WasmType) : Type 0 where
     pub got : slice_get frame_labels l ≡ None
     pub last : l ≡ length frame_labels
     pub takes : c.results ≡ types
 
   -- where a label that the typing names leads
-  pub find_label : (open_ones : List Open) (frame_labels : List Label) (l : ℕ) (types : List WasmType) → AreLabels c body open_ones frame_labels
+  pub find_label : (open_ones : List Open) (frame_labels : List ControlLabel) (l : ℕ) (types : List WasmType) → AreLabels c body open_ones frame_labels
       → slice_get (labels c open_ones) l ≡ Some types → ToLabel open_ones frame_labels l types ⊎ OutOfAll frame_labels l types
   find_label [] [] zero types h e = inr (record { got = refl; last = refl; takes = same_Some c.results types e })
   find_label [] [] (suc l) types h e = absurd (none-some types e)
@@ -273,7 +273,7 @@ module _ (tree : Tree) (results : List ValueType) (type : Signature) (open_ones 
 
 module _ (tree : Tree) (results : List ValueType) (type : Signature) (one : Open) (outer : List Open) where
   -- the end of a construct, at its results
-  pub leave_steps : (frame_labels : List Label) (rest : List Instr) (types : List WasmType) (state : State)
+  pub leave_steps : (frame_labels : List ControlLabel) (rest : List Instr) (types : List WasmType) (state : State)
       → AreLabels (context tree type state.frame.function) state.frame.function.code.items (one ∷ outer) frame_labels
       → Ready tree results type (one ∷ outer) (reverse types) state
       → IsRest (context tree type state.frame.function) state.frame.function.code.items outer (one.lower ++ types) rest

@@ -10,7 +10,7 @@ use Rattle.bl_base.specs.Runs.{MemoryState, Next}
 use Rattle.bl_base.specs.declared.names.ValueType.{ValueType}
 use Rattle.bl_base.specs.declared.trap.Trap.TheVariants.{OutOfBounds}
 use Rattle.bl_ops.proofs.Fits.{load_fits}
-use Rattle.bl_ops.specs.Access.{type_of, width_of, extended, narrowed}
+use Rattle.bl_ops.specs.Access.{access_type, width_of, extended, narrowed}
 use Rattle.bl_ops.specs.declared.access.AccessKind.{AccessKind}
 use Rattle.bl_wasm.specs.Linked.{IsLinked, IsFunction, IsMemory, seen}
 use Rattle.bl_wasm.specs.Typing.{Open, Arrow, integer}
@@ -132,27 +132,27 @@ module _ (tree : Tree) (linked : IsLinked tree) (results : List ValueType) (type
 
   -- what a load makes of the bytes of a memory
   read_value : (kind : AccessKind) (address : ℕ) (defined : Memory) (memory : MemoryState) → IsMemoryState defined memory
-      → IsValue (integer (type_of kind)) (extended kind (number_of (read memory address (width_of kind))))
+      → IsValue (integer (access_type kind)) (extended kind (number_of (read memory address (width_of kind))))
   read_value kind address defined memory is =
       let bytes = All-take (λ byte. byte < 2 ^ 8) (width_of kind) (drop address memory.bytes) (All-drop (λ byte. byte < 2 ^ 8) address memory.bytes is.bytes) in
       let long : length (read memory address (width_of kind)) ≤ width_of kind = omega (arith, length-take (width_of kind) (drop address memory.bytes)) in
-      integer_value (type_of kind) (extended kind (number_of (read memory address (width_of kind))))
+      integer_value (access_type kind) (extended kind (number_of (read memory address (width_of kind))))
       (load_fits kind (number_of (read memory address (width_of kind))) (number_below (read memory address (width_of kind)) (width_of kind) bytes long))
 
-  loading : (kind : AccessKind) (address : ℕ) (low : List WasmType) (state : State) → ReadyAt low state → OntoAt (integer (type_of kind) ∷ low) state → Uses state (load_at kind address state)
+  loading : (kind : AccessKind) (address : ℕ) (low : List WasmType) (state : State) → ReadyAt low state → OntoAt (integer (access_type kind) ∷ low) state → Uses state (load_at kind address state)
   loading kind address low state ready on number defined memory e f is =
       keeping_within memory address (width_of kind) low state (push (extended kind (number_of (read memory address (width_of kind)))) state) ready
-      (λ le. pushing tree results type open_ones low (integer (type_of kind)) (extended kind (number_of (read memory address (width_of kind)))) state ready
+      (λ le. pushing tree results type open_ones low (integer (access_type kind)) (extended kind (number_of (read memory address (width_of kind)))) state ready
       (read_value kind address defined memory is) on)
 
   pub load_steps : (kind : AccessKind) (argument : MemoryArgument) (from to : List WasmType) (state : State) → 1 ≤ seen state.frame.function.memory
-      → Arrow (I32 ∷ []) (integer (type_of kind) ∷ []) from to → ReadyAt (reverse from) state → BeginsWith tree type open_ones to state.frame → Steps (load kind argument state)
+      → Arrow (I32 ∷ []) (integer (access_type kind) ∷ []) from to → ReadyAt (reverse from) state → BeginsWith tree type open_ones to state.frame → Steps (load kind argument state)
   load_steps kind argument from to state some a ready begins =
       popping tree results type open_ones (reverse a.lower) I32 state (λ address state. with_memory state (load_at kind (address + argument.offset) state))
       (taken tree results type open_ones from a.lower (I32 ∷ []) state a.before ready)
       (λ address below h r. using_memory (with_values below state) (reverse a.lower) (load_at kind (address + argument.offset) (with_values below state)) some r
       (loading kind (address + argument.offset) (reverse a.lower) (with_values below state) r
-      (onto tree results type open_ones to a.lower (integer (type_of kind) ∷ []) (with_values below state) a.behind begins)))
+      (onto tree results type open_ones to a.lower (integer (access_type kind) ∷ []) (with_values below state) a.behind begins)))
 
   storing : (kind : AccessKind) (value address : ℕ) (low : List WasmType) (state : State) → ReadyAt low state → OntoAt low state → Uses state (store_at kind value address state)
   storing kind value address low state ready on number defined memory e f is =
@@ -164,11 +164,11 @@ module _ (tree : Tree) (linked : IsLinked tree) (results : List ValueType) (type
       (record { stack = on.stack; turned = on.turned; begins = on.begins }))
 
   pub store_steps : (kind : AccessKind) (argument : MemoryArgument) (from to : List WasmType) (state : State) → 1 ≤ seen state.frame.function.memory
-      → Arrow (I32 ∷ integer (type_of kind) ∷ []) [] from to → ReadyAt (reverse from) state → BeginsWith tree type open_ones to state.frame → Steps (store kind argument state)
+      → Arrow (I32 ∷ integer (access_type kind) ∷ []) [] from to → ReadyAt (reverse from) state → BeginsWith tree type open_ones to state.frame → Steps (store kind argument state)
   store_steps kind argument from to state some a ready begins =
-      popping tree results type open_ones (I32 ∷ reverse a.lower) (integer (type_of kind)) state
+      popping tree results type open_ones (I32 ∷ reverse a.lower) (integer (access_type kind)) state
       (λ value state. pop state (λ address state. with_memory state (store_at kind value (address + argument.offset) state)))
-      (taken tree results type open_ones from a.lower (I32 ∷ integer (type_of kind) ∷ []) state a.before ready)
+      (taken tree results type open_ones from a.lower (I32 ∷ integer (access_type kind) ∷ []) state a.before ready)
       (λ value below h r. popping tree results type open_ones (reverse a.lower) I32 (with_values below state)
       (λ address state. with_memory state (store_at kind value (address + argument.offset) state)) r
       (λ address below h r. using_memory (with_values below state) (reverse a.lower) (store_at kind value (address + argument.offset) (with_values below state)) some r

@@ -5,7 +5,7 @@ use Rattle.std.proofs.lemmas.List.Elements.{All-drop, All-get_or}
 use Rattle.std.proofs.lemmas.Option.{slice_get-map}
 use Rattle.std.specs.Prelude.{option_map}
 use Rattle.bl_base.specs.Fits.{ArgumentFits, LiesIn, PatchFits}
-use Rattle.bl_base.specs.Runs.{MemoryState, Next, goes, ends, stuck, HasStep, Comes}
+use Rattle.bl_base.specs.Runs.{MemoryState, Next, goes, ends, stuck, HasStep, StepsTo}
 use Rattle.bl_base.specs.declared.names.ValueType.{ValueType}
 use Rattle.bl_base.specs.declared.start.Patch.{Patch}
 use Rattle.bl_base.specs.declared.start.Start.{Start}
@@ -170,7 +170,7 @@ module _ (tree : Tree) (linked : IsLinked tree) (results : List ValueType) where
   at_next next config e h = subst Steps e h
 
   -- every configuration of a run from what is typed is typed
-  pub typed_run : (n : ℕ) (from to : Config) → IsTyped tree results from → Comes (source_step tree) n from to → IsTyped tree results to
+  pub typed_run : (n : ℕ) (from to : Config) → IsTyped tree results from → StepsTo (source_step tree) n from to → IsTyped tree results to
   typed_run zero from to is comes = subst (IsTyped tree results) comes is
   typed_run (suc n) from to is comes = typed_run n comes.0 to (at_next (source_step tree from) comes.0 comes.1 (preservation from is)) comes.2
 
@@ -234,7 +234,7 @@ module _ (tree : Tree) (linked : IsLinked tree) where
   }
 
   -- no run from such a start gets stuck
-  pub never_stuck : (number : ℕ) (start : Start) → IsStart tree number start → (n : ℕ) (config : Config) → Comes (source_step tree) n (opening tree number start) config
+  pub never_stuck : (number : ℕ) (start : Start) → IsStart tree number start → (n : ℕ) (config : Config) → StepsTo (source_step tree) n (opening tree number start) config
       → HasStep (source_step tree config)
   never_stuck number start is n config comes =
       progress tree linked is.type.results config (typed_run tree linked is.type.results n (opening tree number start) config (typed_opening number start is) comes)

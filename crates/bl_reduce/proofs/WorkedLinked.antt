@@ -4,7 +4,7 @@ use Rattle.std.specs.List.{All}
 use Rattle.std.proofs.lemmas.List.Elements.{All-nil, All-cons}
 use Rattle.std.proofs.lemmas.Option.{none-some}
 use Rattle.bl_base.specs.Fits.{ArgumentFits, PatchFits}
-use Rattle.bl_base.specs.Runs.{Comes, HasStep}
+use Rattle.bl_base.specs.Runs.{StepsTo, HasStep}
 use Rattle.bl_base.specs.declared.names.Label.TheVariants as label
 use Rattle.bl_base.specs.declared.names.ValueType.TheVariants as value
 use Rattle.bl_base.specs.declared.start.Start.{Start}
@@ -134,5 +134,5 @@ is_start = record {
   fits = record { arguments = (omega arith, tt); patches = All-nil (PatchFits (0 ∷ [])) };
 }
 
-has_step : (n : ℕ) (config : Config) → Comes (source_step tree) n (opening tree 0 start) config → HasStep (source_step tree config)
+has_step : (n : ℕ) (config : Config) → StepsTo (source_step tree) n (opening tree 0 start) config → HasStep (source_step tree config)
 has_step n config comes = never_stuck tree is_linked 0 start is_start n config comes

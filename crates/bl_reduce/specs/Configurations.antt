@@ -13,7 +13,7 @@ pub record Store : Type 0 where
 
 -- a block, loop or if that was entered: how many values a branch to it takes, what is executed after such a branch, and the
 -- values below it, topmost first (section 4.2.12)
-pub record Label : Type 0 where
+pub record ControlLabel : Type 0 where
   pub arity : ℕ
   pub continuation : List Instr
   pub below : List ℕ
@@ -25,7 +25,7 @@ pub record Frame : Type 0 where
   pub function : Function
   pub arity : ℕ
   pub locals : List ℕ
-  pub labels : List Label
+  pub labels : List ControlLabel
   pub values : List ℕ
   pub rest : List Instr
 

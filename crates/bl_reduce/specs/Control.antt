@@ -7,7 +7,7 @@ use Rattle.bl_wasm.specs.declared.instruction.Instr.{Instr}
 use Rattle.bl_wasm.specs.declared.instruction.Instr.TheVariants.{Loop, Else, End}
 use Rattle.bl_wasm.specs.declared.types.BlockType.{BlockType}
 use Rattle.bl_wasm.specs.declared.types.FuncType.{FuncType}
-use Rattle.bl_reduce.specs.Configurations.{Label, State, Config, go, pop}
+use Rattle.bl_reduce.specs.Configurations.{ControlLabel, State, Config, go, pop}
 use Rattle.bl_reduce.specs.Returns.{return}
 
 -- ---- the parts of a construct in a flat list of items
@@ -54,7 +54,7 @@ enter_if type state = pop state (λ condition state.
     if condition == 0 then enter_block type (items_of_else [] state.frame.rest) state else enter_block type state.frame.rest state)
 
 -- the end of a block, loop or part of an if is reached: its label is taken off, and its values are left
-abbrev pub leave_label : List Label → List Instr → State → Next Config
+abbrev pub leave_label : List ControlLabel → List Instr → State → Next Config
 leave_label [] rest state = stuck
 leave_label (label ∷ labels) rest state = go (record state {
   frame = record state.frame {
@@ -76,7 +76,7 @@ reach_else state = leave_label state.frame.labels (items_behind_end [] state.fra
 
 -- to a label of the frame: the labels within go with it, and with their values; or to the outermost one, which is the
 -- function's
-abbrev pub branch_to : Option Label → ℕ → State → Next Config
+abbrev pub branch_to : Option ControlLabel → ℕ → State → Next Config
 branch_to (Some label) l state = go (record state {
   frame = record state.frame {
     labels = drop (l + 1) state.frame.labels;

@@ -16,7 +16,7 @@ use Rattle.bl_wasm.specs.declared.linked.Function.{Function}
 use Rattle.bl_wasm.specs.declared.linked.Global.{Global}
 use Rattle.bl_wasm.specs.declared.linked.Memory.{Memory}
 use Rattle.bl_wasm.specs.declared.linked.Tree.{Tree}
-use Rattle.bl_reduce.specs.Configurations.{Store, Label, Frame, State, Config, entering, running}
+use Rattle.bl_reduce.specs.Configurations.{Store, ControlLabel, Frame, State, Config, entering, running}
 
 -- ---- values and stores
 
@@ -58,13 +58,13 @@ pub record IsRest (c : Context) (body : List Instr) (open_ones : List Open) (sta
 
 -- a label is that of an open construct: a branch takes its types, and goes on at a place outside of it where they lie on the
 -- operands below it
-pub record IsLabel (c : Context) (body : List Instr) (one : Open) (outer : List Open) (label : Label) : Type 0 where
+pub record IsLabel (c : Context) (body : List Instr) (one : Open) (outer : List Open) (label : ControlLabel) : Type 0 where
   pub arity : label.arity ≡ length (taken_by one.kind one.type)
   pub continuation : IsRest c body outer (one.lower ++ taken_by one.kind one.type) label.continuation
   pub below : AreValues one.lower label.below
 
 -- labels are those of the open constructs, innermost first
-abbrev pub AreLabels : Context → List Instr → List Open → List Label → Type 0
+abbrev pub AreLabels : Context → List Instr → List Open → List ControlLabel → Type 0
 AreLabels c body [] [] = Unit {0}
 AreLabels c body (one ∷ outer) (label ∷ labels) = IsLabel c body one outer label × AreLabels c body outer labels
 AreLabels c body open_ones labels = ⊥

@@ -1,6 +1,6 @@
 //! Laws of runs. Each function is its contract alone.
 ghost use Rattle.std.specs.Prelude.{◌≡◌, ℕ, List as Listed};
-ghost use Rattle.bl_base.specs.Runs.{Comes, HasStep, Next, Outcome, ends, goes};
+ghost use Rattle.bl_base.specs.Runs.{StepsTo, HasStep, Next, Outcome, ends, goes};
 ghost use Rattle.bl_base.specs.declared.names.ValueType.{ValueType};
 ghost use Rattle.bl_base.specs.declared.start.Start.{Start};
 ghost use Rattle.bl_wasm.specs.Linked.{IsLinked};
@@ -28,7 +28,7 @@ pub fn one_outcome()
 pub fn no_run_is_stuck()
     ensures { (tree : Tree) (function : ℕ) (start : Start) (n : ℕ) (c : Config)
         → IsLinked tree → IsStart tree function start
-        → Comes (source_step tree) n (opening tree function start) c → HasStep (source_step tree c) }
+        → StepsTo (source_step tree) n (opening tree function start) c → HasStep (source_step tree c) }
 {}
 
 /// The entering of a function with a start that fits is typed.

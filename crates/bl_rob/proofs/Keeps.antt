@@ -3,7 +3,7 @@ use Rattle.std.proofs.Common.{◌≡◌, ℕ, zero, suc, ◌+◌, Bool, true, fa
 use Rattle.std.specs.Prelude.{if◌then◌else◌, slice_get, nat_lt}
 use Rattle.std.proofs.lemmas.List.{append-nil}
 use Rattle.bl_base.specs.Quantity.{most_calls}
-use Rattle.bl_base.specs.Runs.{Next, goes, ends, stuck, Comes, EndsAfter, last}
+use Rattle.bl_base.specs.Runs.{Next, goes, ends, stuck, StepsTo, EndsAfter, last}
 use Rattle.bl_base.proofs.RunLemmas.{comes_then, comes_to_end}
 use Rattle.bl_base.specs.declared.start.Start.{Start}
 use Rattle.bl_base.specs.declared.trap.Trap.{Trap}
@@ -267,16 +267,16 @@ module _ (Q : Program) (c : Config) (s : State) (r : s.registers ≡ c.registers
 
 -- where the plain run is after so many commands
 pub data Ran (Q : Program) (from : Plain) (n : ℕ) (c : Config) : Type 0 where
-  runs : (t : Plain) → c ≡ config_of t → Comes (plain_step Q) n from t → Ran Q from n c
-  ended : (t : Plain) (end : End) (before : ℕ) → n ≡ suc before → Comes (plain_step Q) before from t → c.registers ≡ t.registers → c.space ≡ t.space
+  runs : (t : Plain) → c ≡ config_of t → StepsTo (plain_step Q) n from t → Ran Q from n c
+  ended : (t : Plain) (end : End) (before : ℕ) → n ≡ suc before → StepsTo (plain_step Q) before from t → c.registers ≡ t.registers → c.space ≡ t.space
       → c.front.end ≡ Some end → EndsAfter (plain_step Q) n from (outcome_by Q (state_of c) end) → Ran Q from n c
 
 module _ (Q : Program) (from : Plain) where
-  one_more : (n : ℕ) (t : Plain) (there : Type 0) (d : Config) (x : Next Plain) → plain_step Q t ≡ x → Comes (plain_step Q) n from t → there → Follows Q t d there x
+  one_more : (n : ℕ) (t : Plain) (there : Type 0) (d : Config) (x : Next Plain) → plain_step Q t ≡ x → StepsTo (plain_step Q) n from t → there → Follows Q t d there x
       → Ran Q from (suc n) d
   one_more n t there d (goes u) e comes h f =
       let next : n + 1 ≡ suc n = omega arith in
-      runs u f (subst (λ k. Comes (plain_step Q) k from u) next (comes_then (plain_step Q) n 1 from t u comes (u, e, refl)))
+      runs u f (subst (λ k. StepsTo (plain_step Q) k from u) next (comes_then (plain_step Q) n 1 from t u comes (u, e, refl)))
   one_more n t there d (ends outcome) e comes h f =
       let next : n + 1 ≡ suc n = omega arith in
       ended t f.end n refl comes f.registers f.space f.front

@@ -13,7 +13,7 @@ use Rattle.bl_seq.proofs.Ending.{ends_whole}
 use Rattle.bl_rob.specs.CallResults.{Executes, Steps}
 use Rattle.bl_rob.specs.Machines.{State, end_in, opening, outcome_by}
 use Rattle.bl_rob.specs.Observed.{HasEnded, IsConsistent_by}
-use Rattle.bl_rob.specs.Reached.{IsReached, Leads, more, stays}
+use Rattle.bl_rob.specs.Reached.{IsReached, DirectivesLead, more, stays}
 use Rattle.bl_rob.specs.declared.directive.Directive.{Directive}
 use Rattle.bl_rob.specs.declared.directive.End.{End}
 use Rattle.bl_rob.specs.declared.directive.End.TheVariants as ending
@@ -26,7 +26,7 @@ module _ (most : ℕ) (program : Program) where
   -- the opening is reached
   pub opened : (function : ℕ) (start : Start) (s : State) → IsStart program function start → s ≡ opening program function start → IsReached most program s
   opened function start s fits is =
-      record { function = function; start = start; fits = fits; leads = subst (Leads most program (opening program function start)) (sym is) stays }
+      record { function = function; start = start; fits = fits; leads = subst (DirectivesLead most program (opening program function start)) (sym is) stays }
 
   -- what a step leaves is reached
   pub steps_reach : (old new : State) (d : Directive) (result : Result Observation StepError) → IsReached most program old → Steps most program d old result new → IsReached most program new
@@ -35,7 +35,7 @@ module _ (most : ℕ) (program : Program) where
   steps_reach old new d (Err Memory) r h = subst (IsReached most program) (sym h.1) r
 
   module _ (function : ℕ) (start : Start) where
-    kept : (s : State) → Leads most program (opening program function start) s → Kept program (plain_opening program function start) s
+    kept : (s : State) → DirectivesLead most program (opening program function start) s → Kept program (plain_opening program function start) s
     kept _ stays = opening_kept program function start
     kept _ (more s t d observation leads is) = subst (Holds (Kept program (plain_opening program function start))) is (step_ok program (plain_opening program function start) most s d (kept s leads))
 

@@ -1,6 +1,6 @@
 -- Lists of directives: where they lead and what is observed; consistency with the plain run; and equal observations.
 use Rattle.std.specs.Prelude.{◌≡◌, ◌≤◌, ℕ, suc, Contains, List, [], ◌∷◌, Option, Some, None}
-use Rattle.bl_base.specs.Runs.{Comes, EndsAfter}
+use Rattle.bl_base.specs.Runs.{StepsTo, EndsAfter}
 use Rattle.bl_base.specs.declared.start.Start.{Start}
 use Rattle.bl_cmd.specs.Layout.{result}
 use Rattle.bl_cmd.specs.Outcomes.{Agree}
@@ -58,7 +58,7 @@ pub record IsAlike (s : State) (plain : Plain) : Type 0 where
 -- the plain run comes in so many steps to a state with the same registers and memories
 pub record IsComeTo (program : Program) (from : Plain) (s : State) (steps : ℕ) : Type 0 where
   pub plain : Plain
-  pub comes : Comes (plain_step program) steps from plain
+  pub comes : StepsTo (plain_step program) steps from plain
   pub alike : IsAlike s plain
 
 -- a machine that hasn't ended is where the plain run is after as many commands as it has retired; one that has ended has the

@@ -20,7 +20,7 @@ use Rattle.bl_cmd.specs.declared.definitions.FunctionDef.{FunctionDef}
 use Rattle.bl_cmd.specs.declared.definitions.MemoryDef.{MemoryDef}
 use Rattle.bl_cmd.specs.declared.definitions.ParamDef.{ParamDef}
 use Rattle.bl_cmd.specs.declared.definitions.ProgramParts.{ProgramParts as Program}
-use Rattle.bl_graph.specs.Labels.{Labelled}
+use Rattle.bl_graph.specs.Labels.{KeepsLabelRules}
 use Rattle.bl_graph.specs.declared.secret.Origin.TheVariants.{Parameter}
 use Rattle.bl_seq.specs.Openings.{AreSized}
 use Rattle.bl_seq.proofs.OwnSizes.{whole}
@@ -72,7 +72,7 @@ space_alike (memory ∷ memories) (one ∷ ones) (other ∷ others) s t rules h 
 
 -- ---- the start
 
-module _ (program : Program) (facts : IsProgram program) (rules : IsWellFormed program) (labelling : ℕ → Bool) (ok : Labelled program labelling) (function : ℕ)
+module _ (program : Program) (facts : IsProgram program) (rules : IsWellFormed program) (labelling : ℕ → Bool) (ok : KeepsLabelRules program labelling) (function : ℕ)
     (a b : Start) (agree : Agree program function a b) where
   sized : (start : Start) → IsStart program function start → AreSized program.memories (first_memories program start)
   sized start fits =

@@ -26,7 +26,7 @@ use Rattle.bl_cmd.specs.declared.command.Operand.{Operand}
 use Rattle.bl_cmd.specs.declared.command.Operand.TheVariants as operand
 use Rattle.bl_cmd.specs.declared.definitions.MemoryDef.{MemoryDef}
 use Rattle.bl_cmd.specs.declared.definitions.ProgramParts.{ProgramParts as Program}
-use Rattle.bl_graph.specs.Labels.{Labelled}
+use Rattle.bl_graph.specs.Labels.{KeepsLabelRules}
 use Rattle.bl_seq.specs.OwnMemory.{IsInside}
 use Rattle.bl_seq.proofs.OwnAccesses.{inside}
 use Rattle.bl_seq.proofs.OwnSteps.{Reached, steps, has_step}
@@ -148,7 +148,7 @@ pub record Agrees (program : Program) (clear : ℕ → Bool) (c d : Config) : Ty
 abbrev AgreeAt : Program → List ℕ → List ℕ → Type 0
 AgreeAt program m n = (place : ℕ) → IsPublicPlace program place → slice_get m place ≡ slice_get n place
 
-module _ (program : Program) (labelling : ℕ → Bool) (ok : Labelled program labelling) where
+module _ (program : Program) (labelling : ℕ → Bool) (ok : KeepsLabelRules program labelling) where
   abbrev open_ : ℕ → Bool
   open_ x = not (labelling x)
 
@@ -285,7 +285,7 @@ module _ (program : Program) (facts : IsProgram program) (rules : IsWellFormed p
   stays_ended : (c : Config) (end : End) → c.front.end ≡ Some end → next program c ≡ c
   stays_ended c end h = ap (next_at program c) (ap (fetched_from program c.front) h)
 
-  module _ (labelling : ℕ → Bool) (ok : Labelled program labelling) where
+  module _ (labelling : ℕ → Bool) (ok : KeepsLabelRules program labelling) where
     abbrev shown : ℕ → Bool
     shown x = not (labelling x)
 

@@ -8,7 +8,7 @@ use Rattle.bl_cmd.specs.Rules.{IsWellFormed}
 use Rattle.bl_cmd.specs.Sites.{is_protected}
 use Rattle.bl_cmd.specs.Steps.{Registers, Plain, plain_step}
 use Rattle.bl_cmd.specs.declared.definitions.ProgramParts.{ProgramParts as Program}
-use Rattle.bl_graph.specs.Labels.{Labelled}
+use Rattle.bl_graph.specs.Labels.{KeepsLabelRules}
 use Rattle.bl_transient.specs.Transient.{Flows}
 use Rattle.bl_rob.specs.Machines.{State, Fetched, Straight, Branch, Nowhere, at_position, ended_at, before, grown, fetch, guess, predict, is_guard, has_guard, turned, acted, exec_entry, retire_work, retire, has_room, directive_step}
 use Rattle.bl_rob.specs.Observed.{go_on, after, Observed, see, observed_from}
@@ -185,7 +185,7 @@ module _ (clear : ℕ → Bool) where
 -- ---- a program that keeps both kinds of rules
 
 module _ (program : Program) (facts : IsProgram program) (rules : IsWellFormed program) (typing labelling : ℕ → Bool) (flows : Flows program typing (is_protected program))
-    (ok : Labelled program labelling) (from beside : Plain) (twins : Twins program facts rules labelling ok from beside) where
+    (ok : KeepsLabelRules program labelling) (from beside : Plain) (twins : Twins program facts rules labelling ok from beside) where
   abbrev fit : ℕ → Bool
   fit = clear program typing labelling flows ok
 

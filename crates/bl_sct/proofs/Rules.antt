@@ -15,7 +15,7 @@ use Rattle.bl_cmd.specs.declared.command.Operand.{Operand}
 use Rattle.bl_cmd.specs.declared.command.Operand.TheVariants as operand
 use Rattle.bl_cmd.specs.declared.definitions.MemoryDef.{MemoryDef}
 use Rattle.bl_cmd.specs.declared.definitions.ProgramParts.{ProgramParts as Program}
-use Rattle.bl_graph.specs.Labels.{Labelled}
+use Rattle.bl_graph.specs.Labels.{KeepsLabelRules}
 use Rattle.bl_graph.specs.Secrets.{TakesSecret, GivesPublic}
 use Rattle.bl_transient.specs.Transient.{Flows}
 use Rattle.bl_rob.specs.Machines.{Fetched, Straight, Branch, Nowhere, fetched, fetched_from, before, source_of}
@@ -64,7 +64,7 @@ divided b a c x e h = subst (λ t. Among (if t then a ∷ c ∷ [] else []) x) (
 
 -- ---- the label rules
 
-module _ (program : Program) (labelling : ℕ → Bool) (ok : Labelled program labelling) where
+module _ (program : Program) (labelling : ℕ → Bool) (ok : KeepsLabelRules program labelling) where
   abbrev public : ℕ → Bool
   public x = not (labelling x)
 
@@ -183,7 +183,7 @@ KeepsOf clear Nowhere = Unit {0}
 no_move : is_division Move ≡ true → ⊥
 no_move h = cc
 
-module _ (program : Program) (typing labelling : ℕ → Bool) (flows : Flows program typing (is_protected program)) (ok : Labelled program labelling) where
+module _ (program : Program) (typing labelling : ℕ → Bool) (flows : Flows program typing (is_protected program)) (ok : KeepsLabelRules program labelling) where
   -- stable and public
   abbrev pub clear : ℕ → Bool
   clear x = not (typing x) && not (labelling x)

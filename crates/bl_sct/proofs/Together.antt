@@ -2,12 +2,12 @@
 use Rattle.std.proofs.Common.{◌≡◌, ℕ, zero, suc, Bool, Some, None, refl, sym, ap, ◌∙◌, subst, arith}
 use Rattle.std.specs.Prelude.{not}
 use Rattle.bl_base.proofs.RunLemmas.{one_next, run_after, run_pos}
-use Rattle.bl_base.specs.Runs.{Outcome, Next, goes, ends, stuck, HasStep, Comes, EndsAfter}
+use Rattle.bl_base.specs.Runs.{Outcome, Next, goes, ends, stuck, HasStep, StepsTo, EndsAfter}
 use Rattle.bl_cmd.specs.Programs.{IsProgram}
 use Rattle.bl_cmd.specs.Rules.{IsWellFormed}
 use Rattle.bl_cmd.specs.Steps.{Plain, plain_step}
 use Rattle.bl_cmd.specs.declared.definitions.ProgramParts.{ProgramParts as Program}
-use Rattle.bl_graph.specs.Labels.{Labelled}
+use Rattle.bl_graph.specs.Labels.{KeepsLabelRules}
 use Rattle.bl_seq.proofs.OwnSteps.{Reached, has_step}
 use Rattle.bl_rob.specs.Machines.{at_position, before, outcome_by}
 use Rattle.bl_rob.specs.declared.directive.End.{End}
@@ -20,12 +20,12 @@ use Rattle.bl_sct.proofs.Agreeing.{Pair, pair_next}
 -- ---- runs of one machine
 
 module _ {C : Type 0} (step : C → Next C) where
-  pub comes_same : (n : ℕ) (c d e : C) → Comes step n c d → Comes step n c e → d ≡ e
+  pub comes_same : (n : ℕ) (c d e : C) → StepsTo step n c d → StepsTo step n c e → d ≡ e
   comes_same zero c d e h k = sym h ∙ k
-  comes_same (suc n) c d e h k = comes_same n h.0 d e h.2 (subst (λ x. Comes step n x e) (one_next step c k.0 h.0 k.1 h.1) k.2)
+  comes_same (suc n) c d e h k = comes_same n h.0 d e h.2 (subst (λ x. StepsTo step n x e) (one_next step c k.0 h.0 k.1 h.1) k.2)
 
   -- a run that goes on hasn't ended
-  pub not_ended : (n : ℕ) (c d : C) (o : Outcome) → Comes step n c d → EndsAfter step n c o → ⊥
+  pub not_ended : (n : ℕ) (c d : C) (o : Outcome) → StepsTo step n c d → EndsAfter step n c o → ⊥
   not_ended n c d o h r =
       let rest = run_after step n n c d o h r in
       let some = run_pos step rest.0 d o rest.2 in
@@ -34,7 +34,7 @@ module _ {C : Type 0} (step : C → Next C) where
 
 -- ---- one step
 
-module _ (program : Program) (facts : IsProgram program) (rules : IsWellFormed program) (labelling : ℕ → Bool) (ok : Labelled program labelling) where
+module _ (program : Program) (facts : IsProgram program) (rules : IsWellFormed program) (labelling : ℕ → Bool) (ok : KeepsLabelRules program labelling) where
   abbrev shown : ℕ → Bool
   shown x = not (labelling x)
 
@@ -131,7 +131,7 @@ module _ (program : Program) (facts : IsProgram program) (rules : IsWellFormed p
   -- where one run has come, the other has
   pub record Beside (n : ℕ) (t s' : Plain) : Type 0 where
     pub state : Plain
-    pub comes : Comes (plain_step program) n t state
+    pub comes : StepsTo (plain_step program) n t state
     pub twins : Twins s' state
 
   beside_by : (n : ℕ) (t s' u : Plain) (y : Next Plain) → plain_step program t ≡ y → BothNext (goes s') y → ((t' : Plain) → Twins s' t' → Beside n t' u) → Beside (suc n) t u
@@ -141,7 +141,7 @@ module _ (program : Program) (facts : IsProgram program) (rules : IsWellFormed p
   beside_by n t s' u (ends p) f b rest = absurd b
   beside_by n t s' u stuck f b rest = absurd b
 
-  pub both_come : (n : ℕ) (s t u : Plain) → Twins s t → Comes (plain_step program) n s u → Beside n t u
+  pub both_come : (n : ℕ) (s t u : Plain) → Twins s t → StepsTo (plain_step program) n s u → Beside n t u
   both_come zero s t u p h = record { state = t; comes = refl; twins = subst (λ x. Twins x t) h p }
   both_come (suc n) s t u p h =
       beside_by n t h.0 u (plain_step program t) refl (subst (λ x. BothNext x (plain_step program t)) h.1 (both_step s t p))

@@ -1,7 +1,7 @@
 -- A program with a labelling, whose own marks pass, gives equal observations.
 use Rattle.std.proofs.Common.{◌≡◌, ℕ, Bool, List, [], ◌∷◌, Option, Some, None, refl, sym, ap, ◌∙◌, subst, arith}
 use Rattle.std.specs.Prelude.{not}
-use Rattle.bl_base.specs.Runs.{Comes}
+use Rattle.bl_base.specs.Runs.{StepsTo}
 use Rattle.bl_base.specs.declared.start.Start.{Start}
 use Rattle.bl_cmd.specs.Layout.{result}
 use Rattle.bl_cmd.specs.Outcomes.{Agree, opening as plain_opening}
@@ -11,7 +11,7 @@ use Rattle.bl_cmd.specs.Sites.{is_protected}
 use Rattle.bl_cmd.specs.Steps.{Plain, plain_step}
 use Rattle.bl_cmd.specs.declared.definitions.Demand.TheVariants as demand
 use Rattle.bl_cmd.specs.declared.definitions.ProgramParts.{ProgramParts as Program}
-use Rattle.bl_graph.specs.Labels.{Labelled, ConstantTime}
+use Rattle.bl_graph.specs.Labels.{KeepsLabelRules, ConstantTime}
 use Rattle.bl_transient.specs.Transient.{Passes}
 use Rattle.bl_rob.specs.Machines.{State, opening, end_of, end_in}
 use Rattle.bl_rob.specs.Observed.{MeetWhereEnded, HasEqualObservations, reached}
@@ -27,7 +27,7 @@ use Rattle.bl_sct.proofs.Entries.{none}
 use Rattle.bl_sct.proofs.Relation.{all_twins}
 use Rattle.bl_sct.proofs.Together.{Twins, both_come, comes_same, keep}
 
-pub in_step : (program : Program) → IsProgram program → IsWellFormed program → (labelling : ℕ → Bool) → Labelled program labelling
+pub in_step : (program : Program) → IsProgram program → IsWellFormed program → (labelling : ℕ → Bool) → KeepsLabelRules program labelling
     → (function : ℕ) (a b : Start) → Agree program function a b → (commands : ℕ)
     → KeepStep program labelling commands (plain_opening program function a) (plain_opening program function b)
 in_step program facts rules labelling ok function a b agree commands =
@@ -39,7 +39,7 @@ end_there : (program : Program) (b : List Entry) (f : Front) (c : Config) (end :
 end_there program [] f c end t h = ap (λ (g : Front). g.end) (sym t) ∙ h
 end_there program (e ∷ es) f c end t h = cc
 
-module _ (program : Program) (facts : IsProgram program) (rules : IsWellFormed program) (labelling : ℕ → Bool) (ok : Labelled program labelling) (from beside : Plain)
+module _ (program : Program) (facts : IsProgram program) (rules : IsWellFormed program) (labelling : ℕ → Bool) (ok : KeepsLabelRules program labelling) (from beside : Plain)
     (twins : Twins program facts rules labelling ok from beside) where
   abbrev shown : ℕ → Bool
   shown x = not (labelling x)
@@ -51,7 +51,7 @@ module _ (program : Program) (facts : IsProgram program) (rules : IsWellFormed p
   registers_end n c d one other h k (ended t e before is comes r m i run) (ended u e' before' is' comes' r' m' i' run') depth x q =
       let b = both_come program facts rules labelling ok before from beside t twins comes in
       let same : before' ≡ before = omega arith in
-      let state : b.state ≡ u = comes_same (plain_step program) before beside b.state u b.comes (subst (λ k. Comes (plain_step program) k beside u) same comes') in
+      let state : b.state ≡ u = comes_same (plain_step program) before beside b.state u b.comes (subst (λ k. StepsTo (plain_step program) k beside u) same comes') in
       ap (λ rs. rs depth x) r ∙ b.twins.agrees.registers depth x q ∙ ap (λ (p : Plain). p.registers depth x) state ∙ sym (ap (λ rs. rs depth x) r')
 
   module _ (function : ℕ) (s t : State) (same : s.retired ≡ t.retired) (i : Kept program from s) (j : Kept program beside t) where

@@ -1,6 +1,6 @@
 -- Two plain runs that keep step: where they stand after each number of commands, and how they end.
 use Rattle.std.specs.Prelude.{◌≡◌, ◌≤◌, ◌<◌, ℕ, suc, IsTrue, not, Bool, Some, slice_get}
-use Rattle.bl_base.specs.Runs.{Outcome, returned, trapped, ends, Comes}
+use Rattle.bl_base.specs.Runs.{Outcome, returned, trapped, ends, StepsTo}
 use Rattle.bl_base.specs.declared.names.Label.TheVariants.{Public}
 use Rattle.bl_cmd.specs.Layout.{base}
 use Rattle.bl_cmd.specs.Steps.{Plain, plain_step}
@@ -33,9 +33,9 @@ EndAlike (trapped kind memories) (trapped other states) = kind ≡ other
 
 -- two runs after so many commands: both have come to states that stand alike, or both have ended, by the same command and alike
 pub data KeepStep (program : Program) (labelling : ℕ → Bool) (commands : ℕ) (from beside : Plain) : Type 0 where
-  go : (one other : Plain) → Comes (plain_step program) commands from one → Comes (plain_step program) commands beside other
+  go : (one other : Plain) → StepsTo (plain_step program) commands from one → StepsTo (plain_step program) commands beside other
       → StandAlike program labelling one other → KeepStep program labelling commands from beside
   end : (before : ℕ) (one other : Plain) (first second : Outcome) → before < commands
-      → Comes (plain_step program) before from one → plain_step program one ≡ ends first
-      → Comes (plain_step program) before beside other → plain_step program other ≡ ends second
+      → StepsTo (plain_step program) before from one → plain_step program one ≡ ends first
+      → StepsTo (plain_step program) before beside other → plain_step program other ≡ ends second
       → StandAlike program labelling one other → EndAlike first second → KeepStep program labelling commands from beside

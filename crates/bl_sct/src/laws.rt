@@ -6,7 +6,7 @@ ghost use Rattle.bl_cmd.specs.Programs.{IsProgram};
 ghost use Rattle.bl_cmd.specs.Rules.{IsWellFormed};
 ghost use Rattle.bl_cmd.specs.Sites.{is_protected};
 ghost use Rattle.bl_cmd.specs.declared.definitions.ProgramParts.{ProgramParts};
-ghost use Rattle.bl_graph.specs.Labels.{ConstantTime, Labelled};
+ghost use Rattle.bl_graph.specs.Labels.{ConstantTime, KeepsLabelRules};
 ghost use Rattle.bl_rob.specs.Observed.{HasEqualObservations};
 ghost use Rattle.bl_sct.specs.Lockstep.{KeepStep};
 ghost use Rattle.bl_transient.specs.Transient.{Passes};
@@ -15,7 +15,7 @@ ghost use Rattle.bl_transient.specs.Transient.{Passes};
 /// frames after each number of commands, or have ended alike; what public variables hold at each depth and each byte of a
 /// public memory are equal.
 pub fn lockstep()
-    ensures { (program : ProgramParts) → IsProgram program → IsWellFormed program → (labelling : ℕ → Truth) → Labelled program labelling
+    ensures { (program : ProgramParts) → IsProgram program → IsWellFormed program → (labelling : ℕ → Truth) → KeepsLabelRules program labelling
         → (function : ℕ) (a b : Start) → Agree program function a b
         → (commands : ℕ) → KeepStep program labelling commands (opening program function a) (opening program function b) }
 {}

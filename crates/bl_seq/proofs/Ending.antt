@@ -7,7 +7,7 @@ use Rattle.std.proofs.lemmas.List.Elements.{All-cons, All-head, All-tail}
 use Rattle.bl_base.specs.Bytes.{patched}
 use Rattle.bl_base.specs.Fits.{PatchFits}
 use Rattle.bl_base.specs.Quantity.{most_calls}
-use Rattle.bl_base.specs.Runs.{MemoryState, Outcome, Next, goes, ends, stuck, trapped, Comes, EndsAfter, last, more}
+use Rattle.bl_base.specs.Runs.{MemoryState, Outcome, Next, goes, ends, stuck, trapped, StepsTo, EndsAfter, last, more}
 use Rattle.bl_base.specs.declared.start.Patch.{Patch}
 use Rattle.bl_base.specs.declared.start.Start.{Start}
 use Rattle.bl_base.specs.declared.trap.Trap.TheVariants as trap_kind
@@ -22,7 +22,7 @@ use Rattle.bl_cmd.specs.declared.command.Command.TheVariants.{Set, Load, Store, 
 use Rattle.bl_cmd.specs.declared.definitions.MemoryDef.{MemoryDef}
 use Rattle.bl_cmd.specs.declared.definitions.ProgramParts.{ProgramParts as Program}
 use Rattle.bl_seq.specs.Endings.{EndsWhole, IsWhole, memories_at, pages_at}
-use Rattle.bl_seq.specs.Machines.{Leads}
+use Rattle.bl_seq.specs.Machines.{RunsTo}
 use Rattle.bl_seq.specs.Openings.{AreSized}
 use Rattle.bl_seq.specs.OwnMemory.{IsReached}
 use Rattle.bl_seq.proofs.OwnSizes.{sized, whole}
@@ -86,12 +86,12 @@ module _ (program : Program) where
   kept_by s t (Some Ret) h = ret_keeps s.chain s t h
   kept_by s t (Some (Trap kind)) h = absurd h
 
-  comes_keeps : (n : ℕ) (c d : Plain) → Comes (plain_step program) n c d → length d.space ≡ length c.space
+  comes_keeps : (n : ℕ) (c d : Plain) → StepsTo (plain_step program) n c d → length d.space ≡ length c.space
   comes_keeps zero c d h = ap (λ (x : Plain). length x.space) (sym h)
   comes_keeps (suc n) c d h = comes_keeps n h.0 d h.2 ∙ kept_by c h.0 (command_at program c.position) (subst (λ x. IsNext x h.0) (sym h.1) refl)
 
   -- the state before an end
-  end_of : (n : ℕ) (c : Plain) (o : Outcome) → EndsAfter (plain_step program) n c o → (k : ℕ) × (s : Plain) × Comes (plain_step program) k c s × (plain_step program s ≡ ends o)
+  end_of : (n : ℕ) (c : Plain) (o : Outcome) → EndsAfter (plain_step program) n c o → (k : ℕ) × (s : Plain) × StepsTo (plain_step program) k c s × (plain_step program s ≡ ends o)
   end_of n c o (last _ _ e) = (0, c, refl, e)
   end_of n c o (more k _ d _ e r) = let rest = end_of k d o r in (suc rest.0, rest.1, (d, e, rest.2), rest.3)
 
@@ -160,7 +160,7 @@ module _ (program : Program) (facts : IsProgram program) (rules : IsWellFormed p
       (λ memory d e. let place : size_of program memory ≡ size_of program 0 + memory = omega arith in subst (λ x. s.registers 0 x ≤ d.reserve) place (sizes memory d e))
       rules.rule1.memories (omega arith))
 
-  pub ends_whole : (steps : ℕ) (next : Next Plain) → Leads program (opening program function start) steps next → EndsWhole next
+  pub ends_whole : (steps : ℕ) (next : Next Plain) → RunsTo program (opening program function start) steps next → EndsWhole next
   ends_whole steps (goes s) leads = tt
   ends_whole steps (ends o) leads = end_whole leads.0 o leads.1
   ends_whole steps stuck leads = tt

@@ -7,7 +7,7 @@ use Rattle.std.proofs.Math.Nat.{suc_inj}
 use Rattle.bl_base.specs.Quantity.{most_calls}
 use Rattle.bl_base.proofs.Lists.{all_get, within_get}
 use Rattle.bl_base.proofs.RunLemmas.{IsNext}
-use Rattle.bl_base.specs.Runs.{Outcome, goes, ends, trapped, Comes, HasStep}
+use Rattle.bl_base.specs.Runs.{Outcome, goes, ends, trapped, StepsTo, HasStep}
 use Rattle.bl_base.specs.declared.trap.Trap.TheVariants as trap_kind
 use Rattle.bl_cmd.proofs.Layouts.{next_entry, holds_within}
 use Rattle.bl_cmd.specs.Layout.{entry_of, command_at, Holds}
@@ -24,7 +24,7 @@ pub data Reached (program : Program) : Plain → Type 0 where
   opens : (s : Plain) (function : ℕ) → function < length program.functions → s.position ≡ entry_of program function → s.chain ≡ [] → HasSizes program s.registers → Reached program s
   steps : (s t : Plain) → Reached program s → IsNext (plain_step program s) t → Reached program t
 
-pub reached_by : (program : Program) (n : ℕ) (c d : Plain) → Comes (plain_step program) n c d → Reached program c → Reached program d
+pub reached_by : (program : Program) (n : ℕ) (c d : Plain) → StepsTo (plain_step program) n c d → Reached program c → Reached program d
 reached_by program zero c d e r = subst (Reached program) e r
 reached_by program (suc n) c d h r = reached_by program n h.0 d h.2 (steps c h.0 r (subst (λ x. IsNext x h.0) (sym h.1) refl))
 

@@ -1,6 +1,6 @@
 -- The machine as a state of the plain run.
 use Rattle.std.specs.Prelude.{◌≤◌, ℕ, List, Option, Some, None}
-use Rattle.bl_base.specs.Runs.{Outcome, returned, trapped, Next, goes, ends, stuck, Comes, EndsAfter}
+use Rattle.bl_base.specs.Runs.{Outcome, returned, trapped, Next, goes, ends, stuck, StepsTo, EndsAfter}
 use Rattle.bl_cmd.specs.Layout.{results_of, result, running}
 use Rattle.bl_cmd.specs.Steps.{Registers, Plain, values_from, states, plain_step}
 use Rattle.bl_cmd.specs.declared.definitions.ProgramParts.{ProgramParts as Program}
@@ -34,10 +34,10 @@ next_of program (Trapped kind) s = ends (trapped kind (states program s))
 next_of program Stuck s = stuck
 
 -- what so many steps from a state have come to: to a state, or to an end at one of them; or they have ended nowhere
-abbrev pub Leads : Program → Plain → ℕ → Next Plain → Type 0
-Leads program from steps (goes s) = Comes (plain_step program) steps from s
-Leads program from steps (ends outcome) = (n : ℕ) × EndsAfter (plain_step program) n from outcome × (n ≤ steps)
-Leads program from steps stuck = (n : ℕ) (outcome : Outcome) → EndsAfter (plain_step program) n from outcome → n ≤ steps → ⊥
+abbrev pub RunsTo : Program → Plain → ℕ → Next Plain → Type 0
+RunsTo program from steps (goes s) = StepsTo (plain_step program) steps from s
+RunsTo program from steps (ends outcome) = (n : ℕ) × EndsAfter (plain_step program) n from outcome × (n ≤ steps)
+RunsTo program from steps stuck = (n : ℕ) (outcome : Outcome) → EndsAfter (plain_step program) n from outcome → n ≤ steps → ⊥
 
 -- the outcome of what was come to
 abbrev pub told : Next Plain → Option Outcome

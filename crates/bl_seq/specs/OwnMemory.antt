@@ -1,6 +1,6 @@
 -- What holds in each state that a plain run of a well-formed program comes to.
 use Rattle.std.specs.Prelude.{◌≡◌, ◌≤◌, ℕ, suc, ◌+◌, ◌*◌, ◌%◌, ◌^◌, Some, slice_get}
-use Rattle.bl_base.specs.Runs.{Comes}
+use Rattle.bl_base.specs.Runs.{StepsTo}
 use Rattle.bl_base.specs.declared.start.Start.{Start}
 use Rattle.bl_cmd.specs.Layout.{size_of, base}
 use Rattle.bl_cmd.specs.Outcomes.{IsStart, opening}
@@ -18,7 +18,7 @@ pub record IsReached (program : Program) (s : Plain) : Type 0 where
   pub start : Start
   pub start_fits : IsStart program function start
   pub steps : ℕ
-  pub comes : Comes (plain_step program) steps (opening program function start) s
+  pub comes : StepsTo (plain_step program) steps (opening program function start) s
 
 -- the pages that each memory has, in its size variable at depth 0, are at most its reserve
 abbrev pub HasSizes : Program → Registers → Type 0

@@ -8,7 +8,7 @@ ghost use Rattle.bl_cmd.specs.Programs.{IsCommand};
 ghost use Rattle.bl_cmd.specs.Steps.{call, depth, effective, on, perform, place, plain_step, ret, stored, to, value_of, written};
 ghost use Rattle.bl_base.specs.Runs.{goes};
 ghost use Rattle.bl_seq.specs.Layouts.{IsLayout};
-ghost use Rattle.bl_seq.specs.Machines.{Leads, next_of, shown};
+ghost use Rattle.bl_seq.specs.Machines.{RunsTo, next_of, shown};
 
 use crate::layout::Layout;
 use crate::state::{Machine, Progress};
@@ -320,7 +320,7 @@ impl Machine {
         steps: u64,
     ) -> Result<Progress, NoMemory>
         requires { IsLayout layout.now }
-        ensures { IfOk result (λ progress. Leads layout.now.parts.now (shown self.old) steps (next_of layout.now.parts.now progress (shown self.new))) }
+        ensures { IfOk result (λ progress. RunsTo layout.now.parts.now (shown self.old) steps (next_of layout.now.parts.now progress (shown self.new))) }
     {
         for _ in 0..steps {
             match self.step(alloc, layout)? {

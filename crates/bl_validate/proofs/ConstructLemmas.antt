@@ -14,7 +14,7 @@ use Rattle.bl_validate.specs.declared.stacks.Frame.{Frame}
 use Rattle.bl_validate.specs.declared.effects.Effect.{Effect}
 use Rattle.bl_validate.specs.HasEffect.{HasEffect, Means}
 use Rattle.bl_validate.specs.MayStand.{MayStand}
-use Rattle.bl_validate.specs.Represents.{IsOpen, AreOpen, kind_of, type_of}
+use Rattle.bl_validate.specs.Represents.{IsOpen, AreOpen, nesting_kind, construct_type}
 
 abbrev Sets : Type 1
 Sets = List WasmType → Type 0
@@ -70,31 +70,31 @@ plain_rule c item outer inner from to = elim item as (λ i. IsPlain i → Rule c
 
 abbrev Enters : Places → Construct → Places → Type 0
 Enters S0 k S2 = (open_ones : List Open) (s : List WasmType) →
-    S2 open_ones s ↔ ((outer : List Open) × (lower : List WasmType) × (s ≡ k.params.now) × (open_ones ≡ opened (kind_of k.kind) (type_of k) lower ∷ outer) × S0 outer lower)
+    S2 open_ones s ↔ ((outer : List Open) × (lower : List WasmType) × (s ≡ k.params.now) × (open_ones ≡ opened (nesting_kind k.kind) (construct_type k) lower ∷ outer) × S0 outer lower)
 
 pub entered : (frames : List Frame) (frame : Frame) (S0 S2 : Sets) → ((s : List WasmType) → S2 s ↔ (s ≡ frame.construct.params.now))
     → ((s : List WasmType) → MayStand frame.below s ↔ S0 s)
     → (open_ones : List Open) (s : List WasmType) → (S2 s × AreOpen (reverse (frames ++ frame ∷ [])) open_ones)
     ↔ ((outer : List Open) × (lower : List WasmType) × (s ≡ frame.construct.params.now)
-    × (open_ones ≡ opened (kind_of frame.construct.kind) (type_of frame.construct) lower ∷ outer) × (S0 lower × AreOpen (reverse frames) outer))
+    × (open_ones ≡ opened (nesting_kind frame.construct.kind) (construct_type frame.construct) lower ∷ outer) × (S0 lower × AreOpen (reverse frames) outer))
 entered frames frame S0 S2 these below open_ones s = rw (reverse-append frames (frame ∷ [])) (λ x. forth open_ones x.0 x.1, back)
   where
     forth : (open_ones : List Open) → S2 s → AreOpen (frame ∷ reverse frames) open_ones → (outer : List Open) × (lower : List WasmType) × (s ≡ frame.construct.params.now)
-        × (open_ones ≡ opened (kind_of frame.construct.kind) (type_of frame.construct) lower ∷ outer) × (S0 lower × AreOpen (reverse frames) outer)
+        × (open_ones ≡ opened (nesting_kind frame.construct.kind) (construct_type frame.construct) lower ∷ outer) × (S0 lower × AreOpen (reverse frames) outer)
     forth [] h a = absurd a
     forth (one ∷ outer) h a =
-        let is : one ≡ opened (kind_of frame.construct.kind) (type_of frame.construct) one.lower
+        let is : one ≡ opened (nesting_kind frame.construct.kind) (construct_type frame.construct) one.lower
         = rw (← a.0.kind, ← a.0.type) refl in
         (outer, one.lower, (these s).0 h, ap (λ o. o ∷ outer) is, ((below one.lower).0 a.1, a.2))
 
     back : ((outer : List Open) × (lower : List WasmType) × (s ≡ frame.construct.params.now)
-        × (open_ones ≡ opened (kind_of frame.construct.kind) (type_of frame.construct) lower ∷ outer) × (S0 lower × AreOpen (reverse frames) outer)) → S2 s × AreOpen (frame ∷ reverse frames) open_ones
+        × (open_ones ≡ opened (nesting_kind frame.construct.kind) (construct_type frame.construct) lower ∷ outer) × (S0 lower × AreOpen (reverse frames) outer)) → S2 s × AreOpen (frame ∷ reverse frames) open_ones
     back p = ((these s).1 p.2, subst (AreOpen (frame ∷ reverse frames)) (sym p.3) (record { kind = refl; type = refl }, (below p.1).1 p.4.0, p.4.1))
 
 abbrev Opened : Construct → List WasmType → Places → Bool → Places → Type 0
 Opened k above S0 ok S2 = (behind : List Open) (to : List WasmType) →
     (IsTrue ok × S2 behind to)
-    ↔ ((outer : List Open) × (lower : List WasmType) × (to ≡ k.params.now) × (behind ≡ opened (kind_of k.kind) (type_of k) lower ∷ outer) × S0 outer (lower ++ (k.params.now ++ above)))
+    ↔ ((outer : List Open) × (lower : List WasmType) × (to ≡ k.params.now) × (behind ≡ opened (nesting_kind k.kind) (construct_type k) lower ∷ outer) × S0 outer (lower ++ (k.params.now ++ above)))
 
 abbrev Popped : Places → List WasmType → Bool → Places → Type 0
 Popped S0 types ok S1 = (open_ones : List Open) (s : List WasmType) → S0 open_ones (s ++ types) ↔ (IsTrue ok × S1 open_ones s)
@@ -116,18 +116,18 @@ not_params S0 S1 S2 S3 k above a b isnt first second behind to = (
 
 -- a construct of a block type begins
 pub begins : (c : Context) (k : Construct) (immediate : BlockType) (above : List WasmType) (S0 S3 : Places) (ok : Bool)
-    → Some (type_of k) ≡ expanded c.types immediate → Opened k above S0 ok S3
+    → Some (construct_type k) ≡ expanded c.types immediate → Opened k above S0 ok S3
     → (behind : List Open) (to : List WasmType) → (IsTrue ok × S3 behind to)
-    ↔ ((open_ones : List Open) × (from : List WasmType) × Begins c (kind_of k.kind) immediate above open_ones from behind to × S0 open_ones from)
+    ↔ ((open_ones : List Open) × (from : List WasmType) × Begins c (nesting_kind k.kind) immediate above open_ones from behind to × S0 open_ones from)
 begins c k immediate above S0 S3 ok is opens behind to = (
   λ x. let p = (opens behind to).0 x in
-      (p.0, p.1 ++ (k.params.now ++ above), record { type = type_of k; lower = p.1; named = sym is; before = refl; inside = p.3; behind = p.2 }, p.4),
-  λ p. let same : p.2.type ≡ type_of k = same_Some p.2.type (type_of k) (sym p.2.named ∙ sym is) in
+      (p.0, p.1 ++ (k.params.now ++ above), record { type = construct_type k; lower = p.1; named = sym is; before = refl; inside = p.3; behind = p.2 }, p.4),
+  λ p. let same : p.2.type ≡ construct_type k = same_Some p.2.type (construct_type k) (sym p.2.named ∙ sym is) in
       (opens behind to).1 (
         p.0,
         p.2.lower,
         p.2.behind ∙ ap (λ t. t.params) same,
-        p.2.inside ∙ ap (λ t. opened (kind_of k.kind) t p.2.lower ∷ p.0) same,
+        p.2.inside ∙ ap (λ t. opened (nesting_kind k.kind) t p.2.lower ∷ p.0) same,
         subst (S0 p.0) (p.2.before ∙ ap (λ t. p.2.lower ++ (t.params ++ above)) same) p.3,
       ),
 )
@@ -180,16 +180,16 @@ some_open frames a = by_reversed (reverse frames) refl a
 
 -- ---- `else` and `end`
 
-pub parts : (c : Context) (S0 S1 S2 : Places) (k : Construct) → kind_of k.kind ≡ then_part → Closes S0 S1 k
+pub parts : (c : Context) (S0 S1 S2 : Places) (k : Construct) → nesting_kind k.kind ≡ then_part → Closes S0 S1 k
     → ((open_ones : List Open) (s : List WasmType) → S2 open_ones s
-    ↔ ((outer : List Open) × (lower : List WasmType) × (s ≡ k.params.now) × (open_ones ≡ opened else_part (type_of k) lower ∷ outer) × S1 outer lower))
+    ↔ ((outer : List Open) × (lower : List WasmType) × (s ≡ k.params.now) × (open_ones ≡ opened else_part (construct_type k) lower ∷ outer) × S1 outer lower))
     → Over c Else S0 true S2
 parts c S0 S1 S2 k is close enter behind to = (forth, λ p. (refl, by_open p.0 p.1 p.2 p.3))
   where
     forth : IsTrue true × S2 behind to → (open_ones : List Open) × (from : List WasmType) × Rule c Else open_ones from behind to × S0 open_ones from
     forth x =
         let p = (enter behind to).0 x.1 in
-        let one : Open = opened then_part (type_of k) p.1 in
+        let one : Open = opened then_part (construct_type k) p.1 in
         (one ∷ p.0, k.results.now, record { first = refl; before = refl; inside = p.3; behind = p.2 }, (close one p.0).1 (record { kind = sym is; type = refl }, p.4))
 
     by_open : (open_ones : List Open) (from : List WasmType) → Rule c Else open_ones from behind to → S0 open_ones from → S2 behind to
@@ -204,7 +204,7 @@ parts c S0 S1 S2 k is close enter behind to = (forth, λ p. (refl, by_open p.0 p
           q.1,
         )
 
-pub ends : (c : Context) (S0 S1 S2 : Places) (k : Construct) → (kind_of k.kind ≡ then_part → k.params.now ≡ k.results.now) → Closes S0 S1 k
+pub ends : (c : Context) (S0 S1 S2 : Places) (k : Construct) → (nesting_kind k.kind ≡ then_part → k.params.now ≡ k.results.now) → Closes S0 S1 k
     → ((open_ones : List Open) (s : List WasmType) → S2 open_ones s ↔ ((below : List WasmType) × (s ≡ below ++ k.results.now) × S1 open_ones below))
     → Over c End S0 true S2
 ends c S0 S1 S2 k whole close put behind to = (forth, λ p. (refl, by_open p.0 p.1 p.2 p.3))
@@ -212,7 +212,7 @@ ends c S0 S1 S2 k whole close put behind to = (forth, λ p. (refl, by_open p.0 p
     forth : IsTrue true × S2 behind to → (open_ones : List Open) × (from : List WasmType) × Rule c End open_ones from behind to × S0 open_ones from
     forth x =
         let p = (put behind to).0 x.1 in
-        let one : Open = opened (kind_of k.kind) (type_of k) p.0 in
+        let one : Open = opened (nesting_kind k.kind) (construct_type k) p.0 in
         (one ∷ behind, k.results.now, record { missing = whole; before = refl; inside = refl; behind = p.1 }, (close one behind).1 (record { kind = refl; type = refl }, p.2))
 
     by_open : (open_ones : List Open) (from : List WasmType) → Rule c End open_ones from behind to → S0 open_ones from → S2 behind to

@@ -8,10 +8,10 @@ use Rattle.std.proofs.lemmas.Option.{same_Some}
 use Rattle.bl_wasm.specs.Typing.{Open, Context, labels, taken_by}
 use Rattle.bl_wasm.specs.declared.types.WasmType.{WasmType}
 use Rattle.bl_validate.specs.declared.stacks.Frame.{Frame}
-use Rattle.bl_validate.specs.Represents.{AreOpen, kind_of, type_of}
+use Rattle.bl_validate.specs.Represents.{AreOpen, nesting_kind, construct_type}
 
 abbrev taken : Frame → List WasmType
-taken frame = taken_by (kind_of frame.construct.kind) (type_of frame.construct)
+taken frame = taken_by (nesting_kind frame.construct.kind) (construct_type frame.construct)
 
 -- the labels of what is open are those of the frames
 pub labels_are : (c : Context) (frames : List Frame) (open_ones : List Open) → AreOpen frames open_ones → labels c open_ones ≡ map taken frames ++ c.results ∷ []

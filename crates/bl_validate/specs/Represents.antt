@@ -14,20 +14,20 @@ use Rattle.bl_validate.specs.declared.stacks.Frame.{Frame}
 use Rattle.bl_validate.specs.declared.stacks.Stacks.{Stacks}
 
 -- the kind of a construct
-abbrev pub kind_of : Kind → nesting.Kind
-kind_of Block = nesting.of_block
-kind_of Loop = nesting.of_loop
-kind_of ThenPart = nesting.then_part
-kind_of ElsePart = nesting.else_part
+abbrev pub nesting_kind : Kind → nesting.Kind
+nesting_kind Block = nesting.of_block
+nesting_kind Loop = nesting.of_loop
+nesting_kind ThenPart = nesting.then_part
+nesting_kind ElsePart = nesting.else_part
 
 -- its parameters and results
-abbrev pub type_of : Construct → FuncType
-type_of construct = record { params = construct.params.now; results = construct.results.now }
+abbrev pub construct_type : Construct → FuncType
+construct_type construct = record { params = construct.params.now; results = construct.results.now }
 
 -- that construct is open
 pub record IsOpen (construct : Construct) (one : Open) : Type 0 where
-  pub kind : one.kind ≡ kind_of construct.kind
-  pub type : one.type ≡ type_of construct
+  pub kind : one.kind ≡ nesting_kind construct.kind
+  pub type : one.type ≡ construct_type construct
 
 -- the open constructs, innermost first, with operands that may stand below each
 abbrev pub AreOpen : List Frame → List Open → Type 0
@@ -43,7 +43,7 @@ Represents stacks open_ones s = MayStand stacks.operands s × AreOpen (reverse s
 -- the labels of the place, innermost first, each by what a branch to it takes; the outermost takes the results
 abbrev pub labels_in : List WasmType → Stacks → List (List WasmType)
 labels_in results stacks =
-    map (λ frame. taken_by (kind_of frame.construct.kind) (type_of frame.construct)) (reverse stacks.frames.items) ++ results ∷ []
+    map (λ frame. taken_by (nesting_kind frame.construct.kind) (construct_type frame.construct)) (reverse stacks.frames.items) ++ results ∷ []
 
 -- a step over an item: what is represented behind it is exactly what its rule gives of what is represented before it
 abbrev pub Steps : Context → Instr → Stacks → Bool → Stacks → Type 0
@@ -56,4 +56,4 @@ abbrev pub Opens : Context → Kind → BlockType → List WasmType → Stacks �
 Opens c kind immediate above old ok new = (behind : List Open) (to : List WasmType) →
     (IsTrue ok × Represents new behind to)
     ↔ ((open_ones : List Open) × (from : List WasmType)
-    × Begins c (kind_of kind) immediate above open_ones from behind to × Represents old open_ones from)
+    × Begins c (nesting_kind kind) immediate above open_ones from behind to × Represents old open_ones from)

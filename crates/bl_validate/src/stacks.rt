@@ -6,7 +6,7 @@ ghost use Rattle.bl_wasm.specs.Typing.{Context, Open, opened, taken_by};
 ghost use Rattle.bl_wasm.specs.declared.types.WasmType.{WasmType};
 ghost use Rattle.bl_wasm.specs.declared.instruction.Instr.TheVariants as Instr;
 ghost use Rattle.bl_validate.specs.HasEffect.{HasEffect};
-ghost use Rattle.bl_validate.specs.Represents.{Represents, Steps, IsOpen, labels_in, type_of, kind_of};
+ghost use Rattle.bl_validate.specs.Represents.{Represents, Steps, IsOpen, labels_in, construct_type, nesting_kind};
 
 use crate::effects::Effect;
 use crate::operands::Operands;
@@ -112,7 +112,7 @@ impl<'m> Stacks<'m> {
     fn enter(&mut self, alloc: Global, construct: Construct<'m>) -> Result<(), NoMemory>
         ensures { OnOk result ((open_ones : List Open) (s : List WasmType) →
             Represents self.new open_ones s ↔ ((outer : List Open) × (lower : List WasmType) × (s ≡ construct.entry.params.now)
-            × (open_ones ≡ opened (kind_of construct.entry.kind) (type_of construct.entry) lower ∷ outer) × Represents self.old outer lower)) }
+            × (open_ones ≡ opened (nesting_kind construct.entry.kind) (construct_type construct.entry) lower ∷ outer) × Represents self.old outer lower)) }
     {
         let below = mem::replace(&mut self.operands, Operands::of(alloc, construct.params));
         self.frames.push(Frame { construct, below })?;
@@ -129,7 +129,7 @@ impl<'m> Stacks<'m> {
     ) -> Result<bool, NoMemory>
         ensures { IfOk result (λ ok. (behind : List Open) (to : List WasmType) →
             (IsTrue ok × Represents self.new behind to) ↔ ((outer : List Open) × (lower : List WasmType) × (to ≡ construct.entry.params.now)
-            × (behind ≡ opened (kind_of construct.entry.kind) (type_of construct.entry) lower ∷ outer)
+            × (behind ≡ opened (nesting_kind construct.entry.kind) (construct_type construct.entry) lower ∷ outer)
             × Represents self.old outer (lower ++ (construct.entry.params.now ++ above.now)))) }
     {
         if !self.pop(above) {
@@ -228,7 +228,7 @@ impl<'m> Stacks<'m> {
 impl<'m> Construct<'m> {
     /// The types that a branch to its label takes: to a loop its parameters, else its results.
     fn taken(&self) -> &'m [WasmType]
-        ensures { result.now ≡ taken_by (kind_of self.now.kind) (type_of self.now) }
+        ensures { result.now ≡ taken_by (nesting_kind self.now.kind) (construct_type self.now) }
     {
         match self.kind {
             Kind::Loop => self.params,
@@ -239,14 +239,14 @@ impl<'m> Construct<'m> {
 
 /// Whether it is an if up to its `else` or its end.
 fn is_then_part(kind: Kind) -> bool
-    ensures { IsTrue result ↔ (kind_of kind ≡ then_part) }
+    ensures { IsTrue result ↔ (nesting_kind kind ≡ then_part) }
 {
     matches!(kind, Kind::ThenPart)
 }
 
 /// Whether the construct may end: an if without `else` has equal parameters and results.
 fn may_end(construct: Construct) -> bool
-    ensures { IsTrue result ↔ (kind_of construct.entry.kind ≡ then_part → construct.entry.params.now ≡ construct.entry.results.now) }
+    ensures { IsTrue result ↔ (nesting_kind construct.entry.kind ≡ then_part → construct.entry.params.now ≡ construct.entry.results.now) }
 {
     !is_then_part(construct.kind) || are_same(construct.params, construct.results)
 }

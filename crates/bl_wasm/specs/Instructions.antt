@@ -2,8 +2,8 @@
 -- if, its items and its `end` are items one after another, and the list is well nested.
 use Rattle.std.specs.Prelude.{◌≡◌, ℕ, ◌++◌, List, [], ◌∷◌, IsTrue, IsFalse, Some}
 use Rattle.bl_ops.specs.declared.op.Op.{Op}
-use Rattle.bl_ops.specs.Access.{is_load, code_of as access_code}
-use Rattle.bl_ops.specs.Table.{code_of}
+use Rattle.bl_ops.specs.Access.{is_load, access_code}
+use Rattle.bl_ops.specs.Table.{operator_code}
 use Rattle.bl_wasm.specs.Codes.{IsFloatCode, float_access_code}
 use Rattle.bl_wasm.specs.Types.{block_type}
 use Rattle.bl_wasm.specs.Values.{Spellings, ◌⨾◌, byte, given, each, u32, int, f32, f64, vec}
@@ -18,7 +18,7 @@ memory_argument m = u32 m.alignment ⨾ u32 m.offset
 
 -- the code of an integer operator, where it has one (section 5.4.5)
 abbrev pub integer : Op → Spellings
-integer op bytes = (code : ℕ) × (code_of op ≡ Some code) × byte code bytes
+integer op bytes = (code : ℕ) × (operator_code op ≡ Some code) × byte code bytes
 
 -- instr (section 5.4); of a block, loop or if, what stands before its items
 abbrev pub instruction : Instr → Spellings

@@ -4,7 +4,7 @@ use Rattle.std.specs.Prelude.{◌≡◌, ℕ, ◌≤◌, ◌^◌, ◌++◌, List
 use Rattle.std.specs.List.{All}
 use Rattle.bl_base.specs.declared.names.ValueType.{ValueType}
 use Rattle.bl_base.specs.declared.names.ValueType.TheVariants as value
-use Rattle.bl_ops.specs.Access.{is_load, type_of, width_of}
+use Rattle.bl_ops.specs.Access.{is_load, access_type, width_of}
 use Rattle.bl_ops.specs.Table.{row_of}
 use Rattle.bl_ops.specs.declared.access.AccessKind.{AccessKind}
 use Rattle.bl_ops.specs.declared.op.OpRow.{OpRow}
@@ -114,9 +114,9 @@ Plain c ls (GlobalSet x) from to =
     (global : GlobalType) × (slice_get c.globals x ≡ Some global) × IsTrue global.mutable × Arrow (global.kind ∷ []) [] from to
 -- memory instructions (section 3.3.4)
 Plain c ls (Load kind argument) from to =
-    IsTrue (is_load kind) × IsAligned kind argument × (1 ≤ c.memories) × Arrow (I32 ∷ []) (integer (type_of kind) ∷ []) from to
+    IsTrue (is_load kind) × IsAligned kind argument × (1 ≤ c.memories) × Arrow (I32 ∷ []) (integer (access_type kind) ∷ []) from to
 Plain c ls (Store kind argument) from to =
-    IsFalse (is_load kind) × IsAligned kind argument × (1 ≤ c.memories) × Arrow (I32 ∷ integer (type_of kind) ∷ []) [] from to
+    IsFalse (is_load kind) × IsAligned kind argument × (1 ≤ c.memories) × Arrow (I32 ∷ integer (access_type kind) ∷ []) [] from to
 Plain c ls MemorySize from to = (1 ≤ c.memories) × Arrow [] (I32 ∷ []) from to
 Plain c ls MemoryGrow from to = (1 ≤ c.memories) × Arrow (I32 ∷ []) (I32 ∷ []) from to
 -- numeric instructions (section 3.3.1)

@@ -30,9 +30,9 @@ abbrev pub IsLinked : List Use → List Use → ℕ → ℕ → Type 0
 IsLinked writes uses former position = (x : ℕ) × Contains writes (use_of former x) × Contains uses (use_of position x)
 
 -- from a site on, each site in this order reads what the former wrote, and the sink what the last wrote
-abbrev pub Leads : Graph → ℕ → List ℕ → ℕ → Type 0
-Leads graph s [] sink = IsLinked graph.writes graph.sinks s sink
-Leads graph s (t ∷ rest) sink = IsLinked graph.writes graph.reads s t × Leads graph t rest sink
+abbrev pub LeadsToSink : Graph → ℕ → List ℕ → ℕ → Type 0
+LeadsToSink graph s [] sink = IsLinked graph.writes graph.sinks s sink
+LeadsToSink graph s (t ∷ rest) sink = IsLinked graph.writes graph.reads s t × LeadsToSink graph t rest sink
 
 -- a graph's lists rise, and no position writes two variables
 pub record IsOrdered (graph : Graph) : Type 0 where

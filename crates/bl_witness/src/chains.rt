@@ -3,7 +3,7 @@ ghost use Rattle.std.specs.Prelude.{◌≡◌, ◌↔◌, ◌≤◌, ℕ, AllPai
 ghost use Rattle.bl_cmd.specs.Sites.{Loads};
 ghost use Rattle.bl_graph.specs.Chains.{IsChain};
 ghost use Rattle.bl_graph.specs.Graphs.{IsGraph, Precedes, use_of};
-ghost use Rattle.bl_witness.specs.Lookups.{IsLinked, IsOrdered, IsPlaceOf, IsWritten, Leads};
+ghost use Rattle.bl_witness.specs.Lookups.{IsLinked, IsOrdered, IsPlaceOf, IsWritten, LeadsToSink};
 
 use bl_base::{List, Pos, Var};
 use bl_cmd::{Command, ProgramParts};
@@ -31,7 +31,7 @@ fn is_load(commands: &[Command], at: Pos) -> bool
 /// Whether each site reads what the former wrote, and a sink what the last wrote.
 fn leads(graph: &Graph, first: Pos, rest: &[Pos], sink: Pos) -> bool
     requires { IsOrdered graph.now }
-    ensures { IsTrue result ↔ Leads graph.now first.0 (map (λ s. s.0) rest.now) sink.0 }
+    ensures { IsTrue result ↔ LeadsToSink graph.now first.0 (map (λ s. s.0) rest.now) sink.0 }
 {
     let mut former = first;
     for site in rest {

@@ -7,7 +7,7 @@ use Rattle.std.proofs.lemmas.List.Elements.{All-nil, All-cons, All-replicate}
 use Rattle.std.proofs.lemmas.Option.{none-some}
 use Rattle.bl_base.specs.Fits.{ArgumentFits}
 use Rattle.bl_base.specs.declared.names.Label.TheVariants.{Secret}
-use Rattle.bl_ops.specs.Access.{is_load, type_of, width_of}
+use Rattle.bl_ops.specs.Access.{is_load, access_type, width_of}
 use Rattle.bl_ops.specs.declared.access.AccessKind.{AccessKind}
 use Rattle.bl_ops.specs.declared.access.AccessKind.TheVariants.{I32Load}
 use Rattle.bl_wasm.specs.Linked.{IsLinked, IsFunction, IsMemory, IsSlot, HasImmediates, context}
@@ -28,13 +28,13 @@ module _ (store load : AccessKind) (offset pages reserve : ℕ) (stores : IsFals
   tree = memory_tree store load offset pages reserve
 
   access_typed : Types (context tree (accessing_type store load) (accessing_function store load offset)) [] (accessing store load offset)
-      ([] ∷ (I32 ∷ []) ∷ (I32 ∷ integer (type_of store) ∷ []) ∷ [] ∷ (I32 ∷ []) ∷ (integer (type_of load) ∷ []) ∷ [])
+      ([] ∷ (I32 ∷ []) ∷ (I32 ∷ integer (access_type store) ∷ []) ∷ [] ∷ (I32 ∷ []) ∷ (integer (access_type load) ∷ []) ∷ [])
   access_typed = (
     [],
     record { inside = refl; rule = (I32, refl, record { lower = []; before = refl; behind = refl }) },
     (
       [],
-      record { inside = refl; rule = (integer (type_of store), refl, record { lower = I32 ∷ []; before = refl; behind = refl }) },
+      record { inside = refl; rule = (integer (access_type store), refl, record { lower = I32 ∷ []; before = refl; behind = refl }) },
       (
         [],
         record { inside = refl; rule = (stores, wide store, omega arith, record { lower = []; before = refl; behind = refl }) },
@@ -62,7 +62,7 @@ module _ (store load : AccessKind) (offset pages reserve : ℕ) (stores : IsFals
   accesses = record {
     type = accessing_type store load;
     exists = refl;
-    places = [] ∷ (I32 ∷ []) ∷ (I32 ∷ integer (type_of store) ∷ []) ∷ [] ∷ (I32 ∷ []) ∷ (integer (type_of load) ∷ []) ∷ [];
+    places = [] ∷ (I32 ∷ []) ∷ (I32 ∷ integer (access_type store) ∷ []) ∷ [] ∷ (I32 ∷ []) ∷ (integer (access_type load) ∷ []) ∷ [];
     typing = (refl, access_typed);
     immediates = All-cons HasImmediates (LocalGet 0) (drop 1 (accessing store load offset)) tt
         (All-cons HasImmediates (LocalGet 1) (drop 2 (accessing store load offset)) tt

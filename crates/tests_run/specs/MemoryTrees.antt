@@ -4,7 +4,7 @@ use Rattle.bl_base.specs.declared.names.Label.TheVariants.{Public}
 use Rattle.bl_base.specs.declared.names.Label.{Label}
 use Rattle.bl_base.specs.declared.names.ValueType.{ValueType}
 use Rattle.bl_base.specs.declared.names.ValueType.TheVariants.{I32}
-use Rattle.bl_ops.specs.Access.{type_of}
+use Rattle.bl_ops.specs.Access.{access_type}
 use Rattle.bl_ops.specs.declared.access.AccessKind.{AccessKind}
 use Rattle.bl_wasm.specs.declared.instruction.Instr.{Instr}
 use Rattle.bl_wasm.specs.declared.instruction.Instr.TheVariants.{LocalGet, Load, Store, MemorySize, MemoryGrow}
@@ -26,7 +26,7 @@ abbrev pub growing : List Instr
 growing = LocalGet 0 ∷ MemoryGrow ∷ MemorySize ∷ []
 
 abbrev pub accessing_type : AccessKind → AccessKind → Signature
-accessing_type store load = record { params = I32 ∷ type_of store ∷ []; results = type_of load ∷ [] }
+accessing_type store load = record { params = I32 ∷ access_type store ∷ []; results = access_type load ∷ [] }
 
 abbrev pub growing_type : Signature
 growing_type = record { params = I32 ∷ []; results = I32 ∷ I32 ∷ [] }

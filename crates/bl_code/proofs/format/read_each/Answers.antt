@@ -6,7 +6,7 @@ use Rattle.bl_code.proofs.format.read_each.Goals as goal
 pub returns-in_err-tree : goal.returns-in_err-tree
 returns-in_err-tree g c =
     passes _ c.args.bytes.now c.args.at c.from_residual.result _ c.from_residual.ensures.1
-    (err_more g.F.Format.spellings c.args.bytes.now c.args.at c.loop.place c.loop.trees c.args.count _ g.met.F.Format.one c.loop.invariant.read (omega arith) c.in_err-tree.ensures)
+    (err_more g.F.Format.spellings c.args.bytes.now c.args.at c.loop.place c.loop.trees c.args.count _ g.met.F.Format.prefix_free c.loop.invariant.read (omega arith) c.in_err-tree.ensures)
 
 pub loop-preserved : goal.loop-preserved
 loop-preserved g c =

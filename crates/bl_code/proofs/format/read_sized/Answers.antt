@@ -21,7 +21,7 @@ returns-then-bytes-place g c =
 
 pub returns-then-after-end : goal.returns-then-after-end
 returns-then-after-end g c =
-    none_elsewhere g.F.Format.spellings c.args.bytes.now c.args.at c.in_ok-size.place c.in_ok-size.size c.in_ok-tree.after c.in_ok-tree.tree g.met.F.Format.one c.in_ok-size.ensures c.in_ok-tree.ensures c.if-after-end.true
+    none_elsewhere g.F.Format.spellings c.args.bytes.now c.args.at c.in_ok-size.place c.in_ok-size.size c.in_ok-tree.after c.in_ok-tree.tree g.met.F.Format.prefix_free c.in_ok-size.ensures c.in_ok-tree.ensures c.if-after-end.true
 
 pub returns : goal.returns
 returns g c =

@@ -1,7 +1,7 @@
 use Rattle.std.proofs.Common.{length}
 use Rattle.bl_wasm.specs.Values.{u32, each}
 use Rattle.bl_code.proofs.Places.{passes, err_first, reads_after}
-use Rattle.bl_code.specs.Laws.{u32_one}
+use Rattle.bl_code.specs.Laws.{u32_prefix_free}
 use Rattle.bl_code.specs.declared.error.CodeError.TheVariants.{Malformed}
 use Rattle.bl_code.proofs.format.read_vec.Goals as goal
 
@@ -11,4 +11,4 @@ returns-in_err-count g c =
     (err_first u32 (each g.F.Format.spellings) length c.args.bytes.now c.args.at Malformed c.in_err-count.ensures)
 
 pub returns : goal.returns
-returns g c = reads_after u32 (each g.F.Format.spellings) length c.args.bytes.now c.args.at c.in_ok-count.place c.in_ok-count.count _ u32_one c.in_ok-count.ensures c.read_each.ensures
+returns g c = reads_after u32 (each g.F.Format.spellings) length c.args.bytes.now c.args.at c.in_ok-count.place c.in_ok-count.count _ u32_prefix_free c.in_ok-count.ensures c.read_each.ensures

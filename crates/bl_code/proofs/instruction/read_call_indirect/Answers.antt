@@ -3,7 +3,7 @@ use Rattle.bl_wasm.specs.Values.{u32}
 use Rattle.bl_wasm.specs.Instructions.{instruction}
 use Rattle.bl_code.specs.Reading.{behind, IsAt}
 use Rattle.bl_code.specs.Shapes.{Shape}
-use Rattle.bl_code.specs.Laws.{u32_one}
+use Rattle.bl_code.specs.Laws.{u32_prefix_free}
 use Rattle.bl_code.specs.declared.error.CodeError.TheVariants.{Malformed}
 use Rattle.bl_code.proofs.Immediates.{before, number_part, err_indirect, not_zero}
 use Rattle.bl_code.proofs.Places.{passes, stands, is_at, join, as_other, err_first, err_second, none_second}
@@ -17,11 +17,11 @@ returns-in_err-index c =
 pub returns-in_err-zero : goal.returns-in_err-zero
 returns-in_err-zero c =
     passes _ c.args.bytes.now c.args.at c.from_residual-in_err-zero.result _ c.from_residual-in_err-zero.ensures.1
-    (err_indirect 0x11 c.args.bytes.now c.args.at Malformed refl (err_second u32 u32 number_part (λ _. 0) c.args.bytes.now c.args.at c.in_ok-index.place c.in_ok-index.index Malformed u32_one c.in_ok-index.ensures c.in_err-zero.ensures))
+    (err_indirect 0x11 c.args.bytes.now c.args.at Malformed refl (err_second u32 u32 number_part (λ _. 0) c.args.bytes.now c.args.at c.in_ok-index.place c.in_ok-index.index Malformed u32_prefix_free c.in_ok-index.ensures c.in_err-zero.ensures))
 
 pub returns-then-zero-ne0 : goal.returns-then-zero-ne0
 returns-then-zero-ne0 c =
-    err_indirect 0x11 c.args.bytes.now c.args.at Malformed refl (none_second {F = u32} {S = λ (s : Shape). u32 0} number_part (λ s. s) c.args.bytes.now c.args.at c.in_ok-index.place c.in_ok-index.index u32_one c.in_ok-index.ensures (not_zero c.args.bytes.now c.in_ok-index.place c.in_ok-zero.place c.in_ok-zero.zero c.if-zero-ne0.true c.in_ok-zero.ensures))
+    err_indirect 0x11 c.args.bytes.now c.args.at Malformed refl (none_second {F = u32} {S = λ (s : Shape). u32 0} number_part (λ s. s) c.args.bytes.now c.args.at c.in_ok-index.place c.in_ok-index.index u32_prefix_free c.in_ok-index.ensures (not_zero c.args.bytes.now c.in_ok-index.place c.in_ok-zero.place c.in_ok-zero.zero c.if-zero-ne0.true c.in_ok-zero.ensures))
 
 pub returns : goal.returns
 returns c =

@@ -1,7 +1,7 @@
 use Rattle.bl_wasm.specs.Values.{u32}
 use Rattle.bl_wasm.specs.Instructions.{memory_argument}
 use Rattle.bl_wasm.specs.declared.instruction.MemoryArgument.{MemoryArgument}
-use Rattle.bl_code.specs.Laws.{u32_one}
+use Rattle.bl_code.specs.Laws.{u32_prefix_free}
 use Rattle.bl_code.specs.declared.error.CodeError.TheVariants.{Malformed}
 use Rattle.bl_code.proofs.Places.{passes_none, stands, is_at, join, err_first, err_second}
 use Rattle.bl_code.proofs.instruction.read_memory_argument.Goals as goal
@@ -14,7 +14,7 @@ returns-in_err-alignment c =
 pub returns-in_err-offset : goal.returns-in_err-offset
 returns-in_err-offset c =
     passes_none _ c.args.bytes.now c.args.at c.from_residual-in_err-offset.result _ c.from_residual-in_err-offset.ensures.1
-    (err_second u32 u32 (λ (m : MemoryArgument). m.alignment) (λ m. m.offset) c.args.bytes.now c.args.at c.in_ok-alignment.place c.in_ok-alignment.alignment Malformed u32_one c.in_ok-alignment.ensures c.in_err-offset.ensures)
+    (err_second u32 u32 (λ (m : MemoryArgument). m.alignment) (λ m. m.offset) c.args.bytes.now c.args.at c.in_ok-alignment.place c.in_ok-alignment.alignment Malformed u32_prefix_free c.in_ok-alignment.ensures c.in_err-offset.ensures)
 
 pub returns : goal.returns
 returns c =

@@ -1,7 +1,7 @@
 use Rattle.std.proofs.Common.{length}
 use Rattle.bl_wasm.specs.Values.{u32, exactly}
 use Rattle.bl_code.proofs.Places.{passes, err_first, reads_after}
-use Rattle.bl_code.specs.Laws.{u32_one}
+use Rattle.bl_code.specs.Laws.{u32_prefix_free}
 use Rattle.bl_code.specs.declared.error.CodeError.TheVariants.{Malformed}
 use Rattle.bl_code.proofs.values.read_bytes.Goals as goal
 
@@ -11,4 +11,4 @@ returns-in_err-count c =
     (err_first u32 exactly length c.args.bytes.now c.args.at Malformed c.in_err-count.ensures)
 
 pub returns : goal.returns
-returns c = reads_after u32 exactly length c.args.bytes.now c.args.at c.in_ok-count.place c.in_ok-count.count _ u32_one c.in_ok-count.ensures c.read_exactly.ensures
+returns c = reads_after u32 exactly length c.args.bytes.now c.args.at c.in_ok-count.place c.in_ok-count.count _ u32_prefix_free c.in_ok-count.ensures c.read_exactly.ensures

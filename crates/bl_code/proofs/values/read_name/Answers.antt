@@ -3,7 +3,7 @@ use Rattle.std.specs.Str.{IsUtf8}
 use Rattle.bl_wasm.specs.Values.{byte_vec, name}
 use Rattle.bl_code.specs.Reading.{IsAt}
 use Rattle.bl_code.proofs.Places.{passes, err_along, one_at}
-use Rattle.bl_code.proofs.Unique.{byte_vec_one}
+use Rattle.bl_code.proofs.Unique.{byte_vec_prefix_free}
 use Rattle.bl_code.proofs.values.read_name.Goals as goal
 
 pub returns-in_err-text : goal.returns-in_err-text
@@ -14,6 +14,6 @@ returns-in_err-text c =
 pub returns-in-Err : goal.returns-in-Err
 returns-in-Err c x end h =
     let vec : IsAt byte_vec c.args.bytes.now c.args.at end x = record { forward = h.forward; inside = h.inside; spelled = h.spelled.1 } in
-    let same = one_at c.args.bytes.now c.args.at c.in_ok-text.place end c.in_ok-text.text x byte_vec_one c.in_ok-text.ensures vec in
+    let same = one_at c.args.bytes.now c.args.at c.in_ok-text.place end c.in_ok-text.text x byte_vec_prefix_free c.in_ok-text.ensures vec in
     let utf8 : IsUtf8 c.in_ok-text.text = subst IsUtf8 (sym same.1) h.spelled.0 in
     c.in-Err.ensures.cases.0 (subst IsUtf8 (sym c.as_slice.ensures) utf8)

@@ -7,7 +7,7 @@ use Rattle.bl_cmd.specs.declared.definitions.ProgramParts.{ProgramParts as Progr
 use Rattle.bl_graph.specs.SecretChains.{IsSecretChain}
 use Rattle.bl_graph.specs.Secrets.{Demands}
 use Rattle.bl_ct.specs.declared.search.Step.{Step}
-use Rattle.bl_ct.specs.Finding.{is_in, AreEnds, Searched, Has, IsLeak, Stands}
+use Rattle.bl_ct.specs.Finding.{is_in, AreEnds, Searched, Has, IsLeak, AreJustified}
 use Rattle.bl_ct.specs.Leaks.{LeakFound}
 use Rattle.bl_ct.specs.Verdicts.{IsLeastLabelling, label_of}
 use Rattle.bl_ct.proofs.Excluding.{chain_not}
@@ -55,7 +55,7 @@ first_leak-requires c = λ k d lt.
 pub chain_to-requires-clause-stands : goal.chain_to-requires-clause-stands
 chain_to-requires-clause-stands c =
     let searched : Searched c.args.known.now.program.now c.in_ok-found.found.marks.items c.in_ok-found.found.queue.items = c.in_ok-found.ensures in
-    subst (Stands c.args.known.now.program.now) (sym c.deref-in-Some.ensures.value) searched.sound
+    subst (AreJustified c.args.known.now.program.now) (sym c.deref-in-Some.ensures.value) searched.sound
 
 pub chain_to-requires-clause-leak : goal.chain_to-requires-clause-leak
 chain_to-requires-clause-leak c =

@@ -1,5 +1,5 @@
 use Rattle.std.proofs.Common.{◌++◌, ◌∙◌, ap, append-nil, sym}
-use Rattle.bl_gen.specs.Made.{item, items, kind_of}
+use Rattle.bl_gen.specs.Made.{item, items, item_kind}
 use Rattle.bl_gen.proofs.Ranges.{behind_more}
 use Rattle.bl_gen.proofs.function.push_items.Goals as goal
 
@@ -9,4 +9,4 @@ loop-j-init c = sym (append-nil c.args.to.now.items)
 
 pub loop-j-preserved : goal.loop-j-preserved
 unfolding items
-loop-j-preserved c = behind_more (λ j. item (kind_of c.args.seed c.args.i j)) c.args.to.now.items c.loop-j.to.items _ c.loop-j.j c.loop-j.invariant (c.in_ok-push_item.ensures ∙ ap (λ k. c.loop-j.to.items ++ item k) c.kind.ensures)
+loop-j-preserved c = behind_more (λ j. item (item_kind c.args.seed c.args.i j)) c.args.to.now.items c.loop-j.to.items _ c.loop-j.j c.loop-j.invariant (c.in_ok-push_item.ensures ∙ ap (λ k. c.loop-j.to.items ++ item k) c.kind.ensures)

@@ -2,7 +2,7 @@ use Rattle.std.proofs.Common.{ℕ, refl, subst, rules}
 use Rattle.bl_wasm.specs.Values.{byte, u32}
 use Rattle.bl_code.specs.Reading.{IsAt}
 use Rattle.bl_code.proofs.Places.{none_first, passes_none}
-use Rattle.bl_labels.specs.Entries.{code_of, entry, named, place}
+use Rattle.bl_labels.specs.Entries.{entry_code, entry, named, place}
 use Rattle.bl_labels.specs.declared.entry.Entry.TheVariants.{SecretParam, SecretGlobal, SecretMemory, PublicResult, PublicGlobal}
 use Rattle.bl_labels.proofs.EntryForms.{at_entry, none_entry, none_other, only_param, only_global, only_memory, only_result, only_public}
 use Rattle.bl_labels.proofs.entry.read_entry.Goals as goal
@@ -10,7 +10,7 @@ use Rattle.bl_labels.proofs.entry.read_entry.Goals as goal
 pub returns-in_err-code : goal.returns-in_err-code
 returns-in_err-code c =
     passes_none entry c.args.bytes.now c.args.at c.from_residual.result _ c.from_residual.ensures.1
-    (none_first {F = byte} {S = named} code_of c.args.bytes.now c.args.at c.in_err-code.ensures)
+    (none_first {F = byte} {S = named} entry_code c.args.bytes.now c.args.at c.in_err-code.ensures)
 
 pub returns-in_err-param-in-0 : goal.returns-in_err-param-in-0
 returns-in_err-param-in-0 c =

@@ -1,7 +1,7 @@
 use Rattle.std.proofs.Common.{◌≡◌, ◌∙◌, subst, sym}
 use Rattle.bl_seq.specs.Layouts.{IsLayout}
 use Rattle.bl_cmd.specs.Outcomes.{IsStart}
-use Rattle.bl_seq.specs.Machines.{Leads, next_of, shown}
+use Rattle.bl_seq.specs.Machines.{RunsTo, next_of, shown}
 use Rattle.bl_seq.proofs.Driving.{told_run}
 use Rattle.bl_seq.proofs.Ending.{ends_whole}
 use Rattle.bl_seq.proofs.runs.run.Goals as goal
@@ -21,4 +21,4 @@ finish-requires-clause-whole c =
     let fits = subst (λ p. IsStart p c.args.function c.args.start.now) (sym same) c.requires in
     let next = next_of parts c.in_ok-progress.progress (shown c.drive.new.self) in
     ends_whole parts both.1.facts both.1.rules c.args.function c.args.start.now fits c.args.steps next
-    (subst (λ s. Leads parts s c.args.steps next) (c.open_page.ensures ∙ c.in_ok-machine.ensures) c.in_ok-progress.ensures)
+    (subst (λ s. RunsTo parts s c.args.steps next) (c.open_page.ensures ∙ c.in_ok-machine.ensures) c.in_ok-progress.ensures)

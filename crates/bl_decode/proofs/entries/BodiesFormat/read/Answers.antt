@@ -5,9 +5,9 @@ use Rattle.bl_wasm.specs.Sections.{local_run, function_code}
 use Rattle.bl_wasm.specs.declared.module.LocalRun.{LocalRun}
 use Rattle.bl_code.specs.Reading.{IsAt}
 use Rattle.bl_code.proofs.Places.{one_at}
-use Rattle.bl_code.proofs.Unique.{vec_one}
-use Rattle.bl_code.proofs.Nesting.{expression_one}
-use Rattle.bl_decode.specs.Laws.{seq_one, local_run_one}
+use Rattle.bl_code.proofs.Unique.{vec_prefix_free}
+use Rattle.bl_code.proofs.Nesting.{expression_prefix_free}
+use Rattle.bl_decode.specs.Laws.{seq_prefix_free, local_run_prefix_free}
 use Rattle.bl_wasm.specs.declared.module.Code.{Code}
 use Rattle.bl_code.proofs.Places.{passes, err_along}
 use Rattle.bl_decode.proofs.entries.BodiesFormat.read.Goals as goal
@@ -20,7 +20,7 @@ returns-in_err-locals c =
 pub returns-then-not-are_few : goal.returns-then-not-are_few
 returns-then-not-are_few c = λ x end h.
     let there : IsAt (λ t. vec local_run t.0 ⨾ expression t.1) c.args.bytes.now c.args.at end (x.locals, x.items) = record { forward = h.forward; inside = h.inside; spelled = h.spelled.1 } in
-    let same = one_at c.args.bytes.now c.args.at c.in_ok-locals.end end (c.in_ok-locals.locals, c.in_ok-locals.items) (x.locals, x.items) (seq_one (vec_one local_run_one) expression_one) c.in_ok-locals.ensures there in
+    let same = one_at c.args.bytes.now c.args.at c.in_ok-locals.end end (c.in_ok-locals.locals, c.in_ok-locals.items) (x.locals, x.items) (seq_prefix_free (vec_prefix_free local_run_prefix_free) expression_prefix_free) c.in_ok-locals.ensures there in
     let few = subst (λ (l : List LocalRun). sum_by (λ run. run.count) l < 2 ^ 32) (sym (ap (λ t. t.0) same.1)) h.spelled.0 in
     let yes = c.are_few.ensures.1 (subst (λ (l : List LocalRun). sum_by (λ run. run.count) l < 2 ^ 32) (sym c.as_slice.ensures) few) in
     cc

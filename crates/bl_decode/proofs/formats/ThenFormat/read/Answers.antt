@@ -10,7 +10,7 @@ returns-in_err-first g c =
 pub returns-in_err-second : goal.returns-in_err-second
 returns-in_err-second g c =
     passes (λ tree. g.A.Format.spellings tree.0 ⨾ g.B.Format.spellings tree.1) c.args.bytes.now c.args.at c.from_residual-in_err-second.result _ c.from_residual-in_err-second.ensures.1
-    (err_second g.A.Format.spellings g.B.Format.spellings (λ tree. tree.0) (λ tree. tree.1) c.args.bytes.now c.args.at c.in_ok-first.place c.in_ok-first.first _ g.met.A.Format.one c.in_ok-first.ensures c.in_err-second.ensures)
+    (err_second g.A.Format.spellings g.B.Format.spellings (λ tree. tree.0) (λ tree. tree.1) c.args.bytes.now c.args.at c.in_ok-first.place c.in_ok-first.first _ g.met.A.Format.prefix_free c.in_ok-first.ensures c.in_err-second.ensures)
 
 pub returns : goal.returns
 returns g c =

@@ -1,5 +1,5 @@
 use Rattle.std.proofs.Common.{drop}
-use Rattle.bl_base.specs.Trap.{code_of as trap_code}
+use Rattle.bl_base.specs.Trap.{trap_number as trap_code}
 use Rattle.bl_image.specs.Image.{trap_kind}
 use Rattle.bl_image.specs.Grammar.{byte}
 use Rattle.bl_image.proofs.Begins.{passes, none_via}
