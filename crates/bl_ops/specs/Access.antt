@@ -88,7 +88,8 @@ narrowed kind value = iwrap (8 * width_of kind) value
 
 -- the kinds in the order of their codes
 abbrev pub kinds : List AccessKind
-kinds = I32Load ∷ I64Load ∷ I32Load8S ∷ I32Load8U ∷ I32Load16S ∷ I32Load16U ∷ I64Load8S ∷ I64Load8U ∷ I64Load16S ∷ I64Load16U ∷ I64Load32S ∷ I64Load32U ∷ I32Store ∷ I64Store ∷ I32Store8 ∷ I32Store16 ∷ I64Store8 ∷ I64Store16 ∷ I64Store32 ∷ []
+kinds = I32Load ∷ I64Load ∷ I32Load8S ∷ I32Load8U ∷ I32Load16S ∷ I32Load16U ∷ I64Load8S ∷ I64Load8U ∷ I64Load16S ∷ I64Load16U ∷
+    I64Load32S ∷ I64Load32U ∷ I32Store ∷ I64Store ∷ I32Store8 ∷ I32Store16 ∷ I64Store8 ∷ I64Store16 ∷ I64Store32 ∷ []
 
 -- the kind of a code, where there is one
 abbrev pub access_kind : ℕ → Option AccessKind

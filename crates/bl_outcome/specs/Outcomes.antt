@@ -60,6 +60,7 @@ memories_text opening memories = flat_map (λ each. memory_text each.0 (opening_
 
 -- the outcome of a function with results of those types, from those memories and within so many steps
 abbrev pub outcome_text : List ValueType → List MemoryState → ℕ → Option Outcome → List ℕ
-outcome_text kinds opening steps (Some (returned values memories)) = line (codes "returned" ++ values_text kinds values) ++ memories_text opening memories
+outcome_text kinds opening steps (Some (returned values memories)) = line (codes "returned" ++ values_text kinds values)
+    ++ memories_text opening memories
 outcome_text kinds opening steps (Some (trapped kind memories)) = line (codes "trapped " ++ text_of kind) ++ memories_text opening memories
 outcome_text kinds opening steps None = line (codes "spent " ++ decimal steps)
