@@ -214,7 +214,8 @@ reserves tree = sum_by (λ memory. memory.reserve) tree.memories
 
 -- the tree, where they are within their limit
 abbrev pub within_reserve : Store → Result Tree LinkError
-within_reserve store = if nat_le (reserves store.tree) (limit_of quantity.Reserve) then Ok store.tree else Err (Limit quantity.Reserve (reserves store.tree))
+within_reserve store =
+    if nat_le (reserves store.tree) (limit_of quantity.Reserve) then Ok store.tree else Err (Limit quantity.Reserve (reserves store.tree))
 
 -- the linked tree of parts, or the first fault: part by part, and the limit on reserves last
 abbrev pub links : List Part → Result Tree LinkError
