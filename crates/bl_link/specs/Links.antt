@@ -25,7 +25,7 @@ use Rattle.bl_wasm.specs.declared.linked.Memory.{Memory}
 use Rattle.bl_wasm.specs.declared.linked.Tree.{Tree}
 use Rattle.bl_link.specs.Matching.{all_given}
 use Rattle.bl_link.specs.Named.{qualified}
-use Rattle.bl_link.specs.IndexSpaces.{External, LinkError, Part, Spaces, Store, changed, DataRange, ElementRange, Limit, names, number, on_ok, space, spaces_of, written}
+use Rattle.bl_link.specs.Parts.{External, LinkError, Part, Spaces, Store, changed, DataRange, ElementRange, Limit, names, number, on_ok, space, spaces_of, written}
 use Rattle.bl_link.specs.Signatures.{signature, value_of}
 use Rattle.bl_wasm.specs.Renaming.{renamed}
 
@@ -214,8 +214,8 @@ reserves tree = sum_by (λ memory. memory.reserve) tree.memories
 
 -- the tree, where they are within their limit
 abbrev pub within_reserve : Store → Result Tree LinkError
-within_reserve store = if nat_le (reserves store.tree) (limit_of quantity.Reserve)
-    then Ok store.tree else Err (Limit quantity.Reserve (reserves store.tree))
+within_reserve store =
+    if nat_le (reserves store.tree) (limit_of quantity.Reserve) then Ok store.tree else Err (Limit quantity.Reserve (reserves store.tree))
 
 -- the linked tree of parts, or the first fault: part by part, and the limit on reserves last
 abbrev pub links : List Part → Result Tree LinkError

@@ -170,8 +170,8 @@ seed_of word = option_and_then (λ seed. if nat_lt (length word) 21 then Some se
 -- SIZE of `gen`: one to five decimal digits, leading zeros among them, of a number from 1 to the most functions; so it has no sign
 abbrev pub size_of : List ℕ → Option ℕ
 size_of word =
-    option_and_then (λ size. if nat_lt 0 size && nat_lt (length word) 6
-        then Some size else None) (decimal_below (limit_of quantity.Functions + 1) word)
+    option_and_then (λ size. if nat_lt 0 size && nat_lt (length word) 6 then Some size else None)
+    (decimal_below (limit_of quantity.Functions + 1) word)
 
 -- the seed and the size of a `gen` are in range
 pub record IsGenInRange (request : GenRequest) : Type 0 where
