@@ -1,4 +1,5 @@
 pub mod Bits
+pub mod Codes
 pub mod Fits
 pub mod Shifts
 pub mod Signed
