@@ -1,5 +1,9 @@
 //! Operators, their rows and the table of rows.
+ghost use Rattle.std.specs.Prelude.{◌≡◌, IsTrue, map};
+ghost use Rattle.bl_ops.specs.Table.{rise};
+
 use bl_base::ValueType;
+use std::marker::Model;
 
 /// An operator: the integer operators of WebAssembly 1.0 (section 2.4.1) and the extensions by sign that came after it
 /// (version 2.0), in the order of their codes (section 5.4.5), and three of an image.
@@ -159,9 +163,40 @@ pub struct OpRow {
     pub to: ValueType,
 }
 
-/// Rows in rising order of their codes.
+/// Rows in rising order of their codes. Contracts see the list of rows.
 #[derive(Clone, Copy, Debug)]
 pub struct OpTable<const N: usize> {
+    rows: [OpRow; N],
+}
+
+impl<const N: usize> Model for OpTable<N> {
+    ghost use Rattle.std.specs.Prelude.{IsTrue, List, map};
+    ghost use Rattle.bl_ops.specs.Table.{rise};
+    ghost use Rattle.bl_ops.specs.declared.op.OpRow.{OpRow};
+
+    ghost Value = { List OpRow };
+
+    ghost view = { λ table. table.rows };
+
+    ghost inverse = { λ rows. record { rows = rows } };
+
+    ghost invariant = { λ table. IsTrue (rise (map (λ row. row.code) table.rows)) };
+}
+
+impl<const N: usize> OpTable<N> {
+    /// The table of these rows, whose codes rise.
+    pub(crate) fn new(rows: [OpRow; N]) -> OpTable<N>
+        requires { IsTrue (rise (map (λ row. row.code) rows)) }
+        ensures { result ≡ rows.entry }
+    {
+        OpTable { rows }
+    }
+
     /// The rows.
-    pub rows: [OpRow; N],
+    pub fn rows(&self) -> &[OpRow]
+        ensures equal { result.now ≡ self.now }
+        ensures rise { IsTrue (rise (map (λ row. row.code) result.now)) }
+    {
+        &self.rows
+    }
 }

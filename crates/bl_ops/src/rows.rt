@@ -86,9 +86,7 @@ macro_rules! by_row {
     (@table ()
         $($op:ident $code:literal $operands:tt $from:ident $to:ident $group:ident $kind:ident,)*
     ) => {
-        OpTable {
-            rows: [$(by_row!(@record $code $operands $from $to),)*],
-        }
+        OpTable::new([$(by_row!(@record $code $operands $from $to),)*])
     };
     (@by_code ($byte:expr)
         $($op:ident $code:literal $operands:tt $from:ident $to:ident $group:ident $kind:ident,)*
@@ -165,7 +163,7 @@ macro_rules! by_row {
 
 /// The rows of the 66 integer operators.
 pub fn table() -> OpTable<66>
-    ensures { result.rows ≡ rows }
+    ensures { result ≡ rows }
 {
     by_row!(table())
 }

@@ -20,12 +20,13 @@ fn operators_of_an_image(rt: HostRuntime) -> Result<(), Fail> {
     assert_eq!(rt; eval(Op::Outside, 65_532, 1, 4), 0);
     assert_eq!(rt; eval(Op::Outside, 65_533, 1, 4), 1);
     assert_eq!(rt; eval(Op::Outside, 0xFFFF_FFFF, 65_536, 0x1_0000_0008), 1);
-    for one in table().rows {
+    let all = table();
+    for one in all.rows() {
         let found = match by_code(one.code) {
             Some(op) => row(op),
             None => None,
         };
-        assert_eq!(rt; found, Some(one));
+        assert_eq!(rt; found, Some(*one));
     }
     Ok(())
 }
