@@ -1,16 +1,15 @@
 -- Modules that are loaded can be linked: as parts they are within the limits, and their names are apart.
 use Rattle.std.proofs.Common.{◌≡◌, ℕ, suc, ◌≤◌, List, [], ◌∷◌, length, refl, ap, sym, ◌∙◌, subst, arith}
 use Rattle.std.specs.List.{All, AllZip}
-use Rattle.std.specs.Str.{IsUtf8}
 use Rattle.std.proofs.lemmas.List.Elements.{All-cons, All-head, All-nil, All-tail}
 use Rattle.bl_base.proofs.Lists.{zip_get, mapped_get}
 use Rattle.bl_base.specs.Quantity.{limit_of}
 use Rattle.bl_base.specs.declared.quantity.Quantity.TheVariants as quantity
 use Rattle.bl_labels.specs.Faults.{IsConsistent}
-use Rattle.bl_link.specs.Linkable.{AreParts, IsPart}
+use Rattle.bl_link.specs.Linkable.{AreParts, IsPart, NoSolidus}
 use Rattle.bl_link.specs.Links.{part_of}
 use Rattle.bl_link.specs.declared.part.Part.{Part as LinkPart}
-use Rattle.bl_link.proofs.SpelledParts.{part_from}
+use Rattle.bl_link.proofs.SpelledParts.{labelled_part}
 use Rattle.bl_build.specs.Loading.{Accepted, AreShort, LabelledModule, Named, decoding, labelling, linked_parts, parts_of, validation}
 use Rattle.bl_words.specs.Requests.{AreNamedApart, module_name}
 use Rattle.bl_build.specs.Stages.{AllPass}
@@ -41,68 +40,30 @@ are_many [] (word ∷ words) h = absurd h
 are_many (one ∷ all) [] h = absurd h
 are_many (one ∷ all) (word ∷ words) h = ap suc (are_many all words h.1)
 
-abbrev HasText : LabelledModule → Type 0
-HasText one = IsUtf8 one.name
-
 abbrev IsSane : LabelledModule → Type 0
 IsSane one = IsConsistent one.labels
 
-is_part : (one : LabelledModule) (word : List ℕ) → HasText one → IsSane one → IsOf one word → IsPart (part_of one.name one.tree one.labels)
-is_part one word text sane h =
-    let bare = part_from one.name h.bytes one.tree (record { text = text; solidus = subst (All (λ byte. byte ≡ 0x2F → ⊥)) (sym h.same_name) (no_solidus word) }) h.accepted.spelled
-    (let short = h.short in omega (arith, short)) h.accepted.within in
-    record {
-      name = bare.name;
-      functions = bare.functions;
-      results = bare.results;
-      locals = bare.locals;
-      memories = bare.memories;
-      globals = bare.globals;
-      types = bare.types;
-      imports = bare.imports;
-      import_modules = bare.import_modules;
-      import_names = bare.import_names;
-      export_names = bare.export_names;
-      labels = sane;
-    }
+is_part : (one : LabelledModule) (word : List ℕ) → IsSane one → IsOf one word → IsPart (part_of one.name one.tree one.labels)
+is_part one word sane h =
+    let named : NoSolidus one.name = subst NoSolidus (sym h.same_name) (no_solidus word) in
+    let short = h.short in
+    labelled_part one.name h.bytes one.tree one.labels sane named h.accepted.spelled (omega (arith, short)) h.accepted.within
 
-each_part : (all : List LabelledModule) (words : List (List ℕ)) → All HasText all → All IsSane all → AllZip IsOf all words → All IsPart (linked_parts all)
-each_part [] words text sane h = All-nil IsPart
-each_part (one ∷ all) [] text sane h = absurd h
-each_part (one ∷ all) (word ∷ words) text sane h =
-    All-cons IsPart (part_of one.name one.tree one.labels) (linked_parts all)
-    (is_part one word (All-head HasText one all text) (All-head IsSane one all sane) h.0)
-    (each_part all words (All-tail HasText one all text) (All-tail IsSane one all sane) h.1)
-
--- ---- names
-
--- valid modules keep their names
-pub texts_kept : (xs ys : List Named) → AllPass validation xs ys → All (λ (one : Named). IsUtf8 one.name) xs → All (λ (one : Named). IsUtf8 one.name) ys
-texts_kept [] [] v text = text
-texts_kept [] (b ∷ ys) v text = absurd v
-texts_kept (a ∷ xs) [] v text = absurd v
-texts_kept (a ∷ xs) (b ∷ ys) v text =
-    All-cons (λ (one : Named). IsUtf8 one.name) b ys (subst (λ (one : Named). IsUtf8 one.name) (sym v.0.same) (All-head (λ (one : Named). IsUtf8 one.name) a xs text))
-    (texts_kept xs ys v.1 (All-tail (λ (one : Named). IsUtf8 one.name) a xs text))
-
--- so do those whose labels are read
-pub texts_kept_on : (xs : List Named) (ys : List LabelledModule) → AllPass labelling xs ys → All (λ (one : Named). IsUtf8 one.name) xs → All (λ (one : LabelledModule). IsUtf8 one.name) ys
-texts_kept_on [] [] v text = All-nil (λ (one : LabelledModule). IsUtf8 one.name)
-texts_kept_on [] (b ∷ ys) v text = absurd v
-texts_kept_on (a ∷ xs) [] v text = absurd v
-texts_kept_on (a ∷ xs) (b ∷ ys) v text =
-    All-cons (λ (one : LabelledModule). IsUtf8 one.name) b ys (subst IsUtf8 (sym v.0.same_name) (All-head (λ (one : Named). IsUtf8 one.name) a xs text))
-    (texts_kept_on xs ys v.1 (All-tail (λ (one : Named). IsUtf8 one.name) a xs text))
+each_part : (all : List LabelledModule) (words : List (List ℕ)) → All IsSane all → AllZip IsOf all words → All IsPart (linked_parts all)
+each_part [] words sane h = All-nil IsPart
+each_part (one ∷ all) [] sane h = absurd h
+each_part (one ∷ all) (word ∷ words) sane h =
+    All-cons IsPart (part_of one.name one.tree one.labels) (linked_parts all) (is_part one word (All-head IsSane one all sane) h.0)
+    (each_part all words (All-tail IsSane one all sane) h.1)
 
 -- ---- the parts
 
 pub linkable : (words contents : List (List ℕ)) (xs ys : List Named) (zs : List LabelledModule) → length words ≤ limit_of quantity.Modules → AreNamedApart words → AreShort words contents
-    → AllPass decoding (parts_of words contents) xs → AllPass validation xs ys → AllPass labelling ys zs → All (λ (one : LabelledModule). IsUtf8 one.name) zs → All (λ (one : LabelledModule). IsConsistent one.labels) zs
-    → AreParts (linked_parts zs)
-linkable words contents xs ys zs few apart read d v l text sane =
+    → AllPass decoding (parts_of words contents) xs → AllPass validation xs ys → AllPass labelling ys zs → All (λ (one : LabelledModule). IsConsistent one.labels) zs → AreParts (linked_parts zs)
+linkable words contents xs ys zs few apart read d v l sane =
     let h = are_of words contents zs read (all_accepted (parts_of words contents) xs ys zs d v l) in
     record {
-      each = each_part zs words text sane h;
+      each = each_part zs words sane h;
       few = omega (arith, are_many zs words h, few);
       distinct = λ i j a b first second same.
           let x = mapped_get (λ (one : LabelledModule). part_of one.name one.tree one.labels) zs i a first in

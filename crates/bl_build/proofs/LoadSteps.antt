@@ -3,7 +3,6 @@ use Rattle.std.proofs.Common.{◌≡◌, ℕ, List, [], ◌∷◌, ◌++◌, map
 use Rattle.std.specs.Prelude.{Result, Ok, Err, Vec}
 use Rattle.std.specs.declared.alloc.Global.{Global}
 use Rattle.std.specs.List.{All}
-use Rattle.std.specs.Str.{IsUtf8}
 use Rattle.std.proofs.lemmas.List.{map-append}
 use Rattle.std.proofs.lemmas.List.Elements.{All-cons, All-head, All-nil, All-tail}
 use Rattle.bl_wasm.specs.Validity.{Typed}
@@ -93,15 +92,6 @@ module _ (whole : List Named) (rest left : List Checked) (done : List Ready) (on
 
   pub not_labelled : {X : Type 0} (value : X → List LabelledModule) (fault : LabelError) (e : WorkError) → e ≡ labels_error one.name fault → AreTold one.wasm (Err fault) → IsStaged (each labelling) value whole (Err e)
   not_labelled value fault e is why = subst (λ (e : WorkError). IsStaged (each labelling) value whole (Err e)) (sym is) (not_labelled_yet value one.name one.wasm whole (map checked_in left) (map ready_in done) ahead_checked fault why)
-
--- ---- names
-
--- modules that are decoded have names that are text
-pub named_texts : (spelled : List Spelled) → All (λ (one : Spelled). IsUtf8 one.name.now) spelled → All (λ (one : Named). IsUtf8 one.name) (map spelled_in spelled)
-named_texts [] text = All-nil (λ (one : Named). IsUtf8 one.name)
-named_texts (one ∷ spelled) text =
-    All-cons (λ (one : Named). IsUtf8 one.name) (spelled_in one) (map spelled_in spelled) (All-head (λ (one : Spelled). IsUtf8 one.name.now) one spelled text)
-    (named_texts spelled (All-tail (λ (one : Spelled). IsUtf8 one.name.now) one spelled text))
 
 -- labels that don't contradict themselves
 pub are_sane : (ready : List Ready) → All (λ (one : Ready). IsConsistent one.labels) ready → All (λ (one : LabelledModule). IsConsistent one.labels) (map ready_in ready)

@@ -2,7 +2,6 @@
 //! linked.
 ghost use Rattle.std.specs.Prelude.{◌≡◌, ◌<◌, ◌≤◌, ◌^◌, IfOk, length, map};
 ghost use Rattle.std.specs.List.{All};
-ghost use Rattle.std.specs.Str.{IsUtf8};
 ghost use Rattle.bl_base.specs.Quantity.{limit_of};
 ghost use Rattle.bl_base.specs.declared.quantity.Quantity.TheVariants as quantity;
 ghost use Rattle.bl_wasm.specs.Validity.{functions_of};
@@ -87,14 +86,11 @@ fn decode_all<'a>(
     contents: &[Vec<u8>],
 ) -> Result<Vec<Spelled<'a>>, WorkError<'a>>
     ensures staged { IsStaged (each decoding) (λ all. map spelled_in all.items) (parts_of (map (λ word. word.now) words.now) (contents_in contents.now)) result }
-    ensures text { IfOk result (λ all. All (λ one. IsUtf8 one.name.now) all.items) }
     ensures few { IfOk result (λ all. All (λ one. length (functions_of one.tree) < 2 ^ 32) all.items) }
 {
     let mut all = Vec::new(alloc);
     for (word, bytes) in words.iter().zip(contents) {
         let name = module_name(*word);
-        // That it is text is read with its bytes.
-        let _text = name.as_bytes();
         match decode(alloc, bytes) {
             Ok(tree) => all.push(Spelled { name, tree })?,
             Err(error) => return Err(of_decoding(name, error)),

@@ -3,11 +3,10 @@ use Rattle.std.proofs.Common.{◌≡◌, ◌∙◌, refl, sym, ap, subst, ℕ, z
 use Rattle.std.specs.List.{All, cons_option}
 use Rattle.std.proofs.lemmas.List.{append_cancel_left}
 use Rattle.std.proofs.lemmas.List.Elements.{All-head, All-tail}
-use Rattle.std.specs.Str.{IsUtf8}
-use Rattle.std.proofs.lemmas.Str.{IsUtf8-append}
 use Rattle.std.proofs.Math.Nat.{suc_inj}
 use Rattle.bl_base.proofs.Lists.{mapped_get}
 use Rattle.bl_wasm.specs.Exports.{Pairs, AreDistinct}
+use Rattle.bl_link.specs.Linkable.{NoSolidus}
 use Rattle.bl_link.specs.Stores.{AreApart}
 
 -- ---- what was filtered
@@ -88,9 +87,6 @@ apart_map name other f xs each apart i j a b first second same =
 
 -- ---- a solidus
 
-abbrev pub NoSolidus : List ℕ → Type 0
-NoSolidus name = All (λ byte. byte ≡ 0x2F → ⊥) name
-
 -- what stands before the first solidus is determined
 pub before_solidus : (a b x y : List ℕ) → NoSolidus a → NoSolidus b → a ++ 0x2F ∷ x ≡ b ++ 0x2F ∷ y → a ≡ b
 before_solidus [] [] x y n m e = refl
@@ -103,11 +99,3 @@ before_solidus (c ∷ a) (d ∷ b) x y n m e =
 
 pub behind_solidus : (name a b : List ℕ) → name ++ 0x2F ∷ a ≡ name ++ 0x2F ∷ b → a ≡ b
 behind_solidus name a b e = ap (drop 1) (append_cancel_left name (0x2F ∷ a) (0x2F ∷ b) e)
-
--- the name in the tree is text
-pub text_of : (name these : List ℕ) {none front parted whole : List ℕ} → none ≡ [] → front ≡ none ++ name → parted ≡ front ++ 0x2F ∷ [] → whole ≡ parted ++ these → IsUtf8 name → IsUtf8 these → IsUtf8 whole
-unfolding lib.Utf8.encode
-text_of name these {whole = whole} one two three four named text =
-    let solidus : IsUtf8 (0x2F ∷ []) = (0x2F ∷ [], (refl, refl)) in
-    let all : name ++ 0x2F ∷ [] ++ these ≡ whole = rw (four, three, two, one) refl in
-    subst IsUtf8 all (IsUtf8-append (name ++ 0x2F ∷ []) these (IsUtf8-append name (0x2F ∷ []) named solidus) text)

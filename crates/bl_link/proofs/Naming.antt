@@ -1,8 +1,8 @@
 -- Names that are added one after another.
 use Rattle.std.proofs.Common.{◌≡◌, ◌∙◌, refl, sym, ap, subst, ℕ, suc, ◌+◌, ◌<◌, List, [], ◌∷◌, ◌++◌, length, get_or, drop, map, true, false, cond, Option, Some, None, slice_get, filter_map, arith, append_assoc}
-use Rattle.std.specs.List.{All, cons_option}
+use Rattle.std.specs.List.{cons_option}
 use Rattle.std.specs.Bool.{Decides}
-use Rattle.std.specs.Str.{IsUtf8, bytes_eq}
+use Rattle.std.specs.Str.{bytes_eq}
 use Rattle.std.proofs.lemmas.List.{drop_more}
 use Rattle.std.proofs.lemmas.Option.{slice_get_within}
 use Rattle.std.proofs.lemmas.Slice.Eq.{bytes_eq-Decides}
@@ -125,7 +125,3 @@ module _ (part : List ℕ) (spaces : Spaces) (entries : List Export) (i : ℕ) (
       ap (λ o. now ++ cons_option o (pairs_of (drop (i + 1) entries))) (sym (pair_of_other part spaces entry other))
       ∙ ap (λ l. now ++ l) (sym (filtered_at (λ entry. pair (exported part spaces entry)) entries i entry below is))
       ∙ so_far
-
--- what holds of each entry
-pub entry_text : (entries : List Export) (i : ℕ) (entry : Export) → i < length entries → entry ≡ get_or entries i entry → All (λ one. IsUtf8 one.name) entries → IsUtf8 entry.name
-entry_text entries i entry below is all = subst (λ (e : Export). IsUtf8 e.name) (sym is) (all i entry below)

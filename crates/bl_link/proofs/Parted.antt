@@ -46,7 +46,7 @@ use Rattle.bl_link.specs.IndexSpaces.{External, Part, Spaces, Store, number, of_
 use Rattle.bl_link.specs.Signatures.{signature, value_of}
 use Rattle.bl_link.specs.Stores.{IsStore, IsTable, OfPart, ValueOfPart}
 use Rattle.bl_link.proofs.Matched.{HasGlobal, OfIndex, Suits, globals_suit}
-use Rattle.bl_link.proofs.NameLemmas.{before_solidus, behind_solidus, came, apart_append, apart_map, distinct_filtered, NoSolidus}
+use Rattle.bl_link.proofs.NameLemmas.{before_solidus, behind_solidus, came, apart_append, apart_map, distinct_filtered}
 use Rattle.bl_link.proofs.Numbering.{by_place, get_numbered, get_right}
 use Rattle.bl_link.proofs.Placed.{at_place, functions_numbered, grows_itself, grows_on, grows_part, is_function, pair_at}
 use Rattle.bl_link.proofs.SegmentLemmas.{NamesFunctions}
@@ -212,13 +212,13 @@ module _ (done : List Part) (store : Store) (part : Part) (given : List External
   pairs_apart i j a b first second same =
       let old = all_get (OfPart done) store.tree.exports i a is.named first in
       let c = came made part.wasm.exports j b second in
-      (fresh old.0 old.1).1 (before_solidus old.0.name part.name old.2 c.source.name (fresh old.0 old.1).0 good.name.solidus (sym old.3 ∙ same ∙ (made_is c.source b c.gave).1))
+      (fresh old.0 old.1).1 (before_solidus old.0.name part.name old.2 c.source.name (fresh old.0 old.1).0 good.name (sym old.3 ∙ same ∙ (made_is c.source b c.gave).1))
 
   values_apart : (i j : ℕ) (a b : List ℕ × External) → slice_get store.exports i ≡ Some a → slice_get (map (exported part.name (spaces_of store part.wasm given)) part.wasm.exports) j ≡ Some b → a.0 ≡ b.0 → ⊥
   values_apart i j a b first second same =
       let old = all_get (ValueOfPart done) store.exports i a is.values_named first in
       let x = mapped_get (exported part.name (spaces_of store part.wasm given)) part.wasm.exports j b second in
-      (fresh old.0 old.1).1 (before_solidus old.0.name part.name old.2 x.0.name (fresh old.0 old.1).0 good.name.solidus (sym old.3 ∙ same ∙ ap (λ (v : List ℕ × External). v.0) (sym x.2)))
+      (fresh old.0 old.1).1 (before_solidus old.0.name part.name old.2 x.0.name (fresh old.0 old.1).0 good.name (sym old.3 ∙ same ∙ ap (λ (v : List ℕ × External). v.0) (sym x.2)))
 
   grown : length store.tree.functions ≤ length behind.tree.functions
   grown = omega (arith, length-append store.tree.functions (map (function part.wasm.types part.labels (spaces_of store part.wasm given)) (indexed (spaces_of store part.wasm given).functions (zip part.wasm.functions part.wasm.bodies))))

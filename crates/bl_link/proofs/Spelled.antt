@@ -1,24 +1,16 @@
--- What the spelling of a module says of its globals and its exports.
-use Rattle.std.proofs.Common.{ℕ, ◌≤◌, inl, inr, List, [], ◌∷◌, length, length-append, ap, subst, sym, arith}
-use Rattle.std.specs.List.{All}
-use Rattle.std.specs.Str.{IsUtf8}
-use Rattle.std.proofs.lemmas.List.Elements.{All-nil, All-cons}
+-- What the spelling of a module says of its globals.
+use Rattle.std.proofs.Common.{ℕ, ◌≤◌, inl, inr, List, [], ◌∷◌, length, length-append, ap, arith}
 use Rattle.bl_wasm.specs.Values.{Spellings, each}
-use Rattle.bl_wasm.specs.Sections.{export_entry, global_entry, vec_section}
+use Rattle.bl_wasm.specs.Sections.{global_entry, vec_section}
 use Rattle.bl_wasm.specs.Modules.{◌▷◌}
 use Rattle.bl_wasm.specs.declared.module.CustomSection.{CustomSection}
 use Rattle.bl_wasm.specs.declared.module.DefinedGlobal.{DefinedGlobal}
-use Rattle.bl_wasm.specs.declared.module.Export.{Export}
 
 -- ---- spellings of several, one after another
 
 each_length : {A : Type 0} (B : A → Spellings) → ((x : A) (bytes : List ℕ) → B x bytes → 1 ≤ length bytes) → (xs : List A) (bytes : List ℕ) → each B xs bytes → length xs ≤ length bytes
 each_length B some [] bytes h = omega arith
 each_length B some (x ∷ xs) bytes h = omega (arith, some x h.front h.first, each_length B some xs h.rest h.second, ap length h.whole, length-append h.front h.rest)
-
-each_all : {A : Type 0} (B : A → Spellings) (P : A → Type 0) → ((x : A) (bytes : List ℕ) → B x bytes → P x) → (xs : List A) (bytes : List ℕ) → each B xs bytes → All P xs
-each_all B P gives [] bytes h = All-nil P
-each_all B P gives (x ∷ xs) bytes h = All-cons P x xs (gives x h.front h.first) (each_all B P gives xs h.rest h.second)
 
 -- ---- a section of several
 
@@ -36,10 +28,6 @@ section_length id B some xs bytes (inl h) =
       length-append h.front h.rest,
     )
 section_length id B some xs bytes (inr none) = omega (arith, ap length none.0)
-
-pub section_all : {A : Type 0} (id : ℕ) (B : A → Spellings) (P : A → Type 0) → ((x : A) (bytes : List ℕ) → B x bytes → P x) → (xs : List A) (bytes : List ℕ) → vec_section id B xs bytes → All P xs
-section_all id B P gives xs bytes (inl h) = each_all B P gives xs h.second.spelled.rest h.second.spelled.second
-section_all id B P gives xs bytes (inr none) = subst (All P) (sym none.0) (All-nil P)
 
 -- ---- the sections of a module
 
@@ -70,12 +58,9 @@ stands customs bytes whole most h =
       left = lengths.1;
     }
 
--- ---- globals and exports
+-- ---- globals
 
 pub global_spelled : (global : DefinedGlobal) (bytes : List ℕ) → global_entry global bytes → 1 ≤ length bytes
 global_spelled global bytes h =
     let last = h.second.1 in
     omega (arith, ap length h.whole, length-append h.front h.rest, ap length last.whole, length-append last.front last.rest, ap length last.second)
-
-pub export_spelled : (entry : Export) (bytes : List ℕ) → export_entry entry bytes → IsUtf8 entry.name
-export_spelled entry bytes h = h.first.0

@@ -1,12 +1,9 @@
 -- What the spelling of a module says of a part that it is.
 use Rattle.std.proofs.Common.{◌≡◌, refl, sym, subst, ℕ, zero, suc, ◌<◌, ◌≤◌, ◌^◌, List, [], ◌∷◌, length, length-append, map, ap, arith, Option, None}
 use Rattle.std.specs.List.{All, zip}
-use Rattle.std.specs.Str.{IsUtf8}
 use Rattle.std.proofs.lemmas.List.{length-map}
 use Rattle.std.proofs.lemmas.List.Elements.{All-nil, All-cons, All-weaker}
 use Rattle.std.proofs.lemmas.Option.{none-some}
-use Rattle.std.proofs.lemmas.Str.{IsUtf8-from_ascii}
-use Rattle.std.proofs.lemmas.Str.Ascii.{IsAscii-nil, IsAscii-cons}
 use Rattle.bl_base.specs.Quantity.{limit_of}
 use Rattle.bl_base.specs.declared.quantity.Quantity.TheVariants.{Functions, Locals, Memory, Results, Table}
 use Rattle.bl_base.proofs.OptionLemmas.{either_none}
@@ -16,7 +13,7 @@ use Rattle.bl_labels.specs.Marked.{unlabelled}
 use Rattle.bl_labels.specs.declared.labels.Labels.{Labels}
 use Rattle.bl_wasm.specs.Limits.{Excess, above, first_excess, first_in, function_excess, local_count}
 use Rattle.bl_wasm.specs.Modules.{Spells}
-use Rattle.bl_wasm.specs.Sections.{export_entry, global_entry, import_entry, import_kind}
+use Rattle.bl_wasm.specs.Sections.{global_entry, import_entry, import_kind}
 use Rattle.bl_wasm.specs.Types.{function_type}
 use Rattle.bl_wasm.specs.Validity.{functions_of, global_of, imported}
 use Rattle.bl_wasm.specs.declared.module.DefinedGlobal.{DefinedGlobal}
@@ -28,11 +25,11 @@ use Rattle.bl_wasm.specs.declared.module.Code.{Code}
 use Rattle.bl_wasm.specs.declared.types.FuncType.{FuncType}
 use Rattle.bl_wasm.specs.declared.types.Limits.{Limits}
 use Rattle.bl_wasm.proofs.LimitLemmas.{above_none}
-use Rattle.bl_link.specs.Linkable.{AreParts, IsName, IsPart}
+use Rattle.bl_link.specs.Linkable.{AreParts, IsPart, NoSolidus}
 use Rattle.bl_link.specs.Links.{part_of}
 use Rattle.bl_link.specs.Stores.{AreApart}
 use Rattle.bl_link.specs.declared.part.Part.{Part}
-use Rattle.bl_link.proofs.Spelled.{export_spelled, global_spelled, section_all, section_length, stands}
+use Rattle.bl_link.proofs.Spelled.{global_spelled, section_length, stands}
 
 type_spelled : (type : FuncType) (bytes : List ℕ) → function_type type bytes → 1 ≤ length bytes
 type_spelled type bytes h = omega (arith, ap length h.whole, length-append h.front h.rest, ap length h.first)
@@ -48,14 +45,11 @@ import_spelled entry bytes h =
     let last = h.second in
     omega (arith, ap length h.whole, length-append h.front h.rest, ap length last.whole, length-append last.front last.rest, kind_spelled entry.kind last.rest last.second)
 
--- each type, import and global takes a byte, and the names are text
+-- each type, import and global takes a byte
 pub record IsSpelled (bytes : List ℕ) (tree : Module) : Type 0 where
   pub types : length tree.types ≤ length bytes
   pub imports : length tree.imports ≤ length bytes
   pub globals : length tree.globals ≤ length bytes
-  pub import_modules : All (λ entry. IsUtf8 entry.from) tree.imports
-  pub import_names : All (λ entry. IsUtf8 entry.name) tree.imports
-  pub export_names : All (λ entry. IsUtf8 entry.name) tree.exports
 
 pub is_spelled : (bytes : List ℕ) (tree : Module) → Spells bytes tree → IsSpelled bytes tree
 is_spelled bytes tree h =
@@ -67,14 +61,10 @@ is_spelled bytes tree h =
     let tables = stands functions.customs functions.rest (length bytes) functions.left functions.behind in
     let memories = stands tables.customs tables.rest (length bytes) tables.left tables.behind in
     let globals = stands memories.customs memories.rest (length bytes) memories.left memories.behind in
-    let exports = stands globals.customs globals.rest (length bytes) globals.left globals.behind in
     record {
       types = omega (arith, section_length 1 function_type type_spelled tree.types types.section types.spelled, types.within);
       imports = omega (arith, section_length 2 import_entry import_spelled tree.imports imports.section imports.spelled, imports.within);
       globals = omega (arith, section_length 6 global_entry global_spelled tree.globals globals.section globals.spelled, globals.within);
-      import_modules = section_all 2 import_entry (λ entry. IsUtf8 entry.from) (λ entry these spelled. spelled.first.0) tree.imports imports.section imports.spelled;
-      import_names = section_all 2 import_entry (λ entry. IsUtf8 entry.name) (λ entry these spelled. spelled.second.first.0) tree.imports imports.section imports.spelled;
-      export_names = section_all 7 export_entry (λ entry. IsUtf8 entry.name) export_spelled tree.exports exports.section exports.spelled;
     }
 
 -- ---- the limits
@@ -89,7 +79,7 @@ few_locals : (types : List FuncType) (defined : ℕ × Code) → function_excess
 few_locals types defined none = above_none Locals (local_count types defined) (either_none (above Locals (local_count types defined)) _ none).0
 
 -- a part by its bytes, with labels that don't contradict themselves
-pub labelled_part : (name bytes : List ℕ) (tree : Module) (labels : Labels) → IsConsistent labels → IsName name → Spells bytes tree → length bytes < 2 ^ 25 → first_excess tree ≡ None → IsPart (part_of name tree labels)
+pub labelled_part : (name bytes : List ℕ) (tree : Module) (labels : Labels) → IsConsistent labels → NoSolidus name → Spells bytes tree → length bytes < 2 ^ 25 → first_excess tree ≡ None → IsPart (part_of name tree labels)
 labelled_part name bytes tree labels consistent named spelled few none =
     let s = is_spelled bytes tree spelled in
     let functions = either_none (above Functions (length (functions_of tree))) _ none in
@@ -116,37 +106,27 @@ labelled_part name bytes tree labels consistent named spelled few none =
       );
       types = omega (arith, s.types, few);
       imports = omega (arith, s.imports, few);
-      import_modules = s.import_modules;
-      import_names = s.import_names;
-      export_names = s.export_names;
       labels = consistent;
     }
 
 pub none_consistent : IsConsistent unlabelled
 none_consistent index h = absurd (cc h)
 
--- and without labels
-pub part_from : (name bytes : List ℕ) (tree : Module) → IsName name → Spells bytes tree → length bytes < 2 ^ 25 → first_excess tree ≡ None → IsPart (part_of name tree unlabelled)
-part_from name bytes tree named spelled few none = labelled_part name bytes tree unlabelled none_consistent named spelled few none
-
 -- ---- what is read
 
 -- a letter is a name
-pub is_name : (letter : ℕ) → letter < 128 → (letter ≡ 0x2F → ⊥) → IsName (letter ∷ [])
-is_name letter ascii other = record {
-  text = IsUtf8-from_ascii (letter ∷ []) (IsAscii-cons letter [] ascii IsAscii-nil);
-  solidus = All-cons (λ byte. byte ≡ 0x2F → ⊥) letter [] other (All-nil (λ byte. byte ≡ 0x2F → ⊥));
-}
+pub is_name : (letter : ℕ) → (letter ≡ 0x2F → ⊥) → NoSolidus (letter ∷ [])
+is_name letter other = All-cons (λ byte. byte ≡ 0x2F → ⊥) letter [] other (All-nil (λ byte. byte ≡ 0x2F → ⊥))
 
 -- a part is put together of a name that is copied, a module that is decoded and then validated, and labels
-pub read_part : (name letters bytes : List ℕ) (tree wasm : Module) (labels : Labels) → name ≡ letters → wasm ≡ tree → IsConsistent labels → IsName letters
+pub read_part : (name letters bytes : List ℕ) (tree wasm : Module) (labels : Labels) → name ≡ letters → wasm ≡ tree → IsConsistent labels → NoSolidus letters
     → Spells bytes tree → length bytes < 2 ^ 25 → first_excess tree ≡ None → IsPart (part_of name wasm labels)
 read_part name letters bytes tree wasm labels named same consistent is spelled few none =
     subst (λ n. IsPart (part_of n wasm labels)) (sym named)
     (subst (λ w. IsPart (part_of letters w labels)) (sym same) (labelled_part letters bytes tree labels consistent is spelled few none))
 
 -- and of no labels
-pub read_bare : (name letters bytes : List ℕ) (tree wasm : Module) (labels : Labels) → name ≡ letters → wasm ≡ tree → labels ≡ unlabelled → IsName letters
+pub read_bare : (name letters bytes : List ℕ) (tree wasm : Module) (labels : Labels) → name ≡ letters → wasm ≡ tree → labels ≡ unlabelled → NoSolidus letters
     → Spells bytes tree → length bytes < 2 ^ 25 → first_excess tree ≡ None → IsPart (part_of name wasm labels)
 read_bare name letters bytes tree wasm labels named same bare is spelled few none =
     read_part name letters bytes tree wasm labels named same (subst IsConsistent (sym bare) none_consistent) is spelled few none

@@ -23,7 +23,6 @@ use Rattle.bl_link.specs.Matching.{all_given, given, given_of, matches, named}
 use Rattle.bl_link.specs.IndexSpaces.{External, LinkError, Part, Spaces, Store, all_ok, DataRange, ElementRange, Limit, Mismatch, number, on_ok, spaces_of}
 use Rattle.bl_link.specs.Stores.{IsStore, IsTable, OfPart, ValueOfPart}
 use Rattle.bl_link.proofs.Matched.{Suits}
-use Rattle.bl_link.proofs.NameLemmas.{NoSolidus}
 use Rattle.bl_link.proofs.Numbering.{get_left, get_right}
 use Rattle.bl_link.proofs.Parted.{part_kept, segments_name}
 use Rattle.bl_link.proofs.Placed.{grows_itself}
@@ -143,7 +142,7 @@ fresh_of parts rest done part are split p contains =
     let there : slice_get done i ≡ Some p = slice_get-get_or done i p place.1 ∙ ap (λ (q : Part). Some q) (place.2 p) in
     let first : slice_get parts i ≡ Some p = subst (λ (l : List Part). slice_get l i ≡ Some p) split (get_left done (part ∷ rest) i p there) in
     let second : slice_get parts (length done + 0) ≡ Some part = subst (λ (l : List Part). slice_get l (length done + 0) ≡ Some part) split (get_right done (part ∷ rest) 0) in
-    ((all_get IsPart parts i p are.each first).name.solidus, λ same. let clash : i ≡ length done + 0 = are.distinct i (length done + 0) p part first second same in absurd (omega (arith, clash, place.1)))
+    ((all_get IsPart parts i p are.each first).name, λ same. let clash : i ≡ length done + 0 = are.distinct i (length done + 0) p part first second same in absurd (omega (arith, clash, place.1)))
 
 pub step_kept : (parts rest done : List Part) (part : Part) (so_far : Result Store LinkError) (next : Store) → AreParts parts → All IsSound parts → done ++ part ∷ rest ≡ parts → ((store : Store) → so_far ≡ Ok store → IsStore done store)
     → with_next so_far (length done, part) ≡ Ok next → IsStore (done ++ part ∷ []) next

@@ -1,7 +1,7 @@
 -- When a part can be linked behind others.
 use Rattle.std.specs.Prelude.{◌≡◌, ℕ, ◌<◌, ◌++◌, List, length}
 use Rattle.std.specs.List.{All, Contains}
-use Rattle.bl_link.specs.Linkable.{AreParts, IsPart, IsSound}
+use Rattle.bl_link.specs.Linkable.{AreParts, IsPart, IsSound, NoSolidus}
 use Rattle.bl_link.specs.IndexSpaces.{Part, Store}
 use Rattle.bl_link.specs.Stores.{IsStore}
 
@@ -12,7 +12,7 @@ pub record CanLink (store : Store) (part : Part) : Type 0 where
   pub few : length done < 8
   pub good : IsPart part
   pub sound : IsSound part
-  pub fresh : (p : Part) → Contains done p → All (λ byte. byte ≡ 0x2F → ⊥) p.name × (p.name ≡ part.name → ⊥)
+  pub fresh : (p : Part) → Contains done p → NoSolidus p.name × (p.name ≡ part.name → ⊥)
 
 -- the store is what is linked of the first parts, so many, and the rest is left
 pub record AreLeft (store : Store) (number : ℕ) (rest : List Part) : Type 0 where

@@ -1,7 +1,6 @@
 -- Parts that can be linked: what the callers of linking know of them.
 use Rattle.std.specs.Prelude.{◌≡◌, ℕ, ◌^◌, ◌<◌, ◌≤◌, false, List, length, slice_get, Some, IsTrue}
 use Rattle.std.specs.List.{All, zip}
-use Rattle.std.specs.Str.{IsUtf8}
 use Rattle.bl_base.specs.Fits.{AreBytes}
 use Rattle.bl_base.specs.Quantity.{limit_of}
 use Rattle.bl_base.specs.declared.quantity.Quantity.TheVariants.{Functions, Locals, Memory, Modules, Results}
@@ -11,14 +10,13 @@ use Rattle.bl_wasm.specs.Linked.{HasImmediates}
 use Rattle.bl_wasm.specs.Validity.{Typed, functions_of, globals_of}
 use Rattle.bl_link.specs.IndexSpaces.{Part}
 
--- the name of a part is text without a solidus
-pub record IsName (name : List ℕ) : Type 0 where
-  pub text : IsUtf8 name
-  pub solidus : All (λ byte. byte ≡ 0x2F → ⊥) name
+-- no byte of a name is a solidus
+abbrev pub NoSolidus : List ℕ → Type 0
+NoSolidus name = All (λ byte. byte ≡ 0x2F → ⊥) name
 
--- a part is within the limits of a module, its names are text, and its labels don't contradict themselves
+-- a part is within the limits of a module, its name has no solidus, and its labels don't contradict themselves
 pub record IsPart (part : Part) : Type 0 where
-  pub name : IsName part.name
+  pub name : NoSolidus part.name
   pub functions : length (functions_of part.wasm) ≤ limit_of Functions
   pub results : All (λ type. length type.results ≤ limit_of Results) part.wasm.types
   pub locals : All (λ defined. local_count part.wasm.types defined ≤ limit_of Locals) (zip part.wasm.functions part.wasm.bodies)
@@ -27,9 +25,6 @@ pub record IsPart (part : Part) : Type 0 where
   pub globals : length (globals_of part.wasm) < 2 ^ 26
   pub types : length part.wasm.types < 2 ^ 26
   pub imports : length part.wasm.imports < 2 ^ 26
-  pub import_modules : All (λ import. IsUtf8 import.from) part.wasm.imports
-  pub import_names : All (λ import. IsUtf8 import.name) part.wasm.imports
-  pub export_names : All (λ entry. IsUtf8 entry.name) part.wasm.exports
   -- no global is both secret and demanded public
   pub labels : (index : ℕ) → IsTrue (is_listed part.labels.globals index) → is_listed part.labels.demanded index ≡ false
 

@@ -1,7 +1,6 @@
 //! Linking of all parts.
 ghost use Rattle.std.specs.Prelude.{◌≡◌, ◌<◌, ◌^◌, ◌++◌, Ok, filter_map, fold, length, map, nat_le, sum_by, IsTrue, OnOk};
 ghost use Rattle.std.specs.List.{All, enumerate_from, list_all, zip};
-ghost use Rattle.std.specs.Str.{IsUtf8};
 ghost use Rattle.std.specs.Vec.Iter.{into_iter_items};
 ghost use Rattle.bl_base.specs.Quantity.{limit_of};
 ghost use Rattle.bl_base.specs.declared.quantity.Quantity.TheVariants.{Reserve};
@@ -136,8 +135,6 @@ fn link_given(
     marks: &Marks,
     spaces: &Spaces,
 ) -> Result<(), LinkError>
-    requires name { IsUtf8 name.now }
-    requires text { All (λ entry. IsUtf8 entry.name) wasm.old.exports }
     requires room { HasRoom store.old.tree (part_of name.now wasm.old marks.now) spaces.now }
     requires apart { AreApart (λ value. value.0) (store.old.exports ++ map (exported name.now spaces.now) wasm.old.exports) }
     ensures { Makes result store.new (with_segments_of wasm.old.elements wasm.old.segments spaces.now number (with_part_of store.old (part_of name.now wasm.old marks.now) spaces.now)) }
@@ -166,8 +163,6 @@ fn with_part(
     marks: &Marks,
     spaces: &Spaces,
 ) -> Result<(), NoMemory>
-    requires name { IsUtf8 name.now }
-    requires text { All (λ entry. IsUtf8 entry.name) wasm.now.exports }
     requires room { HasRoom store.old.tree (part_of name.now (with_code wasm.now bodies) marks.now) spaces.now }
     requires apart { AreApart (λ value. value.0) (store.old.exports ++ map (exported name.now spaces.now) wasm.now.exports) }
     ensures { OnOk result (store.new ≡ with_part_of store.old (part_of name.now (with_code wasm.now bodies) marks.now) spaces.now) }
@@ -247,9 +242,7 @@ fn with_exports(
     wasm: &Module,
     spaces: &Spaces,
 ) -> Result<(), NoMemory>
-    requires name { IsUtf8 name.now }
-    requires text { All (λ entry. IsUtf8 entry.name) wasm.now.exports }
-    requires distinct { AreDistinct (tree.old.exports ++ filter_map (λ entry. pair (exported name.now spaces.now entry)) wasm.now.exports) }
+    requires { AreDistinct (tree.old.exports ++ filter_map (λ entry. pair (exported name.now spaces.now entry)) wasm.now.exports) }
     ensures { OnOk result (tree.new ≡ record tree.old { exports = tree.old.exports ++ filter_map (λ entry. pair (exported name.now spaces.now entry)) wasm.now.exports }) }
 {
     let before = mem::replace(&mut tree.exports, Exports::new(alloc));
@@ -265,9 +258,7 @@ fn with_names_of(
     wasm: &Module,
     spaces: &Spaces,
 ) -> Result<(), NoMemory>
-    requires name { IsUtf8 name.now }
-    requires text { All (λ entry. IsUtf8 entry.name) wasm.now.exports }
-    requires apart { AreApart (λ value. value.0) (store.old.exports ++ map (exported name.now spaces.now) wasm.now.exports) }
+    requires { AreApart (λ value. value.0) (store.old.exports ++ map (exported name.now spaces.now) wasm.now.exports) }
     ensures { OnOk result (store.new ≡ record store.old { exports = store.old.exports ++ map (exported name.now spaces.now) wasm.now.exports }) }
 {
     let before = mem::replace(&mut store.exports, Named::new(alloc));

@@ -1,7 +1,6 @@
 //! What the imports of a part are given.
-ghost use Rattle.std.specs.Prelude.{◌≡◌, ◌∷◌, ◌++◌, ◌<◌, ◌^◌, length, nat_eq, IfOk, string_bytes};
-ghost use Rattle.std.specs.List.{All, list_any};
-ghost use Rattle.std.specs.Str.{IsUtf8};
+ghost use Rattle.std.specs.Prelude.{◌≡◌, ◌∷◌, ◌++◌, ◌<◌, ◌^◌, length, nat_eq, IfOk};
+ghost use Rattle.std.specs.List.{list_any};
 ghost use Rattle.bl_link.specs.Giving.{Gives};
 ghost use Rattle.bl_link.specs.Matching.{all_given, given as given_of};
 
@@ -29,8 +28,6 @@ fn one_given(
     place: u32,
     import: &Import,
 ) -> Result<External, LinkError>
-    requires from { IsUtf8 import.now.from }
-    requires name { IsUtf8 import.now.name }
     ensures { Gives result (given_of store.now wasm.now part (place, import.now)) }
 {
     if has_solidus(import.from.as_slice()) {
@@ -42,7 +39,7 @@ fn one_given(
     let Ok(name) = qualified(alloc, import.from.as_slice(), import.name.as_slice()) else {
         return Err(LinkError::Memory);
     };
-    let Some(value) = store.exports.find(name.as_str()) else {
+    let Some(value) = store.exports.find(name.as_slice()) else {
         return Err(LinkError::Unknown {
             part,
             import: place,
@@ -65,9 +62,7 @@ pub(crate) fn given(
     wasm: &Module,
     part: u32,
 ) -> Result<List<External>, LinkError>
-    requires few { length wasm.now.imports < 2 ^ 32 }
-    requires from { All (λ import. IsUtf8 import.from) wasm.now.imports }
-    requires name { All (λ import. IsUtf8 import.name) wasm.now.imports }
+    requires { length wasm.now.imports < 2 ^ 32 }
     ensures { Gives result (all_given store.now wasm.now part) }
 {
     let mut values = List::new(alloc);

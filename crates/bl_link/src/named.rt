@@ -1,5 +1,5 @@
 //! The exports of all parts that are linked, by their names.
-ghost use Rattle.std.specs.Prelude.{◌≡◌, [], ◌∷◌, ◌++◌, None, OnOk, OnErr, string_bytes};
+ghost use Rattle.std.specs.Prelude.{◌≡◌, [], ◌∷◌, ◌++◌, None, OnOk, OnErr};
 ghost use Rattle.bl_link.specs.Named.{value_named};
 
 use crate::store::External;
@@ -11,7 +11,7 @@ use std::marker::Model;
 /// Exports by their names in the tree, in order. Contracts see the list of the pairs of a name and a value.
 #[derive(Drop)]
 pub(crate) struct Named {
-    map: IndexMap<String, External>,
+    map: IndexMap<Vec<u8>, External>,
 }
 
 impl Model for Named {
@@ -34,16 +34,16 @@ impl Named {
     }
 
     /// The value of that name. Takes no memory.
-    pub(crate) fn find(&self, name: &str) -> Option<External>
+    pub(crate) fn find(&self, name: &[u8]) -> Option<External>
         ensures { result ≡ value_named name.now self.now }
     {
         self.map.get(name).copied()
     }
 
-    /// Adds a name that isn't there. A refusal leaves the names as they were.
-    pub(crate) fn add(&mut self, name: String, value: External) -> Result<(), NoMemory>
-        requires { value_named (string_bytes name) self.old ≡ None }
-        ensures ok { OnOk result (self.new ≡ self.old ++ (string_bytes name, value) ∷ []) }
+    /// Adds a name, by its bytes, that isn't there. A refusal leaves the names as they were.
+    pub(crate) fn add(&mut self, name: Vec<u8>, value: External) -> Result<(), NoMemory>
+        requires { value_named name.items self.old ≡ None }
+        ensures ok { OnOk result (self.new ≡ self.old ++ (name.items, value) ∷ []) }
         ensures err { OnErr result (self.new ≡ self.old) }
     {
         self.map.insert(name, value)?;

@@ -1,7 +1,5 @@
 //! The names of exports in the tree.
-ghost use Rattle.std.specs.Prelude.{◌≡◌, ◌++◌, ℕ, List as Listed, filter_map, map, IfOk, string_bytes};
-ghost use Rattle.std.specs.List.{All};
-ghost use Rattle.std.specs.Str.{IsUtf8};
+ghost use Rattle.std.specs.Prelude.{◌≡◌, ◌++◌, ℕ, List as Listed, filter_map, map, IfOk};
 ghost use Rattle.bl_wasm.specs.Exports.{AreDistinct};
 ghost use Rattle.bl_link.specs.Links.{exported as exported_of, pair};
 ghost use Rattle.bl_link.specs.Named.{qualified as qualified_of};
@@ -16,19 +14,14 @@ use bl_wasm::{Export, ExportKind, Exports};
 use std::alloc::Global;
 
 /// The name of an export behind its part's: a solidus parts them.
-pub(crate) fn qualified(alloc: Global, part: &[u8], name: &[u8]) -> Result<String, NoMemory>
-    requires part { IsUtf8 part.now }
-    requires name { IsUtf8 name.now }
-    ensures { IfOk result (λ whole. string_bytes whole ≡ qualified_of part.now name.now) }
+pub(crate) fn qualified(alloc: Global, part: &[u8], name: &[u8]) -> Result<Vec<u8>, NoMemory>
+    ensures { IfOk result (λ whole. whole.items ≡ qualified_of part.now name.now) }
 {
-    let mut bytes = Vec::new(alloc);
-    bytes.extend_from_slice(part)?;
-    bytes.push(b'/')?;
-    bytes.extend_from_slice(name)?;
-    match String::from_utf8(bytes) {
-        Ok(whole) => Ok(whole),
-        Err(_) => unreachable!(),
-    }
+    let mut whole = Vec::new(alloc);
+    whole.extend_from_slice(part)?;
+    whole.push(b'/')?;
+    whole.extend_from_slice(name)?;
+    Ok(whole)
 }
 
 /// The space of a kind.
@@ -61,9 +54,7 @@ pub(crate) fn with_names(
     spaces: &Spaces,
     entries: &[Export],
 ) -> Result<Named, NoMemory>
-    requires part { IsUtf8 part.now }
-    requires text { All (λ entry. IsUtf8 entry.name) entries.now }
-    requires apart { AreApart (λ value. value.0) (before ++ map (exported_of part.now spaces.now) entries.now) }
+    requires { AreApart (λ value. value.0) (before ++ map (exported_of part.now spaces.now) entries.now) }
     ensures { IfOk result (λ names. names ≡ before ++ map (exported_of part.now spaces.now) entries.now) }
 {
     let mut names = before;
@@ -82,9 +73,7 @@ pub(crate) fn with_functions(
     spaces: &Spaces,
     entries: &[Export],
 ) -> Result<Exports, NoMemory>
-    requires part { IsUtf8 part.now }
-    requires text { All (λ entry. IsUtf8 entry.name) entries.now }
-    requires distinct { AreDistinct (before ++ filter_map (λ entry. pair (exported_of part.now spaces.now entry)) entries.now) }
+    requires { AreDistinct (before ++ filter_map (λ entry. pair (exported_of part.now spaces.now entry)) entries.now) }
     ensures { IfOk result (λ all. all ≡ before ++ filter_map (λ entry. pair (exported_of part.now spaces.now entry)) entries.now) }
 {
     let mut exports = before;

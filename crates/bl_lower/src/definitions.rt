@@ -108,7 +108,7 @@ pub(crate) fn export_defs(alloc: Global, exports: &Exports) -> Result<List<Expor
             unreachable!()
         };
         all.push(ExportDef {
-            name: Text::copy_of(alloc, name.as_bytes())?,
+            name: Text::copy_of(alloc, name)?,
             function,
         })?;
     }

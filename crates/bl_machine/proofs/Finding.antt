@@ -10,13 +10,13 @@ use Rattle.bl_base.specs.declared.names.ValueType.TheVariants.{I32, I64}
 use Rattle.bl_base.proofs.Lists.{first_same}
 use Rattle.bl_wasm.specs.Exports.{Pairs, number_of}
 use Rattle.bl_wasm.specs.declared.linked.Signature.{Signature}
-use Rattle.bl_wasm.proofs.ExportLemmas.{number-pairs, pairs-insert}
+use Rattle.bl_wasm.proofs.ExportLemmas.{number-pairs}
 use Rattle.bl_reduce.specs.Calls.{is_same_type}
 use Rattle.bl_reduce.proofs.CallItems.{same_type}
 use Rattle.bl_machine.specs.Bodies.{first_of, letter, spelled, with_number}
 use Rattle.bl_machine.proofs.Tables.{same_as_itself}
 
-pub ruleset known_rules = (number-pairs, pairs-insert)
+pub ruleset known_rules = (number-pairs)
 
 -- ---- texts of types
 

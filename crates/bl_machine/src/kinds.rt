@@ -1,5 +1,5 @@
 //! Kinds of types: equal types are of one kind.
-ghost use Rattle.std.specs.Prelude.{◌≡◌, [], ◌∷◌, ◌++◌, IfOk, None, OnOk, map, string_bytes, unwrap_or};
+ghost use Rattle.std.specs.Prelude.{◌≡◌, [], ◌∷◌, ◌++◌, IfOk, None, OnOk, map, unwrap_or};
 ghost use Rattle.bl_wasm.specs.Exports.{number_of};
 ghost use Rattle.bl_machine.specs.Bodies.{kinds_of, letter, spelled, with_number};
 
@@ -12,7 +12,7 @@ use std::marker::Model;
 /// The types that were met, as texts, each with its number.
 #[derive(Drop)]
 struct Known {
-    map: IndexMap<String, usize>,
+    map: IndexMap<Vec<u8>, usize>,
 }
 
 impl Model for Known {
@@ -33,24 +33,24 @@ impl Known {
         }
     }
 
-    fn find(&self, text: &str) -> Option<usize>
+    fn find(&self, text: &[u8]) -> Option<usize>
         ensures { result ≡ number_of text.now self.now }
     {
         self.map.get(text).copied()
     }
 
-    fn add(&mut self, text: String, number: usize) -> Result<(), NoMemory>
-        requires { number_of (string_bytes text) self.old ≡ None }
-        ensures { OnOk result (self.new ≡ self.old ++ (string_bytes text, number) ∷ []) }
+    fn add(&mut self, text: Vec<u8>, number: usize) -> Result<(), NoMemory>
+        requires { number_of text.items self.old ≡ None }
+        ensures { OnOk result (self.new ≡ self.old ++ (text.items, number) ∷ []) }
     {
         self.map.insert(text, number)?;
         Ok(())
     }
 
     /// The number of a text; where it had none, the next one, which it has then.
-    fn number(&mut self, text: String, next: usize) -> Result<usize, NoMemory>
-        ensures value { IfOk result (λ number. number ≡ unwrap_or (number_of (string_bytes text) self.old) next) }
-        ensures after { OnOk result (self.new ≡ with_number (number_of (string_bytes text) self.old) (string_bytes text) next self.old) }
+    fn number(&mut self, text: Vec<u8>, next: usize) -> Result<usize, NoMemory>
+        ensures value { IfOk result (λ number. number ≡ unwrap_or (number_of text.items self.old) next) }
+        ensures after { OnOk result (self.new ≡ with_number (number_of text.items self.old) text.items next self.old) }
     {
         if let Some(number) = self.find(&text) {
             return Ok(number);
@@ -75,24 +75,24 @@ pub fn kinds(alloc: Global, types: &[Signature]) -> Result<List<usize>, NoMemory
 }
 
 /// A type as a text.
-fn text_of(alloc: Global, kind: &Signature) -> Result<String, NoMemory>
-    ensures { IfOk result (λ text. string_bytes text ≡ spelled kind.now) }
+fn text_of(alloc: Global, kind: &Signature) -> Result<Vec<u8>, NoMemory>
+    ensures { IfOk result (λ text. text.items ≡ spelled kind.now) }
 {
-    let mut text = String::new(alloc);
+    let mut text = Vec::new(alloc);
     push_letters(&mut text, kind.params.as_slice())?;
-    text.push_str(":")?;
+    text.push(b':')?;
     push_letters(&mut text, kind.results.as_slice())?;
     Ok(text)
 }
 
 /// Puts a letter for each of these types behind a text.
-fn push_letters(text: &mut String, types: &[ValueType]) -> Result<(), NoMemory>
-    ensures { OnOk result (string_bytes text.new ≡ string_bytes text.old ++ map letter types.now) }
+fn push_letters(text: &mut Vec<u8>, types: &[ValueType]) -> Result<(), NoMemory>
+    ensures { OnOk result (text.new.items ≡ text.old.items ++ map letter types.now) }
 {
     for kind in types {
         match kind {
-            ValueType::I32 => text.push_str("i")?,
-            ValueType::I64 => text.push_str("l")?,
+            ValueType::I32 => text.push(b'i')?,
+            ValueType::I64 => text.push(b'l')?,
         }
     }
     Ok(())

@@ -1,5 +1,5 @@
 -- The exported functions of a linked tree: names with numbers, in order.
-use Rattle.std.specs.Prelude.{◌≡◌, ℕ, List, [], ◌∷◌, Option, Some, None, if◌then◌else◌, map, slice_get, String, string_bytes}
+use Rattle.std.specs.Prelude.{◌≡◌, ℕ, List, [], ◌∷◌, Option, Some, None, if◌then◌else◌, map, slice_get, Vec}
 use Rattle.std.specs.Str.{bytes_eq}
 use Rattle.std.specs.declared.alloc.Global.{Global}
 
@@ -8,8 +8,8 @@ abbrev pub Pairs : Type 0
 Pairs = List (List ℕ × ℕ)
 
 -- the pairs by the bytes of their names
-abbrev pub pairs_of : List (String Global × ℕ) → Pairs
-pairs_of entries = map (λ entry. (string_bytes entry.0, entry.1)) entries
+abbrev pub pairs_of : List (Vec ℕ Global × ℕ) → Pairs
+pairs_of entries = map (λ entry. (entry.0.items, entry.1)) entries
 
 -- the number of the first pair of that name, where there is one
 abbrev pub number_of : List ℕ → Pairs → Option ℕ

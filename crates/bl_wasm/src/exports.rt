@@ -1,5 +1,5 @@
 //! The names of exported functions.
-ghost use Rattle.std.specs.Prelude.{◌≡◌, [], ◌∷◌, ◌++◌, None, OnOk, OnErr, length, option_map, slice_get, string_bytes};
+ghost use Rattle.std.specs.Prelude.{◌≡◌, [], ◌∷◌, ◌++◌, None, OnOk, OnErr, length, option_map, slice_get};
 ghost use Rattle.bl_wasm.specs.Exports.{number_of};
 
 use bl_base::NoMemory;
@@ -11,7 +11,7 @@ use std::marker::Model;
 /// number.
 #[derive(Drop)]
 pub struct Exports {
-    map: IndexMap<String, u32>,
+    map: IndexMap<Vec<u8>, u32>,
 }
 
 impl Model for Exports {
@@ -44,16 +44,16 @@ impl Exports {
     pub fn find(&self, name: &str) -> Option<u32>
         ensures { result ≡ number_of name.now self.now }
     {
-        self.map.get(name).copied()
+        self.map.get(name.as_bytes()).copied()
     }
 
     /// The name of the pair of that number, from 0; None exactly where there is no such pair. Takes no memory.
-    pub fn name(&self, index: usize) -> Option<&str>
+    pub fn name(&self, index: usize) -> Option<&[u8]>
         ensures { option_map (λ name. name.now) result ≡ option_map (λ pair. pair.0) (slice_get self.now index) }
     {
         self.map
             .get_index(index)
-            .map(|(name, _function)| name.as_str())
+            .map(|(name, _function)| name.as_slice())
     }
 
     /// The function of the pair of that number, from 0; None exactly where there is no such pair. Takes no memory.
@@ -63,10 +63,10 @@ impl Exports {
         self.map.get_index(index).map(|(_name, function)| *function)
     }
 
-    /// Adds a name that isn't there. A refusal leaves the names as they were.
-    pub fn add(&mut self, name: String, function: u32) -> Result<(), NoMemory>
-        requires { number_of (string_bytes name) self.old ≡ None }
-        ensures ok { OnOk result (self.new ≡ self.old ++ (string_bytes name, function) ∷ []) }
+    /// Adds a name, by its bytes, that isn't there. A refusal leaves the names as they were.
+    pub fn add(&mut self, name: Vec<u8>, function: u32) -> Result<(), NoMemory>
+        requires { number_of name.items self.old ≡ None }
+        ensures ok { OnOk result (self.new ≡ self.old ++ (name.items, function) ∷ []) }
         ensures err { OnErr result (self.new ≡ self.old) }
     {
         self.map.insert(name, function)?;

@@ -7,10 +7,10 @@ use std::test::Fail;
 fn a_function_is_found_by_its_name(rt: HostRuntime) -> Result<(), Fail> {
     let mut exports = Exports::new(rt.alloc());
     assert_eq!(rt; exports.find("a/f"), None);
-    exports.add(String::from_str(rt.alloc(), "a/f")?, 7)?;
+    exports.add(b"a/f".to_vec(rt.alloc())?, 7)?;
     assert_eq!(rt; exports.find("a/f"), Some(7));
     assert_eq!(rt; exports.find("a/g"), None);
-    assert_eq!(rt; exports.name(0), Some("a/f"));
+    assert_eq!(rt; exports.name(0), Some(b"a/f".as_slice()));
     assert_eq!(rt; exports.function(0), Some(7));
     assert_eq!(rt; exports.len(), 1);
     Ok(())

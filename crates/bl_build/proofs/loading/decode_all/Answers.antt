@@ -3,7 +3,6 @@ use Rattle.std.specs.Prelude.{Vec}
 use Rattle.std.specs.List.{All}
 use Rattle.std.specs.Iterator.Adapters.{zip_first, zip_second}
 use Rattle.std.specs.Slice.Iter.{iter_rest}
-use Rattle.std.specs.Str.{IsUtf8}
 use Rattle.std.specs.declared.alloc.Global.{Global}
 use Rattle.std.proofs.lemmas.List.Elements.{All-push}
 use Rattle.std.proofs.lemmas.Slice.Zip.{Zip-more, either_empty_from_Zip}
@@ -17,9 +16,6 @@ use Rattle.bl_build.proofs.LoadSteps.{next_decoded, not_decoded}
 use Rattle.bl_build.proofs.StageLemmas.{goes_ends}
 use Rattle.bl_build.proofs.loading.decode_all.Goals as goal
 use Rattle.bl_words.proofs.ModuleWords.{words_in}
-
-abbrev IsText : Spelled → Type 0
-IsText one = IsUtf8 one.name.now
 
 abbrev IsFew : Spelled → Type 0
 IsFew one = length (functions_of one.tree) < 2 ^ 32
@@ -35,7 +31,6 @@ loop-word-preserved c =
       goes = next_decoded (parts_of (words_in c.args.words.now) (contents_in c.args.contents.now)) (iter_rest (zip_first c.loop-word.word-iterator)) (iter_rest (zip_first c.next.new.self))
           (iter_rest (zip_second c.loop-word.word-iterator)) (iter_rest (zip_second c.next.new.self)) c.loop-word.all.items _ c.module_name-name.result _ more.0 more.1 c.module_name-name.ensures
           c.loop-word.invariant.goes c.in-Ok.tree c.push.new.self.items grown (rw c.deref.ensures.value at c.in-Ok.ensures.answer);
-      text = subst (All IsText) (sym grown) (All-push IsText c.loop-word.all.items value c.loop-word.invariant.text (subst IsUtf8 c.as_bytes-text.ensures.value c.as_bytes-text.ensures.utf8));
       few = subst (All IsFew) (sym grown) (All-push IsFew c.loop-word.all.items value c.loop-word.invariant.few (few_functions c.in-Ok.tree c.in-Ok.ensures.answer.2));
     }
 

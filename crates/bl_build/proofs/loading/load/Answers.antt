@@ -10,8 +10,8 @@ use Rattle.bl_build.specs.Stages.{chain, each}
 use Rattle.bl_build.specs.Working.{checked_in, contents_in, ready_in, spelled_in}
 use Rattle.bl_build.specs.declared.loading.Checked.{Checked}
 use Rattle.bl_build.specs.declared.loading.Ready.{Ready}
-use Rattle.bl_build.proofs.LinkLemmas.{linkable, texts_kept, texts_kept_on}
-use Rattle.bl_build.proofs.LoadSteps.{are_sane, first_refuses, named_texts, then_staged}
+use Rattle.bl_build.proofs.LinkLemmas.{linkable}
+use Rattle.bl_build.proofs.LoadSteps.{are_sane, first_refuses, then_staged}
 use Rattle.bl_build.proofs.loading.load.Goals as goal
 use Rattle.bl_words.proofs.ModuleWords.{words_in}
 
@@ -32,9 +32,8 @@ link_all-requires c =
     let checked = map checked_in c.in-Ok-validate_all.checked.items in
     let ready = map ready_in c.in-Ok-label_all.ready.items in
     let few : length (words_in c.args.words.now) ≤ limit_of quantity.Modules = omega (arith, c.requires.few, length-map c.args.words.now (λ (word : Bor (List ℕ)). word.now)) in
-    let text = texts_kept_on checked ready c.in-Ok-label_all.ensures.staged (texts_kept spelled checked c.in-Ok-validate_all.ensures (named_texts c.in-Ok.spelled.items c.in-Ok.ensures.text)) in
     linkable (words_in c.args.words.now) (contents_in c.args.contents.now) spelled checked ready few c.requires.apart c.requires.short c.in-Ok.ensures.staged
-    c.in-Ok-validate_all.ensures c.in-Ok-label_all.ensures.staged text (are_sane c.in-Ok-label_all.ready.items c.in-Ok-label_all.ensures.consistent)
+    c.in-Ok-validate_all.ensures c.in-Ok-label_all.ensures.staged (are_sane c.in-Ok-label_all.ready.items c.in-Ok-label_all.ensures.consistent)
 
 pub returns-in-Ok-label_all : goal.returns-in-Ok-label_all
 returns-in-Ok-label_all c =

@@ -1,20 +1,16 @@
 use Rattle.std.proofs.Common.{◌≡◌, ◌∙◌, sym, subst, ◌++◌, ◌+◌, drop, filter_map, rules}
-use Rattle.std.specs.Str.{IsUtf8}
 use Rattle.bl_wasm.specs.Exports.{Pairs}
 use Rattle.bl_wasm.specs.declared.module.Export.{Export}
 use Rattle.bl_wasm.specs.declared.module.ExportKind.TheVariants.{Function}
 use Rattle.bl_link.specs.Links.{exported, pair}
-use Rattle.bl_link.proofs.Naming.{entry_text, pair_is_new, pairs_more, pairs_same}
+use Rattle.bl_link.proofs.Naming.{pair_is_new, pairs_more, pairs_same}
 use Rattle.bl_link.proofs.names.with_functions.Goals as goal
 use Rattle.bl_link.proofs.names.with_functions.Goals.{then-eq+in_ok-name+in_ok-add, else-eq}
-
-pub qualified-requires-clause-name : goal.qualified-requires-clause-name
-qualified-requires-clause-name c = subst IsUtf8 (sym c.as_slice.ensures) (entry_text c.args.entries.now c.loop-entry.entry-index c.entry-item.result c.loop-entry-test.true c.entry-item.is c.requires.text)
 
 pub add-requires : goal.add-requires
 add-requires c =
     let function : c.entry-item.result.kind ≡ Function = search rules in
-    pair_is_new c.args.part.now c.args.spaces.now c.args.entries.now c.loop-entry.entry-index c.entry-item.result c.args.before _ c.loop-entry-test.true c.entry-item.is c.loop-entry.invariant _ _ function c.requires.distinct c.as_slice.ensures c.in_ok-name.ensures
+    pair_is_new c.args.part.now c.args.spaces.now c.args.entries.now c.loop-entry.entry-index c.entry-item.result c.args.before _ c.loop-entry-test.true c.entry-item.is c.loop-entry.invariant _ _ function c.requires c.as_slice.ensures c.in_ok-name.ensures
 
 pub loop-entry-preserved : goal.loop-entry-preserved
 loop-entry-preserved c = elim c.if-eq.branch [

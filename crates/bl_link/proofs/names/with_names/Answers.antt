@@ -1,14 +1,9 @@
-use Rattle.std.proofs.Common.{sym, subst}
-use Rattle.std.specs.Str.{IsUtf8}
-use Rattle.bl_link.proofs.Naming.{entry_text, value_is_new, values_more}
+use Rattle.bl_link.proofs.Naming.{value_is_new, values_more}
 use Rattle.bl_link.proofs.names.with_names.Goals as goal
-
-pub qualified-requires-clause-name : goal.qualified-requires-clause-name
-qualified-requires-clause-name c = subst IsUtf8 (sym c.as_slice.ensures) (entry_text c.args.entries.now c.loop-entry.entry-index c.entry-item.result c.loop-entry-test.true c.entry-item.is c.requires.text)
 
 pub add-requires : goal.add-requires
 add-requires c =
-    value_is_new c.args.part.now c.args.spaces.now c.args.entries.now c.loop-entry.entry-index c.entry-item.result c.args.before _ _ _ c.loop-entry-test.true c.entry-item.is c.loop-entry.invariant c.requires.apart c.as_slice.ensures c.in_ok-name.ensures
+    value_is_new c.args.part.now c.args.spaces.now c.args.entries.now c.loop-entry.entry-index c.entry-item.result c.args.before _ _ _ c.loop-entry-test.true c.entry-item.is c.loop-entry.invariant c.requires c.as_slice.ensures c.in_ok-name.ensures
 
 pub loop-entry-preserved : goal.loop-entry-preserved
 loop-entry-preserved c =

@@ -7,4 +7,4 @@ returns c =
     let valid = c.in-Ok-validate.ensures.valid in
     let read = c.in-Ok.ensures.answer in
     read_part c.in_ok-copy_of.field-0 c.as_bytes-letters.result.now c.args.bytes.now c.in-Ok.tree c.in-Ok-validate.wasm c.in-Ok-labels_of.labels c.in_ok-copy_of.ensures valid.0 c.in-Ok-labels_of.ensures.consistent
-    (record { text = c.as_bytes-letters.ensures.utf8; solidus = c.is_plain.ensures c.if-not-is_plain.false }) read.0 (omega (arith, c.if-bytes-gt33554431.false)) read.2
+    (c.is_plain.ensures c.if-not-is_plain.false) read.0 (omega (arith, c.if-bytes-gt33554431.false)) read.2

@@ -6,5 +6,5 @@ pub returns : goal.returns
 returns c =
     let valid = c.in-Ok-validate.ensures.valid in
     let read = c.in-Ok.ensures.answer in
-    read_bare c.in_ok-copy_of.field-0 (0x6D ∷ []) c.args.bytes.now c.in-Ok.tree c.in-Ok-validate.wasm c.none.result c.in_ok-copy_of.ensures valid.0 c.none.ensures (is_name 0x6D (omega arith) (λ e. omega (arith, e))) read.0
+    read_bare c.in_ok-copy_of.field-0 (0x6D ∷ []) c.args.bytes.now c.in-Ok.tree c.in-Ok-validate.wasm c.none.result c.in_ok-copy_of.ensures valid.0 c.none.ensures (is_name 0x6D (λ e. omega (arith, e))) read.0
     (omega (arith, c.if-bytes-gt1000.false)) read.2
