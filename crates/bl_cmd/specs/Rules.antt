@@ -1,9 +1,8 @@
 -- The nine rules of well-formed programs, and the first one that is broken.
 use Rattle.std.specs.Prelude.{◌≡◌, ◌≢◌, ◌⊎◌, ◌+◌, ◌*◌, ◌^◌, ◌<◌, ◌≤◌, ℕ, suc, true, IfSome, IsSomeAnd, option_map, List, [], ◌∷◌, length, Option, Some, None, slice_get}
 use Rattle.std.specs.List.{All, AllPairs}
+use Rattle.bl_base.specs.Fits.{ArgumentFits}
 use Rattle.bl_base.specs.declared.names.Label.TheVariants.{Public}
-use Rattle.bl_base.specs.declared.names.ValueType.{ValueType}
-use Rattle.bl_base.specs.declared.names.ValueType.TheVariants.{I32, I64}
 use Rattle.bl_ops.specs.Access.{width_of}
 use Rattle.bl_ops.specs.declared.op.Op.{Op}
 use Rattle.bl_ops.specs.declared.op.Op.TheVariants.{I32Add, I32Sub, I32GtU, Move, Outside}
@@ -49,18 +48,14 @@ pub record IsFunction (function : FunctionDef) : Type 0 where
   pub command : 1 ≤ function.length
   pub variables : length function.params + length function.results ≤ function.vars
 
--- the first value of a global is one of its type
-abbrev pub IsValue : ValueType → ℕ → Type 0
-IsValue I32 value = value < 2 ^ 32
-IsValue I64 value = value < 2 ^ 64
-
--- there are at most 80,000 functions, and each is one; all variables are fewer than 2^31, and all commands at most 1,048,576
+-- there are at most 80,000 functions, and each is one; all variables are fewer than 2^31, and all commands at most 1,048,576; the first
+-- value of a global is one of its type
 pub record Rule2 (program : Program) : Type 0 where
   pub functions : length program.functions ≤ 80000
   pub each : All IsFunction program.functions
   pub variables : first_of program (length program.functions) < 2 ^ 31
   pub commands : length program.commands ≤ 1048576
-  pub globals : All (λ global. IsValue global.kind global.first) program.globals
+  pub globals : All (λ global. ArgumentFits global.kind global.first) program.globals
 
 -- ---- rule 3: exports
 

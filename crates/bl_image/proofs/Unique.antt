@@ -2,7 +2,8 @@
 use Rattle.std.proofs.Common.{◌≡◌, ℕ, suc, ◌+◌, ◌^◌, ◌<◌, List, [], ◌∷◌, ◌++◌, length, drop, get_or, append_assoc, ap, ap₂, sym, ◌∙◌, refl, subst, arith}
 use Rattle.bl_leb.proofs.Unsigned.{one_end, one_value, one_shortest}
 use Rattle.bl_leb.specs.Numbers.{IsUnsigned}
-use Rattle.bl_image.specs.Grammar.{Spellings, ◌⨾◌, nothing, exactly, byte, given, each, each_after, u32, u64, vec, gap, rising}
+use Rattle.bl_leb.specs.Grammar.{Spellings, ◌⨾◌, nothing, exactly, byte, given}
+use Rattle.bl_image.specs.Grammar.{each, each_after, u32, u64, vec, gap, rising}
 use Rattle.bl_image.proofs.Numbers.{front_same, rest_same}
 
 -- where two spellings begin the same bytes they are of one thing, and the same rest stands behind them; and one thing has one

@@ -3,7 +3,8 @@ use Rattle.std.proofs.Common.{ℕ, ◌≤◌, inl, inr, List, [], ◌∷◌, len
 use Rattle.std.specs.List.{All}
 use Rattle.std.specs.Str.{IsUtf8}
 use Rattle.std.proofs.lemmas.List.Elements.{All-nil, All-cons}
-use Rattle.bl_wasm.specs.Values.{Spellings, each}
+use Rattle.bl_leb.specs.Grammar.{Spellings}
+use Rattle.bl_wasm.specs.Values.{each}
 use Rattle.bl_wasm.specs.Sections.{export_entry, global_entry, vec_section}
 use Rattle.bl_wasm.specs.Modules.{◌▷◌}
 use Rattle.bl_wasm.specs.declared.module.CustomSection.{CustomSection}
