@@ -26,7 +26,8 @@ use Rattle.bl_app.specs.Jobs.{Plan, saying}
 use Rattle.bl_build.specs.Loading.{parts_of}
 use Rattle.bl_app.specs.Outcomes.{outcome_status}
 use Rattle.bl_words.specs.Requests.{InterpRequest, RunRequest}
-use Rattle.bl_build.specs.Running.{Opened, Opens, sizes_of, type_of}
+use Rattle.bl_wasm.specs.Linked.{type_of}
+use Rattle.bl_build.specs.Running.{Opened, Opens, sizes_of}
 use Rattle.bl_app.specs.declared.status.Status.TheVariants.{Spent}
 use Rattle.bl_build.proofs.LoadingLemmas.{loading_lawful}
 use Rattle.bl_build.proofs.EnteringLemmas.{entering_lawful}

@@ -20,7 +20,7 @@ pub use number::{Pos, Var};
 pub use quantity::{MOST_CALLS, Quantity};
 pub use run::{Pages, Run};
 pub use sites::SiteSet;
-pub use start::{Patch, Start, fits};
+pub use start::{Patch, Start, argument_fits, fits};
 pub use text::Text;
 pub use trap::Trap;
 

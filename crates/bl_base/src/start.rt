@@ -50,7 +50,8 @@ fn arguments_fit(params: &[ValueType], args: &[u64]) -> bool
     true
 }
 
-fn argument_fits(kind: ValueType, value: u64) -> bool
+/// Whether a value is one of a type: of an i32 it is below 2^32.
+pub fn argument_fits(kind: ValueType, value: u64) -> bool
     ensures { IsTrue result ↔ ArgumentFits kind value }
 {
     match kind {

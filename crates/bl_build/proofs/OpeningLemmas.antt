@@ -8,7 +8,8 @@ use Rattle.bl_wasm.specs.declared.linked.Tree.{Tree}
 use Rattle.bl_trace.specs.StartFiles.{answer_of, IsAnswer}
 use Rattle.bl_trace.specs.declared.error.StartError.{StartError}
 use Rattle.bl_trace.specs.declared.error.StartError.TheVariants.{Line, Count, Memory}
-use Rattle.bl_build.specs.Running.{preparing, Opened, OpeningRefuses, Opens, line_is_bad, not_exported, opening, sizes_of, too_few, type_of}
+use Rattle.bl_wasm.specs.Linked.{type_of}
+use Rattle.bl_build.specs.Running.{preparing, Opened, OpeningRefuses, Opens, line_is_bad, not_exported, opening, sizes_of, too_few}
 use Rattle.bl_build.specs.Loading.{loading}
 use Rattle.bl_build.specs.Refusals.{Refusal, bad_line, few_arguments}
 use Rattle.bl_build.specs.Stages.{IsLawfulStage}

@@ -1,7 +1,8 @@
 -- The function of a linked tree that is run, and its start.
-use Rattle.std.specs.Prelude.{◌≡◌, ℕ, List, map, slice_get, Option, Some, None, Ok, Err, option_and_then}
+use Rattle.std.specs.Prelude.{◌≡◌, ℕ, List, map, slice_get, Option, Some, None, Ok, Err}
 use Rattle.bl_base.specs.declared.start.Start.{Start}
 use Rattle.bl_wasm.specs.Exports.{number_of}
+use Rattle.bl_wasm.specs.Linked.{type_of}
 use Rattle.bl_wasm.specs.declared.linked.Signature.{Signature}
 use Rattle.bl_wasm.specs.declared.linked.Tree.{Tree}
 use Rattle.bl_trace.specs.StartFiles.{answer_of}
@@ -9,10 +10,6 @@ use Rattle.bl_trace.specs.declared.error.StartError.TheVariants.{Line, Count}
 use Rattle.bl_build.specs.Refusals.{Refusal, no_export, bad_line, few_arguments}
 use Rattle.bl_build.specs.Stages.{Stage, chain}
 use Rattle.bl_build.specs.Loading.{Part, loading}
-
--- the type of a tree's function
-abbrev pub type_of : Tree → ℕ → Option Signature
-type_of tree function = option_and_then (λ f. slice_get tree.types f.type_index) (slice_get tree.functions function)
 
 -- the first pages of a tree's memories
 abbrev pub sizes_of : Tree → List ℕ

@@ -1,8 +1,8 @@
 //! An exported function of a linked tree, with the start that a start file asks for.
 ghost use Rattle.std.specs.Prelude.{◌≡◌, ◌<◌, IfOk, Some, length};
-ghost use Rattle.bl_wasm.specs.Linked.{IsLinked};
+ghost use Rattle.bl_wasm.specs.Linked.{IsLinked, type_of};
 ghost use Rattle.bl_reduce.specs.Outcomes.{IsStart};
-ghost use Rattle.bl_build.specs.Running.{opening as opening_stage, sizes_of, type_of};
+ghost use Rattle.bl_build.specs.Running.{opening as opening_stage, sizes_of};
 ghost use Rattle.bl_build.specs.Working.{IsStaged, opened_in};
 
 use crate::refusal::{Refusal, WorkError};

@@ -1,10 +1,9 @@
 -- The nine rules of well-formed programs, and the first one that is broken.
 use Rattle.std.specs.Prelude.{◌≡◌, ◌≢◌, ◌⊎◌, ◌+◌, ◌*◌, ◌^◌, ◌<◌, ◌≤◌, ℕ, suc, true, IfSome, IsSomeAnd, option_map, List, [], ◌∷◌, length, Option, Some, None, slice_get}
 use Rattle.std.specs.List.{All, AllPairs}
+use Rattle.bl_base.specs.Fits.{ArgumentFits}
 use Rattle.bl_base.specs.Quantity.{limit_of}
 use Rattle.bl_base.specs.declared.names.Label.TheVariants.{Public}
-use Rattle.bl_base.specs.declared.names.ValueType.{ValueType}
-use Rattle.bl_base.specs.declared.names.ValueType.TheVariants.{I32, I64}
 use Rattle.bl_base.specs.declared.quantity.Quantity.TheVariants as quantity
 use Rattle.bl_ops.specs.Access.{width_of}
 use Rattle.bl_ops.specs.declared.op.Op.{Op}
@@ -51,18 +50,14 @@ pub record IsFunction (function : FunctionDef) : Type 0 where
   pub command : 1 ≤ function.length
   pub variables : length function.params + length function.results ≤ function.vars
 
+-- there are at most as many functions as all modules may have, and each is one; variables are fewer than 2^31, and commands in their limit;
 -- the first value of a global is one of its type
-abbrev pub IsValue : ValueType → ℕ → Type 0
-IsValue I32 value = value < 2 ^ 32
-IsValue I64 value = value < 2 ^ 64
-
--- there are at most as many functions as all modules may have, and each is one; variables are fewer than 2^31, and commands in their limit
 pub record Rule2 (program : Program) : Type 0 where
   pub functions : length program.functions ≤ limit_of quantity.Modules * limit_of quantity.Functions
   pub each : All IsFunction program.functions
   pub variables : first_of program (length program.functions) < 2 ^ 31
   pub commands : length program.commands ≤ limit_of quantity.Commands
-  pub globals : All (λ global. IsValue global.kind global.first) program.globals
+  pub globals : All (λ global. ArgumentFits global.kind global.first) program.globals
 
 -- ---- rule 3: exports
 

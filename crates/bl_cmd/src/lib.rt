@@ -21,5 +21,5 @@ pub use definitions::{
 };
 pub use program::{Program, arity};
 pub use verdict::{CheckError, check};
-pub use weights::{site_weight, weight};
+pub use weights::{mark_at, site_weight, weight};
 pub use wellformed::WellFormed;

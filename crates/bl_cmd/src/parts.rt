@@ -1,10 +1,11 @@
 //! The rules on the whole program: its memories, functions, globals and exports, its demands and weights.
 ghost use Rattle.std.specs.Prelude.{◌≡◌, ◌≤◌, ◌<◌, ◌*◌, ◌^◌, ◌↔◌, IfOk, IsTrue, MatchOption, length};
 ghost use Rattle.std.specs.List.{All, AllPairs};
+ghost use Rattle.bl_base.specs.Fits.{ArgumentFits};
 ghost use Rattle.bl_base.specs.Quantity.{limit_of};
 ghost use Rattle.bl_base.specs.declared.quantity.Quantity.TheVariants as quantity;
 ghost use Rattle.bl_cmd.specs.Layout.{first_of, sum_before};
-ghost use Rattle.bl_cmd.specs.Rules.{IsDemand, IsFunction, IsMemory, IsRow, IsValue, IsWeight, Precedes, Rule2, Rule3, Rule9};
+ghost use Rattle.bl_cmd.specs.Rules.{IsDemand, IsFunction, IsMemory, IsRow, IsWeight, Precedes, Rule2, Rule3, Rule9};
 ghost use Rattle.bl_cmd.specs.declared.definitions.Demand.TheVariants as demand_is;
 ghost use Rattle.bl_cmd.specs.Verdicts.{AreDistinct, BreaksParts, KeepsParts};
 
@@ -12,7 +13,7 @@ use crate::definitions::{
     Demand, ExportDef, FunctionDef, GlobalDef, MemRow, MemoryDef, ProgramParts, SiteWeight,
 };
 use crate::weights::{has_mark, is_total_small};
-use bl_base::{Label, NoMemory, Quantity, ValueType};
+use bl_base::{Label, NoMemory, Quantity, argument_fits};
 use std::alloc::Global;
 use std::collections::BTreeSet;
 
@@ -166,21 +167,11 @@ fn have_few(functions: &[FunctionDef], most: u32) -> bool
 
 /// Whether each first value is one of its type.
 fn are_values(globals: &[GlobalDef]) -> bool
-    ensures { IsTrue result ↔ All (λ global. IsValue global.kind global.first) globals.now }
+    ensures { IsTrue result ↔ All (λ global. ArgumentFits global.kind global.first) globals.now }
 {
     globals
         .iter()
-        .all(|global| is_value(global.kind, global.first))
-}
-
-/// Whether the number is a value of the type.
-fn is_value(kind: ValueType, value: u64) -> bool
-    ensures { IsTrue result ↔ IsValue kind value }
-{
-    match kind {
-        ValueType::I32 => value <= u64::from(u32::MAX),
-        ValueType::I64 => true,
-    }
+        .all(|global| argument_fits(global.kind, global.first))
 }
 
 /// Whether no two exports have one name, and what they name exists.

@@ -30,8 +30,8 @@ fn mark_of(command: Command) -> Option<Mark>
     }
 }
 
-/// The mark of the site at a position; None where no site stands there.
-fn mark_at(parts: &ProgramParts, at: usize) -> Option<Mark>
+/// The mark of the site at a position; None where no site stands there. Takes no memory.
+pub fn mark_at(parts: &ProgramParts, at: usize) -> Option<Mark>
     ensures { result ≡ mark_at parts.now at }
 {
     match parts.commands.as_slice().get(at) {

@@ -5,7 +5,7 @@ use Rattle.bl_leb.proofs.Signed as signed
 use Rattle.bl_leb.specs.Numbers.{IsSigned, IsSignedNumber}
 use Rattle.bl_leb.specs.Spellings.{IsSpelledAt}
 use Rattle.bl_wasm.specs.Types.{block_type, value_type}
-use Rattle.bl_wasm.specs.Values.{byte}
+use Rattle.bl_leb.specs.Grammar.{byte}
 use Rattle.bl_wasm.specs.declared.types.BlockType.{BlockType}
 use Rattle.bl_wasm.specs.declared.types.BlockType.TheVariants.{Empty, Value, Index}
 use Rattle.bl_wasm.specs.declared.types.WasmType.{WasmType}

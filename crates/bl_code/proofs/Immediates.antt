@@ -6,7 +6,8 @@ use Rattle.bl_ops.specs.Table.{operator_code}
 use Rattle.bl_ops.specs.declared.op.Op.{Op}
 use Rattle.bl_wasm.specs.Codes.{IsFloatCode, float_access_code}
 use Rattle.bl_wasm.specs.Types.{block_type}
-use Rattle.bl_wasm.specs.Values.{Spellings, ◌⨾◌, byte, u32, int, f32, f64, vec}
+use Rattle.bl_leb.specs.Grammar.{Spellings, ◌⨾◌, byte}
+use Rattle.bl_wasm.specs.Values.{u32, int, f32, f64, vec}
 use Rattle.bl_wasm.specs.Instructions.{instruction, memory_argument}
 use Rattle.bl_wasm.specs.declared.float.FloatAccess.{FloatAccess}
 use Rattle.bl_wasm.specs.declared.instruction.Instr.{Instr}

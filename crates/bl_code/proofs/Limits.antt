@@ -2,7 +2,8 @@
 use Rattle.std.proofs.Common.{◌≡◌, ◌≢◌, ℕ, List, [], ◌∷◌, ◌++◌, Option, Some, None, ap, ap₂, sym, ◌∙◌, refl, subst, arith, append-nil}
 use Rattle.std.specs.Prelude.{unwrap_or}
 use Rattle.bl_wasm.specs.Types.{limits, limits_of}
-use Rattle.bl_wasm.specs.Values.{Spellings, ◌⨾◌, byte, u32}
+use Rattle.bl_leb.specs.Grammar.{Spellings, ◌⨾◌, byte}
+use Rattle.bl_wasm.specs.Values.{u32}
 use Rattle.bl_wasm.specs.declared.types.Limits.{Limits}
 use Rattle.bl_code.specs.Types.{maximum}
 use Rattle.bl_code.specs.Reading.{IsAt, NoneAt, Refuses, behind}

@@ -3,7 +3,8 @@ use Rattle.std.proofs.Common.{◌≡◌, ℕ, ◌+◌, ◌≤◌, ◌<◌, List,
 use Rattle.std.specs.Prelude.{option_and_then}
 use Rattle.std.specs.Option.{option_map}
 use Rattle.std.proofs.lemmas.List.{append_cancel_right, length-reverse}
-use Rattle.bl_wasm.specs.Values.{◌⨾◌, byte, each}
+use Rattle.bl_leb.specs.Grammar.{◌⨾◌, byte}
+use Rattle.bl_wasm.specs.Values.{each}
 use Rattle.bl_wasm.specs.Instructions.{instruction, expression, Nests}
 use Rattle.bl_wasm.specs.Nesting.{Construct, Kind, construct, of_block, of_loop, then_part, else_part, open_behind, open_through, behind_else, behind_end}
 use Rattle.bl_wasm.specs.declared.instruction.Instr.{Instr}

@@ -9,7 +9,7 @@ use Rattle.bl_ops.specs.declared.access.AccessKind.TheVariants.{I32Load}
 use Rattle.bl_ops.specs.declared.op.Op.{Op}
 use Rattle.bl_ops.specs.declared.op.Op.TheVariants.{I32Eqz}
 use Rattle.bl_wasm.specs.Codes.{float_access_code}
-use Rattle.bl_wasm.specs.Values.{Spellings, ◌⨾◌, byte}
+use Rattle.bl_leb.specs.Grammar.{Spellings, ◌⨾◌, byte}
 use Rattle.bl_wasm.specs.Instructions.{instruction}
 use Rattle.bl_wasm.specs.declared.float.FloatAccess.{FloatAccess}
 use Rattle.bl_wasm.specs.declared.float.FloatAccess.TheVariants.{F32Load, F64Load, F32Store, F64Store}

@@ -1,7 +1,8 @@
 -- Spellings behind their size.
 use Rattle.std.proofs.Common.{◌≡◌, ◌≢◌, ℕ, ◌+◌, ◌-◌, ◌≤◌, ◌<◌, List, length, take, drop, slice_range, ap, sym, ◌∙◌, refl, subst, arith, length-drop, length-append}
 use Rattle.std.proofs.lemmas.List.{length-take-le, drop-take, take-take}
-use Rattle.bl_wasm.specs.Values.{Spellings, ◌⨾◌, u32, sized}
+use Rattle.bl_leb.specs.Grammar.{Spellings, ◌⨾◌}
+use Rattle.bl_wasm.specs.Values.{u32, sized}
 use Rattle.bl_code.specs.Laws.{u32_prefix_free}
 use Rattle.bl_code.specs.Reading.{IsAt, NoneAt, Refuses}
 use Rattle.bl_code.specs.Unique.{PrefixFree}

@@ -5,7 +5,8 @@ use Rattle.std.specs.Int.{w32, w64, from_le_bytes}
 use Rattle.bl_base.proofs.Lists.{front_same, rest_same}
 use Rattle.bl_leb.specs.Numbers.{IsSigned}
 use Rattle.bl_ops.specs.Integer.{unsigned as unsigned_of}
-use Rattle.bl_wasm.specs.Values.{Spellings, ◌⨾◌, nothing, exactly, byte, given, each, u32, int, f32, f64, vec, byte_vec, name, sized}
+use Rattle.bl_leb.specs.Grammar.{Spellings, ◌⨾◌, nothing, exactly, byte, given}
+use Rattle.bl_wasm.specs.Values.{each, u32, int, f32, f64, vec, byte_vec, name, sized}
 use Rattle.bl_code.specs.Laws.{u32_prefix_free}
 use Rattle.bl_code.specs.Unique.{Same, PrefixFree}
 

@@ -1,7 +1,8 @@
 -- Spellings of a format one after another.
 use Rattle.std.proofs.Common.{◌≡◌, ℕ, ◌+◌, ◌<◌, ◌≤◌, List, [], ◌∷◌, ◌++◌, length, drop, append_assoc, append-nil, ap, ap₂, sym, ◌∙◌, refl, arith, ◌⊎◌, inl, inr, length-append}
 use Rattle.bl_base.proofs.Lists.{rest_same}
-use Rattle.bl_wasm.specs.Values.{Spellings, given, each}
+use Rattle.bl_leb.specs.Grammar.{Spellings, given}
+use Rattle.bl_wasm.specs.Values.{each}
 use Rattle.bl_code.specs.Reading.{IsAt, NoneAt, Refuses}
 use Rattle.bl_code.specs.Unique.{PrefixFree}
 use Rattle.bl_code.specs.declared.error.CodeError.{CodeError}

@@ -1,7 +1,7 @@
 -- What a reader of the binary format answers, by the grammar (WebAssembly 1.0, section 5.1.1).
 use Rattle.std.specs.Prelude.{ℕ, List, ◌∷◌, Result, Ok, Err}
 use Rattle.bl_leb.specs.Spellings.{IsSpelledAt}
-use Rattle.bl_wasm.specs.Values.{Spellings}
+use Rattle.bl_leb.specs.Grammar.{Spellings}
 use Rattle.bl_code.specs.declared.error.CodeError.{CodeError}
 use Rattle.bl_code.specs.declared.error.CodeError.TheVariants as error
 use Rattle.bl_code.specs.declared.error.Malformed.{Malformed}

@@ -1,7 +1,8 @@
 -- Instructions by their immediates, which stand behind their codes (WebAssembly 1.0, section 5.4).
 use Rattle.std.specs.Prelude.{◌≡◌, ℕ, ◌≤◌, ◌⊎◌, List}
 use Rattle.bl_wasm.specs.Types.{block_type}
-use Rattle.bl_wasm.specs.Values.{Spellings, ◌⨾◌, nothing, byte, u32, int, f32, f64, vec}
+use Rattle.bl_leb.specs.Grammar.{Spellings, ◌⨾◌, nothing, byte}
+use Rattle.bl_wasm.specs.Values.{u32, int, f32, f64, vec}
 use Rattle.bl_wasm.specs.Instructions.{memory_argument}
 use Rattle.bl_wasm.specs.declared.instruction.Instr.{Instr}
 use Rattle.bl_wasm.specs.declared.instruction.Instr.TheVariants.{Unreachable, Nop, Block, Loop, If, Else, End, Br, BrIf, BrTable, Return, Call, CallIndirect, Drop, Select, LocalGet, LocalSet, LocalTee, GlobalGet, GlobalSet, Load, Store, FloatAccess, MemorySize, MemoryGrow, I32Const, I64Const, F32Const, F64Const, Integer, Float}

@@ -1,7 +1,8 @@
 -- Parts of types (WebAssembly 1.0, sections 5.3.4 and 5.4.1).
 use Rattle.std.specs.Prelude.{◌≡◌, ℕ, Option, Some, None, pos}
 use Rattle.bl_leb.specs.Numbers.{IsSigned}
-use Rattle.bl_wasm.specs.Values.{Spellings, nothing, given, u32}
+use Rattle.bl_leb.specs.Grammar.{Spellings, nothing, given}
+use Rattle.bl_wasm.specs.Values.{u32}
 
 -- the maximum behind the minimum, by the first byte of the limits
 abbrev pub maximum : ℕ → Option ℕ → Spellings

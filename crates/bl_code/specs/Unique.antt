@@ -1,6 +1,6 @@
 -- Prefix-free grammars (WebAssembly 1.0, section 5.1.1).
 use Rattle.std.specs.Prelude.{◌≡◌, ℕ, List, ◌++◌}
-use Rattle.bl_wasm.specs.Values.{Spellings}
+use Rattle.bl_leb.specs.Grammar.{Spellings}
 
 -- where a spelling of the first and one of the second begin the same bytes, they are one, and P holds
 pub record Same (First Second : Spellings) (P : Type 0) : Type 0 where

@@ -1,6 +1,7 @@
 //! Formats: parts of the grammar, each with its reader.
 ghost use Rattle.std.specs.Prelude.{◌≡◌, ◌≤◌, ℕ, List as Listed, length};
-ghost use Rattle.bl_wasm.specs.Values.{given, each, vec, sized};
+ghost use Rattle.bl_leb.specs.Grammar.{given};
+ghost use Rattle.bl_wasm.specs.Values.{each, vec, sized};
 ghost use Rattle.bl_code.specs.Reading.{Reads};
 ghost use Rattle.bl_code.specs.Unique.{PrefixFree};
 

@@ -1,6 +1,7 @@
 //! Values (WebAssembly 1.0, section 5.2).
 ghost use Rattle.std.specs.Prelude.{◌≡◌, ◌+◌, ◌≤◌, ◌<◌, ℕ, length, slice_range, IfOk, IfErr};
-ghost use Rattle.bl_wasm.specs.Values.{byte, u32, int, f32, f64, given, exactly, byte_vec, name};
+ghost use Rattle.bl_leb.specs.Grammar.{byte, given, exactly};
+ghost use Rattle.bl_wasm.specs.Values.{u32, int, f32, f64, byte_vec, name};
 ghost use Rattle.bl_code.specs.Reading.{Finds, Reads};
 
 use crate::error::{CodeError, Malformed};

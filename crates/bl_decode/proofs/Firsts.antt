@@ -2,7 +2,7 @@
 use Rattle.std.proofs.Common.{◌≡◌, ℕ, suc, ◌+◌, ◌-◌, ◌<◌, List, [], ◌∷◌, ◌++◌, length, ap, sym, ◌∙◌, arith, drop, drop-cons, get_or, add-zero, length-drop, slice_get, Some}
 use Rattle.std.proofs.lemmas.List.{get_or-drop}
 use Rattle.std.proofs.lemmas.Option.{slice_get_within, get_or_from_slice_get, slice_get-get_or}
-use Rattle.bl_wasm.specs.Values.{Spellings}
+use Rattle.bl_leb.specs.Grammar.{Spellings}
 use Rattle.bl_wasm.specs.Sections.{section}
 use Rattle.bl_decode.specs.Chains.{Begins}
 

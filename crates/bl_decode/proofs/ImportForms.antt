@@ -1,6 +1,7 @@
 -- What stands behind the byte of a kind.
 use Rattle.std.proofs.Common.{◌≡◌, ℕ, List, [], ◌∷◌, ◌++◌, ap, sym, ◌∙◌, refl, subst, Ok}
-use Rattle.bl_wasm.specs.Values.{Spellings, ◌⨾◌, byte, u32}
+use Rattle.bl_leb.specs.Grammar.{Spellings, ◌⨾◌, byte}
+use Rattle.bl_wasm.specs.Values.{u32}
 use Rattle.bl_wasm.specs.Types.{limits, table_type, global_type}
 use Rattle.bl_wasm.specs.Sections.{import_kind}
 use Rattle.bl_wasm.specs.declared.types.Limits.{Limits}

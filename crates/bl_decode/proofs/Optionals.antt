@@ -3,7 +3,8 @@ use Rattle.std.proofs.Common.{◌≡◌, ◌⊎◌, inl, inr, ℕ, ◌+◌, ◌�
 use Rattle.bl_leb.proofs.Places.{length_range}
 use Rattle.std.specs.Result.{IsErrAnd}
 use Rattle.std.proofs.lemmas.Result.{err_from_is_err_and}
-use Rattle.bl_wasm.specs.Values.{Spellings, u32, vec, sized}
+use Rattle.bl_leb.specs.Grammar.{Spellings}
+use Rattle.bl_wasm.specs.Values.{u32, vec, sized}
 use Rattle.bl_wasm.specs.Sections.{section, vec_section, start_section}
 use Rattle.bl_code.specs.Reading.{IsAt, Refuses, Reads}
 use Rattle.bl_code.specs.Unique.{PrefixFree}

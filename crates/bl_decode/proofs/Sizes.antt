@@ -5,7 +5,8 @@ use Rattle.std.proofs.lemmas.List.{drop_all}
 use Rattle.std.proofs.lemmas.Option.{slice_get_within}
 use Rattle.std.proofs.lemmas.Result.{err_from_is_err_and}
 use Rattle.bl_leb.proofs.Places.{length_range}
-use Rattle.bl_wasm.specs.Values.{Spellings, byte, exactly, u32, byte_vec, sized}
+use Rattle.bl_leb.specs.Grammar.{Spellings, byte, exactly}
+use Rattle.bl_wasm.specs.Values.{u32, byte_vec, sized}
 use Rattle.bl_wasm.specs.Sections.{section}
 use Rattle.bl_code.specs.Reading.{IsAt, NoneAt, Refuses}
 use Rattle.bl_code.specs.declared.error.CodeError.{CodeError}

@@ -5,7 +5,8 @@ use Rattle.std.proofs.lemmas.List.{drop_all}
 use Rattle.std.proofs.lemmas.Option.{slice_get_within}
 use Rattle.std.proofs.lemmas.Result.{err_from_is_err_and}
 use Rattle.bl_base.proofs.Lists.{rest_same}
-use Rattle.bl_wasm.specs.Values.{Spellings, ◌⨾◌, each}
+use Rattle.bl_leb.specs.Grammar.{Spellings, ◌⨾◌}
+use Rattle.bl_wasm.specs.Values.{each}
 use Rattle.bl_wasm.specs.Sections.{custom_section}
 use Rattle.bl_wasm.specs.Modules.{◌▷◌}
 use Rattle.bl_wasm.specs.declared.module.CustomSection.{CustomSection}

@@ -4,7 +4,8 @@ use Rattle.std.specs.List.{AllByRecursion}
 use Rattle.std.specs.Result.{IsErrAnd}
 use Rattle.std.proofs.lemmas.Result.{err_from_is_err_and}
 use Rattle.std.proofs.lemmas.List.Elements.{All-from_recursion}
-use Rattle.bl_wasm.specs.Values.{Spellings, ◌⨾◌, each, u32}
+use Rattle.bl_leb.specs.Grammar.{Spellings, ◌⨾◌}
+use Rattle.bl_wasm.specs.Values.{each, u32}
 use Rattle.bl_wasm.specs.Types.{function_type, table_type, memory_type}
 use Rattle.bl_wasm.specs.Sections.{vec_section, custom_section, start_section, import_entry, global_entry, export_entry, element_entry, code_entry, code_section, data_entry}
 use Rattle.bl_wasm.specs.Modules.{◌▷◌, magic, version, sections, Spells}

@@ -1,7 +1,8 @@
 -- Custom sections are prefix-free.
 use Rattle.std.proofs.Common.{◌≡◌, ℕ, List, ◌++◌, length, append_assoc, ap, ap₂, sym, ◌∙◌, subst}
 use Rattle.bl_base.proofs.Lists.{front_same, rest_same}
-use Rattle.bl_wasm.specs.Values.{Spellings, ◌⨾◌, exactly, name, sized}
+use Rattle.bl_leb.specs.Grammar.{Spellings, ◌⨾◌, exactly}
+use Rattle.bl_wasm.specs.Values.{name, sized}
 use Rattle.bl_wasm.specs.Sections.{custom_section}
 use Rattle.bl_wasm.specs.declared.module.CustomSection.{CustomSection}
 use Rattle.bl_code.specs.Unique.{Same, PrefixFree}

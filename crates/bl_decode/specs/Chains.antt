@@ -1,6 +1,7 @@
 -- Sections in their order, with custom sections among them (WebAssembly 1.0, sections 5.5.2 and 5.5.15).
 use Rattle.std.specs.Prelude.{◌≡◌, ℕ, ◌<◌, ◌≤◌, ◌⊎◌, List, [], ◌∷◌, ◌++◌, drop, slice_get, Some, Result, Ok, Err}
-use Rattle.bl_wasm.specs.Values.{Spellings, each}
+use Rattle.bl_leb.specs.Grammar.{Spellings}
+use Rattle.bl_wasm.specs.Values.{each}
 use Rattle.bl_wasm.specs.Sections.{custom_section}
 use Rattle.bl_wasm.specs.declared.module.CustomSection.{CustomSection}
 use Rattle.bl_code.specs.Reading.{IsAt, NoneAt}

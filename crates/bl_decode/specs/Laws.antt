@@ -1,7 +1,8 @@
 -- The spellings of the entries of a section are prefix-free.
 use Rattle.std.specs.Prelude.{◌≡◌, ℕ, Bool, true, false, List, refl}
 use Rattle.std.proofs.Common.{sym, ◌∙◌, ap, ap₂}
-use Rattle.bl_wasm.specs.Values.{Spellings, ◌⨾◌, byte, u32, vec, byte_vec, name}
+use Rattle.bl_leb.specs.Grammar.{Spellings, ◌⨾◌, byte}
+use Rattle.bl_wasm.specs.Values.{u32, vec, byte_vec, name}
 use Rattle.bl_wasm.specs.Types.{value_type, function_type, limits, table_type, mutability, global_type}
 use Rattle.bl_wasm.specs.Instructions.{expression}
 use Rattle.bl_wasm.specs.Sections.{import_kind, import_entry, global_entry, export_kind, export_entry, element_entry, local_run, function_code, code_entry, data_entry}

@@ -1,6 +1,6 @@
 -- What a reader of all bytes answers.
 use Rattle.std.specs.Prelude.{ℕ, List, Result, Ok, Err}
-use Rattle.bl_wasm.specs.Values.{Spellings}
+use Rattle.bl_leb.specs.Grammar.{Spellings}
 use Rattle.bl_code.specs.declared.error.CodeError.{CodeError}
 use Rattle.bl_code.specs.declared.error.CodeError.TheVariants.{Malformed, Memory}
 

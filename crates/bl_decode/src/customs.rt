@@ -1,7 +1,8 @@
 //! Custom sections (WebAssembly 1.0, section 5.5.3).
 ghost use Rattle.std.specs.Prelude.{◌≡◌, ◌≤◌, ℕ, length};
 ghost use Rattle.bl_wasm.specs.Sections.{custom_section};
-ghost use Rattle.bl_wasm.specs.Values.{◌⨾◌, exactly, name};
+ghost use Rattle.bl_leb.specs.Grammar.{◌⨾◌, exactly};
+ghost use Rattle.bl_wasm.specs.Values.{name};
 ghost use Rattle.bl_decode.specs.Whole.{ReadsAll};
 ghost use Rattle.bl_code.specs.Reading.{Reads};
 ghost use Rattle.bl_decode.specs.Chains.{ReadsCustoms};

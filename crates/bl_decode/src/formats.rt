@@ -1,6 +1,7 @@
 //! Formats of which the entries of sections are put together.
 ghost use Rattle.std.specs.Prelude.{◌≡◌, ◌≤◌, ℕ, length, List as Listed};
-ghost use Rattle.bl_wasm.specs.Values.{◌⨾◌, byte, byte_vec, name, vec};
+ghost use Rattle.bl_leb.specs.Grammar.{◌⨾◌, byte};
+ghost use Rattle.bl_wasm.specs.Values.{byte_vec, name, vec};
 ghost use Rattle.bl_wasm.specs.Types.{limits, value_type, mutability};
 ghost use Rattle.bl_wasm.specs.Instructions.{expression};
 ghost use Rattle.bl_code.proofs.Unique.{byte_vec_prefix_free, name_prefix_free, vec_prefix_free};

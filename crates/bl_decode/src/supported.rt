@@ -8,18 +8,11 @@ use bl_wasm::{
     Instr, LocalRun, Module, WasmType,
 };
 
-/// Whether the type is one of integers.
-fn is_integer(kind: WasmType) -> bool
-    ensures { IsTrue result ↔ IsInteger kind }
-{
-    matches!(kind, WasmType::I32 | WasmType::I64)
-}
-
 /// Whether the types are all types of integers.
 fn are_integers(kinds: &[WasmType]) -> bool
     ensures { IsTrue result ↔ All IsInteger kinds.now }
 {
-    kinds.iter().all(|kind| is_integer(*kind))
+    kinds.iter().all(|kind| kind.is_integer())
 }
 
 /// Whether the type of a function has integers alone.
@@ -42,7 +35,7 @@ fn is_integer_import(kind: ImportKind) -> bool
     ensures { IsTrue result ↔ IsIntegerImport kind }
 {
     match kind {
-        ImportKind::Global(kind) => is_integer(kind.kind),
+        ImportKind::Global(kind) => kind.kind.is_integer(),
         _ => true,
     }
 }
@@ -59,7 +52,7 @@ fn is_integer_block(block_type: BlockType) -> bool
     ensures { IsTrue result ↔ HasIntegerType block_type }
 {
     match block_type {
-        BlockType::Value(kind) => is_integer(kind),
+        BlockType::Value(kind) => kind.is_integer(),
         BlockType::Empty | BlockType::Index(_) => true,
     }
 }
@@ -90,7 +83,7 @@ fn are_integer_instrs(items: &[Instr]) -> bool
 fn are_integer_locals(runs: &[LocalRun]) -> bool
     ensures { IsTrue result ↔ All (λ run. IsInteger run.kind) runs.now }
 {
-    runs.iter().all(|run| is_integer(run.kind))
+    runs.iter().all(|run| run.kind.is_integer())
 }
 
 /// Whether the code of a function is without floats.
@@ -106,7 +99,7 @@ fn are_integer_globals(globals: &[DefinedGlobal]) -> bool
     ensures { IsTrue result ↔ All (λ global. IsInteger global.kind.kind × All IsIntegerInstr global.first) globals.now }
 {
     globals.iter().all(|global| {
-        is_integer(global.kind.kind) && are_integer_instrs(global.first.as_slice())
+        global.kind.kind.is_integer() && are_integer_instrs(global.first.as_slice())
     })
 }
 

@@ -5,7 +5,8 @@ use Rattle.std.specs.List.{All, flat_map, range_with_len}
 use Rattle.std.proofs.lemmas.List.Concat.{flat_map-cons}
 use Rattle.std.proofs.lemmas.List.Elements.{All-append, All-cons, All-head, All-nil, All-tail}
 use Rattle.std.proofs.lemmas.List.FromFn.{get_or-range_with_len, length-range_with_len}
-use Rattle.bl_wasm.specs.Values.{◌⨾◌, each, vec}
+use Rattle.bl_leb.specs.Grammar.{◌⨾◌}
+use Rattle.bl_wasm.specs.Values.{each, vec}
 use Rattle.bl_wasm.specs.Instructions.{Nests, instruction, expression}
 use Rattle.bl_wasm.specs.Instructions.{none as no_items, plain as plain_item}
 use Rattle.bl_wasm.specs.Limits.{greatest_depth, nesting_of}

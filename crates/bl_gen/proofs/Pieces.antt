@@ -6,7 +6,8 @@ use Rattle.std.proofs.lemmas.Option.{slice_get-get_or}
 use Rattle.std.specs.List.{All, flat_map}
 use Rattle.std.proofs.lemmas.List.Concat.{flat_map-cons}
 use Rattle.std.proofs.lemmas.List.Elements.{All-append, All-cons, All-nil}
-use Rattle.bl_wasm.specs.Values.{Spellings, ◌⨾◌, each}
+use Rattle.bl_leb.specs.Grammar.{Spellings, ◌⨾◌}
+use Rattle.bl_wasm.specs.Values.{each}
 use Rattle.bl_wasm.specs.Instructions.{Nests, instruction}
 use Rattle.bl_wasm.specs.Instructions.{none as no_items, plain as plain_item, loop as loop_items}
 use Rattle.bl_wasm.specs.Nesting.{depth_at}

@@ -6,7 +6,8 @@ use Rattle.std.proofs.lemmas.List.{length-replicate}
 use Rattle.std.proofs.lemmas.List.FromFn.{length-map-range_with_len, length-range_with_len}
 use Rattle.std.proofs.lemmas.Str.{IsUtf8-from_ascii}
 use Rattle.std.proofs.lemmas.Str.Ascii.{IsAscii-nil, IsAscii-cons}
-use Rattle.bl_wasm.specs.Values.{Spellings, ◌⨾◌, u32, each, vec, name, sized, exactly}
+use Rattle.bl_leb.specs.Grammar.{Spellings, ◌⨾◌, exactly}
+use Rattle.bl_wasm.specs.Values.{u32, each, vec, name, sized}
 use Rattle.bl_wasm.specs.Types.{value_type, function_type, memory_type}
 use Rattle.bl_wasm.specs.Sections.{code_entry, export_entry, section}
 use Rattle.bl_wasm.specs.Modules.{Spells, ◌▷◌, sections}

@@ -1,7 +1,8 @@
 -- What writers add, by the combinators of the grammar.
 use Rattle.std.proofs.Common.{◌≡◌, ◌<◌, ◌+◌, ℕ, suc, List, [], ◌∷◌, ◌++◌, length, take, get_or, append_assoc, append-nil, ap, sym, ◌∙◌, refl, subst, arith}
 use Rattle.std.proofs.Math.Seq.{take-suc}
-use Rattle.bl_image.specs.Grammar.{Spellings, ◌⨾◌, each_after}
+use Rattle.bl_leb.specs.Grammar.{Spellings, ◌⨾◌}
+use Rattle.bl_image.specs.Grammar.{each_after}
 use Rattle.bl_image.specs.Writing.{Adds}
 use Rattle.bl_image.proofs.Chains.{behind, one_more}
 

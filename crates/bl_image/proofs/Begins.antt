@@ -2,7 +2,7 @@
 use Rattle.std.proofs.Common.{◌≡◌, ℕ, ◌≤◌, List, [], ◌∷◌, ◌++◌, length, drop, append_assoc, ap, ap₂, sym, ◌∙◌, refl, subst, arith, Result, Ok, Err}
 use Rattle.std.specs.Result.{IsErrAnd}
 use Rattle.std.proofs.lemmas.Result.{err_from_is_err_and}
-use Rattle.bl_image.specs.Grammar.{Spellings, ◌⨾◌, byte, given}
+use Rattle.bl_leb.specs.Grammar.{Spellings, ◌⨾◌, byte, given}
 use Rattle.bl_image.specs.Reading.{Begins, NoneBegins, Refuses, Reads}
 use Rattle.bl_image.specs.declared.error.ReadError.{ReadError}
 use Rattle.bl_image.specs.declared.error.ReadError.TheVariants.{NotAnImage, Memory}

@@ -1,6 +1,7 @@
 -- Things that are spelled one after another.
 use Rattle.std.proofs.Common.{◌≡◌, ℕ, zero, suc, ◌+◌, ◌<◌, ◌≤◌, List, [], ◌∷◌, ◌++◌, length, append_assoc, append-nil, length-append, ap, ap₂, sym, ◌∙◌, refl, subst, arith}
-use Rattle.bl_image.specs.Grammar.{Spellings, ◌⨾◌, nothing, given, each, each_after}
+use Rattle.bl_leb.specs.Grammar.{Spellings, ◌⨾◌, nothing, given}
+use Rattle.bl_image.specs.Grammar.{each, each_after}
 use Rattle.bl_image.specs.Reading.{Begins, NoneBegins, Fills}
 
 -- the state behind things

@@ -4,7 +4,8 @@ use Rattle.bl_ops.specs.declared.op.Op.{Op}
 use Rattle.bl_cmd.specs.Programs.{arity, ArePadded, IsZero, IsCommand}
 use Rattle.bl_cmd.specs.declared.command.Operand.{Operand}
 use Rattle.bl_cmd.specs.declared.command.Operand.TheVariants.{Const}
-use Rattle.bl_image.specs.Grammar.{Spellings, ◌⨾◌, nothing, given, u32}
+use Rattle.bl_leb.specs.Grammar.{Spellings, ◌⨾◌, nothing, given}
+use Rattle.bl_image.specs.Grammar.{u32}
 use Rattle.bl_image.specs.Image.{operand, operator, mark, command_code, fields}
 use Rattle.bl_image.specs.Reading.{Begins, NoneBegins, operands_of, fields_behind}
 use Rattle.bl_image.proofs.Begins.{begins_via, none_via, begins_both, none_second, none_head, begins_case, none_case}

@@ -6,7 +6,7 @@ use Rattle.bl_cmd.specs.declared.definitions.Demand.{Demand}
 use Rattle.bl_cmd.specs.declared.definitions.FunctionDef.{FunctionDef}
 use Rattle.bl_cmd.specs.declared.definitions.ProgramParts.{ProgramParts as Program}
 use Rattle.bl_cmd.specs.declared.definitions.SiteWeight.{SiteWeight}
-use Rattle.bl_image.specs.Grammar.{exactly, given}
+use Rattle.bl_leb.specs.Grammar.{exactly, given}
 use Rattle.bl_image.specs.Image.{magic, header, version, additions, command, Image}
 use Rattle.bl_image.specs.Reading.{traps}
 use Rattle.bl_image.proofs.Images.{Defined, defined_parts, definitions_one, listed_parts, listed_one, command_one}

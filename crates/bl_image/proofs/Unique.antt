@@ -3,7 +3,8 @@ use Rattle.std.proofs.Common.{◌≡◌, ℕ, suc, ◌+◌, ◌^◌, ◌<◌, Li
 use Rattle.bl_base.proofs.Lists.{front_same, rest_same}
 use Rattle.bl_leb.proofs.Unsigned.{one_end, one_value, one_shortest}
 use Rattle.bl_leb.specs.Numbers.{IsUnsigned}
-use Rattle.bl_image.specs.Grammar.{Spellings, ◌⨾◌, nothing, exactly, byte, given, each, each_after, u32, u64, vec, gap, rising}
+use Rattle.bl_leb.specs.Grammar.{Spellings, ◌⨾◌, nothing, exactly, byte, given}
+use Rattle.bl_image.specs.Grammar.{each, each_after, u32, u64, vec, gap, rising}
 
 -- where two spellings begin the same bytes they are of one thing, and the same rest stands behind them; and one thing has one
 -- spelling

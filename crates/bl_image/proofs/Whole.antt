@@ -19,7 +19,8 @@ use Rattle.bl_image.specs.declared.definition.Exports.{Exports}
 use Rattle.bl_image.specs.declared.rising.Weights.{Weights}
 use Rattle.bl_image.specs.declared.error.ReadError.{ReadError}
 use Rattle.bl_image.specs.declared.error.ReadError.TheVariants.{NotAnImage, Memory}
-use Rattle.bl_image.specs.Grammar.{Spellings, ◌⨾◌, byte, given, exactly, each, vec}
+use Rattle.bl_leb.specs.Grammar.{Spellings, ◌⨾◌, byte, given, exactly}
+use Rattle.bl_image.specs.Grammar.{each, vec}
 use Rattle.bl_image.specs.Image.{magic, header, version, definitions, additions, weights, demand, command, image, Image}
 use Rattle.bl_image.specs.Reading.{Begins, NoneBegins, Fills, Spells, Reads, ReadsAll, ReadsProgram, Refuses, RefusesAll, additions_of, traps}
 use Rattle.bl_image.proofs.Begins.{begins_via, none_via, begins_given, none_unless, reads_as}

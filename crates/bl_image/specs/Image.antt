@@ -27,7 +27,8 @@ use Rattle.bl_cmd.specs.declared.definitions.MemoryDef.{MemoryDef}
 use Rattle.bl_cmd.specs.declared.definitions.ParamDef.{ParamDef}
 use Rattle.bl_cmd.specs.declared.definitions.ProgramParts.{ProgramParts as Program}
 use Rattle.bl_cmd.specs.declared.definitions.SiteWeight.{SiteWeight}
-use Rattle.bl_image.specs.Grammar.{Spellings, ◌⨾◌, nothing, exactly, byte, given, each, u32, u64, vec, rising}
+use Rattle.bl_leb.specs.Grammar.{Spellings, ◌⨾◌, nothing, exactly, byte, given}
+use Rattle.bl_image.specs.Grammar.{each, u32, u64, vec, rising}
 
 -- ---- parts of several tables
 

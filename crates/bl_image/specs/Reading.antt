@@ -9,7 +9,8 @@ use Rattle.bl_cmd.specs.declared.definitions.Demand.{Demand}
 use Rattle.bl_base.specs.declared.trap.Trap.TheVariants.{Unreachable, DivideByZero, Overflow, OutOfBounds, UndefinedElement, UninitializedElement, TypeMismatch}
 use Rattle.bl_image.specs.declared.rising.Weights.{Weights}
 use Rattle.bl_cmd.specs.declared.definitions.ProgramParts.{ProgramParts as Program}
-use Rattle.bl_image.specs.Grammar.{Spellings, given, each}
+use Rattle.bl_leb.specs.Grammar.{Spellings, given}
+use Rattle.bl_image.specs.Grammar.{each}
 use Rattle.bl_image.specs.Image.{Image, image, additions, command_code, fields, operand, version}
 use Rattle.bl_image.specs.declared.error.ReadError.{ReadError}
 use Rattle.bl_image.specs.declared.error.ReadError.TheVariants as read_error

@@ -9,7 +9,7 @@ use Rattle.bl_cmd.specs.declared.definitions.FunctionDef.{FunctionDef}
 use Rattle.bl_cmd.specs.declared.definitions.MemoryDef.{MemoryDef}
 use Rattle.bl_cmd.specs.declared.definitions.ProgramParts.{ProgramParts as Program}
 use Rattle.bl_cmd.specs.declared.definitions.SiteWeight.{SiteWeight}
-use Rattle.bl_image.specs.Grammar.{Spellings}
+use Rattle.bl_leb.specs.Grammar.{Spellings}
 
 -- the new bytes are the old ones and then a spelling
 pub record Adds (Spelled : Spellings) (old new : List ℕ) : Type 0 where

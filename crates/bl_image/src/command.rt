@@ -1,6 +1,5 @@
 //! Commands.
 ghost use Rattle.std.specs.Prelude.{◌≡◌, ◌≤◌, [], ◌∷◌, take, length, OnOk};
-ghost use Rattle.bl_cmd.specs.Programs.{arity};
 ghost use Rattle.bl_image.specs.Grammar.{each};
 ghost use Rattle.bl_image.specs.Image.{command, command_code, fields, operand};
 ghost use Rattle.bl_image.specs.Reading.{Reads, fields_behind, operands_of};
@@ -10,23 +9,12 @@ use crate::error::ReadError;
 use crate::read::{Read, read_byte, read_u32};
 use crate::write::{Write, write_byte};
 use bl_base::{NoMemory, Pos, Trap, Var};
-use bl_cmd::{Command, Mark, Operand};
-use bl_ops::{AccessKind, Op, row};
+use bl_cmd::{Command, Mark, Operand, arity};
+use bl_ops::{AccessKind, Op};
 use std::alloc::Global;
 
 /// What stands for an operand that an operator doesn't take.
 const ZERO: Operand = Operand::Const(0);
-
-/// How many operands an operator takes: 1 to 3.
-fn arity_of(op: Op) -> u8
-    ensures { result ≡ arity op }
-{
-    match row(op) {
-        Some(row) => row.operands,
-        None if op == Op::Move => 1,
-        None => 3,
-    }
-}
 
 /// Reads so many operands; the others are 0. NotAnImage for another count than 1 to 3.
 fn read_operands(
@@ -58,7 +46,7 @@ fn read_set(alloc: Global, bytes: &[u8], at: usize) -> Result<(Command, usize), 
     ensures { Reads (fields_behind 0) bytes.now at result }
 {
     let ((mark, (op, to)), place) = <(Mark, (Op, Var))>::read(alloc, bytes, at)?;
-    let ((a, (b, c)), end) = read_operands(arity_of(op), alloc, bytes, place)?;
+    let ((a, (b, c)), end) = read_operands(arity(op), alloc, bytes, place)?;
     let one = Command::Set {
         mark,
         op,
@@ -237,7 +225,7 @@ fn write_fields(one: Command, to: &mut Vec<u8>) -> Result<(), NoMemory>
             c,
         } => {
             (mark, (op, variable)).write(to)?;
-            write_operands(arity_of(op), a, b, c, to)
+            write_operands(arity(op), a, b, c, to)
         }
         Command::Load {
             mark,

@@ -1,6 +1,7 @@
 //! Things whose numbers rise: the rows of memories, and weights.
 ghost use Rattle.std.specs.Prelude.{◌≡◌, ◌≤◌, ◌<◌, ◌^◌, ℕ, List as Listed, length, OnOk};
-ghost use Rattle.bl_image.specs.Grammar.{◌⨾◌, exactly, given, u32, gap, rising};
+ghost use Rattle.bl_leb.specs.Grammar.{◌⨾◌, exactly, given};
+ghost use Rattle.bl_image.specs.Grammar.{u32, gap, rising};
 ghost use Rattle.bl_image.specs.Image.{row, rows, weight, weights};
 ghost use Rattle.bl_image.specs.Reading.{Reads};
 ghost use Rattle.bl_image.specs.Writing.{Adds, Rises};

@@ -1,7 +1,8 @@
 //! Readers of the small parts of several tables.
 ghost use Rattle.std.specs.Prelude.{◌≡◌, ◌≤◌, length, IfSome, [], ◌∷◌};
 ghost use Rattle.bl_cmd.specs.declared.command.Mark.{Mark};
-ghost use Rattle.bl_image.specs.Grammar.{byte, u32};
+ghost use Rattle.bl_leb.specs.Grammar.{byte};
+ghost use Rattle.bl_image.specs.Grammar.{u32};
 ghost use Rattle.bl_image.specs.Image.{value_type, label, operand, mark, operator, access, trap_kind};
 ghost use Rattle.bl_image.specs.Reading.{Reads};
 

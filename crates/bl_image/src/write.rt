@@ -1,7 +1,8 @@
 //! Writers of values that stand in images.
 ghost use Rattle.std.specs.Prelude.{◌≡◌, ◌+◌, ℕ, List as Listed, All, OnOk, if◌then◌else◌};
 ghost use Rattle.bl_cmd.specs.Rules.{IsMark};
-ghost use Rattle.bl_image.specs.Grammar.{◌⨾◌, each, vec, byte, u32, u64};
+ghost use Rattle.bl_leb.specs.Grammar.{◌⨾◌, byte};
+ghost use Rattle.bl_image.specs.Grammar.{each, vec, u32, u64};
 ghost use Rattle.bl_image.specs.Image.{value_type, label, operand, mark, operator, access, trap_kind, text};
 ghost use Rattle.bl_image.specs.Writing.{Adds};
 

@@ -3,7 +3,8 @@ use Rattle.std.proofs.Common.{◌≡◌, ◌∙◌, ap, sym, subst, ℕ, List, �
 use Rattle.std.specs.Prelude.{nat_eq, ◌&&◌}
 use Rattle.std.proofs.Math.Seq.{drop-length}
 use Rattle.std.proofs.lemmas.Bool.Decides.{eqb_tells}
-use Rattle.bl_wasm.specs.Values.{Spellings, ◌⨾◌, byte, vec}
+use Rattle.bl_leb.specs.Grammar.{Spellings, ◌⨾◌, byte}
+use Rattle.bl_wasm.specs.Values.{vec}
 use Rattle.bl_code.specs.Reading.{IsAt, NoneAt}
 use Rattle.bl_code.proofs.Places.{Stands, is_at, join, one_at, part, stands}
 use Rattle.bl_code.proofs.Unique.{vec_prefix_free}

@@ -1,7 +1,8 @@
 -- How a section of labels is spelled behind its name.
 use Rattle.std.specs.Prelude.{ℕ, nat_eq, ◌&&◌, ◌||◌, Bool, true, false, List, IsTrue}
 use Rattle.std.specs.List.{list_all}
-use Rattle.bl_wasm.specs.Values.{Spellings, ◌⨾◌, byte, u32, vec}
+use Rattle.bl_leb.specs.Grammar.{Spellings, ◌⨾◌, byte}
+use Rattle.bl_wasm.specs.Values.{u32, vec}
 use Rattle.bl_labels.specs.declared.entry.Entry.{Entry}
 use Rattle.bl_labels.specs.declared.entry.Entry.TheVariants.{SecretParam, SecretGlobal, SecretMemory, PublicResult, PublicGlobal}
 use Rattle.bl_labels.specs.declared.labels.Place.{Place}

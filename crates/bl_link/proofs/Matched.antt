@@ -7,7 +7,7 @@ use Rattle.std.specs.Option.{option_and_then}
 use Rattle.std.proofs.lemmas.Option.{slice_get_within}
 use Rattle.bl_base.specs.declared.names.ValueType.{ValueType}
 use Rattle.bl_base.specs.declared.names.ValueType.TheVariants as value
-use Rattle.bl_wasm.specs.Linked.{function_type, global_type}
+use Rattle.bl_wasm.specs.Linked.{function_type, global_type, type_of}
 use Rattle.bl_wasm.specs.Typing.{integer}
 use Rattle.bl_wasm.specs.Validity.{function_of, table_of, memory_of, global_of}
 use Rattle.bl_wasm.specs.declared.module.Import.{Import}
@@ -25,7 +25,7 @@ use Rattle.bl_wasm.specs.declared.linked.Function.{Function}
 use Rattle.bl_wasm.specs.declared.linked.Global.{Global}
 use Rattle.bl_wasm.specs.declared.linked.Tree.{Tree}
 use Rattle.bl_link.specs.Growing.{Grows}
-use Rattle.bl_link.specs.Matching.{matches, passes, same, same_type, same_global, same_mutable, type_of, within}
+use Rattle.bl_link.specs.Matching.{matches, passes, same, same_type, same_global, same_mutable, within}
 use Rattle.bl_link.specs.IndexSpaces.{External, Store, of_kind, same_kind}
 use Rattle.bl_link.proofs.Numbering.{passes_some, Both, zip_filtered}
 

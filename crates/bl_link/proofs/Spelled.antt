@@ -1,6 +1,7 @@
 -- What the spelling of a module says of its globals.
 use Rattle.std.proofs.Common.{ℕ, ◌≤◌, inl, inr, List, [], ◌∷◌, length, length-append, ap, arith}
-use Rattle.bl_wasm.specs.Values.{Spellings, each}
+use Rattle.bl_leb.specs.Grammar.{Spellings}
+use Rattle.bl_wasm.specs.Values.{each}
 use Rattle.bl_wasm.specs.Sections.{global_entry, vec_section}
 use Rattle.bl_wasm.specs.Modules.{◌▷◌}
 use Rattle.bl_wasm.specs.declared.module.CustomSection.{CustomSection}

@@ -1,9 +1,10 @@
 -- Which import an external value can be given to (WebAssembly 1.0, section 4.5.2), and what each import is given.
-use Rattle.std.specs.Prelude.{ℕ, nat_eq, nat_le, ◌&&◌, not, Bool, true, false, if◌then◌else◌, List, map, slice_get, Option, Some, None, option_and_then, Result, Ok, Err}
+use Rattle.std.specs.Prelude.{ℕ, nat_eq, nat_le, ◌&&◌, not, Bool, true, false, if◌then◌else◌, List, map, slice_get, Option, Some, None, Result, Ok, Err}
 use Rattle.std.specs.List.{enumerate_from, list_any}
 use Rattle.std.specs.Cmp.Lexicographic.{pointwise}
 use Rattle.bl_base.specs.declared.names.ValueType.{ValueType}
 use Rattle.bl_base.specs.declared.names.ValueType.TheVariants as value
+use Rattle.bl_wasm.specs.Linked.{type_of}
 use Rattle.bl_wasm.specs.declared.module.Import.{Import}
 use Rattle.bl_wasm.specs.declared.module.ImportKind.{ImportKind}
 use Rattle.bl_wasm.specs.declared.module.ImportKind.TheVariants as import
@@ -54,10 +55,6 @@ within these wanted = nat_le wanted.min these.min && max_within these.max wanted
 abbrev pub passes : {A : Type 0} → (A → Bool) → Option A → Bool
 passes test None = false
 passes test (Some x) = test x
-
--- the type of the function of that number
-abbrev pub type_of : Tree → ℕ → Option Signature
-type_of tree function = option_and_then (λ function. slice_get tree.types function.type_index) (slice_get tree.functions function)
 
 -- whether an external value matches what an import of the module wants
 abbrev pub matches : Store → Module → ImportKind → ExportKind → ℕ → Bool

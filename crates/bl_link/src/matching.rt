@@ -1,13 +1,11 @@
 //! Which import an external value can be given to (section 4.5.2).
-ghost use Rattle.std.specs.Prelude.{◌≡◌, option_copied, slice_get};
+ghost use Rattle.std.specs.Prelude.{◌≡◌, slice_get};
 ghost use Rattle.std.specs.Cmp.Lexicographic.{pointwise};
-ghost use Rattle.bl_link.specs.Matching.{matches as matches_of, passes, same as same_of, same_global as same_global_of, same_type as same_type_of, type_of as type_number, within as within_of};
+ghost use Rattle.bl_link.specs.Matching.{matches as matches_of, passes, same as same_of, same_global as same_global_of, same_type as same_type_of, within as within_of};
 
 use crate::store::{External, Store};
 use bl_base::ValueType;
-use bl_wasm::{
-    ExportKind, FuncType, GlobalType, ImportKind, Limits, Module, Signature, Tree, WasmType,
-};
+use bl_wasm::{ExportKind, FuncType, GlobalType, ImportKind, Limits, Module, Signature, WasmType};
 
 /// Whether two types of values are one.
 fn same(a: ValueType, b: WasmType) -> bool
@@ -61,21 +59,13 @@ fn within(these: Limits, wanted: Limits) -> bool
     wanted.min <= these.min && max
 }
 
-/// The type of the function of that number.
-fn type_of(tree: &Tree, number: u32) -> Option<&Signature>
-    ensures { option_copied result ≡ type_number tree.now number }
-{
-    let function = tree.functions.as_slice().get(number as usize)?;
-    tree.types.as_slice().get(function.type_index as usize)
-}
-
 /// Whether an external value matches what an import of the module wants.
 pub(crate) fn matches(store: &Store, wasm: &Module, wanted: ImportKind, value: External) -> bool
     ensures { result ≡ matches_of store.now wasm.now wanted value.kind value.number }
 {
     match (wanted, value.kind) {
         (ImportKind::Function(index), ExportKind::Function) => {
-            let Some(kind) = type_of(&store.tree, value.number) else {
+            let Some(kind) = store.tree.type_of(value.number) else {
                 return false;
             };
             match wasm.types.as_slice().get(index as usize) {

@@ -1,7 +1,7 @@
 -- The pieces of a body keep the rules as far as they go themselves.
 use Rattle.std.proofs.Common.{◌≡◌, ℕ, suc, ◌+◌, ◌-◌, ◌*◌, ◌<◌, ◌≤◌, List, [], ◌∷◌, ◌++◌, length, drop, take, reverse, Option, Some, None, slice_get, refl, sym, ap, ◌∙◌, subst, arith, length-append, inl, inr}
 use Rattle.bl_base.specs.declared.trap.Trap.TheVariants as trap_kind
-use Rattle.bl_ops.specs.Table.{row_of}
+use Rattle.bl_ops.specs.Table.{row_of, operand_count}
 use Rattle.bl_wasm.specs.Linked.{IsLinked, IsFunction, context}
 use Rattle.bl_wasm.specs.Typing.{Context}
 use Rattle.bl_wasm.specs.declared.instruction.Instr.{Instr}
@@ -14,7 +14,7 @@ use Rattle.bl_cmd.specs.declared.command.Operand.{Operand}
 use Rattle.bl_access.specs.Templates.{shift, variable, test_of, jump_to, chain}
 use Rattle.bl_emit.specs.Shapes.{Shape, bottom}
 use Rattle.bl_emit.specs.Constructs.{reads, top, pad, moves, mark_of, Target, branched, Point, point}
-use Rattle.bl_emit.specs.Items.{left_new, check_of, check_new, count_of, branch_size, arms_from, after, to_label, arms, template, leaving}
+use Rattle.bl_emit.specs.Items.{left_new, check_of, check_new, branch_size, arms_from, after, to_label, arms, template, leaving}
 use Rattle.bl_emit.specs.Low.{takes_of, closed, Reached, on}
 use Rattle.bl_emit.specs.Numbers.{blocks, shape}
 use Rattle.bl_lower.proofs.Chains.{chain_length, arms_from_length}
@@ -184,7 +184,7 @@ module _ (tree : Tree) (linked : IsLinked tree) (number : ℕ) (B : ℕ → Type
   ranged_after (I64Const n) open_ones p low h = one_more 0 p.next p.stack low h
   ranged_after (LocalGet x) open_ones p low h = one_more 0 p.next p.stack low h
   ranged_after (GlobalGet x) open_ones p low h = one_more 0 p.next p.stack low h
-  ranged_after (Integer o) open_ones p low h = one_more (check_new (check_of o)) p.next (drop (count_of (row_of o)) p.stack) low (ranged_tail (bottom Mine) (count_of (row_of o)) p.next p.stack h)
+  ranged_after (Integer o) open_ones p low h = one_more (check_new (check_of o)) p.next (drop (operand_count (row_of o)) p.stack) low (ranged_tail (bottom Mine) (operand_count (row_of o)) p.next p.stack h)
   ranged_after Select open_ones p low h =
       one_more 0 p.next (drop 1 (drop 1 (drop 1 p.stack))) low (ranged_tail (bottom Mine) 1 p.next (drop 1 (drop 1 p.stack)) (ranged_tail (bottom Mine) 1 p.next (drop 1 p.stack) (ranged_tail (bottom Mine) 1 p.next p.stack h)))
   ranged_after (Load kind argument) open_ones p low h = one_more 1 p.next (drop 1 p.stack) low (ranged_tail (bottom Mine) 1 p.next p.stack h)

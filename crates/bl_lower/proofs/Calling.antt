@@ -13,7 +13,8 @@ use Rattle.bl_wasm.specs.Validity.{locals_of}
 use Rattle.bl_wasm.specs.declared.linked.Signature.{Signature}
 use Rattle.bl_wasm.specs.declared.linked.Function.{Function}
 use Rattle.bl_wasm.specs.declared.linked.Tree.{Tree}
-use Rattle.bl_reduce.specs.Calls.{depth as source_depth, type_of, entered, enter, operands, caller, call_at, call}
+use Rattle.bl_wasm.specs.Linked.{type_of}
+use Rattle.bl_reduce.specs.Calls.{depth as source_depth, entered, enter, operands, caller, call_at, call}
 use Rattle.bl_reduce.specs.Configurations.{Store, Frame, State, Config, entering, go, trap, known}
 use Rattle.bl_base.proofs.Lists.{zip_reverse, zip_length}
 use Rattle.bl_access.specs.Templates.{arg_of, jump_to, shift}

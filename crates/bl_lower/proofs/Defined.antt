@@ -3,11 +3,10 @@ use Rattle.std.proofs.Common.{◌≡◌, ℕ, map, Option, Some, None, slice_get
 use Rattle.std.specs.Prelude.{option_and_then, option_map}
 use Rattle.std.proofs.lemmas.Option.{slice_get-map}
 use Rattle.bl_base.proofs.Lists.{all_get, mapped_get}
-use Rattle.bl_wasm.specs.Linked.{IsFunction, IsLinked}
+use Rattle.bl_wasm.specs.Linked.{IsFunction, IsLinked, type_of}
 use Rattle.bl_wasm.specs.declared.linked.Function.{Function}
 use Rattle.bl_wasm.specs.declared.linked.Signature.{Signature}
 use Rattle.bl_wasm.specs.declared.linked.Tree.{Tree}
-use Rattle.bl_reduce.specs.Calls.{type_of}
 use Rattle.bl_cmd.specs.declared.definitions.FunctionDef.{FunctionDef}
 use Rattle.bl_lower.specs.Trees.{function_def, low_tree, results_by}
 use Rattle.bl_lower.proofs.TreeLayout.{params_of_type}

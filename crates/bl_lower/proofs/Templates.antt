@@ -6,13 +6,13 @@ use Rattle.std.proofs.lemmas.List.{length-map}
 use Rattle.std.proofs.lemmas.Option.{none-some, slice_get-map, slice_get_within}
 use Rattle.bl_base.proofs.Lists.{within_get}
 use Rattle.bl_ops.specs.Access.{is_load, width_of}
-use Rattle.bl_ops.specs.Table.{row_of}
+use Rattle.bl_ops.specs.Table.{row_of, operand_count}
 use Rattle.bl_ops.specs.declared.access.AccessKind.{AccessKind}
 use Rattle.bl_ops.specs.declared.op.Op.{Op}
 use Rattle.bl_ops.specs.declared.op.Op.TheVariants as op
 use Rattle.bl_ops.specs.declared.op.OpRow.{OpRow}
-use Rattle.bl_reduce.specs.Calls.{type_of, is_same_type}
-use Rattle.bl_wasm.specs.Linked.{IsLinked, IsFunction, context, global_type, seen}
+use Rattle.bl_reduce.specs.Calls.{is_same_type}
+use Rattle.bl_wasm.specs.Linked.{IsLinked, IsFunction, context, global_type, seen, type_of}
 use Rattle.bl_wasm.specs.Typing.{Context, integer}
 use Rattle.bl_wasm.specs.Validity.{locals_of}
 use Rattle.bl_wasm.specs.declared.linked.Function.{Function}
@@ -27,7 +27,7 @@ use Rattle.bl_cmd.specs.declared.command.Operand.TheVariants.{Var, Const}
 use Rattle.bl_access.specs.Templates.{shift, variable, load_of, jump_to, set as set_command, move, bounds, growth}
 use Rattle.bl_emit.specs.Shapes.{Counts, Slot, armed, vacant, strange, Shape, local, bottom, result_reads}
 use Rattle.bl_emit.specs.Constructs.{pad, moves, args, mark_of, Target}
-use Rattle.bl_emit.specs.Items.{Check, free, nonzero, quotient, check_of, check_size, check_new, checks, count_of, right, branch_size, branch_sizes, arms_from, arm_size, arms_size, hits_from, calls_in, to_label, arms, slot_arm, slot_arms}
+use Rattle.bl_emit.specs.Items.{Check, free, nonzero, quotient, check_of, check_size, check_new, checks, right, branch_size, branch_sizes, arms_from, arm_size, arms_size, hits_from, calls_in, to_label, arms, slot_arm, slot_arms}
 use Rattle.bl_emit.specs.Low.{takes_of}
 use Rattle.bl_lower.specs.Trees.{low_tree, function_def, global_def, memory_def}
 use Rattle.bl_emit.specs.Numbers.{blocks, shape, statics, counts, counts_of, memory_in, reserve_in, locals_in, slot_by, slot_of, slots_in, slots_at}
@@ -51,11 +51,11 @@ CheckFits (quotient eqz eq least ones) = arity eq ≡ 2
 pub check_fits : (o : Op) → CheckFits (check_of o)
 check_fits o = elim o as (λ o. CheckFits (check_of o)) [ op.I32DivS ↦ refl | op.I64DivS ↦ refl | _ ↦ tt ]
 
-pub row_padded : (o : Op) (row : OpRow) (stack : List Operand) → row_of o ≡ Some row → ArePadded o (right (count_of (row_of o)) stack) (Const 0)
+pub row_padded : (o : Op) (row : OpRow) (stack : List Operand) → row_of o ≡ Some row → ArePadded o (right (operand_count (row_of o)) stack) (Const 0)
 row_padded o row stack e =
     let counted : arity o ≡ row.operands = ap (arity_by o) e in
-    let same : count_of (row_of o) ≡ row.operands = ap count_of e in
-    ((λ lt. right_one (count_of (row_of o)) stack (omega (arith, lt, counted, same))), λ lt. refl)
+    let same : operand_count (row_of o) ≡ row.operands = ap operand_count e in
+    ((λ lt. right_one (operand_count (row_of o)) stack (omega (arith, lt, counted, same))), λ lt. refl)
 
 -- a variable below another isn't it
 not_new : (low next x : ℕ) (a : Operand) → next ≤ x → Ranged low next a → a ≢ variable x

@@ -12,7 +12,8 @@ use Rattle.bl_base.specs.declared.trap.Trap.TheVariants as trap_kind
 use Rattle.bl_wasm.specs.declared.linked.Signature.{Signature}
 use Rattle.bl_wasm.specs.declared.linked.Function.{Function}
 use Rattle.bl_wasm.specs.declared.linked.Tree.{Tree}
-use Rattle.bl_reduce.specs.Calls.{depth, type_of, operands, caller, call_at, call, entered as entered_frame, enter}
+use Rattle.bl_wasm.specs.Linked.{type_of}
+use Rattle.bl_reduce.specs.Calls.{depth, operands, caller, call_at, call, entered as entered_frame, enter}
 use Rattle.bl_reduce.specs.Configurations.{Store, Frame, State, entering, go, known, trap}
 use Rattle.bl_reduce.specs.TypedConfigurations.{IsEntering}
 use Rattle.bl_base.proofs.Lists.{zip_length}

@@ -11,7 +11,8 @@ use Rattle.bl_base.specs.declared.trap.Trap.TheVariants as trap_kind
 use Rattle.bl_wasm.specs.declared.linked.Function.{Function}
 use Rattle.bl_wasm.specs.declared.linked.Signature.{Signature}
 use Rattle.bl_wasm.specs.declared.linked.Tree.{Tree}
-use Rattle.bl_reduce.specs.Calls.{type_of, is_same, is_same_type, call_at, call_through, call_indirect}
+use Rattle.bl_wasm.specs.Linked.{type_of}
+use Rattle.bl_reduce.specs.Calls.{is_same, is_same_type, call_at, call_through, call_indirect}
 use Rattle.bl_reduce.specs.Configurations.{State, trap, known, with_values}
 use Rattle.bl_reduce.proofs.CallItems.{same_type}
 use Rattle.bl_machine.specs.Bodies.{first_of, body_of, prepared_of}

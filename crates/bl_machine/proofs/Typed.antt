@@ -7,7 +7,7 @@ use Rattle.std.proofs.lemmas.Option.{same_Some}
 use Rattle.bl_ops.specs.Table.{row_of}
 use Rattle.bl_ops.specs.declared.op.Op.{Op}
 use Rattle.bl_ops.specs.declared.op.OpRow.{OpRow}
-use Rattle.bl_wasm.specs.Linked.{context, function_type}
+use Rattle.bl_wasm.specs.Linked.{context, function_type, type_of}
 use Rattle.bl_wasm.specs.Typing.{Context, Open, HasType, expanded, integer, labels}
 use Rattle.bl_wasm.specs.declared.types.BlockType.{BlockType}
 use Rattle.bl_wasm.specs.declared.types.BlockType.TheVariants.{Empty, Value, Index}
@@ -16,7 +16,6 @@ use Rattle.bl_wasm.specs.declared.types.WasmType.{WasmType}
 use Rattle.bl_wasm.specs.declared.types.WasmType.TheVariants.{I32}
 use Rattle.bl_wasm.specs.declared.linked.Signature.{Signature}
 use Rattle.bl_wasm.specs.declared.linked.Tree.{Tree}
-use Rattle.bl_reduce.specs.Calls.{type_of}
 use Rattle.bl_reduce.specs.Configurations.{State, with_values}
 use Rattle.bl_reduce.specs.TypedConfigurations.{IsValue, AreLabels}
 use Rattle.bl_reduce.proofs.ControlItems.{ToLabel, OutOfAll, find_label}

@@ -14,6 +14,11 @@ unary code from to = Some (record { code = code; operands = 1; from = from; to =
 abbrev pub binary : ℕ → ValueType → ValueType → Option OpRow
 binary code from to = Some (record { code = code; operands = 2; from = from; to = to })
 
+-- the number of an operator's operands by its row, 0 where it has none
+abbrev pub operand_count : Option OpRow → ℕ
+operand_count None = 0
+operand_count (Some row) = row.operands
+
 -- the row of an integer operator
 abbrev pub row_of : Op → Option OpRow
 row_of I32Eqz = unary 0x45 I32 I32

@@ -1,7 +1,7 @@
 //! The table of the operators, and the calls that it makes.
 ghost use Rattle.std.specs.Prelude.{◌≡◌, IfSome, ℕ};
 ghost use Rattle.bl_ops.specs.Numerics.{meaning, outside, select, traps};
-ghost use Rattle.bl_ops.specs.Table.{operator_code, image_code_of, row_of, rows};
+ghost use Rattle.bl_ops.specs.Table.{operator_code, image_code_of, operand_count, row_of, rows};
 ghost use Rattle.bl_ops.specs.declared.op.Op.{Op};
 
 use crate::group::{
@@ -196,6 +196,16 @@ pub fn row(op: Op) -> Option<OpRow>
     ensures { result ≡ row_of op }
 {
     by_row!(row(op))
+}
+
+/// The number of an operator's operands; 0 where it has no row.
+pub fn operand_count(op: Op) -> u8
+    ensures { result ≡ operand_count (row_of op) }
+{
+    match row(op) {
+        Some(row) => row.operands,
+        None => 0,
+    }
 }
 
 /// The number that an operator gives of its operands (WebAssembly 1.0, section 4.3.2). An i32 is a number below 2^32, an

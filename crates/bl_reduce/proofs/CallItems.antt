@@ -14,7 +14,7 @@ use Rattle.bl_base.specs.Runs.{Next, goes}
 use Rattle.bl_base.specs.declared.names.ValueType.{ValueType}
 use Rattle.bl_base.specs.declared.names.ValueType.TheVariants as value
 use Rattle.bl_base.specs.declared.trap.Trap.TheVariants.{UndefinedElement, UninitializedElement, TypeMismatch, StackExhausted}
-use Rattle.bl_wasm.specs.Linked.{IsLinked, IsFunction, IsSlot, context, function_type, seen}
+use Rattle.bl_wasm.specs.Linked.{IsLinked, IsFunction, IsSlot, context, function_type, seen, type_of}
 use Rattle.bl_wasm.specs.Typing.{Context, Open, Arrow, HasType, IsTyping, Types, integer}
 use Rattle.bl_wasm.specs.Validity.{locals_of}
 use Rattle.bl_wasm.specs.declared.instruction.Instr.{Instr}
@@ -24,7 +24,7 @@ use Rattle.bl_wasm.specs.declared.types.WasmType.TheVariants.{I32}
 use Rattle.bl_wasm.specs.declared.linked.Function.{Function}
 use Rattle.bl_wasm.specs.declared.linked.Signature.{Signature}
 use Rattle.bl_wasm.specs.declared.linked.Tree.{Tree}
-use Rattle.bl_reduce.specs.Calls.{depth, type_of, enter, entered, call_at, call, is_same, is_same_type, call_through, call_indirect}
+use Rattle.bl_reduce.specs.Calls.{depth, enter, entered, call_at, call, is_same, is_same_type, call_through, call_indirect}
 use Rattle.bl_reduce.specs.Configurations.{Store, Frame, State, Config, entering, go, trap, known, with_values}
 use Rattle.bl_reduce.specs.TypedConfigurations.{IsValue, BeginsWith, IsEntering, IsRunning, IsTypedStep}
 use Rattle.bl_reduce.proofs.ControlItems.{topmost, above}

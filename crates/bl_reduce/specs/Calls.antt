@@ -6,6 +6,7 @@ use Rattle.bl_base.specs.Runs.{Next, goes}
 use Rattle.bl_base.specs.declared.names.ValueType.{ValueType}
 use Rattle.bl_base.specs.declared.names.ValueType.TheVariants.{I32, I64}
 use Rattle.bl_base.specs.declared.trap.Trap.TheVariants.{UndefinedElement, UninitializedElement, TypeMismatch, StackExhausted}
+use Rattle.bl_wasm.specs.Linked.{type_of}
 use Rattle.bl_wasm.specs.Validity.{locals_of}
 use Rattle.bl_wasm.specs.declared.linked.Signature.{Signature}
 use Rattle.bl_wasm.specs.declared.linked.Function.{Function}
@@ -15,10 +16,6 @@ use Rattle.bl_reduce.specs.Configurations.{Store, Frame, State, Config, entering
 -- the depth of calls: 1 in the function that was entered first
 abbrev pub depth : State → ℕ
 depth state = length state.callers + 1
-
--- the type of the function of a number
-abbrev pub type_of : Tree → ℕ → Option Signature
-type_of tree number = option_and_then (λ function. slice_get tree.types function.type_index) (slice_get tree.functions number)
 
 -- ---- entering a function (section 4.4.7)
 

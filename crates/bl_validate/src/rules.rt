@@ -81,7 +81,7 @@ fn has_valid_globals(
 ) -> bool
     ensures { IsTrue result ↔ AreGlobals globals.now imports.now defined.now }
 {
-    globals.iter().all(|global| is_integer(global.kind))
+    globals.iter().all(|global| global.kind.is_integer())
         && defined.iter().all(|global| is_first(imports, global.kind.kind, global.first.as_slice()))
 }
 
@@ -120,13 +120,6 @@ fn space(scope: &Scope, kind: ExportKind) -> usize
     }
 }
 
-/// Whether the type is one of integers.
-fn is_integer(kind: WasmType) -> bool
-    ensures { IsTrue result ↔ IsInteger kind }
-{
-    matches!(kind, WasmType::I32 | WasmType::I64)
-}
-
 /// Whether each is a function's type of this profile.
 fn are_types(types: &[FuncType]) -> bool
     ensures { IsTrue result ↔ All IsFunctionType types.now }
@@ -141,8 +134,8 @@ fn is_function_type(kind: &FuncType) -> bool
     kind.params
         .as_slice()
         .iter()
-        .all(|param| is_integer(*param))
-        && kind.results.as_slice().iter().all(|kind| is_integer(*kind))
+        .all(|param| param.is_integer())
+        && kind.results.as_slice().iter().all(|kind| kind.is_integer())
 }
 
 /// Whether the locals and the types of blocks are integers.
@@ -152,7 +145,7 @@ fn is_code(code: &Code) -> bool
     code.locals
         .as_slice()
         .iter()
-        .all(|run| is_integer(run.kind))
+        .all(|run| run.kind.is_integer())
         && code.items.as_slice().iter().all(|item| has_integers(item))
 }
 
@@ -178,7 +171,7 @@ fn has_integer_type(kind: BlockType) -> bool
     ensures { IsTrue result ↔ HasIntegerType kind }
 {
     match kind {
-        BlockType::Value(kind) => is_integer(kind),
+        BlockType::Value(kind) => kind.is_integer(),
         BlockType::Empty | BlockType::Index(_) => true,
     }
 }

@@ -6,7 +6,8 @@ use Rattle.std.proofs.lemmas.Str.{IsUtf8-from_ascii}
 use Rattle.std.proofs.lemmas.Str.Ascii.{IsAscii-nil, IsAscii-cons}
 use Rattle.bl_ops.specs.declared.op.Op.TheVariants.{I32Add}
 use Rattle.bl_ops.specs.declared.access.AccessKind.TheVariants.{I32Load, I64Store8}
-use Rattle.bl_wasm.specs.Values.{Spellings, ◌⨾◌, u32, each, vec, name, sized}
+use Rattle.bl_leb.specs.Grammar.{Spellings, ◌⨾◌}
+use Rattle.bl_wasm.specs.Values.{u32, each, vec, name, sized}
 use Rattle.bl_wasm.specs.Types.{value_type, function_type}
 use Rattle.bl_wasm.specs.Instructions.{Nests, none, plain, loop, if_else, instruction, expression}
 use Rattle.bl_wasm.proofs.NestingLemmas.{closes, known_open}

@@ -6,7 +6,8 @@ use Rattle.bl_ops.specs.Access.{is_load, access_code}
 use Rattle.bl_ops.specs.Table.{operator_code}
 use Rattle.bl_wasm.specs.Codes.{IsFloatCode, float_access_code}
 use Rattle.bl_wasm.specs.Types.{block_type}
-use Rattle.bl_wasm.specs.Values.{Spellings, ◌⨾◌, byte, given, each, u32, int, f32, f64, vec}
+use Rattle.bl_leb.specs.Grammar.{Spellings, ◌⨾◌, byte, given}
+use Rattle.bl_wasm.specs.Values.{each, u32, int, f32, f64, vec}
 use Rattle.bl_wasm.specs.declared.instruction.Instr.{Instr}
 use Rattle.bl_wasm.specs.declared.instruction.Instr.TheVariants.{Unreachable, Nop, Block, Loop, If, Else, End, Br, BrIf, BrTable, Return, Call, CallIndirect, Drop, Select, LocalGet, LocalSet, LocalTee, GlobalGet, GlobalSet, Load, Store, FloatAccess, MemorySize, MemoryGrow, I32Const, I64Const, F32Const, F64Const, Integer, Float}
 use Rattle.bl_wasm.specs.declared.instruction.MemoryArgument.{MemoryArgument}

@@ -1,5 +1,5 @@
 -- What a linked tree keeps (WebAssembly 1.0, sections 3.4 and 4.5.4).
-use Rattle.std.specs.Prelude.{◌≡◌, ℕ, false, ◌*◌, ◌^◌, ◌<◌, ◌≤◌, ◌++◌, List, length, map, slice_get, sum_by, Option, Some, None, IfSome}
+use Rattle.std.specs.Prelude.{◌≡◌, ℕ, false, ◌*◌, ◌^◌, ◌<◌, ◌≤◌, ◌++◌, List, length, map, slice_get, sum_by, Option, Some, None, IfSome, option_and_then}
 use Rattle.std.specs.List.{All}
 use Rattle.bl_base.specs.Fits.{AreBytes, ArgumentFits}
 use Rattle.bl_base.specs.Quantity.{limit_of}
@@ -18,6 +18,10 @@ use Rattle.bl_wasm.specs.declared.linked.Function.{Function}
 use Rattle.bl_wasm.specs.declared.linked.Global.{Global}
 use Rattle.bl_wasm.specs.declared.linked.Memory.{Memory}
 use Rattle.bl_wasm.specs.declared.linked.Tree.{Tree}
+
+-- the type of the function of a number
+abbrev pub type_of : Tree → ℕ → Option Signature
+type_of tree number = option_and_then (λ function. slice_get tree.types function.type_index) (slice_get tree.functions number)
 
 -- ---- the context of a body
 

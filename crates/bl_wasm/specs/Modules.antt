@@ -1,6 +1,7 @@
 -- Modules in the binary format (WebAssembly 1.0, section 5.5.15).
 use Rattle.std.specs.Prelude.{◌≡◌, ℕ, ◌++◌, List, [], ◌∷◌, length}
-use Rattle.bl_wasm.specs.Values.{Spellings, ◌⨾◌, exactly, each}
+use Rattle.bl_leb.specs.Grammar.{Spellings, ◌⨾◌, exactly}
+use Rattle.bl_wasm.specs.Values.{each}
 use Rattle.bl_wasm.specs.Sections.{custom_section, type_section, import_section, function_section, table_section, memory_section, global_section, export_section, start_section, element_section, code_section, data_section}
 use Rattle.bl_wasm.specs.declared.module.CustomSection.{CustomSection}
 use Rattle.bl_wasm.specs.declared.module.Module.{Module}

@@ -1,6 +1,7 @@
 -- Sections in the binary format (WebAssembly 1.0, section 5.5).
 use Rattle.std.specs.Prelude.{◌≡◌, ℕ, ◌<◌, ◌^◌, ◌⊎◌, List, [], Option, Some, None, sum_by}
-use Rattle.bl_wasm.specs.Values.{Spellings, ◌⨾◌, nothing, exactly, byte, given, u32, vec, byte_vec, name, sized}
+use Rattle.bl_leb.specs.Grammar.{Spellings, ◌⨾◌, nothing, exactly, byte, given}
+use Rattle.bl_wasm.specs.Values.{u32, vec, byte_vec, name, sized}
 use Rattle.bl_wasm.specs.Types.{value_type, function_type, table_type, memory_type, global_type}
 use Rattle.bl_wasm.specs.Instructions.{expression}
 use Rattle.bl_wasm.specs.declared.types.FuncType.{FuncType}

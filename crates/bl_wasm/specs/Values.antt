@@ -3,37 +3,9 @@
 use Rattle.std.specs.Prelude.{◌≡◌, ℕ, ◌++◌, List, [], ◌∷◌, length, ℤ}
 use Rattle.std.specs.Int.{w32, w64, from_le_bytes}
 use Rattle.std.specs.Str.{IsUtf8}
+use Rattle.bl_leb.specs.Grammar.{Spellings, ◌⨾◌, nothing, exactly, given}
 use Rattle.bl_leb.specs.Numbers.{IsUnsigned, IsSigned}
 use Rattle.bl_ops.specs.Integer.{unsigned}
-
-infixr 60 ◌⨾◌
--- which sequences of bytes spell something (section 5.1.1)
-abbrev pub Spellings : Type 1
-Spellings = List ℕ → Type 0
-
--- ε: no bytes
-abbrev pub nothing : Spellings
-nothing bytes = bytes ≡ []
-
--- these bytes and no others
-abbrev pub exactly : List ℕ → Spellings
-exactly these bytes = bytes ≡ these
-
--- one byte
-abbrev pub byte : ℕ → Spellings
-byte n = exactly (n ∷ [])
-
--- a spelling of the first, and then one of the second
-pub record ◌⨾◌ (First Second : Spellings) (bytes : List ℕ) : Type 0 where
-  pub front : List ℕ
-  pub rest : List ℕ
-  pub whole : bytes ≡ front ++ rest
-  pub first : First front
-  pub second : Second rest
-
--- where a condition holds
-abbrev pub given : Type 0 → Spellings → Spellings
-given Condition Spelled bytes = Condition × Spelled bytes
 
 -- B*: a spelling of each, one after another
 abbrev pub each : {A : Type 0} → (A → Spellings) → List A → Spellings

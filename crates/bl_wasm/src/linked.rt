@@ -1,7 +1,7 @@
 //! The linked tree: the modules of a request as one program (WebAssembly 1.0, section 4.5.4). Functions, globals, memories,
 //! tables and types are numbered over the whole tree, and the items of a body name them by these numbers.
-ghost use Rattle.std.specs.Prelude.{◌≡◌};
-ghost use Rattle.bl_wasm.specs.Linked.{IsLinked};
+ghost use Rattle.std.specs.Prelude.{◌≡◌, option_copied};
+ghost use Rattle.bl_wasm.specs.Linked.{IsLinked, type_of};
 
 use crate::exports::Exports;
 use crate::module::Code;
@@ -95,6 +95,18 @@ impl Model for Linked {
     ghost view = { λ l. l.tree };
 
     ghost invariant = { λ l. IsLinked l.tree };
+}
+
+impl Tree {
+    /// The type of the function of that number, where it has one; takes no memory.
+    pub fn type_of(&self, function: u32) -> Option<&Signature>
+        ensures { option_copied result ≡ type_of self.now function }
+    {
+        match self.functions.as_slice().get(function as usize) {
+            Some(function) => self.types.as_slice().get(function.type_index as usize),
+            None => None,
+        }
+    }
 }
 
 impl Linked {

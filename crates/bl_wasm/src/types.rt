@@ -1,4 +1,7 @@
 //! Types (WebAssembly 1.0, section 2.3).
+ghost use Rattle.std.specs.Prelude.{◌↔◌, IsTrue};
+ghost use Rattle.bl_wasm.specs.Validity.{IsInteger};
+
 use bl_base::List;
 
 /// A value type (section 2.3.1). The tree names floats too, so that it can hold every module of the grammar.
@@ -12,6 +15,15 @@ pub enum WasmType {
     F32,
     /// A float of 64 bits.
     F64,
+}
+
+impl WasmType {
+    /// Whether the type is one of integers.
+    pub fn is_integer(self) -> bool
+        ensures { IsTrue result ↔ IsInteger self }
+    {
+        matches!(self, WasmType::I32 | WasmType::I64)
+    }
 }
 
 /// The type of a block, a loop or an if (section 5.3.2; version 2.0, section 5.4.1): nothing, one result, or a type of the

@@ -3,9 +3,8 @@ ghost use Rattle.std.specs.Prelude.{◌≡◌, ◌↔◌, ◌<◌, ◌^◌, ℕ,
 ghost use Rattle.bl_cmd.specs.Sites.{site_weight};
 ghost use Rattle.bl_witness.specs.Lookups.{JudgesLoads};
 
-use crate::protects::mark_at;
 use bl_base::Pos;
-use bl_cmd::{WellFormed, site_weight};
+use bl_cmd::{WellFormed, mark_at, site_weight};
 
 /// The first site with more flow than its weight.
 pub(crate) fn overloaded(program: &WellFormed, loads: &[u64]) -> Option<u64>

@@ -1,9 +1,9 @@
 //! The protects of a program.
 ghost use Rattle.std.specs.Prelude.{◌≡◌, ◌<◌, ◌^◌, if◌then◌else◌, min, unwrap_or};
-ghost use Rattle.bl_cmd.specs.Sites.{is_protected, mark_at, mark_of, site_weight, weight_of};
+ghost use Rattle.bl_cmd.specs.Sites.{is_protected, site_weight, weight_of};
 
 use bl_base::Pos;
-use bl_cmd::{Command, Mark, ProgramParts, WellFormed, site_weight};
+use bl_cmd::{ProgramParts, WellFormed, mark_at, site_weight};
 
 /// The sum of the weights of the program's protected sites.
 pub(crate) fn protect_weight(program: &WellFormed) -> u64
@@ -36,33 +36,5 @@ pub fn is_protected(parts: &ProgramParts, at: usize) -> bool
     match mark_at(parts, at) {
         Some(mark) => mark.protect,
         None => false,
-    }
-}
-
-/// The mark of the site at a position; None where no site stands there.
-pub(crate) fn mark_at(parts: &ProgramParts, at: usize) -> Option<Mark>
-    ensures { result ≡ mark_at parts.now at }
-{
-    match parts.commands.as_slice().get(at) {
-        Some(command) => mark_of(*command),
-        None => None,
-    }
-}
-
-/// The mark of a site's command; None where the command is none of a site.
-fn mark_of(command: Command) -> Option<Mark>
-    ensures { result ≡ mark_of command }
-{
-    match command {
-        Command::Set { mark, .. } => Some(mark),
-        Command::Load { mark, .. } => Some(mark),
-        Command::Store { .. } => None,
-        Command::Test { .. } => None,
-        Command::Jump { .. } => None,
-        Command::Arg { mark, .. } => Some(mark),
-        Command::Call { .. } => None,
-        Command::Out { mark, .. } => Some(mark),
-        Command::Ret => None,
-        Command::Trap { .. } => None,
     }
 }

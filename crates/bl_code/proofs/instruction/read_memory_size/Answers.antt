@@ -1,4 +1,4 @@
-use Rattle.bl_wasm.specs.Values.{byte}
+use Rattle.bl_leb.specs.Grammar.{byte}
 use Rattle.bl_code.specs.Shapes.{Shape}
 use Rattle.bl_code.specs.declared.error.CodeError.TheVariants.{Malformed}
 use Rattle.bl_code.proofs.Immediates.{err_zero, not_zero_byte}

@@ -1,5 +1,6 @@
 use Rattle.std.proofs.Common.{length}
-use Rattle.bl_wasm.specs.Values.{u32, exactly}
+use Rattle.bl_leb.specs.Grammar.{exactly}
+use Rattle.bl_wasm.specs.Values.{u32}
 use Rattle.bl_code.proofs.Places.{passes, err_first, reads_after}
 use Rattle.bl_code.specs.Laws.{u32_prefix_free}
 use Rattle.bl_code.specs.declared.error.CodeError.TheVariants.{Malformed}

@@ -1,4 +1,5 @@
-use Rattle.bl_wasm.specs.Values.{◌⨾◌, exactly, name}
+use Rattle.bl_leb.specs.Grammar.{◌⨾◌, exactly}
+use Rattle.bl_wasm.specs.Values.{name}
 use Rattle.bl_wasm.specs.declared.module.CustomSection.{CustomSection}
 use Rattle.bl_code.proofs.Places.{err_first}
 use Rattle.bl_decode.proofs.Sizes.{err_whole}

@@ -1,5 +1,6 @@
 use Rattle.std.proofs.Common.{◌+◌, arith}
-use Rattle.bl_wasm.specs.Values.{◌⨾◌, exactly, name}
+use Rattle.bl_leb.specs.Grammar.{◌⨾◌, exactly}
+use Rattle.bl_wasm.specs.Values.{name}
 use Rattle.bl_wasm.specs.Sections.{custom_section}
 use Rattle.bl_wasm.specs.declared.module.CustomSection.{CustomSection}
 use Rattle.bl_code.specs.declared.error.CodeError.TheVariants.{Malformed}

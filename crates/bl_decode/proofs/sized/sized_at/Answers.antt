@@ -1,5 +1,6 @@
 use Rattle.std.proofs.Common.{length, arith}
-use Rattle.bl_wasm.specs.Values.{u32, exactly}
+use Rattle.bl_leb.specs.Grammar.{exactly}
+use Rattle.bl_wasm.specs.Values.{u32}
 use Rattle.bl_code.proofs.Places.{none_first}
 use Rattle.bl_decode.proofs.Sizes.{none_short, at_size}
 use Rattle.bl_decode.proofs.sized.sized_at.Goals as goal

@@ -13,11 +13,11 @@ pub returns-in_err-a : goal.returns-in_err-a
 returns-in_err-a c =
     let r = c.in_ok-mark in
     passes (operands_of (arity r.op)) (fields_behind 0) c.args.bytes.now r.place c.args.at c.from_residual-in_err-a.result _ c.from_residual-in_err-a.ensures.1
-    (no_set_operands (drop c.args.at c.args.bytes.now) (drop r.place c.args.bytes.now) (r.mark, (r.op, r.to)) r.ensures.1) (rw (← c.arity_of.ensures) c.in_err-a.ensures)
+    (no_set_operands (drop c.args.at c.args.bytes.now) (drop r.place c.args.bytes.now) (r.mark, (r.op, r.to)) r.ensures.1) (rw (← c.arity.ensures) c.in_err-a.ensures)
 
 pub returns : goal.returns
 returns c =
     let r = c.in_ok-mark in
     let o = c.in_ok-a in
-    let rest = subst (λ (n : ℕ). Begins (operands_of n) (drop r.place c.args.bytes.now) (o.a, (o.b, o.c)) (drop o.end c.args.bytes.now)) c.arity_of.ensures o.ensures.1 in
+    let rest = subst (λ (n : ℕ). Begins (operands_of n) (drop r.place c.args.bytes.now) (o.a, (o.b, o.c)) (drop o.end c.args.bytes.now)) c.arity.ensures o.ensures.1 in
     (o.ensures.0, set_found (drop c.args.at c.args.bytes.now) (drop r.place c.args.bytes.now) (drop o.end c.args.bytes.now) (r.mark, (r.op, r.to)) (o.a, (o.b, o.c)) r.ensures.1 rest)

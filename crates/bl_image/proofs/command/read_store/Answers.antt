@@ -1,6 +1,6 @@
 use Rattle.std.proofs.Common.{drop, refl, rules}
 use Rattle.bl_cmd.specs.Programs.{IsCommand}
-use Rattle.bl_image.specs.Grammar.{given}
+use Rattle.bl_leb.specs.Grammar.{given}
 use Rattle.bl_image.specs.Image.{command_code, fields}
 use Rattle.bl_image.specs.Reading.{fields_behind}
 use Rattle.bl_image.proofs.Cases.{to_store, is_store}

@@ -1,5 +1,6 @@
 use Rattle.std.proofs.Common.{drop}
-use Rattle.bl_image.specs.Grammar.{◌⨾◌, gap}
+use Rattle.bl_leb.specs.Grammar.{◌⨾◌}
+use Rattle.bl_image.specs.Grammar.{gap}
 use Rattle.bl_image.proofs.Begins.{passes, none_head, reads_after}
 use Rattle.bl_image.proofs.rising.read_next.Goals as goal
 

@@ -1,5 +1,6 @@
 use Rattle.std.proofs.Common.{◌≡◌, ℕ, suc, ◌+◌, ◌<◌, ◌^◌, ◌∷◌, [], length, drop, subst, sym, arith, length-append, ap, ◌∙◌}
-use Rattle.bl_image.specs.Grammar.{Spellings, ◌⨾◌, gap}
+use Rattle.bl_leb.specs.Grammar.{Spellings, ◌⨾◌}
+use Rattle.bl_image.specs.Grammar.{gap}
 use Rattle.bl_image.specs.Reading.{Begins}
 use Rattle.bl_image.proofs.Begins.{passes}
 use Rattle.bl_image.proofs.Chains.{behind, behind_more, counted, begins_more, none_more}

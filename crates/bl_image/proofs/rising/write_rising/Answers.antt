@@ -1,6 +1,7 @@
 use Rattle.std.proofs.Common.{◌≡◌, ◌≤◌, ◌<◌, ◌^◌, ◌+◌, ◌-◌, ℕ, suc, ◌∷◌, take, drop, length, arith, sym, ap, ◌∙◌, subst}
 use Rattle.bl_base.proofs.Lists.{rest_at}
-use Rattle.bl_image.specs.Grammar.{◌⨾◌, gap}
+use Rattle.bl_leb.specs.Grammar.{◌⨾◌}
+use Rattle.bl_image.specs.Grammar.{gap}
 use Rattle.bl_image.specs.Writing.{Adds, Rises}
 use Rattle.bl_image.proofs.Adds.{seq, adds_as, more_added, taken}
 use Rattle.bl_image.proofs.Chains.{behind, behind_more}

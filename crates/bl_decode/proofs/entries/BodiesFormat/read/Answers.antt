@@ -1,5 +1,6 @@
 use Rattle.std.proofs.Common.{◌<◌, ◌^◌, List, ap, sym, subst, sum_by}
-use Rattle.bl_wasm.specs.Values.{◌⨾◌, vec}
+use Rattle.bl_leb.specs.Grammar.{◌⨾◌}
+use Rattle.bl_wasm.specs.Values.{vec}
 use Rattle.bl_wasm.specs.Instructions.{expression}
 use Rattle.bl_wasm.specs.Sections.{local_run, function_code}
 use Rattle.bl_wasm.specs.declared.module.LocalRun.{LocalRun}

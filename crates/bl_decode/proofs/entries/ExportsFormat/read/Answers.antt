@@ -1,4 +1,5 @@
-use Rattle.bl_wasm.specs.Values.{◌⨾◌, name, u32}
+use Rattle.bl_leb.specs.Grammar.{◌⨾◌}
+use Rattle.bl_wasm.specs.Values.{name, u32}
 use Rattle.bl_wasm.specs.Sections.{export_kind, export_entry}
 use Rattle.bl_wasm.specs.declared.module.Export.{Export}
 use Rattle.bl_code.proofs.Places.{passes, err_along}

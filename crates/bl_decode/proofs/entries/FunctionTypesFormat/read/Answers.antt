@@ -1,4 +1,5 @@
-use Rattle.bl_wasm.specs.Values.{◌⨾◌, byte, vec}
+use Rattle.bl_leb.specs.Grammar.{◌⨾◌, byte}
+use Rattle.bl_wasm.specs.Values.{vec}
 use Rattle.bl_wasm.specs.Types.{value_type, function_type}
 use Rattle.bl_wasm.specs.declared.types.FuncType.{FuncType}
 use Rattle.bl_code.proofs.Places.{passes, err_along}

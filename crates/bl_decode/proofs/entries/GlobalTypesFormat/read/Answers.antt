@@ -1,4 +1,4 @@
-use Rattle.bl_wasm.specs.Values.{◌⨾◌}
+use Rattle.bl_leb.specs.Grammar.{◌⨾◌}
 use Rattle.bl_wasm.specs.Types.{value_type, mutability, global_type}
 use Rattle.bl_wasm.specs.declared.types.GlobalType.{GlobalType}
 use Rattle.bl_code.proofs.Places.{passes, err_along}

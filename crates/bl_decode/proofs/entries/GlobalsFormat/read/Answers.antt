@@ -1,4 +1,4 @@
-use Rattle.bl_wasm.specs.Values.{◌⨾◌}
+use Rattle.bl_leb.specs.Grammar.{◌⨾◌}
 use Rattle.bl_wasm.specs.Types.{global_type}
 use Rattle.bl_wasm.specs.Instructions.{expression}
 use Rattle.bl_wasm.specs.Sections.{global_entry}

@@ -1,6 +1,7 @@
 use Rattle.std.proofs.Common.{ℕ, subst, rules}
 use Rattle.bl_code.specs.Reading.{IsAt}
-use Rattle.bl_wasm.specs.Values.{byte, u32}
+use Rattle.bl_leb.specs.Grammar.{byte}
+use Rattle.bl_wasm.specs.Values.{u32}
 use Rattle.bl_wasm.specs.Types.{limits, table_type, global_type}
 use Rattle.bl_wasm.specs.Sections.{import_kind}
 use Rattle.bl_wasm.specs.declared.module.ImportKind.TheVariants.{Function, Table, Memory, Global}

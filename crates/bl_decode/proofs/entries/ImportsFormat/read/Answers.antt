@@ -1,4 +1,5 @@
-use Rattle.bl_wasm.specs.Values.{◌⨾◌, name}
+use Rattle.bl_leb.specs.Grammar.{◌⨾◌}
+use Rattle.bl_wasm.specs.Values.{name}
 use Rattle.bl_wasm.specs.Sections.{import_kind, import_entry}
 use Rattle.bl_wasm.specs.declared.module.Import.{Import}
 use Rattle.bl_code.proofs.Places.{passes, err_along}

@@ -1,4 +1,5 @@
-use Rattle.bl_wasm.specs.Values.{◌⨾◌, u32}
+use Rattle.bl_leb.specs.Grammar.{◌⨾◌}
+use Rattle.bl_wasm.specs.Values.{u32}
 use Rattle.bl_wasm.specs.Types.{value_type}
 use Rattle.bl_wasm.specs.Sections.{local_run}
 use Rattle.bl_wasm.specs.declared.module.LocalRun.{LocalRun}

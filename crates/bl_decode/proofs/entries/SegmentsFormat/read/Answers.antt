@@ -1,4 +1,5 @@
-use Rattle.bl_wasm.specs.Values.{◌⨾◌, u32, byte_vec}
+use Rattle.bl_leb.specs.Grammar.{◌⨾◌}
+use Rattle.bl_wasm.specs.Values.{u32, byte_vec}
 use Rattle.bl_wasm.specs.Instructions.{expression}
 use Rattle.bl_wasm.specs.Sections.{data_entry}
 use Rattle.bl_wasm.specs.declared.module.DataSegment.{DataSegment}

@@ -1,4 +1,4 @@
-use Rattle.bl_wasm.specs.Values.{◌⨾◌, byte}
+use Rattle.bl_leb.specs.Grammar.{◌⨾◌, byte}
 use Rattle.bl_wasm.specs.Types.{limits, table_type}
 use Rattle.bl_wasm.specs.declared.types.Limits.{Limits}
 use Rattle.bl_code.proofs.Places.{passes, err_along}

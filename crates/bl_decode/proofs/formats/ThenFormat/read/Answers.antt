@@ -1,4 +1,4 @@
-use Rattle.bl_wasm.specs.Values.{◌⨾◌}
+use Rattle.bl_leb.specs.Grammar.{◌⨾◌}
 use Rattle.bl_code.proofs.Places.{passes, err_first, err_second, stands, is_at, join}
 use Rattle.bl_decode.proofs.formats.ThenFormat.read.Goals as goal
 

@@ -1,6 +1,6 @@
 use Rattle.std.proofs.Common.{drop}
 use Rattle.bl_cmd.specs.Programs.{IsCommand}
-use Rattle.bl_image.specs.Grammar.{byte, given}
+use Rattle.bl_leb.specs.Grammar.{byte, given}
 use Rattle.bl_image.specs.Image.{command, command_code, fields}
 use Rattle.bl_image.proofs.Begins.{passes, none_head, reads_after}
 use Rattle.bl_image.proofs.command.CommandRead.read.Goals as goal

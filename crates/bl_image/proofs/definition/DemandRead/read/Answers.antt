@@ -1,6 +1,7 @@
 use Rattle.std.proofs.Common.{drop, sym, ◌∙◌}
 use Rattle.bl_cmd.specs.declared.definitions.Demand.TheVariants.{Result, Global}
-use Rattle.bl_image.specs.Grammar.{byte, given, u32, ◌⨾◌}
+use Rattle.bl_leb.specs.Grammar.{byte, given, ◌⨾◌}
+use Rattle.bl_image.specs.Grammar.{u32}
 use Rattle.bl_image.specs.Image.{demand, demand_code, demand_fields}
 use Rattle.bl_image.proofs.Begins.{passes, none_head, none_after, none_case, begins_coded}
 use Rattle.bl_image.proofs.Cases.{ResultParts, to_result, is_result, is_global}

@@ -1,5 +1,5 @@
 use Rattle.std.proofs.Common.{drop, refl, ℕ, List}
-use Rattle.bl_image.specs.Grammar.{Spellings}
+use Rattle.bl_leb.specs.Grammar.{Spellings}
 use Rattle.bl_cmd.specs.declared.definitions.ExportDef.{ExportDef}
 use Rattle.bl_image.specs.Image.{export}
 use Rattle.bl_image.proofs.Begins.{passes, none_via, begins_from}

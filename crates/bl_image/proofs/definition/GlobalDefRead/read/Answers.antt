@@ -1,5 +1,5 @@
 use Rattle.std.proofs.Common.{drop, refl, ℕ, List}
-use Rattle.bl_image.specs.Grammar.{Spellings}
+use Rattle.bl_leb.specs.Grammar.{Spellings}
 use Rattle.bl_base.specs.declared.names.ValueType.{ValueType}
 use Rattle.bl_base.specs.declared.names.Label.{Label}
 use Rattle.bl_cmd.specs.declared.definitions.GlobalDef.{GlobalDef}

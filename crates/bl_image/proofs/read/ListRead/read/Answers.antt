@@ -1,5 +1,6 @@
 use Rattle.std.proofs.Common.{◌≡◌, ℕ, length, subst}
-use Rattle.bl_image.specs.Grammar.{u32, given, each}
+use Rattle.bl_leb.specs.Grammar.{given}
+use Rattle.bl_image.specs.Grammar.{u32, each}
 use Rattle.bl_image.specs.Reading.{Reads}
 use Rattle.bl_image.proofs.Begins.{reads_after}
 use Rattle.bl_image.proofs.read.ListRead.read.Goals as goal

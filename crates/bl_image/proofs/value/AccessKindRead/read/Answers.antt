@@ -1,7 +1,7 @@
 use Rattle.std.proofs.Common.{drop}
 use Rattle.bl_ops.specs.Access.{access_code}
 use Rattle.bl_image.specs.Image.{access}
-use Rattle.bl_image.specs.Grammar.{byte}
+use Rattle.bl_leb.specs.Grammar.{byte}
 use Rattle.bl_image.proofs.Begins.{passes, none_via}
 use Rattle.bl_image.proofs.value.AccessKindRead.read.Goals as goal
 

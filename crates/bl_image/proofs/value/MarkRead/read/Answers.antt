@@ -1,7 +1,7 @@
 use Rattle.std.proofs.Common.{drop}
 use Rattle.std.proofs.Common.{◌+◌, if◌then◌else◌}
 use Rattle.bl_image.specs.Image.{mark}
-use Rattle.bl_image.specs.Grammar.{byte}
+use Rattle.bl_leb.specs.Grammar.{byte}
 use Rattle.bl_image.proofs.Begins.{passes, none_via}
 use Rattle.bl_image.proofs.value.MarkRead.read.Goals as goal
 

@@ -1,7 +1,7 @@
 use Rattle.std.proofs.Common.{drop}
 use Rattle.bl_ops.specs.Table.{image_code_of}
 use Rattle.bl_image.specs.Image.{operator}
-use Rattle.bl_image.specs.Grammar.{byte}
+use Rattle.bl_leb.specs.Grammar.{byte}
 use Rattle.bl_image.proofs.Begins.{passes, none_via}
 use Rattle.bl_image.proofs.value.OpRead.read.Goals as goal
 

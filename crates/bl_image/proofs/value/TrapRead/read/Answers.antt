@@ -1,7 +1,7 @@
 use Rattle.std.proofs.Common.{drop}
 use Rattle.bl_base.specs.Trap.{trap_number as trap_code}
 use Rattle.bl_image.specs.Image.{trap_kind}
-use Rattle.bl_image.specs.Grammar.{byte}
+use Rattle.bl_leb.specs.Grammar.{byte}
 use Rattle.bl_image.proofs.Begins.{passes, none_via}
 use Rattle.bl_image.proofs.value.TrapRead.read.Goals as goal
 

@@ -1,6 +1,6 @@
 use Rattle.std.proofs.Common.{drop}
 use Rattle.bl_image.specs.Image.{value_type, type_code}
-use Rattle.bl_image.specs.Grammar.{byte}
+use Rattle.bl_leb.specs.Grammar.{byte}
 use Rattle.bl_image.proofs.Begins.{passes, none_via}
 use Rattle.bl_image.proofs.value.ValueTypeRead.read.Goals as goal
 
