@@ -25,7 +25,7 @@ use Rattle.bl_wasm.specs.declared.linked.Memory.{Memory}
 use Rattle.bl_wasm.specs.declared.linked.Tree.{Tree}
 use Rattle.bl_link.specs.Matching.{all_given}
 use Rattle.bl_link.specs.Named.{qualified}
-use Rattle.bl_link.specs.Parts.{External, LinkError, Part, Spaces, Store, changed, DataRange, ElementRange, Limit, names, number, on_ok, space, spaces_of, written}
+use Rattle.bl_link.specs.IndexSpaces.{External, LinkError, Part, Spaces, Store, changed, DataRange, ElementRange, Limit, names, number, on_ok, space, spaces_of, written}
 use Rattle.bl_link.specs.Signatures.{signature, value_of}
 use Rattle.bl_wasm.specs.Renaming.{renamed}
 

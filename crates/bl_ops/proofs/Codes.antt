@@ -3,7 +3,7 @@ use Rattle.std.proofs.Common.{◌≡◌, ℕ, Bool, true, false, cond, List, [],
 use Rattle.std.specs.Prelude.{◌==◌, find, is_some, None, Some}
 use Rattle.std.proofs.lemmas.Bool.{false≢true}
 use Rattle.std.proofs.lemmas.Bool.Decides.{Decides-eqb}
-use Rattle.bl_base.proofs.Lists.{some_same}
+use Rattle.std.proofs.lemmas.Option.{same_Some}
 use Rattle.bl_ops.specs.Access.{access_code as access_code_of, access_kind, kinds}
 use Rattle.bl_ops.specs.Table.{operator_code, image_code_of, image_operator_of, operator_of, operators}
 use Rattle.bl_ops.specs.declared.access.AccessKind.{AccessKind}
@@ -20,7 +20,7 @@ found {X} number (y ∷ ys) code x e = by (number y == code) refl (found number 
   where
     by : (test : Bool) → (number y == code) ≡ test → (find (λ z. number z == code) ys ≡ Some x → number x ≡ code)
         → cond test (Some y) (find (λ z. number z == code) ys) ≡ Some x → number x ≡ code
-    by true is rest e = subst (λ z. number z ≡ code) (some_same y x e) ((Decides-eqb (number y) code).0 is)
+    by true is rest e = subst (λ z. number z ≡ code) (same_Some y x e) ((Decides-eqb (number y) code).0 is)
     by false is rest e = rest e
 
 pub access_code_returns : (kind : AccessKind) (code : ℕ) → access_kind code ≡ Some kind → access_code_of kind ≡ code
