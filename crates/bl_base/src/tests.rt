@@ -22,6 +22,8 @@ fn a_site_set_answers_whether_a_site_was_absent(rt: HostRuntime) -> Result<(), F
     ];
     assert_eq!(rt; answers, [true, true, false]);
     assert!(rt; sites.contains(Pos(2)) && !sites.contains(Pos(3)));
+    assert!(rt; sites.insert(Pos(4_000_000_000))? && !sites.insert(Pos(4_000_000_000))?);
+    assert!(rt; sites.contains(Pos(4_000_000_000)) && !sites.contains(Pos(1_048_576)));
     Ok(())
 }
 

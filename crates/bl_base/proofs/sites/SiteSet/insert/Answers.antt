@@ -1,17 +1,16 @@
-use Rattle.std.proofs.Common.{ap, sym, ◌∙◌}
-use Rattle.std.specs.Prelude.{not}
-use Rattle.std.specs.Cmp.{nat_cmp_total}
-use Rattle.std.specs.FinSet.{contains, insert, from_list, contains-from_list}
-use Rattle.bl_base.proofs.SetLemmas.{from_list-insert_key}
+use Rattle.std.proofs.Common.{ap, ◌∙◌}
+use Rattle.std.specs.FinSet.{from_list, insert, union}
+use Rattle.bl_base.specs.Sites.{places}
+use Rattle.bl_base.proofs.SetLemmas.{kept-marked, kept-put}
 use Rattle.bl_base.proofs.sites.SiteSet.insert.Goals as goal
 
-pub returns-clause-absent : goal.returns-clause-absent
-returns-clause-absent c =
-    c.in_ok-added.ensures.added
-    ∙ ap not (sym (contains-from_list nat_cmp_total c.self.inside.sites.keys c.args.p.0) ∙ ap (λ s. contains s c.args.p.0) c.self.view_is)
+pub returns-in_ok-mark-clause-added : goal.returns-in_ok-mark-clause-added
+returns-in_ok-mark-clause-added c =
+    kept-marked c.self.inside.near.items c.mark.new.marks.items c.self.inside.far.keys c.args.p.0 c.in_ok-mark.ensures.marked
+    ∙ ap (λ s. insert s c.args.p.0) c.self.view_is
 
-pub returns-clause-added : goal.returns-clause-added
-returns-clause-added c =
-    ap from_list c.in_ok-added.ensures.keys
-    ∙ from_list-insert_key c.self.inside.sites.keys c.args.p.0
+pub returns-in_ok-insert-clause-added : goal.returns-in_ok-insert-clause-added
+returns-in_ok-insert-clause-added c =
+    ap (λ keys. union (places c.self.inside.near.items) (from_list keys)) c.in_ok-insert.ensures.keys
+    ∙ kept-put c.self.inside.near.items c.self.inside.far.keys c.args.p.0
     ∙ ap (λ s. insert s c.args.p.0) c.self.view_is
