@@ -10,6 +10,7 @@ use Rattle.std.proofs.lemmas.Option.{none-some, slice_get_read, same_Some}
 use Rattle.std.proofs.lemmas.Slice.Eq.{bytes_eq-Decides}
 use Rattle.bl_words.specs.Requests.{AreNamedApart, are_distinct, module_name, modules_of}
 use Rattle.bl_base.proofs.NameSets.{AreApart}
+use Rattle.bl_base.proofs.Lists.{mapped_get}
 
 -- no other name is that one
 none_is : (name : List ℕ) (names : List (List ℕ)) → list_any (bytes_eq name) names ≡ false → (i : ℕ) → slice_get names i ≡ Some name → ⊥
@@ -64,8 +65,8 @@ distinct_of : (words : List (List ℕ)) → AreNamedApart words → are_distinct
 distinct_of words apart =
     distinct (map module_name words)
     (λ i j name first second.
-    let a = mapped_at module_name words i name first in
-    let b = mapped_at module_name words j name second in
+    let a = mapped_get module_name words i name first in
+    let b = mapped_get module_name words j name second in
     apart.apart i j a.0 b.0 a.1 b.1 (a.2 ∙ sym b.2))
 
 -- ---- the words that are borrowed
@@ -87,8 +88,8 @@ apart_of words apart i j a b first second same = apart.apart i j a.now b.now (th
 pub named_apart_of : (words : List (Bor (List ℕ))) → AreApart name_of words → AreNamedApart (words_in words)
 named_apart_of words apart = record {
   apart = λ i j a b first second same.
-      let x = mapped_at (λ (word : Bor (List ℕ)). word.now) words i a first in
-      let y = mapped_at (λ (word : Bor (List ℕ)). word.now) words j b second in
+      let x = mapped_get (λ (word : Bor (List ℕ)). word.now) words i a first in
+      let y = mapped_get (λ (word : Bor (List ℕ)). word.now) words j b second in
       apart i j x.0 y.0 x.1 y.1 (ap module_name x.2 ∙ (same ∙ ap module_name (sym y.2)));
 }
 
