@@ -34,6 +34,14 @@ any-insert_key q k (x ∷ xs) =
       | Greater ↦ λ _. ap (λ b. eq_by_cmp nat_cmp q x || b) rest ∙ or_swap (eq_by_cmp nat_cmp q x) (eq_by_cmp nat_cmp q k) (any xs)
     ] refl
 
+-- the set of the keys, with one more put in at its place
+pub from_list-insert_key : (ks : List ℕ) (k : ℕ) → from_list {R = nat_cmp} (insert_key nat_cmp ks k) ≡ insert (from_list ks) k
+from_list-insert_key ks k =
+    same_set nat_cmp_total nat_cmp-IsAntisymmetric _ _ (λ q.
+    contains-from_list nat_cmp_total (insert_key nat_cmp ks k) q
+    ∙ any-insert_key q k ks
+    ∙ sym (contains-insert nat_cmp_total (from_list ks) k q ∙ ap (λ b. eq_by_cmp nat_cmp q k || b) (contains-from_list nat_cmp_total ks q)))
+
 below-has : (n q : ℕ) → q < n → contains (below n) q ≡ true
 below-has zero q less = absurd (omega arith)
 below-has (suc n) q less =
