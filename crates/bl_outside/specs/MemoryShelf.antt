@@ -18,10 +18,14 @@ pub record Shelved : Type 0 where
 abbrev pub shelved_code : Coded Shelved
 shelved_code =
     code_by (Files × (ℕ × (ℕ × (List ℕ × (ℕ × List ℕ))))) (coded× (fin.code (coded_list coded_ℕ) (coded_list coded_ℕ))
-        (coded× coded_ℕ (coded× coded_ℕ (coded× (coded_list coded_ℕ) (coded× coded_ℕ (coded_list coded_ℕ))))))
+    (coded× coded_ℕ (coded× coded_ℕ (coded× (coded_list coded_ℕ) (coded× coded_ℕ (coded_list coded_ℕ))))))
     (λ s. (s.files, (s.faults.reads, (s.faults.writes, (s.faults.last, (s.calls, s.failing))))))
-    (λ p. record { files = p.0; faults = record { reads = p.1.0; writes = p.1.1.0; last = p.1.1.1.0 }; calls = p.1.1.1.1.0;
-        failing = p.1.1.1.1.1 })
+    (λ p. record {
+      files = p.0;
+      faults = record { reads = p.1.0; writes = p.1.1.0; last = p.1.1.1.0 };
+      calls = p.1.1.1.1.0;
+      failing = p.1.1.1.1.1;
+    })
     (λ _. refl)
 
 -- an entry as a name and bytes
@@ -44,5 +48,8 @@ files_after_keep (Err e) files name bytes = files
 -- the shelf after a keep: one call more, and the entry where it succeeded, else a write fault where it failed
 abbrev pub after_keep : Result (Unit {0}) ShelfError → Shelved → List ℕ → List ℕ → Shelved
 after_keep result shelf name bytes =
-    record shelf { calls = one_more shelf.calls; files = files_after_keep result shelf.files name bytes;
-        faults = faults_after_keep result shelf.faults name }
+    record shelf {
+      calls = one_more shelf.calls;
+      files = files_after_keep result shelf.files name bytes;
+      faults = faults_after_keep result shelf.faults name;
+    }
