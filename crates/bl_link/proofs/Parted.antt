@@ -40,7 +40,7 @@ use Rattle.bl_base.specs.declared.quantity.Quantity.TheVariants.{Locals, Results
 use Rattle.bl_base.proofs.Lists.{mapped_get, get_mapped, all_from, zip_length, all_get}
 use Rattle.bl_base.proofs.OptionLemmas.{same_value}
 use Rattle.bl_wasm.specs.Limits.{local_count, param_count}
-use Rattle.bl_link.specs.Linkable.{IsPart, IsSound}
+use Rattle.bl_link.specs.Linkable.{IsPart, IsSound, NoSolidus}
 use Rattle.bl_link.specs.Links.{exported, first_value, function, global, indexed, memory, of_function, pair, secret_if, table, with_part}
 use Rattle.bl_link.specs.IndexSpaces.{External, Part, Spaces, Store, number, of_kind, space, spaces_of}
 use Rattle.bl_link.specs.Signatures.{signature, value_of}
