@@ -3,6 +3,7 @@ pub mod Choosing
 pub mod Cutting
 pub mod Existing
 pub mod Feeding
+pub mod Graphing
 pub mod Hot
 pub mod Leaving
 pub mod Marked

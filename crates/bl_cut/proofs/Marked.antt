@@ -90,7 +90,7 @@ mark_same b (Out mark index value) = refl
 mark_same b Ret = refl
 mark_same b (Trap kind) = refl
 
-loads_same : (b : Bool) (command : Command) → Loads command → Loads (marked b command)
+pub loads_same : (b : Bool) (command : Command) → Loads command → Loads (marked b command)
 loads_same b (Set mark op to a c d) h = h
 loads_same b (Load mark kind memory to offset address) h = h
 loads_same b (Store kind memory offset address value) h = h

@@ -15,7 +15,7 @@ some_back : {X Y : Type 0} (P : X → Type 0) (Q : Y → Type 0) (f : X → Y) (
 some_back P Q f None each h = h
 some_back P Q f (Some x) each h = each x h
 
-loads_back : (b : Bool) (command : Command) → Loads (marked b command) → Loads command
+pub loads_back : (b : Bool) (command : Command) → Loads (marked b command) → Loads command
 loads_back b (Set mark op to a c d) h = h
 loads_back b (Load mark kind memory to offset address) h = h
 loads_back b (Store kind memory offset address value) h = h

@@ -36,11 +36,25 @@ pub fn least_protects(alloc: Global, program: &WellFormed) -> Result<Choice, NoM
     ensures weight { IfOk result (λ choice. choice.weight ≡ weight_of program.now (fin.contains choice.protects)) }
     ensures certificate { IfOk result (λ choice. Certifies (protected (fin.contains choice.protects) program.now) choice.certificate) }
 {
-    ranges(program);
     let graph = graph(alloc, program)?;
-    let network = network(alloc, program, &graph)?;
+    least_protects_of(alloc, program, &graph)
+}
+
+/// The same by the program's graph, for callers that need the graph as well.
+pub fn least_protects_of(
+    alloc: Global,
+    program: &WellFormed,
+    graph: &Graph,
+) -> Result<Choice, NoMemory>
+    requires { IsGraph program.now graph.now }
+    ensures least { IfOk result (λ choice. Least program.now (fin.contains choice.protects)) }
+    ensures weight { IfOk result (λ choice. choice.weight ≡ weight_of program.now (fin.contains choice.protects)) }
+    ensures certificate { IfOk result (λ choice. Certifies (protected (fin.contains choice.protects) program.now) choice.certificate) }
+{
+    ranges(program);
+    let network = network(alloc, program, graph)?;
     let flow = max_flow(alloc, &network)?;
-    choice_of(alloc, program, &graph, &flow)
+    choice_of(alloc, program, graph, &flow)
 }
 
 /// The choice that a maximum flow in the program's network shows.

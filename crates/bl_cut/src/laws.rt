@@ -7,6 +7,8 @@ ghost use Rattle.bl_cmd.specs.Sites.{IsSite, Writes, is_protected, weight_of};
 ghost use Rattle.bl_cmd.specs.declared.definitions.ProgramParts.{ProgramParts};
 ghost use Rattle.bl_flow.specs.Cuts.{IsCut, NearIn, cut_weight};
 ghost use Rattle.bl_flow.specs.declared.network.Network.{Network as Net};
+ghost use Rattle.bl_graph.specs.Graphs.{IsGraph};
+ghost use Rattle.bl_graph.specs.declared.facts.Graph.{Graph as Lists};
 ghost use Rattle.bl_graph.specs.Ranges.{AreInRange, AreSites, commands};
 ghost use Rattle.bl_transient.specs.Transient.{IsFed, Passes, Trans};
 ghost use Rattle.bl_cut.specs.Least.{Least};
@@ -43,6 +45,11 @@ pub fn cuts_are_passing_sets()
 pub fn marks_are_the_set()
     ensures sites { (program : ProgramParts) (set : ℕ → Bool) (s : ℕ) → IsSite program s → is_protected (protected set program) s ≡ set s }
     ensures others { (program : ProgramParts) (set : ℕ → Bool) (s : ℕ) → (IsSite program s → ⊥) → is_protected (protected set program) s ≡ false }
+{}
+
+/// A program's graph is its graph with other protects too.
+pub fn marks_leave_the_graph()
+    ensures { (program : ProgramParts) (set : ℕ → Bool) (graph : Lists) → IsGraph program graph → IsGraph (protected set program) graph }
 {}
 
 /// Protects change no plain run.

@@ -8,5 +8,5 @@ mod marks;
 mod network;
 mod walks;
 
-pub use choice::{Choice, least_protects};
+pub use choice::{Choice, least_protects, least_protects_of};
 pub use marks::protect;

@@ -1,5 +1,6 @@
 //! The lines of protects.
 ghost use Rattle.std.specs.Prelude.{◌≡◌, ◌++◌, All, IfOk};
+ghost use Rattle.std.specs.Fmt.{decimal};
 ghost use Rattle.std.specs.List.{flat_map};
 ghost use Rattle.bl_cmd.specs.Sites.{IsSite};
 ghost use Rattle.bl_report.specs.Noting.{IsFirst};
@@ -9,6 +10,7 @@ use crate::first::first_paths;
 use bl_base::{NoMemory, Pos};
 use bl_cmd::{WellFormed, site_weight};
 use bl_graph::FlowPath;
+use itoa::Buffer;
 use std::alloc::Global;
 
 /// Puts the lines of the protects at these sites behind a text.
@@ -25,14 +27,13 @@ pub(crate) fn push_protects(
     let firsts = first_paths(alloc, program.program().parts().commands.len(), paths)?;
     for site in sites {
         let first = firsts[*site as usize];
-        push_protect(alloc, text, program, paths, first, *site)?;
+        push_protect(text, program, paths, first, *site)?;
     }
     Ok(())
 }
 
 /// Puts the line of the protect at a site behind a text, where the first path that takes it has that index; nothing where none does.
 fn push_protect(
-    alloc: Global,
     text: &mut Vec<u8>,
     program: &WellFormed,
     paths: &[FlowPath],
@@ -45,45 +46,50 @@ fn push_protect(
 {
     if let Some(index) = first {
         let weight = site_weight(program, Pos(site));
-        push_line(alloc, text, site, weight, &paths[index])?;
+        push_line(text, site, weight, &paths[index])?;
     }
     Ok(())
 }
 
 /// Puts the line of a protect behind a text, with the site's weight and a path that takes it.
-fn push_line(
-    alloc: Global,
-    text: &mut Vec<u8>,
-    site: u32,
-    weight: u64,
-    path: &FlowPath,
-) -> Result<(), NoMemory>
+fn push_line(text: &mut Vec<u8>, site: u32, weight: u64, path: &FlowPath) -> Result<(), NoMemory>
     ensures { IfOk result (λ _. text.new.items ≡ text.old.items ++ protect_line site weight path.now) }
 {
-    let sink = path.sink.0;
-    let head = format!(in alloc; "protect {site} weight {weight} path")?;
-    let tail = format!(in alloc; " sink {sink}\n")?;
-    text.extend_from_slice(head.as_bytes())?;
-    push_places(alloc, text, path.sites.as_slice())?;
-    text.extend_from_slice(tail.as_bytes())?;
+    text.extend_from_slice(b"protect ")?;
+    push_number(text, u64::from(site))?;
+    text.extend_from_slice(b" weight ")?;
+    push_number(text, weight)?;
+    text.extend_from_slice(b" path")?;
+    push_places(text, path.sites.as_slice())?;
+    text.extend_from_slice(b" sink ")?;
+    push_number(text, u64::from(path.sink.0))?;
+    text.extend_from_slice(b"\n")?;
     Ok(())
 }
 
 /// Puts positions behind a text, each behind a space.
-pub(crate) fn push_places(alloc: Global, text: &mut Vec<u8>, sites: &[Pos]) -> Result<(), NoMemory>
+pub(crate) fn push_places(text: &mut Vec<u8>, sites: &[Pos]) -> Result<(), NoMemory>
     ensures { IfOk result (λ _. text.new.items ≡ text.old.items ++ flat_map (λ s. place_text s.0) sites.now) }
 {
     for site in sites {
-        push_place(alloc, text, site.0)?;
+        push_place(text, site.0)?;
     }
     Ok(())
 }
 
 /// Puts a position behind a text.
-fn push_place(alloc: Global, text: &mut Vec<u8>, place: u32) -> Result<(), NoMemory>
+fn push_place(text: &mut Vec<u8>, place: u32) -> Result<(), NoMemory>
     ensures { IfOk result (λ _. text.new.items ≡ text.old.items ++ place_text place) }
 {
-    let piece = format!(in alloc; " {place}")?;
-    text.extend_from_slice(piece.as_bytes())?;
+    text.extend_from_slice(b" ")?;
+    push_number(text, u64::from(place))
+}
+
+/// Puts a number behind a text. Its digits take no memory of their own.
+fn push_number(text: &mut Vec<u8>, number: u64) -> Result<(), NoMemory>
+    ensures { IfOk result (λ _. text.new.items ≡ text.old.items ++ decimal number) }
+{
+    let mut buffer = Buffer::new();
+    text.extend_from_slice(buffer.format(number).as_bytes())?;
     Ok(())
 }

@@ -44,7 +44,7 @@ fn push_chain(alloc: Global, text: &mut Vec<u8>, chain: &SecretChain) -> Result<
     let tail = format!(in alloc; " end {end}\n")?;
     text.extend_from_slice(b"constant-time no ")?;
     text.extend_from_slice(&from)?;
-    push_through(alloc, text, chain.through.as_slice())?;
+    push_through(text, chain.through.as_slice())?;
     text.extend_from_slice(tail.as_bytes())?;
     Ok(())
 }
@@ -75,13 +75,13 @@ fn parameter(alloc: Global, function: u32, index: u32) -> Result<Vec<u8>, NoMemo
 }
 
 /// Puts the positions that a secret passes behind a text; nothing where there is none.
-fn push_through(alloc: Global, text: &mut Vec<u8>, sites: &[Pos]) -> Result<(), NoMemory>
+fn push_through(text: &mut Vec<u8>, sites: &[Pos]) -> Result<(), NoMemory>
     ensures { IfOk result (λ _. text.new.items ≡ text.old.items ++ through_text sites.now) }
 {
     if sites.is_empty() {
         return Ok(());
     }
     text.extend_from_slice(b" through")?;
-    push_places(alloc, text, sites)?;
+    push_places(text, sites)?;
     Ok(())
 }

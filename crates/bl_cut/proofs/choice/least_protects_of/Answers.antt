@@ -1,5 +1,5 @@
 use Rattle.bl_cut.proofs.Cutting.{in_range, bounded, total}
-use Rattle.bl_cut.proofs.choice.least_protects.Goals as goal
+use Rattle.bl_cut.proofs.choice.least_protects_of.Goals as goal
 
 pub max_flow-requires-clause-in_range : goal.max_flow-requires-clause-in_range
 max_flow-requires-clause-in_range c = in_range c.args.program.now c.ranges-2.ensures c.in_ok-network.network c.in_ok-network.ensures
