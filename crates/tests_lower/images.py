@@ -1,11 +1,16 @@
 #!/usr/bin/env python3
-"""Prints the image of each module of `src/rows.rt`, by the commands that the table of lowering gives it, written here by hand.
+"""Prints the image of each module of `src/rows.rt`, and of four that tests_harden hardens, by the commands that the table of lowering
+gives them, written here by hand.
 
-Commands are listed one a line from position 7 on, with their positions, as `11 load 0 5 3` or `16 out 0 v7`. A word `vN` is a
-variable and a number is a constant, a position or an index. Marks are the depth alone, since nothing is protected.
+Commands are listed one a line from position 7 on, with their positions, as `11 load v5 v3` or `16 out 0 v7`. A word `vN` is a
+variable and a number is a constant, a position or an index; the last number of a load is its offset, if any. What stands in a loop ends
+with the word `inside`, and what is protected with `protected`.
 """
 
 OPERATORS = {"move": 0x00, "outside": 0x01, "eqz": 0x45, "eq": 0x46, "gt_u": 0x4B, "add": 0x6A, "sub": 0x6B}
+
+# What a mark's byte has more for each word.
+MARKS = {"inside": 1, "protected": 8}
 
 
 def leb(number):
@@ -25,12 +30,12 @@ def variable(word):
     return leb(int(word[1:]))
 
 
-def command(name, words, depth):
+def command(name, words, mark):
     if name == "set":
         to, operator, *operands = words
-        return [0, depth, OPERATORS[operator]] + variable(to) + [byte for word in operands for byte in operand(word)]
+        return [0, mark, OPERATORS[operator]] + variable(to) + [byte for word in operands for byte in operand(word)]
     if name == "load":
-        return [1, depth, 0x28, 0] + variable(words[0]) + [0] + operand(words[1])
+        return [1, mark, 0x28, 0] + variable(words[0]) + leb(int(words[2]) if words[2:] else 0) + operand(words[1])
     if name == "store":
         return [2, 0x36, 0, 0] + operand(words[0]) + operand(words[1])
     if name == "test":
@@ -40,7 +45,7 @@ def command(name, words, depth):
     if name == "call":
         return [6] + leb(int(words[0]))
     if name == "out":
-        return [7, depth] + leb(int(words[0])) + operand(words[1])
+        return [7, mark] + leb(int(words[0])) + operand(words[1])
     assert name == "ret"
     return [8]
 
@@ -49,11 +54,11 @@ def commands(text):
     out, position = [], 7
     for line in text.strip().splitlines():
         at, *words = line.split()
-        depth = 0
-        if words[-1] == "inside":
-            depth, words = 1, words[:-1]
+        mark = 0
+        while words[-1] in MARKS:
+            mark += MARKS[words.pop()]
         assert int(at) == position, line
-        out += command(words[0], words[1:], depth)
+        out += command(words[0], words[1:], mark)
         position += 1
     return out, position
 
@@ -222,3 +227,83 @@ image("SWAPPING_IMAGE", [0, 0, 1, 3, 0x7F, 0, 0x7F, 0, 0x7F, 0, 2, 0x7F, 0x7F, 1
 29 out 1 v10
 30 ret
 """, 31)
+
+# What is hardened: memories of one page without a maximum, v0 being the memory's size. First with the parameters v1 and v2 and the
+# result v3.
+PAGE = [0, 1, 1, 0x80, 2, 0, 0]
+image("SUM_OF_LOADS_IMAGE", PAGE + [1, 2, 0x7F, 0, 0x7F, 0, 1, 0x7F, 12, 15] + F + [0], """
+7 jump 8
+8 set v4 move v1
+9 set v5 outside v4 v0 4
+10 test v5 3 11
+11 load v6 v4
+12 set v7 move v2
+13 set v8 outside v7 v0 4
+14 test v8 3 15
+15 load v9 v7
+16 set v10 add v6 v9 protected
+17 set v11 outside v10 v0 4
+18 test v11 3 19
+19 load v12 v10
+20 out 0 v12
+21 ret
+""", 22)
+
+# v1 is the parameter, v2 the result, v3 the other local.
+image("SHARED_ADDRESS_IMAGE", PAGE + [1, 1, 0x7F, 0, 1, 0x7F, 12, 17] + F + [0], """
+7 set v3 move 0
+8 jump 9
+9 set v4 move v1
+10 set v5 outside v4 v0 4
+11 test v5 3 12
+12 load v6 v4 protected
+13 set v3 move v6
+14 set v7 outside v6 v0 4
+15 test v7 3 16
+16 load v8 v6
+17 set v9 move v3
+18 set v10 outside v9 v0 8
+19 test v10 3 20
+20 load v11 v9 4
+21 set v12 add v8 v11
+22 out 0 v12
+23 ret
+""", 24)
+
+# v1 is the parameter, v2 the other local.
+image("LOOP_READS_IMAGE", PAGE + [1, 1, 0x7F, 0, 0, 8, 15] + F + [0], """
+7 set v2 move 0
+8 jump 9
+9 set v3 move v1
+10 set v4 outside v3 v0 4
+11 test v4 3 12
+12 load v5 v3 protected
+13 set v2 move v5
+14 jump 15
+15 set v6 move v2 inside
+16 set v7 outside v6 v0 4 inside
+17 test v7 3 18
+18 load v8 v6 inside
+19 jump 20
+20 jump 21
+21 ret
+""", 22)
+
+# v1 is the parameter, v2 the result, v3 the other local.
+image("LOOP_WRITES_IMAGE", PAGE + [1, 1, 0x7F, 0, 1, 0x7F, 9, 15] + F + [0], """
+7 set v3 move 0
+8 jump 9
+9 jump 10
+10 set v4 move v1 inside
+11 set v5 outside v4 v0 4 inside
+12 test v5 3 13
+13 load v6 v4 inside
+14 set v3 move v6 inside
+15 jump 16
+16 set v7 move v3 protected
+17 set v8 outside v7 v0 4
+18 test v8 3 19
+19 load v9 v7
+20 out 0 v9
+21 ret
+""", 22)
