@@ -11,7 +11,7 @@ use crate::network::Network;
 use crate::optional::OptionalNumber;
 use crate::rows::{Rows, rows_of};
 use crate::search::part_levels;
-use crate::split::{Link, empty_capacities, links_both_ways};
+use crate::split::{Links, empty_capacities, links_both_ways};
 use bl_base::{List, NoMemory};
 use std::alloc::Global;
 use std::marker::Model;
@@ -21,8 +21,7 @@ use std::marker::Model;
 #[derive(Debug, Drop)]
 pub struct Residual {
     network: Network,
-    /// The links both ways: the reverse of each of the first half stands as far on in the second one.
-    links: Vec<Link>,
+    links: Links,
     rows: Rows,
     /// What each link can still take.
     capacities: Vec<u64>,
@@ -38,7 +37,7 @@ impl Model for Residual {
 
     ghost view = { λ r. loaded_by r.network r.capacities.items };
 
-    ghost invariant = { λ r. IsPacked r.network r.links.items r.rows r.capacities.items r.amount };
+    ghost invariant = { λ r. IsPacked r.network r.links r.rows r.capacities.items r.amount };
 }
 
 impl Residual {
@@ -65,7 +64,7 @@ pub fn pack(alloc: Global, n: &Network) -> Result<Residual, NoMemory>
     let nodes = n.weights.as_slice().len();
     let links = links_both_ways(alloc, n)?;
     let rows = rows_of(alloc, &links, 2 * nodes + 2)?;
-    let capacities = empty_capacities(alloc, n, links.len() / 2)?;
+    let capacities = empty_capacities(alloc, n, links.half())?;
     let network = copy_of(alloc, n)?;
     Ok(Residual {
         network,
@@ -220,7 +219,7 @@ fn has_level(levels: &[Option<u64>], v: u32) -> bool
 fn flow_on(
     alloc: Global,
     n: &Network,
-    links: &[Link],
+    links: &Links,
     rows: &Rows,
     capacities: &mut [u64],
     amount: u64,

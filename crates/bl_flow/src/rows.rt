@@ -5,7 +5,7 @@ ghost use Rattle.bl_flow.specs.Searches.{AreRows, row_at};
 ghost use Rattle.bl_flow.specs.Rows.{reversed, AreChained, AreBefore, IsLast, AppendsRow};
 
 use crate::optional::{OptionalNumber, no_numbers};
-use crate::split::{Link, number_of, reverse_of};
+use crate::split::{Link, Links, number_of, reverse_of};
 use bl_base::NoMemory;
 use std::alloc::Global;
 use std::marker::Model;
@@ -90,14 +90,14 @@ struct Chains {
 }
 
 /// For each part the links from it. More links than have numbers of 32 bits are too many for memory.
-pub fn rows_of(alloc: Global, links: &[Link], parts: usize) -> Result<Rows, NoMemory>
+pub fn rows_of(alloc: Global, links: &Links, parts: usize) -> Result<Rows, NoMemory>
     requires { (k : ℕ) → k < length links.now → (link_at links.now k).from < parts }
     ensures places { IfOk result (λ rows. length rows ≡ parts) }
     ensures rows { IfOk result (λ rows. AreRows links.now rows) }
 {
     let chains = chains_of(alloc, links, parts)?;
     let mut offsets = Vec::with_capacity(alloc, parts)?;
-    let mut entries = Vec::with_capacity(alloc, links.len())?;
+    let mut entries = Vec::with_capacity(alloc, 2 * links.half())?;
     offsets.push(0)?;
     for part in 0..parts {
         push_chain(&chains.before, chains.last[part].get(), &mut entries)?;
@@ -108,20 +108,22 @@ pub fn rows_of(alloc: Global, links: &[Link], parts: usize) -> Result<Rows, NoMe
 }
 
 /// The chains of links from the same part.
-fn chains_of(alloc: Global, links: &[Link], parts: usize) -> Result<Chains, NoMemory>
+fn chains_of(alloc: Global, links: &Links, parts: usize) -> Result<Chains, NoMemory>
     requires { (k : ℕ) → k < length links.now → (link_at links.now k).from < parts }
     ensures { IfOk result (λ chains. AreChained links.now parts (length links.now) chains.last.items chains.before.items) }
 {
+    let count = 2 * links.half();
     let mut last = no_numbers(alloc, parts)?;
-    let mut before = Vec::with_capacity(alloc, links.len())?;
-    for (k, link) in links.iter().enumerate() {
+    let mut before = Vec::with_capacity(alloc, count)?;
+    for k in 0..count {
+        let from = links.link(k).from as usize;
         let number = number_of(k)?;
         // A last number of 32 bits would be one more than an optional number can be.
         if number == u32::MAX {
             return Err(NoMemory);
         }
-        before.push(last[link.from as usize])?;
-        last[link.from as usize] = OptionalNumber::of(number);
+        before.push(last[from])?;
+        last[from] = OptionalNumber::of(number);
     }
     Ok(Chains { last, before })
 }

@@ -2,7 +2,7 @@ use Rattle.std.proofs.Common.{arith, ◌≡◌, ◌<◌, ◌≤◌, ◌+◌, ◌
 use Rattle.bl_flow.specs.Networks.{size, total_weight}
 use Rattle.bl_flow.specs.Rows.{reversed}
 use Rattle.bl_flow.specs.Levels.{AreLevelsToEnd, IsShortest}
-use Rattle.bl_flow.proofs.Parts.{from_within, to_within}
+use Rattle.bl_flow.proofs.LinksWithin.{from_within, to_within}
 use Rattle.bl_flow.proofs.Filling.{at_most_total, halves_fit, capacities_of}
 use Rattle.bl_flow.proofs.Wiring.{rows_both, all_to}
 use Rattle.bl_flow.proofs.Phases.{Phase, IsBlocked, phase_begins, phase_more, phase_ends}

@@ -1,4 +1,4 @@
-use Rattle.std.proofs.Common.{rules, arith, ◌<◌, ◌+◌, ◌-◌, ◌/◌, length, slice_index, sym, ◌∙◌, refl}
+use Rattle.std.proofs.Common.{ap, arith, ◌<◌, ◌+◌, ◌-◌, ◌/◌, length, slice_index, sym, ◌∙◌, refl}
 use Rattle.std.proofs.lemmas.Bool.{false≢true}
 use Rattle.bl_flow.specs.Split.{link_at}
 use Rattle.bl_flow.specs.Searches.{row_at}
@@ -8,7 +8,7 @@ use Rattle.bl_flow.proofs.level_graph.next_augmenting_path.Goals as goal
 
 pub loop-at-preserved-then-leads_on : goal.loop-at-preserved-then-leads_on
 loop-at-preserved-then-leads_on c =
-    (takes_buffered c.args.links.now c.args.capacities.now c.args.levels.now (reversed (length c.args.links.now / 2) c.args.rows.now) c.args.root c.args.end c.loop-at.passed c.loop-at.trail c.loop-at.count c.loop-at.at (length c.args.rows.now) c.loop-at.invariant c.requires.rows_hold c.requires.froms
+    rw c.link-at.ensures (takes_buffered c.args.links.now c.args.capacities.now c.args.levels.now (reversed (length c.args.links.now / 2) c.args.rows.now) c.args.root c.args.end c.loop-at.passed c.loop-at.trail c.loop-at.count c.loop-at.at (length c.args.rows.now) c.loop-at.invariant c.requires.rows_hold c.requires.froms
     c.in-Some.link c.in-Some.ensures.link (c.leads_on.ensures.yes c.if-leads_on.true).0 (c.leads_on.ensures.yes c.if-leads_on.true).1).0
 
 pub overflow_add-passed : goal.overflow_add-passed
@@ -30,15 +30,8 @@ returns-then-count-eq0-clause-none c = λ _.
     none_left c.args.links.now c.args.capacities.now c.args.levels.now (reversed (length c.args.links.now / 2) c.args.rows.now) c.args.root c.args.end c.loop-at.passed c.loop-at.trail c.loop-at.count c.loop-at.at (length c.args.rows.now) c.loop-at.invariant
     c.if-count-eq0.true c.loop-at-test.true (past_row _ _ c.in_default.ensures.link)
 
-pub offset_bounds-links-trail : goal.offset_bounds-links-trail
-offset_bounds-links-trail c =
-    let may = may_buffered c.args.links.now c.args.capacities.now c.args.levels.now (reversed (length c.args.links.now / 2) c.args.rows.now) c.args.root c.args.end c.loop-at.passed c.loop-at.trail c.loop-at.count c.loop-at.at (length c.args.rows.now) c.loop-at.invariant
-    (c.loop-at.count - 1) (omega arith) in
-    let below : slice_index c.loop-at.trail (c.loop-at.count - 1) < length c.args.links.now = may.within in
-    search rules
-
-pub bounds-links-trail : goal.bounds-links-trail
-bounds-links-trail c =
+pub link-at-requires-in_default : goal.link-at-requires-in_default
+link-at-requires-in_default c =
     (may_buffered c.args.links.now c.args.capacities.now c.args.levels.now (reversed (length c.args.links.now / 2) c.args.rows.now) c.args.root c.args.end c.loop-at.passed c.loop-at.trail c.loop-at.count c.loop-at.at (length c.args.rows.now) c.loop-at.invariant
     (c.loop-at.count - 1) (omega arith)).within
 
@@ -46,16 +39,17 @@ pub overflow_add-passed-in_default : goal.overflow_add-passed-in_default
 overflow_add-passed-in_default c =
     let may = may_buffered c.args.links.now c.args.capacities.now c.args.levels.now (reversed (length c.args.links.now / 2) c.args.rows.now) c.args.root c.args.end c.loop-at.passed c.loop-at.trail c.loop-at.count c.loop-at.at (length c.args.rows.now) c.loop-at.invariant
     (c.loop-at.count - 1) (omega arith) in
+    let is = ap (λ link. slice_index c.loop-at.passed link.to) c.link-at-in_default.ensures in
     let inside = may.place in let short = c.in_default.ensures.small (link_at c.args.links.now (slice_index c.loop-at.trail (c.loop-at.count - 1))).to in omega arith
 
 pub loop-at-smaller : goal.loop-at-smaller
 loop-at-smaller c =
-    (back_buffered c.args.links.now c.args.capacities.now c.args.levels.now (reversed (length c.args.links.now / 2) c.args.rows.now) c.args.root c.args.end c.loop-at.passed c.loop-at.trail c.loop-at.count c.loop-at.at (length c.args.rows.now) c.loop-at.invariant
+    rw c.link-at-in_default.ensures (back_buffered c.args.links.now c.args.capacities.now c.args.levels.now (reversed (length c.args.links.now / 2) c.args.rows.now) c.args.root c.args.end c.loop-at.passed c.loop-at.trail c.loop-at.count c.loop-at.at (length c.args.rows.now) c.loop-at.invariant
     (c.loop-at.count - 1) (omega arith) c.requires.rows_hold c.requires.tos c.loop-at-test.true (past_row _ _ c.in_default.ensures.link)
     (slice_index c.loop-at.passed (link_at c.args.links.now (slice_index c.loop-at.trail (c.loop-at.count - 1))).to + 1) refl).1
 
 pub loop-at-preserved : goal.loop-at-preserved
 loop-at-preserved c =
-    (back_buffered c.args.links.now c.args.capacities.now c.args.levels.now (reversed (length c.args.links.now / 2) c.args.rows.now) c.args.root c.args.end c.loop-at.passed c.loop-at.trail c.loop-at.count c.loop-at.at (length c.args.rows.now) c.loop-at.invariant
+    rw c.link-at-in_default.ensures (back_buffered c.args.links.now c.args.capacities.now c.args.levels.now (reversed (length c.args.links.now / 2) c.args.rows.now) c.args.root c.args.end c.loop-at.passed c.loop-at.trail c.loop-at.count c.loop-at.at (length c.args.rows.now) c.loop-at.invariant
     (c.loop-at.count - 1) (omega arith) c.requires.rows_hold c.requires.tos c.loop-at-test.true (past_row _ _ c.in_default.ensures.link)
     (slice_index c.loop-at.passed (link_at c.args.links.now (slice_index c.loop-at.trail (c.loop-at.count - 1))).to + 1) refl).0

@@ -28,7 +28,7 @@ loop-at-smaller c = rw c.in_ok-push.ensures.items (step c).2
 pub loop-at-preserved : goal.loop-at-preserved
 loop-at-preserved c =
     let one = step c in
-    rw c.in_ok-push.ensures.items (record {
+    rw (c.in_ok-push.ensures.items, c.link-from.ensures) (record {
       inside = c.requires.froms c.next_carrying-link.result one.1;
       passed_ = c.next_carrying-link.ensures.passed;
       trace = one.0;

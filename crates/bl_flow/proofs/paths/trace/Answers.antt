@@ -5,7 +5,7 @@ use Rattle.bl_flow.specs.Rows.{reversed}
 use Rattle.bl_flow.specs.Flows.{link_count}
 use Rattle.bl_flow.specs.Levels.{AreRowsIn}
 use Rattle.bl_flow.specs.Traces.{OnTrace, AreFed, ArePassedOver}
-use Rattle.bl_flow.proofs.Parts.{from_within}
+use Rattle.bl_flow.proofs.LinksWithin.{from_within}
 use Rattle.bl_flow.proofs.Wiring.{rows_reversed}
 use Rattle.bl_flow.proofs.Tracing.{Dropped, are_fed, circle_dropped, over_less}
 use Rattle.bl_flow.proofs.paths.trace.Goals as goal

@@ -1,5 +1,5 @@
 use Rattle.std.proofs.Common.{length}
-use Rattle.bl_flow.proofs.Parts.{to_within}
+use Rattle.bl_flow.proofs.LinksWithin.{to_within}
 use Rattle.bl_flow.proofs.residual.flow_on.Goals as goal
 
 pub part_levels-requires-clause-parts : goal.part_levels-requires-clause-parts
