@@ -1,6 +1,8 @@
 -- A command as one record: the files that it reads and keeps, what is refused, and what is done.
 use Rattle.std.specs.Prelude.{◌≡◌, ℕ, ◌+◌, ◌<◌, ◌≤◌, ◌⊎◌, List, [], ◌∷◌, length, map, Option, Some, None}
 use Rattle.std.specs.FinMap as fin
+use Rattle.std.specs.List.{All}
+use Rattle.bl_base.specs.Fits.{AreBytes}
 use Rattle.bl_base.specs.Quantity.{limit_of}
 use Rattle.bl_base.specs.declared.quantity.Quantity.{Quantity}
 use Rattle.bl_outside.specs.Shelf.{Files}
@@ -87,3 +89,15 @@ pub data FirstRefusal (job : Job) (files : Option Files) (refusal : Refusal) : T
   too_long : RefusesLength files job.reads refusal → FirstRefusal job files refusal
   -- all are read, and their contents are refused
   against : (contents : List (List ℕ)) → AreRead files job.reads contents → job.Against contents refusal → FirstRefusal job files refusal
+
+-- ---- the last law
+
+-- contents that are there: as many as the reads, each short enough, and of bytes
+pub record AreThere (reads : List Read) (contents : List (List ℕ)) : Type 0 where
+  pub read : AreRead None reads contents
+  pub bytes : All AreBytes contents
+
+-- of contents that are there something is refused, or something may be done: it can't be that neither is so
+pub record IsTotal (job : Job) : Type 0 where
+  pub always : (contents : List (List ℕ)) → AreThere job.reads contents → ((refusal : Refusal) → job.Against contents refusal → ⊥)
+      → ((plan : Plan) → job.Does contents plan → ⊥) → ⊥

@@ -1,22 +1,24 @@
 //! Laws of the definitions. Each function is its contract alone.
-ghost use Rattle.std.specs.Prelude.{◌≡◌, ◌↔◌, ◌⊎◌, ℕ, ◌*◌, List as Listed, [], ◌∷◌, None, Some, slice_get};
+ghost use Rattle.std.specs.Prelude.{◌≡◌, ◌↔◌, ◌⊎◌, ◌≤◌, ℕ, ◌*◌, length, List as Listed, [], ◌∷◌, None, Some, slice_get};
+ghost use Rattle.bl_base.specs.Quantity.{limit_of};
+ghost use Rattle.bl_base.specs.declared.quantity.Quantity.TheVariants as quantity;
 ghost use Rattle.bl_outside.specs.Shelf.{Files};
 ghost use Rattle.bl_wasm.specs.Linked.{IsLinked};
 ghost use Rattle.bl_wasm.specs.declared.linked.Tree.{Tree};
 ghost use Rattle.bl_lower.specs.Trees.{step_bound};
 ghost use Rattle.bl_report.specs.Verdicts.{safe_line};
 ghost use Rattle.bl_build.specs.Building.{AreCompiled, Builds, Built};
-ghost use Rattle.bl_app.specs.Compiling.{Makes};
+ghost use Rattle.bl_app.specs.Compiling.{IsTotalImaged, Makes};
 ghost use Rattle.bl_app.specs.Causes.{Causes, NoneRose};
-ghost use Rattle.bl_app.specs.Commands.{job_of};
+ghost use Rattle.bl_app.specs.Commands.{HasModules, job_of};
 ghost use Rattle.bl_app.specs.Executing.{RunDoes};
 ghost use Rattle.bl_app.specs.Hardening.{HardenPlans, harden_job};
 ghost use Rattle.bl_build.specs.Hardening.{Hardened, IsHardened, IsYes};
 ghost use Rattle.bl_app.specs.Interpreting.{InterpDoes};
-ghost use Rattle.bl_app.specs.Jobs.{AreRead, FirstRefusal, IsLawful, Plan};
+ghost use Rattle.bl_app.specs.Jobs.{AreRead, FirstRefusal, IsLawful, IsTotal, Plan};
 ghost use Rattle.bl_app.specs.Lowering.{lower_job};
 ghost use Rattle.bl_build.specs.Refusals.{Refusal};
-ghost use Rattle.bl_words.specs.Requests.{HardenRequest, InterpRequest, LowerRequest, Request, RunRequest, SpecRequest, TwinRequest};
+ghost use Rattle.bl_words.specs.Requests.{HardenRequest, InterpRequest, LowerRequest, Request, RunRequest, SpecRequest, TwinRequest, VerifyRequest, harden, interp, lower, run as run_image, spec, twin, verify};
 ghost use Rattle.bl_app.specs.Speculating.{SpecDoes};
 ghost use Rattle.bl_app.specs.Twinning.{TwinDoes};
 ghost use Rattle.bl_app.specs.Verifying.{VerifyDoes};
@@ -28,6 +30,21 @@ ghost use Rattle.bl_app.specs.declared.status.Status.TheVariants as status;
 /// one status, and keeps the files that are named.
 pub fn jobs_are_lawful()
     ensures { (request : Request) → IsLawful (job_of request) }
+{}
+
+/// The jobs of these requests: of contents that are there something is refused, or something may be done. It can't be that neither is so.
+pub fn jobs_are_total()
+    ensures interp { (request : InterpRequest) → HasModules (interp request) → IsTotal (job_of (interp request)) }
+    ensures run { (request : RunRequest) → IsTotal (job_of (run_image request)) }
+    ensures spec { (request : SpecRequest) → IsTotal (job_of (spec request)) }
+    ensures twin { (request : TwinRequest) → IsTotal (job_of (twin request)) }
+    ensures verify { (request : VerifyRequest) → IsTotal (job_of (verify request)) }
+{}
+
+/// The same of `lower` and `harden` where the modules' program has an image.
+pub fn compiled_jobs_are_total()
+    ensures lower { (request : LowerRequest) → length request.modules ≤ limit_of quantity.Modules → HasModules (lower request) → IsTotalImaged request.modules (lower_job request) }
+    ensures harden { (request : HardenRequest) → length request.modules ≤ limit_of quantity.Modules → HasModules (harden request) → IsTotalImaged request.modules (harden_job request) }
 {}
 
 /// At most one refusal of a request is the first.

@@ -1,7 +1,7 @@
--- The image of a program with other protects has as many bytes.
+-- The image of a program with other protects has as many bytes, and there is one where the program has one.
 use Rattle.std.proofs.Common.{◌≡◌, ℕ, zero, suc, ◌+◌, Bool, List, [], ◌∷◌, ◌++◌, length, drop, refl, sym, ap, subst, ◌∙◌, arith}
-use Rattle.std.specs.Prelude.{if◌then◌else◌}
 use Rattle.std.proofs.lemmas.List.{length-append}
+use Rattle.bl_cmd.specs.Programs.{IsProgram}
 use Rattle.bl_cmd.specs.declared.command.Mark.{Mark}
 use Rattle.bl_cmd.specs.declared.command.Command.{Command}
 use Rattle.bl_cmd.specs.declared.command.Command.TheVariants.{Set, Load, Store, Test, Jump, Arg, Call, Out, Ret, Trap}
@@ -76,3 +76,38 @@ module _ (set : ℕ → Bool) (program : Program) where
   as_long bytes own h k =
       let other = image_alike bytes h.spelled in
       sym other.2 ∙ ap length (one_image program other.0 own (record { is_program = k.is_program; spelled = other.1 }) k)
+
+-- ---- the other way
+
+mark_on : (b : Bool) (m : Mark) (bytes : List ℕ) → mark m bytes → Alike (mark (guarded b m)) bytes
+mark_on b m bytes h = ((m.depth + (if b then 8 else 0)) ∷ [], (h.0, refl), sym (ap length h.1))
+
+command_on : (b : Bool) (one : Command) (bytes : List ℕ) → command one bytes → Alike (command (marked b one)) bytes
+command_on b (Set m op to a c d) bytes h = both _ _ _ _ (itself _) (λ x g. let f = before _ _ _ (before _ _ _ (mark_on b m)) x g.1 in (f.0, (g.0, f.1), f.2)) bytes h
+command_on b (Load m kind space to offset address) bytes h = both _ _ _ _ (itself _) (λ x g. let f = before _ _ _ (mark_on b m) x g.1 in (f.0, (g.0, f.1), f.2)) bytes h
+command_on b (Store kind space offset address value) bytes h = itself _ bytes h
+command_on b (Test cond one other) bytes h = itself _ bytes h
+command_on b (Jump to) bytes h = itself _ bytes h
+command_on b (Arg m callee index value) bytes h = both _ _ _ _ (itself _) (λ x g. let f = before _ _ _ (mark_on b m) x g.1 in (f.0, (g.0, f.1), f.2)) bytes h
+command_on b (Call callee) bytes h = itself _ bytes h
+command_on b (Out m index value) bytes h = both _ _ _ _ (itself _) (λ x g. let f = before _ _ _ (mark_on b m) x g.1 in (f.0, (g.0, f.1), f.2)) bytes h
+command_on b Ret bytes h = itself _ bytes h
+command_on b (Trap kind) bytes h = itself _ bytes h
+
+all_on : (set : ℕ → Bool) (i : ℕ) (commands : List Command) (bytes : List ℕ) → each command commands bytes → Alike (each command (marked_from set i commands)) bytes
+all_on set i [] bytes h = itself (each command []) bytes h
+all_on set i (one ∷ commands) bytes h =
+    both (command one) (each command commands) (command (marked (set i) one)) (each command (marked_from set (suc i) commands)) (command_on (set i) one) (all_on set (suc i) commands) bytes h
+
+module _ (set : ℕ → Bool) (program : Program) where
+  image_on : (bytes : List ℕ) → image program bytes → Alike (image (protected set program)) bytes
+  image_on bytes h =
+      both _ _ _ _ (itself _)
+      (both _ _ _ _ (itself _)
+      (both _ _ _ _ (itself _) (λ x g.
+      let found = all_on set 7 (drop 7 program.commands) x g in
+      (found.0, subst (λ l. each command l found.0) (sym (behind set 7 0 program.commands)) found.1, found.2)))) bytes h
+
+  -- the image with those protects
+  pub protected_image : (own : List ℕ) → IsProgram (protected set program) → Image program own → (bytes : List ℕ) × Image (protected set program) bytes
+  protected_image own facts h = let found = image_on own h.spelled in (found.0, record { is_program = facts; spelled = found.1 })

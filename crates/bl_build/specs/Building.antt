@@ -7,7 +7,7 @@ use Rattle.bl_wasm.specs.declared.linked.Tree.{Tree}
 use Rattle.bl_cmd.specs.declared.definitions.ProgramParts.{ProgramParts as Program}
 use Rattle.bl_image.specs.Image.{Image}
 use Rattle.bl_lower.specs.Trees.{low_tree}
-use Rattle.bl_build.specs.Loading.{Part, loading, parts_of}
+use Rattle.bl_build.specs.Loading.{AreLoadable, Part, loading, parts_of}
 use Rattle.bl_build.specs.Meaning.{SameOutcomes}
 use Rattle.bl_build.specs.Refusals.{Refusal, limit}
 use Rattle.bl_build.specs.Stages.{Stage, chain}
@@ -28,6 +28,11 @@ pub record Builds (tree : Tree) (built : Built) : Type 0 where
   pub image : Image (low_tree tree) built.image
   pub short : length built.image ≤ limit_of quantity.Image
 
+-- the program of a tree has an image
+pub record HasImage (tree : Tree) : Type 0 where
+  pub bytes : List ℕ
+  pub image : Image (low_tree tree) bytes
+
 pub data BuildingRefuses (tree : Tree) (refusal : Refusal) : Type 0 where
   -- the program has too many commands; their number is told, or the greatest of 64 bits where it is greater
   many_commands : limit_of quantity.Commands < command_count tree → refusal ≡ limit quantity.Commands (min (command_count tree) (2 ^ 64 - 1))
@@ -43,6 +48,11 @@ building = record { Passes = Builds; Refuses = BuildingRefuses }
 -- that of modules
 abbrev pub compiling : Stage (List Part) Built
 compiling = chain loading building
+
+-- modules that can be loaded, and whose program has an image where they are
+pub record AreCompilable (parts : List Part) : Type 0 where
+  pub loadable : AreLoadable parts
+  pub imaged : (tree : Tree) → loading.Passes parts tree → HasImage tree
 
 -- the contents of the files of modules are those of modules that are linked to a tree, which is lowered; the program ends exactly as
 -- the tree does

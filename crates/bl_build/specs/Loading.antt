@@ -1,7 +1,8 @@
 -- From the bytes of modules to the linked tree, in stages: all are decoded, then all validated, then the labels of each are read, and
 -- then they are linked.
 use Rattle.std.specs.Prelude.{◌≡◌, ◌≤◌, ℕ, List, length, map, slice_get, Option, Some, None, Result, Ok, Err}
-use Rattle.std.specs.List.{AllZip, zip}
+use Rattle.std.specs.List.{All, AllZip, zip}
+use Rattle.bl_base.specs.Fits.{AreBytes}
 use Rattle.bl_base.specs.Quantity.{limit_of}
 use Rattle.bl_base.specs.declared.quantity.Quantity.{Quantity}
 use Rattle.bl_base.specs.declared.quantity.Quantity.TheVariants as quantity
@@ -20,6 +21,7 @@ use Rattle.bl_labels.specs.Telling.{Tells}
 use Rattle.bl_labels.specs.declared.error.LabelError.{LabelError}
 use Rattle.bl_labels.specs.declared.error.LabelError.TheVariants as label_error
 use Rattle.bl_labels.specs.declared.labels.Labels.{Labels}
+use Rattle.bl_link.specs.Linkable.{NoSolidus}
 use Rattle.bl_link.specs.Links.{links, part_of}
 use Rattle.bl_link.specs.declared.part.Part.{Part as LinkPart}
 use Rattle.bl_link.specs.declared.error.LinkError.TheVariants.{Unknown, Mismatch, ElementRange, DataRange, Limit}
@@ -41,6 +43,17 @@ parts_of words contents = map (λ each. record { name = module_name each.0; byte
 -- there are as many contents as names of files, and each is short enough for a module
 abbrev pub AreShort : List (List ℕ) → List (List ℕ) → Type 0
 AreShort words contents = AllZip (λ word bytes. length bytes ≤ limit_of quantity.Module) words contents
+
+-- a module's name is text without a solidus, and its bytes are short enough for a module
+abbrev pub IsLoadable : Part → Type 0
+IsLoadable part = NoSolidus part.name × (length part.bytes ≤ limit_of quantity.Module)
+
+-- modules that can be loaded: few, each with such a name and such bytes, and no two of one name
+pub record AreLoadable (parts : List Part) : Type 0 where
+  pub few : length parts ≤ limit_of quantity.Modules
+  pub each : All IsLoadable parts
+  pub distinct : (i j : ℕ) (a b : Part) → slice_get parts i ≡ Some a → slice_get parts j ≡ Some b → a.name ≡ b.name → i ≡ j
+  pub bytes : All (λ part. AreBytes part.bytes) parts
 
 -- a module under its name
 pub record Named : Type 0 where

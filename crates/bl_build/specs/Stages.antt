@@ -13,6 +13,14 @@ pub record IsLawfulStage {A B : Type 0} (stage : Stage A B) : Type 0 where
   pub one_refusal : (a : A) (r s : Refusal) → stage.Refuses a r → stage.Refuses a s → r ≡ s
   pub not_both : (a : A) (b : B) (r : Refusal) → stage.Passes a b → stage.Refuses a r → ⊥
 
+-- something is made of each value of which enough is given, or it is refused: it can't be that neither is so
+pub record IsTotalStage {A B : Type 0} (Given : A → Type 0) (stage : Stage A B) : Type 0 where
+  pub always : (a : A) → Given a → ((b : B) → stage.Passes a b → ⊥) → ((refusal : Refusal) → stage.Refuses a refusal → ⊥) → ⊥
+
+-- nothing needs to be given
+abbrev pub Anything : {A : Type 0} → A → Type 0
+Anything a = Unit {0}
+
 -- one stage, and then another one on what it passes on
 pub data ThenRefuses {A B C : Type 0} (first : Stage A B) (second : Stage B C) (a : A) (refusal : Refusal) : Type 0 where
   at_first : first.Refuses a refusal → ThenRefuses first second a refusal

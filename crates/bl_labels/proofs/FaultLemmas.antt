@@ -17,7 +17,7 @@ use Rattle.bl_labels.specs.Telling.{InSection, Judges, ReadsSection}
 use Rattle.bl_labels.specs.declared.entry.Entry.{Entry}
 use Rattle.bl_labels.specs.declared.entry.Entry.TheVariants.{SecretParam, SecretGlobal, SecretMemory, PublicResult, PublicGlobal}
 use Rattle.bl_labels.specs.declared.error.LabelError.{LabelError}
-use Rattle.bl_labels.specs.declared.error.LabelError.TheVariants.{Malformed, Memory}
+use Rattle.bl_labels.specs.declared.error.LabelError.TheVariants.{Both, Malformed, Memory, OnImport, OutOfRange, Twice}
 use Rattle.bl_labels.specs.declared.labels.Labels.{Labels}
 use Rattle.bl_labels.specs.declared.spaces.Spaces.{Spaces}
 
@@ -176,6 +176,44 @@ pub consistent : (tree : Module) (bytes : List ℕ) (answer : Result Labels Labe
 consistent tree bytes (Ok labels) (inl h) = judged_consistent tree h.0 (first_fault tree [] h.0) labels refl h.2
 consistent tree bytes (Ok labels) (inr h) = let clash = h.0 in absurd (cc)
 consistent tree bytes (Err error) h = tt
+
+-- ---- want of memory is no fault of entries
+
+-- a fault that isn't want of memory
+abbrev IsWrong : Option LabelError → Type 0
+IsWrong (Some Memory) = ⊥
+IsWrong other = Unit {0}
+
+broken_wrong : (outside on_import twice both : Bool) → IsWrong (first_broken outside on_import twice both)
+broken_wrong true i t b = tt
+broken_wrong false true t b = tt
+broken_wrong false false true b = tt
+broken_wrong false false false true = tt
+broken_wrong false false false false = tt
+
+fault_wrong : (types : List FuncType) (spaces : Spaces) (before : Labels) (one : Entry) → IsWrong (fault types spaces before one)
+fault_wrong types spaces before (SecretParam x) = broken_wrong _ _ _ _
+fault_wrong types spaces before (SecretGlobal x) = broken_wrong _ _ _ _
+fault_wrong types spaces before (SecretMemory x) = broken_wrong _ _ _ _
+fault_wrong types spaces before (PublicResult x) = broken_wrong _ _ _ _
+fault_wrong types spaces before (PublicGlobal x) = broken_wrong _ _ _ _
+
+or_wrong : (a b : Option LabelError) → IsWrong a → IsWrong b → IsWrong (option_or a b)
+or_wrong None b p q = q
+or_wrong (Some error) b p q = p
+
+first_wrong : (tree : Module) (later before : List Entry) → IsWrong (first_fault tree before later)
+first_wrong tree [] before = tt
+first_wrong tree (one ∷ later) before =
+    or_wrong (fault tree.types (spaces_of tree) (labels_by before) one) (first_fault tree (before ++ one ∷ []) later) (fault_wrong tree.types (spaces_of tree) (labels_by before) one)
+    (first_wrong tree later (before ++ one ∷ []))
+
+pub never_memory : (tree : Module) (entries : List Entry) → judged tree entries ≡ Err Memory → ⊥
+never_memory tree entries e = of_found (first_fault tree [] entries) (first_wrong tree entries []) e
+  where
+    of_found : (found : Option LabelError) → IsWrong found → judged_by found entries ≡ Err Memory → ⊥
+    of_found None is e = cc
+    of_found (Some error) is e = let same : error ≡ Memory = cc in subst (λ (f : LabelError). IsWrong (Some f)) same is
 
 -- ---- a section
 

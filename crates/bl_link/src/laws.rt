@@ -1,13 +1,19 @@
 //! Laws of linking. Each function is its contract alone.
-ghost use Rattle.std.specs.Prelude.{◌≡◌, List, Ok};
+ghost use Rattle.std.specs.Prelude.{◌≡◌, Err, List, Ok};
 ghost use Rattle.std.specs.List.{All};
 ghost use Rattle.bl_wasm.specs.Linked.{IsLinked};
 ghost use Rattle.bl_wasm.specs.declared.linked.Tree.{Tree};
 ghost use Rattle.bl_link.specs.Linkable.{AreParts, IsSound};
 ghost use Rattle.bl_link.specs.Links.{links};
+ghost use Rattle.bl_link.specs.declared.error.LinkError.TheVariants.{Memory};
 ghost use Rattle.bl_link.specs.declared.part.Part.{Part};
 
 /// What is linked of valid parts within the limits can be run: each body has a typing in the tree, and what its parts name exists.
 pub fn what_is_linked_can_run()
     ensures { (parts : List Part) (tree : Tree) → AreParts parts → All IsSound parts → links parts ≡ Ok tree → IsLinked tree }
+{}
+
+/// Want of memory is no fault of parts.
+pub fn memory_is_no_fault()
+    ensures { (parts : List Part) → links parts ≡ Err Memory → ⊥ }
 {}

@@ -1,0 +1,5 @@
+use Rattle.bl_build.proofs.HardeningExists.{some_hardened}
+use Rattle.bl_build.proofs.laws.programs_are_hardened.Goals as goal
+
+pub returns : goal.returns
+returns c = some_hardened
