@@ -2,7 +2,6 @@
 use Rattle.std.proofs.Common.{◌≡◌, ℕ, zero, suc, ◌≤◌, Bool, true, false, List, [], ◌∷◌, length, map, Some, None, inl, inr, refl, ap, sym, ◌∙◌, arith, slice_get}
 use Rattle.std.specs.Prelude.{nat_le}
 use Rattle.std.specs.List.{All}
-use Rattle.std.specs.Str.{IsUtf8}
 use Rattle.std.proofs.lemmas.Bool.{cases_lt, false≢true, lt-leb}
 use Rattle.std.proofs.lemmas.List.Elements.{All-cons, All-head, All-nil, All-tail}
 use Rattle.std.proofs.lemmas.Option.{none-some}
@@ -28,19 +27,16 @@ use Rattle.bl_app.proofs.TotalRuns.{some_within}
 abbrev Bytes : List ℕ → Type 0
 Bytes bytes = AreBytes bytes
 
-abbrev HasText : List ℕ → Type 0
-HasText word = IsUtf8 (module_name word)
-
 abbrev HasBytes : Part → Type 0
 HasBytes part = AreBytes part.bytes
 
-each_named : (words contents : List (List ℕ)) → All HasText words → AreRead None (map module_read words) contents → All IsLoadable (parts_of words contents)
-each_named [] [] text read = All-nil IsLoadable
-each_named [] (bytes ∷ contents) text read = absurd read
-each_named (word ∷ words) [] text read = absurd read
-each_named (word ∷ words) (bytes ∷ contents) text read =
-    All-cons IsLoadable (record { name = module_name word; bytes = bytes }) (parts_of words contents) (record { text = All-head HasText word words text; solidus = no_solidus word }, read.0.short)
-    (each_named words contents (All-tail HasText word words text) read.1)
+each_named : (words contents : List (List ℕ)) → AreRead None (map module_read words) contents → All IsLoadable (parts_of words contents)
+each_named [] [] read = All-nil IsLoadable
+each_named [] (bytes ∷ contents) read = absurd read
+each_named (word ∷ words) [] read = absurd read
+each_named (word ∷ words) (bytes ∷ contents) read =
+    All-cons IsLoadable (record { name = module_name word; bytes = bytes }) (parts_of words contents) (no_solidus word, read.0.short)
+    (each_named words contents read.1)
 
 each_bytes : (words contents : List (List ℕ)) → All Bytes contents → All HasBytes (parts_of words contents)
 each_bytes [] contents bytes = All-nil HasBytes
@@ -59,11 +55,11 @@ named_at (word ∷ words) [] i a e = absurd (none-some a e)
 named_at (word ∷ words) (one ∷ contents) zero a e = (word, refl, ap (λ (p : Part). p.name) (same_Some (record { name = module_name word; bytes = one }) a e))
 named_at (word ∷ words) (one ∷ contents) (suc i) a e = named_at words contents i a e
 
-pub are_loadable : (words contents : List (List ℕ)) → length words ≤ limit_of quantity.Modules → AreNamedApart words → All (λ word. IsUtf8 (module_name word)) words → AreRead None (map module_read words) contents → All AreBytes contents
+pub are_loadable : (words contents : List (List ℕ)) → length words ≤ limit_of quantity.Modules → AreNamedApart words → AreRead None (map module_read words) contents → All AreBytes contents
     → AreLoadable (parts_of words contents)
-are_loadable words contents few apart text read bytes = record {
+are_loadable words contents few apart read bytes = record {
   few = omega (arith, few, no_more words contents);
-  each = each_named words contents text read;
+  each = each_named words contents read;
   distinct = λ i j a b e f same.
       let first = named_at words contents i a e in
       let second = named_at words contents j b f in
@@ -73,11 +69,11 @@ are_loadable words contents few apart text read bytes = record {
 
 -- ---- `interp`
 
-module _ (request : InterpRequest) (few : length request.modules ≤ limit_of quantity.Modules) (apart : AreNamedApart request.modules) (text : All (λ word. IsUtf8 (module_name word)) request.modules) where
+module _ (request : InterpRequest) (few : length request.modules ≤ limit_of quantity.Modules) (apart : AreNamedApart request.modules) where
   interp_always : (contents : List (List ℕ)) → AreThere (interp_job request).reads contents → ((refusal : Refusal) → InterpRefuses request contents refusal → ⊥) → ((plan : Plan) → InterpDoes request contents plan → ⊥) → ⊥
   interp_always [] there refused made = there.read
   interp_always (start ∷ contents) there refused made =
-      (preparing_total request.export start).always (parts_of request.modules contents) (are_loadable request.modules contents few apart text there.read.1 (All-tail Bytes start contents there.bytes))
+      (preparing_total request.export start).always (parts_of request.modules contents) (are_loadable request.modules contents few apart there.read.1 (All-tail Bytes start contents there.bytes))
       (λ opened prepared. some_within (source opened.tree opened.function opened.start) request.steps (λ outcome within.
       made (saying (outcome_status outcome) (printed_of opened request.steps outcome)) (record { opened = opened; prepared = prepared; outcome = outcome; within = within; is_plan = refl }))) refused
 

@@ -1,6 +1,4 @@
 -- The jobs of all commands.
-use Rattle.std.specs.List.{All}
-use Rattle.std.specs.Str.{IsUtf8}
 use Rattle.bl_app.specs.Counting.{with_modules}
 use Rattle.bl_app.specs.Executing.{run_job}
 use Rattle.bl_app.specs.Generating.{gen_job}
@@ -8,7 +6,7 @@ use Rattle.bl_app.specs.Hardening.{harden_job}
 use Rattle.bl_app.specs.Interpreting.{interp_job}
 use Rattle.bl_app.specs.Jobs.{Job}
 use Rattle.bl_app.specs.Lowering.{lower_job}
-use Rattle.bl_words.specs.Requests.{AreNamedApart, IsGenInRange, Request, gen, harden, interp, lower, module_name, modules_in, run, spec, twin, verify}
+use Rattle.bl_words.specs.Requests.{IsGenInRange, Request, gen, harden, interp, lower, run, spec, twin, verify}
 use Rattle.bl_app.specs.Speculating.{spec_job}
 use Rattle.bl_app.specs.Twinning.{twin_job}
 use Rattle.bl_app.specs.Verifying.{verify_job}
@@ -37,8 +35,3 @@ IsSized (run request) = Unit {0}
 IsSized (spec request) = Unit {0}
 IsSized (twin request) = Unit {0}
 IsSized (verify request) = Unit {0}
-
--- what is known of the modules of a request that words ask for: no two have one name, and their names are text
-pub record HasModules (request : Request) : Type 0 where
-  pub apart : AreNamedApart (modules_in request)
-  pub texts : All (λ word. IsUtf8 (module_name word)) (modules_in request)

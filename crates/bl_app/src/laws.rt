@@ -10,7 +10,7 @@ ghost use Rattle.bl_report.specs.Verdicts.{safe_line};
 ghost use Rattle.bl_build.specs.Building.{AreCompiled, Builds, Built};
 ghost use Rattle.bl_app.specs.Compiling.{IsTotalImaged, Makes};
 ghost use Rattle.bl_app.specs.Causes.{Causes, NoneRose};
-ghost use Rattle.bl_app.specs.Commands.{HasModules, job_of};
+ghost use Rattle.bl_app.specs.Commands.{job_of};
 ghost use Rattle.bl_app.specs.Executing.{RunDoes};
 ghost use Rattle.bl_app.specs.Hardening.{HardenPlans, harden_job};
 ghost use Rattle.bl_build.specs.Hardening.{Hardened, IsHardened, IsYes};
@@ -18,7 +18,7 @@ ghost use Rattle.bl_app.specs.Interpreting.{InterpDoes};
 ghost use Rattle.bl_app.specs.Jobs.{AreRead, FirstRefusal, IsLawful, IsTotal, Plan};
 ghost use Rattle.bl_app.specs.Lowering.{lower_job};
 ghost use Rattle.bl_build.specs.Refusals.{Refusal};
-ghost use Rattle.bl_words.specs.Requests.{HardenRequest, InterpRequest, LowerRequest, Request, RunRequest, SpecRequest, TwinRequest, VerifyRequest, harden, interp, lower, run as run_image, spec, twin, verify};
+ghost use Rattle.bl_words.specs.Requests.{AreNamedApart, HardenRequest, InterpRequest, LowerRequest, Request, RunRequest, SpecRequest, TwinRequest, VerifyRequest, harden, interp, lower, run as run_image, spec, twin, verify};
 ghost use Rattle.bl_app.specs.Speculating.{SpecDoes};
 ghost use Rattle.bl_app.specs.Twinning.{TwinDoes};
 ghost use Rattle.bl_app.specs.Verifying.{VerifyDoes};
@@ -34,7 +34,7 @@ pub fn jobs_are_lawful()
 
 /// The jobs of these requests: of contents that are there something is refused, or something may be done. It can't be that neither is so.
 pub fn jobs_are_total()
-    ensures interp { (request : InterpRequest) → HasModules (interp request) → IsTotal (job_of (interp request)) }
+    ensures interp { (request : InterpRequest) → AreNamedApart request.modules → IsTotal (job_of (interp request)) }
     ensures run { (request : RunRequest) → IsTotal (job_of (run_image request)) }
     ensures spec { (request : SpecRequest) → IsTotal (job_of (spec request)) }
     ensures twin { (request : TwinRequest) → IsTotal (job_of (twin request)) }
@@ -43,8 +43,8 @@ pub fn jobs_are_total()
 
 /// The same of `lower` and `harden` where the modules' program has an image.
 pub fn compiled_jobs_are_total()
-    ensures lower { (request : LowerRequest) → length request.modules ≤ limit_of quantity.Modules → HasModules (lower request) → IsTotalImaged request.modules (lower_job request) }
-    ensures harden { (request : HardenRequest) → length request.modules ≤ limit_of quantity.Modules → HasModules (harden request) → IsTotalImaged request.modules (harden_job request) }
+    ensures lower { (request : LowerRequest) → length request.modules ≤ limit_of quantity.Modules → AreNamedApart request.modules → IsTotalImaged request.modules (lower_job request) }
+    ensures harden { (request : HardenRequest) → length request.modules ≤ limit_of quantity.Modules → AreNamedApart request.modules → IsTotalImaged request.modules (harden_job request) }
 {}
 
 /// At most one refusal of a request is the first.

@@ -10,7 +10,7 @@ use Rattle.bl_base.specs.Fits.{AreBytes}
 use Rattle.bl_base.specs.Quantity.{limit_of}
 use Rattle.bl_base.specs.declared.quantity.Quantity.TheVariants as quantity
 use Rattle.bl_wasm.specs.Exports.{number_of}
-use Rattle.bl_wasm.specs.Linked.{IsFunction, IsLinked}
+use Rattle.bl_wasm.specs.Linked.{IsFunction, IsLinked, type_of}
 use Rattle.bl_wasm.specs.declared.linked.Function.{Function}
 use Rattle.bl_wasm.specs.declared.linked.Tree.{Tree}
 use Rattle.bl_wasm.specs.declared.module.Module.{Module}
@@ -30,7 +30,7 @@ use Rattle.bl_link.proofs.Whole.{linked}
 use Rattle.bl_base.proofs.Lists.{mapped_get}
 use Rattle.bl_build.specs.Loading.{AreLoadable, IsLoadable, LabelledModule, LinkingRefuses, Links, Named, Part, decoding, element, labelling, linked_parts, linking, loading, mismatched, segment, too_large, unknown, validation}
 use Rattle.bl_build.specs.Refusals.{Refusal, bad_line, data_range, element_range, few_arguments, limit, mismatched_import, no_export, unknown_import}
-use Rattle.bl_build.specs.Running.{Opened, OpeningRefuses, Opens, line_is_bad, not_exported, opening, preparing, sizes_of, too_few, type_of}
+use Rattle.bl_build.specs.Running.{Opened, OpeningRefuses, Opens, line_is_bad, not_exported, opening, preparing, sizes_of, too_few}
 use Rattle.bl_build.specs.Stages.{AllPass, Anything, IsTotalStage, Stage, chain, each}
 use Rattle.bl_build.proofs.ImagesTotal.{answered}
 use Rattle.bl_build.proofs.LoadingLemmas.{IsAccepted, all_accepted}

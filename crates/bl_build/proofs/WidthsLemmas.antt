@@ -13,7 +13,8 @@ use Rattle.bl_wasm.specs.Instructions.{instruction}
 use Rattle.bl_wasm.specs.Linked.{HasImmediates}
 use Rattle.bl_wasm.specs.Modules.{Spells, ◌▷◌}
 use Rattle.bl_wasm.specs.Sections.{code_entry, data_entry, global_entry, vec_section}
-use Rattle.bl_wasm.specs.Values.{Spellings, each}
+use Rattle.bl_leb.specs.Grammar.{Spellings}
+use Rattle.bl_wasm.specs.Values.{each}
 use Rattle.bl_wasm.specs.declared.instruction.Instr.{Instr}
 use Rattle.bl_wasm.specs.declared.instruction.Instr.TheVariants.{Unreachable, Nop, Block, Loop, If, Else, End, Br, BrIf, BrTable, Return, Call, CallIndirect, Drop, Select, LocalGet, LocalSet, LocalTee, GlobalGet, GlobalSet, Load, Store, FloatAccess, MemorySize, MemoryGrow, I32Const, I64Const, F32Const, F64Const, Integer, Float}
 use Rattle.bl_wasm.specs.declared.module.CustomSection.{CustomSection}

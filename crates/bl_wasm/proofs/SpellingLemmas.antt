@@ -1,6 +1,7 @@
 -- Small spellings: one after another, a byte, a number of one byte, one element.
 use Rattle.std.proofs.Common.{◌≡◌, ℕ, ◌<◌, List, [], ◌∷◌, ◌++◌, append-nil, refl, sym, arith}
-use Rattle.bl_wasm.specs.Values.{Spellings, ◌⨾◌, byte, u32, vec}
+use Rattle.bl_leb.specs.Grammar.{Spellings, ◌⨾◌, byte}
+use Rattle.bl_wasm.specs.Values.{u32, vec}
 
 -- a spelling of the first, and then one of the second
 pub both : {First Second : Spellings} (front rest : List ℕ) → First front → Second rest → (First ⨾ Second) (front ++ rest)

@@ -4,7 +4,7 @@ use Rattle.bl_app.proofs.TotalRuns.{run_total, spec_total, twin_total, verify_to
 use Rattle.bl_app.proofs.laws.jobs_are_total.Goals as goal
 
 pub returns-clause-interp : goal.returns-clause-interp
-returns-clause-interp c = λ request has. with_modules_total request.modules (interp_job request) (λ few. interp_total request few has.apart has.texts)
+returns-clause-interp c = λ request has. with_modules_total request.modules (interp_job request) (λ few. interp_total request few has)
 
 pub returns-clause-run : goal.returns-clause-run
 returns-clause-run c = run_total
