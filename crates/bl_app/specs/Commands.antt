@@ -6,7 +6,7 @@ use Rattle.bl_app.specs.Hardening.{harden_job}
 use Rattle.bl_app.specs.Interpreting.{interp_job}
 use Rattle.bl_app.specs.Jobs.{Job}
 use Rattle.bl_app.specs.Lowering.{lower_job}
-use Rattle.bl_words.specs.Requests.{IsGenInRange, Request, gen, harden, interp, lower, run, spec, twin, verify}
+use Rattle.bl_words.specs.Requests.{IsGenInRange, Request, gen, harden, interp, lower, modules_in, run, spec, twin, verify}
 use Rattle.bl_app.specs.Speculating.{spec_job}
 use Rattle.bl_app.specs.Twinning.{twin_job}
 use Rattle.bl_app.specs.Verifying.{verify_job}
