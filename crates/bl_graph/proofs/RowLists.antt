@@ -4,8 +4,8 @@ use Rattle.std.specs.List.{Contains}
 use Rattle.std.proofs.lemmas.Bool.{cases_lt, cases_eq}
 use Rattle.std.proofs.lemmas.List.{get_or-set_same, get_or-set_other, get_or-replicate, get_or_past, length-replicate}
 use Rattle.std.proofs.lemmas.List.Elements.{Contains-push_cases, Contains-append_left, Contains-push}
-use Rattle.bl_ct.specs.declared.search.Arc.{Arc}
-use Rattle.bl_ct.specs.Finding.{RowsOf, row_at}
+use Rattle.bl_graph.specs.declared.arcs.Arc.{Arc}
+use Rattle.bl_graph.specs.Arcs.{RowsOf, row_at}
 use Rattle.bl_graph.proofs.Members.{none_in}
 
 nothing : (n u : ℕ) → row_at (replicate n []) u ≡ []
