@@ -12,7 +12,7 @@ use Rattle.bl_graph.specs.Secrets.{LoadsSecret}
 use Rattle.bl_graph.specs.declared.facts.Use.{Use}
 use Rattle.bl_graph.proofs.Members.{first_in, later_in, in_cases, none_in, in_map, from_map}
 use Rattle.bl_ct.specs.declared.facts.Declared.{Declared}
-use Rattle.bl_ct.specs.declared.search.Arc.{Arc}
+use Rattle.bl_graph.specs.declared.arcs.Arc.{Arc}
 use Rattle.bl_ct.proofs.Listing.{Lists}
 use Rattle.bl_ct.proofs.Reaching.{reaches, reaches_itself, reaches_on, reaches_least}
 

@@ -15,7 +15,8 @@ use Rattle.bl_graph.specs.Secrets.{Demands}
 use Rattle.bl_graph.specs.SecretChains.{Ends, sunk, stored, given}
 use Rattle.bl_ct.specs.Facts.{AreFacts}
 use Rattle.bl_ct.specs.declared.facts.Facts.{Facts}
-use Rattle.bl_ct.specs.Finding.{is_in, end_at, IsNoted, AreEnds, Gives, KeptAt}
+use Rattle.bl_graph.specs.Arcs.{is_in}
+use Rattle.bl_ct.specs.Finding.{end_at, IsNoted, AreEnds, Gives, KeptAt}
 use Rattle.bl_graph.proofs.Members.{none_in}
 
 pub note_none : (ends : List (Option ℕ)) → IsNoted [] ends ends

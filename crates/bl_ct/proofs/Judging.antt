@@ -14,7 +14,8 @@ use Rattle.bl_ct.specs.Facts.{AreFacts, AreSecretsInRange}
 use Rattle.bl_ct.specs.declared.facts.Facts.{Facts}
 use Rattle.bl_graph.specs.Labels.{Secret, declared, loaded, moved}
 use Rattle.bl_graph.specs.SecretChains.{Ends, sunk, stored, given}
-use Rattle.bl_ct.specs.Finding.{is_in, Has, IsJustifiedBy, Searched, AreEnds, IsLeak, end_at}
+use Rattle.bl_graph.specs.Arcs.{is_in}
+use Rattle.bl_ct.specs.Finding.{Has, IsJustifiedBy, Searched, AreEnds, IsLeak, end_at}
 use Rattle.bl_ct.specs.Leaks.{LeakOf, LeakFound}
 use Rattle.bl_ct.specs.Verdicts.{label_of, labelling_of, IsLeastLabelling}
 use Rattle.bl_ct.proofs.Visiting.{in_has, has_in}

@@ -10,6 +10,5 @@ pub mod Leading
 pub mod Listing
 pub mod Nothing
 pub mod Reaching
-pub mod RowLists
 pub mod Rowing
 pub mod Visiting

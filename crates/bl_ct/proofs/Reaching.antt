@@ -2,7 +2,7 @@
 use Rattle.std.proofs.Common.{◌≡◌, ℕ, Bool, true, List, [], ◌∷◌, sym, subst, arith, ◌⊎◌, inl, inr, ◌&&◌, ◌||◌, nat_eq}
 use Rattle.std.specs.List.{Contains}
 use Rattle.std.proofs.lemmas.Bool.{or_left, or_right, or_cases, and_from, and_parts, eqb-true, eq-eqb}
-use Rattle.bl_ct.specs.declared.search.Arc.{Arc}
+use Rattle.bl_graph.specs.declared.arcs.Arc.{Arc}
 use Rattle.bl_graph.proofs.Members.{first_in, later_in, in_cases, none_in}
 
 module _ (may : ℕ → Bool) where

@@ -8,9 +8,10 @@ use Rattle.bl_graph.specs.Graphs.{use_of}
 use Rattle.bl_graph.specs.Ranges.{commands, variables}
 use Rattle.bl_graph.specs.declared.facts.Use.{Use}
 use Rattle.bl_ct.specs.declared.facts.Known.{Known}
-use Rattle.bl_ct.specs.declared.search.Arc.{Arc}
+use Rattle.bl_graph.specs.declared.arcs.Arc.{Arc}
 use Rattle.bl_ct.specs.Facts.{IsKnown}
-use Rattle.bl_ct.specs.Finding.{RowsOf, row_at, from_site, from_var}
+use Rattle.bl_graph.specs.Arcs.{RowsOf, row_at}
+use Rattle.bl_ct.specs.Finding.{from_site, from_var}
 use Rattle.bl_graph.proofs.Members.{in_map, from_map}
 use Rattle.bl_ct.proofs.Knowing.{writes_in, reads_in}
 

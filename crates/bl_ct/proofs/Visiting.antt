@@ -17,7 +17,8 @@ use Rattle.bl_graph.specs.Labels.{Secret, declared, loaded, moved}
 use Rattle.bl_graph.specs.Ranges.{variables}
 use Rattle.bl_ct.specs.Facts.{AreFacts}
 use Rattle.bl_ct.specs.declared.facts.Facts.{Facts}
-use Rattle.bl_ct.specs.Finding.{is_in, unmarked, Visits, Some_fits, Some_asks, RowFits, RowAsks, Has, IsJustifiedBy, AreJustified, Searching, Searched, row_at}
+use Rattle.bl_graph.specs.Arcs.{is_in, unmarked, row_at}
+use Rattle.bl_ct.specs.Finding.{Visits, Some_fits, Some_asks, RowFits, RowAsks, Has, IsJustifiedBy, AreJustified, Searching, Searched}
 use Rattle.bl_graph.proofs.Members.{none_in}
 
 pub visits_none : {A : Type 0} (fits : A → Step → Type 0) (asks : A → ℕ → Type 0) (marks : List Bool) (queue : List Step) → Visits (Some_fits [] fits) (Some_asks [] asks) marks marks queue queue

@@ -1,38 +1,19 @@
 -- The search for secret variables: each is found once, and how it was found stands in a queue.
-use Rattle.std.specs.Prelude.{◌≡◌, ◌↔◌, ℕ, ◌+◌, ◌<◌, ◌≤◌, ◌⊎◌, Bool, false, not, List, [], ◌++◌, Option, Some, None, is_some, Contains, length, slice_get, slice_index_or, IsTrue, count_by, Vec, map}
-use Rattle.std.specs.declared.alloc.Global.{Global}
+use Rattle.std.specs.Prelude.{◌≡◌, ◌↔◌, ℕ, ◌+◌, ◌<◌, ◌≤◌, ◌⊎◌, Bool, List, [], ◌++◌, Option, Some, None, is_some, Contains, length, slice_get, slice_index_or, IsTrue}
 use Rattle.bl_cmd.specs.Sites.{Writes, Reads}
 use Rattle.bl_cmd.specs.declared.definitions.ProgramParts.{ProgramParts as Program}
+use Rattle.bl_graph.specs.Arcs.{is_in, unmarked, row_at}
 use Rattle.bl_graph.specs.Graphs.{use_of}
 use Rattle.bl_graph.specs.Ranges.{variables}
+use Rattle.bl_graph.specs.declared.arcs.Arc.{Arc}
 use Rattle.bl_graph.specs.declared.facts.Use.{Use}
 use Rattle.bl_graph.specs.declared.secret.Origin.{Origin}
 use Rattle.bl_ct.specs.declared.search.Step.{Step}
-use Rattle.bl_ct.specs.declared.search.Arc.{Arc}
 use Rattle.bl_ct.specs.declared.search.Cause.{Cause}
 use Rattle.bl_ct.specs.declared.search.Cause.TheVariants.{Declared, Loaded, Moved}
 use Rattle.bl_graph.specs.Secrets.{Declares, LoadsSecret, Demands}
 use Rattle.bl_graph.specs.Labels.{Secret}
 use Rattle.bl_graph.specs.SecretChains.{Ends, LeadsToEnd}
-
--- a list's answer at a place; no past its end
-abbrev pub is_in : List Bool → ℕ → Bool
-is_in marks v = slice_index_or marks v false
-
-abbrev pub unmarked : List Bool → ℕ
-unmarked marks = count_by (λ b. not b) marks
-
--- the rows as lists
-abbrev pub rows_in : List (Vec ℕ Global) → List (List ℕ)
-rows_in rows = map (λ row. row.items) rows
-
-abbrev pub row_at : List (List ℕ) → ℕ → List ℕ
-row_at rows u = slice_index_or rows u []
-
--- each node's row has exactly the nodes to which an arc leads from it
-pub record RowsOf (arcs : List Arc) (rows : List (List ℕ)) : Type 0 where
-  pub sound : (u v : ℕ) → Contains (row_at rows u) v → Contains arcs (record { from = u; to = v })
-  pub full : (u v : ℕ) → Contains arcs (record { from = u; to = v }) → Contains (row_at rows u) v
 
 -- pairs as arcs
 abbrev pub from_site : Use → Arc

@@ -3,7 +3,8 @@ use Rattle.std.specs.Prelude.{◌≡◌, ◌⊎◌, ℕ, Bool, Contains, IsTrue,
 use Rattle.bl_ct.specs.declared.search.Step.{Step}
 use Rattle.bl_ct.specs.declared.search.Cause.TheVariants.{Loaded}
 use Rattle.bl_ct.specs.declared.verdict.Leak.{Leak}
-use Rattle.bl_ct.specs.Finding.{is_in, Has, end_at}
+use Rattle.bl_graph.specs.Arcs.{is_in}
+use Rattle.bl_ct.specs.Finding.{Has, end_at}
 
 -- by a table of ends and one of demanded variables, the variable of a step may not be secret, or may
 abbrev pub LeakOf : List (Option ℕ) → List Bool → Step → Option ℕ → Type 0

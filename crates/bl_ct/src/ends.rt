@@ -3,7 +3,8 @@ ghost use Rattle.std.specs.Prelude.{◌≡◌, ◌<◌, ◌↔◌, ℕ, All, Con
 ghost use Rattle.bl_graph.specs.Ranges.{commands, variables};
 ghost use Rattle.bl_graph.specs.Secrets.{Demands};
 ghost use Rattle.bl_ct.specs.Facts.{IsKnown};
-ghost use Rattle.bl_ct.specs.Finding.{AreEnds, Gives, IsNoted, KeptAt, is_in};
+ghost use Rattle.bl_graph.specs.Arcs.{is_in};
+ghost use Rattle.bl_ct.specs.Finding.{AreEnds, Gives, IsNoted, KeptAt};
 
 use crate::facts::{Known, command_count};
 use bl_base::NoMemory;

@@ -1,24 +1,16 @@
 //! The search for secret variables.
-ghost use Rattle.std.specs.Prelude.{◌≡◌, ◌<◌, ◌↔◌, ℕ, All, Contains, IfOk, OnOk, length, map, replicate, []};
+ghost use Rattle.std.specs.Prelude.{◌≡◌, ◌<◌, ◌↔◌, ℕ, All, Contains, IfOk, OnOk, length, map};
 ghost use Rattle.bl_cmd.specs.Sites.{Reads, Writes};
 ghost use Rattle.bl_graph.specs.Ranges.{commands, variables};
 ghost use Rattle.bl_ct.specs.Facts.{IsKnown};
-ghost use Rattle.bl_ct.specs.Finding.{RowAsks, RowFits, RowsOf, Searched, Some_asks, Some_fits, Visits, from_site, from_var, row_at, rows_in};
+ghost use Rattle.bl_graph.specs.Arcs.{row_at, rows_in};
+ghost use Rattle.bl_ct.specs.Finding.{RowAsks, RowFits, Searched, Some_asks, Some_fits, Visits, from_site, from_var};
 ghost use Rattle.bl_ct.specs.declared.search.Cause.TheVariants as cause_;
 
 use crate::facts::{Declared, Known, SecretLoad, command_count};
 use bl_base::NoMemory;
-use bl_graph::{Origin, Use, variables};
+use bl_graph::{Arc, Origin, Use, rows_of, variables};
 use std::alloc::Global;
-
-/// From one number to another.
-#[derive(Clone, Copy, Debug, PartialEq, Eq)]
-pub(crate) struct Arc {
-    /// The one.
-    pub(crate) from: u32,
-    /// The other.
-    pub(crate) to: u32,
-}
 
 /// By what a variable was found to be secret.
 #[derive(Clone, Copy, Debug, PartialEq, Eq)]
@@ -204,30 +196,6 @@ fn find(step: Step, marks: &mut Vec<bool>, queue: &mut Vec<Step>) -> Result<(), 
         queue.push(step)?;
     }
     Ok(())
-}
-
-/// For each number below a bound those to which an arc leads from it.
-fn rows_of(alloc: Global, arcs: &[Arc], count: u32) -> Result<Vec<Vec<u32>>, NoMemory>
-    requires { All (λ arc. arc.from < count) arcs.now }
-    ensures places { IfOk result (λ rows. length rows.items ≡ count) }
-    ensures rows { IfOk result (λ rows. RowsOf arcs.now (rows_in rows.items)) }
-{
-    let mut rows = empty_rows(alloc, count)?;
-    for arc in arcs {
-        rows[arc.from as usize].push(arc.to)?;
-    }
-    Ok(rows)
-}
-
-/// So many empty rows.
-fn empty_rows(alloc: Global, count: u32) -> Result<Vec<Vec<u32>>, NoMemory>
-    ensures { IfOk result (λ rows. rows_in rows.items ≡ replicate count []) }
-{
-    let mut rows = Vec::new(alloc);
-    for _ in 0..count {
-        rows.push(Vec::new(alloc))?;
-    }
-    Ok(rows)
 }
 
 /// From each site to what it writes.

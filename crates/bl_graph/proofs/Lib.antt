@@ -6,6 +6,7 @@ pub mod Members
 pub mod Placing
 pub mod Ranging
 pub mod Reasons
+pub mod RowLists
 pub mod Rows
 pub mod Summing
 pub mod Unique

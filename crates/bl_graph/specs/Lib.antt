@@ -1,3 +1,4 @@
+pub mod Arcs
 pub mod Certificates
 pub mod Chains
 pub mod Firsts

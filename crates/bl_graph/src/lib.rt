@@ -1,7 +1,9 @@
 //! Where a program's values come from and go to: its loads, what its sites write and read, and what its sinks read; chains of
-//! sites from loads to sinks, and certificates of flow along them, with how much flows; labels of variables, and ways of secrets.
+//! sites from loads to sinks, and certificates of flow along them, with how much flows; labels of variables, ways of secrets, and
+//! rows of arcs.
 #![tactic(auto)]
 
+mod arcs;
 mod certificate;
 mod facts;
 mod flows;
@@ -11,6 +13,7 @@ mod reads;
 mod secret;
 mod writes;
 
+pub use arcs::{Arc, rows_of};
 pub use certificate::{Certificate, FlowPath};
 pub use facts::{Graph, Read, SinkUse, Use, Write};
 pub use flows::{flow_sum, flows_through};

@@ -6,7 +6,8 @@ use Rattle.std.proofs.lemmas.Bool.{false≢true}
 use Rattle.std.proofs.lemmas.List.Elements.{Contains-push_cases, Contains-append_left, Contains-push}
 use Rattle.bl_graph.specs.Graphs.{use_of}
 use Rattle.bl_graph.specs.declared.facts.Use.{Use}
-use Rattle.bl_transient.specs.Reaching.{is_in, FirstSink, IsLower}
+use Rattle.bl_graph.specs.Arcs.{is_in}
+use Rattle.bl_transient.specs.Reaching.{FirstSink, IsLower}
 use Rattle.bl_graph.proofs.Members.{none_in}
 
 pub first_none : (marks : List Bool) → FirstSink marks [] None

@@ -12,7 +12,7 @@ use Rattle.bl_graph.specs.Graphs.{use_of}
 use Rattle.bl_graph.specs.declared.facts.Use.{Use}
 use Rattle.bl_graph.proofs.Members.{first_in, later_in, in_cases, none_in}
 use Rattle.bl_transient.specs.Reaching.{AreFree, noted, listed, moved_to, roots_from, moves_from}
-use Rattle.bl_transient.specs.declared.search.Move.{Move}
+use Rattle.bl_graph.specs.declared.arcs.Arc.{Arc}
 
 noted_or : (written : List (Option ℕ)) (v : ℕ) → noted written v ≡ get_or written v None
 noted_or [] v = refl
@@ -119,11 +119,11 @@ root_in written (load ∷ loads) s x h e =
     ]
 
 moved_in : (x : ℕ) (o : Option ℕ) (u v : ℕ) → Contains (moved_to x o) (record { from = u; to = v }) → (x ≡ u) × (o ≡ Some v)
-moved_in x None u v h = absurd (none_in (let m : Move = record { from = u; to = v } in m) h)
+moved_in x None u v h = absurd (none_in (let m : Arc = record { from = u; to = v } in m) h)
 moved_in x (Some y) u v h =
-    elim (in_cases (let m : Move = record { from = x; to = y } in m) (record { from = u; to = v }) [] h) as (λ _. (x ≡ u) × (Some y ≡ Some v)) [
-      | inl same ↦ (ap (λ (m : Move). m.from) same, ap (λ (m : Move). Some m.to) same)
-      | inr rest ↦ absurd (none_in (let m : Move = record { from = u; to = v } in m) rest)
+    elim (in_cases (let m : Arc = record { from = x; to = y } in m) (record { from = u; to = v }) [] h) as (λ _. (x ≡ u) × (Some y ≡ Some v)) [
+      | inl same ↦ (ap (λ (m : Arc). m.from) same, ap (λ (m : Arc). Some m.to) same)
+      | inr rest ↦ absurd (none_in (let m : Arc = record { from = u; to = v } in m) rest)
     ]
 
 in_moved : (x : ℕ) (o : Option ℕ) (v : ℕ) → o ≡ Some v → Contains (moved_to x o) (record { from = x; to = v })
@@ -132,7 +132,7 @@ in_moved x (Some y) v e = subst (λ w. Contains (moved_to x (Some y)) (record { 
 
 pub move_from : (written : List (Option ℕ)) (reads : List Use) (u v : ℕ) → Contains (moves_from written reads) (record { from = u; to = v })
     → (s : ℕ) × Contains reads (use_of s u) × (noted written s ≡ Some v)
-move_from written [] u v h = absurd (none_in (let m : Move = record { from = u; to = v } in m) h)
+move_from written [] u v h = absurd (none_in (let m : Arc = record { from = u; to = v } in m) h)
 move_from written (read ∷ reads) u v h =
     elim (Contains-append_cases (moved_to read.var.0 (noted written read.at.0)) (moves_from written reads) (record { from = u; to = v }) h) as (λ _. (s : ℕ) × Contains (read ∷ reads) (use_of s u) × (noted written s ≡ Some v)) [
       | inl here ↦

@@ -11,10 +11,11 @@ use Rattle.bl_graph.specs.Ranges.{commands, variables, AreInRange}
 use Rattle.bl_graph.specs.declared.facts.Graph.{Graph}
 use Rattle.bl_graph.proofs.Chaining.{all_from}
 use Rattle.bl_graph.proofs.Ranging.{writes_one}
-use Rattle.bl_transient.specs.Reaching.{is_in, row_at, Reached, root, step, RowsOf, FirstSink, AreFree, roots_from, moves_from, flow_type}
+use Rattle.bl_graph.specs.Arcs.{is_in, row_at, RowsOf}
+use Rattle.bl_transient.specs.Reaching.{Reached, root, step, FirstSink, AreFree, roots_from, moves_from, flow_type}
 use Rattle.bl_transient.specs.Transient.{Trans, loaded, moved}
 use Rattle.bl_transient.specs.Verdicts.{is_transient, typing_of, IsLeastTyping, IsFirstSink}
-use Rattle.bl_transient.specs.declared.search.Move.{Move}
+use Rattle.bl_graph.specs.declared.arcs.Arc.{Arc}
 use Rattle.bl_transient.proofs.Free.{root_from, root_in, move_from, move_in}
 
 module _ (program : Program) (g : Graph) (lists : IsGraph program g) (set : ℕ → Bool) (written : List (Option ℕ)) (free : AreFree g.writes set written) where

@@ -3,6 +3,5 @@ pub mod Free
 pub mod Judging
 pub mod Marks
 pub mod Meeting
-pub mod RowLists
 pub mod Tests
 pub mod Typings

@@ -1,34 +1,18 @@
 -- What a list of roots reaches by rows, and a search for it.
-use Rattle.std.specs.Prelude.{◌≡◌, ◌↔◌, ℕ, ◌+◌, ◌<◌, ◌≤◌, ◌⊎◌, Bool, true, false, not, List, [], ◌∷◌, ◌++◌, length, map, slice_index, IsTrue, count_by, min, Option, Some, None, slice_get, unwrap_or, if◌then◌else◌}
-use Rattle.std.specs.List.{Contains, slice_index_or}
+use Rattle.std.specs.Prelude.{◌≡◌, ◌↔◌, ℕ, ◌+◌, ◌<◌, ◌≤◌, ◌⊎◌, Bool, true, false, not, List, [], ◌∷◌, ◌++◌, length, map, slice_index, IsTrue, min, Option, Some, None, slice_get, unwrap_or, if◌then◌else◌}
+use Rattle.std.specs.List.{Contains}
 use Rattle.bl_base.specs.declared.names.Flow.{Flow}
 use Rattle.bl_base.specs.declared.names.Flow.TheVariants.{Stable, Transient}
 use Rattle.bl_base.specs.declared.number.Pos.{Pos}
+use Rattle.bl_graph.specs.Arcs.{is_in, unmarked, row_at}
 use Rattle.bl_graph.specs.Graphs.{use_of}
+use Rattle.bl_graph.specs.declared.arcs.Arc.{Arc}
 use Rattle.bl_graph.specs.declared.facts.Use.{Use}
-use Rattle.bl_transient.specs.declared.search.Move.{Move}
-
--- a list's answer at a place; no past its end
-abbrev pub is_in : List Bool → ℕ → Bool
-is_in marks v = slice_index_or marks v false
-
--- the row at a place; an empty one past the end
-abbrev pub row_at : List (List ℕ) → ℕ → List ℕ
-row_at rows v = slice_index_or rows v []
 
 -- a root, or what the row of something reached has
 pub data Reached (rows : List (List ℕ)) (roots : List ℕ) : ℕ → Type 0 where
   root : (v : ℕ) → Contains roots v → Reached rows roots v
   step : (u v : ℕ) → Reached rows roots u → Contains (row_at rows u) v → Reached rows roots v
-
--- each row has exactly the variables to which a move leads from its own
-pub record RowsOf (moves : List Move) (rows : List (List ℕ)) : Type 0 where
-  pub sound : (u v : ℕ) → Contains (row_at rows u) v → Contains moves (record { from = u; to = v })
-  pub full : (u v : ℕ) → Contains moves (record { from = u; to = v }) → Contains (row_at rows u) v
-
--- how many places are not marked
-abbrev pub unmarked : List Bool → ℕ
-unmarked marks = count_by (λ b. not b) marks
 
 -- what a row has is marked and queued, where it wasn't marked
 pub record IsVisited (row : List ℕ) (old new : List Bool) (queue more : List ℕ) : Type 0 where
@@ -79,7 +63,7 @@ listed None = []
 listed (Some x) = x ∷ []
 
 -- the move from a variable, where there is one
-abbrev pub moved_to : ℕ → Option ℕ → List Move
+abbrev pub moved_to : ℕ → Option ℕ → List Arc
 moved_to x None = []
 moved_to x (Some y) = record { from = x; to = y } ∷ []
 
@@ -89,7 +73,7 @@ roots_from written [] = []
 roots_from written (load ∷ loads) = listed (noted written load.0) ++ roots_from written loads
 
 -- from what the sites that aren't protected read to what they write
-abbrev pub moves_from : List (Option ℕ) → List Use → List Move
+abbrev pub moves_from : List (Option ℕ) → List Use → List Arc
 moves_from written [] = []
 moves_from written (read ∷ reads) = moved_to read.var.0 (noted written read.at.0) ++ moves_from written reads
 

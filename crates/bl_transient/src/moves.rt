@@ -4,9 +4,8 @@ ghost use Rattle.std.specs.FinSet as fin;
 ghost use Rattle.bl_graph.specs.Graphs.{use_of};
 ghost use Rattle.bl_transient.specs.Reaching.{AreFree, listed, moved_to, moves_from, noted, roots_from};
 
-use crate::search::Move;
 use bl_base::{NoMemory, Pos, SiteSet, Var};
-use bl_graph::{Read, Write};
+use bl_graph::{Arc, Read, Write};
 use std::alloc::Global;
 
 /// For each position the variable that the site there writes, where it isn't protected.
@@ -80,7 +79,7 @@ pub(crate) fn moves_of(
     alloc: Global,
     reads: &[Read],
     written: &[Option<u32>],
-) -> Result<Vec<Move>, NoMemory>
+) -> Result<Vec<Arc>, NoMemory>
     ensures { IfOk result (λ moves. moves.items ≡ moves_from written.now reads.now) }
 {
     let mut moves = Vec::new(alloc);
@@ -91,11 +90,11 @@ pub(crate) fn moves_of(
 }
 
 /// Appends the move from a variable to another, where there is one.
-fn push_move(moves: &mut Vec<Move>, from: Var, to: Option<u32>) -> Result<(), NoMemory>
+fn push_move(moves: &mut Vec<Arc>, from: Var, to: Option<u32>) -> Result<(), NoMemory>
     ensures { OnOk result (moves.new.items ≡ moves.old.items ++ moved_to from.0 to) }
 {
     if let Some(to) = to {
-        moves.push(Move { from: from.0, to })?;
+        moves.push(Arc { from: from.0, to })?;
     }
     Ok(())
 }

@@ -1,42 +1,10 @@
 //! A search from roots along moves.
-ghost use Rattle.std.specs.Prelude.{◌≡◌, ◌<◌, ◌↔◌, ℕ, [], All, Contains, IsTrue, IfOk, OnOk, length, map, replicate};
-ghost use Rattle.bl_transient.specs.Reaching.{IsVisited, Reached, RowsOf, is_in, row_at};
+ghost use Rattle.std.specs.Prelude.{◌≡◌, ◌<◌, ◌↔◌, ℕ, [], All, Contains, IsTrue, IfOk, OnOk, length, map};
+ghost use Rattle.bl_graph.specs.Arcs.{is_in, row_at};
+ghost use Rattle.bl_transient.specs.Reaching.{IsVisited, Reached};
 
 use bl_base::NoMemory;
 use std::alloc::Global;
-
-/// Where the one variable is transient, so is the other.
-#[derive(Clone, Copy, Debug, PartialEq, Eq)]
-pub(crate) struct Move {
-    /// The one.
-    pub(crate) from: u32,
-    /// The other.
-    pub(crate) to: u32,
-}
-
-/// For each variable those to which a move leads from it.
-pub(crate) fn rows_of(alloc: Global, moves: &[Move], count: u32) -> Result<Vec<Vec<u32>>, NoMemory>
-    requires { All (λ step. step.from < count) moves.now }
-    ensures places { IfOk result (λ rows. length rows.items ≡ count) }
-    ensures rows { IfOk result (λ rows. RowsOf moves.now (map (λ row. row.items) rows.items)) }
-{
-    let mut rows = empty_rows(alloc, count)?;
-    for step in moves {
-        rows[step.from as usize].push(step.to)?;
-    }
-    Ok(rows)
-}
-
-/// So many empty rows.
-fn empty_rows(alloc: Global, count: u32) -> Result<Vec<Vec<u32>>, NoMemory>
-    ensures { IfOk result (λ rows. map (λ row. row.items) rows.items ≡ replicate count []) }
-{
-    let mut rows = Vec::new(alloc);
-    for _ in 0..count {
-        rows.push(Vec::new(alloc))?;
-    }
-    Ok(rows)
-}
 
 /// For each variable whether the roots reach it by rows. Each row is visited once.
 pub(crate) fn reached(

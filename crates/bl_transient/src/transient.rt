@@ -3,15 +3,16 @@ ghost use Rattle.std.specs.Prelude.{◌≡◌, ◌<◌, ◌↔◌, ℕ, All, IsT
 ghost use Rattle.std.specs.FinSet as fin;
 ghost use Rattle.bl_graph.specs.Graphs.{IsGraph};
 ghost use Rattle.bl_graph.specs.Ranges.{variables};
-ghost use Rattle.bl_transient.specs.Reaching.{FirstSink, IsLower, flow_type, is_in};
+ghost use Rattle.bl_graph.specs.Arcs.{is_in};
+ghost use Rattle.bl_transient.specs.Reaching.{FirstSink, IsLower, flow_type};
 ghost use Rattle.bl_transient.specs.Transient.{Trans};
 ghost use Rattle.bl_transient.specs.Verdicts.{Judges};
 
 use crate::moves::{moves_of, roots_of, written_free};
-use crate::search::{reached, rows_of};
+use crate::search::reached;
 use bl_base::{Flow, List, NoMemory, Pos, SiteSet};
 use bl_cmd::WellFormed;
-use bl_graph::{Graph, SinkUse, graph, ranges, variables};
+use bl_graph::{Graph, SinkUse, graph, ranges, rows_of, variables};
 use std::alloc::Global;
 
 /// Whether a set of protected sites keeps transient values from every sink.

@@ -2,7 +2,7 @@ use Rattle.std.proofs.Common.{ℕ, true, slice_index, arith, subst, ◌∙◌}
 use Rattle.std.specs.Prelude.{IsTrue, ◌↔◌}
 use Rattle.std.specs.List.{Contains}
 use Rattle.std.proofs.lemmas.List.{take_all, length-set}
-use Rattle.bl_ct.specs.Finding.{is_in}
+use Rattle.bl_graph.specs.Arcs.{is_in}
 use Rattle.bl_ct.proofs.Ending.{marked_more}
 use Rattle.bl_ct.proofs.ends.marked.Goals as goal
 

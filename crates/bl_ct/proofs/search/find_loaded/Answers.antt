@@ -3,7 +3,8 @@ use Rattle.std.specs.List.{slice_index_or, Contains}
 use Rattle.std.proofs.lemmas.List.{take_more, take_all, get_or-map}
 use Rattle.std.proofs.lemmas.List.Elements.{Contains-get_or}
 use Rattle.bl_ct.specs.declared.search.Cause.TheVariants as cause_
-use Rattle.bl_ct.specs.Finding.{Visits, RowFits, RowAsks, Some_fits, Some_asks, rows_in, row_at}
+use Rattle.bl_graph.specs.Arcs.{rows_in, row_at}
+use Rattle.bl_ct.specs.Finding.{Visits, RowFits, RowAsks, Some_fits, Some_asks}
 use Rattle.bl_ct.proofs.Visiting.{visits_push}
 use Rattle.bl_ct.specs.declared.facts.SecretLoad.{SecretLoad}
 use Rattle.bl_ct.proofs.search.find_loaded.Goals as goal

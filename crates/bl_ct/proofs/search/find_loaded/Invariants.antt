@@ -1,5 +1,6 @@
 use Rattle.std.proofs.Common.{take}
-use Rattle.bl_ct.specs.Finding.{Visits, Some_fits, Some_asks, RowFits, RowAsks, rows_in, row_at}
+use Rattle.bl_graph.specs.Arcs.{rows_in, row_at}
+use Rattle.bl_ct.specs.Finding.{Visits, Some_fits, Some_asks, RowFits, RowAsks}
 use Rattle.bl_ct.specs.declared.search.Cause.TheVariants as cause_
 use Rattle.bl_ct.proofs.search.find_loaded.Given as goal
 

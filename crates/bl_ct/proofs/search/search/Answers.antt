@@ -8,7 +8,8 @@ use Rattle.bl_cmd.specs.declared.definitions.ProgramParts.{ProgramParts as Progr
 use Rattle.bl_ct.specs.declared.search.Step.{Step}
 use Rattle.bl_ct.specs.declared.search.Cause.TheVariants as cause_
 use Rattle.bl_cmd.specs.Sites.{Reads}
-use Rattle.bl_ct.specs.Finding.{Visits, RowFits, RowAsks, Some_fits, Some_asks, rows_in, row_at, Has}
+use Rattle.bl_graph.specs.Arcs.{rows_in, row_at}
+use Rattle.bl_ct.specs.Finding.{Visits, RowFits, RowAsks, Some_fits, Some_asks, Has}
 use Rattle.bl_ct.proofs.Knowing.{range, declared_in, loads_in}
 use Rattle.bl_ct.proofs.Rowing.{elem}
 use Rattle.bl_ct.proofs.Visiting.{search_begins, search_next, search_ends}

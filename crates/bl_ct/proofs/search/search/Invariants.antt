@@ -1,5 +1,6 @@
 use Rattle.std.proofs.Common.{◌+◌, ◌-◌, length}
-use Rattle.bl_ct.specs.Finding.{Searching, unmarked}
+use Rattle.bl_graph.specs.Arcs.{unmarked}
+use Rattle.bl_ct.specs.Finding.{Searching}
 use Rattle.bl_ct.proofs.search.search.Given as goal
 
 abbrev pub invariant-loop-next : goal.invariant-loop-next

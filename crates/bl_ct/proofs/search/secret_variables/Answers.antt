@@ -2,7 +2,8 @@ use Rattle.std.proofs.Common.{◌≡◌, ℕ, sym, subst, ap, ◌∙◌, map}
 use Rattle.std.specs.Prelude.{◌↔◌}
 use Rattle.std.specs.List.{Contains}
 use Rattle.bl_cmd.specs.Sites.{Reads, Writes}
-use Rattle.bl_ct.specs.Finding.{rows_in, row_at, from_site, from_var}
+use Rattle.bl_graph.specs.Arcs.{rows_in, row_at}
+use Rattle.bl_ct.specs.Finding.{from_site, from_var}
 use Rattle.bl_ct.proofs.Rowing.{sites_within, vars_within, written_rows, reader_rows}
 use Rattle.bl_ct.proofs.search.secret_variables.Goals as goal
 

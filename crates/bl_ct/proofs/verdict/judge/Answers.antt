@@ -7,7 +7,8 @@ use Rattle.bl_cmd.specs.declared.definitions.ProgramParts.{ProgramParts as Progr
 use Rattle.bl_graph.specs.SecretChains.{IsSecretChain}
 use Rattle.bl_graph.specs.Secrets.{Demands}
 use Rattle.bl_ct.specs.declared.search.Step.{Step}
-use Rattle.bl_ct.specs.Finding.{is_in, AreEnds, Searched, Has, IsLeak, AreJustified}
+use Rattle.bl_graph.specs.Arcs.{is_in}
+use Rattle.bl_ct.specs.Finding.{AreEnds, Searched, Has, IsLeak, AreJustified}
 use Rattle.bl_ct.specs.Leaks.{LeakFound}
 use Rattle.bl_ct.specs.Verdicts.{IsLeastLabelling, label_of}
 use Rattle.bl_ct.proofs.Excluding.{chain_not}

@@ -3,9 +3,9 @@ use Rattle.std.proofs.lemmas.List.{get_or-map, get_or_default, length-map}
 use Rattle.std.proofs.lemmas.List.Elements.{Contains-get_or}
 use Rattle.std.specs.List.{Contains, slice_index_or}
 use Rattle.bl_base.proofs.Lists.{marked_within}
-use Rattle.bl_transient.proofs.RowLists.{rows_in, given_back}
-use Rattle.bl_transient.specs.Reaching.{IsVisited, row_at}
-use Rattle.bl_transient.proofs.Marks.{search_begins, search_next, search_ends}
+use Rattle.bl_graph.specs.Arcs.{row_at, rows_in}
+use Rattle.bl_transient.specs.Reaching.{IsVisited}
+use Rattle.bl_transient.proofs.Marks.{given_back, search_begins, search_next, search_ends}
 use Rattle.bl_transient.proofs.search.reached.Goals as goal
 
 pub loop-next-init : goal.loop-next-init

@@ -1,5 +1,6 @@
 use Rattle.std.proofs.Common.{◌+◌, ◌-◌, length, map}
-use Rattle.bl_transient.specs.Reaching.{Searching, unmarked}
+use Rattle.bl_graph.specs.Arcs.{unmarked}
+use Rattle.bl_transient.specs.Reaching.{Searching}
 use Rattle.bl_transient.proofs.search.reached.Given as goal
 
 abbrev pub invariant-loop-next : goal.invariant-loop-next

@@ -7,10 +7,10 @@ use Rattle.bl_cmd.specs.declared.definitions.ProgramParts.{ProgramParts}
 use Rattle.bl_graph.specs.Graphs.{use_of}
 use Rattle.bl_graph.specs.Ranges.{commands}
 use Rattle.bl_graph.proofs.Ranging.{in_range}
-use Rattle.bl_transient.specs.Reaching.{AreFree, Reached, RowsOf, is_in, moves_from, roots_from, row_at}
-use Rattle.bl_transient.specs.declared.search.Move.{Move}
+use Rattle.bl_graph.specs.Arcs.{RowsOf, is_in, row_at, rows_in}
+use Rattle.bl_transient.specs.Reaching.{AreFree, Reached, moves_from, roots_from}
+use Rattle.bl_graph.specs.declared.arcs.Arc.{Arc}
 use Rattle.bl_transient.proofs.Judging.{marks_are, rows_within, roots_within, moves_within, writes_within, one_write}
-use Rattle.bl_transient.proofs.RowLists.{rows_in}
 use Rattle.bl_transient.proofs.transient.transients.Goals as goal
 
 pub written_free-requires-clause-within : goal.written_free-requires-clause-within
@@ -31,7 +31,7 @@ rows_of-requires c =
     let free : AreFree c.args.graph.now.writes set written = subst (λ l. AreFree l set written) c.as_slice.ensures c.in_ok-written.ensures in
     let moves : c.deref-3.result.now ≡ moves_from written c.args.graph.now.reads =
     c.deref-3.ensures.value ∙ (c.in_ok-moves.ensures ∙ (ap (λ w. moves_from w c.as_slice-3.result.now) c.deref-2.ensures.value ∙ ap (moves_from written) c.as_slice-3.ensures)) in
-    subst (λ l. All (λ (m : Move). m.from < c.variables.result) l) (sym moves) (moves_within c.args.program.now c.args.graph.now c.requires set written free is c.variables.result c.variables.ensures)
+    subst (λ l. All (λ (m : Arc). m.from < c.variables.result) l) (sym moves) (moves_within c.args.program.now c.args.graph.now c.requires set written free is c.variables.result c.variables.ensures)
 
 pub reached-requires-clause-within : goal.reached-requires-clause-within
 reached-requires-clause-within c =

@@ -5,8 +5,8 @@ use Rattle.std.proofs.lemmas.Bool.{cases_eq}
 use Rattle.std.proofs.lemmas.List.{get_or-set_same, get_or-set_other}
 use Rattle.std.proofs.lemmas.List.Elements.{Contains-push_cases, Contains-append_left, Contains-push}
 use Rattle.bl_base.proofs.Lists.{replicate_or}
-use Rattle.bl_ct.specs.declared.search.Arc.{Arc}
-use Rattle.bl_ct.specs.Finding.{RowsOf, row_at}
+use Rattle.bl_graph.specs.declared.arcs.Arc.{Arc}
+use Rattle.bl_graph.specs.Arcs.{RowsOf, row_at}
 use Rattle.bl_graph.proofs.Members.{none_in}
 
 pub no_rows : (n : ℕ) → RowsOf [] (replicate n [])

@@ -1,6 +1,6 @@
 use Rattle.std.proofs.Common.{◌≡◌, [], replicate}
-use Rattle.bl_ct.specs.Finding.{rows_in}
-use Rattle.bl_ct.proofs.search.empty_rows.Given as goal
+use Rattle.bl_graph.specs.Arcs.{rows_in}
+use Rattle.bl_graph.proofs.arcs.empty_rows.Given as goal
 
 abbrev pub invariant-loop : goal.invariant-loop
 invariant-loop l = rows_in l.rows.items ≡ replicate l.counter []

@@ -1,6 +1,6 @@
 use Rattle.std.proofs.Common.{◌≡◌, length, take}
-use Rattle.bl_ct.specs.Finding.{RowsOf, rows_in}
-use Rattle.bl_ct.proofs.search.rows_of.Given as goal
+use Rattle.bl_graph.specs.Arcs.{RowsOf, rows_in}
+use Rattle.bl_graph.proofs.arcs.rows_of.Given as goal
 
 abbrev pub invariant-loop-arc : goal.invariant-loop-arc
 invariant-loop-arc l = record {
