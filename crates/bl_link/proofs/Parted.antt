@@ -38,7 +38,7 @@ use Rattle.bl_labels.specs.Marked.{is_listed}
 use Rattle.bl_base.specs.Quantity.{limit_of}
 use Rattle.bl_base.specs.declared.quantity.Quantity.TheVariants.{Locals, Results}
 use Rattle.bl_wasm.specs.Limits.{local_count, param_count}
-use Rattle.bl_link.specs.Linkable.{IsPart, IsSound}
+use Rattle.bl_link.specs.Linkable.{IsPart, IsSound, NoSolidus}
 use Rattle.bl_link.specs.Links.{exported, first_value, function, global, indexed, memory, of_function, pair, secret_if, table, with_part}
 use Rattle.bl_link.specs.Parts.{External, Part, Spaces, Store, number, of_kind, space, spaces_of}
 use Rattle.bl_link.specs.Signatures.{signature, value_of}

@@ -16,7 +16,7 @@ use Rattle.bl_wasm.specs.declared.module.Module.{Module}
 use Rattle.bl_link.specs.Growing.{Grows}
 use Rattle.bl_base.specs.Quantity.{limit_of}
 use Rattle.bl_base.specs.declared.quantity.Quantity.TheVariants.{Reserve}
-use Rattle.bl_link.specs.Linkable.{AreParts, IsPart, IsSound}
+use Rattle.bl_link.specs.Linkable.{AreParts, IsPart, IsSound, NoSolidus}
 use Rattle.bl_link.specs.Links.{data_fits, element_fits, initialised, links, nothing, reserves, with_given, with_next, with_part, within_reserve}
 use Rattle.bl_link.specs.Matching.{all_given, given, given_of, matches, named}
 use Rattle.bl_link.specs.Parts.{External, LinkError, Part, Spaces, Store, all_ok, DataRange, ElementRange, Limit, Mismatch, number, on_ok, spaces_of}
