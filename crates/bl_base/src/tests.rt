@@ -19,10 +19,11 @@ fn a_site_set_answers_whether_a_site_was_absent(rt: HostRuntime) -> Result<(), F
         sites.insert(Pos(9))?,
         sites.insert(Pos(2))?,
         sites.insert(Pos(9))?,
+        sites.insert(Pos(4_000_000_000))?,
+        sites.insert(Pos(4_000_000_000))?,
     ];
-    assert_eq!(rt; answers, [true, true, false]);
+    assert_eq!(rt; answers, [true, true, false, true, false]);
     assert!(rt; sites.contains(Pos(2)) && !sites.contains(Pos(3)));
-    assert!(rt; sites.insert(Pos(4_000_000_000))? && !sites.insert(Pos(4_000_000_000))?);
     assert!(rt; sites.contains(Pos(4_000_000_000)) && !sites.contains(Pos(1_048_576)));
     Ok(())
 }
