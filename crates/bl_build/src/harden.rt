@@ -6,7 +6,7 @@ ghost use Rattle.bl_build.specs.Working.{hardened_in};
 use bl_base::NoMemory;
 use bl_cmd::WellFormed;
 use bl_ct::{CtVerdict, constant_time};
-use bl_cut::{least_protects, protect};
+use bl_cut::{least_protects_of, protect};
 use bl_graph::{Certificate, graph};
 use bl_image::encode;
 use std::alloc::Global;
@@ -28,9 +28,9 @@ pub struct Hardened {
 pub fn protect_least(alloc: Global, bare: WellFormed) -> Result<Hardened, NoMemory>
     ensures { IfOk result (λ hardened. IsHardened bare (hardened_in hardened)) }
 {
-    let choice = least_protects(alloc, &bare)?;
+    let facts = graph(alloc, &bare)?;
+    let choice = least_protects_of(alloc, &bare, &facts)?;
     let program = protect(bare, &choice.protects);
-    let facts = graph(alloc, &program)?;
     let verdict = constant_time(alloc, &program, &facts)?;
     let image = encode(alloc, &program)?;
     Ok(Hardened {
