@@ -54,6 +54,15 @@ fn space(
     Ok(numbers)
 }
 
+/// The space of types, of which none is imported.
+fn types_of(alloc: Global, store: &Store, wasm: &Module) -> Result<List<u32>, NoMemory>
+    requires { HasNumbers store.now wasm.now }
+    ensures { IfOk result (λ all. all ≡ range_with_len (length store.now.tree.types) (length wasm.now.types)) }
+{
+    let first = store.tree.types.len();
+    space(alloc, ExportKind::Function, &[], first, wasm.types.len())
+}
+
 /// The spaces of a part whose imports are given those values: what it defines stands behind all that is linked so far.
 pub(crate) fn spaces_of(
     alloc: Global,
@@ -65,13 +74,7 @@ pub(crate) fn spaces_of(
     ensures { IfOk result (λ spaces. spaces ≡ spaces_of_part store.now wasm.now given.now) }
 {
     let tree = &store.tree;
-    let types = space(
-        alloc,
-        ExportKind::Function,
-        &[],
-        tree.types.len(),
-        wasm.types.len(),
-    )?;
+    let types = types_of(alloc, store, wasm)?;
     let functions = space(
         alloc,
         ExportKind::Function,
