@@ -17,7 +17,7 @@ use Rattle.bl_graph.specs.declared.secret.Origin.TheVariants.{Parameter, Global,
 abbrev pub IsSecretParam : Program → ℕ → ℕ → Type 0
 IsSecretParam program function index =
     IsSomeAnd (slice_get program.functions function)
-        (λ defined. IsSomeAnd (slice_get defined.params index) (λ one. one.label ≡ label.Secret))
+    (λ defined. IsSomeAnd (slice_get defined.params index) (λ one. one.label ≡ label.Secret))
 
 -- a global that is declared secret
 abbrev pub IsSecretGlobal : Program → ℕ → Type 0
