@@ -23,16 +23,14 @@ fn step(alloc: Global, r: Residual) -> Result<(Residual, u64, List<Option<u64>>)
     }
 }
 
-#[test]
-fn the_end_rises_until_it_has_no_level(rt: HostRuntime) -> Result<(), Fail> {
-    let n = crossing(rt.alloc())?;
-    let r = packed(rt.alloc(), &n)?.expect(&rt, "a lawful network");
-    assert_eq!(rt; r.amount(), 0);
-    let (r, more, before) = step(rt.alloc(), r)?;
-    assert_eq!(rt; (more, r.amount()), (1, 1));
-    assert_eq!(rt;
-        before.as_slice(),
-        [
+/// What an advance adds, the amount behind it, and the levels before it.
+type Advance = (u64, u64, &'static [Option<u64>]);
+
+static ADVANCES: [Advance; 3] = [
+    (
+        1,
+        1,
+        &[
             Some(0),
             Some(1),
             Some(2),
@@ -48,15 +46,13 @@ fn the_end_rises_until_it_has_no_level(rt: HostRuntime) -> Result<(), Fail> {
             Some(2),
             Some(3),
             Some(4),
-            Some(5)
-        ]
-        .as_slice()
-    );
-    let (r, more, before) = step(rt.alloc(), r)?;
-    assert_eq!(rt; (more, r.amount()), (1, 2));
-    assert_eq!(rt;
-        before.as_slice(),
-        [
+            Some(5),
+        ],
+    ),
+    (
+        1,
+        2,
+        &[
             Some(0),
             Some(1),
             Some(2),
@@ -72,15 +68,13 @@ fn the_end_rises_until_it_has_no_level(rt: HostRuntime) -> Result<(), Fail> {
             Some(2),
             Some(3),
             Some(4),
-            Some(5)
-        ]
-        .as_slice()
-    );
-    let (r, more, before) = step(rt.alloc(), r)?;
-    assert_eq!(rt; (more, r.amount()), (0, 2));
-    assert_eq!(rt;
-        before.as_slice(),
-        [
+            Some(5),
+        ],
+    ),
+    (
+        0,
+        2,
+        &[
             Some(0),
             Some(1),
             Some(2),
@@ -96,23 +90,68 @@ fn the_end_rises_until_it_has_no_level(rt: HostRuntime) -> Result<(), Fail> {
             Some(2),
             Some(3),
             Some(4),
-            Some(5)
-        ]
-        .as_slice()
-    );
+            Some(5),
+        ],
+    ),
+];
+
+/// How many advances of the crossing are as they have to be before the first that isn't.
+fn rising(alloc: Global) -> Result<u32, NoMemory> {
+    let n = crossing(alloc)?;
+    let Some(mut r) = packed(alloc, &n)? else {
+        return Ok(0);
+    };
+    let mut passed = 0u32;
+    for (wanted, amount, before) in &ADVANCES {
+        let (next, more, found) = step(alloc, r)?;
+        let is_right = more == *wanted && next.amount() == *amount && found.as_slice() == *before;
+        if !is_right {
+            break;
+        }
+        r = next;
+        passed = passed.wrapping_add(1);
+    }
+    Ok(passed)
+}
+
+/// Whether nothing flows through the crossing at first.
+fn begins_empty(alloc: Global) -> Result<bool, NoMemory> {
+    let n = crossing(alloc)?;
+    match packed(alloc, &n)? {
+        Some(r) => Ok(r.amount() == 0),
+        None => Ok(false),
+    }
+}
+
+#[test]
+fn the_end_rises_until_it_has_no_level(rt: HostRuntime) -> Result<(), Fail> {
+    assert!(rt; begins_empty(rt.alloc())?);
+    assert_eq!(rt; rising(rt.alloc())?, 3);
     Ok(())
+}
+
+/// How many advances of a ladder add 1 before the first that doesn't, and the amount then.
+fn climbed(alloc: Global) -> Result<Option<(u64, u64)>, NoMemory> {
+    let n = ladder(alloc, 12)?;
+    let Some(mut r) = packed(alloc, &n)? else {
+        return Ok(None);
+    };
+    for before in 0..13u64 {
+        let (next, more, _) = step(alloc, r)?;
+        if more != 1 || next.amount() != before + 1 {
+            return Ok(if more == 0 {
+                Some((before, next.amount()))
+            } else {
+                None
+            });
+        }
+        r = next;
+    }
+    Ok(None)
 }
 
 #[test]
 fn each_level_graph_of_a_ladder_carries_one_path(rt: HostRuntime) -> Result<(), Fail> {
-    let n = ladder(rt.alloc(), 12)?;
-    let mut r = packed(rt.alloc(), &n)?.expect(&rt, "a lawful network");
-    for before in 0..12u64 {
-        let (next, more, _) = step(rt.alloc(), r)?;
-        assert_eq!(rt; (more, next.amount()), (1, before + 1));
-        r = next;
-    }
-    let (r, more, _) = step(rt.alloc(), r)?;
-    assert_eq!(rt; (more, r.amount()), (0, 12));
+    assert_eq!(rt; climbed(rt.alloc())?, Some((12, 12)));
     Ok(())
 }
