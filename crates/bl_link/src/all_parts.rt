@@ -1,6 +1,6 @@
 //! Linking of all parts.
 ghost use Rattle.std.specs.Prelude.{◌≡◌, ◌<◌, ◌^◌, ◌++◌, Ok, filter_map, fold, length, map, nat_le, sum_by, IsTrue, OnOk};
-ghost use Rattle.std.specs.List.{All, enumerate_from, list_all, zip};
+ghost use Rattle.std.specs.List.{enumerate_from, list_all, zip};
 ghost use Rattle.std.specs.Vec.Iter.{into_iter_items};
 ghost use Rattle.bl_base.specs.Quantity.{limit_of};
 ghost use Rattle.bl_base.specs.declared.quantity.Quantity.TheVariants.{Reserve};
