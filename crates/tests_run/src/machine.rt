@@ -186,6 +186,15 @@ const REMAINDER: &[u8] =
 const DEEP: &[u8] =
     b"\0asm\x01\0\0\0\x01\x06\x01`\x01\x7f\x01\x7f\x03\x02\x01\0\n\x13\x01\x11\0 \0\x04@ \0A\x01k\x10\0\x1a\x0bA\x07\x0b";
 
+/// [i32] -> [i32]: calls itself as often as the argument says, and then what is in slot 0, a function that gives 7, at its own type:
+/// local.get 0, if (i32), local.get 0, i32.const 1, i32.sub, call 0, else, i32.const 0, call_indirect 1, end.
+const DEEP_SLOT: &[u8] =
+    b"\0asm\x01\0\0\0\x01\x0d\x03`\x01\x7f\x01\x7f`\0\x01\x7f`\0\0\x03\x03\x02\0\x01\x04\x04\x01p\0\x01\x09\x07\x01\0A\0\x0b\x01\x01\n\x1b\x02\x14\0 \0\x04\x7f \0A\x01k\x10\0\x05A\0\x11\x01\0\x0b\x0b\x04\0A\x07\x0b";
+
+/// The same at another type, and then i32.const 3.
+const DEEP_OTHER_TYPE: &[u8] =
+    b"\0asm\x01\0\0\0\x01\x0d\x03`\x01\x7f\x01\x7f`\0\x01\x7f`\0\0\x03\x03\x02\0\x01\x04\x04\x01p\0\x01\x09\x07\x01\0A\0\x0b\x01\x01\n\x1d\x02\x16\0 \0\x04\x7f \0A\x01k\x10\0\x05A\0\x11\x02\0A\x03\x0b\x0b\x04\0A\x07\x0b";
+
 /// [i32] -> [i32] with a second local: adds up the numbers to the argument: block, loop, local.get 0, i32.eqz, br_if 1, local.get 1,
 /// local.get 0, i32.add, local.set 1, local.get 0, i32.const 1, i32.sub, local.set 0, br 0, end, end, local.get 1.
 const ADDING: &[u8] =
@@ -351,9 +360,27 @@ static DEPTHS: [Case; 3] = [
     (DEEP, &[1_024], MANY, End::Trapped(Trap::StackExhausted)),
 ];
 
+/// The type is tested before the depth.
+static DEPTHS_BY_SLOT: [Case; 3] = [
+    (DEEP_SLOT, &[1_022], MANY, End::Returned(&[7])),
+    (
+        DEEP_SLOT,
+        &[1_023],
+        MANY,
+        End::Trapped(Trap::StackExhausted),
+    ),
+    (
+        DEEP_OTHER_TYPE,
+        &[1_023],
+        MANY,
+        End::Trapped(Trap::TypeMismatch),
+    ),
+];
+
 #[test]
 fn calls_are_1024_deep_at_most(rt: HostRuntime) -> Result<(), Fail> {
     assert_eq!(rt; passing(rt.alloc(), &DEPTHS)?, 3);
+    assert_eq!(rt; passing(rt.alloc(), &DEPTHS_BY_SLOT)?, 3);
     Ok(())
 }
 
