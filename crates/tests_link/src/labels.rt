@@ -41,96 +41,148 @@ fn fault(alloc: Global, first: &[u8], second: &[u8]) -> Result<Option<LabelError
     }
 }
 
-#[test]
-fn entries_are_labels_in_their_order(rt: HostRuntime) -> Result<(), Fail> {
-    let alloc = rt.alloc();
-    let section = b"\0\x19\x0cblade.labels\x02\x04\x02\0\0\x01\0\x03\x01\0\x04\0";
-    let Some(Ok(labels)) = answer(alloc, OWN, section)? else {
-        assert!(rt; false);
-        return Ok(());
-    };
+/// Whether that module has labels.
+fn is_labelled(alloc: Global, first: &[u8], second: &[u8]) -> Result<bool, Fail> {
+    Ok(matches!(&answer(alloc, first, second)?, Some(Ok(_))))
+}
+
+/// How many of these sections behind `OWN` have such a fault before the first that hasn't.
+fn refused(alloc: Global, sections: &[(&[u8], LabelError)]) -> Result<u32, Fail> {
+    let mut passed = 0u32;
+    for (section, error) in sections {
+        if fault(alloc, OWN, *section)? != Some(*error) {
+            break;
+        }
+        passed = passed.wrapping_add(1);
+    }
+    Ok(passed)
+}
+
+/// Whether the labels are those of a parameter, a memory, a result and a global.
+fn are_entries(labels: &Labels) -> bool {
     let place = Place {
         function: 1,
         index: 0,
     };
-    assert_eq!(rt; labels.params.as_slice(), [place].as_slice());
-    assert_eq!(rt; labels.globals.len(), 0);
-    assert_eq!(rt; labels.memories.as_slice(), [0].as_slice());
-    assert_eq!(rt; labels.results.as_slice(), [place].as_slice());
-    assert_eq!(rt; labels.demanded.as_slice(), [0].as_slice());
+    labels.params.as_slice() == [place].as_slice()
+        && labels.globals.len() == 0
+        && labels.memories.as_slice() == [0].as_slice()
+        && labels.results.as_slice() == [place].as_slice()
+        && labels.demanded.as_slice() == [0].as_slice()
+}
+
+/// Whether a section of four entries gives those labels.
+fn names_entries(alloc: Global) -> Result<bool, Fail> {
+    let section = b"\0\x19\x0cblade.labels\x02\x04\x02\0\0\x01\0\x03\x01\0\x04\0";
+    match answer(alloc, OWN, section)? {
+        Some(Ok(labels)) => Ok(are_entries(&labels)),
+        _ => Ok(false),
+    }
+}
+
+#[test]
+fn entries_are_labels_in_their_order(rt: HostRuntime) -> Result<(), Fail> {
+    assert!(rt; names_entries(rt.alloc())?);
     Ok(())
+}
+
+/// Whether the one global is named by a section before all others.
+fn names_before(alloc: Global) -> Result<bool, Fail> {
+    let section = b"\0\x11\x0cblade.labels\x01\x01\x01\0";
+    match answer(alloc, section, OWN)? {
+        Some(Ok(labels)) => Ok(labels.globals.as_slice() == [0].as_slice()),
+        _ => Ok(false),
+    }
 }
 
 #[test]
 fn a_section_may_stand_before_all_others(rt: HostRuntime) -> Result<(), Fail> {
-    let section = b"\0\x11\x0cblade.labels\x01\x01\x01\0";
-    let Some(Ok(labels)) = answer(rt.alloc(), section, OWN)? else {
-        assert!(rt; false);
-        return Ok(());
-    };
-    assert_eq!(rt; labels.globals.as_slice(), [0].as_slice());
+    assert!(rt; names_before(rt.alloc())?);
     Ok(())
+}
+
+/// Whether a section of another name gives no labels.
+fn names_nothing(alloc: Global) -> Result<bool, Fail> {
+    match answer(alloc, OWN, b"\0\x0d\x0cblade.label.")? {
+        Some(Ok(labels)) => Ok(labels.params.len() == 0 && labels.memories.len() == 0),
+        _ => Ok(false),
+    }
 }
 
 #[test]
 fn without_a_section_nothing_is_named(rt: HostRuntime) -> Result<(), Fail> {
-    let Some(Ok(labels)) = answer(rt.alloc(), OWN, b"\0\x0d\x0cblade.label.")? else {
-        assert!(rt; false);
-        return Ok(());
-    };
-    assert_eq!(rt; labels.params.len(), 0);
-    assert_eq!(rt; labels.memories.len(), 0);
+    assert!(rt; names_nothing(rt.alloc())?);
     Ok(())
+}
+
+/// Whether version 1 takes a secret and no demand, and version 2 takes both.
+fn demands_are_new(alloc: Global) -> Result<bool, Fail> {
+    let secret = b"\0\x12\x0cblade.labels\x01\x01\0\0\0";
+    let demand = b"\0\x15\x0cblade.labels\x01\x02\0\0\0\x03\0\0";
+    let later = b"\0\x15\x0cblade.labels\x02\x02\0\0\0\x03\0\0";
+    Ok(
+        is_labelled(alloc, IDENTITY, secret)?
+            && fault(alloc, IDENTITY, demand)? == Some(LabelError::Malformed)
+            && is_labelled(alloc, IDENTITY, later)?,
+    )
 }
 
 #[test]
 fn version_1_has_no_demands(rt: HostRuntime) -> Result<(), Fail> {
-    let alloc = rt.alloc();
-    let secret = b"\0\x12\x0cblade.labels\x01\x01\0\0\0";
-    let one = answer(alloc, IDENTITY, secret)?;
-    assert!(rt; matches!(one, Some(Ok(_))));
-    let demand = b"\0\x15\x0cblade.labels\x01\x02\0\0\0\x03\0\0";
-    let refused = fault(alloc, IDENTITY, demand)?;
-    assert_eq!(rt; refused, Some(LabelError::Malformed));
-    let later = b"\0\x15\x0cblade.labels\x02\x02\0\0\0\x03\0\0";
-    let both = answer(alloc, IDENTITY, later)?;
-    assert!(rt; matches!(both, Some(Ok(_))));
+    assert!(rt; demands_are_new(rt.alloc())?);
     Ok(())
 }
+
+static MALFORMED: [(&[u8], LabelError); 2] = [
+    (b"\0\x0f\x0cblade.labels\0\0", LabelError::Malformed),
+    (
+        b"\0\x12\x0cblade.labels\x01\x01\x02\0\0",
+        LabelError::Malformed,
+    ),
+];
 
 #[test]
 fn bytes_outside_the_grammar_are_malformed(rt: HostRuntime) -> Result<(), Fail> {
-    let alloc = rt.alloc();
-    let version = fault(alloc, OWN, b"\0\x0f\x0cblade.labels\0\0")?;
-    assert_eq!(rt; version, Some(LabelError::Malformed));
-    let longer = fault(alloc, OWN, b"\0\x12\x0cblade.labels\x01\x01\x02\0\0")?;
-    assert_eq!(rt; longer, Some(LabelError::Malformed));
+    assert_eq!(rt; refused(rt.alloc(), &MALFORMED)?, 2);
     Ok(())
 }
+
+static BROKEN: [(&[u8], LabelError); 5] = [
+    (
+        b"\0\x13\x0cblade.labels\x01\x02\x02\0\x02\0",
+        LabelError::Twice,
+    ),
+    (
+        b"\0\x11\x0cblade.labels\x01\x01\x01\x01",
+        LabelError::OutOfRange,
+    ),
+    (
+        b"\0\x12\x0cblade.labels\x01\x01\0\0\x01",
+        LabelError::OutOfRange,
+    ),
+    (
+        b"\0\x12\x0cblade.labels\x01\x01\0\0\0",
+        LabelError::OnImport,
+    ),
+    (
+        b"\0\x13\x0cblade.labels\x02\x02\x01\0\x04\0",
+        LabelError::Both,
+    ),
+];
 
 #[test]
 fn the_first_rule_that_is_broken_is_named(rt: HostRuntime) -> Result<(), Fail> {
-    let alloc = rt.alloc();
-    let twice = fault(alloc, OWN, b"\0\x13\x0cblade.labels\x01\x02\x02\0\x02\0")?;
-    assert_eq!(rt; twice, Some(LabelError::Twice));
-    let global = fault(alloc, OWN, b"\0\x11\x0cblade.labels\x01\x01\x01\x01")?;
-    assert_eq!(rt; global, Some(LabelError::OutOfRange));
-    let param = fault(alloc, OWN, b"\0\x12\x0cblade.labels\x01\x01\0\0\x01")?;
-    assert_eq!(rt; param, Some(LabelError::OutOfRange));
-    let import = fault(alloc, OWN, b"\0\x12\x0cblade.labels\x01\x01\0\0\0")?;
-    assert_eq!(rt; import, Some(LabelError::OnImport));
-    let both = fault(alloc, OWN, b"\0\x13\x0cblade.labels\x02\x02\x01\0\x04\0")?;
-    assert_eq!(rt; both, Some(LabelError::Both));
+    assert_eq!(rt; refused(rt.alloc(), &BROKEN)?, 5);
     Ok(())
 }
 
+static TWO_SECTIONS: [(&[u8], LabelError); 1] = [(
+    b"\0\x0f\x0cblade.labels\0\0\0\x0f\x0cblade.labels\x01\0",
+    LabelError::Twice,
+)];
+
 #[test]
 fn two_sections_are_one_too_many(rt: HostRuntime) -> Result<(), Fail> {
-    let found = fault(
-        rt.alloc(),
-        OWN,
-        b"\0\x0f\x0cblade.labels\0\0\0\x0f\x0cblade.labels\x01\0",
-    )?;
-    assert_eq!(rt; found, Some(LabelError::Twice));
+    assert_eq!(rt; refused(rt.alloc(), &TWO_SECTIONS)?, 1);
     Ok(())
 }

@@ -2,7 +2,9 @@
 //! the others break one rule each.
 
 use crate::parts::linked;
+use bl_base::List;
 use bl_link::LinkError;
+use bl_wasm::{Exports, Memory};
 use std::alloc::Global;
 use std::test::Fail;
 
@@ -39,68 +41,91 @@ static WITHIN: &[u8] =
     b"\0asm\x01\0\0\0\x01\x06\x01`\x01\x7f\x01\x7f\x02\x16\x03\x01a\x01f\0\0\x01a\x01t\x01p\0\0\x01a\x01m\x02\0\0\x09\x0d\
       \x02\0A\0\x0b\x01\0\0A\x03\x0b\x01\0\x0b\x09\x01\0A\x80\x80\x04\x0b\x01\x05";
 
-/// The fault of linking the first module and another; None where there is none.
-fn fault(alloc: Global, second: &[u8]) -> Result<Option<LinkError>, Fail> {
-    match linked(alloc, [("a", FIRST), ("b", second)].as_slice())? {
-        Some(Err(error)) => Ok(Some(error)),
-        _ => Ok(None),
-    }
+/// Whether those are the exports of the three modules.
+fn has_exports(exports: &Exports) -> bool {
+    exports.len() == 4
+        && exports.find("a/f") == Some(0)
+        && exports.find("b/h") == Some(1)
+        && exports.find("b/f") == Some(0)
+        && exports.find("c/k") == Some(2)
+}
+
+/// Whether the first table is the one that the second module writes.
+fn has_slots(tables: &[List<Option<u32>>]) -> bool {
+    let slots = tables.first().map(|table| table.as_slice());
+    matches!(slots, Some([Some(0), Some(1), Some(0), None]))
+}
+
+/// Whether the first memory has the bytes that both modules write, a page and its reserve.
+fn has_bytes(memories: &[Memory]) -> bool {
+    let Some(memory) = memories.first() else {
+        return false;
+    };
+    let bytes = memory.bytes.as_slice();
+    matches!(bytes, [0, 0, 0, 0, 0, 0, 0, 9, 0, 0, 1, 8, 7, 4, 0, ..])
+        && bytes.len() == 65_536
+        && memory.reserve == 3
+}
+
+/// Whether the three modules are linked so.
+fn are_linked(alloc: Global) -> Result<bool, Fail> {
+    let modules = [("a", FIRST), ("b", SECOND), ("c", THIRD)];
+    let Some(Ok(linked)) = linked(alloc, modules.as_slice())? else {
+        return Ok(false);
+    };
+    let tree = linked.tree();
+    Ok(
+        has_exports(&tree.exports)
+            && has_slots(tree.tables.as_slice())
+            && has_bytes(tree.memories.as_slice()),
+    )
 }
 
 #[test]
 fn modules_are_linked(rt: HostRuntime) -> Result<(), Fail> {
-    let alloc = rt.alloc();
-    let modules = [("a", FIRST), ("b", SECOND), ("c", THIRD)];
-    let Some(Ok(linked)) = linked(alloc, modules.as_slice())? else {
-        assert!(rt; false);
-        return Ok(());
-    };
-    let tree = linked.tree();
-    assert_eq!(rt; tree.exports.len(), 4);
-    assert_eq!(rt; tree.exports.find("a/f"), Some(0));
-    assert_eq!(rt; tree.exports.find("b/h"), Some(1));
-    assert_eq!(rt; tree.exports.find("b/f"), Some(0));
-    assert_eq!(rt; tree.exports.find("c/k"), Some(2));
-    let slots = tree.tables.as_slice().first().map(|table| table.as_slice());
-    assert!(rt; matches!(slots, Some([Some(0), Some(1), Some(0), None])));
-    let bytes = tree
-        .memories
-        .as_slice()
-        .first()
-        .map(|one| one.bytes.as_slice());
-    assert!(rt;
-        matches!(
-            bytes,
-            Some([0, 0, 0, 0, 0, 0, 0, 9, 0, 0, 1, 8, 7, 4, 0, ..])
-        )
-    );
-    assert_eq!(rt; bytes.map(|all| all.len()), Some(65_536));
-    assert_eq!(rt;
-        tree.memories.as_slice().first().map(|one| one.reserve),
-        Some(3)
-    );
+    assert!(rt; are_linked(rt.alloc())?);
     Ok(())
+}
+
+/// Whether linking those modules has that fault.
+fn is_refused(alloc: Global, modules: [(&str, &[u8]); 2], wanted: LinkError) -> Result<bool, Fail> {
+    match linked(alloc, modules.as_slice())? {
+        Some(Err(error)) => Ok(error == wanted),
+        _ => Ok(false),
+    }
 }
 
 #[test]
 fn an_import_of_a_later_module_is_unknown(rt: HostRuntime) -> Result<(), Fail> {
-    let modules = [("b", SECOND), ("a", FIRST)];
-    let found = linked(rt.alloc(), modules.as_slice())?;
-    assert!(rt; matches!(found, Some(Err(LinkError::Unknown { part: 0, import: 0 }))));
+    let wanted = LinkError::Unknown { part: 0, import: 0 };
+    assert!(rt; is_refused(rt.alloc(), [("b", SECOND), ("a", FIRST)], wanted)?);
     Ok(())
 }
 
 #[test]
 fn a_table_without_a_maximum_does_not_match_one(rt: HostRuntime) -> Result<(), Fail> {
-    let found = fault(rt.alloc(), BOUNDED)?;
-    assert_eq!(rt; found, Some(LinkError::Mismatch { part: 1, import: 0 }));
+    let wanted = LinkError::Mismatch { part: 1, import: 0 };
+    assert!(rt; is_refused(rt.alloc(), [("a", FIRST), ("b", BOUNDED)], wanted)?);
     Ok(())
+}
+
+/// Whether a byte beyond the memory counts where both element segments are in the table alone.
+fn elements_are_first(alloc: Global) -> Result<bool, Fail> {
+    Ok(
+        is_refused(
+            alloc,
+            [("a", FIRST), ("b", BEYOND)],
+            LinkError::ElementRange(1),
+        )? && is_refused(
+            alloc,
+            [("a", FIRST), ("b", WITHIN)],
+            LinkError::DataRange(1),
+        )?,
+    )
 }
 
 #[test]
 fn all_element_segments_are_tested_before_data(rt: HostRuntime) -> Result<(), Fail> {
-    let alloc = rt.alloc();
-    assert_eq!(rt; fault(alloc, BEYOND)?, Some(LinkError::ElementRange(1)));
-    assert_eq!(rt; fault(alloc, WITHIN)?, Some(LinkError::DataRange(1)));
+    assert!(rt; elements_are_first(rt.alloc())?);
     Ok(())
 }

@@ -1,6 +1,7 @@
-use bl_base::{Pos, SiteSet};
+use bl_base::{NoMemory, Pos, SiteSet};
 use bl_cmd::weight;
 use bl_image::{ImageError, decode_image, encode};
+use std::alloc::Global;
 use std::test::Fail;
 
 /// The image of the empty module.
@@ -45,168 +46,222 @@ static DEMANDED: [u8; 41] = [
     0x02, 0x00, 0x00, 0x07, 0x00, 0x00, 0x00, 0x02, 0x08,
 ];
 
+/// Whether an image is read, and written as it was.
+fn is_read_again(alloc: Global, image: &[u8]) -> Result<bool, Fail> {
+    let program = decode_image(alloc, image)?;
+    let bytes = encode(alloc, &program)?;
+    Ok(bytes.as_slice() == image)
+}
+
+/// How many of the images are read again before the first that isn't.
+fn read_again(alloc: Global) -> Result<u32, Fail> {
+    let images: [&[u8]; 6] = [&EMPTY, &INC, &LOADS, &GROWTH, &VAULT, &DEMANDED];
+    let mut passed = 0u32;
+    for image in images {
+        if !is_read_again(alloc, image)? {
+            break;
+        }
+        passed = passed.wrapping_add(1);
+    }
+    Ok(passed)
+}
+
 #[test]
 fn an_image_is_read_and_written_again(rt: HostRuntime) -> Result<(), Fail> {
-    let images: [&[u8]; 6] = [&EMPTY, &INC, &LOADS, &GROWTH, &VAULT, &DEMANDED];
-    for image in images {
-        let program = decode_image(rt.alloc(), image)?;
-        let bytes = encode(rt.alloc(), &program)?;
-        assert_eq!(rt; bytes.as_slice(), image);
-    }
+    assert_eq!(rt; read_again(rt.alloc())?, 6);
     Ok(())
+}
+
+/// Whether bytes are refused so.
+fn is_refused(alloc: Global, bytes: &[u8], error: ImageError) -> bool {
+    let found = decode_image(alloc, bytes);
+    matches!(&found, Err(other) if *other == error)
+}
+
+/// How many prefixes of an image are no image before the first that is one.
+fn prefixes(alloc: Global) -> u32 {
+    let mut passed = 0u32;
+    for length in 0..INC.len() {
+        if !is_refused(alloc, &INC[..length], ImageError::NotAnImage) {
+            break;
+        }
+        passed = passed.wrapping_add(1);
+    }
+    passed
 }
 
 #[test]
 fn no_proper_prefix_is_an_image(rt: HostRuntime) -> Result<(), Fail> {
-    for length in 0..INC.len() {
-        let found = decode_image(rt.alloc(), &INC[..length]);
-        assert!(rt; matches!(&found, Err(ImageError::NotAnImage)));
-    }
+    assert_eq!(rt; prefixes(rt.alloc()), 53);
     Ok(())
 }
 
-/// Whether an image with one byte changed is answered so.
-fn answers(
-    rt: &HostRuntime,
-    image: &[u8],
-    change: (usize, u8),
-    error: ImageError,
-) -> Result<bool, Fail> {
-    let (at, byte) = change;
-    let mut bytes = image.to_vec(rt.alloc())?;
+/// An image with one byte changed.
+fn changed(alloc: Global, image: &[u8], at: usize, byte: u8) -> Result<Vec<u8>, NoMemory> {
+    let mut bytes = image.to_vec(alloc)?;
     if at < bytes.len() {
         bytes[at] = byte;
     }
-    let found = decode_image(rt.alloc(), &bytes);
-    Ok(matches!(&found, Err(other) if *other == error))
+    Ok(bytes)
 }
 
-/// That a rule of well-formed programs is broken at a position.
-fn breaks(rule: u8, position: u32) -> ImageError {
-    ImageError::IllFormed {
-        rule,
-        position: Pos(position),
+/// A changed byte of an image, and the rule that is broken then, with the position; None where the bytes are no image.
+type Change = (usize, u8, Option<(u8, u32)>);
+
+/// The error of a broken rule at a position, or of bytes that are no image.
+fn error_of(broken: Option<(u8, u32)>) -> ImageError {
+    match broken {
+        Some((rule, position)) => ImageError::IllFormed {
+            rule,
+            position: Pos(position),
+        },
+        None => ImageError::NotAnImage,
     }
+}
+
+/// How many changes of an image are answered so before the first that isn't.
+fn answered(alloc: Global, image: &[u8], changes: &[Change]) -> Result<u32, NoMemory> {
+    let mut passed = 0u32;
+    for (at, byte, broken) in changes {
+        let bytes = changed(alloc, image, *at, *byte)?;
+        if !is_refused(alloc, &bytes, error_of(*broken)) {
+            break;
+        }
+        passed = passed.wrapping_add(1);
+    }
+    Ok(passed)
+}
+
+static CHANGES: [Change; 7] = [
+    (0, 0x43, None),
+    (13, 0x04, Some((4, 10))),
+    (14, 0x05, None),
+    (14, 0x07, None),
+    (24, 0x01, Some((3, 0))),
+    (26, 0x0D, Some((5, 7))),
+    (28, 0x07, None),
+];
+
+/// Whether another entry of the function makes another image.
+fn is_another(alloc: Global) -> Result<bool, Fail> {
+    let bytes = changed(alloc, &INC, 28, 0x08)?;
+    is_read_again(alloc, &bytes)
 }
 
 #[test]
 fn a_changed_byte_is_answered(rt: HostRuntime) -> Result<(), Fail> {
-    let not = ImageError::NotAnImage;
-    assert!(rt; answers(&rt, &INC, (0, 0x43), not)?);
-    assert!(rt; answers(&rt, &INC, (13, 0x04), breaks(4, 10))?);
-    assert!(rt; answers(&rt, &INC, (14, 0x05), not)?);
-    assert!(rt; answers(&rt, &INC, (14, 0x07), not)?);
-    assert!(rt; answers(&rt, &INC, (24, 0x01), breaks(3, 0))?);
-    assert!(rt; answers(&rt, &INC, (26, 0x0D), breaks(5, 7))?);
-    assert!(rt; answers(&rt, &INC, (28, 0x07), not)?);
-    let mut bytes = INC.to_vec(rt.alloc())?;
-    if bytes.len() > 28 {
-        bytes[28] = 0x08;
-    }
-    let program = decode_image(rt.alloc(), &bytes)?;
-    assert_eq!(rt; encode(rt.alloc(), &program)?.as_slice(), bytes.as_slice());
+    assert_eq!(rt; answered(rt.alloc(), &INC, &CHANGES)?, 7);
+    assert!(rt; is_another(rt.alloc())?);
     Ok(())
 }
+
+static EMPTY_FUNCTION: [u8; 13] = [
+    0x42, 0x4C, 0x49, 0x4D, 0x01, 0x00, 0x00, 0x01, 0x00, 0x00, 0x00, 0x00, 0x00,
+];
+
+static BREAKS: [Change; 9] = [
+    // a reserve of 512 pages
+    (9, 0x04, Some((1, 0))),
+    (25, 0x01, Some((3, 0))),
+    // a variable of no function is read, and the result is written by a Set
+    (33, 0x08, Some((4, 8))),
+    (31, 0x02, Some((4, 8))),
+    (27, 0x11, Some((5, 7))),
+    // the function has one result
+    (82, 0x01, Some((6, 15))),
+    // a bounds test of five bytes before a load of four, and a jump over the tests to the load
+    (43, 0x05, Some((7, 11))),
+    (27, 0x0B, Some((7, 11))),
+    // the size is written outside a growth
+    (31, 0x00, Some((8, 8))),
+];
+
+// the growth is tested against three pages, where the memory's reserve is two
+static GROWN: [Change; 1] = [(30, 0x03, Some((8, 11)))];
 
 #[test]
 fn a_program_that_breaks_one_rule_is_told_it(rt: HostRuntime) -> Result<(), Fail> {
-    let empty_function = [
-        0x42, 0x4C, 0x49, 0x4D, 0x01, 0x00, 0x00, 0x01, 0x00, 0x00, 0x00, 0x00, 0x00,
-    ];
-    let found = decode_image(rt.alloc(), &empty_function);
-    assert!(rt; matches!(&found, Err(other) if *other == breaks(2, 0)));
-    let changes = [
-        // a reserve of 512 pages
-        ((9, 0x04), breaks(1, 0)),
-        ((25, 0x01), breaks(3, 0)),
-        // a variable of no function is read, and the result is written by a Set
-        ((33, 0x08), breaks(4, 8)),
-        ((31, 0x02), breaks(4, 8)),
-        ((27, 0x11), breaks(5, 7)),
-        // the function has one result
-        ((82, 0x01), breaks(6, 15)),
-        // a bounds test of five bytes before a load of four, and a jump over the tests to the load
-        ((43, 0x05), breaks(7, 11)),
-        ((27, 0x0B), breaks(7, 11)),
-        // the size is written outside a growth
-        ((31, 0x00), breaks(8, 8)),
-    ];
-    for (change, error) in changes {
-        assert!(rt; answers(&rt, &LOADS, change, error)?);
-    }
-    // the growth is tested against three pages, where the memory's reserve is two
-    assert!(rt; answers(&rt, &GROWTH, (30, 0x03), breaks(8, 11))?);
+    assert!(rt; is_refused(rt.alloc(), &EMPTY_FUNCTION, error_of(Some((2, 0)))));
+    assert_eq!(rt; answered(rt.alloc(), &LOADS, &BREAKS)?, 9);
+    assert_eq!(rt; answered(rt.alloc(), &GROWTH, &GROWN)?, 1);
     Ok(())
 }
+
+// rule 4 at 8 stands before rule 7 at 11; of rules 6 and 7 at one position, the lower is told
+static SECOND_BREAKS: [Change; 2] = [(33, 0x08, Some((4, 8))), (52, 0x01, Some((6, 11)))];
 
 #[test]
 fn of_two_broken_rules_the_first_is_told(rt: HostRuntime) -> Result<(), Fail> {
-    let mut bytes = LOADS.to_vec(rt.alloc())?;
-    if bytes.len() > 43 {
-        bytes[43] = 0x05;
-    }
-    // rule 4 at 8 stands before rule 7 at 11; of rules 6 and 7 at one position, the lower is told
-    assert!(rt; answers(&rt, &bytes, (33, 0x08), breaks(4, 8))?);
-    assert!(rt; answers(&rt, &bytes, (52, 0x01), breaks(6, 11))?);
+    let bytes = changed(rt.alloc(), &LOADS, 43, 0x05)?;
+    assert_eq!(rt; answered(rt.alloc(), &bytes, &SECOND_BREAKS)?, 2);
     Ok(())
 }
 
-#[test]
-fn listed_weights_take_the_place_of_those_of_marks(rt: HostRuntime) -> Result<(), Fail> {
-    let mut bytes = LOADS[..26].to_vec(rt.alloc())?;
-    // no demands; the Set at 9 weighs 5
+/// The image of the loads with no demands, where the Set at 9 weighs 5 and the mark of the Set at 8 has depth 2.
+fn listed(alloc: Global) -> Result<Vec<u8>, NoMemory> {
+    let mut bytes = LOADS[..26].to_vec(alloc)?;
     bytes.extend_from_slice(&[0x00, 0x01, 0x09, 0x05])?;
     bytes.extend_from_slice(&LOADS[26..])?;
     if bytes.len() > 33 {
         bytes[4] = 0x02;
-        // the mark of the Set at 8 has depth 2
         bytes[33] = 0x02;
     }
-    let program = decode_image(rt.alloc(), &bytes)?;
-    let mut protects = SiteSet::new(rt.alloc());
+    Ok(bytes)
+}
+
+/// The sites at 8, 9 and 10.
+fn three_sites(alloc: Global) -> Result<SiteSet, NoMemory> {
+    let mut protects = SiteSet::new(alloc);
     for at in [8, 9, 10] {
         protects.insert(Pos(at))?;
     }
-    // 100 for the mark, 5 as listed; at 10 stands no site
-    assert_eq!(rt; weight(&program, &protects), 105);
+    Ok(protects)
+}
+
+/// Whether the sites weigh 100 for the mark and 5 as listed; at 10 stands no site.
+fn is_weighed(alloc: Global) -> Result<bool, Fail> {
+    let bytes = listed(alloc)?;
+    let program = decode_image(alloc, &bytes)?;
+    let protects = three_sites(alloc)?;
+    Ok(weight(&program, &protects) == 105)
+}
+
+#[test]
+fn listed_weights_take_the_place_of_those_of_marks(rt: HostRuntime) -> Result<(), Fail> {
+    assert!(rt; is_weighed(rt.alloc())?);
     Ok(())
+}
+
+/// The image of a function that adds 1, with a number in a longer spelling.
+fn longer(alloc: Global) -> Result<Vec<u8>, NoMemory> {
+    let mut bytes = INC[..13].to_vec(alloc)?;
+    bytes.extend_from_slice(&[0x85, 0x00])?;
+    bytes.extend_from_slice(&INC[14..])?;
+    Ok(bytes)
 }
 
 #[test]
 fn a_longer_spelling_is_no_image(rt: HostRuntime) -> Result<(), Fail> {
-    let mut bytes = INC[..13].to_vec(rt.alloc())?;
-    bytes.extend_from_slice(&[0x85, 0x00])?;
-    bytes.extend_from_slice(&INC[14..])?;
-    let found = decode_image(rt.alloc(), &bytes);
-    assert!(rt; matches!(&found, Err(ImageError::NotAnImage)));
+    let bytes = longer(rt.alloc())?;
+    assert!(rt; is_refused(rt.alloc(), &bytes, ImageError::NotAnImage));
     Ok(())
 }
+
+static NO_RESULT: [Change; 1] = [(25, 0x01, Some((9, 0)))];
 
 #[test]
 fn a_demand_of_a_result_that_does_not_exist(rt: HostRuntime) -> Result<(), Fail> {
-    let mut bytes = DEMANDED.to_vec(rt.alloc())?;
-    if bytes.len() > 25 {
-        bytes[25] = 0x01;
-    }
-    let found = decode_image(rt.alloc(), &bytes);
-    assert!(rt;
-        matches!(
-            &found,
-            Err(ImageError::IllFormed {
-                rule: 9,
-                position: Pos(0)
-            })
-        )
-    );
+    assert_eq!(rt; answered(rt.alloc(), &DEMANDED, &NO_RESULT)?, 1);
     Ok(())
 }
 
+/// Version 2 without demands and weights.
+static NEEDLESS: [u8; 11] = [
+    0x42, 0x4C, 0x49, 0x4D, 0x02, 0x00, 0x00, 0x00, 0x00, 0x00, 0x00,
+];
+
 #[test]
 fn version_2_without_demands_and_weights_is_no_image(rt: HostRuntime) -> Result<(), Fail> {
-    let bytes = [
-        0x42, 0x4C, 0x49, 0x4D, 0x02, 0x00, 0x00, 0x00, 0x00, 0x00, 0x00,
-    ];
-    let found = decode_image(rt.alloc(), &bytes);
-    assert!(rt; matches!(&found, Err(ImageError::NotAnImage)));
+    assert!(rt; is_refused(rt.alloc(), &NEEDLESS, ImageError::NotAnImage));
     Ok(())
 }

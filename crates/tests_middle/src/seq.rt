@@ -5,7 +5,7 @@ ghost use Rattle.bl_cmd.specs.declared.definitions.MemoryDef.{MemoryDef};
 ghost use Rattle.bl_cmd.specs.declared.definitions.ParamDef.{ParamDef};
 
 use crate::image::{INC, LOADS};
-use bl_base::{List, NoMemory, Run, Start, Trap, ValueType, fits};
+use bl_base::{List, NoMemory, Pages, Run, Start, Trap, ValueType, fits};
 use bl_cmd::{FunctionDef, ProgramParts, WellFormed};
 use bl_image::decode_image;
 use bl_seq::run;
@@ -66,32 +66,54 @@ fn outcome(alloc: Global, image: &[u8], argument: u64, steps: u64) -> Result<Opt
     Ok(Some(run(alloc, &program, 0, &start, steps)?))
 }
 
+/// Whether the run of `INC` with the greatest argument returns 0 within six steps.
+fn returns(alloc: Global) -> Result<bool, Fail> {
+    match outcome(alloc, &INC, 4_294_967_295, 6)? {
+        Some(Run::Returned { values, memories }) => {
+            Ok(values.as_slice() == [0].as_slice() && memories.is_empty())
+        }
+        _ => Ok(false),
+    }
+}
+
+/// Whether five steps are too few for it.
+fn is_spent(alloc: Global) -> Result<bool, Fail> {
+    Ok(matches!(&outcome(alloc, &INC, 4_294_967_295, 5)?, Some(Run::Spent)))
+}
+
+/// Whether an argument of 33 bits fits no start.
+fn is_unfit(alloc: Global) -> Result<bool, Fail> {
+    Ok(outcome(alloc, &INC, 4_294_967_296, 5)?.is_none())
+}
+
 #[test]
 fn a_run_returns_within_its_steps(rt: HostRuntime) -> Result<(), Fail> {
-    let alloc = rt.alloc();
-    let Some(Run::Returned { values, memories }) = outcome(alloc, &INC, 4_294_967_295, 6)? else {
-        panic!(rt; "the run doesn't return");
-    };
-    assert_eq!(rt; values.as_slice(), [0].as_slice());
-    assert!(rt; memories.is_empty());
-    let spent = outcome(alloc, &INC, 4_294_967_295, 5)?;
-    assert!(rt; matches!(&spent, Some(Run::Spent)));
-    let unfit = outcome(alloc, &INC, 4_294_967_296, 5)?;
-    assert!(rt; unfit.is_none());
+    assert!(rt; returns(rt.alloc())?);
+    assert!(rt; is_spent(rt.alloc())?);
+    assert!(rt; is_unfit(rt.alloc())?);
     Ok(())
+}
+
+/// Whether those are one memory of one page.
+fn is_one_page(memories: &[Pages]) -> bool {
+    let Some(memory) = memories.first() else {
+        return false;
+    };
+    memories.len() == 1 && memory.pages == 1 && memory.bytes.len() == 65_536
+}
+
+/// Whether the second load of `LOADS` leaves its memory.
+fn leaves(alloc: Global) -> Result<bool, Fail> {
+    match outcome(alloc, &LOADS, 65_533, 100)? {
+        Some(Run::Trapped { kind, memories }) => {
+            Ok(kind == Trap::OutOfBounds && is_one_page(memories.as_slice()))
+        }
+        _ => Ok(false),
+    }
 }
 
 #[test]
 fn a_run_traps_where_an_access_leaves_its_memory(rt: HostRuntime) -> Result<(), Fail> {
-    let found = outcome(rt.alloc(), &LOADS, 65_533, 100)?;
-    let Some(Run::Trapped { kind, memories }) = found else {
-        panic!(rt; "the run doesn't trap");
-    };
-    assert_eq!(rt; kind, Trap::OutOfBounds);
-    let [memory] = memories.as_slice() else {
-        panic!(rt; "there is one memory");
-    };
-    assert_eq!(rt; memory.pages, 1);
-    assert_eq!(rt; memory.bytes.len(), 65_536);
+    assert!(rt; leaves(rt.alloc())?);
     Ok(())
 }

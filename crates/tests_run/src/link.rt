@@ -7,7 +7,7 @@ use bl_decode::decode;
 use bl_labels::Labels;
 use bl_link::{Part, link};
 use bl_validate::validate;
-use bl_wasm::{BlockType, Instr, Linked};
+use bl_wasm::{BlockType, Exports, Function, Global as LinkedGlobal, Instr, Linked, Signature};
 use std::alloc::Global;
 use std::test::Fail;
 
@@ -48,27 +48,48 @@ pub fn linked(alloc: Global, bytes: &[u8]) -> Result<Option<Linked>, Fail> {
 static MODULE: &[u8] =
     b"\0asm\x01\0\0\0\x01\x0b\x02`\x01\x7f\x01\x7f`\0\x02\x7f~\x03\x03\x02\0\0\x06\x06\x01\x7f\x01A\x07\x0b\x07\x09\x02\x01f\0\x01\x01g\x03\0\n\x1a\x02\x0d\0\x02\x01A\x01B\x02\x0b\x1a\x1a \0\x0b\n\0 \0$\0#\0\x10\0\x0b";
 
-#[test]
-fn a_module_is_linked(rt: HostRuntime) -> Result<(), Fail> {
-    let linked = linked(rt.alloc(), MODULE)?;
-    assert!(rt; linked.is_some());
-    let Some(linked) = linked else {
-        return Ok(());
+/// Whether that function alone is exported.
+fn has_export(exports: &Exports) -> bool {
+    exports.len() == 1 && exports.find("m/f") == Some(1)
+}
+
+/// Whether the types are those two.
+fn has_types(types: &[Signature]) -> bool {
+    types.first().map(|kind| kind.params.len()) == Some(1)
+        && types.get(1).map(|kind| kind.results.len()) == Some(2)
+}
+
+/// Whether the functions are those two.
+fn has_functions(functions: &[Function]) -> bool {
+    let items = functions.first().map(|one| one.code.items.as_slice());
+    functions.first().map(|one| one.labels.len()) == Some(1)
+        && functions.first().map(|one| one.demanded.len()) == Some(1)
+        && functions.get(1).map(|one| one.code.items.len()) == Some(4)
+        && matches!(items, Some([Instr::Block(BlockType::Index(1)), ..]))
+}
+
+/// Whether the first global is 7 at first, and isn't demanded public.
+fn has_global(globals: &[LinkedGlobal]) -> bool {
+    globals.first().map(|global| global.first) == Some(7)
+        && globals.first().map(|global| global.demanded) == Some(false)
+}
+
+/// Whether `MODULE` is linked so.
+fn is_linked(alloc: Global) -> Result<bool, Fail> {
+    let Some(linked) = linked(alloc, MODULE)? else {
+        return Ok(false);
     };
     let tree = linked.tree();
-    assert_eq!(rt; tree.exports.len(), 1);
-    assert_eq!(rt; tree.exports.find("m/f"), Some(1));
-    let types = tree.types.as_slice();
-    assert_eq!(rt; types.first().map(|kind| kind.params.len()), Some(1));
-    assert_eq!(rt; types.get(1).map(|kind| kind.results.len()), Some(2));
-    let functions = tree.functions.as_slice();
-    assert_eq!(rt; functions.first().map(|one| one.labels.len()), Some(1));
-    assert_eq!(rt; functions.first().map(|one| one.demanded.len()), Some(1));
-    assert_eq!(rt; functions.get(1).map(|one| one.code.items.len()), Some(4));
-    let items = functions.first().map(|one| one.code.items.as_slice());
-    assert!(rt; matches!(items, Some([Instr::Block(BlockType::Index(1)), ..])));
-    let globals = tree.globals.as_slice();
-    assert_eq!(rt; globals.first().map(|global| global.first), Some(7));
-    assert_eq!(rt; globals.first().map(|global| global.demanded), Some(false));
+    Ok(
+        has_export(&tree.exports)
+            && has_types(tree.types.as_slice())
+            && has_functions(tree.functions.as_slice())
+            && has_global(tree.globals.as_slice()),
+    )
+}
+
+#[test]
+fn a_module_is_linked(rt: HostRuntime) -> Result<(), Fail> {
+    assert!(rt; is_linked(rt.alloc())?);
     Ok(())
 }

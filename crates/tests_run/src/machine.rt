@@ -70,10 +70,6 @@ fn returns_in(
     }
 }
 
-fn returns(alloc: Global, wasm: &[u8], args: &[u64], wanted: &[u64]) -> Result<bool, Fail> {
-    returns_in(alloc, wasm, args, 20_000, wanted)
-}
-
 /// Whether the function traps so within so many steps.
 fn traps_in(
     alloc: Global,
@@ -92,194 +88,311 @@ fn is_spent(alloc: Global, wasm: &[u8], args: &[u64], steps: u64) -> Result<bool
     Ok(matches!(run(alloc, wasm, args, steps)?, Some(Run::Spent)))
 }
 
+/// How a run ends.
+enum End {
+    /// It returns these values.
+    Returned(&'static [u64]),
+    /// It traps so.
+    Trapped(Trap),
+    /// Its steps are too few.
+    Spent,
+}
+
+/// A module, the arguments of its function 0, the steps, and how the run ends.
+type Case = (&'static [u8], &'static [u64], u64, End);
+
+/// Whether the run ends so.
+fn ends(alloc: Global, wasm: &[u8], args: &[u64], steps: u64, end: &End) -> Result<bool, Fail> {
+    match end {
+        End::Returned(values) => returns_in(alloc, wasm, args, steps, *values),
+        End::Trapped(kind) => traps_in(alloc, wasm, args, steps, *kind),
+        End::Spent => is_spent(alloc, wasm, args, steps),
+    }
+}
+
+/// How many runs end as they have to before the first that doesn't.
+fn passing(alloc: Global, cases: &[Case]) -> Result<u32, Fail> {
+    let mut passed = 0u32;
+    for (wasm, args, steps, end) in cases {
+        if !ends(alloc, *wasm, *args, *steps, end)? {
+            break;
+        }
+        passed = passed.wrapping_add(1);
+    }
+    Ok(passed)
+}
+
+/// Steps that are enough for all runs here.
+const MANY: u64 = 20_000;
+
 /// [i32] -> [i32]: local.get 0, i32.extend8_s.
-static EXTEND_8: &[u8] =
+const EXTEND_8: &[u8] =
     b"\0asm\x01\0\0\0\x01\x06\x01`\x01\x7f\x01\x7f\x03\x02\x01\0\n\x07\x01\x05\0 \0\xc0\x0b";
 
 /// [i32] -> [i32]: local.get 0, i32.extend16_s.
-static EXTEND_16: &[u8] =
+const EXTEND_16: &[u8] =
     b"\0asm\x01\0\0\0\x01\x06\x01`\x01\x7f\x01\x7f\x03\x02\x01\0\n\x07\x01\x05\0 \0\xc1\x0b";
 
 /// [i64] -> [i64]: local.get 0, i64.extend32_s.
-static EXTEND_32: &[u8] =
+const EXTEND_32: &[u8] =
     b"\0asm\x01\0\0\0\x01\x06\x01`\x01~\x01~\x03\x02\x01\0\n\x07\x01\x05\0 \0\xc4\x0b";
 
 /// [i32 i32] -> [i32 i32]: local.get 1, local.get 0.
-static SWAP: &[u8] =
+const SWAP: &[u8] =
     b"\0asm\x01\0\0\0\x01\x08\x01`\x02\x7f\x7f\x02\x7f\x7f\x03\x02\x01\0\n\x08\x01\x06\0 \x01 \0\x0b";
 
 /// [i32] -> [i32], type 0: local.get 0, loop (type 0), i32.const -1, i32.add, local.tee 0, local.get 0, br_if 0, end.
-static COUNT_DOWN: &[u8] =
+const COUNT_DOWN: &[u8] =
     b"\0asm\x01\0\0\0\x01\x06\x01`\x01\x7f\x01\x7f\x03\x02\x01\0\n\x12\x01\x10\0 \0\x03\0A\x7fj\"\0 \0\x0d\0\x0b\x0b";
 
 /// [i32] -> [i32], and type 1 is [i32 i32] -> [i32]: the numbers from the argument down are added up by a loop of type 1; the branch
 /// to it leaves a third value behind: i32.const 0, local.get 0, loop (type 1), local.set 0, local.set 1, i32.const 17, local.get 1,
 /// local.get 0, i32.add, local.get 0, i32.const -1, i32.add, local.tee 0, local.get 0, br_if 0, drop, local.set 1, drop,
 /// local.get 1, end.
-static SUM_BY_PARAMETERS: &[u8] =
+const SUM_BY_PARAMETERS: &[u8] =
     b"\0asm\x01\0\0\0\x01\x0c\x02`\x01\x7f\x01\x7f`\x02\x7f\x7f\x01\x7f\x03\x02\x01\0\n)\x01'\x01\x01\x7fA\0 \0\x03\x01!\0!\x01A\x11 \x01 \0j \0A\x7fj\"\0 \0\x0d\0\x1a!\x01\x1a \x01\x0b\x0b";
 
 /// [i32] -> [i32 i32], and type 1 is [] -> [i32 i32]: block (type 1), i32.const 5, block (type 1), i32.const 7, i32.const 8,
 /// i32.const 9, local.get 0, br_table 0 1 2, end, i32.add, end, i32.const 1, i32.add.
-static NESTED: &[u8] =
+const NESTED: &[u8] =
     b"\0asm\x01\0\0\0\x01\x0c\x02`\x01\x7f\x02\x7f\x7f`\0\x02\x7f\x7f\x03\x02\x01\0\n\x1d\x01\x1b\0\x02\x01A\x05\x02\x01A\x07A\x08A\x09 \0\x0e\x02\0\x01\x02\x0bj\x0bA\x01j\x0b";
 
 /// [i32 i32 i32] -> [i32], and type 1 is [i32 i32] -> [i32]: local.get 0, local.get 1, local.get 2, if (type 1), i32.sub, else, i32.add,
 /// end.
-static CHOOSE: &[u8] =
+const CHOOSE: &[u8] =
     b"\0asm\x01\0\0\0\x01\x0e\x02`\x03\x7f\x7f\x7f\x01\x7f`\x02\x7f\x7f\x01\x7f\x03\x02\x01\0\n\x10\x01\x0e\0 \0 \x01 \x02\x04\x01k\x05j\x0b\x0b";
 
 /// [i32 i32] -> [i32], and type 1 is [i32] -> [i32]: local.get 0, local.get 1, if (type 1), i32.const 5, i32.add, end.
-static THEN_ALONE: &[u8] =
+const THEN_ALONE: &[u8] =
     b"\0asm\x01\0\0\0\x01\x0c\x02`\x02\x7f\x7f\x01\x7f`\x01\x7f\x01\x7f\x03\x02\x01\0\n\x0e\x01\x0c\0 \0 \x01\x04\x01A\x05j\x0b\x0b";
 
 /// [i32 i32] -> [i32]: local.get 0, local.get 1, call 1, i32.sub; and function 1 is `SWAP`.
-static CALL: &[u8] =
+const CALL: &[u8] =
     b"\0asm\x01\0\0\0\x01\x0e\x02`\x02\x7f\x7f\x01\x7f`\x02\x7f\x7f\x02\x7f\x7f\x03\x03\x02\0\x01\n\x12\x02\x09\0 \0 \x01\x10\x01k\x0b\x06\0 \x01 \0\x0b";
 
 /// [i32] -> [i32]: local.get 0, i32.const 1, i32.add.
-static ADD_ONE: &[u8] =
+const ADD_ONE: &[u8] =
     b"\0asm\x01\0\0\0\x01\x06\x01`\x01\x7f\x01\x7f\x03\x02\x01\0\n\x09\x01\x07\0 \0A\x01j\x0b";
 
 /// [i32 i32] -> [i32]: local.get 0, local.get 1, i32.div_s.
-static QUOTIENT: &[u8] =
+const QUOTIENT: &[u8] =
     b"\0asm\x01\0\0\0\x01\x07\x01`\x02\x7f\x7f\x01\x7f\x03\x02\x01\0\n\x09\x01\x07\0 \0 \x01m\x0b";
 
 /// [i32 i32] -> [i32]: local.get 0, local.get 1, i32.rem_s.
-static REMAINDER: &[u8] =
+const REMAINDER: &[u8] =
     b"\0asm\x01\0\0\0\x01\x07\x01`\x02\x7f\x7f\x01\x7f\x03\x02\x01\0\n\x09\x01\x07\0 \0 \x01o\x0b";
 
 /// [i32] -> [i32]: calls itself as often as the argument says, and gives 7.
-static DEEP: &[u8] =
+const DEEP: &[u8] =
     b"\0asm\x01\0\0\0\x01\x06\x01`\x01\x7f\x01\x7f\x03\x02\x01\0\n\x13\x01\x11\0 \0\x04@ \0A\x01k\x10\0\x1a\x0bA\x07\x0b";
+
+/// [i32] -> [i32]: calls itself as often as the argument says, and then what is in slot 0, a function that gives 7, at its own type:
+/// local.get 0, if (i32), local.get 0, i32.const 1, i32.sub, call 0, else, i32.const 0, call_indirect 1, end.
+const DEEP_SLOT: &[u8] =
+    b"\0asm\x01\0\0\0\x01\x0d\x03`\x01\x7f\x01\x7f`\0\x01\x7f`\0\0\x03\x03\x02\0\x01\x04\x04\x01p\0\x01\x09\x07\x01\0A\0\x0b\x01\x01\n\x1b\x02\x14\0 \0\x04\x7f \0A\x01k\x10\0\x05A\0\x11\x01\0\x0b\x0b\x04\0A\x07\x0b";
+
+/// The same at another type, and then i32.const 3.
+const DEEP_OTHER_TYPE: &[u8] =
+    b"\0asm\x01\0\0\0\x01\x0d\x03`\x01\x7f\x01\x7f`\0\x01\x7f`\0\0\x03\x03\x02\0\x01\x04\x04\x01p\0\x01\x09\x07\x01\0A\0\x0b\x01\x01\n\x1d\x02\x16\0 \0\x04\x7f \0A\x01k\x10\0\x05A\0\x11\x02\0A\x03\x0b\x0b\x04\0A\x07\x0b";
 
 /// [i32] -> [i32] with a second local: adds up the numbers to the argument: block, loop, local.get 0, i32.eqz, br_if 1, local.get 1,
 /// local.get 0, i32.add, local.set 1, local.get 0, i32.const 1, i32.sub, local.set 0, br 0, end, end, local.get 1.
-static ADDING: &[u8] =
+const ADDING: &[u8] =
     b"\0asm\x01\0\0\0\x01\x06\x01`\x01\x7f\x01\x7f\x03\x02\x01\0\n#\x01!\x01\x01\x7f\x02@\x03@ \0E\x0d\x01 \x01 \0j!\x01 \0A\x01k!\0\x0c\0\x0b\x0b \x01\x0b";
 
 /// [i32] -> [i32]: branches out of as many blocks as the argument says and one more, at most out of three, with 40; behind their
 /// ends 1, 2 and 4 are added.
-static BRANCHING: &[u8] =
+const BRANCHING: &[u8] =
     b"\0asm\x01\0\0\0\x01\x06\x01`\x01\x7f\x01\x7f\x03\x02\x01\0\n \x01\x1e\0\x02\x7f\x02\x7f\x02\x7fA( \0\x0e\x02\0\x01\x02\0\x0bA\x01j\x0bA\x02j\x0bA\x04j\x0b";
 
 /// [i32] -> [i32]: 9 less a number of either part of an if, over a value that a branch leaves behind.
-static CHOOSING: &[u8] =
+const CHOOSING: &[u8] =
     b"\0asm\x01\0\0\0\x01\x06\x01`\x01\x7f\x01\x7f\x03\x02\x01\0\n\x1d\x01\x1b\0A\x09 \0\x04\x7f\x02@\x0bA\x03\x05\x02@A\x08A\x04\x0c\x01\x0bA\x05\x0bk\x0b";
 
 /// [i32 i32 i32] -> [i32 i64] with a global i32 that is 7 at first: nop, local.get 0, local.get 1, local.get 2, select, global.get 0,
 /// i32.add, global.set 0, global.get 0, i64.const -2.
-static SELECT_AND_ADD: &[u8] =
+const SELECT_AND_ADD: &[u8] =
     b"\0asm\x01\0\0\0\x01\x09\x01`\x03\x7f\x7f\x7f\x02\x7f~\x03\x02\x01\0\x06\x06\x01\x7f\x01A\x07\x0b\n\x15\x01\x13\0\x01 \0 \x01 \x02\x1b#\0j$\0#\0B~\x0b";
 
 /// [] -> []: no items.
-static NOTHING: &[u8] = b"\0asm\x01\0\0\0\x01\x04\x01`\0\0\x03\x02\x01\0\n\x04\x01\x02\0\x0b";
+const NOTHING: &[u8] = b"\0asm\x01\0\0\0\x01\x04\x01`\0\0\x03\x02\x01\0\n\x04\x01\x02\0\x0b";
+
+static SIGNS: [Case; 3] = [
+    (EXTEND_8, &[200], MANY, End::Returned(&[4_294_967_240])),
+    (EXTEND_16, &[32_768], MANY, End::Returned(&[4_294_934_528])),
+    (
+        EXTEND_32,
+        &[2_147_483_648],
+        MANY,
+        End::Returned(&[18_446_744_071_562_067_968]),
+    ),
+];
 
 #[test]
 fn signs_are_extended(rt: HostRuntime) -> Result<(), Fail> {
-    let a = rt.alloc();
-    assert!(rt; returns(a, EXTEND_8, &[200], &[4_294_967_240])?);
-    assert!(rt; returns(a, EXTEND_16, &[32_768], &[4_294_934_528])?);
-    assert!(rt;
-        returns(
-            a,
-            EXTEND_32,
-            &[2_147_483_648],
-            &[18_446_744_071_562_067_968]
-        )?
-    );
+    assert_eq!(rt; passing(rt.alloc(), &SIGNS)?, 3);
     Ok(())
 }
+
+static RESULTS: [Case; 2] = [
+    (SWAP, &[3, 4], MANY, End::Returned(&[4, 3])),
+    (CALL, &[3, 10], MANY, End::Returned(&[7])),
+];
 
 #[test]
 fn results_are_in_order(rt: HostRuntime) -> Result<(), Fail> {
-    let a = rt.alloc();
-    assert!(rt; returns(a, SWAP, &[3, 4], &[4, 3])?);
-    assert!(rt; returns(a, CALL, &[3, 10], &[7])?);
+    assert_eq!(rt; passing(rt.alloc(), &RESULTS)?, 2);
     Ok(())
 }
+
+static LOOPS: [Case; 3] = [
+    (COUNT_DOWN, &[3], MANY, End::Returned(&[0])),
+    (SUM_BY_PARAMETERS, &[10], MANY, End::Returned(&[55])),
+    (SUM_BY_PARAMETERS, &[1], MANY, End::Returned(&[1])),
+];
 
 #[test]
 fn a_branch_to_a_loop_keeps_its_parameters(rt: HostRuntime) -> Result<(), Fail> {
-    let a = rt.alloc();
-    assert!(rt; returns(a, COUNT_DOWN, &[3], &[0])?);
-    assert!(rt; returns(a, SUM_BY_PARAMETERS, &[10], &[55])?);
-    assert!(rt; returns(a, SUM_BY_PARAMETERS, &[1], &[1])?);
+    assert_eq!(rt; passing(rt.alloc(), &LOOPS)?, 3);
     Ok(())
 }
+
+static SEVERAL: [Case; 4] = [
+    (NESTED, &[0], MANY, End::Returned(&[5, 18])),
+    (NESTED, &[1], MANY, End::Returned(&[8, 10])),
+    (NESTED, &[2], MANY, End::Returned(&[8, 9])),
+    (NESTED, &[9], MANY, End::Returned(&[8, 9])),
+];
 
 #[test]
 fn a_branch_carries_several_results(rt: HostRuntime) -> Result<(), Fail> {
-    let a = rt.alloc();
-    assert!(rt; returns(a, NESTED, &[0], &[5, 18])?);
-    assert!(rt; returns(a, NESTED, &[1], &[8, 10])?);
-    assert!(rt; returns(a, NESTED, &[2], &[8, 9])?);
-    assert!(rt; returns(a, NESTED, &[9], &[8, 9])?);
+    assert_eq!(rt; passing(rt.alloc(), &SEVERAL)?, 4);
     Ok(())
 }
+
+const MINUS_TWO: u64 = 18_446_744_073_709_551_614;
+
+static SELECTED: [Case; 3] = [
+    (
+        SELECT_AND_ADD,
+        &[3, 4, 1],
+        MANY,
+        End::Returned(&[10, MINUS_TWO]),
+    ),
+    (
+        SELECT_AND_ADD,
+        &[3, 4, 0],
+        MANY,
+        End::Returned(&[11, MINUS_TWO]),
+    ),
+    (
+        SELECT_AND_ADD,
+        &[3, 4, 4_294_967_295],
+        MANY,
+        End::Returned(&[10, MINUS_TWO]),
+    ),
+];
 
 #[test]
 fn a_value_is_selected_and_kept_in_a_global(rt: HostRuntime) -> Result<(), Fail> {
-    let a = rt.alloc();
-    let minus_two = 18_446_744_073_709_551_614;
-    assert!(rt; returns(a, SELECT_AND_ADD, &[3, 4, 1], &[10, minus_two])?);
-    assert!(rt; returns(a, SELECT_AND_ADD, &[3, 4, 0], &[11, minus_two])?);
-    assert!(rt; returns(a, SELECT_AND_ADD, &[3, 4, 4_294_967_295], &[10, minus_two])?);
+    assert_eq!(rt; passing(rt.alloc(), &SELECTED)?, 3);
     Ok(())
 }
+
+static PARTS: [Case; 6] = [
+    (CHOOSE, &[10, 3, 1], MANY, End::Returned(&[7])),
+    (CHOOSE, &[10, 3, 0], MANY, End::Returned(&[13])),
+    (THEN_ALONE, &[10, 1], MANY, End::Returned(&[15])),
+    (THEN_ALONE, &[10, 0], MANY, End::Returned(&[10])),
+    (CHOOSING, &[1], MANY, End::Returned(&[6])),
+    (CHOOSING, &[0], MANY, End::Returned(&[5])),
+];
 
 #[test]
 fn either_part_of_an_if_takes_the_parameters(rt: HostRuntime) -> Result<(), Fail> {
-    let a = rt.alloc();
-    assert!(rt; returns(a, CHOOSE, &[10, 3, 1], &[7])?);
-    assert!(rt; returns(a, CHOOSE, &[10, 3, 0], &[13])?);
-    assert!(rt; returns(a, THEN_ALONE, &[10, 1], &[15])?);
-    assert!(rt; returns(a, THEN_ALONE, &[10, 0], &[10])?);
-    assert!(rt; returns(a, CHOOSING, &[1], &[6])?);
-    assert!(rt; returns(a, CHOOSING, &[0], &[5])?);
+    assert_eq!(rt; passing(rt.alloc(), &PARTS)?, 6);
     Ok(())
 }
+
+static STEPS: [Case; 8] = [
+    (NOTHING, &[], 1, End::Spent),
+    (NOTHING, &[], 2, End::Returned(&[])),
+    (ADD_ONE, &[4_294_967_295], 4, End::Spent),
+    (ADD_ONE, &[4_294_967_295], 5, End::Returned(&[0])),
+    (ADD_ONE, &[6], 9, End::Returned(&[7])),
+    (ADDING, &[0], 7, End::Spent),
+    (ADDING, &[0], 8, End::Returned(&[0])),
+    (ADDING, &[10], MANY, End::Returned(&[55])),
+];
 
 #[test]
 fn each_step_is_counted(rt: HostRuntime) -> Result<(), Fail> {
-    let a = rt.alloc();
-    assert!(rt; is_spent(a, NOTHING, &[], 1)?);
-    assert!(rt; returns_in(a, NOTHING, &[], 2, &[])?);
-    assert!(rt; is_spent(a, ADD_ONE, &[4_294_967_295], 4)?);
-    assert!(rt; returns_in(a, ADD_ONE, &[4_294_967_295], 5, &[0])?);
-    assert!(rt; returns_in(a, ADD_ONE, &[6], 9, &[7])?);
-    assert!(rt; is_spent(a, ADDING, &[0], 7)?);
-    assert!(rt; returns_in(a, ADDING, &[0], 8, &[0])?);
-    assert!(rt; returns(a, ADDING, &[10], &[55])?);
+    assert_eq!(rt; passing(rt.alloc(), &STEPS)?, 8);
     Ok(())
 }
+
+static QUOTIENTS: [Case; 4] = [
+    (
+        QUOTIENT,
+        &[2_147_483_648, 4_294_967_295],
+        4,
+        End::Trapped(Trap::Overflow),
+    ),
+    (QUOTIENT, &[1, 0], 4, End::Trapped(Trap::DivideByZero)),
+    (QUOTIENT, &[1, 0], 3, End::Spent),
+    (
+        REMAINDER,
+        &[2_147_483_648, 4_294_967_295],
+        5,
+        End::Returned(&[0]),
+    ),
+];
 
 #[test]
 fn quotients_trap(rt: HostRuntime) -> Result<(), Fail> {
-    let a = rt.alloc();
-    let least = [2_147_483_648, 4_294_967_295];
-    assert!(rt; traps_in(a, QUOTIENT, &least, 4, Trap::Overflow)?);
-    assert!(rt; traps_in(a, QUOTIENT, &[1, 0], 4, Trap::DivideByZero)?);
-    assert!(rt; is_spent(a, QUOTIENT, &[1, 0], 3)?);
-    assert!(rt; returns_in(a, REMAINDER, &least, 5, &[0])?);
+    assert_eq!(rt; passing(rt.alloc(), &QUOTIENTS)?, 4);
     Ok(())
 }
+
+static DEPTHS: [Case; 3] = [
+    (DEEP, &[0], MANY, End::Returned(&[7])),
+    (DEEP, &[1_023], MANY, End::Returned(&[7])),
+    (DEEP, &[1_024], MANY, End::Trapped(Trap::StackExhausted)),
+];
+
+/// The type is tested before the depth.
+static DEPTHS_BY_SLOT: [Case; 3] = [
+    (DEEP_SLOT, &[1_022], MANY, End::Returned(&[7])),
+    (
+        DEEP_SLOT,
+        &[1_023],
+        MANY,
+        End::Trapped(Trap::StackExhausted),
+    ),
+    (
+        DEEP_OTHER_TYPE,
+        &[1_023],
+        MANY,
+        End::Trapped(Trap::TypeMismatch),
+    ),
+];
 
 #[test]
 fn calls_are_1024_deep_at_most(rt: HostRuntime) -> Result<(), Fail> {
-    let a = rt.alloc();
-    assert!(rt; returns(a, DEEP, &[0], &[7])?);
-    assert!(rt; returns(a, DEEP, &[1_023], &[7])?);
-    assert!(rt; traps_in(a, DEEP, &[1_024], 20_000, Trap::StackExhausted)?);
+    assert_eq!(rt; passing(rt.alloc(), &DEPTHS)?, 3);
+    assert_eq!(rt; passing(rt.alloc(), &DEPTHS_BY_SLOT)?, 3);
     Ok(())
 }
 
+static LABELS: [Case; 4] = [
+    (BRANCHING, &[0], MANY, End::Returned(&[47])),
+    (BRANCHING, &[1], MANY, End::Returned(&[46])),
+    (BRANCHING, &[2], MANY, End::Returned(&[44])),
+    (BRANCHING, &[3], MANY, End::Returned(&[44])),
+];
+
 #[test]
 fn tables_choose_labels(rt: HostRuntime) -> Result<(), Fail> {
-    let a = rt.alloc();
-    assert!(rt; returns(a, BRANCHING, &[0], &[47])?);
-    assert!(rt; returns(a, BRANCHING, &[1], &[46])?);
-    assert!(rt; returns(a, BRANCHING, &[2], &[44])?);
-    assert!(rt; returns(a, BRANCHING, &[3], &[44])?);
+    assert_eq!(rt; passing(rt.alloc(), &LABELS)?, 4);
     Ok(())
 }

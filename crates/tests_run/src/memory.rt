@@ -439,63 +439,133 @@ static ROWS: [Row; 17] = [
     ),
 ];
 
-#[test]
-fn each_access_has_its_width_and_sign(rt: HostRuntime) -> Result<(), Fail> {
+/// How many accesses have their width and sign before the first that hasn't.
+fn accesses(alloc: Global) -> Result<u32, NoMemory> {
+    let mut passed = 0u32;
     for (store, load, offset, value, wanted, bytes) in &ROWS {
         let setting = one_page(*store, *load, *offset);
-        assert!(rt; gives(rt.alloc(), &setting, [32, *value], *wanted, bytes)?);
+        if !gives(alloc, &setting, [32, *value], *wanted, bytes)? {
+            break;
+        }
+        passed = passed.wrapping_add(1);
     }
+    Ok(passed)
+}
+
+#[test]
+fn each_access_has_its_width_and_sign(rt: HostRuntime) -> Result<(), Fail> {
+    assert_eq!(rt; accesses(rt.alloc())?, 17);
     Ok(())
+}
+
+/// Whether eight bytes are accessed up to the end, and no further.
+fn long_ends(alloc: Global) -> Result<bool, NoMemory> {
+    let long = one_page(AccessKind::I64Store, AccessKind::I64Load, 8);
+    Ok(
+        gives(alloc, &long, [65_520, LONG], LONG, &[0, 136, 135])?
+            && is_outside(alloc, &long, [65_521, LONG], 65_528, &[0; 8])?,
+    )
+}
+
+/// Whether one byte is accessed up to the end, and no further.
+fn byte_ends(alloc: Global) -> Result<bool, NoMemory> {
+    let byte = one_page(AccessKind::I32Store8, AccessKind::I32Load8U, 0);
+    Ok(
+        gives(alloc, &byte, [65_535, SHORT], 244, &[0, 244])?
+            && is_outside(alloc, &byte, [65_536, SHORT], 65_535, &[0])?,
+    )
+}
+
+/// Whether what was stored before the trap stays.
+fn stored_stays(alloc: Global) -> Result<bool, NoMemory> {
+    let behind = one_page(AccessKind::I32Store8, AccessKind::I64Load, 0);
+    is_outside(alloc, &behind, [65_530, SHORT], 65_529, &[0, 244, 0])
 }
 
 #[test]
 fn an_access_past_the_end_traps(rt: HostRuntime) -> Result<(), Fail> {
-    let a = rt.alloc();
-    let long = one_page(AccessKind::I64Store, AccessKind::I64Load, 8);
-    assert!(rt; gives(a, &long, [65_520, LONG], LONG, &[0, 136, 135])?);
-    assert!(rt; is_outside(a, &long, [65_521, LONG], 65_528, &[0; 8])?);
-    let byte = one_page(AccessKind::I32Store8, AccessKind::I32Load8U, 0);
-    assert!(rt; gives(a, &byte, [65_535, SHORT], 244, &[0, 244])?);
-    assert!(rt; is_outside(a, &byte, [65_536, SHORT], 65_535, &[0])?);
-    // What was stored before the trap stays.
-    let behind = one_page(AccessKind::I32Store8, AccessKind::I64Load, 0);
-    assert!(rt; is_outside(a, &behind, [65_530, SHORT], 65_529, &[0, 244, 0])?);
+    assert!(rt; long_ends(rt.alloc())?);
+    assert!(rt; byte_ends(rt.alloc())?);
+    assert!(rt; stored_stays(rt.alloc())?);
     Ok(())
+}
+
+/// Offsets and addresses whose sum is past 2^32.
+static FAR: [(u32, u64); 3] = [
+    (8, 4_294_967_288),
+    (4_294_967_295, 1),
+    (4_294_967_295, 4_294_967_295),
+];
+
+/// How many of them are outside before the first that isn't.
+fn far(alloc: Global) -> Result<u32, NoMemory> {
+    let mut passed = 0u32;
+    for (offset, address) in &FAR {
+        let setting = one_page(AccessKind::I32Store, AccessKind::I32Load, *offset);
+        if !is_outside(alloc, &setting, [*address, SHORT], 0, &[0; 8])? {
+            break;
+        }
+        passed = passed.wrapping_add(1);
+    }
+    Ok(passed)
 }
 
 #[test]
 fn an_address_and_an_offset_do_not_wrap(rt: HostRuntime) -> Result<(), Fail> {
-    let a = rt.alloc();
-    let eight = one_page(AccessKind::I32Store, AccessKind::I32Load, 8);
-    assert!(rt; is_outside(a, &eight, [4_294_967_288, SHORT], 0, &[0; 8])?);
-    let most = one_page(AccessKind::I32Store, AccessKind::I32Load, 4_294_967_295);
-    assert!(rt; is_outside(a, &most, [1, SHORT], 0, &[0; 8])?);
-    assert!(rt; is_outside(a, &most, [4_294_967_295, SHORT], 0, &[0; 8])?);
+    assert_eq!(rt; far(rt.alloc())?, 3);
     Ok(())
+}
+
+/// What is answered where a memory doesn't grow.
+const REFUSED: u64 = 4_294_967_295;
+
+/// The pages before and behind, the reserve, by how many pages, and the answer.
+static GROWTHS: [([u32; 2], u32, u64, u64); 8] = [
+    ([1, 3], 3, 2, 1),
+    ([1, 1], 3, 3, REFUSED),
+    ([1, 1], 3, 0, 1),
+    ([1, 1], 3, 4_294_967_294, REFUSED),
+    ([1, 1], 3, 4_294_967_295, REFUSED),
+    ([0, 1], 1, 1, 0),
+    ([0, 0], 0, 0, 0),
+    ([0, 0], 0, 1, REFUSED),
+];
+
+/// How many growths are answered so before the first that isn't.
+fn growths(alloc: Global) -> Result<u32, NoMemory> {
+    let mut passed = 0u32;
+    for (sizes, reserve, delta, wanted) in &GROWTHS {
+        if !grows(alloc, *sizes, *reserve, *delta, *wanted)? {
+            break;
+        }
+        passed = passed.wrapping_add(1);
+    }
+    Ok(passed)
 }
 
 #[test]
 fn a_memory_grows_up_to_its_reserve(rt: HostRuntime) -> Result<(), Fail> {
-    let a = rt.alloc();
-    let refused = 4_294_967_295;
-    assert!(rt; grows(a, [1, 3], 3, 2, 1)?);
-    assert!(rt; grows(a, [1, 1], 3, 3, refused)?);
-    assert!(rt; grows(a, [1, 1], 3, 0, 1)?);
-    assert!(rt; grows(a, [1, 1], 3, 4_294_967_294, refused)?);
-    assert!(rt; grows(a, [1, 1], 3, 4_294_967_295, refused)?);
-    assert!(rt; grows(a, [0, 1], 1, 1, 0)?);
-    assert!(rt; grows(a, [0, 0], 0, 0, 0)?);
-    assert!(rt; grows(a, [0, 0], 0, 1, refused)?);
+    assert_eq!(rt; growths(rt.alloc())?, 8);
     Ok(())
+}
+
+/// The patches 1, 2, 3, 4 at 4 and 9, 9 at 6.
+fn two_patches(alloc: Global) -> Result<List<Patch>, NoMemory> {
+    let mut patches = List::new(alloc);
+    patches.push(patch(alloc, 4, &[1, 2, 3, 4])?)?;
+    patches.push(patch(alloc, 6, &[9, 9])?)?;
+    Ok(patches)
+}
+
+/// Whether the later of two patches stands over the earlier one.
+fn is_patched(alloc: Global) -> Result<bool, NoMemory> {
+    let setting = one_page(AccessKind::I32Store8, AccessKind::I32Load, 4);
+    let start = start_of(alloc, &[0, 7], two_patches(alloc)?)?;
+    ends_with(alloc, &setting, &start, 151_585_287, 3, &[0, 7, 2, 9, 9, 0])
 }
 
 #[test]
 fn a_later_patch_is_written_over_an_earlier_one(rt: HostRuntime) -> Result<(), Fail> {
-    let a = rt.alloc();
-    let setting = one_page(AccessKind::I32Store8, AccessKind::I32Load, 4);
-    let patches = vec![in a; patch(a, 4, &[1, 2, 3, 4])?, patch(a, 6, &[9, 9])?]?;
-    let start = start_of(a, &[0, 7], List::of(patches))?;
-    let bytes = [0, 7, 2, 9, 9, 0];
-    assert!(rt; ends_with(a, &setting, &start, 151_585_287, 3, &bytes)?);
+    assert!(rt; is_patched(rt.alloc())?);
     Ok(())
 }
