@@ -3,7 +3,8 @@ use Rattle.std.proofs.Common.{◌≡◌, ℕ, ◌≤◌, List, [], ◌∷◌, �
 use Rattle.std.specs.Result.{IsErrAnd}
 use Rattle.std.proofs.lemmas.Result.{err_from_is_err_and}
 use Rattle.bl_leb.specs.Grammar.{Spellings, ◌⨾◌, byte, given}
-use Rattle.bl_image.specs.Reading.{Begins, NoneBegins, Refuses, Reads}
+use Rattle.bl_image.specs.Reading.{Begins, NoneBegins, Refuses, Reads, Finds}
+use Rattle.bl_image.specs.declared.error.Malformed.{Malformed}
 use Rattle.bl_image.specs.declared.error.ReadError.{ReadError}
 use Rattle.bl_image.specs.declared.error.ReadError.TheVariants.{NotAnImage, Memory}
 
@@ -105,6 +106,10 @@ passes F B bytes i j r e gives along h = let p = err_from_is_err_and r gives in 
     refused NotAnImage h = along h
     refused Memory h = tt
 
+-- the same of a reader that takes no memory
+pub fails : {A X : Type 0} (F : A → Spellings) (B : X → Spellings) (bytes : List ℕ) (i j : ℕ) (r : Result (X × ℕ) Malformed) (e : Malformed) → IsErrAnd r (λ y. y ≡ e) → (NoneBegins F (drop i bytes) → NoneBegins B (drop j bytes)) → NoneBegins F (drop i bytes) → Finds B bytes j r
+fails F B bytes i j r e gives along none = let p = err_from_is_err_and r gives in rw p.1 (along none)
+
 -- a tail call: what it read, or why it read nothing
 pub reads_as : {A : Type 0} (F B : A → Spellings) (bytes : List ℕ) (i j : ℕ) (r : Result (A × ℕ) ReadError) → ((x : A) (m : List ℕ) → Begins F (drop i bytes) x m → Begins B (drop j bytes) x m) → (NoneBegins F (drop i bytes) → NoneBegins B (drop j bytes)) → Reads F bytes i r → Reads B bytes j r
 reads_as F B bytes i j (Ok found) some none h = (h.0, some found.0 (drop found.1 bytes) h.1)
@@ -114,4 +119,13 @@ reads_as F B bytes i j (Err Memory) some none h = tt
 pub reads_after : {A X : Type 0} (F : A → Spellings) (f : X → A) (S : X → Spellings) (bytes : List ℕ) (i j : ℕ) (a : A) (r : Result (X × ℕ) ReadError) → Begins F (drop i bytes) a (drop j bytes) → Reads (λ y. given (f y ≡ a) (S y)) bytes j r → Reads (λ y. F (f y) ⨾ S y) bytes i r
 reads_after F f S bytes i j a r p h =
     reads_as (λ y. given (f y ≡ a) (S y)) (λ y. F (f y) ⨾ S y) bytes j i r
+    (λ x m q. begins_after F f S (drop i bytes) (drop j bytes) m a x p q) (λ q. none_after F f S (drop i bytes) (drop j bytes) a p q) h
+
+pub finds_as : {A : Type 0} (F B : A → Spellings) (bytes : List ℕ) (i j : ℕ) (r : Result (A × ℕ) Malformed) → ((x : A) (m : List ℕ) → Begins F (drop i bytes) x m → Begins B (drop j bytes) x m) → (NoneBegins F (drop i bytes) → NoneBegins B (drop j bytes)) → Finds F bytes i r → Finds B bytes j r
+finds_as F B bytes i j (Ok found) some none h = (h.0, some found.0 (drop found.1 bytes) h.1)
+finds_as F B bytes i j (Err e) some none h = none h
+
+pub finds_after : {A X : Type 0} (F : A → Spellings) (f : X → A) (S : X → Spellings) (bytes : List ℕ) (i j : ℕ) (a : A) (r : Result (X × ℕ) Malformed) → Begins F (drop i bytes) a (drop j bytes) → Finds (λ y. given (f y ≡ a) (S y)) bytes j r → Finds (λ y. F (f y) ⨾ S y) bytes i r
+finds_after F f S bytes i j a r p h =
+    finds_as (λ y. given (f y ≡ a) (S y)) (λ y. F (f y) ⨾ S y) bytes j i r
     (λ x m q. begins_after F f S (drop i bytes) (drop j bytes) m a x p q) (λ q. none_after F f S (drop i bytes) (drop j bytes) a p q) h

@@ -17,13 +17,14 @@ use Rattle.bl_cmd.specs.declared.definitions.ProgramParts.{ProgramParts as Progr
 use Rattle.bl_cmd.specs.declared.definitions.SiteWeight.{SiteWeight}
 use Rattle.bl_image.specs.declared.definition.Exports.{Exports}
 use Rattle.bl_image.specs.declared.rising.Weights.{Weights}
+use Rattle.bl_image.specs.declared.error.Malformed.{Malformed}
 use Rattle.bl_image.specs.declared.error.ReadError.{ReadError}
 use Rattle.bl_image.specs.declared.error.ReadError.TheVariants.{NotAnImage, Memory}
 use Rattle.bl_leb.specs.Grammar.{Spellings, ◌⨾◌, byte, given, exactly}
 use Rattle.bl_image.specs.Grammar.{each, vec}
 use Rattle.bl_image.specs.Image.{magic, header, version, definitions, additions, weights, demand, command, image, Image}
-use Rattle.bl_image.specs.Reading.{Begins, NoneBegins, Fills, Spells, Reads, ReadsAll, ReadsProgram, Refuses, RefusesAll, additions_of, traps}
-use Rattle.bl_image.proofs.Begins.{begins_via, none_via, begins_given, none_unless, reads_as}
+use Rattle.bl_image.specs.Reading.{Begins, NoneBegins, Fills, Spells, Finds, Reads, ReadsAll, ReadsProgram, Refuses, RefusesAll, additions_of, traps}
+use Rattle.bl_image.proofs.Begins.{begins_via, none_via, begins_given, none_unless, finds_as}
 
 -- ---- the magic and the version
 
@@ -44,8 +45,8 @@ header_none bytes p = record {
       p.none y h.rest more h.second (ap (drop 4) whole);
 }
 
-pub reads_header : (bytes : List ℕ) (r : Result (ℕ × ℕ) ReadError) → bytes ≡ magic ++ drop 4 bytes → Reads byte bytes 4 r → Reads header bytes 0 r
-reads_header bytes r front h = reads_as byte header bytes 4 0 r (λ v m p. header_begins bytes m v front p) (header_none bytes) h
+pub finds_header : (bytes : List ℕ) (r : Result (ℕ × ℕ) Malformed) → bytes ≡ magic ++ drop 4 bytes → Finds byte bytes 4 r → Finds header bytes 0 r
+finds_header bytes r front h = finds_as byte header bytes 4 0 r (λ v m p. header_begins bytes m v front p) (header_none bytes) h
 
 -- ---- demands and weights
 

@@ -12,6 +12,7 @@ use Rattle.bl_cmd.specs.declared.definitions.ProgramParts.{ProgramParts as Progr
 use Rattle.bl_leb.specs.Grammar.{Spellings, given}
 use Rattle.bl_image.specs.Grammar.{each}
 use Rattle.bl_image.specs.Image.{Image, image, additions, command_code, fields, operand, version}
+use Rattle.bl_image.specs.declared.error.Malformed.{Malformed}
 use Rattle.bl_image.specs.declared.error.ReadError.{ReadError}
 use Rattle.bl_image.specs.declared.error.ReadError.TheVariants as read_error
 use Rattle.bl_image.specs.declared.error.ImageError.{ImageError}
@@ -37,6 +38,12 @@ Refuses B bytes start read_error.Memory = Unit {0}
 abbrev pub Reads : {A : Type 0} → (A → Spellings) → List ℕ → ℕ → Result (A × ℕ) ReadError → Type 0
 Reads B bytes start (Ok found) = (found.1 ≤ length bytes) × Begins B (drop start bytes) found.0 (drop found.1 bytes)
 Reads B bytes start (Err error) = Refuses B bytes start error
+
+-- a reader that takes no memory gives the one thing that is spelled from the place on, and the place behind it; or no
+-- spelling begins there
+abbrev pub Finds : {A : Type 0} → (A → Spellings) → List ℕ → ℕ → Result (A × ℕ) Malformed → Type 0
+Finds B bytes start (Ok found) = (found.1 ≤ length bytes) × Begins B (drop start bytes) found.0 (drop found.1 bytes)
+Finds B bytes start (Err malformed) = NoneBegins B (drop start bytes)
 
 -- what is spelled behind its code of a command of that code
 abbrev pub fields_behind : ℕ → Command → Spellings

@@ -2,51 +2,49 @@
 ghost use Rattle.std.specs.Prelude.{◌≡◌, ◌≤◌, [], ◌∷◌, take, length, OnOk};
 ghost use Rattle.bl_image.specs.Grammar.{each};
 ghost use Rattle.bl_image.specs.Image.{command, command_code, fields, operand};
-ghost use Rattle.bl_image.specs.Reading.{Reads, fields_behind, operands_of};
+ghost use Rattle.bl_image.specs.Reading.{Finds, fields_behind, operands_of};
 ghost use Rattle.bl_image.specs.Writing.{Adds, CommandFits};
 
-use crate::error::ReadError;
-use crate::read::{Read, read_byte, read_u32};
+use crate::error::Malformed;
+use crate::read::{Find, read_byte, read_u32};
 use crate::write::{Write, write_byte};
 use bl_base::{NoMemory, Pos, Trap, Var};
 use bl_cmd::{Command, Mark, Operand, arity};
 use bl_ops::{AccessKind, Op};
-use std::alloc::Global;
 
 /// What stands for an operand that an operator doesn't take.
 const ZERO: Operand = Operand::Const(0);
 
-/// Reads so many operands; the others are 0. NotAnImage for another count than 1 to 3.
+/// Reads so many operands; the others are 0. Malformed for another count than 1 to 3.
 fn read_operands(
     count: u8,
-    alloc: Global,
     bytes: &[u8],
     at: usize,
-) -> Result<((Operand, (Operand, Operand)), usize), ReadError>
+) -> Result<((Operand, (Operand, Operand)), usize), Malformed>
     requires place { at ≤ length bytes.now }
     requires some { 1 ≤ count }
     requires most { count ≤ 3 }
-    ensures { Reads (operands_of count) bytes.now at result }
+    ensures { Finds (operands_of count) bytes.now at result }
 {
     match count {
         1 => {
-            let (a, place) = Operand::read(alloc, bytes, at)?;
+            let (a, place) = Operand::find(bytes, at)?;
             Ok(((a, (ZERO, ZERO)), place))
         }
         2 => {
-            let ((a, b), place) = <(Operand, Operand)>::read(alloc, bytes, at)?;
+            let ((a, b), place) = <(Operand, Operand)>::find(bytes, at)?;
             Ok(((a, (b, ZERO)), place))
         }
-        _ => <(Operand, (Operand, Operand))>::read(alloc, bytes, at),
+        _ => <(Operand, (Operand, Operand))>::find(bytes, at),
     }
 }
 
-fn read_set(alloc: Global, bytes: &[u8], at: usize) -> Result<(Command, usize), ReadError>
+fn read_set(bytes: &[u8], at: usize) -> Result<(Command, usize), Malformed>
     requires { at ≤ length bytes.now }
-    ensures { Reads (fields_behind 0) bytes.now at result }
+    ensures { Finds (fields_behind 0) bytes.now at result }
 {
-    let ((mark, (op, to)), place) = <(Mark, (Op, Var))>::read(alloc, bytes, at)?;
-    let ((a, (b, c)), end) = read_operands(arity(op), alloc, bytes, place)?;
+    let ((mark, (op, to)), place) = <(Mark, (Op, Var))>::find(bytes, at)?;
+    let ((a, (b, c)), end) = read_operands(arity(op), bytes, place)?;
     let one = Command::Set {
         mark,
         op,
@@ -58,16 +56,16 @@ fn read_set(alloc: Global, bytes: &[u8], at: usize) -> Result<(Command, usize), 
     Ok((one, end))
 }
 
-fn read_load(alloc: Global, bytes: &[u8], at: usize) -> Result<(Command, usize), ReadError>
+fn read_load(bytes: &[u8], at: usize) -> Result<(Command, usize), Malformed>
     requires { at ≤ length bytes.now }
-    ensures { Reads (fields_behind 1) bytes.now at result }
+    ensures { Finds (fields_behind 1) bytes.now at result }
 {
     let ((mark, (kind, (memory, (to, (offset, address))))), place) = <(
         Mark,
         (AccessKind, (u32, (Var, (u32, Operand)))),
-    )>::read(alloc, bytes, at)?;
+    )>::find(bytes, at)?;
     if !kind.is_load() {
-        return Err(ReadError::NotAnImage);
+        return Err(Malformed);
     }
     let one = Command::Load {
         mark,
@@ -80,16 +78,16 @@ fn read_load(alloc: Global, bytes: &[u8], at: usize) -> Result<(Command, usize),
     Ok((one, place))
 }
 
-fn read_store(alloc: Global, bytes: &[u8], at: usize) -> Result<(Command, usize), ReadError>
+fn read_store(bytes: &[u8], at: usize) -> Result<(Command, usize), Malformed>
     requires { at ≤ length bytes.now }
-    ensures { Reads (fields_behind 2) bytes.now at result }
+    ensures { Finds (fields_behind 2) bytes.now at result }
 {
     let ((kind, (memory, (offset, (address, value)))), place) = <(
         AccessKind,
         (u32, (u32, (Operand, Operand))),
-    )>::read(alloc, bytes, at)?;
+    )>::find(bytes, at)?;
     if kind.is_load() {
-        return Err(ReadError::NotAnImage);
+        return Err(Malformed);
     }
     let one = Command::Store {
         kind,
@@ -101,28 +99,28 @@ fn read_store(alloc: Global, bytes: &[u8], at: usize) -> Result<(Command, usize)
     Ok((one, place))
 }
 
-fn read_test(alloc: Global, bytes: &[u8], at: usize) -> Result<(Command, usize), ReadError>
+fn read_test(bytes: &[u8], at: usize) -> Result<(Command, usize), Malformed>
     requires { at ≤ length bytes.now }
-    ensures { Reads (fields_behind 3) bytes.now at result }
+    ensures { Finds (fields_behind 3) bytes.now at result }
 {
-    let ((cond, (yes, no)), place) = <(Operand, (Pos, Pos))>::read(alloc, bytes, at)?;
+    let ((cond, (yes, no)), place) = <(Operand, (Pos, Pos))>::find(bytes, at)?;
     Ok((Command::Test { cond, yes, no }, place))
 }
 
-fn read_jump(alloc: Global, bytes: &[u8], at: usize) -> Result<(Command, usize), ReadError>
+fn read_jump(bytes: &[u8], at: usize) -> Result<(Command, usize), Malformed>
     requires { at ≤ length bytes.now }
-    ensures { Reads (fields_behind 4) bytes.now at result }
+    ensures { Finds (fields_behind 4) bytes.now at result }
 {
-    let (to, place) = Pos::read(alloc, bytes, at)?;
+    let (to, place) = Pos::find(bytes, at)?;
     Ok((Command::Jump { to }, place))
 }
 
-fn read_arg(alloc: Global, bytes: &[u8], at: usize) -> Result<(Command, usize), ReadError>
+fn read_arg(bytes: &[u8], at: usize) -> Result<(Command, usize), Malformed>
     requires { at ≤ length bytes.now }
-    ensures { Reads (fields_behind 5) bytes.now at result }
+    ensures { Finds (fields_behind 5) bytes.now at result }
 {
-    let ((mark, (function, (index, value))), place) = <(Mark, (u32, (u32, Operand)))>::read(
-        alloc, bytes, at,
+    let ((mark, (function, (index, value))), place) = <(Mark, (u32, (u32, Operand)))>::find(
+        bytes, at,
     )?;
     let one = Command::Arg {
         mark,
@@ -133,61 +131,56 @@ fn read_arg(alloc: Global, bytes: &[u8], at: usize) -> Result<(Command, usize), 
     Ok((one, place))
 }
 
-fn read_call(bytes: &[u8], at: usize) -> Result<(Command, usize), ReadError>
+fn read_call(bytes: &[u8], at: usize) -> Result<(Command, usize), Malformed>
     requires { at ≤ length bytes.now }
-    ensures { Reads (fields_behind 6) bytes.now at result }
+    ensures { Finds (fields_behind 6) bytes.now at result }
 {
     let (function, place) = read_u32(bytes, at)?;
     Ok((Command::Call { function }, place))
 }
 
-fn read_out(alloc: Global, bytes: &[u8], at: usize) -> Result<(Command, usize), ReadError>
+fn read_out(bytes: &[u8], at: usize) -> Result<(Command, usize), Malformed>
     requires { at ≤ length bytes.now }
-    ensures { Reads (fields_behind 7) bytes.now at result }
+    ensures { Finds (fields_behind 7) bytes.now at result }
 {
-    let ((mark, (index, value)), place) = <(Mark, (u32, Operand))>::read(alloc, bytes, at)?;
+    let ((mark, (index, value)), place) = <(Mark, (u32, Operand))>::find(bytes, at)?;
     Ok((Command::Out { mark, index, value }, place))
 }
 
-fn read_trap(alloc: Global, bytes: &[u8], at: usize) -> Result<(Command, usize), ReadError>
+fn read_trap(bytes: &[u8], at: usize) -> Result<(Command, usize), Malformed>
     requires { at ≤ length bytes.now }
-    ensures { Reads (fields_behind 9) bytes.now at result }
+    ensures { Finds (fields_behind 9) bytes.now at result }
 {
-    let (kind, place) = Trap::read(alloc, bytes, at)?;
+    let (kind, place) = Trap::find(bytes, at)?;
     Ok((Command::Trap { kind }, place))
 }
 
 /// Reads the fields of a command of that code.
-fn read_fields(
-    code: u8,
-    alloc: Global,
-    bytes: &[u8],
-    at: usize,
-) -> Result<(Command, usize), ReadError>
+fn read_fields(code: u8, bytes: &[u8], at: usize) -> Result<(Command, usize), Malformed>
     requires { at ≤ length bytes.now }
-    ensures { Reads (fields_behind code) bytes.now at result }
+    ensures { Finds (fields_behind code) bytes.now at result }
 {
     match code {
-        0x00 => read_set(alloc, bytes, at),
-        0x01 => read_load(alloc, bytes, at),
-        0x02 => read_store(alloc, bytes, at),
-        0x03 => read_test(alloc, bytes, at),
-        0x04 => read_jump(alloc, bytes, at),
-        0x05 => read_arg(alloc, bytes, at),
+        0x00 => read_set(bytes, at),
+        0x01 => read_load(bytes, at),
+        0x02 => read_store(bytes, at),
+        0x03 => read_test(bytes, at),
+        0x04 => read_jump(bytes, at),
+        0x05 => read_arg(bytes, at),
         0x06 => read_call(bytes, at),
-        0x07 => read_out(alloc, bytes, at),
+        0x07 => read_out(bytes, at),
         0x08 => Ok((Command::Ret, at)),
-        0x09 => read_trap(alloc, bytes, at),
-        _ => Err(ReadError::NotAnImage),
+        0x09 => read_trap(bytes, at),
+        _ => Err(Malformed),
     }
 }
 
-impl Read for Command {
+impl Find for Command {
     ghost spells = { command };
 
-    fn read(alloc: Global, bytes: &[u8], at: usize) -> Result<(Command, usize), ReadError> {
+    fn find(bytes: &[u8], at: usize) -> Result<(Command, usize), Malformed> {
         let (code, place) = read_byte(bytes, at)?;
-        read_fields(code, alloc, bytes, place)
+        read_fields(code, bytes, place)
     }
 }
 

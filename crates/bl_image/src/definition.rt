@@ -2,29 +2,45 @@
 ghost use Rattle.bl_image.specs.Writing.{FunctionFits, MemoryFits};
 ghost use Rattle.bl_image.specs.Image.{global, memory, param, function, export, exports, demand};
 
-use crate::error::ReadError;
-use crate::read::{Read, read_byte, read_each, read_u32, read_u64};
+use crate::error::{Malformed, ReadError};
+use crate::read::{Find, Read, read_byte, read_each, read_found, read_u32, read_u64};
 use crate::rising::{Rows, write_numbered};
 use crate::write::{Write, write_byte, write_u64};
 use bl_base::{Label, List, NoMemory, Text, ValueType};
 use bl_cmd::{Demand, ExportDef, FunctionDef, GlobalDef, MemoryDef, ParamDef};
 use std::alloc::Global;
 
+impl Find for GlobalDef {
+    ghost spells = { global };
+
+    fn find(bytes: &[u8], at: usize) -> Result<(GlobalDef, usize), Malformed> {
+        let ((kind, (label, first)), place) = <(ValueType, (Label, u64))>::find(bytes, at)?;
+        Ok((GlobalDef { kind, label, first }, place))
+    }
+}
+
 impl Read for GlobalDef {
     ghost spells = { global };
 
-    fn read(alloc: Global, bytes: &[u8], at: usize) -> Result<(GlobalDef, usize), ReadError> {
-        let ((kind, (label, first)), place) = <(ValueType, (Label, u64))>::read(alloc, bytes, at)?;
-        Ok((GlobalDef { kind, label, first }, place))
+    fn read(_alloc: Global, bytes: &[u8], at: usize) -> Result<(GlobalDef, usize), ReadError> {
+        read_found(bytes, at)
+    }
+}
+
+impl Find for ParamDef {
+    ghost spells = { param };
+
+    fn find(bytes: &[u8], at: usize) -> Result<(ParamDef, usize), Malformed> {
+        let ((kind, label), place) = <(ValueType, Label)>::find(bytes, at)?;
+        Ok((ParamDef { kind, label }, place))
     }
 }
 
 impl Read for ParamDef {
     ghost spells = { param };
 
-    fn read(alloc: Global, bytes: &[u8], at: usize) -> Result<(ParamDef, usize), ReadError> {
-        let ((kind, label), place) = <(ValueType, Label)>::read(alloc, bytes, at)?;
-        Ok((ParamDef { kind, label }, place))
+    fn read(_alloc: Global, bytes: &[u8], at: usize) -> Result<(ParamDef, usize), ReadError> {
+        read_found(bytes, at)
     }
 }
 
@@ -86,22 +102,30 @@ impl Read for MemoryDef {
     }
 }
 
-impl Read for Demand {
+impl Find for Demand {
     ghost spells = { demand };
 
-    fn read(alloc: Global, bytes: &[u8], at: usize) -> Result<(Demand, usize), ReadError> {
+    fn find(bytes: &[u8], at: usize) -> Result<(Demand, usize), Malformed> {
         let (code, place) = read_byte(bytes, at)?;
         match code {
             0x00 => {
-                let ((function, index), end) = <(u32, u32)>::read(alloc, bytes, place)?;
+                let ((function, index), end) = <(u32, u32)>::find(bytes, place)?;
                 Ok((Demand::Result { function, index }, end))
             }
             0x01 => {
                 let (global, end) = read_u32(bytes, place)?;
                 Ok((Demand::Global(global), end))
             }
-            _ => Err(ReadError::NotAnImage),
+            _ => Err(Malformed),
         }
+    }
+}
+
+impl Read for Demand {
+    ghost spells = { demand };
+
+    fn read(_alloc: Global, bytes: &[u8], at: usize) -> Result<(Demand, usize), ReadError> {
+        read_found(bytes, at)
     }
 }
 

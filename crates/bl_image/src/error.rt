@@ -1,6 +1,6 @@
 //! Why nothing was read.
 ghost use Rattle.std.specs.Prelude.{◌≡◌};
-ghost use Rattle.bl_image.specs.declared.error.ReadError.TheVariants.{Memory};
+ghost use Rattle.bl_image.specs.declared.error.ReadError.TheVariants.{Memory, NotAnImage};
 
 use bl_base::{NoMemory, Pos};
 use std::alloc::AllocFailed;
@@ -34,6 +34,19 @@ pub enum ReadError {
     /// Memory ran out.
     #[error("out of memory")]
     Memory,
+}
+
+/// The bytes from the place on begin with no spelling of the part: why a reader that takes no memory gives nothing.
+#[derive(Clone, Copy, Debug, PartialEq, Eq, Error)]
+#[error("malformed")]
+pub struct Malformed;
+
+impl From<Malformed> for ReadError {
+    ghost from_gives = { λ _ e. e ≡ NotAnImage };
+
+    fn from(_e: Malformed) -> ReadError {
+        ReadError::NotAnImage
+    }
 }
 
 impl From<NoMemory> for ReadError {

@@ -3,12 +3,24 @@ ghost use Rattle.std.specs.Prelude.{◌≡◌, ◌≤◌, ◌<◌, ◌^◌, ℕ,
 ghost use Rattle.bl_leb.specs.Grammar.{◌⨾◌, given, exactly, byte};
 ghost use Rattle.bl_image.specs.Grammar.{each, vec, u32, u64};
 ghost use Rattle.bl_image.specs.Image.{text};
-ghost use Rattle.bl_image.specs.Reading.{Reads};
+ghost use Rattle.bl_image.specs.Reading.{Finds, Reads};
 
-use crate::error::ReadError;
+use crate::error::{Malformed, ReadError};
 use bl_base::{List, Text};
 use bl_leb::read_short;
 use std::alloc::Global;
+
+/// What stands in an image and takes no memory, with its reader.
+pub trait Find: Drop {
+    /// Its spellings.
+    ghost spells: { Self → Listed ℕ → Type 0 };
+
+    /// Reads what begins at `at`, a place of `bytes` or their length, and gives it with the place after its last byte.
+    /// Malformed exactly where no spelling begins there.
+    fn find(bytes: &[u8], at: usize) -> Result<(Self, usize), Malformed>
+        requires { at ≤ length bytes.now }
+        ensures { Finds spells bytes.now at result };
+}
 
 /// What stands in an image, with its reader.
 pub trait Read: Drop {
@@ -23,20 +35,20 @@ pub trait Read: Drop {
 }
 
 /// Reads one byte.
-pub fn read_byte(bytes: &[u8], at: usize) -> Result<(u8, usize), ReadError>
+pub fn read_byte(bytes: &[u8], at: usize) -> Result<(u8, usize), Malformed>
     requires { at ≤ length bytes.now }
-    ensures { Reads byte bytes.now at result }
+    ensures { Finds byte bytes.now at result }
 {
     match bytes.get(at) {
         Some(byte) => Ok((*byte, at + 1)),
-        None => Err(ReadError::NotAnImage),
+        None => Err(Malformed),
     }
 }
 
 /// Reads a number below 2^64 in its shortest spelling.
-pub fn read_u64(bytes: &[u8], at: usize) -> Result<(u64, usize), ReadError>
+pub fn read_u64(bytes: &[u8], at: usize) -> Result<(u64, usize), Malformed>
     requires { at ≤ length bytes.now }
-    ensures { Reads u64 bytes.now at result }
+    ensures { Finds u64 bytes.now at result }
 {
     let (byte, place) = read_byte(bytes, at)?;
     if byte < 0x80 {
@@ -46,41 +58,68 @@ pub fn read_u64(bytes: &[u8], at: usize) -> Result<(u64, usize), ReadError>
 }
 
 /// Reads a number of whatever size.
-fn read_any_u64(bytes: &[u8], at: usize) -> Result<(u64, usize), ReadError>
+fn read_any_u64(bytes: &[u8], at: usize) -> Result<(u64, usize), Malformed>
     requires { at ≤ length bytes.now }
-    ensures { Reads u64 bytes.now at result }
+    ensures { Finds u64 bytes.now at result }
 {
     match read_short(bytes, at) {
         Some(found) => Ok(found),
-        None => Err(ReadError::NotAnImage),
+        None => Err(Malformed),
     }
 }
 
 /// Reads a number below 2^32 in its shortest spelling.
-pub fn read_u32(bytes: &[u8], at: usize) -> Result<(u32, usize), ReadError>
+pub fn read_u32(bytes: &[u8], at: usize) -> Result<(u32, usize), Malformed>
     requires { at ≤ length bytes.now }
-    ensures { Reads u32 bytes.now at result }
+    ensures { Finds u32 bytes.now at result }
 {
     let (number, place) = read_u64(bytes, at)?;
     if number > u64::from(u32::MAX) {
-        return Err(ReadError::NotAnImage);
+        return Err(Malformed);
     }
     Ok((number as u32, place))
+}
+
+impl Find for u32 {
+    ghost spells = { u32 };
+
+    fn find(bytes: &[u8], at: usize) -> Result<(u32, usize), Malformed> {
+        read_u32(bytes, at)
+    }
+}
+
+impl Find for u64 {
+    ghost spells = { u64 };
+
+    fn find(bytes: &[u8], at: usize) -> Result<(u64, usize), Malformed> {
+        read_u64(bytes, at)
+    }
+}
+
+impl<A: Find, B: Find> Find for (A, B) {
+    ghost spells = { λ both. A.spells both.0 ⨾ B.spells both.1 };
+
+    fn find(bytes: &[u8], at: usize) -> Result<((A, B), usize), Malformed> {
+        let (first, place) = A::find(bytes, at)?;
+        let (second, end) = B::find(bytes, place)?;
+        Ok(((first, second), end))
+    }
+}
+
+/// Reads what takes no memory, among what takes some.
+pub fn read_found<T: Find>(bytes: &[u8], at: usize) -> Result<(T, usize), ReadError>
+    requires { at ≤ length bytes.now }
+    ensures { Reads T.spells bytes.now at result }
+{
+    let (thing, place) = T::find(bytes, at)?;
+    Ok((thing, place))
 }
 
 impl Read for u32 {
     ghost spells = { u32 };
 
     fn read(_alloc: Global, bytes: &[u8], at: usize) -> Result<(u32, usize), ReadError> {
-        read_u32(bytes, at)
-    }
-}
-
-impl Read for u64 {
-    ghost spells = { u64 };
-
-    fn read(_alloc: Global, bytes: &[u8], at: usize) -> Result<(u64, usize), ReadError> {
-        read_u64(bytes, at)
+        read_found(bytes, at)
     }
 }
 

@@ -3,10 +3,10 @@ ghost use Rattle.std.specs.Prelude.{◌≡◌, ◌≤◌, ◌<◌, ◌^◌, ℕ,
 ghost use Rattle.bl_leb.specs.Grammar.{◌⨾◌, exactly, given};
 ghost use Rattle.bl_image.specs.Grammar.{u32, gap, rising};
 ghost use Rattle.bl_image.specs.Image.{row, rows, weight, weights};
-ghost use Rattle.bl_image.specs.Reading.{Reads};
+ghost use Rattle.bl_image.specs.Reading.{Finds, Reads};
 ghost use Rattle.bl_image.specs.Writing.{Adds, Rises};
 
-use crate::error::ReadError;
+use crate::error::{Malformed, ReadError};
 use crate::read::{Read, read_u32, read_u64};
 use crate::write::write_u64;
 use bl_base::{List, NoMemory, Pos};
@@ -26,9 +26,9 @@ pub trait Numbered: Drop {
         ensures { result ≡ numbered self.now };
 
     /// Reads what stands behind that number.
-    fn read_behind(number: u32, bytes: &[u8], at: usize) -> Result<(Self, usize), ReadError>
+    fn read_behind(number: u32, bytes: &[u8], at: usize) -> Result<(Self, usize), Malformed>
         requires { at ≤ length bytes.now }
-        ensures { Reads (λ one. given (numbered one ≡ number) (behind one)) bytes.now at result };
+        ensures { Finds (λ one. given (numbered one ≡ number) (behind one)) bytes.now at result };
 
     /// Appends what stands behind its number.
     fn write_behind(&self, to: &mut Vec<u8>) -> Result<(), NoMemory>
@@ -36,13 +36,13 @@ pub trait Numbered: Drop {
 }
 
 /// Reads sixteen bytes as they stand.
-fn read_sixteen(bytes: &[u8], at: usize) -> Result<([u8; 16], usize), ReadError>
+fn read_sixteen(bytes: &[u8], at: usize) -> Result<([u8; 16], usize), Malformed>
     requires { at ≤ length bytes.now }
-    ensures { Reads (λ these. given (length these ≡ 16) (exactly these)) bytes.now at result }
+    ensures { Finds (λ these. given (length these ≡ 16) (exactly these)) bytes.now at result }
 {
     match bytes[at..].first_chunk::<16>() {
         Some(these) => Ok((*these, at + 16)),
-        None => Err(ReadError::NotAnImage),
+        None => Err(Malformed),
     }
 }
 
@@ -55,7 +55,7 @@ impl Numbered for MemRow {
         self.number
     }
 
-    fn read_behind(number: u32, bytes: &[u8], at: usize) -> Result<(MemRow, usize), ReadError> {
+    fn read_behind(number: u32, bytes: &[u8], at: usize) -> Result<(MemRow, usize), Malformed> {
         let (bytes, place) = read_sixteen(bytes, at)?;
         Ok((MemRow { number, bytes }, place))
     }
@@ -76,7 +76,7 @@ impl Numbered for SiteWeight {
         self.at.0
     }
 
-    fn read_behind(number: u32, bytes: &[u8], at: usize) -> Result<(SiteWeight, usize), ReadError> {
+    fn read_behind(number: u32, bytes: &[u8], at: usize) -> Result<(SiteWeight, usize), Malformed> {
         let (weight, place) = read_u64(bytes, at)?;
         let one = SiteWeight {
             at: Pos(number),
@@ -91,24 +91,24 @@ impl Numbered for SiteWeight {
 }
 
 /// Reads a number by how far it is from the least one that may stand there.
-fn read_gap(least: u64, bytes: &[u8], at: usize) -> Result<(u32, usize), ReadError>
+fn read_gap(least: u64, bytes: &[u8], at: usize) -> Result<(u32, usize), Malformed>
     requires place { at ≤ length bytes.now }
     requires small { least ≤ 2 ^ 32 }
-    ensures { Reads (gap least) bytes.now at result }
+    ensures { Finds (gap least) bytes.now at result }
 {
     let (far, place) = read_u32(bytes, at)?;
     let number = least + u64::from(far);
     if number > u64::from(u32::MAX) {
-        return Err(ReadError::NotAnImage);
+        return Err(Malformed);
     }
     Ok((number as u32, place))
 }
 
 /// Reads a thing behind its number.
-fn read_next<T: Numbered>(least: u64, bytes: &[u8], at: usize) -> Result<(T, usize), ReadError>
+fn read_next<T: Numbered>(least: u64, bytes: &[u8], at: usize) -> Result<(T, usize), Malformed>
     requires place { at ≤ length bytes.now }
     requires small { least ≤ 2 ^ 32 }
-    ensures { Reads (λ one. gap least (T.numbered one) ⨾ T.behind one) bytes.now at result }
+    ensures { Finds (λ one. gap least (T.numbered one) ⨾ T.behind one) bytes.now at result }
 {
     let (number, place) = read_gap(least, bytes, at)?;
     T::read_behind(number, bytes, place)

@@ -4,30 +4,43 @@ ghost use Rattle.bl_cmd.specs.declared.command.Mark.{Mark};
 ghost use Rattle.bl_leb.specs.Grammar.{byte};
 ghost use Rattle.bl_image.specs.Grammar.{u32};
 ghost use Rattle.bl_image.specs.Image.{value_type, label, operand, mark, operator, access, trap_kind};
-ghost use Rattle.bl_image.specs.Reading.{Reads};
+ghost use Rattle.bl_image.specs.Reading.{Finds, Reads};
 
-use crate::error::ReadError;
-use crate::read::{Read, read_byte, read_u32, read_u64};
+use crate::error::{Malformed, ReadError};
+use crate::read::{Find, Read, read_byte, read_found, read_u32, read_u64};
 use bl_base::{Label, Pos, Trap, ValueType, Var};
 use bl_cmd::{Mark, Operand};
 use bl_ops::{AccessKind, Op, by_image_code};
 use std::alloc::Global;
 
-impl Read for Var {
+impl Find for Var {
     ghost spells = { λ x. u32 x.0 };
 
-    fn read(_alloc: Global, bytes: &[u8], at: usize) -> Result<(Var, usize), ReadError> {
+    fn find(bytes: &[u8], at: usize) -> Result<(Var, usize), Malformed> {
         let (number, place) = read_u32(bytes, at)?;
         Ok((Var(number), place))
     }
 }
 
-impl Read for Pos {
+impl Find for Pos {
     ghost spells = { λ position. u32 position.0 };
 
-    fn read(_alloc: Global, bytes: &[u8], at: usize) -> Result<(Pos, usize), ReadError> {
+    fn find(bytes: &[u8], at: usize) -> Result<(Pos, usize), Malformed> {
         let (number, place) = read_u32(bytes, at)?;
         Ok((Pos(number), place))
+    }
+}
+
+impl Find for ValueType {
+    ghost spells = { value_type };
+
+    fn find(bytes: &[u8], at: usize) -> Result<(ValueType, usize), Malformed> {
+        let (code, place) = read_byte(bytes, at)?;
+        match code {
+            0x7F => Ok((ValueType::I32, place)),
+            0x7E => Ok((ValueType::I64, place)),
+            _ => Err(Malformed),
+        }
     }
 }
 
@@ -35,11 +48,19 @@ impl Read for ValueType {
     ghost spells = { value_type };
 
     fn read(_alloc: Global, bytes: &[u8], at: usize) -> Result<(ValueType, usize), ReadError> {
+        read_found(bytes, at)
+    }
+}
+
+impl Find for Label {
+    ghost spells = { label };
+
+    fn find(bytes: &[u8], at: usize) -> Result<(Label, usize), Malformed> {
         let (code, place) = read_byte(bytes, at)?;
         match code {
-            0x7F => Ok((ValueType::I32, place)),
-            0x7E => Ok((ValueType::I64, place)),
-            _ => Err(ReadError::NotAnImage),
+            0x00 => Ok((Label::Public, place)),
+            0x01 => Ok((Label::Secret, place)),
+            _ => Err(Malformed),
         }
     }
 }
@@ -48,19 +69,14 @@ impl Read for Label {
     ghost spells = { label };
 
     fn read(_alloc: Global, bytes: &[u8], at: usize) -> Result<(Label, usize), ReadError> {
-        let (code, place) = read_byte(bytes, at)?;
-        match code {
-            0x00 => Ok((Label::Public, place)),
-            0x01 => Ok((Label::Secret, place)),
-            _ => Err(ReadError::NotAnImage),
-        }
+        read_found(bytes, at)
     }
 }
 
-impl Read for Operand {
+impl Find for Operand {
     ghost spells = { operand };
 
-    fn read(_alloc: Global, bytes: &[u8], at: usize) -> Result<(Operand, usize), ReadError> {
+    fn find(bytes: &[u8], at: usize) -> Result<(Operand, usize), Malformed> {
         let (code, place) = read_byte(bytes, at)?;
         match code {
             0x00 => {
@@ -71,7 +87,7 @@ impl Read for Operand {
                 let (number, end) = read_u64(bytes, place)?;
                 Ok((Operand::Const(number), end))
             }
-            _ => Err(ReadError::NotAnImage),
+            _ => Err(Malformed),
         }
     }
 }
@@ -94,50 +110,50 @@ fn mark_of(code: u8) -> Option<Mark>
     }
 }
 
-impl Read for Mark {
+impl Find for Mark {
     ghost spells = { mark };
 
-    fn read(_alloc: Global, bytes: &[u8], at: usize) -> Result<(Mark, usize), ReadError> {
+    fn find(bytes: &[u8], at: usize) -> Result<(Mark, usize), Malformed> {
         let (code, place) = read_byte(bytes, at)?;
         match mark_of(code) {
             Some(mark) => Ok((mark, place)),
-            None => Err(ReadError::NotAnImage),
+            None => Err(Malformed),
         }
     }
 }
 
-impl Read for Op {
+impl Find for Op {
     ghost spells = { operator };
 
-    fn read(_alloc: Global, bytes: &[u8], at: usize) -> Result<(Op, usize), ReadError> {
+    fn find(bytes: &[u8], at: usize) -> Result<(Op, usize), Malformed> {
         let (code, place) = read_byte(bytes, at)?;
         match by_image_code(code) {
             Some(op) => Ok((op, place)),
-            None => Err(ReadError::NotAnImage),
+            None => Err(Malformed),
         }
     }
 }
 
-impl Read for AccessKind {
+impl Find for AccessKind {
     ghost spells = { access };
 
-    fn read(_alloc: Global, bytes: &[u8], at: usize) -> Result<(AccessKind, usize), ReadError> {
+    fn find(bytes: &[u8], at: usize) -> Result<(AccessKind, usize), Malformed> {
         let (code, place) = read_byte(bytes, at)?;
         match AccessKind::by_code(code) {
             Some(kind) => Ok((kind, place)),
-            None => Err(ReadError::NotAnImage),
+            None => Err(Malformed),
         }
     }
 }
 
-impl Read for Trap {
+impl Find for Trap {
     ghost spells = { trap_kind };
 
-    fn read(_alloc: Global, bytes: &[u8], at: usize) -> Result<(Trap, usize), ReadError> {
+    fn find(bytes: &[u8], at: usize) -> Result<(Trap, usize), Malformed> {
         let (code, place) = read_byte(bytes, at)?;
         match Trap::by_code(code) {
             Some(kind) => Ok((kind, place)),
-            None => Err(ReadError::NotAnImage),
+            None => Err(Malformed),
         }
     }
 }

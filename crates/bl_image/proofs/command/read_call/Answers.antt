@@ -5,12 +5,12 @@ use Rattle.bl_image.specs.Image.{command_code, fields}
 use Rattle.bl_image.specs.Reading.{fields_behind}
 use Rattle.bl_cmd.specs.declared.command.Command.TheVariants.{Call}
 use Rattle.bl_image.proofs.Cases.{is_call}
-use Rattle.bl_image.proofs.Begins.{passes, begins_case, begins_given, none_case, none_given}
+use Rattle.bl_image.proofs.Begins.{fails, begins_case, begins_given, none_case, none_given}
 use Rattle.bl_image.proofs.command.read_call.Goals as goal
 
 pub returns-in_err-function : goal.returns-in_err-function
 returns-in_err-function c =
-    passes (λ p. fields (Call p)) (fields_behind 6) c.args.bytes.now c.args.at c.args.at c.from_residual.result _ c.from_residual.ensures.1
+    fails (λ p. fields (Call p)) (fields_behind 6) c.args.bytes.now c.args.at c.args.at c.from_residual.result _ c.from_residual.ensures.1
     (λ none. none_case command_code (λ y. given (IsCommand y) (fields y)) Call 6 (drop c.args.at c.args.bytes.now) is_call (none_given (λ p. fields (Call p)) (λ p. IsCommand (Call p)) (drop c.args.at c.args.bytes.now) none)) c.in_err-function.ensures
 
 pub returns : goal.returns

@@ -5,12 +5,12 @@ use Rattle.bl_image.specs.Image.{command_code, fields}
 use Rattle.bl_image.specs.Reading.{fields_behind}
 use Rattle.bl_cmd.specs.declared.command.Command.TheVariants.{Jump}
 use Rattle.bl_image.proofs.Cases.{is_jump}
-use Rattle.bl_image.proofs.Begins.{passes, begins_case, begins_given, none_case, none_given}
+use Rattle.bl_image.proofs.Begins.{fails, begins_case, begins_given, none_case, none_given}
 use Rattle.bl_image.proofs.command.read_jump.Goals as goal
 
 pub returns-in_err-to : goal.returns-in_err-to
 returns-in_err-to c =
-    passes (λ p. fields (Jump p)) (fields_behind 4) c.args.bytes.now c.args.at c.args.at c.from_residual.result _ c.from_residual.ensures.1
+    fails (λ p. fields (Jump p)) (fields_behind 4) c.args.bytes.now c.args.at c.args.at c.from_residual.result _ c.from_residual.ensures.1
     (λ none. none_case command_code (λ y. given (IsCommand y) (fields y)) Jump 4 (drop c.args.at c.args.bytes.now) is_jump (none_given (λ p. fields (Jump p)) (λ p. IsCommand (Jump p)) (drop c.args.at c.args.bytes.now) none)) c.in_err-to.ensures
 
 pub returns : goal.returns

@@ -4,12 +4,12 @@ use Rattle.bl_leb.specs.Grammar.{given}
 use Rattle.bl_image.specs.Image.{command_code, fields}
 use Rattle.bl_image.specs.Reading.{fields_behind}
 use Rattle.bl_image.proofs.Cases.{to_load, is_load}
-use Rattle.bl_image.proofs.Begins.{passes, begins_case, begins_given, none_case, none_given, none_unless}
+use Rattle.bl_image.proofs.Begins.{fails, begins_case, begins_given, none_case, none_given, none_unless}
 use Rattle.bl_image.proofs.command.read_load.Goals as goal
 
 pub returns-in_err-mark : goal.returns-in_err-mark
 returns-in_err-mark c =
-    passes (λ p. fields (to_load p)) (fields_behind 1) c.args.bytes.now c.args.at c.args.at c.from_residual.result _ c.from_residual.ensures.1
+    fails (λ p. fields (to_load p)) (fields_behind 1) c.args.bytes.now c.args.at c.args.at c.from_residual.result _ c.from_residual.ensures.1
     (λ none. none_case command_code (λ y. given (IsCommand y) (fields y)) to_load 1 (drop c.args.at c.args.bytes.now) is_load (none_given (λ p. fields (to_load p)) (λ p. IsCommand (to_load p)) (drop c.args.at c.args.bytes.now) none)) c.in_err-mark.ensures
 
 pub returns-then-not-is_load : goal.returns-then-not-is_load

@@ -1,13 +1,13 @@
 use Rattle.std.proofs.Common.{◌≡◌, ℕ, drop, sym, subst, arith}
 use Rattle.bl_image.specs.Image.{operand}
-use Rattle.bl_image.specs.Reading.{Reads, Begins, operands_of}
-use Rattle.bl_image.proofs.Begins.{passes, reads_as}
+use Rattle.bl_image.specs.Reading.{Finds, Begins, operands_of}
+use Rattle.bl_image.proofs.Begins.{fails, finds_as}
 use Rattle.bl_image.proofs.Operands.{zero_operand, one_operand, no_operand, two, two_operands, no_two_operands, three, three_operands, no_three_operands}
 use Rattle.bl_image.proofs.command.read_operands.Goals as goal
 
 pub returns-in_err-a-in-1 : goal.returns-in_err-a-in-1
 returns-in_err-a-in-1 c =
-    rw c.in-1.is (passes operand (operands_of 1) c.args.bytes.now c.args.at c.args.at c.from_residual.result _ c.from_residual.ensures.1 (no_operand (drop c.args.at c.args.bytes.now)) c.in_err-a-in-1.ensures)
+    rw c.in-1.is (fails operand (operands_of 1) c.args.bytes.now c.args.at c.args.at c.from_residual.result _ c.from_residual.ensures.1 (no_operand (drop c.args.at c.args.bytes.now)) c.in_err-a-in-1.ensures)
 
 pub returns-in_ok-a-in-1 : goal.returns-in_ok-a-in-1
 returns-in_ok-a-in-1 c =
@@ -16,7 +16,7 @@ returns-in_ok-a-in-1 c =
 
 pub returns-in_err-a-in-2 : goal.returns-in_err-a-in-2
 returns-in_err-a-in-2 c =
-    rw c.in-2.is (passes two (operands_of 2) c.args.bytes.now c.args.at c.args.at c.from_residual-in_err-a-in-2.result _ c.from_residual-in_err-a-in-2.ensures.1 (no_two_operands (drop c.args.at c.args.bytes.now)) c.in_err-a-in-2.ensures)
+    rw c.in-2.is (fails two (operands_of 2) c.args.bytes.now c.args.at c.args.at c.from_residual-in_err-a-in-2.result _ c.from_residual-in_err-a-in-2.ensures.1 (no_two_operands (drop c.args.at c.args.bytes.now)) c.in_err-a-in-2.ensures)
 
 pub returns-in_ok-a-in-2 : goal.returns-in_ok-a-in-2
 returns-in_ok-a-in-2 c =
@@ -26,4 +26,4 @@ returns-in_ok-a-in-2 c =
 pub returns-in_default : goal.returns-in_default
 returns-in_default c =
     let is : c.args.count ≡ 3 = omega arith in
-    rw is (reads_as three (operands_of 3) c.args.bytes.now c.args.at c.args.at c.read-in_default.result (λ x m. three_operands (drop c.args.at c.args.bytes.now) m x) (no_three_operands (drop c.args.at c.args.bytes.now)) c.read-in_default.ensures)
+    rw is (finds_as three (operands_of 3) c.args.bytes.now c.args.at c.args.at c.find-in_default.result (λ x m. three_operands (drop c.args.at c.args.bytes.now) m x) (no_three_operands (drop c.args.at c.args.bytes.now)) c.find-in_default.ensures)

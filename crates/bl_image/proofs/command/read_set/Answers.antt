@@ -1,18 +1,18 @@
 use Rattle.std.proofs.Common.{ℕ, drop, subst}
 use Rattle.bl_cmd.specs.Programs.{arity}
 use Rattle.bl_image.specs.Reading.{Begins, operands_of, fields_behind}
-use Rattle.bl_image.proofs.Begins.{passes}
+use Rattle.bl_image.proofs.Begins.{fails}
 use Rattle.bl_image.proofs.Operands.{set_parts, set_found, no_set, no_set_operands}
 use Rattle.bl_image.proofs.command.read_set.Goals as goal
 
 pub returns-in_err-mark : goal.returns-in_err-mark
 returns-in_err-mark c =
-    passes set_parts (fields_behind 0) c.args.bytes.now c.args.at c.args.at c.from_residual.result _ c.from_residual.ensures.1 (no_set (drop c.args.at c.args.bytes.now)) c.in_err-mark.ensures
+    fails set_parts (fields_behind 0) c.args.bytes.now c.args.at c.args.at c.from_residual.result _ c.from_residual.ensures.1 (no_set (drop c.args.at c.args.bytes.now)) c.in_err-mark.ensures
 
 pub returns-in_err-a : goal.returns-in_err-a
 returns-in_err-a c =
     let r = c.in_ok-mark in
-    passes (operands_of (arity r.op)) (fields_behind 0) c.args.bytes.now r.place c.args.at c.from_residual-in_err-a.result _ c.from_residual-in_err-a.ensures.1
+    fails (operands_of (arity r.op)) (fields_behind 0) c.args.bytes.now r.place c.args.at c.from_residual-in_err-a.result _ c.from_residual-in_err-a.ensures.1
     (no_set_operands (drop c.args.at c.args.bytes.now) (drop r.place c.args.bytes.now) (r.mark, (r.op, r.to)) r.ensures.1) (rw (← c.arity.ensures) c.in_err-a.ensures)
 
 pub returns : goal.returns

@@ -4,12 +4,12 @@ use Rattle.bl_leb.specs.Grammar.{given}
 use Rattle.bl_image.specs.Image.{command_code, fields}
 use Rattle.bl_image.specs.Reading.{fields_behind}
 use Rattle.bl_image.proofs.Cases.{to_test, is_test}
-use Rattle.bl_image.proofs.Begins.{passes, begins_case, begins_given, none_case, none_given}
+use Rattle.bl_image.proofs.Begins.{fails, begins_case, begins_given, none_case, none_given}
 use Rattle.bl_image.proofs.command.read_test.Goals as goal
 
 pub returns-in_err-cond : goal.returns-in_err-cond
 returns-in_err-cond c =
-    passes (λ p. fields (to_test p)) (fields_behind 3) c.args.bytes.now c.args.at c.args.at c.from_residual.result _ c.from_residual.ensures.1
+    fails (λ p. fields (to_test p)) (fields_behind 3) c.args.bytes.now c.args.at c.args.at c.from_residual.result _ c.from_residual.ensures.1
     (λ none. none_case command_code (λ y. given (IsCommand y) (fields y)) to_test 3 (drop c.args.at c.args.bytes.now) is_test (none_given (λ p. fields (to_test p)) (λ p. IsCommand (to_test p)) (drop c.args.at c.args.bytes.now) none)) c.in_err-cond.ensures
 
 pub returns : goal.returns

@@ -1,13 +1,13 @@
 use Rattle.std.proofs.Common.{drop, sym, subst, arith}
 use Rattle.bl_leb.specs.Grammar.{byte}
 use Rattle.bl_image.specs.Grammar.{u64}
-use Rattle.bl_image.proofs.Begins.{passes}
+use Rattle.bl_image.proofs.Begins.{fails}
 use Rattle.bl_image.proofs.Numbers.{number_of_byte, number_of_none}
 use Rattle.bl_image.proofs.read.read_u64.Goals as goal
 
 pub returns-in_err-byte : goal.returns-in_err-byte
 returns-in_err-byte c =
-    passes byte u64 c.args.bytes.now c.args.at c.args.at c.from_residual.result _ c.from_residual.ensures.1 (number_of_none (drop c.args.at c.args.bytes.now)) c.in_err-byte.ensures
+    fails byte u64 c.args.bytes.now c.args.at c.args.at c.from_residual.result _ c.from_residual.ensures.1 (number_of_none (drop c.args.at c.args.bytes.now)) c.in_err-byte.ensures
 
 pub returns-then-byte-lt128 : goal.returns-then-byte-lt128
 returns-then-byte-lt128 c =

@@ -1,0 +1,11 @@
+use Rattle.std.proofs.Common.{drop}
+use Rattle.bl_ops.specs.Access.{access_code}
+use Rattle.bl_image.specs.Image.{access}
+use Rattle.bl_leb.specs.Grammar.{byte}
+use Rattle.bl_image.proofs.Begins.{fails, none_via}
+use Rattle.bl_image.proofs.value.AccessKindFind.find.Goals as goal
+
+pub returns-in_err-code : goal.returns-in_err-code
+returns-in_err-code c =
+    fails byte access c.args.bytes.now c.args.at c.args.at c.from_residual.result _ c.from_residual.ensures.1
+    (none_via byte access (drop c.args.at c.args.bytes.now) (λ y t h. (access_code y, h))) c.in_err-code.ensures

@@ -1,0 +1,11 @@
+use Rattle.std.proofs.Common.{drop}
+use Rattle.bl_ops.specs.Table.{image_code_of}
+use Rattle.bl_image.specs.Image.{operator}
+use Rattle.bl_leb.specs.Grammar.{byte}
+use Rattle.bl_image.proofs.Begins.{fails, none_via}
+use Rattle.bl_image.proofs.value.OpFind.find.Goals as goal
+
+pub returns-in_err-code : goal.returns-in_err-code
+returns-in_err-code c =
+    fails byte operator c.args.bytes.now c.args.at c.args.at c.from_residual.result _ c.from_residual.ensures.1
+    (none_via byte operator (drop c.args.at c.args.bytes.now) (λ y t h. (image_code_of y, h))) c.in_err-code.ensures
