@@ -48,15 +48,15 @@ behind_end (suc depth) (End ∷ items) = behind_end depth items
 behind_end depth (item ∷ items) = behind_end depth items
 
 -- the second part of an if with its end, from inside its first part
-abbrev pub else_part : ℕ → List Instr → List Instr
-else_part depth [] = []
-else_part depth (Block r ∷ items) = else_part (suc depth) items
-else_part depth (Loop r ∷ items) = else_part (suc depth) items
-else_part depth (If r ∷ items) = else_part (suc depth) items
-else_part zero (Else ∷ items) = items
-else_part zero (End ∷ items) = End ∷ items
-else_part (suc depth) (End ∷ items) = else_part depth items
-else_part depth (item ∷ items) = else_part depth items
+abbrev pub else_items : ℕ → List Instr → List Instr
+else_items depth [] = []
+else_items depth (Block r ∷ items) = else_items (suc depth) items
+else_items depth (Loop r ∷ items) = else_items (suc depth) items
+else_items depth (If r ∷ items) = else_items (suc depth) items
+else_items zero (Else ∷ items) = items
+else_items zero (End ∷ items) = End ∷ items
+else_items (suc depth) (End ∷ items) = else_items depth items
+else_items depth (item ∷ items) = else_items depth items
 
 -- behind an `else` as many are open
 as_many : (inner : List Construct) → length (unwrap_or (open_behind Else inner) inner) ≡ length inner
@@ -84,7 +84,7 @@ end_is (End ∷ items) (x ∷ inner) = end_is items inner
 end_is (item ∷ items) [] = end_is items []
 end_is (item ∷ items) (x ∷ inner) = end_is items (x ∷ inner)
 
-else_is : (items : List Instr) (inner : List Construct) → items_of_else inner items ≡ else_part (length inner) items
+else_is : (items : List Instr) (inner : List Construct) → items_of_else inner items ≡ else_items (length inner) items
 else_is [] inner = refl
 else_is (Block r ∷ items) [] = else_is items (construct of_block r ∷ [])
 else_is (Block r ∷ items) (x ∷ inner) = else_is items (construct of_block r ∷ x ∷ inner)
@@ -93,7 +93,7 @@ else_is (Loop r ∷ items) (x ∷ inner) = else_is items (construct of_loop r �
 else_is (If r ∷ items) [] = else_is items (construct then_part r ∷ [])
 else_is (If r ∷ items) (x ∷ inner) = else_is items (construct then_part r ∷ x ∷ inner)
 else_is (Else ∷ items) [] = refl
-else_is (Else ∷ items) (x ∷ inner) = else_is items (unwrap_or (open_behind Else (x ∷ inner)) (x ∷ inner)) ∙ ap (λ n. else_part n items) (as_many (x ∷ inner))
+else_is (Else ∷ items) (x ∷ inner) = else_is items (unwrap_or (open_behind Else (x ∷ inner)) (x ∷ inner)) ∙ ap (λ n. else_items n items) (as_many (x ∷ inner))
 else_is (End ∷ items) [] = refl
 else_is (End ∷ items) (x ∷ inner) = else_is items inner
 else_is (item ∷ items) [] = else_is items []
@@ -207,7 +207,7 @@ module _ (program : Program) (bound number : ℕ) where
             IsPart k = ⊥
 
     pub seconds : (inner : List Target) (code : Code) (rest : List Instr) → next_of code ≤ (program.shape number).limit → LaidHere (inner ++ t ∷ open_ones) code rest
-        → Second t open_ones (next_of code) (else_part (depth_of code (length inner)) rest)
+        → Second t open_ones (next_of code) (else_items (depth_of code (length inner)) rest)
     seconds inner (live p) [] le h = absurd (not_none inner t open_ones h.0)
     seconds inner (live p) (Block r ∷ rest) le h =
         let n = params_of program bound number r in
