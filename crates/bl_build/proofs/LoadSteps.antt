@@ -25,7 +25,10 @@ use Rattle.bl_build.specs.declared.refusal.WorkError.{WorkError}
 use Rattle.bl_build.specs.declared.refusal.WorkError.TheVariants as error
 use Rattle.bl_build.proofs.Readings.{decoded, not_labelled_yet, validated}
 use Rattle.bl_build.proofs.StageLemmas.{Goes, goes_on}
-use Rattle.bl_words.proofs.ModuleWords.{words_in}
+
+-- the words
+abbrev pub words_in : List (Bor (List ℕ)) → List (List ℕ)
+words_in words = map (λ (word : Bor (List ℕ)). word.now) words
 
 -- ---- one stage, and then another one
 

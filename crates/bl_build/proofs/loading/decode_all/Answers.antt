@@ -12,10 +12,9 @@ use Rattle.bl_decode.specs.Decoding.{Answers}
 use Rattle.bl_build.specs.Loading.{decoding, parts_of}
 use Rattle.bl_build.specs.Working.{contents_in, spelled_in}
 use Rattle.bl_build.specs.declared.loading.Spelled.{Spelled}
-use Rattle.bl_build.proofs.LoadSteps.{next_decoded, not_decoded}
+use Rattle.bl_build.proofs.LoadSteps.{next_decoded, not_decoded, words_in}
 use Rattle.bl_build.proofs.StageLemmas.{goes_ends}
 use Rattle.bl_build.proofs.loading.decode_all.Goals as goal
-use Rattle.bl_words.proofs.ModuleWords.{words_in}
 
 abbrev IsFew : Spelled → Type 0
 IsFew one = length (functions_of one.tree) < 2 ^ 32

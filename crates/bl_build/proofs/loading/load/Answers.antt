@@ -11,9 +11,8 @@ use Rattle.bl_build.specs.Working.{checked_in, contents_in, ready_in, spelled_in
 use Rattle.bl_build.specs.declared.loading.Checked.{Checked}
 use Rattle.bl_build.specs.declared.loading.Ready.{Ready}
 use Rattle.bl_build.proofs.LinkLemmas.{linkable}
-use Rattle.bl_build.proofs.LoadSteps.{are_sane, first_refuses, then_staged}
+use Rattle.bl_build.proofs.LoadSteps.{are_sane, first_refuses, then_staged, words_in}
 use Rattle.bl_build.proofs.loading.load.Goals as goal
-use Rattle.bl_words.proofs.ModuleWords.{words_in}
 
 -- the tree is what it is
 abbrev itself : Tree → Tree
