@@ -10,9 +10,9 @@ use Rattle.std.proofs.lemmas.List.Sums.{sum_by-cons}
 use Rattle.std.proofs.lemmas.Option.{slice_get_within}
 use Rattle.bl_base.proofs.OptionLemmas.{same_value}
 use Rattle.bl_base.proofs.Lists.{get_mapped, zip_append, all_get}
-use Rattle.bl_wasm.specs.Linked.{HasImmediates, IsFunction, function_type, global_type, seen}
-use Rattle.bl_wasm.specs.Typing.{Types, integer}
-use Rattle.bl_wasm.specs.Validity.{HasTyping, IsFunctionType, IsInteger, IsValid, functions_of, globals_of, locals_of, memories_of, tables_of, imported, function_of, table_of, memory_of, global_of}
+use Rattle.bl_wasm.specs.Linked.{HasImmediates, IsFunction, function_type, global_type, seen, shared_in}
+use Rattle.bl_wasm.specs.Typing.{Spaces, Types, integer, placed}
+use Rattle.bl_wasm.specs.Validity.{HasTyping, IsFunctionType, IsInteger, IsValid, functions_of, globals_of, locals_of, memories_of, shared_by, tables_of, imported, function_of, table_of, memory_of, global_of}
 use Rattle.bl_wasm.specs.declared.instruction.Instr.{Instr}
 use Rattle.bl_wasm.specs.declared.instruction.Instr.TheVariants.{Block, Loop, If, Call, CallIndirect, GlobalGet, GlobalSet}
 use Rattle.bl_wasm.specs.declared.types.WasmType.{WasmType}
@@ -23,7 +23,6 @@ use Rattle.bl_wasm.specs.declared.module.Code.{Code}
 use Rattle.bl_wasm.specs.declared.module.DefinedGlobal.{DefinedGlobal}
 use Rattle.bl_wasm.specs.declared.module.ExportKind.TheVariants as export
 use Rattle.bl_wasm.specs.declared.module.LocalRun.{LocalRun}
-use Rattle.bl_wasm.specs.declared.module.Module.{Module}
 use Rattle.bl_wasm.specs.declared.linked.Function.{Function}
 use Rattle.bl_wasm.specs.declared.linked.Global.{Global}
 use Rattle.bl_wasm.specs.declared.linked.Tree.{Tree}
@@ -32,7 +31,7 @@ use Rattle.bl_labels.specs.Marked.{is_place}
 use Rattle.bl_link.specs.Signatures.{signature, value_of}
 use Rattle.bl_link.specs.Links.{count, function, global, indexed, memory, secret_if, table, with_part}
 use Rattle.bl_link.specs.IndexSpaces.{External, Part, Spaces as PartSpaces, Store, names, number, of_kind, spaces_of}
-use Rattle.bl_wasm.specs.Renaming.{NameAlike, Names, Spaces, placed, renamed, IsOfType}
+use Rattle.bl_wasm.specs.Renaming.{NameAlike, Names, renamed, IsOfType}
 use Rattle.bl_link.proofs.Matched.{HasGlobal, OfIndex, Suits, functions_suit, globals_suit, tables_suit, memories_suit, made_type, made_global}
 use Rattle.bl_link.proofs.Numbering.{by_place, get_left, get_numbered, get_right, zip_range}
 use Rattle.bl_wasm.proofs.RenamingLemmas.{carries}
@@ -130,19 +129,9 @@ one_seen R [] ys h some = absurd (omega (arith, some))
 one_seen R (x ∷ xs) [] h some = absurd h
 one_seen R (x ∷ xs) (y ∷ ys) h some = omega arith
 
--- what the bodies of a module see
-abbrev pub here : Module → Spaces
-here wasm = record { types = wasm.types; functions = functions_of wasm; globals = globals_of wasm; tables = length (tables_of wasm); memories = length (memories_of wasm) }
-
--- what they see in a tree
+-- what a part's bodies share in a tree
 abbrev pub there : Tree → PartSpaces → Spaces
-there later spaces = record {
-  types = map function_type later.types;
-  functions = map (λ function. function.type_index) later.functions;
-  globals = map global_type later.globals;
-  tables = seen (slice_get spaces.tables 0);
-  memories = seen (slice_get spaces.memories 0);
-}
+there later spaces = shared_in later (slice_get spaces.tables 0) (slice_get spaces.memories 0)
 
 module _ (store : Store) (part : Part) (given : List External) (later : Tree)
     (now : Grows (with_part store part (spaces_of store part.wasm given)).tree later)
@@ -215,7 +204,7 @@ module _ (store : Store) (part : Part) (given : List External) (later : Tree)
       (memories_suit store part.wasm later before memories part.wasm.imports given suit)
       (zip_range (λ limits number. number < length later.memories) part.wasm.memories (length store.tree.memories) (λ i limits found. omega (arith, now.memories, slice_get_within part.wasm.memories i limits found, length-append store.tree.memories (map (memory part.labels) (enumerate_from first part.wasm.memories)), length-map (enumerate_from first part.wasm.memories) (memory part.labels), length-enumerate_from first part.wasm.memories)))
 
-  function_alike : (index : ℕ) (type : FuncType) → IsOfType (here part.wasm) index type → IsOfType (there later (spaces_of store part.wasm given)) (number (spaces_of store part.wasm given).functions index) type
+  function_alike : (index : ℕ) (type : FuncType) → IsOfType (shared_by part.wasm) index type → IsOfType (there later (spaces_of store part.wasm given)) (number (spaces_of store part.wasm given).functions index) type
   function_alike index type h =
       let one = by_place (OfIndex part.wasm later) (functions_of part.wasm) (spaces_of store part.wasm given).functions functions_numbered index h.0 h.1 type h.2 in (
         one.0.type_index,
@@ -224,7 +213,7 @@ module _ (store : Store) (part : Part) (given : List External) (later : Tree)
       )
 
   -- the spaces name there what the indices name here
-  pub alike : NameAlike (names (spaces_of store part.wasm given)) (here part.wasm) (there later (spaces_of store part.wasm given))
+  pub alike : NameAlike (names (spaces_of store part.wasm given)) (shared_by part.wasm) (there later (spaces_of store part.wasm given))
   alike = record {
     types = λ index type found. get_mapped function_type later.types (number (spaces_of store part.wasm given).types index) (signature type) (type_found index type found)
         ∙ ap (λ (t : FuncType). Some t) (same_signature type (all_get IsFunctionType part.wasm.types index type valid.types found));
@@ -242,7 +231,7 @@ module _ (store : Store) (part : Part) (given : List External) (later : Tree)
       let spaces : PartSpaces = spaces_of store part.wasm given in
       let is : IsFunctionType t.type = all_get IsFunctionType part.wasm.types t.index t.type valid.types t.exists in
       let typing : Types (placed (there later spaces) (t.type.params ++ locals_of t.code) t.type.results) [] (map (renamed (names spaces)) t.code.items) t.places =
-      carries (names spaces) (here part.wasm) (there later spaces) alike (t.type.params ++ locals_of t.code) t.type.results t.code.items [] t.places t.typing.1 in
+      carries (names spaces) (shared_by part.wasm) (there later spaces) alike (t.type.params ++ locals_of t.code) t.type.results t.code.items [] t.places t.typing.1 in
       let with_params : Types (placed (there later spaces) (map integer (map value_of t.type.params) ++ locals_of t.code) t.type.results) [] (map (renamed (names spaces)) t.code.items) t.places =
       subst (λ (params : List WasmType). Types (placed (there later spaces) (params ++ locals_of t.code) t.type.results) [] (map (renamed (names spaces)) t.code.items) t.places) (sym (integer_values t.type.params is.params)) typing in
       let with_results : Types (placed (there later spaces) (map integer (map value_of t.type.params) ++ locals_of t.code) (map integer (map value_of t.type.results))) [] (map (renamed (names spaces)) t.code.items) t.places =

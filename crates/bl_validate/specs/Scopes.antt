@@ -1,7 +1,7 @@
 -- What a body stands in.
 use Rattle.std.specs.Prelude.{◌≡◌, ◌++◌, List, length, filter_map}
-use Rattle.bl_wasm.specs.Typing.{Context}
-use Rattle.bl_wasm.specs.Validity.{functions_of, tables_of, memories_of, globals_of, locals_of}
+use Rattle.bl_wasm.specs.Typing.{Context, Spaces, placed}
+use Rattle.bl_wasm.specs.Validity.{body_context, functions_of, tables_of, memories_of, globals_of}
 use Rattle.bl_wasm.specs.Validity.{imported, function_of, table_of, memory_of, global_of}
 use Rattle.bl_wasm.specs.declared.types.FuncType.{FuncType}
 use Rattle.bl_wasm.specs.declared.module.Code.{Code}
@@ -11,17 +11,19 @@ use Rattle.bl_validate.specs.declared.body.Body.{Body}
 use Rattle.bl_validate.specs.declared.body.Sides.{Sides}
 use Rattle.bl_validate.specs.declared.scope.Scope.{Scope}
 
+-- what all bodies in a scope share
+abbrev pub shared_by : Scope → Spaces
+shared_by scope = record {
+  types = scope.types.now;
+  functions = scope.functions.items;
+  globals = scope.globals.items;
+  tables = length scope.tables.items;
+  memories = length scope.memories.items;
+}
+
 -- the context that a body stands in
 abbrev pub seen : Body → Context
-seen body = record {
-  types = body.scope.now.types.now;
-  functions = body.scope.now.functions.items;
-  globals = body.scope.now.globals.items;
-  tables = length body.scope.now.tables.items;
-  memories = length body.scope.now.memories.items;
-  locals = body.locals.items;
-  results = body.results.now;
-}
+seen body = placed (shared_by body.scope.now) body.locals.items body.results.now
 
 -- the parameters and results of a block type
 abbrev pub sides_of : Sides → FuncType
@@ -29,15 +31,7 @@ sides_of sides = record { params = sides.params.now; results = sides.results.now
 
 -- the context of a body of that type and code
 abbrev pub context_in : Scope → FuncType → Code → Context
-context_in scope type code = record {
-  types = scope.types.now;
-  functions = scope.functions.items;
-  globals = scope.globals.items;
-  tables = length scope.tables.items;
-  memories = length scope.memories.items;
-  locals = type.params ++ locals_of code;
-  results = type.results;
-}
+context_in scope type code = body_context (shared_by scope) type code
 
 -- the scope is that of the module
 pub record IsScope (tree : Module) (scope : Scope) : Type 0 where

@@ -5,8 +5,8 @@ use Rattle.bl_wasm.specs.declared.instruction.Instr.TheVariants.{Block, Loop, If
 use Rattle.bl_wasm.specs.declared.types.WasmType.{WasmType}
 use Rattle.bl_wasm.specs.declared.types.WasmType.TheVariants.{I32}
 use Rattle.bl_wasm.specs.Nesting.{Kind, of_block, of_loop, then_part}
-use Rattle.bl_wasm.specs.Typing.{Begins, IsTyping, Open, Plain, Rule, Stays, Types, expanded, labels}
-use Rattle.bl_wasm.specs.Renaming.{Names, Spaces, NameAlike, placed, renamed, renamed_block_type}
+use Rattle.bl_wasm.specs.Typing.{Begins, IsTyping, Open, Plain, Rule, Spaces, Stays, Types, expanded, labels, placed}
+use Rattle.bl_wasm.specs.Renaming.{Names, NameAlike, renamed, renamed_block_type}
 use Rattle.bl_wasm.specs.declared.types.BlockType.{BlockType}
 use Rattle.bl_wasm.specs.declared.types.BlockType.TheVariants.{Empty, Value, Index}
 use Rattle.bl_wasm.specs.declared.types.FuncType.{FuncType}

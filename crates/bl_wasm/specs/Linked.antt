@@ -6,8 +6,8 @@ use Rattle.bl_base.specs.Quantity.{limit_of}
 use Rattle.bl_base.specs.declared.names.Label.TheVariants.{Secret}
 use Rattle.bl_base.specs.declared.quantity.Quantity.TheVariants as quantity
 use Rattle.bl_wasm.specs.Exports.{AreDistinct}
-use Rattle.bl_wasm.specs.Typing.{Context, IsTyping, integer}
-use Rattle.bl_wasm.specs.Validity.{locals_of}
+use Rattle.bl_wasm.specs.Typing.{Context, IsTyping, Spaces, integer}
+use Rattle.bl_wasm.specs.Validity.{body_context, locals_of}
 use Rattle.bl_wasm.specs.declared.instruction.Instr.{Instr}
 use Rattle.bl_wasm.specs.declared.instruction.Instr.TheVariants.{Unreachable, Nop, Block, Loop, If, Else, End, Br, BrIf, BrTable, Return, Call, CallIndirect, Drop, Select, LocalGet, LocalSet, LocalTee, GlobalGet, GlobalSet, Load, Store, FloatAccess, MemorySize, MemoryGrow, I32Const, I64Const, F32Const, F64Const, Integer, Float}
 use Rattle.bl_wasm.specs.declared.types.WasmType.{WasmType}
@@ -42,17 +42,19 @@ seen (Some number) = 1
 abbrev pub all_locals : Signature → Function → List WasmType
 all_locals type function = map integer type.params ++ locals_of function.code
 
--- the context of the body of a function of that type (section 3.1.1)
-abbrev pub context : Tree → Signature → Function → Context
-context tree type function = record {
+-- what the bodies of a tree share that see that table and that memory
+abbrev pub shared_in : Tree → Option ℕ → Option ℕ → Spaces
+shared_in tree table memory = record {
   types = map function_type tree.types;
   functions = map (λ function. function.type_index) tree.functions;
   globals = map global_type tree.globals;
-  tables = seen function.table;
-  memories = seen function.memory;
-  locals = all_locals type function;
-  results = map integer type.results;
+  tables = seen table;
+  memories = seen memory;
 }
+
+-- the context of the body of a function of that type (section 3.1.1)
+abbrev pub context : Tree → Signature → Function → Context
+context tree type function = body_context (shared_in tree function.table function.memory) (function_type type) function.code
 
 -- ---- the parts
 

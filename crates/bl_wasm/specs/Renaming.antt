@@ -1,11 +1,10 @@
 -- Items whose indices are numbers of other spaces (WebAssembly 1.0, sections 2.5.1 and 4.5.4).
-use Rattle.std.specs.Prelude.{◌≡◌, ℕ, ◌≤◌, List, slice_get, Some}
-use Rattle.bl_wasm.specs.Typing.{Context}
+use Rattle.std.specs.Prelude.{◌≡◌, ℕ, ◌≤◌, slice_get, Some}
+use Rattle.bl_wasm.specs.Typing.{Spaces}
 use Rattle.bl_wasm.specs.declared.instruction.Instr.{Instr}
 use Rattle.bl_wasm.specs.declared.instruction.Instr.TheVariants.{Unreachable, Nop, Block, Loop, If, Else, End, Br, BrIf, BrTable, Return, Call, CallIndirect, Drop, Select, LocalGet, LocalSet, LocalTee, GlobalGet, GlobalSet, Load, Store, FloatAccess, MemorySize, MemoryGrow, I32Const, I64Const, F32Const, F64Const, Integer, Float}
 use Rattle.bl_wasm.specs.declared.types.BlockType.{BlockType}
 use Rattle.bl_wasm.specs.declared.types.BlockType.TheVariants.{Empty, Value, Index}
-use Rattle.bl_wasm.specs.declared.types.WasmType.{WasmType}
 use Rattle.bl_wasm.specs.declared.types.FuncType.{FuncType}
 use Rattle.bl_wasm.specs.declared.types.GlobalType.{GlobalType}
 
@@ -54,27 +53,6 @@ renamed names (F32Const bits) = F32Const bits
 renamed names (F64Const bits) = F64Const bits
 renamed names (Integer op) = Integer op
 renamed names (Float op) = Float op
-
--- the part of a context that all bodies of a module share
-pub record Spaces : Type 0 where
-  pub types : List FuncType
-  -- the functions' type indices
-  pub functions : List ℕ
-  pub globals : List GlobalType
-  pub tables : ℕ
-  pub memories : ℕ
-
--- the context of a body with these locals and results
-abbrev pub placed : Spaces → List WasmType → List WasmType → Context
-placed spaces locals results = record {
-  types = spaces.types;
-  functions = spaces.functions;
-  globals = spaces.globals;
-  tables = spaces.tables;
-  memories = spaces.memories;
-  locals = locals;
-  results = results;
-}
 
 -- a function of those spaces has that type
 abbrev pub IsOfType : Spaces → ℕ → FuncType → Type 0

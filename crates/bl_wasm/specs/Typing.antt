@@ -34,6 +34,27 @@ pub record Context : Type 0 where
   -- the results of the function
   pub results : List WasmType
 
+-- the part of a context that all bodies of a module share
+pub record Spaces : Type 0 where
+  pub types : List FuncType
+  -- the functions' type indices
+  pub functions : List ℕ
+  pub globals : List GlobalType
+  pub tables : ℕ
+  pub memories : ℕ
+
+-- the context of a body with those locals, parameters first, and results
+abbrev pub placed : Spaces → List WasmType → List WasmType → Context
+placed spaces locals results = record {
+  types = spaces.types;
+  functions = spaces.functions;
+  globals = spaces.globals;
+  tables = spaces.tables;
+  memories = spaces.memories;
+  locals = locals;
+  results = results;
+}
+
 -- the function of an index has that type
 abbrev pub HasType : Context → ℕ → FuncType → Type 0
 HasType c function type = (index : ℕ) × (slice_get c.functions function ≡ Some index) × (slice_get c.types index ≡ Some type)

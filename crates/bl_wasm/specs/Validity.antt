@@ -2,7 +2,7 @@
 -- the rules on its other parts.
 use Rattle.std.specs.Prelude.{◌≡◌, ℕ, ◌<◌, ◌≤◌, ◌++◌, List, [], ◌∷◌, length, replicate, map, filter_map, flat_map, slice_get, false, Option, Some, None, IfSome}
 use Rattle.std.specs.List.{All}
-use Rattle.bl_wasm.specs.Typing.{Context, IsTyping}
+use Rattle.bl_wasm.specs.Typing.{Context, IsTyping, Spaces, placed}
 use Rattle.bl_wasm.specs.declared.instruction.Instr.{Instr}
 use Rattle.bl_wasm.specs.declared.instruction.Instr.TheVariants.{Unreachable, Nop, Block, Loop, If, Else, End, Br, BrIf, BrTable, Return, Call, CallIndirect, Drop, Select, LocalGet, LocalSet, LocalTee, GlobalGet, GlobalSet, Load, Store, FloatAccess, MemorySize, MemoryGrow, I32Const, I64Const, F32Const, F64Const, Integer, Float}
 use Rattle.bl_wasm.specs.declared.types.WasmType.{WasmType}
@@ -67,17 +67,23 @@ globals_of tree = imported global_of tree ++ map (λ global. global.kind) tree.g
 abbrev pub locals_of : Code → List WasmType
 locals_of code = flat_map (λ run. replicate run.count run.kind) code.locals
 
--- the context of a body of that type
-abbrev pub context_of : Module → FuncType → Code → Context
-context_of tree type code = record {
+-- the context of the body of a function of that type, with its code
+abbrev pub body_context : Spaces → FuncType → Code → Context
+body_context spaces type code = placed spaces (type.params ++ locals_of code) type.results
+
+-- what all bodies of a module share
+abbrev pub shared_by : Module → Spaces
+shared_by tree = record {
   types = tree.types;
   functions = functions_of tree;
   globals = globals_of tree;
   tables = length (tables_of tree);
   memories = length (memories_of tree);
-  locals = type.params ++ locals_of code;
-  results = type.results;
 }
+
+-- the context of a body of that type
+abbrev pub context_of : Module → FuncType → Code → Context
+context_of tree type code = body_context (shared_by tree) type code
 
 -- a function that the module defines, by its number among those, has a typing
 pub record HasTyping (tree : Module) (number : ℕ) : Type 0 where

@@ -3,10 +3,10 @@ ghost use Rattle.std.specs.Prelude.{◌≡◌, ◌↔◌, ◌++◌, ℕ, ◌≤�
 ghost use Rattle.bl_wasm.specs.Instructions.{Nests};
 ghost use Rattle.bl_wasm.specs.Nesting.{Closes, else_part, of_block, of_loop, open_through, then_part};
 ghost use Rattle.bl_wasm.specs.Reached.{is_reached};
-ghost use Rattle.bl_wasm.specs.Renaming.{NameAlike, Names, Spaces, placed, renamed};
+ghost use Rattle.bl_wasm.specs.Renaming.{NameAlike, Names, renamed};
 ghost use Rattle.bl_wasm.specs.Sequences.{IsConstruct, Sequence};
 ghost use Rattle.bl_wasm.specs.TypedPlaces.{IsOpenAt};
-ghost use Rattle.bl_wasm.specs.Typing.{Context, IsTyping, Open, Types, labels};
+ghost use Rattle.bl_wasm.specs.Typing.{Context, IsTyping, Open, Spaces, Types, labels, placed};
 ghost use Rattle.bl_wasm.specs.declared.instruction.Instr.TheVariants as instr;
 ghost use Rattle.bl_wasm.specs.declared.instruction.Instr.{Instr};
 ghost use Rattle.bl_wasm.specs.declared.types.BlockType.{BlockType};
