@@ -22,13 +22,13 @@ IsIntegerImport (import.Global type) = IsInteger type.kind
 
 -- an instruction that is none of floats, and names no type of floats (section 2.4)
 abbrev pub IsIntegerInstr : Instr → Type 0
+IsIntegerInstr Unreachable = Unit {0}
+IsIntegerInstr Nop = Unit {0}
 IsIntegerInstr (Block type) = HasIntegerType type
 IsIntegerInstr (Loop type) = HasIntegerType type
 IsIntegerInstr (If type) = HasIntegerType type
 IsIntegerInstr Else = Unit {0}
 IsIntegerInstr End = Unit {0}
-IsIntegerInstr Unreachable = Unit {0}
-IsIntegerInstr Nop = Unit {0}
 IsIntegerInstr (Br l) = Unit {0}
 IsIntegerInstr (BrIf l) = Unit {0}
 IsIntegerInstr (BrTable default others) = Unit {0}
