@@ -262,7 +262,7 @@ const store_cases = [
   // globals; the profile has no floats
   ["an imported global of f64", { imports: [fn, constant, ["Global", ["F64", false]]] }, "RULE"],
   ["a global of another type than its constant", { globals: [[["I64", true], "41 00"]] }],
-  ["a global without first value", { globals: [[["I64", true], ""]] }],
+  ["a global without initial value", { globals: [[["I64", true], ""]] }],
   ["a global of two constants", { globals: [[["I64", true], "42 00 42 00"]] }],
   ["a global of a size", { globals: [[["I32", true], "3F 00"]] }],
   ["a global of an imported one", { globals: [variable, [["I32", false], "23 00"]] }],

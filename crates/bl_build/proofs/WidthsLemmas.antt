@@ -131,8 +131,8 @@ has_widths name bytes tree labels all h =
     record {
       bodies = section_all 10 code_entry (λ code. All HasImmediates code.items)
           (λ code these spelled bytes. let body = spelled.spelled.1.second.1 in items_fit code.items body.front body.first) tree.bodies codes.section codes.spelled codes.bytes;
-      firsts = section_all 6 global_entry (λ global. All HasImmediates global.first)
-          (λ global these spelled bytes. let first = spelled.second.1 in items_fit global.first first.front first.first) tree.globals globals.section globals.spelled globals.bytes;
+      initials = section_all 6 global_entry (λ global. All HasImmediates global.initial)
+          (λ global these spelled bytes. let first = spelled.second.1 in items_fit global.initial first.front first.first) tree.globals globals.section globals.spelled globals.bytes;
       bytes = section_all 11 data_entry (λ segment. AreBytes segment.bytes)
           (λ segment these spelled bytes.
           let behind = (split_bytes these spelled.front spelled.rest spelled.whole bytes).1 in

@@ -51,13 +51,13 @@ pub record IsFunction (function : FunctionDef) : Type 0 where
   pub variables : length function.params + length function.results ≤ function.vars
 
 -- there are at most as many functions as all modules may have, and each is one; variables are fewer than 2^31, and commands in their limit;
--- the first value of a global is one of its type
+-- the initial value of a global is one of its type
 pub record Rule2 (program : Program) : Type 0 where
   pub functions : length program.functions ≤ limit_of quantity.Modules * limit_of quantity.Functions
   pub each : All IsFunction program.functions
   pub variables : first_of program (length program.functions) < 2 ^ 31
   pub commands : length program.commands ≤ limit_of quantity.Commands
-  pub globals : All (λ global. ArgumentFits global.kind global.first) program.globals
+  pub globals : All (λ global. ArgumentFits global.kind global.initial) program.globals
 
 -- ---- rule 3: exports
 

@@ -7,10 +7,10 @@ use bl_base::{Label, List, Pos, Text, ValueType};
 pub struct GlobalDef {
     /// The type of its value.
     pub kind: ValueType,
-    /// Who may learn its first value.
+    /// Who may learn its initial value.
     pub label: Label,
-    /// Its first value.
-    pub first: u64,
+    /// Its initial value.
+    pub initial: u64,
 }
 
 /// A memory. Its size in pages is a variable.

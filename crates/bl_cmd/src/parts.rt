@@ -108,7 +108,7 @@ fn most_functions() -> u64
     Quantity::Modules.limit() * Quantity::Functions.limit()
 }
 
-/// Whether the functions, the variables, the commands and the globals' first values are as they have to be.
+/// Whether the functions, the variables, the commands and the globals' initial values are as they have to be.
 fn keeps_functions(parts: &ProgramParts) -> bool
     ensures { IsTrue result ↔ Rule2 parts.now }
 {
@@ -165,13 +165,13 @@ fn have_few(functions: &[FunctionDef], most: u32) -> bool
     true
 }
 
-/// Whether each first value is one of its type.
+/// Whether each initial value is one of its type.
 fn are_values(globals: &[GlobalDef]) -> bool
-    ensures { IsTrue result ↔ All (λ global. ArgumentFits global.kind global.first) globals.now }
+    ensures { IsTrue result ↔ All (λ global. ArgumentFits global.kind global.initial) globals.now }
 {
     globals
         .iter()
-        .all(|global| argument_fits(global.kind, global.first))
+        .all(|global| argument_fits(global.kind, global.initial))
 }
 
 /// Whether no two exports have one name, and what they name exists.

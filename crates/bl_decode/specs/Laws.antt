@@ -97,8 +97,8 @@ import_entry_prefix_free =
 
 pub global_entry_prefix_free : PrefixFree global_entry
 global_entry_prefix_free =
-    parts_prefix_free (λ t. global_type t.0 ⨾ expression t.1) (λ (global : DefinedGlobal). (global.kind, global.first))
-    (λ t. record { kind = t.0; first = t.1 }) (λ x. refl) (seq_prefix_free global_type_prefix_free expression_prefix_free)
+    parts_prefix_free (λ t. global_type t.0 ⨾ expression t.1) (λ (global : DefinedGlobal). (global.kind, global.initial))
+    (λ t. record { kind = t.0; initial = t.1 }) (λ x. refl) (seq_prefix_free global_type_prefix_free expression_prefix_free)
 
 export_kind_same : (x y : ExportKind) → Same (export_kind x) (export_kind y) (x ≡ y)
 export_kind_same export.Function export.Function = then_same (λ e. refl) (byte_same 0 0)

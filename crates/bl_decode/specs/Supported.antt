@@ -62,7 +62,7 @@ IsIntegerCode code = All (λ run. IsInteger run.kind) code.locals × All IsInteg
 pub record IsSupported (tree : Module) : Type 0 where
   pub types : All IsIntegerFunction tree.types
   pub imports : All (λ entry. IsIntegerImport entry.kind) tree.imports
-  pub globals : All (λ global. IsInteger global.kind.kind × All IsIntegerInstr global.first) tree.globals
+  pub globals : All (λ global. IsInteger global.kind.kind × All IsIntegerInstr global.initial) tree.globals
   pub start : tree.start ≡ None
   pub elements : All (λ segment. All IsIntegerInstr segment.offset) tree.elements
   pub bodies : All IsIntegerCode tree.bodies

@@ -117,7 +117,7 @@ impl Format for Imports {
     }
 }
 
-/// A global with its first value (section 5.5.9).
+/// A global with its initial value (section 5.5.9).
 pub(crate) struct Globals;
 
 impl Format for Globals {
@@ -128,8 +128,14 @@ impl Format for Globals {
     ghost prefix_free = { global_entry_prefix_free };
 
     fn read(alloc: Global, bytes: &[u8], at: usize) -> Result<(DefinedGlobal, usize), CodeError> {
-        let ((kind, first), end) = Then::<GlobalTypes, Expressions>::read(alloc, bytes, at)?;
-        Ok((DefinedGlobal { kind, first }, end))
+        let ((kind, value), end) = Then::<GlobalTypes, Expressions>::read(alloc, bytes, at)?;
+        Ok((
+            DefinedGlobal {
+                kind,
+                initial: value,
+            },
+            end,
+        ))
     }
 }
 

@@ -94,12 +94,12 @@ pub(crate) fn is_integer_code(code: &Code) -> bool
     are_integer_locals(code.locals.as_slice()) && are_integer_instrs(code.items.as_slice())
 }
 
-/// Whether the globals are integers, with first values of integers.
+/// Whether the globals are integers, with initial values of integers.
 fn are_integer_globals(globals: &[DefinedGlobal]) -> bool
-    ensures { IsTrue result ↔ All (λ global. IsInteger global.kind.kind × All IsIntegerInstr global.first) globals.now }
+    ensures { IsTrue result ↔ All (λ global. IsInteger global.kind.kind × All IsIntegerInstr global.initial) globals.now }
 {
     globals.iter().all(|global| {
-        global.kind.kind.is_integer() && are_integer_instrs(global.first.as_slice())
+        global.kind.kind.is_integer() && are_integer_instrs(global.initial.as_slice())
     })
 }
 

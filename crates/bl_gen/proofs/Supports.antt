@@ -48,7 +48,7 @@ supported : (seed size : ℕ) → size ≤ 10000 → IsSupported (tree seed size
 supported seed size few = record {
   types = one_all IsIntegerFunction type type_supported;
   imports = All-nil (λ entry. IsIntegerImport entry.kind);
-  globals = All-nil (λ global. IsInteger global.kind.kind × All IsIntegerInstr global.first);
+  globals = All-nil (λ global. IsInteger global.kind.kind × All IsIntegerInstr global.initial);
   start = refl;
   elements = All-nil (λ segment. All IsIntegerInstr segment.offset);
   bodies = All-map IsIntegerCode (body seed) (range_with_len 0 size) (all_below (λ i. IsIntegerCode (body seed i)) size (λ i less. code_supported seed size i less few));

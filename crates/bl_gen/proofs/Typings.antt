@@ -13,7 +13,7 @@ use Rattle.bl_base.specs.declared.quantity.Quantity.{Quantity}
 use Rattle.bl_base.specs.declared.quantity.Quantity.TheVariants as quantity
 use Rattle.bl_wasm.specs.Limits.{Excess, above, first_excess, first_in, function_excess, local_count, nesting_of, targets_above}
 use Rattle.bl_wasm.specs.Typing.{labels}
-use Rattle.bl_wasm.specs.Validity.{AreDistinct, HasIntegers, HasTyping, IsCode, IsData, IsElement, IsFirst, IsFunctionType, IsInteger, IsLimits, IsMemory, IsValid, Typed, context_of, space_of}
+use Rattle.bl_wasm.specs.Validity.{AreDistinct, HasIntegers, HasTyping, IsCode, IsData, IsElement, IsInitial, IsFunctionType, IsInteger, IsLimits, IsMemory, IsValid, Typed, context_of, space_of}
 use Rattle.bl_wasm.specs.declared.instruction.Instr.{Instr}
 use Rattle.bl_wasm.specs.declared.instruction.Instr.TheVariants.{LocalGet}
 use Rattle.bl_wasm.specs.declared.module.Code.{Code}
@@ -100,7 +100,7 @@ module _ (seed size : ℕ) (few : size ≤ 10000) where
         tables = All-nil IsLimits;
         memories = one_all IsMemory memory (record { limits = tt; min = omega arith; max = tt });
         kinds = All-nil (λ global. IsInteger global.kind);
-        firsts = All-nil (λ global. IsFirst [] global.kind.kind global.first);
+        initials = All-nil (λ global. IsInitial [] global.kind.kind global.initial);
         elements = All-nil (IsElement (tree seed size));
         segments = All-nil (IsData (tree seed size));
         exports = one_all (λ entry. entry.index < space_of (tree seed size) entry.kind) (last size) exported;

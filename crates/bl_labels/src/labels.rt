@@ -20,7 +20,7 @@ pub struct Place {
 pub struct Labels {
     /// Secret parameters.
     pub params: List<Place>,
-    /// Secret globals, by their first values.
+    /// Secret globals, by their initial values.
     pub globals: List<u32>,
     /// Secret memories.
     pub memories: List<u32>,

@@ -14,7 +14,7 @@ use Rattle.bl_base.specs.declared.names.ValueType.TheVariants as value
 use Rattle.bl_wasm.specs.Exports.{AreDistinct}
 use Rattle.bl_wasm.specs.Linked.{HasImmediates, IsFunction, IsMemory}
 use Rattle.bl_wasm.specs.Typing.{integer}
-use Rattle.bl_wasm.specs.Validity.{HasTyping, IsElement, IsFirst, functions_of, imported, memory_of, table_of, function_of, global_of, space_of}
+use Rattle.bl_wasm.specs.Validity.{HasTyping, IsElement, IsInitial, functions_of, imported, memory_of, table_of, function_of, global_of, space_of}
 use Rattle.bl_wasm.specs.Validity.{IsMemory as IsMemoryType}
 use Rattle.bl_wasm.specs.declared.instruction.Instr.{Instr}
 use Rattle.bl_wasm.specs.declared.instruction.Instr.TheVariants.{I32Const, I64Const, GlobalGet}
@@ -41,7 +41,7 @@ use Rattle.bl_base.proofs.Lists.{mapped_get, get_mapped, all_from, zip_length, a
 use Rattle.bl_base.proofs.OptionLemmas.{same_value}
 use Rattle.bl_wasm.specs.Limits.{local_count, param_count}
 use Rattle.bl_link.specs.Linkable.{IsPart, IsSound, NoSolidus}
-use Rattle.bl_link.specs.Links.{exported, first_value, function, global, indexed, memory, of_function, pair, secret_if, table, with_part}
+use Rattle.bl_link.specs.Links.{exported, constant_value, function, global, indexed, memory, of_function, pair, secret_if, table, with_part}
 use Rattle.bl_link.specs.IndexSpaces.{External, Part, Spaces, Store, number, of_kind, space, spaces_of}
 use Rattle.bl_link.specs.Signatures.{signature, value_of}
 use Rattle.bl_link.specs.Stores.{IsStore, IsTable, OfPart, ValueOfPart}
@@ -95,18 +95,18 @@ get_front xs ys i below = get_or_append_left xs ys 0 i below
 -- what an initialiser gives is of its type
 module _ (imports : List GlobalType) (tree : Tree) (spaces : Spaces)
     (known : (x : ℕ) (type : GlobalType) → slice_get imports x ≡ Some type → HasGlobal tree (number spaces.globals x) type)
-    (fit : All (λ global. ArgumentFits global.kind global.first) tree.globals) where
-  first_fits : (kind : WasmType) (items : List Instr) → IsFirst imports kind items → All HasImmediates items → ArgumentFits (value_of kind) (first_value tree.globals spaces items)
-  first_fits I32 (I32Const n ∷ []) h all = All-head HasImmediates (I32Const n) [] all
-  first_fits I64 (I64Const n ∷ []) h all = All-head HasImmediates (I64Const n) [] all
-  first_fits kind (GlobalGet x ∷ []) h all =
+    (fit : All (λ global. ArgumentFits global.kind global.initial) tree.globals) where
+  initial_fits : (kind : WasmType) (items : List Instr) → IsInitial imports kind items → All HasImmediates items → ArgumentFits (value_of kind) (constant_value tree.globals spaces items)
+  initial_fits I32 (I32Const n ∷ []) h all = All-head HasImmediates (I32Const n) [] all
+  initial_fits I64 (I64Const n ∷ []) h all = All-head HasImmediates (I64Const n) [] all
+  initial_fits kind (GlobalGet x ∷ []) h all =
       let one = known x (record { kind = kind; mutable = false }) h in
       let same : integer one.0.kind ≡ kind = ap (λ (type : GlobalType). type.kind) one.2 in
       let kinds : one.0.kind ≡ value_of kind = sym (value_again one.0.kind) ∙ ap value_of same in
-      let value : one.0.first ≡ first_value tree.globals spaces (GlobalGet x ∷ []) = sym (ap (λ (o : Option Global). unwrap_or (option_map (λ global. global.first) o) 0) one.1) in
-      let fits : ArgumentFits one.0.kind one.0.first = all_get (λ (global : Global). ArgumentFits global.kind global.first) tree.globals (number spaces.globals x) one.0 fit one.1 in
-      subst (λ v. ArgumentFits (value_of kind) v) value (subst (λ k. ArgumentFits k one.0.first) kinds fits)
-  first_fits kind items h all = absurd h
+      let value : one.0.initial ≡ constant_value tree.globals spaces (GlobalGet x ∷ []) = sym (ap (λ (o : Option Global). unwrap_or (option_map (λ global. global.initial) o) 0) one.1) in
+      let fits : ArgumentFits one.0.kind one.0.initial = all_get (λ (global : Global). ArgumentFits global.kind global.initial) tree.globals (number spaces.globals x) one.0 fit one.1 in
+      subst (λ v. ArgumentFits (value_of kind) v) value (subst (λ k. ArgumentFits k one.0.initial) kinds fits)
+  initial_fits kind items h all = absurd h
 
 -- ---- exported functions
 
@@ -169,13 +169,13 @@ module _ (done : List Part) (store : Store) (part : Part) (given : List External
       (omega (arith, slice_get_within (imported global_of part.wasm) x type found, zip_length (λ type number. HasGlobal store.tree number type) (imported global_of part.wasm) (of_kind export.Global given) numbered)) in
       rw same (by_place (λ type number. HasGlobal store.tree number type) (imported global_of part.wasm) (of_kind export.Global given) numbered x type found)
 
-  new_globals : (P : Global → Type 0) → ((k : ℕ) (defined : DefinedGlobal) → IsFirst (imported global_of part.wasm) defined.kind.kind defined.first → All HasImmediates defined.first → P (global store.tree.globals part.labels (spaces_of store part.wasm given) (k, defined)))
+  new_globals : (P : Global → Type 0) → ((k : ℕ) (defined : DefinedGlobal) → IsInitial (imported global_of part.wasm) defined.kind.kind defined.initial → All HasImmediates defined.initial → P (global store.tree.globals part.labels (spaces_of store part.wasm given) (k, defined)))
       → All P (map (global store.tree.globals part.labels (spaces_of store part.wasm given)) (indexed (spaces_of store part.wasm given).globals part.wasm.globals))
   new_globals P each =
       let spaces : Spaces = spaces_of store part.wasm given in
-      all_made (λ defined. IsFirst (imported global_of part.wasm) defined.kind.kind defined.first × All HasImmediates defined.first) P (global store.tree.globals part.labels spaces) (λ k defined h. each k defined h.0 h.1)
+      all_made (λ defined. IsInitial (imported global_of part.wasm) defined.kind.kind defined.initial × All HasImmediates defined.initial) P (global store.tree.globals part.labels spaces) (λ k defined h. each k defined h.0 h.1)
       (length spaces.globals - length part.wasm.globals) part.wasm.globals
-      (λ k d below. (sound.typed.rules.firsts k d below, sound.widths.firsts k d below))
+      (λ k d below. (sound.typed.rules.initials k d below, sound.widths.initials k d below))
 
   new_memories : All IsMemory (map (memory part.labels) (indexed (spaces_of store part.wasm given).memories part.wasm.memories))
   new_memories =
@@ -241,8 +241,8 @@ module _ (done : List Part) (store : Store) (part : Part) (given : List External
             (All-weaker (λ type. length type.results ≤ limit_of Results) (λ type. length (map value_of type.results) ≤ 1024) (λ type h. omega (arith, length-map type.results value_of, h)) part.wasm.types good.results));
         functions = λ later grows. All-append (IsFunction later) store.tree.functions (map (function part.wasm.types part.labels spaces) functions)
             (is.functions later (grows_on store.tree behind.tree later (grows_part store part spaces) grows)) (new_functions later grows);
-        globals = All-append (λ global. ArgumentFits global.kind global.first) store.tree.globals (map (global store.tree.globals part.labels spaces) globals) is.globals
-            (new_globals (λ global. ArgumentFits global.kind global.first) (λ k defined first all. first_fits (imported global_of part.wasm) store.tree spaces known_global is.globals defined.kind.kind defined.first first all));
+        globals = All-append (λ global. ArgumentFits global.kind global.initial) store.tree.globals (map (global store.tree.globals part.labels spaces) globals) is.globals
+            (new_globals (λ global. ArgumentFits global.kind global.initial) (λ k defined first all. initial_fits (imported global_of part.wasm) store.tree spaces known_global is.globals defined.kind.kind defined.initial first all));
         labels = All-append (λ global. global.label ≡ Secret → global.demanded ≡ false) store.tree.globals (map (global store.tree.globals part.labels spaces) globals) is.labels
             (new_globals (λ global. global.label ≡ Secret → global.demanded ≡ false) (λ k defined first all h. good.labels k (secret (is_listed part.labels.globals k) h)));
         memories = All-append IsMemory store.tree.memories (map (memory part.labels) memories) is.memories new_memories;

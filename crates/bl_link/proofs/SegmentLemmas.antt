@@ -9,7 +9,7 @@ use Rattle.bl_wasm.specs.declared.module.DataSegment.{DataSegment}
 use Rattle.bl_wasm.specs.declared.module.ElementSegment.{ElementSegment}
 use Rattle.bl_wasm.specs.declared.linked.Global.{Global}
 use Rattle.bl_wasm.specs.declared.linked.Memory.{Memory}
-use Rattle.bl_link.specs.Links.{data_fits, first_value, put_data, put_element, size}
+use Rattle.bl_link.specs.Links.{data_fits, constant_value, put_data, put_element, size}
 use Rattle.bl_link.specs.IndexSpaces.{Spaces, changed, number, written}
 use Rattle.bl_link.specs.Stores.{IsTable}
 use Rattle.bl_link.proofs.Matched.{and_left, and_right}
@@ -55,7 +55,7 @@ pub elements_kept : (count : ℕ) (globals : List Global) (spaces : Spaces) (seg
 elements_kept count globals spaces [] tables names all = (all, refl)
 elements_kept count globals spaces (segment ∷ segments) tables names all =
     let new : List (Option ℕ) = map (λ function. Some (number spaces.functions function)) segment.functions in
-    let place : ℕ = first_value globals spaces segment.offset in
+    let place : ℕ = constant_value globals spaces segment.offset in
     let put : IsTable count new = All-map (λ slot. IfSome slot (λ function. function < count)) (λ function. Some (number spaces.functions function)) segment.functions (All-head (NamesFunctions count spaces) segment segments names) in
     let step : All (IsTable count) (put_element globals spaces tables segment) = all_changed (IsTable count) (number spaces.tables segment.table) (written place new) tables (λ old found is. all_written (λ slot. IfSome slot (λ function. function < count)) place new old put is) all in
     let rest = elements_kept count globals spaces segments (put_element globals spaces tables segment) (All-tail (NamesFunctions count spaces) segment segments names) step in
@@ -67,20 +67,20 @@ pub le_of : (a b : ℕ) → nat_le a b ≡ true → a ≤ b
 le_of a b h = grind arith
 
 put_bytes : (globals : List Global) (spaces : Spaces) (segment : DataSegment) (memories : List Memory) (memory : Memory) → data_fits globals spaces memories segment ≡ true
-    → slice_get memories (number spaces.memories segment.memory) ≡ Some memory → length (written (first_value globals spaces segment.offset) segment.bytes memory.bytes) ≡ length memory.bytes
+    → slice_get memories (number spaces.memories segment.memory) ≡ Some memory → length (written (constant_value globals spaces segment.offset) segment.bytes memory.bytes) ≡ length memory.bytes
 put_bytes globals spaces segment memories memory fits found =
     let here : size memories (number spaces.memories segment.memory) ≡ length memory.bytes = ap (λ o. unwrap_or (option_map (λ memory. length memory.bytes) o) 0) found in
-    length_written (first_value globals spaces segment.offset) segment.bytes memory.bytes
-    (omega (arith, here, le_of (first_value globals spaces segment.offset + length segment.bytes) (size memories (number spaces.memories segment.memory)) fits))
+    length_written (constant_value globals spaces segment.offset) segment.bytes memory.bytes
+    (omega (arith, here, le_of (constant_value globals spaces segment.offset + length segment.bytes) (size memories (number spaces.memories segment.memory)) fits))
 
 -- what fits before a segment that fits is written fits behind it
 pub fits_later : (globals : List Global) (spaces : Spaces) (segment : DataSegment) (segments : List DataSegment) (memories : List Memory) → data_fits globals spaces memories segment ≡ true
     → list_all (data_fits globals spaces memories) segments ≡ true → list_all (data_fits globals spaces (put_data globals spaces memories segment)) segments ≡ true
 fits_later globals spaces segment segments memories first later =
     let n : ℕ = number spaces.memories segment.memory in
-    let put : Memory → Memory = λ memory. record memory { bytes = written (first_value globals spaces segment.offset) segment.bytes memory.bytes } in
+    let put : Memory → Memory = λ memory. record memory { bytes = written (constant_value globals spaces segment.offset) segment.bytes memory.bytes } in
     let same : (m : ℕ) → size (changed n put memories) m ≡ size memories m = λ m. ap (λ o. unwrap_or o 0) (same_changed (λ (memory : Memory). length memory.bytes) n put memories (λ memory found. put_bytes globals spaces segment memories memory first found) m) in
-    same_tests (data_fits globals spaces (changed n put memories)) (data_fits globals spaces memories) (λ other. ap (nat_le (first_value globals spaces other.offset + length other.bytes)) (same (number spaces.memories other.memory))) segments ∙ later
+    same_tests (data_fits globals spaces (changed n put memories)) (data_fits globals spaces memories) (λ other. ap (nat_le (constant_value globals spaces other.offset + length other.bytes)) (same (number spaces.memories other.memory))) segments ∙ later
 
 pub data_kept : (globals : List Global) (spaces : Spaces) (segments : List DataSegment) (memories : List Memory) → All (λ segment. AreBytes segment.bytes) segments
     → list_all (data_fits globals spaces memories) segments ≡ true → All IsMemory memories
@@ -88,7 +88,7 @@ pub data_kept : (globals : List Global) (spaces : Spaces) (segments : List DataS
 data_kept globals spaces [] memories bytes fits all = (all, refl)
 data_kept globals spaces (segment ∷ segments) memories bytes fits all =
     let n : ℕ = number spaces.memories segment.memory in
-    let put : Memory → Memory = λ memory. record memory { bytes = written (first_value globals spaces segment.offset) segment.bytes memory.bytes } in
+    let put : Memory → Memory = λ memory. record memory { bytes = written (constant_value globals spaces segment.offset) segment.bytes memory.bytes } in
     let first = and_left (data_fits globals spaces memories segment) (list_all (data_fits globals spaces memories) segments) fits in
     let later = and_right (data_fits globals spaces memories segment) (list_all (data_fits globals spaces memories) segments) fits in
     let fit : list_all (data_fits globals spaces (changed n put memories)) segments ≡ true = fits_later globals spaces segment segments memories first later in
@@ -96,7 +96,7 @@ data_kept globals spaces (segment ∷ segments) memories bytes fits all =
       first = is.first;
       most = is.most;
       size = put_bytes globals spaces segment memories memory first found ∙ is.size;
-      bytes = all_written (λ byte. byte < 2 ^ 8) (first_value globals spaces segment.offset) segment.bytes memory.bytes (All-head (λ (segment : DataSegment). AreBytes segment.bytes) segment segments bytes) is.bytes;
+      bytes = all_written (λ byte. byte < 2 ^ 8) (constant_value globals spaces segment.offset) segment.bytes memory.bytes (All-head (λ (segment : DataSegment). AreBytes segment.bytes) segment segments bytes) is.bytes;
     }) all in
     let rest = data_kept globals spaces segments (changed n put memories) (All-tail (λ (segment : DataSegment). AreBytes segment.bytes) segment segments bytes) fit step in
     (rest.0, rest.1 ∙ length_changed n put memories)

@@ -5,7 +5,7 @@ use Rattle.std.specs.List.{list_all}
 use Rattle.std.proofs.lemmas.List.{length-map, drop_more, take_more, map-append, take-append-drop}
 use Rattle.bl_wasm.specs.declared.module.ElementSegment.{ElementSegment}
 use Rattle.bl_wasm.specs.declared.linked.Global.{Global}
-use Rattle.bl_link.specs.Links.{element_fits, first_value, put_element, slots}
+use Rattle.bl_link.specs.Links.{element_fits, constant_value, put_element, slots}
 use Rattle.bl_link.specs.IndexSpaces.{Spaces, changed, number, written}
 use Rattle.bl_link.proofs.Matched.{and_left, and_right}
 use Rattle.bl_link.proofs.SegmentLemmas.{changed_set, le_of, length_written, same_changed, same_tests}
@@ -59,21 +59,21 @@ slots_more spaces functions place i value cells old below fits so_far numbered =
 
 put_slots : (globals : List Global) (spaces : Spaces) (segment : ElementSegment) (tables : List (List (Option ℕ))) (table : List (Option ℕ)) → element_fits globals spaces tables segment ≡ true
     → slice_get tables (number spaces.tables segment.table) ≡ Some table
-    → length (written (first_value globals spaces segment.offset) (map (λ function. Some (number spaces.functions function)) segment.functions) table) ≡ length table
+    → length (written (constant_value globals spaces segment.offset) (map (λ function. Some (number spaces.functions function)) segment.functions) table) ≡ length table
 put_slots globals spaces segment tables table fits found =
     let new : List (Option ℕ) = map (λ function. Some (number spaces.functions function)) segment.functions in
     let here : slots tables (number spaces.tables segment.table) ≡ length table = ap (λ o. unwrap_or (option_map (λ (t : List (Option ℕ)). length t) o) 0) found in
-    length_written (first_value globals spaces segment.offset) new table
-    (omega (arith, here, length-map segment.functions (λ function. Some (number spaces.functions function)), le_of (first_value globals spaces segment.offset + length segment.functions) (slots tables (number spaces.tables segment.table)) fits))
+    length_written (constant_value globals spaces segment.offset) new table
+    (omega (arith, here, length-map segment.functions (λ function. Some (number spaces.functions function)), le_of (constant_value globals spaces segment.offset + length segment.functions) (slots tables (number spaces.tables segment.table)) fits))
 
 -- what fits before a segment that fits is written fits behind it
 pub slots_fit_later : (globals : List Global) (spaces : Spaces) (segment : ElementSegment) (segments : List ElementSegment) (tables : List (List (Option ℕ))) → element_fits globals spaces tables segment ≡ true
     → list_all (element_fits globals spaces tables) segments ≡ true → list_all (element_fits globals spaces (put_element globals spaces tables segment)) segments ≡ true
 slots_fit_later globals spaces segment segments tables first later =
     let n : ℕ = number spaces.tables segment.table in
-    let put : List (Option ℕ) → List (Option ℕ) = written (first_value globals spaces segment.offset) (map (λ function. Some (number spaces.functions function)) segment.functions) in
+    let put : List (Option ℕ) → List (Option ℕ) = written (constant_value globals spaces segment.offset) (map (λ function. Some (number spaces.functions function)) segment.functions) in
     let same : (m : ℕ) → slots (changed n put tables) m ≡ slots tables m = λ m. ap (λ o. unwrap_or o 0) (same_changed (λ (table : List (Option ℕ)). length table) n put tables (λ table found. put_slots globals spaces segment tables table first found) m) in
-    same_tests (element_fits globals spaces (changed n put tables)) (element_fits globals spaces tables) (λ other. ap (nat_le (first_value globals spaces other.offset + length other.functions)) (same (number spaces.tables other.table))) segments ∙ later
+    same_tests (element_fits globals spaces (changed n put tables)) (element_fits globals spaces tables) (λ other. ap (nat_le (constant_value globals spaces other.offset + length other.functions)) (same (number spaces.tables other.table))) segments ∙ later
 
 pub slots_at : (tables : List (List (Option ℕ))) (n place : ℕ) (new : List (Option ℕ)) (at p : ℕ) (w old made d : List (Option ℕ)) → at ≡ n → p ≡ place → w ≡ new → old ≡ get_or tables at d → made ≡ written p w old → at < length tables
     → set tables at made ≡ changed n (written place new) tables

@@ -225,13 +225,13 @@ abbrev constant : WasmType → GlobalType
 constant kind = record { kind = kind; mutable = false }
 
 abbrev with_global : Module
-with_global = record empty { globals = record { kind = constant I32; first = I32Const 7 ∷ [] } ∷ []; exports = gives 0x67 export.Global 0 ∷ [] }
+with_global = record empty { globals = record { kind = constant I32; initial = I32Const 7 ∷ [] } ∷ []; exports = gives 0x67 export.Global 0 ∷ [] }
 
 -- it imports the global, defines one with its value and another one, and writes at the address that the second one says
 abbrev wanting_global : Module
 wanting_global = record empty {
   imports = wants 0x61 0x67 (import.Global (constant I32)) ∷ [];
-  globals = record { kind = constant I32; first = GlobalGet 0 ∷ [] } ∷ record { kind = constant I64; first = I64Const 9 ∷ [] } ∷ [];
+  globals = record { kind = constant I32; initial = GlobalGet 0 ∷ [] } ∷ record { kind = constant I64; initial = I64Const 9 ∷ [] } ∷ [];
   memories = limits 1 (Some 300) ∷ [];
   segments = record { memory = 0; offset = GlobalGet 1 ∷ []; bytes = 5 ∷ [] } ∷ [];
 }
@@ -239,8 +239,8 @@ wanting_global = record empty {
 abbrev labelled : Result Tree LinkError
 labelled = links (part 0x61 with_global ∷ record { name = 0x62 ∷ []; wasm = wanting_global; labels = record unlabelled { globals = 2 ∷ []; memories = 0 ∷ []; demanded = 1 ∷ [] } } ∷ [])
 
-first_values : of_tree (λ tree. map (λ one. one.first) tree.globals) labelled ≡ Ok (7 ∷ 7 ∷ 9 ∷ [])
-first_values = refl
+initial_values : of_tree (λ tree. map (λ one. one.initial) tree.globals) labelled ≡ Ok (7 ∷ 7 ∷ 9 ∷ [])
+initial_values = refl
 
 global_labels : of_tree (λ tree. map (λ one. one.label) tree.globals) labelled ≡ Ok (Public ∷ Public ∷ Secret ∷ [])
 global_labels = refl

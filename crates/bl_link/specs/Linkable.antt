@@ -38,7 +38,7 @@ pub record AreParts (parts : List Part) : Type 0 where
 -- numbers are of their widths, since a number of a definition has no bound of its own
 pub record HasWidths (part : Part) : Type 0 where
   pub bodies : All (λ code. All HasImmediates code.items) part.wasm.bodies
-  pub firsts : All (λ global. All HasImmediates global.first) part.wasm.globals
+  pub initials : All (λ global. All HasImmediates global.initial) part.wasm.globals
   pub bytes : All (λ segment. AreBytes segment.bytes) part.wasm.segments
 
 -- what the types of the code say of a part beside: its module is typed

@@ -56,20 +56,20 @@ function types labels spaces defined = record {
   table = slice_get spaces.tables 0;
 }
 
--- the value of an initialiser: a constant, or the first value of a global (section 4.4.9)
-abbrev pub first_value : List Global → Spaces → List Instr → ℕ
-first_value globals spaces (I32Const n ∷ []) = n
-first_value globals spaces (I64Const n ∷ []) = n
-first_value globals spaces (GlobalGet index ∷ []) =
-    unwrap_or (option_map (λ global. global.first) (slice_get globals (number spaces.globals index))) 0
-first_value globals spaces items = 0
+-- the value of an initialiser: a constant, or the initial value of a global (section 4.4.9)
+abbrev pub constant_value : List Global → Spaces → List Instr → ℕ
+constant_value globals spaces (I32Const n ∷ []) = n
+constant_value globals spaces (I64Const n ∷ []) = n
+constant_value globals spaces (GlobalGet index ∷ []) =
+    unwrap_or (option_map (λ global. global.initial) (slice_get globals (number spaces.globals index))) 0
+constant_value globals spaces items = 0
 
 -- a global by its index in the part; its initialiser names imported ones alone
 abbrev pub global : List Global → Labels → Spaces → ℕ × DefinedGlobal → Global
 global globals labels spaces defined = record {
   kind = value_of defined.1.kind.kind;
   mutable = defined.1.kind.mutable;
-  first = first_value globals spaces defined.1.first;
+  initial = constant_value globals spaces defined.1.initial;
   label = secret_if (is_listed labels.globals defined.0);
   demanded = is_listed labels.demanded defined.0;
 }
@@ -118,26 +118,26 @@ size memories number = unwrap_or (option_map (λ memory. length memory.bytes) (s
 -- whether a segment lies in the table that it names
 abbrev pub element_fits : List Global → Spaces → List (List (Option ℕ)) → ElementSegment → Bool
 element_fits globals spaces tables segment =
-    nat_le (first_value globals spaces segment.offset + length segment.functions)
+    nat_le (constant_value globals spaces segment.offset + length segment.functions)
     (slots tables (number spaces.tables segment.table))
 
 -- the tables with a segment written
 abbrev pub put_element : List Global → Spaces → List (List (Option ℕ)) → ElementSegment → List (List (Option ℕ))
 put_element globals spaces tables segment =
     changed (number spaces.tables segment.table)
-    (written (first_value globals spaces segment.offset) (map (λ function. Some (number spaces.functions function)) segment.functions))
+    (written (constant_value globals spaces segment.offset) (map (λ function. Some (number spaces.functions function)) segment.functions))
     tables
 
 -- whether a segment lies in the first bytes of the memory that it names
 abbrev pub data_fits : List Global → Spaces → List Memory → DataSegment → Bool
 data_fits globals spaces memories segment =
-    nat_le (first_value globals spaces segment.offset + length segment.bytes) (size memories (number spaces.memories segment.memory))
+    nat_le (constant_value globals spaces segment.offset + length segment.bytes) (size memories (number spaces.memories segment.memory))
 
 -- the memories with a segment written
 abbrev pub put_data : List Global → Spaces → List Memory → DataSegment → List Memory
 put_data globals spaces memories segment =
     changed (number spaces.memories segment.memory)
-    (λ memory. record memory { bytes = written (first_value globals spaces segment.offset) segment.bytes memory.bytes })
+    (λ memory. record memory { bytes = written (constant_value globals spaces segment.offset) segment.bytes memory.bytes })
     memories
 
 -- ---- a part

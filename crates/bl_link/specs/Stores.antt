@@ -36,7 +36,7 @@ pub record IsStore (done : List Part) (store : Store) : Type 0 where
   pub types : All (λ type. length type.results ≤ limit_of quantity.Results) store.tree.types
   -- the functions have typings in every later tree
   pub functions : (later : Tree) → Grows store.tree later → All (IsFunction later) store.tree.functions
-  pub globals : All (λ global. ArgumentFits global.kind global.first) store.tree.globals
+  pub globals : All (λ global. ArgumentFits global.kind global.initial) store.tree.globals
   pub labels : All (λ global. global.label ≡ Secret → global.demanded ≡ false) store.tree.globals
   pub memories : All IsMemory store.tree.memories
   pub slots : All (IsTable (length store.tree.functions)) store.tree.tables

@@ -3,7 +3,7 @@ ghost use Rattle.std.specs.Prelude.{◌≡◌, ◌+◌, ◌<◌, ◌^◌, ◌++�
 ghost use Rattle.std.specs.List.{enumerate_from};
 ghost use Rattle.bl_base.specs.Quantity.{limit_of};
 ghost use Rattle.bl_base.specs.declared.quantity.Quantity.TheVariants as quantity;
-ghost use Rattle.bl_link.specs.Links.{first_value as first_value_of, global as global_of, memory as memory_of, table as table_of};
+ghost use Rattle.bl_link.specs.Links.{constant_value as constant_value_of, global as global_of, memory as memory_of, table as table_of};
 ghost use Rattle.bl_link.specs.Signatures.{signature as signature_of};
 
 use crate::bodies::secret_if;
@@ -30,16 +30,16 @@ pub(crate) fn with_types(
     Ok(types)
 }
 
-/// The value of an initialiser or an offset: a constant, or the first value of a global.
-pub(crate) fn first_value(globals: &[bl_wasm::Global], spaces: &Spaces, items: &[Instr]) -> u64
-    ensures { result ≡ first_value_of globals.now spaces.now items.now }
+/// The value of an initialiser or an offset: a constant, or the initial value of a global.
+pub(crate) fn constant_value(globals: &[bl_wasm::Global], spaces: &Spaces, items: &[Instr]) -> u64
+    ensures { result ≡ constant_value_of globals.now spaces.now items.now }
 {
     match items {
         [Instr::I32Const(n)] => *n as u64,
         [Instr::I64Const(n)] => *n,
         [Instr::GlobalGet(index)] => {
             match globals.get(number(&spaces.globals, *index) as usize) {
-                Some(global) => global.first,
+                Some(global) => global.initial,
                 None => 0,
             }
         }
@@ -47,7 +47,7 @@ pub(crate) fn first_value(globals: &[bl_wasm::Global], spaces: &Spaces, items: &
     }
 }
 
-/// A global with its first value, by its index in the part.
+/// A global with its initial value, by its index in the part.
 fn global(
     before: &[bl_wasm::Global],
     marks: &Marks,
@@ -60,7 +60,7 @@ fn global(
     bl_wasm::Global {
         kind: value_type(defined.kind.kind),
         mutable: defined.kind.mutable,
-        first: first_value(before, spaces, defined.first.as_slice()),
+        initial: constant_value(before, spaces, defined.initial.as_slice()),
         label: secret_if(marks.is_secret_global(at)),
         demanded: marks.is_demanded_global(at),
     }
@@ -87,7 +87,7 @@ fn globals(
     Ok(globals)
 }
 
-/// The globals behind those of the parts before, whose first values they may have.
+/// The globals behind those of the parts before, whose initial values they may have.
 pub(crate) fn with_globals(
     alloc: Global,
     before: List<bl_wasm::Global>,

@@ -4,7 +4,7 @@ ghost use Rattle.std.specs.List.{list_all};
 ghost use Rattle.bl_link.specs.Links.{data_fits as data_fits_of, element_fits as element_fits_of, put_data as put_data_of, put_element as put_element_of, size as size_of, slots as slots_of};
 ghost use Rattle.bl_link.specs.IndexSpaces.{number as number_of, written};
 
-use crate::defined::first_value;
+use crate::defined::constant_value;
 use crate::rename::number;
 use crate::store::Spaces;
 use bl_base::{List, Text};
@@ -51,7 +51,7 @@ fn element_fits(
 ) -> bool
     ensures { result ≡ element_fits_of globals.now spaces.now tables.now segment.now }
 {
-    let first = first_value(globals, spaces, segment.offset.as_slice());
+    let first = constant_value(globals, spaces, segment.offset.as_slice());
     let slots = slots(tables, number(&spaces.tables, segment.table));
     lies_within(first, segment.functions.len(), slots)
 }
@@ -82,7 +82,7 @@ fn data_fits(
 ) -> bool
     ensures { result ≡ data_fits_of globals.now spaces.now memories.now segment.now }
 {
-    let first = first_value(globals, spaces, segment.offset.as_slice());
+    let first = constant_value(globals, spaces, segment.offset.as_slice());
     let size = size(memories, number(&spaces.memories, segment.memory));
     lies_within(first, segment.bytes.len(), size)
 }
@@ -142,7 +142,7 @@ fn put_element(
     requires { IsTrue (element_fits_of globals.now spaces.now tables.old.items segment.now) }
     ensures { tables.new.items ≡ put_element_of globals.now spaces.now tables.old.items segment.now }
 {
-    let place = first_value(globals, spaces, segment.offset.as_slice());
+    let place = constant_value(globals, spaces, segment.offset.as_slice());
     let at = number(&spaces.tables, segment.table) as usize;
     if at < tables.len() {
         write_table(
@@ -203,7 +203,7 @@ fn put_data(
     requires { IsTrue (data_fits_of globals.now spaces.now memories.old.items segment.now) }
     ensures { memories.new.items ≡ put_data_of globals.now spaces.now memories.old.items segment.now }
 {
-    let place = first_value(globals, spaces, segment.offset.as_slice());
+    let place = constant_value(globals, spaces, segment.offset.as_slice());
     let at = number(&spaces.memories, segment.memory) as usize;
     if at < memories.len() {
         write_memory(

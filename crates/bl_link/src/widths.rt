@@ -50,12 +50,12 @@ fn read_bodies(bodies: &[Code])
     }
 }
 
-/// Reads the numbers of first values.
-fn read_firsts(globals: &[DefinedGlobal])
-    ensures { All (λ global. All HasImmediates global.first) globals.now }
+/// Reads the numbers of initial values.
+fn read_initials(globals: &[DefinedGlobal])
+    ensures { All (λ global. All HasImmediates global.initial) globals.now }
 {
     for global in globals {
-        read_all(global.first.as_slice());
+        read_all(global.initial.as_slice());
     }
 }
 
@@ -79,7 +79,7 @@ fn check_part(part: &Part)
 {
     let wasm = part.wasm.module();
     read_bodies(wasm.bodies.as_slice());
-    read_firsts(wasm.globals.as_slice());
+    read_initials(wasm.globals.as_slice());
     read_segments(wasm.segments.as_slice());
 }
 

@@ -36,7 +36,7 @@ starting tree start = record {
   labels = [];
   current = record { function = 0; place = 0; arity = 0; locals = 0; labels = 0; values = 0 };
   callers = [];
-  globals = map (λ global. global.first) tree.globals;
+  globals = map (λ global. global.initial) tree.globals;
   memories = patched_all (map first_memory tree.memories) start.patches;
 }
 

@@ -61,7 +61,7 @@ pub fn begin(alloc: Global, tree: &Tree, start: &Start) -> Result<Machine, NoMem
     locals.push_all(start.args.as_slice())?;
     let mut globals = Stack::new(alloc);
     for global in tree.globals.as_slice() {
-        globals.push(global.first)?;
+        globals.push(global.initial)?;
     }
     let mut memories = Spaces::of(alloc, tree.memories.as_slice())?;
     memories.patch(start.patches.as_slice());

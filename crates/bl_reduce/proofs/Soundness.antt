@@ -222,7 +222,7 @@ module _ (tree : Tree) (linked : IsLinked tree) where
       memories = zip_each IsOpening IsMemoryState (λ memory state h. h.is) tree.memories (fold patched (map first_memory tree.memories) start.patches)
           (openings start.patches (map first_memory tree.memories) is.fits.patches
           (zip_images IsMemory IsOpening first_memory first_opening tree.memories linked.memories));
-      globals = zip_images (λ global. ArgumentFits global.kind global.first) IsGlobalValue (λ global. global.first) (λ global h. h) tree.globals linked.globals;
+      globals = zip_images (λ global. ArgumentFits global.kind global.initial) IsGlobalValue (λ global. global.initial) (λ global h. h) tree.globals linked.globals;
     };
     function = is.function;
     exists = is.exists;

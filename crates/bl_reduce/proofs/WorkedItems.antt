@@ -29,7 +29,7 @@ select_second = refl
 -- global.get 0, i32.const 1, i32.add, global.set 0, global.get 0, of a global that is 5 at first
 abbrev counter : Tree
 counter = record (one 0 1 0 (GlobalGet 0 ∷ I32Const 1 ∷ Integer I32Add ∷ GlobalSet 0 ∷ GlobalGet 0 ∷ [])) {
-  globals = record { kind = value.I32; mutable = true; first = 5; label = Public; demanded = false } ∷ [];
+  globals = record { kind = value.I32; mutable = true; initial = 5; label = Public; demanded = false } ∷ [];
 }
 
 counted : run counter 7 [] ≡ ends (returned (6 ∷ []) [])

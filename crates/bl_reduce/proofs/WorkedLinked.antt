@@ -48,7 +48,7 @@ abbrev pub memory : Memory
 memory = record { pages = 0; reserve = 1; label = label.Public; bytes = [] }
 
 abbrev pub global : Global
-global = record { kind = value.I32; mutable = true; first = 5; label = label.Secret; demanded = false }
+global = record { kind = value.I32; mutable = true; initial = 5; label = label.Secret; demanded = false }
 
 abbrev pub tree : Tree
 tree = record { types = type ∷ []; functions = function ∷ []; globals = global ∷ []; memories = memory ∷ []; tables = (Some 0 ∷ None ∷ []) ∷ []; exports = [] }
@@ -109,7 +109,7 @@ pub is_linked : IsLinked tree
 is_linked = record {
   types = All-cons (λ type. length type.results ≤ 1024) type [] (omega arith) (All-nil (λ type. length type.results ≤ 1024));
   functions = All-cons (IsFunction tree) function [] is_function (All-nil (IsFunction tree));
-  globals = All-cons (λ global. ArgumentFits global.kind global.first) global [] (omega arith) (All-nil (λ global. ArgumentFits global.kind global.first));
+  globals = All-cons (λ global. ArgumentFits global.kind global.initial) global [] (omega arith) (All-nil (λ global. ArgumentFits global.kind global.initial));
   labels = All-cons (λ global. global.label ≡ label.Secret → global.demanded ≡ false) global [] (λ secret. refl) (All-nil (λ global. global.label ≡ label.Secret → global.demanded ≡ false));
   memories = All-cons IsMemory memory [] (record { first = omega arith; most = omega arith; size = refl; bytes = All-nil (λ byte. byte < 2 ^ 8) }) (All-nil IsMemory);
   tables = All-cons (All (IsSlot tree)) (Some 0 ∷ None ∷ []) []

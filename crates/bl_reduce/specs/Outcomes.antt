@@ -16,12 +16,12 @@ use Rattle.bl_reduce.specs.Steps.{source_step}
 abbrev pub first_memory : Memory → MemoryState
 first_memory memory = record { pages = memory.pages; bytes = memory.bytes }
 
--- the store at the start: the globals have their first values, and the memories their first contents with the patches written
+-- the store at the start: the globals have their initial values, and the memories their first contents with the patches written
 -- over them in order
 abbrev pub first_store : Tree → Start → Store
 first_store tree start = record {
   memories = fold patched (map first_memory tree.memories) start.patches;
-  globals = map (λ global. global.first) tree.globals;
+  globals = map (λ global. global.initial) tree.globals;
 }
 
 -- the entering of a function with the arguments of the start

@@ -85,7 +85,7 @@ valid_from {tree = tree} {scope = scope} is parts exports =
       tables = stores.limits;
       memories = stores.sizes;
       kinds = globals.kinds;
-      firsts = globals.firsts;
+      initials = globals.initials;
       elements = (elements_over is _).0 parts.elements;
       segments = (data_over is _).0 parts.segments;
       exports = (exports_over is _).0 exports.exist;
@@ -97,7 +97,7 @@ pub parts_from : {tree : Module} {scope : Scope} → IsScope tree scope → IsVa
 parts_from {tree = tree} {scope = scope} is valid =
     let functions : AreFunctions tree.types (functions_of tree) tree.functions tree.bodies = record { all = valid.types; indices = valid.functions; counts = valid.counts; codes = valid.codes } in
     let stores : AreStores (tables_of tree) (memories_of tree) = record { one_table = valid.one_table; one_memory = valid.one_memory; limits = valid.tables; sizes = valid.memories } in
-    let globals : AreGlobals (globals_of tree) (imported global_of tree) tree.globals = record { kinds = valid.kinds; firsts = valid.firsts } in
+    let globals : AreGlobals (globals_of tree) (imported global_of tree) tree.globals = record { kinds = valid.kinds; initials = valid.initials } in
     record {
       functions = rw (is.types, is.functions) functions;
       stores = rw (is.tables, is.memories) stores;

@@ -1,7 +1,7 @@
 -- The rules on the parts of a module other than its bodies' typing, group by group, over the spaces of its scope.
 use Rattle.std.specs.Prelude.{◌≡◌, ℕ, ◌<◌, ◌≤◌, List, length, take, None}
 use Rattle.std.specs.List.{All}
-use Rattle.bl_wasm.specs.Validity.{AreDistinct, IsCode, IsFirst, IsFunctionType, IsInteger, IsLimits, IsMemory, IsOffset}
+use Rattle.bl_wasm.specs.Validity.{AreDistinct, IsCode, IsInitial, IsFunctionType, IsInteger, IsLimits, IsMemory, IsOffset}
 use Rattle.bl_wasm.specs.declared.types.FuncType.{FuncType}
 use Rattle.bl_wasm.specs.declared.types.GlobalType.{GlobalType}
 use Rattle.bl_wasm.specs.declared.types.Limits.{Limits}
@@ -29,10 +29,10 @@ pub record AreStores (tables memories : List Limits) : Type 0 where
   pub limits : All IsLimits tables
   pub sizes : All IsMemory memories
 
--- the globals, with the first values of those that are defined
+-- the globals, with the initial values of those that are defined
 pub record AreGlobals (globals imports : List GlobalType) (defined : List DefinedGlobal) : Type 0 where
   pub kinds : All (λ type. IsInteger type.kind) globals
-  pub firsts : All (λ global. IsFirst imports global.kind.kind global.first) defined
+  pub initials : All (λ global. IsInitial imports global.kind.kind global.initial) defined
 
 -- a segment of so many tables and functions, and of those globals
 pub record IsElementAt (tables functions : ℕ) (globals : List GlobalType) (segment : ElementSegment) : Type 0 where

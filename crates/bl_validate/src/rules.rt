@@ -1,7 +1,7 @@
 //! The rules on the parts of a module other than its bodies' typing (WebAssembly 1.0, section 3.4).
 ghost use Rattle.std.specs.Prelude.{◌≡◌, ◌<◌, ◌≤◌, ◌↔◌, length, vec_len, IsTrue, IfOk, slice_get, Some, false};
 ghost use Rattle.std.specs.List.{All};
-ghost use Rattle.bl_wasm.specs.Validity.{AreDistinct, HasIntegerType, HasIntegers, IsCode, IsFirst, IsFunctionType, IsInteger, IsLimits, IsMemory, IsOffset, IsValid};
+ghost use Rattle.bl_wasm.specs.Validity.{AreDistinct, HasIntegerType, HasIntegers, IsCode, IsInitial, IsFunctionType, IsInteger, IsLimits, IsMemory, IsOffset, IsValid};
 ghost use Rattle.bl_validate.specs.ModuleRules.{AreExports, AreFunctions, AreGlobals, AreParts, AreStores, IsDataAt, IsElementAt, space_in};
 ghost use Rattle.bl_validate.specs.Scopes.{IsScope};
 
@@ -73,7 +73,7 @@ fn has_valid_stores(tables: &[Limits], memories: &[Limits]) -> bool
         && memories.iter().all(|limits| is_memory(*limits))
 }
 
-/// The globals' types, and the first values of those that are defined.
+/// The globals' types, and the initial values of those that are defined.
 fn has_valid_globals(
     globals: &[GlobalType],
     imports: &[GlobalType],
@@ -82,7 +82,11 @@ fn has_valid_globals(
     ensures { IsTrue result ↔ AreGlobals globals.now imports.now defined.now }
 {
     globals.iter().all(|global| global.kind.is_integer())
-        && defined.iter().all(|global| is_first(imports, global.kind.kind, global.first.as_slice()))
+        && defined.iter().all(|global| is_initial(
+            imports,
+            global.kind.kind,
+            global.initial.as_slice(),
+        ))
 }
 
 /// The exports: their indices are in range, and no two have one name.
@@ -197,8 +201,8 @@ fn is_memory(limits: Limits) -> bool
 }
 
 /// Whether the items are one constant of the type, or one imported immutable global of it.
-fn is_first(imports: &[GlobalType], kind: WasmType, items: &[Instr]) -> bool
-    ensures { IsTrue result ↔ IsFirst imports.now kind items.now }
+fn is_initial(imports: &[GlobalType], kind: WasmType, items: &[Instr]) -> bool
+    ensures { IsTrue result ↔ IsInitial imports.now kind items.now }
 {
     match items {
         [Instr::I32Const(_)] => kind == WasmType::I32,

@@ -127,7 +127,7 @@ pub record IsLinked (tree : Tree) : Type 0 where
   -- no type has too many results
   pub types : All (λ type. length type.results ≤ limit_of quantity.Results) tree.types
   pub functions : All (IsFunction tree) tree.functions
-  pub globals : All (λ global. ArgumentFits global.kind global.first) tree.globals
+  pub globals : All (λ global. ArgumentFits global.kind global.initial) tree.globals
   -- no global is both declared secret and demanded public
   pub labels : All (λ global. global.label ≡ Secret → global.demanded ≡ false) tree.globals
   pub memories : All IsMemory tree.memories

@@ -64,7 +64,7 @@ memory_section memories = vec_section 5 memory_type memories
 
 -- global (section 5.5.9)
 abbrev pub global_entry : DefinedGlobal → Spellings
-global_entry global = global_type global.kind ⨾ expression global.first
+global_entry global = global_type global.kind ⨾ expression global.initial
 
 -- globalsec (section 5.5.9)
 abbrev pub global_section : List DefinedGlobal → Spellings

@@ -166,12 +166,12 @@ pub record IsMemory (these : Limits) : Type 0 where
   pub min : these.min ≤ 65536
   pub max : IfSome these.max (λ max. max ≤ 65536)
 
--- the first value of a global: one constant of its type, or an imported immutable global of it (section 3.3.7)
-abbrev pub IsFirst : List GlobalType → WasmType → List Instr → Type 0
-IsFirst imports I32 (I32Const n ∷ []) = Unit {0}
-IsFirst imports I64 (I64Const n ∷ []) = Unit {0}
-IsFirst imports kind (GlobalGet x ∷ []) = slice_get imports x ≡ Some (record { kind = kind; mutable = false })
-IsFirst imports kind items = ⊥
+-- the initial value of a global: one constant of its type, or an imported immutable global of it (section 3.3.7)
+abbrev pub IsInitial : List GlobalType → WasmType → List Instr → Type 0
+IsInitial imports I32 (I32Const n ∷ []) = Unit {0}
+IsInitial imports I64 (I64Const n ∷ []) = Unit {0}
+IsInitial imports kind (GlobalGet x ∷ []) = slice_get imports x ≡ Some (record { kind = kind; mutable = false })
+IsInitial imports kind items = ⊥
 
 -- the offset of a segment: one constant i32, or an immutable i32 global, imported or not
 abbrev pub IsOffset : List GlobalType → List Instr → Type 0
@@ -216,7 +216,7 @@ pub record IsValid (tree : Module) : Type 0 where
   pub tables : All IsLimits (tables_of tree)
   pub memories : All IsMemory (memories_of tree)
   pub kinds : All (λ type. IsInteger type.kind) (globals_of tree)
-  pub firsts : All (λ global. IsFirst (imported global_of tree) global.kind.kind global.first) tree.globals
+  pub initials : All (λ global. IsInitial (imported global_of tree) global.kind.kind global.initial) tree.globals
   pub elements : All (IsElement tree) tree.elements
   pub segments : All (IsData tree) tree.segments
   -- exports exist, by names of their own

@@ -41,9 +41,9 @@ pub struct Global {
     pub kind: ValueType,
     /// Whether it can be set.
     pub mutable: bool,
-    /// Its first value; one of an i32 is below 2^32.
-    pub first: u64,
-    /// Who may learn its first value.
+    /// Its initial value; one of an i32 is below 2^32.
+    pub initial: u64,
+    /// Who may learn its initial value.
     pub label: Label,
     /// Whether its value is to stay public.
     pub demanded: bool,

@@ -62,8 +62,8 @@ pub enum ImportKind {
 pub struct DefinedGlobal {
     /// Its type.
     pub kind: GlobalType,
-    /// The items of the expression that gives its first value, without the expression's own `end`.
-    pub first: List<Instr>,
+    /// The items of the expression that gives its initial value, without the expression's own `end`.
+    pub initial: List<Instr>,
 }
 
 /// An export (section 2.5.10).

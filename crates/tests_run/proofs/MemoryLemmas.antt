@@ -97,7 +97,7 @@ module _ (store load : AccessKind) (offset pages reserve : ℕ) (stores : IsFals
         (All-cons (λ type. length type.results ≤ 1024) growing_type [] (omega arith) (All-nil (λ type. length type.results ≤ 1024)));
     functions = All-cons (IsFunction tree) (accessing_function store load offset) (growing_function ∷ []) accesses
         (All-cons (IsFunction tree) growing_function [] grows (All-nil (IsFunction tree)));
-    globals = All-nil (λ (global : Global). ArgumentFits global.kind global.first);
+    globals = All-nil (λ (global : Global). ArgumentFits global.kind global.initial);
     labels = All-nil (λ (global : Global). global.label ≡ Secret → global.demanded ≡ false);
     memories = All-cons IsMemory (zeros pages reserve) []
         (record { first = first; most = most; size = length-replicate (pages * 65536) 0; bytes = All-replicate (λ byte. byte < 2 ^ 8) (pages * 65536) 0 (omega arith) })

@@ -97,7 +97,7 @@ is_linked = record {
   functions = All-cons (IsFunction table_tree) calling (giving_back ∷ giving_seven ∷ giving_nine ∷ []) calls
       (All-cons (IsFunction table_tree) giving_back (giving_seven ∷ giving_nine ∷ []) gives_back
       (All-cons (IsFunction table_tree) giving_seven (giving_nine ∷ []) gives_seven (All-cons (IsFunction table_tree) giving_nine [] gives_nine (All-nil (IsFunction table_tree)))));
-  globals = All-nil (λ (global : Global). ArgumentFits global.kind global.first);
+  globals = All-nil (λ (global : Global). ArgumentFits global.kind global.initial);
   labels = All-nil (λ (global : Global). global.label ≡ Secret → global.demanded ≡ false);
   memories = All-nil IsMemory;
   tables = All-cons (All (IsSlot table_tree)) slots []

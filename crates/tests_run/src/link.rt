@@ -70,7 +70,7 @@ fn has_functions(functions: &[Function]) -> bool {
 
 /// Whether the first global is 7 at first, and isn't demanded public.
 fn has_global(globals: &[LinkedGlobal]) -> bool {
-    globals.first().map(|global| global.first) == Some(7)
+    globals.first().map(|global| global.initial) == Some(7)
         && globals.first().map(|global| global.demanded) == Some(false)
 }
 

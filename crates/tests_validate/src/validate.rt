@@ -46,7 +46,7 @@ pub(crate) struct Parts {
     /// Minimum and maximum.
     tables: &'static [(u32, Option<u32>)],
     memories: &'static [(u32, Option<u32>)],
-    /// Type, whether it can be set, and first value.
+    /// Type, whether it can be set, and initial value.
     globals: &'static [(WasmType, bool, &'static [u8])],
     exports: &'static [(&'static [u8], ExportKind, u32)],
     start: Option<u32>,
@@ -288,13 +288,13 @@ fn put_bodies(
 
 /// The globals and exports.
 fn put_globals(alloc: Global, parts: &Parts, tree: &mut Module) -> Result<(), Fail> {
-    for (kind, mutable, first) in parts.globals {
+    for (kind, mutable, value) in parts.globals {
         tree.globals.push(DefinedGlobal {
             kind: GlobalType {
                 kind: *kind,
                 mutable: *mutable,
             },
-            first: items(alloc, first)?,
+            initial: items(alloc, value)?,
         })?;
     }
     for (name, kind, index) in parts.exports {

@@ -426,7 +426,7 @@ pub(super) static STORES: [Case; 25] = [
     ),
     // a global of another type than its constant
     (&[Change::Globals(&[(I64, true, &[0x41, 0x00])])], RULE),
-    // a global without first value
+    // a global without initial value
     (&[Change::Globals(&[(I64, true, &[])])], RULE),
     // a global of two constants
     (
