@@ -62,13 +62,13 @@ instruction (Float op) = given (IsFloatCode op) (byte op)
 
 -- an item that neither opens nor parts nor closes a construct
 abbrev pub IsPlain : Instr → Type 0
+IsPlain Unreachable = Unit {0}
+IsPlain Nop = Unit {0}
 IsPlain (Block type) = ⊥
 IsPlain (Loop type) = ⊥
 IsPlain (If type) = ⊥
 IsPlain Else = ⊥
 IsPlain End = ⊥
-IsPlain Unreachable = Unit {0}
-IsPlain Nop = Unit {0}
 IsPlain (Br l) = Unit {0}
 IsPlain (BrIf l) = Unit {0}
 IsPlain (BrTable default others) = Unit {0}

@@ -46,7 +46,6 @@ nesting_of items = greatest_depth items (length items + 1)
 
 -- a br_table with too many targets beside its default
 abbrev pub targets_above : Instr → Option Excess
-targets_above (BrTable default others) = above quantity.Targets (length others)
 targets_above Unreachable = None
 targets_above Nop = None
 targets_above (Block type) = None
@@ -56,6 +55,7 @@ targets_above Else = None
 targets_above End = None
 targets_above (Br l) = None
 targets_above (BrIf l) = None
+targets_above (BrTable default others) = above quantity.Targets (length others)
 targets_above Return = None
 targets_above (Call function) = None
 targets_above (CallIndirect type) = None

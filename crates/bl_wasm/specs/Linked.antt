@@ -60,17 +60,13 @@ context tree type function = body_context (shared_in tree function.table functio
 
 -- immediates are numbers of their widths, since a number of a definition has no bound of its own
 abbrev pub HasImmediates : Instr → Type 0
-HasImmediates (I32Const n) = n < 2 ^ 32
-HasImmediates (I64Const n) = n < 2 ^ 64
-HasImmediates (Load kind argument) = argument.offset < 2 ^ 32
-HasImmediates (Store kind argument) = argument.offset < 2 ^ 32
+HasImmediates Unreachable = Unit {0}
+HasImmediates Nop = Unit {0}
 HasImmediates (Block type) = Unit {0}
 HasImmediates (Loop type) = Unit {0}
 HasImmediates (If type) = Unit {0}
 HasImmediates Else = Unit {0}
 HasImmediates End = Unit {0}
-HasImmediates Unreachable = Unit {0}
-HasImmediates Nop = Unit {0}
 HasImmediates (Br l) = Unit {0}
 HasImmediates (BrIf l) = Unit {0}
 HasImmediates (BrTable default others) = Unit {0}
@@ -84,9 +80,13 @@ HasImmediates (LocalSet x) = Unit {0}
 HasImmediates (LocalTee x) = Unit {0}
 HasImmediates (GlobalGet x) = Unit {0}
 HasImmediates (GlobalSet x) = Unit {0}
+HasImmediates (Load kind argument) = argument.offset < 2 ^ 32
+HasImmediates (Store kind argument) = argument.offset < 2 ^ 32
 HasImmediates (FloatAccess kind argument) = Unit {0}
 HasImmediates MemorySize = Unit {0}
 HasImmediates MemoryGrow = Unit {0}
+HasImmediates (I32Const n) = n < 2 ^ 32
+HasImmediates (I64Const n) = n < 2 ^ 64
 HasImmediates (F32Const bits) = Unit {0}
 HasImmediates (F64Const bits) = Unit {0}
 HasImmediates (Integer op) = Unit {0}

@@ -39,13 +39,13 @@ behind_end (innermost ∷ outer) = Some outer
 
 -- what is open behind an item, innermost first, where the item may stand there
 abbrev pub open_behind : Instr → List Construct → Option (List Construct)
+open_behind Unreachable open_ones = Some open_ones
+open_behind Nop open_ones = Some open_ones
 open_behind (Block type) outer = Some (construct of_block type ∷ outer)
 open_behind (Loop type) outer = Some (construct of_loop type ∷ outer)
 open_behind (If type) outer = Some (construct then_part type ∷ outer)
 open_behind Else open_ones = behind_else open_ones
 open_behind End open_ones = behind_end open_ones
-open_behind Unreachable open_ones = Some open_ones
-open_behind Nop open_ones = Some open_ones
 open_behind (Br l) open_ones = Some open_ones
 open_behind (BrIf l) open_ones = Some open_ones
 open_behind (BrTable default others) open_ones = Some open_ones

@@ -8,14 +8,14 @@ use Rattle.bl_wasm.specs.declared.instruction.Instr.TheVariants.{Unreachable, No
 -- same behind an item
 abbrev pub reached_behind : List Bool → Instr → List Bool
 reached_behind [] item = []
+reached_behind (here ∷ outer) Unreachable = false ∷ outer
+reached_behind (here ∷ outer) Nop = here ∷ outer
 reached_behind (here ∷ outer) (Block type) = here ∷ here ∷ outer
 reached_behind (here ∷ outer) (Loop type) = here ∷ here ∷ outer
 reached_behind (here ∷ outer) (If type) = here ∷ here ∷ outer
 reached_behind (here ∷ []) Else = here ∷ []
 reached_behind (here ∷ beginning ∷ outer) Else = beginning ∷ beginning ∷ outer
 reached_behind (here ∷ outer) End = outer
-reached_behind (here ∷ outer) Unreachable = false ∷ outer
-reached_behind (here ∷ outer) Nop = here ∷ outer
 reached_behind (here ∷ outer) (Br l) = false ∷ outer
 reached_behind (here ∷ outer) (BrIf l) = here ∷ outer
 reached_behind (here ∷ outer) (BrTable default others) = false ∷ outer

@@ -22,26 +22,26 @@ renamed_block_type names (Index index) = Index (names.type index)
 
 -- an item by the new names
 abbrev pub renamed : Names → Instr → Instr
+renamed names Unreachable = Unreachable
+renamed names Nop = Nop
 renamed names (Block type) = Block (renamed_block_type names type)
 renamed names (Loop type) = Loop (renamed_block_type names type)
 renamed names (If type) = If (renamed_block_type names type)
-renamed names (Call function) = Call (names.function function)
-renamed names (CallIndirect type) = CallIndirect (names.type type)
-renamed names (GlobalGet global) = GlobalGet (names.global global)
-renamed names (GlobalSet global) = GlobalSet (names.global global)
 renamed names Else = Else
 renamed names End = End
-renamed names Unreachable = Unreachable
-renamed names Nop = Nop
 renamed names (Br l) = Br l
 renamed names (BrIf l) = BrIf l
 renamed names (BrTable default others) = BrTable default others
 renamed names Return = Return
+renamed names (Call function) = Call (names.function function)
+renamed names (CallIndirect type) = CallIndirect (names.type type)
 renamed names Drop = Drop
 renamed names Select = Select
 renamed names (LocalGet x) = LocalGet x
 renamed names (LocalSet x) = LocalSet x
 renamed names (LocalTee x) = LocalTee x
+renamed names (GlobalGet global) = GlobalGet (names.global global)
+renamed names (GlobalSet global) = GlobalSet (names.global global)
 renamed names (Load kind argument) = Load kind argument
 renamed names (Store kind argument) = Store kind argument
 renamed names (FloatAccess kind argument) = FloatAccess kind argument

@@ -188,6 +188,8 @@ pub record Stays (c : Context) (item : Instr) (outer : List Open) (from : List W
 
 -- the rule of an item: what is open and the operands' types before it, and both behind it
 abbrev pub Rule : Context → Instr → List Open → List WasmType → List Open → List WasmType → Type 0
+Rule c Unreachable outer from inner to = Stays c Unreachable outer from inner to
+Rule c Nop outer from inner to = Stays c Nop outer from inner to
 Rule c (Block immediate) outer from inner to = Begins c of_block immediate [] outer from inner to
 Rule c (Loop immediate) outer from inner to = Begins c of_loop immediate [] outer from inner to
 Rule c (If immediate) outer from inner to = Begins c then_part immediate (I32 ∷ []) outer from inner to
@@ -195,8 +197,6 @@ Rule c Else [] from inner to = ⊥
 Rule c Else (one ∷ outer) from inner to = Parts one outer from inner to
 Rule c End [] from inner to = ⊥
 Rule c End (one ∷ outer) from inner to = Ends one outer from inner to
-Rule c Unreachable outer from inner to = Stays c Unreachable outer from inner to
-Rule c Nop outer from inner to = Stays c Nop outer from inner to
 Rule c (Br l) outer from inner to = Stays c (Br l) outer from inner to
 Rule c (BrIf l) outer from inner to = Stays c (BrIf l) outer from inner to
 Rule c (BrTable default others) outer from inner to = Stays c (BrTable default others) outer from inner to

@@ -114,13 +114,13 @@ HasIntegerType (Index index) = Unit {0}
 
 -- a block type of this profile
 abbrev pub HasIntegers : Instr → Type 0
+HasIntegers Unreachable = Unit {0}
+HasIntegers Nop = Unit {0}
 HasIntegers (Block type) = HasIntegerType type
 HasIntegers (Loop type) = HasIntegerType type
 HasIntegers (If type) = HasIntegerType type
 HasIntegers Else = Unit {0}
 HasIntegers End = Unit {0}
-HasIntegers Unreachable = Unit {0}
-HasIntegers Nop = Unit {0}
 HasIntegers (Br l) = Unit {0}
 HasIntegers (BrIf l) = Unit {0}
 HasIntegers (BrTable default others) = Unit {0}
