@@ -75,7 +75,8 @@ module _ {Request : Type 0} (job_of : Request → Job) where
     pub usage : asked ≡ None → UnlessFault Usage status
     -- the status of a refusal exactly where that is the first error in the order of work
     pub refused_only : kind_of status ≡ of_refusal → IsRefused asked old new status
-    pub refused : (files : Files) (request : Request) (refusal : Refusal) → old.files ≡ Some files → asked ≡ Some request → FirstRefusal (job_of request) old.files refusal
+    pub refused : (files : Files) (request : Request) (refusal : Refusal) → old.files ≡ Some files → asked ≡ Some request
+        → FirstRefusal (job_of request) old.files refusal
         → UnlessFault (status_of refusal) status
     -- the status of what is done exactly where that is done
     pub done_only : kind_of status ≡ of_deed → IsDone asked old new status
@@ -88,4 +89,5 @@ module _ {Request : Type 0} (job_of : Request → Job) where
     pub quiet : (status ≡ ReadFault → ⊥) → (status ≡ WriteFault → ⊥) → (status ≡ Memory → ⊥) → NoFault old new
     -- where no count rises and nothing is refused, the job is done, or memory ran out
     pub complete : (files : Files) (request : Request) → old.files ≡ Some files → asked ≡ Some request
-        → ((refusal : Refusal) → FirstRefusal (job_of request) old.files refusal → ⊥) → NoneRose old new → IsDone asked old new status ⊎ (status ≡ Memory)
+        → ((refusal : Refusal) → FirstRefusal (job_of request) old.files refusal → ⊥) → NoneRose old new
+        → IsDone asked old new status ⊎ (status ≡ Memory)

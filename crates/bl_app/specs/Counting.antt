@@ -7,7 +7,12 @@ use Rattle.bl_build.specs.Refusals.{limit}
 
 -- nothing is read, and a request with so many modules is refused
 abbrev pub too_many : ℕ → Job
-too_many count = record { reads = []; keeps = []; Against = λ contents refusal. refusal ≡ limit quantity.Modules count; Does = λ contents plan. ⊥ }
+too_many count = record {
+  reads = [];
+  keeps = [];
+  Against = λ contents refusal. refusal ≡ limit quantity.Modules count;
+  Does = λ contents plan. ⊥;
+}
 
 abbrev pub job_if : Bool → ℕ → Job → Job
 job_if true count job = job

@@ -38,7 +38,8 @@ pub record IsLawful (job : Job) : Type 0 where
   -- contents have at most one refusal
   pub one_refusal : (contents : List (List ℕ)) (a b : Refusal) → job.Against contents a → job.Against contents b → a ≡ b
   -- nothing is done where one stands
-  pub none_beside_a_deed : (contents : List (List ℕ)) (refusal : Refusal) (plan : Plan) → job.Against contents refusal → job.Does contents plan → ⊥
+  pub none_beside_a_deed : (contents : List (List ℕ)) (refusal : Refusal) (plan : Plan) → job.Against contents refusal
+      → job.Does contents plan → ⊥
   -- all that may be done has one status, which says that the work was done
   pub one_status : (contents : List (List ℕ)) (p q : Plan) → job.Does contents p → job.Does contents q → p.status ≡ q.status
   pub status_of_deed : (contents : List (List ℕ)) (plan : Plan) → job.Does contents plan → kind_of plan.status ≡ of_deed
@@ -81,7 +82,8 @@ ReadsName files reads name = At files (λ read. name ≡ read.name) reads
 
 -- a file that is read is too long: its length is tested before the next file is read
 abbrev pub RefusesLength : Option Files → List Read → Refusal → Type 0
-RefusesLength files reads refusal = At files (λ read. IsTooLong files read × (refusal ≡ limit read.quantity (limit_of read.quantity + 1))) reads
+RefusesLength files reads refusal =
+    At files (λ read. IsTooLong files read × (refusal ≡ limit read.quantity (limit_of read.quantity + 1))) reads
 
 -- the first error in the order of work, for files that are read without fault
 pub data FirstRefusal (job : Job) (files : Option Files) (refusal : Refusal) : Type 0 where

@@ -108,5 +108,6 @@ pub record Speculates (request : SpecRequest) (old new : World) (status : Status
   pub meant : status ≡ spec_status (seen_of speculated).refused
   pub printed : new.sink.taken ≡ took old.sink.taken (spec_text speculated)
   pub outcome : (outcome : Outcome) → ended_of speculated ≡ Some outcome
-      → plain speculated.entered.entry.program speculated.entered.entry.function speculated.entered.start (state_of speculated).retired outcome
+      → plain speculated.entered.entry.program speculated.entered.entry.function speculated.entered.start
+      (state_of speculated).retired outcome
   pub unchanged : new.files ≡ old.files

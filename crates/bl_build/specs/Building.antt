@@ -35,7 +35,8 @@ pub record HasImage (tree : Tree) : Type 0 where
 
 pub data BuildingRefuses (tree : Tree) (refusal : Refusal) : Type 0 where
   -- the program has too many commands; their number is told, or the greatest of 64 bits where it is greater
-  many_commands : limit_of quantity.Commands < command_count tree → refusal ≡ limit quantity.Commands (min (command_count tree) (2 ^ 64 - 1))
+  many_commands : limit_of quantity.Commands < command_count tree
+      → refusal ≡ limit quantity.Commands (min (command_count tree) (2 ^ 64 - 1))
       → BuildingRefuses tree refusal
   -- it has few enough, and its image has too many bytes; their number is told
   long_image : (image : List ℕ) → command_count tree ≤ limit_of quantity.Commands → Image (low_tree tree) image

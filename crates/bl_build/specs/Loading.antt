@@ -73,9 +73,11 @@ pub data DecodingRefuses (part : Part) (refusal : Refusal) : Type 0 where
   -- the bytes spell no module
   no_module : ((tree : Module) → Spells part.bytes tree → ⊥) → refusal ≡ malformed part.name → DecodingRefuses part refusal
   -- the module has something that isn't supported
-  not_supported : (tree : Module) → Spells part.bytes tree → (IsSupported tree → ⊥) → refusal ≡ unsupported part.name → DecodingRefuses part refusal
+  not_supported : (tree : Module) → Spells part.bytes tree → (IsSupported tree → ⊥) → refusal ≡ unsupported part.name
+      → DecodingRefuses part refusal
   -- it exceeds a quantity; the first one and its value
-  excess : (tree : Module) (which : Quantity) (value : ℕ) → Spells part.bytes tree → IsSupported tree → first_excess tree ≡ Some (which, value) → refusal ≡ limit which value
+  excess : (tree : Module) (which : Quantity) (value : ℕ) → Spells part.bytes tree → IsSupported tree
+      → first_excess tree ≡ Some (which, value) → refusal ≡ limit which value
       → DecodingRefuses part refusal
 
 abbrev pub decoding : Stage Part Named
@@ -153,10 +155,12 @@ pub record Links (labelled : List LabelledModule) (tree : Tree) : Type 0 where
 -- why modules aren't linked, with the name of the module whose import or segment it is
 pub data LinkingRefuses (labelled : List LabelledModule) (refusal : Refusal) : Type 0 where
   -- nothing before a module is exported under the names of its import
-  unknown : (part import : ℕ) (one : LabelledModule) → links (linked_parts labelled) ≡ Err (Unknown part import) → slice_get labelled part ≡ Some one
+  unknown : (part import : ℕ) (one : LabelledModule) → links (linked_parts labelled) ≡ Err (Unknown part import)
+      → slice_get labelled part ≡ Some one
       → refusal ≡ unknown_import one.name import → LinkingRefuses labelled refusal
   -- what is doesn't match
-  mismatched : (part import : ℕ) (one : LabelledModule) → links (linked_parts labelled) ≡ Err (Mismatch part import) → slice_get labelled part ≡ Some one
+  mismatched : (part import : ℕ) (one : LabelledModule) → links (linked_parts labelled) ≡ Err (Mismatch part import)
+      → slice_get labelled part ≡ Some one
       → refusal ≡ mismatched_import one.name import → LinkingRefuses labelled refusal
   -- an element segment, or else a data segment, is out of range
   element : (part : ℕ) (one : LabelledModule) → links (linked_parts labelled) ≡ Err (ElementRange part) → slice_get labelled part ≡ Some one
@@ -164,7 +168,8 @@ pub data LinkingRefuses (labelled : List LabelledModule) (refusal : Refusal) : T
   segment : (part : ℕ) (one : LabelledModule) → links (linked_parts labelled) ≡ Err (DataRange part) → slice_get labelled part ≡ Some one
       → refusal ≡ data_range one.name → LinkingRefuses labelled refusal
   -- the modules together are too large
-  too_large : (which : Quantity) (value : ℕ) → links (linked_parts labelled) ≡ Err (Limit which value) → refusal ≡ limit which value → LinkingRefuses labelled refusal
+  too_large : (which : Quantity) (value : ℕ) → links (linked_parts labelled) ≡ Err (Limit which value) → refusal ≡ limit which value
+      → LinkingRefuses labelled refusal
 
 abbrev pub linking : Stage (List LabelledModule) Tree
 linking = record { Passes = Links; Refuses = LinkingRefuses }

@@ -38,7 +38,8 @@ pub data OpeningRefuses (export bytes : List ℕ) (tree : Tree) (refusal : Refus
       → answer_of type.params (sizes_of tree) bytes ≡ Err (Line line) → refusal ≡ bad_line line → OpeningRefuses export bytes tree refusal
   -- no line is bad, and there are too few arguments
   too_few : (function count : ℕ) (type : Signature) → number_of export tree.exports ≡ Some function → type_of tree function ≡ Some type
-      → answer_of type.params (sizes_of tree) bytes ≡ Err (Count count) → refusal ≡ few_arguments count → OpeningRefuses export bytes tree refusal
+      → answer_of type.params (sizes_of tree) bytes ≡ Err (Count count) → refusal ≡ few_arguments count
+      → OpeningRefuses export bytes tree refusal
 
 abbrev pub opening : List ℕ → List ℕ → Stage Tree Opened
 opening export bytes = record { Passes = Opens export bytes; Refuses = OpeningRefuses export bytes }

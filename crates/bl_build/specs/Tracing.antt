@@ -28,7 +28,8 @@ pub data TracingRefuses (bytes : List ℕ) (refusal : Refusal) : Type 0 where
   too_many : limit_of quantity.Directives < length (lines_of bytes) → refusal ≡ limit quantity.Directives (length (lines_of bytes))
       → TracingRefuses bytes refusal
   -- there are no more, and one is no directive; the first one
-  no_directive : (line : ℕ) → length (lines_of bytes) ≤ limit_of quantity.Directives → trace_of bytes ≡ Err line → refusal ≡ bad_directive line
+  no_directive : (line : ℕ) → length (lines_of bytes) ≤ limit_of quantity.Directives → trace_of bytes ≡ Err line
+      → refusal ≡ bad_directive line
       → TracingRefuses bytes refusal
 
 abbrev pub tracing : List ℕ → Stage Entry Traced

@@ -113,10 +113,14 @@ labels_error name label.Memory = error.Memory
 
 -- an error of linking modules of those names, by the name of the part that it names
 abbrev pub IsLinkingError : List (Bor (List ℕ)) → LinkError → WorkError → Type 0
-IsLinkingError names (link.Unknown part import) e = (name : Bor (List ℕ)) × (slice_get names part ≡ Some name) × (e ≡ error.Refused (told.UnknownImport name import))
-IsLinkingError names (link.Mismatch part import) e = (name : Bor (List ℕ)) × (slice_get names part ≡ Some name) × (e ≡ error.Refused (told.MismatchedImport name import))
-IsLinkingError names (link.ElementRange part) e = (name : Bor (List ℕ)) × (slice_get names part ≡ Some name) × (e ≡ error.Refused (told.ElementRange name))
-IsLinkingError names (link.DataRange part) e = (name : Bor (List ℕ)) × (slice_get names part ≡ Some name) × (e ≡ error.Refused (told.DataRange name))
+IsLinkingError names (link.Unknown part import) e =
+    (name : Bor (List ℕ)) × (slice_get names part ≡ Some name) × (e ≡ error.Refused (told.UnknownImport name import))
+IsLinkingError names (link.Mismatch part import) e =
+    (name : Bor (List ℕ)) × (slice_get names part ≡ Some name) × (e ≡ error.Refused (told.MismatchedImport name import))
+IsLinkingError names (link.ElementRange part) e =
+    (name : Bor (List ℕ)) × (slice_get names part ≡ Some name) × (e ≡ error.Refused (told.ElementRange name))
+IsLinkingError names (link.DataRange part) e =
+    (name : Bor (List ℕ)) × (slice_get names part ≡ Some name) × (e ≡ error.Refused (told.DataRange name))
 IsLinkingError names (link.Limit which value) e = e ≡ error.Refused (told.Limit which value)
 IsLinkingError names link.Memory e = e ≡ error.Memory
 

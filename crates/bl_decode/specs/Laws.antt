@@ -27,7 +27,8 @@ use Rattle.bl_code.proofs.BlockTypes.{value_type_prefix_free}
 use Rattle.bl_code.proofs.Nesting.{expression_prefix_free}
 
 -- one after another
-pub seq_prefix_free : {A B : Type 0} {F : A → Spellings} {S : B → Spellings} → PrefixFree F → PrefixFree S → PrefixFree (λ (t : A × B). F t.0 ⨾ S t.1)
+pub seq_prefix_free : {A B : Type 0} {F : A → Spellings} {S : B → Spellings} → PrefixFree F → PrefixFree S
+    → PrefixFree (λ (t : A × B). F t.0 ⨾ S t.1)
 seq_prefix_free first second =
     record { same = λ s t. seq_same (first.same s.0 t.0) (λ e. then_same (λ f. ap₂ (λ x y. (x, y)) e f) (second.same s.1 t.1)) }
 
@@ -69,17 +70,20 @@ global_type_prefix_free =
     (λ t. record { kind = t.0; mutable = t.1 }) (λ x. refl) (seq_prefix_free value_type_prefix_free mutability_prefix_free)
 
 import_kind_same : (x y : ImportKind) → Same (import_kind x) (import_kind y) (x ≡ y)
-import_kind_same (import.Function x) (import.Function y) = seq_same (byte_same 0 0) (λ e. then_same (ap import.Function) (u32_prefix_free.same x y))
+import_kind_same (import.Function x) (import.Function y) =
+    seq_same (byte_same 0 0) (λ e. then_same (ap import.Function) (u32_prefix_free.same x y))
 import_kind_same (import.Function x) (import.Table y) = seq_same (byte_same 0 1) (λ e. absurd (let no : ⊥ = cc in no))
 import_kind_same (import.Function x) (import.Memory y) = seq_same (byte_same 0 2) (λ e. absurd (let no : ⊥ = cc in no))
 import_kind_same (import.Function x) (import.Global y) = seq_same (byte_same 0 3) (λ e. absurd (let no : ⊥ = cc in no))
 import_kind_same (import.Table x) (import.Function y) = seq_same (byte_same 1 0) (λ e. absurd (let no : ⊥ = cc in no))
-import_kind_same (import.Table x) (import.Table y) = seq_same (byte_same 1 1) (λ e. then_same (ap import.Table) (table_type_prefix_free.same x y))
+import_kind_same (import.Table x) (import.Table y) =
+    seq_same (byte_same 1 1) (λ e. then_same (ap import.Table) (table_type_prefix_free.same x y))
 import_kind_same (import.Table x) (import.Memory y) = seq_same (byte_same 1 2) (λ e. absurd (let no : ⊥ = cc in no))
 import_kind_same (import.Table x) (import.Global y) = seq_same (byte_same 1 3) (λ e. absurd (let no : ⊥ = cc in no))
 import_kind_same (import.Memory x) (import.Function y) = seq_same (byte_same 2 0) (λ e. absurd (let no : ⊥ = cc in no))
 import_kind_same (import.Memory x) (import.Table y) = seq_same (byte_same 2 1) (λ e. absurd (let no : ⊥ = cc in no))
-import_kind_same (import.Memory x) (import.Memory y) = seq_same (byte_same 2 2) (λ e. then_same (ap import.Memory) (limits_prefix_free.same x y))
+import_kind_same (import.Memory x) (import.Memory y) =
+    seq_same (byte_same 2 2) (λ e. then_same (ap import.Memory) (limits_prefix_free.same x y))
 import_kind_same (import.Memory x) (import.Global y) = seq_same (byte_same 2 3) (λ e. absurd (let no : ⊥ = cc in no))
 import_kind_same (import.Global x) (import.Function y) = seq_same (byte_same 3 0) (λ e. absurd (let no : ⊥ = cc in no))
 import_kind_same (import.Global x) (import.Table y) = seq_same (byte_same 3 1) (λ e. absurd (let no : ⊥ = cc in no))
@@ -93,7 +97,8 @@ import_kind_prefix_free = record { same = import_kind_same }
 pub import_entry_prefix_free : PrefixFree import_entry
 import_entry_prefix_free =
     parts_prefix_free (λ t. name t.0 ⨾ (name t.1.0 ⨾ import_kind t.1.1)) (λ (entry : Import). (entry.from, (entry.name, entry.kind)))
-    (λ t. record { from = t.0; name = t.1.0; kind = t.1.1 }) (λ x. refl) (seq_prefix_free name_prefix_free (seq_prefix_free name_prefix_free import_kind_prefix_free))
+    (λ t. record { from = t.0; name = t.1.0; kind = t.1.1 }) (λ x. refl)
+    (seq_prefix_free name_prefix_free (seq_prefix_free name_prefix_free import_kind_prefix_free))
 
 pub global_entry_prefix_free : PrefixFree global_entry
 global_entry_prefix_free =
@@ -124,7 +129,8 @@ export_kind_prefix_free = record { same = export_kind_same }
 pub export_entry_prefix_free : PrefixFree export_entry
 export_entry_prefix_free =
     parts_prefix_free (λ t. name t.0 ⨾ (export_kind t.1.0 ⨾ u32 t.1.1)) (λ (entry : Export). (entry.name, (entry.kind, entry.index)))
-    (λ t. record { name = t.0; kind = t.1.0; index = t.1.1 }) (λ x. refl) (seq_prefix_free name_prefix_free (seq_prefix_free export_kind_prefix_free u32_prefix_free))
+    (λ t. record { name = t.0; kind = t.1.0; index = t.1.1 }) (λ x. refl)
+    (seq_prefix_free name_prefix_free (seq_prefix_free export_kind_prefix_free u32_prefix_free))
 
 pub element_entry_prefix_free : PrefixFree element_entry
 element_entry_prefix_free =
@@ -153,4 +159,5 @@ pub data_entry_prefix_free : PrefixFree data_entry
 data_entry_prefix_free =
     parts_prefix_free (λ t. u32 t.0 ⨾ (expression t.1.0 ⨾ byte_vec t.1.1))
     (λ (segment : DataSegment). (segment.memory, (segment.offset, segment.bytes)))
-    (λ t. record { memory = t.0; offset = t.1.0; bytes = t.1.1 }) (λ x. refl) (seq_prefix_free u32_prefix_free (seq_prefix_free expression_prefix_free byte_vec_prefix_free))
+    (λ t. record { memory = t.0; offset = t.1.0; bytes = t.1.1 }) (λ x. refl)
+    (seq_prefix_free u32_prefix_free (seq_prefix_free expression_prefix_free byte_vec_prefix_free))

@@ -43,7 +43,8 @@ Represents stacks open_ones s = MayStand stacks.operands s × AreOpen (reverse s
 -- the labels of the place, innermost first, each by what a branch to it takes; the outermost takes the results
 abbrev pub labels_in : List WasmType → Stacks → List (List WasmType)
 labels_in results stacks =
-    map (λ frame. taken_by (nesting_kind frame.construct.kind) (construct_type frame.construct)) (reverse stacks.frames.items) ++ results ∷ []
+    map (λ frame. taken_by (nesting_kind frame.construct.kind) (construct_type frame.construct))
+    (reverse stacks.frames.items) ++ results ∷ []
 
 -- a step over an item: what is represented behind it is exactly what its rule gives of what is represented before it
 abbrev pub Steps : Context → Instr → Stacks → Bool → Stacks → Type 0
