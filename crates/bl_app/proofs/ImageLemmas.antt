@@ -27,7 +27,7 @@ use Rattle.bl_build.specs.Loading.{parts_of}
 use Rattle.bl_app.specs.Outcomes.{outcome_status}
 use Rattle.bl_words.specs.Requests.{InterpRequest, RunRequest}
 use Rattle.bl_wasm.specs.Linked.{type_of}
-use Rattle.bl_build.specs.Running.{Opened, Opens, sizes_of}
+use Rattle.bl_build.specs.Running.{Invoked, Invokes, sizes_of}
 use Rattle.bl_app.specs.declared.status.Status.TheVariants.{Spent}
 use Rattle.bl_build.proofs.LoadingLemmas.{loading_lawful}
 use Rattle.bl_build.proofs.EnteringLemmas.{entering_lawful}
@@ -53,13 +53,13 @@ module _ (request : InterpRequest) (image_name start_name start : List ℕ) (con
   abbrev run_of : ℕ → RunRequest
   run_of steps = record { image = image_name; export = request.export; start = start_name; steps = steps }
 
-  -- what is opened of the tree is entered of its image
-  module _ (opened : Opened) (o : Opens request.export start tree opened) where
-    abbrev d : IsDefined tree opened.function opened.type
-    d = is_defined tree compiled.linked opened.function opened.type o.typed
+  -- what is invoked of the tree is entered of its image
+  module _ (invoked : Invoked) (o : Invokes request.export start tree invoked) where
+    abbrev d : IsDefined tree invoked.function invoked.type
+    d = is_defined tree compiled.linked invoked.function invoked.type o.typed
 
     abbrev entered : Entered
-    entered = record { entry = record { program = low_tree tree; function = opened.function; defined = d.defined }; start = opened.start }
+    entered = record { entry = record { program = low_tree tree; function = invoked.function; defined = d.defined }; start = invoked.start }
 
     passes : (entering request.export start).Passes built.image entered
     passes = (
@@ -72,43 +72,43 @@ module _ (request : InterpRequest) (image_name start_name start : List ℕ) (con
       ),
     )
 
-    same_memories : first_memories (low_tree tree) opened.start ≡ (first_store opened.tree opened.start).memories
-    same_memories = memories_first tree compiled.linked opened.function opened.start ∙ ap (λ t. (first_store t opened.start).memories) (sym o.same_tree)
+    same_memories : first_memories (low_tree tree) invoked.start ≡ (first_store invoked.tree invoked.start).memories
+    same_memories = memories_first tree compiled.linked invoked.function invoked.start ∙ ap (λ t. (first_store t invoked.start).memories) (sym o.same_tree)
 
-    same_plan : (outcome : Outcome) (m n : ℕ) → saying (outcome_status (Some outcome)) (printed_of opened n (Some outcome)) ≡ saying (outcome_status (Some outcome)) (plain_text entered m (Some outcome))
+    same_plan : (outcome : Outcome) (m n : ℕ) → saying (outcome_status (Some outcome)) (printed_of invoked n (Some outcome)) ≡ saying (outcome_status (Some outcome)) (plain_text entered m (Some outcome))
     same_plan outcome m n =
         ap (saying (outcome_status (Some outcome)))
-        (sym (λ i. outcome_text (d.results i) (same_memories i) n (Some outcome)) ∙ steps_aside outcome d.defined.results (first_memories (low_tree tree) opened.start) n m)
+        (sym (λ i. outcome_text (d.results i) (same_memories i) n (Some outcome)) ∙ steps_aside outcome d.defined.results (first_memories (low_tree tree) invoked.start) n m)
 
   within_bound : (m n : ℕ) → m ≤ step_bound tree * n → n ≤ request.steps → m ≤ step_bound tree * request.steps
   within_bound m n bound few = let more : step_bound tree * n ≤ step_bound tree * request.steps = mul-le-mul_left (step_bound tree) few in omega (arith, bound, more)
 
   -- `interp` told an end
-  ran_as : (plan : Plan) (opened : Opened) (o : Opens request.export start tree opened) (outcome : Option Outcome) → HasOutcome opened request.steps outcome
-      → plan ≡ saying (outcome_status outcome) (printed_of opened request.steps outcome) → (plan.status ≡ Spent → ⊥) → RunDoes (run_of (step_bound tree * request.steps)) (built.image ∷ start ∷ []) plan
-  ran_as plan opened o None within is_plan ended = absurd (ended (ap (λ p. p.status) is_plan))
-  ran_as plan opened o (Some outcome) within is_plan ended =
-      let source_run = subst (λ t. source t opened.function opened.start within.0 outcome) o.same_tree within.1 in
-      let f = compiled.same_outcomes.follows opened.function opened.start outcome within.0 source_run in
+  ran_as : (plan : Plan) (invoked : Invoked) (o : Invokes request.export start tree invoked) (outcome : Option Outcome) → HasOutcome invoked request.steps outcome
+      → plan ≡ saying (outcome_status outcome) (printed_of invoked request.steps outcome) → (plan.status ≡ Spent → ⊥) → RunDoes (run_of (step_bound tree * request.steps)) (built.image ∷ start ∷ []) plan
+  ran_as plan invoked o None within is_plan ended = absurd (ended (ap (λ p. p.status) is_plan))
+  ran_as plan invoked o (Some outcome) within is_plan ended =
+      let source_run = subst (λ t. source t invoked.function invoked.start within.0 outcome) o.same_tree within.1 in
+      let f = compiled.same_outcomes.follows invoked.function invoked.start outcome within.0 source_run in
       record {
         image = built.image;
         start = start;
         are = refl;
-        entered = entered opened o;
-        prepared = passes opened o;
+        entered = entered invoked o;
+        prepared = passes invoked o;
         outcome = Some outcome;
-        within = (f.0, subst (λ p. plain p opened.function opened.start f.0 outcome) compiled.builds.is_program f.1, within_bound f.0 within.0 f.3 within.2);
-        is_plan = is_plan ∙ same_plan opened o outcome (step_bound tree * request.steps) request.steps;
+        within = (f.0, subst (λ p. plain p invoked.function invoked.start f.0 outcome) compiled.builds.is_program f.1, within_bound f.0 within.0 f.3 within.2);
+        is_plan = is_plan ∙ same_plan invoked o outcome (step_bound tree * request.steps) request.steps;
       }
 
   pub forward : (plan : Plan) → HasRun request start contents plan → (plan.status ≡ Spent → ⊥) → RunDoes (run_of (step_bound tree * request.steps)) (built.image ∷ start ∷ []) plan
   forward plan h ended =
       let same = loading_lawful.one_result (parts_of request.modules contents) h.prepared.0 tree h.prepared.1 compiled.loaded in
-      ran_as plan h.opened (subst (λ t. Opens request.export start t h.opened) same h.prepared.2) h.outcome h.within h.is_plan ended
+      ran_as plan h.invoked (subst (λ t. Invokes request.export start t h.invoked) same h.prepared.2) h.outcome h.within h.is_plan ended
 
-  -- what is entered of the image was opened of the tree
-  is_opened : (found : Entered) → (entering request.export start).Passes built.image found → (type : Signature) × Opens request.export start tree (record { tree = tree; function = found.entry.function; type = type; start = found.start })
-  is_opened found p =
+  -- what is entered of the image was invoked of the tree
+  is_invoked : (found : Entered) → (entering request.export start).Passes built.image found → (type : Signature) × Invokes request.export start tree (record { tree = tree; function = found.entry.function; type = type; start = found.start })
+  is_invoked found p =
       let program : p.0 ≡ low_tree tree = one_program p.0 (low_tree tree) built.image p.1.image compiled.builds.image in
       let entry = ap (λ e. e.function) p.2.2.same_entry in
       let number = p.2.0.function in
@@ -127,24 +127,24 @@ module _ (request : InterpRequest) (image_name start_name start : List ℕ) (con
       )
 
   -- `run` told an end
-  told_as : (plan : Plan) (found : Entered) (opened : Opened) (o : Opens request.export start tree opened) → found ≡ entered opened o → (outcome : Option Outcome) → HasPlainOutcome found request.steps outcome
+  told_as : (plan : Plan) (found : Entered) (invoked : Invoked) (o : Invokes request.export start tree invoked) → found ≡ entered invoked o → (outcome : Option Outcome) → HasPlainOutcome found request.steps outcome
       → plan ≡ saying (outcome_status outcome) (plain_text found request.steps outcome) → (plan.status ≡ Spent → ⊥) → HasRun request start contents plan
-  told_as plan found opened o same None within is_plan ended = absurd (ended (ap (λ p. p.status) is_plan))
-  told_as plan found opened o same (Some outcome) within is_plan ended =
+  told_as plan found invoked o same None within is_plan ended = absurd (ended (ap (λ p. p.status) is_plan))
+  told_as plan found invoked o same (Some outcome) within is_plan ended =
       let here = subst (λ e. plain e.entry.program e.entry.function e.start within.0 outcome) same within.1 in
-      let f = compiled.same_outcomes.comes_from opened.function opened.start outcome within.0 (subst (λ p. plain p opened.function opened.start within.0 outcome) (sym compiled.builds.is_program) here) in
+      let f = compiled.same_outcomes.comes_from invoked.function invoked.start outcome within.0 (subst (λ p. plain p invoked.function invoked.start within.0 outcome) (sym compiled.builds.is_program) here) in
       record {
-        opened = opened;
+        invoked = invoked;
         prepared = (tree, compiled.loaded, o);
         outcome = Some outcome;
-        within = (f.0, subst (λ t. source t opened.function opened.start f.0 outcome) (sym o.same_tree) f.1, omega (arith, f.2, within.2));
-        is_plan = is_plan ∙ ap (λ e. saying (outcome_status (Some outcome)) (plain_text e request.steps (Some outcome))) same ∙ sym (same_plan opened o outcome request.steps request.steps);
+        within = (f.0, subst (λ t. source t invoked.function invoked.start f.0 outcome) (sym o.same_tree) f.1, omega (arith, f.2, within.2));
+        is_plan = is_plan ∙ ap (λ e. saying (outcome_status (Some outcome)) (plain_text e request.steps (Some outcome))) same ∙ sym (same_plan invoked o outcome request.steps request.steps);
       }
 
   pub backward : (plan : Plan) → RunDoes (run_of request.steps) (built.image ∷ start ∷ []) plan → (plan.status ≡ Spent → ⊥) → HasRun request start contents plan
   backward plan h ended =
       let there = passes_here (run_of request.steps) (built.image ∷ start ∷ []) built.image start plan refl h in
-      let is = is_opened h.entered there in
-      let opened : Opened = record { tree = tree; function = h.entered.entry.function; type = is.0; start = h.entered.start } in
-      let same = (entering_lawful request.export start).one_result built.image h.entered (entered opened is.1) there (passes opened is.1) in
-      told_as plan h.entered opened is.1 same h.outcome h.within h.is_plan ended
+      let is = is_invoked h.entered there in
+      let invoked : Invoked = record { tree = tree; function = h.entered.entry.function; type = is.0; start = h.entered.start } in
+      let same = (entering_lawful request.export start).one_result built.image h.entered (entered invoked is.1) there (passes invoked is.1) in
+      told_as plan h.entered invoked is.1 same h.outcome h.within h.is_plan ended

@@ -12,28 +12,28 @@ use Rattle.bl_build.specs.Loading.{parts_of}
 use Rattle.bl_app.specs.Outcomes.{outcome_status}
 use Rattle.bl_build.specs.Refusals.{Refusal}
 use Rattle.bl_words.specs.Requests.{InterpRequest, Request, interp}
-use Rattle.bl_build.specs.Running.{Opened}
+use Rattle.bl_build.specs.Running.{Invoked}
 use Rattle.bl_app.specs.Status.{kind_of, of_deed}
 use Rattle.bl_app.specs.Worlds.{World, took, with_files}
 use Rattle.bl_app.specs.declared.status.Status.{Status}
 use Rattle.bl_app.proofs.CountLemmas.{work_done}
 use Rattle.bl_app.proofs.RunLemmas.{deed_of_run, one_within}
-use Rattle.bl_build.proofs.OpeningLemmas.{preparing_lawful}
+use Rattle.bl_build.proofs.InvokingLemmas.{preparing_lawful}
 
 -- the outcome within so many steps is one
-one_outcome : (opened : Opened) (steps : ℕ) (a b : Option Outcome) → HasOutcome opened steps a → HasOutcome opened steps b → a ≡ b
-one_outcome opened steps =
-    one_within (source opened.tree opened.function opened.start) steps
-    (λ m n o p h i. (run_unique (source_step opened.tree) m n (opening_of opened.tree opened.function opened.start) o p h.run i.run).1)
+one_outcome : (invoked : Invoked) (steps : ℕ) (a b : Option Outcome) → HasOutcome invoked steps a → HasOutcome invoked steps b → a ≡ b
+one_outcome invoked steps =
+    one_within (source invoked.tree invoked.function invoked.start) steps
+    (λ m n o p h i. (run_unique (source_step invoked.tree) m n (opening_of invoked.tree invoked.function invoked.start) o p h.run i.run).1)
 
 module _ (request : InterpRequest) where
   -- a run has one plan
   run_once : (start : List ℕ) (contents : List (List ℕ)) (p q : Plan) → HasRun request start contents p → HasRun request start contents q → p ≡ q
   run_once start contents p q h k =
-      let opened = (preparing_lawful request.export start).one_result (parts_of request.modules contents) h.opened k.opened h.prepared k.prepared in
-      let outcome = one_outcome k.opened request.steps h.outcome k.outcome (subst (λ o. HasOutcome o request.steps h.outcome) opened h.within) k.within in
-      let plans : saying (outcome_status h.outcome) (printed_of h.opened request.steps h.outcome) ≡ saying (outcome_status k.outcome) (printed_of k.opened request.steps k.outcome)
-      = λ i. saying (outcome_status (outcome i)) (printed_of (opened i) request.steps (outcome i)) in
+      let invoked = (preparing_lawful request.export start).one_result (parts_of request.modules contents) h.invoked k.invoked h.prepared k.prepared in
+      let outcome = one_outcome k.invoked request.steps h.outcome k.outcome (subst (λ o. HasOutcome o request.steps h.outcome) invoked h.within) k.within in
+      let plans : saying (outcome_status h.outcome) (printed_of h.invoked request.steps h.outcome) ≡ saying (outcome_status k.outcome) (printed_of k.invoked request.steps k.outcome)
+      = λ i. saying (outcome_status (outcome i)) (printed_of (invoked i) request.steps (outcome i)) in
       h.is_plan ∙ (plans ∙ sym k.is_plan)
 
   pub one_run : (contents : List (List ℕ)) (p q : Plan) → InterpDoes request contents p → InterpDoes request contents q → p ≡ q
@@ -46,7 +46,7 @@ module _ (request : InterpRequest) where
 
   none_beside : (contents : List (List ℕ)) (refusal : Refusal) (plan : Plan) → InterpRefuses request contents refusal → InterpDoes request contents plan → ⊥
   none_beside [] refusal plan h k = h
-  none_beside (start ∷ contents) refusal plan h k = (preparing_lawful request.export start).not_both (parts_of request.modules contents) k.opened refusal k.prepared h
+  none_beside (start ∷ contents) refusal plan h k = (preparing_lawful request.export start).not_both (parts_of request.modules contents) k.invoked refusal k.prepared h
 
   status_of_run : (contents : List (List ℕ)) (plan : Plan) → InterpDoes request contents plan → kind_of plan.status ≡ of_deed
   status_of_run [] plan h = absurd h
@@ -73,7 +73,7 @@ module _ (request : InterpRequest) where
     start = start;
     contents = contents;
     read = read;
-    opened = h.opened;
+    invoked = h.invoked;
     prepared = h.prepared;
     outcome = h.outcome;
     within = h.within;

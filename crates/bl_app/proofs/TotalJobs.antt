@@ -74,8 +74,8 @@ module _ (request : InterpRequest) (few : length request.modules ≤ limit_of qu
   interp_always [] there refused made = there.read
   interp_always (start ∷ contents) there refused made =
       (preparing_total request.export start).always (parts_of request.modules contents) (are_loadable request.modules contents few apart there.read.1 (All-tail Bytes start contents there.bytes))
-      (λ opened prepared. some_within (source opened.tree opened.function opened.start) request.steps (λ outcome within.
-      made (saying (outcome_status outcome) (printed_of opened request.steps outcome)) (record { opened = opened; prepared = prepared; outcome = outcome; within = within; is_plan = refl }))) refused
+      (λ invoked prepared. some_within (source invoked.tree invoked.function invoked.start) request.steps (λ outcome within.
+      made (saying (outcome_status outcome) (printed_of invoked request.steps outcome)) (record { invoked = invoked; prepared = prepared; outcome = outcome; within = within; is_plan = refl }))) refused
 
   pub interp_total : IsTotal (interp_job request)
   interp_total = record { always = interp_always }

@@ -10,7 +10,7 @@ use Rattle.bl_build.specs.Loading.{parts_of}
 use Rattle.bl_app.specs.Outcomes.{outcome_status}
 use Rattle.bl_build.specs.Refusals.{Refusal}
 use Rattle.bl_words.specs.Requests.{InterpRequest}
-use Rattle.bl_build.specs.Running.{Opened, preparing}
+use Rattle.bl_build.specs.Running.{Invoked, preparing}
 use Rattle.bl_app.specs.Worlds.{World, took}
 use Rattle.bl_app.specs.declared.status.Status.{Status}
 
@@ -19,20 +19,20 @@ abbrev pub start_read : List ℕ → Read
 start_read word = record { name = word; quantity = quantity.Start }
 
 -- the run of a function has that outcome within so many steps, or none within them
-abbrev pub HasOutcome : Opened → ℕ → Option Outcome → Type 0
-HasOutcome opened steps outcome = IsWithin (source opened.tree opened.function opened.start) steps outcome
+abbrev pub HasOutcome : Invoked → ℕ → Option Outcome → Type 0
+HasOutcome invoked steps outcome = IsWithin (source invoked.tree invoked.function invoked.start) steps outcome
 
 -- the text of the outcome, by the types of the results and the memories at the start
-abbrev pub printed_of : Opened → ℕ → Option Outcome → List ℕ
-printed_of opened steps outcome = outcome_text opened.type.results (first_store opened.tree opened.start).memories steps outcome
+abbrev pub printed_of : Invoked → ℕ → Option Outcome → List ℕ
+printed_of invoked steps outcome = outcome_text invoked.type.results (first_store invoked.tree invoked.start).memories steps outcome
 
 -- nothing is refused, and the plan is to print the outcome of the run within the steps
 pub record HasRun (request : InterpRequest) (start : List ℕ) (contents : List (List ℕ)) (plan : Plan) : Type 0 where
-  pub opened : Opened
-  pub prepared : (preparing request.export start).Passes (parts_of request.modules contents) opened
+  pub invoked : Invoked
+  pub prepared : (preparing request.export start).Passes (parts_of request.modules contents) invoked
   pub outcome : Option Outcome
-  pub within : HasOutcome opened request.steps outcome
-  pub is_plan : plan ≡ saying (outcome_status outcome) (printed_of opened request.steps outcome)
+  pub within : HasOutcome invoked request.steps outcome
+  pub is_plan : plan ≡ saying (outcome_status outcome) (printed_of invoked request.steps outcome)
 
 -- the first of the contents are those of the start file
 abbrev pub InterpRefuses : InterpRequest → List (List ℕ) → Refusal → Type 0
@@ -57,10 +57,10 @@ pub record Interprets (request : InterpRequest) (old new : World) (status : Stat
   pub start : List ℕ
   pub contents : List (List ℕ)
   pub read : AreRead old.files (interp_job request).reads (start ∷ contents)
-  pub opened : Opened
-  pub prepared : (preparing request.export start).Passes (parts_of request.modules contents) opened
+  pub invoked : Invoked
+  pub prepared : (preparing request.export start).Passes (parts_of request.modules contents) invoked
   pub outcome : Option Outcome
-  pub within : HasOutcome opened request.steps outcome
+  pub within : HasOutcome invoked request.steps outcome
   pub meant : status ≡ outcome_status outcome
-  pub printed : new.sink.taken ≡ took old.sink.taken (printed_of opened request.steps outcome)
+  pub printed : new.sink.taken ≡ took old.sink.taken (printed_of invoked request.steps outcome)
   pub unchanged : new.files ≡ old.files

@@ -16,7 +16,7 @@ use Rattle.bl_app.specs.Jobs.{AreRead, Job, Plan, Read, ReadsName, RefusesLength
 use Rattle.bl_app.specs.Outcomes.{outcome_status}
 use Rattle.bl_build.specs.Refusals.{Refusal}
 use Rattle.bl_words.specs.Requests.{InterpRequest}
-use Rattle.bl_build.specs.Running.{Opened, OpeningRefuses, Opens}
+use Rattle.bl_build.specs.Running.{Invoked, Invokes, InvokingRefuses}
 use Rattle.bl_build.specs.Tracing.{Speculated, Twinned}
 use Rattle.bl_app.specs.Twinning.{StartsAgree, twin_plan}
 use Rattle.bl_build.specs.Certifying.{Certified}
@@ -89,15 +89,15 @@ pub record IsPlainTold (entered : Entered) (steps : ℕ) (plan : PlanMade) : Typ
   pub is_plan : plan_in plan ≡ saying (outcome_status outcome) (plain_text entered steps outcome)
 
 -- printing the outcome of a function's run from a start
-pub record IsTold (opened : Opened) (steps : ℕ) (plan : PlanMade) : Type 0 where
+pub record IsTold (invoked : Invoked) (steps : ℕ) (plan : PlanMade) : Type 0 where
   pub outcome : Option Outcome
-  pub within : HasOutcome opened steps outcome
-  pub is_plan : plan_in plan ≡ saying (outcome_status outcome) (printed_of opened steps outcome)
+  pub within : HasOutcome invoked steps outcome
+  pub is_plan : plan_in plan ≡ saying (outcome_status outcome) (printed_of invoked steps outcome)
 
 -- what `interp` does with the linked tree of its modules: what it prints, or why the export or the start is refused
 abbrev pub IsRunOf : InterpRequest → List ℕ → Tree → Result PlanMade WorkError → Type 0
-IsRunOf request start tree (Ok plan) = (opened : Opened) × Opens request.export start tree opened × IsTold opened request.steps plan
-IsRunOf request start tree (Err (error.Refused refusal)) = OpeningRefuses request.export start tree (refusal_in refusal)
+IsRunOf request start tree (Ok plan) = (invoked : Invoked) × Invokes request.export start tree invoked × IsTold invoked request.steps plan
+IsRunOf request start tree (Err (error.Refused refusal)) = InvokingRefuses request.export start tree (refusal_in refusal)
 IsRunOf request start tree (Err error.Memory) = Unit {0}
 
 -- ---- `spec`

@@ -8,13 +8,13 @@ ghost use Rattle.bl_app.specs.Jobs.{AreRead};
 ghost use Rattle.bl_words.specs.Requests.{AreNamedApart};
 ghost use Rattle.bl_words.specs.Words.{interp_in};
 ghost use Rattle.bl_app.specs.Working.{IsRunOf, IsTold, IsWork, read_in};
-ghost use Rattle.bl_build.specs.Working.{contents_in, opened_in};
+ghost use Rattle.bl_build.specs.Working.{contents_in, invoked_in};
 
 use crate::job::{Plan, Read};
 use crate::module::read_modules;
 use crate::outcome::outcome_status;
 use bl_base::{NoMemory, Quantity};
-use bl_build::{Opening, WorkError, load, prepare};
+use bl_build::{Invocation, WorkError, load, prepare};
 use bl_machine::{first_memories, interp};
 use bl_outcome::outcome_text;
 use bl_wasm::Linked;
@@ -65,11 +65,11 @@ fn interpret_tree<'a>(
 ) -> Result<Plan<'a>, WorkError<'a>>
     ensures { IsRunOf (interp_in words.now) start.now linked.now result }
 {
-    let opening = match prepare(alloc, linked.tree(), words.export, start) {
-        Ok(opening) => opening,
+    let invocation = match prepare(alloc, linked.tree(), words.export, start) {
+        Ok(invocation) => invocation,
         Err(error) => return Err(error),
     };
-    match tell(alloc, linked, &opening, words.steps) {
+    match tell(alloc, linked, &invocation, words.steps) {
         Ok(plan) => Ok(plan),
         Err(NoMemory) => Err(WorkError::Memory),
     }
@@ -80,15 +80,15 @@ fn interpret_tree<'a>(
 fn tell<'a>(
     alloc: Global,
     linked: &Linked,
-    opening: &Opening<'_>,
+    invocation: &Invocation<'_>,
     steps: u64,
 ) -> Result<Plan<'a>, NoMemory>
-    requires start { IsStart linked.now opening.now.function opening.now.start }
-    ensures { IfOk result (λ plan. IsTold (opened_in linked.now opening.now) steps plan) }
+    requires start { IsStart linked.now invocation.now.function invocation.now.start }
+    ensures { IfOk result (λ plan. IsTold (invoked_in linked.now invocation.now) steps plan) }
 {
-    let run = interp(alloc, linked, opening.function, &opening.start, steps)?;
-    let memories = first_memories(alloc, linked, &opening.start)?;
-    let kinds = opening.kind.results.as_slice();
+    let run = interp(alloc, linked, invocation.function, &invocation.start, steps)?;
+    let memories = first_memories(alloc, linked, &invocation.start)?;
+    let kinds = invocation.kind.results.as_slice();
     let text = outcome_text(alloc, kinds, memories.as_slice(), steps, &run)?;
     let status = outcome_status(&run);
     Ok(Plan {

@@ -87,9 +87,9 @@ fn tell<'a>(
     ensures { IfOk result (λ plan. IsPlainTold (entered_in (entry_in program.now entry.now) start.now) steps plan) }
 {
     let run = run(alloc, program, entry.function, start, steps)?;
-    let opening = first_memories(alloc, program, start)?;
+    let memories = first_memories(alloc, program, start)?;
     let kinds = entry.defined.results.as_slice();
-    let text = outcome_text(alloc, kinds, opening.as_slice(), steps, &run)?;
+    let text = outcome_text(alloc, kinds, memories.as_slice(), steps, &run)?;
     let status = outcome_status(&run);
     Ok(Plan {
         status,

@@ -181,11 +181,11 @@ fn ended_text(
     requires { IsStart program.now entry.now.function start.now }
     ensures { IfOk result (λ text. text.items ≡ plain_text (entered_in (entry_in program.now entry.now) start.now) 0 (outcome_of run.now)) }
 {
-    let opening = first_memories(alloc, program, start)?;
+    let memories = first_memories(alloc, program, start)?;
     outcome_text(
         alloc,
         entry.defined.results.as_slice(),
-        opening.as_slice(),
+        memories.as_slice(),
         0,
         run,
     )

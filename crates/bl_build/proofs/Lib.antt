@@ -6,6 +6,7 @@ pub mod EntryLemmas
 pub mod FewestLemmas
 pub mod HardeningExists
 pub mod ImagesTotal
+pub mod InvokingLemmas
 pub mod JudgedPrograms
 pub mod LabelLemmas
 pub mod LinkLemmas
@@ -15,7 +16,6 @@ pub mod LoadingTotal
 pub mod MarkedImages
 pub mod ModulesTotal
 pub mod OneVerdict
-pub mod OpeningLemmas
 pub mod Readings
 pub mod Rows
 pub mod StageLemmas

@@ -30,12 +30,12 @@ use Rattle.bl_link.proofs.Whole.{linked}
 use Rattle.bl_base.proofs.Lists.{mapped_get}
 use Rattle.bl_build.specs.Loading.{AreLoadable, IsLoadable, LabelledModule, LinkingRefuses, Links, Named, Part, decoding, element, labelling, linked_parts, linking, loading, mismatched, segment, too_large, unknown, validation}
 use Rattle.bl_build.specs.Refusals.{Refusal, bad_line, data_range, element_range, few_arguments, limit, mismatched_import, no_export, unknown_import}
-use Rattle.bl_build.specs.Running.{Opened, OpeningRefuses, Opens, line_is_bad, not_exported, opening, preparing, sizes_of, too_few}
+use Rattle.bl_build.specs.Running.{Invoked, Invokes, InvokingRefuses, invoking, line_is_bad, not_exported, preparing, sizes_of, too_few}
 use Rattle.bl_build.specs.Stages.{AllPass, Anything, IsTotalStage, Stage, chain, each}
 use Rattle.bl_build.proofs.ImagesTotal.{answered}
 use Rattle.bl_build.proofs.LoadingLemmas.{IsAccepted, all_accepted}
 use Rattle.bl_build.proofs.ModulesTotal.{chain_total, decoding_total, each_total, labelling_total, validation_total}
-use Rattle.bl_build.proofs.OpeningLemmas.{exported_exists}
+use Rattle.bl_build.proofs.InvokingLemmas.{exported_exists}
 use Rattle.bl_build.proofs.WidthsLemmas.{has_widths}
 
 -- ---- modules that are loaded can be linked
@@ -159,7 +159,7 @@ loading_total =
 -- ---- exported functions of linked trees
 
 module _ (export start : List ℕ) where
-  module _ (tree : Tree) (is : IsLinked tree) (made : (opened : Opened) → Opens export start tree opened → ⊥) (refused : (refusal : Refusal) → OpeningRefuses export start tree refusal → ⊥) where
+  module _ (tree : Tree) (is : IsLinked tree) (made : (invoked : Invoked) → Invokes export start tree invoked → ⊥) (refused : (refusal : Refusal) → InvokingRefuses export start tree refusal → ⊥) where
     typed : (number : ℕ) (function : Function) → slice_get tree.functions number ≡ Some function → (f : IsFunction tree function) → type_of tree number ≡ Some f.type
     typed number function stands f = ap (λ found. Rattle.std.specs.Prelude.option_and_then (λ (f : Function). slice_get tree.types f.type_index) found) stands ∙ f.exists
 
@@ -175,6 +175,6 @@ module _ (export start : List ℕ) where
 
   pub preparing_total : IsTotalStage AreLoadable (preparing export start)
   preparing_total =
-      chain_total AreLoadable IsLinked loading (opening export start) loading_total
+      chain_total AreLoadable IsLinked loading (invoking export start) loading_total
       (record { always = λ tree is made refused. of_number tree is made refused (number_of export tree.exports) refl })
       (λ parts tree given loaded. loaded.2.2.2.can_run)

@@ -29,7 +29,7 @@ use Rattle.bl_build.specs.Entering.{Entered, Entry}
 use Rattle.bl_build.specs.Hardening.{Hardened}
 use Rattle.bl_build.specs.Loading.{LabelledModule, Named}
 use Rattle.bl_build.specs.Refusals.{Refusal, malformed, invalid_function, invalid_module, unsupported, limit, unknown_import, mismatched_import, element_range, data_range, bad_labels, not_an_image, broken_rule, no_export, not_json, other_shape, bad_directive, bad_line, few_arguments}
-use Rattle.bl_build.specs.Running.{Opened}
+use Rattle.bl_build.specs.Running.{Invoked}
 use Rattle.bl_build.specs.Tracing.{TracingRefuses}
 use Rattle.bl_build.specs.Certifying.{ReadingRefuses}
 use Rattle.bl_graph.specs.declared.certificate.Certificate.{Certificate}
@@ -40,7 +40,7 @@ use Rattle.bl_build.specs.Stages.{Stage}
 use Rattle.bl_build.specs.declared.build.Built.{Built as BuiltMade}
 use Rattle.bl_build.specs.declared.entry.Entry.{Entry as EntryFound}
 use Rattle.bl_build.specs.declared.harden.Hardened.{Hardened as HardenedMade}
-use Rattle.bl_build.specs.declared.opening.Opening.{Opening}
+use Rattle.bl_build.specs.declared.invocation.Invocation.{Invocation}
 use Rattle.bl_build.specs.declared.loading.Checked.{Checked}
 use Rattle.bl_build.specs.declared.loading.Ready.{Ready}
 use Rattle.bl_build.specs.declared.loading.Spelled.{Spelled}
@@ -136,8 +136,9 @@ trace_error (trace.Line number) = error.Refused (told.BadDirective number)
 trace_error trace.Memory = error.Memory
 
 -- a function of a tree, its type and its start
-abbrev pub opened_in : Tree → Opening → Opened
-opened_in tree opening = record { tree = tree; function = opening.function; type = opening.kind.now; start = opening.start }
+abbrev pub invoked_in : Tree → Invocation → Invoked
+invoked_in tree invocation =
+    record { tree = tree; function = invocation.function; type = invocation.kind.now; start = invocation.start }
 
 -- an error of reading an image
 abbrev pub image_error : ImageError → WorkError

@@ -7,9 +7,9 @@ mod certificate;
 mod directives;
 mod entry;
 mod harden;
+mod invocation;
 pub mod laws;
 mod loading;
-mod opening;
 mod refusal;
 mod start;
 
@@ -18,6 +18,6 @@ pub use certificate::read_certificate;
 pub use directives::read_directives;
 pub use entry::{Entry, find_entry, read_entry_start, read_image};
 pub use harden::{Hardened, protect_least};
+pub use invocation::{Invocation, prepare};
 pub use loading::load;
-pub use opening::{Opening, prepare};
 pub use refusal::{LabelFault, Refusal, WorkError};

@@ -61,14 +61,14 @@ module _ (tree : Tree) (linked : IsLinked tree) (number : ℕ) (function : Funct
   abbrev reached : Reached
   reached = (low_body tree number function).reached
 
-  abbrev opening : List Command
-  opening = opens tree number function exists
+  abbrev prologue : List Command
+  prologue = opens tree number function exists
 
   abbrev pub function_pieces : List (List Command)
-  function_pieces = opening ∷ (body_pieces ++ last_pieces Mine.results reached)
+  function_pieces = prologue ∷ (body_pieces ++ last_pieces Mine.results reached)
 
   pub function_whole : all_of function_pieces ≡ low_function tree number function
-  function_whole = ap (λ l. opening ++ l) (all_append body_pieces (last_pieces Mine.results reached)
+  function_whole = ap (λ l. prologue ++ l) (all_append body_pieces (last_pieces Mine.results reached)
       ∙ ap₂ (λ a b. a ++ b) (whole_is (blocks tree) (shape tree) number [] (body_of tree function) at_first) (last_same Mine.results reached))
 
   abbrev pub B : ℕ → Type 0
@@ -92,17 +92,17 @@ module _ (tree : Tree) (linked : IsLinked tree) (number : ℕ) (function : Funct
   all_begin : AllAt Begins Mine.entry function_pieces
   all_begin = all_start Mine.entry function_pieces B (λ x h. h)
 
-  start_there : Mine.entry + length opening ≡ start_at tree number
+  start_there : Mine.entry + length prologue ≡ start_at tree number
   start_there = omega (arith, opens_length tree number function exists, shift_is Mine.locals Mine.entry)
 
-  behind_opening : AllAt Begins (start_at tree number) (body_pieces ++ last_pieces Mine.results reached)
-  behind_opening = subst (λ n. AllAt Begins n (body_pieces ++ last_pieces Mine.results reached)) start_there all_begin.1
+  behind_prologue : AllAt Begins (start_at tree number) (body_pieces ++ last_pieces Mine.results reached)
+  behind_prologue = subst (λ n. AllAt Begins n (body_pieces ++ last_pieces Mine.results reached)) start_there all_begin.1
 
   body_begins : AllAt Begins (start_at tree number) body_pieces
-  body_begins = all_at_front Begins (start_at tree number) body_pieces (last_pieces Mine.results reached) behind_opening
+  body_begins = all_at_front Begins (start_at tree number) body_pieces (last_pieces Mine.results reached) behind_prologue
 
   last_begins : AllAt Begins (start_at tree number + e.size) (last_pieces Mine.results reached)
-  last_begins = all_at_back Begins (start_at tree number) (start_at tree number + e.size) body_pieces (last_pieces Mine.results reached) (omega (arith, body_long)) behind_opening
+  last_begins = all_at_back Begins (start_at tree number) (start_at tree number + e.size) body_pieces (last_pieces Mine.results reached) (omega (arith, body_long)) behind_prologue
 
   ends_of : (r : Reached) → ReachedAs (blocks tree) (shape tree) number e (start_at tree number) r → AllAt Begins (start_at tree number + e.size) (last_pieces Mine.results r) → EndsIn tree linked number B function exists is r
   ends_of (on q) reaches h = subst B (sym reaches.1) h.0
@@ -138,17 +138,17 @@ module _ (tree : Tree) (linked : IsLinked tree) (number : ℕ) (function : Funct
   zeros_readable zero = tt
   zeros_readable (suc n) = (reads_const tree linked number B 0, zeros_readable n)
 
-  opening_good : GoodAt Mine.entry opening
-  opening_good =
+  prologue_good : GoodAt Mine.entry prologue
+  prologue_good =
       let first = Mine.first + Mine.params + Mine.results in
       let zeros = replicate Mine.locals (Const 0) in
       let many = length-replicate {A = Operand} Mine.locals (Const 0) in
       let ms = moves 0 first zeros in
-      let n = length opening in
+      let n = length prologue in
       let long = opens_length tree number function exists in
       let some : 1 ≤ n = omega (arith, long) in
       let high = room_of tree number in
-      simple_good tree linked number B Mine.entry opening some
+      simple_good tree linked number B Mine.entry prologue some
       (each_both (Simple tree linked number B Mine.entry n) Mine.entry (Mine.entry + Mine.locals) ms (jump_to (start_at tree number) ∷ []) (omega (arith, moves_length 0 first zeros, many))
       (moves_simple tree linked number B Mine.entry n (Mine.entry + n - 1) (within tree linked number B function exists is Mine.entry n some) Mine.entry 0 first zeros (omega arith) (omega arith) (omega (arith, long, many))
       (λ x above below. own_local tree linked number B x (omega (arith, above)) (omega (arith, below, many, high)) (λ up. above)) (zeros_readable Mine.locals))
@@ -171,7 +171,7 @@ module _ (tree : Tree) (linked : IsLinked tree) (number : ℕ) (function : Funct
 
   pub all_good : AllAt GoodAt Mine.entry function_pieces
   all_good = (
-    opening_good,
+    prologue_good,
     subst (λ n. AllAt GoodAt n (body_pieces ++ last_pieces Mine.results reached)) (sym start_there)
         (all_at_both GoodAt (start_at tree number) (start_at tree number + e.size) body_pieces (last_pieces Mine.results reached) (omega (arith, body_long)) body_good.0
         (last_good reached sized.reached body_good.1 (reached_next reached sized.new))),

@@ -606,18 +606,18 @@ module _ (program : Program) (bound number : ℕ) where
           let mark = mark_of (t ∷ open_ones) in
           let cs = closed mark t w.reached in
           let ms = moves (mark_of open_ones) p.next (reverse (pad n p.stack)) in
-          let opening = ms ++ jump_to (suc start) ∷ [] in
+          let prologue = ms ++ jump_to (suc start) ∷ [] in
           let ms_length : length ms ≡ n = moves_length (mark_of open_ones) p.next (reverse (pad n p.stack)) ∙ padded_length n p.stack in
-          let opening_length : length opening ≡ n + 1 = omega (arith, length-append ms (jump_to (suc start) ∷ []), ms_length) in
-          let all = front p.position ((opening ++ w.commands) ++ cs) rest h in
-          let with_opening = front p.position (opening ++ w.commands) cs all in
-          let opens_at = front p.position opening w.commands with_opening in
+          let prologue_length : length prologue ≡ n + 1 = omega (arith, length-append ms (jump_to (suc start) ∷ []), ms_length) in
+          let all = front p.position ((prologue ++ w.commands) ++ cs) rest h in
+          let with_prologue = front p.position (prologue ++ w.commands) cs all in
+          let opens_at = front p.position prologue w.commands with_prologue in
           let there = shift_is n p.position in
           let jump = back p.position n ms (jump_to (suc start) ∷ []) ms_length opens_at in
-          let inner_at = back p.position (n + 1) opening w.commands opening_length with_opening in
-          let cs_at = back p.position (n + 1 + e.size) (opening ++ w.commands) cs (omega (arith, length-append opening w.commands, opening_length, s.size)) all in
-          let rest_at = back p.position (n + 1 + closed_size m e) ((opening ++ w.commands) ++ cs) rest
-          (omega (arith, length-append (opening ++ w.commands) cs, length-append opening w.commands, opening_length, part_length blocks shapes number mark t e q w s, length-append w.commands cs)) h in
+          let inner_at = back p.position (n + 1) prologue w.commands prologue_length with_prologue in
+          let cs_at = back p.position (n + 1 + e.size) (prologue ++ w.commands) cs (omega (arith, length-append prologue w.commands, prologue_length, s.size)) all in
+          let rest_at = back p.position (n + 1 + closed_size m e) ((prologue ++ w.commands) ++ cs) rest
+          (omega (arith, length-append (prologue ++ w.commands) cs, length-append prologue w.commands, prologue_length, part_length blocks shapes number mark t e q w s, length-append w.commands cs)) h in
           let inner_there : p.position + (n + 1) ≡ suc start = omega (arith, there) in
           let cs_there : p.position + (n + 1 + e.size) ≡ suc start + e.size = omega (arith, there) in
           let rest_there : p.position + (n + 1 + closed_size m e) ≡ suc start + closed_size m e = omega (arith, there) in

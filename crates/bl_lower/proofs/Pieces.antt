@@ -149,10 +149,10 @@ module _ (blocks : BlockType → Counts) (shapes : ℕ → Shape) (number : ℕ)
   four a b c d = sym (append_assoc (a ++ b) c d ∙ append_assoc a b (c ++ d))
 
   -- a construct with one part
-  around : (opening : List (List Command)) (code : List Command) (inner ends body : List (List Command)) (a b c : List Command) → all_of opening ≡ code → all_of inner ≡ a → all_of ends ≡ b → all_of body ≡ c
-      → all_of (opening ++ (inner ++ (ends ++ body))) ≡ ((code ++ a) ++ b) ++ c
-  around opening code inner ends body a b c o e f g =
-      all_append opening (inner ++ (ends ++ body)) ∙ ap (λ l. all_of opening ++ l) (all_append inner (ends ++ body) ∙ ap (λ l. all_of inner ++ l) (all_append ends body))
+  around : (prologue : List (List Command)) (code : List Command) (inner ends body : List (List Command)) (a b c : List Command) → all_of prologue ≡ code → all_of inner ≡ a → all_of ends ≡ b → all_of body ≡ c
+      → all_of (prologue ++ (inner ++ (ends ++ body))) ≡ ((code ++ a) ++ b) ++ c
+  around prologue code inner ends body a b c o e f g =
+      all_append prologue (inner ++ (ends ++ body)) ∙ ap (λ l. all_of prologue ++ l) (all_append inner (ends ++ body) ∙ ap (λ l. all_of inner ++ l) (all_append ends body))
       ∙ ap₂ (λ w x. w ++ (all_of inner ++ x)) o (ap₂ (λ y z. y ++ z) f g) ∙ ap (λ x. code ++ (x ++ (b ++ c))) e ∙ four code a b c
 
   -- one after another they are the commands

@@ -11,28 +11,28 @@ use Rattle.std.proofs.lemmas.List.{append_assoc, at_drop_all}
 use Rattle.std.proofs.lemmas.Slice.Eq.{bytes_eq-Decides}
 use Rattle.bl_base.specs.Runs.{MemoryState, memory_of}
 use Rattle.bl_base.specs.declared.run.Pages.{Pages}
-use Rattle.bl_outcome.specs.Outcomes.{bytes_at, hex_text, memory_text, opening_bytes, row_text}
+use Rattle.bl_outcome.specs.Outcomes.{bytes_at, hex_text, initial_bytes, memory_text, row_text}
 
 -- ---- memories
 
-module _ (opening : List MemoryState) (memories : List Pages) where
+module _ (initial : List MemoryState) (memories : List Pages) where
   -- the texts of the memories from one on
   abbrev pub texts_from : ℕ → List ℕ
-  texts_from i = flat_map (λ each. memory_text each.0 (opening_bytes opening each.0) each.1) (enumerate_from i (map memory_of (drop i memories)))
+  texts_from i = flat_map (λ each. memory_text each.0 (initial_bytes initial each.0) each.1) (enumerate_from i (map memory_of (drop i memories)))
 
   pub texts_next : (text : List ℕ) (i : ℕ) (memory d : Pages) → i < length memories → memory ≡ get_or memories i d
-      → (text ++ memory_text i (opening_bytes opening i) (memory_of memory)) ++ texts_from (i + 1) ≡ text ++ texts_from i
+      → (text ++ memory_text i (initial_bytes initial i) (memory_of memory)) ++ texts_from (i + 1) ≡ text ++ texts_from i
   texts_next text i memory d lt is =
       let next : i + 1 ≡ suc i = omega arith in
-      append_assoc text (memory_text i (opening_bytes opening i) (memory_of memory)) (texts_from (i + 1))
-      ∙ ap (λ m. text ++ (memory_text i (opening_bytes opening i) (memory_of m) ++ texts_from (i + 1))) is
-      ∙ ap (λ j. text ++ flat_map (λ each. memory_text each.0 (opening_bytes opening each.0) each.1) (enumerate_from i (map memory_of (get_or memories i d ∷ drop j memories)))) next
-      ∙ ap (λ l. text ++ flat_map (λ each. memory_text each.0 (opening_bytes opening each.0) each.1) (enumerate_from i (map memory_of l))) (sym (drop-cons memories i d lt))
+      append_assoc text (memory_text i (initial_bytes initial i) (memory_of memory)) (texts_from (i + 1))
+      ∙ ap (λ m. text ++ (memory_text i (initial_bytes initial i) (memory_of m) ++ texts_from (i + 1))) is
+      ∙ ap (λ j. text ++ flat_map (λ each. memory_text each.0 (initial_bytes initial each.0) each.1) (enumerate_from i (map memory_of (get_or memories i d ∷ drop j memories)))) next
+      ∙ ap (λ l. text ++ flat_map (λ each. memory_text each.0 (initial_bytes initial each.0) each.1) (enumerate_from i (map memory_of l))) (sym (drop-cons memories i d lt))
 
   pub texts_all : (text all : List ℕ) (i : ℕ) → length memories ≤ i → text ++ texts_from i ≡ all → text ≡ all
   texts_all text all i le e =
       sym (append-nil text)
-      ∙ sym (at_drop_all (λ l. text ++ flat_map (λ each. memory_text each.0 (opening_bytes opening each.0) each.1) (enumerate_from i (map memory_of l))) memories i le) ∙ e
+      ∙ sym (at_drop_all (λ l. text ++ flat_map (λ each. memory_text each.0 (initial_bytes initial each.0) each.1) (enumerate_from i (map memory_of l))) memories i le) ∙ e
 
 -- ---- bytes
 
@@ -104,13 +104,13 @@ behind : (text head rest tail : List ℕ) → text ++ head ++ rest ++ tail ≡ t
 behind text head rest tail = simp append_assoc
 
 -- a row that differs, and one that doesn't
-pub row_other : (number offset : ℕ) (text opening bytes : List ℕ) → (bytes_at opening offset 16 ≡ bytes_at bytes offset 16 → ⊥)
-    → text ++ (codes "row " ++ decimal number ++ codes " " ++ decimal offset ++ codes " ") ++ flat_map hex_text (bytes_at bytes offset 16) ++ 10 ∷ [] ≡ text ++ row_text number opening bytes offset
-row_other number offset text opening bytes other =
+pub row_other : (number offset : ℕ) (text before bytes : List ℕ) → (bytes_at before offset 16 ≡ bytes_at bytes offset 16 → ⊥)
+    → text ++ (codes "row " ++ decimal number ++ codes " " ++ decimal offset ++ codes " ") ++ flat_map hex_text (bytes_at bytes offset 16) ++ 10 ∷ [] ≡ text ++ row_text number before bytes offset
+row_other number offset text before bytes other =
     behind text (codes "row " ++ decimal number ++ codes " " ++ decimal offset ++ codes " ") (flat_map hex_text (bytes_at bytes offset 16)) (10 ∷ [])
-    ∙ ap (λ t. text ++ t) (sym (cond-false (bytes_eq (bytes_at opening offset 16) (bytes_at bytes offset 16)) _ _
-    (false_from_ne_true _ (λ e. other ((bytes_eq-Decides (bytes_at opening offset 16) (bytes_at bytes offset 16)).0 e)))))
+    ∙ ap (λ t. text ++ t) (sym (cond-false (bytes_eq (bytes_at before offset 16) (bytes_at bytes offset 16)) _ _
+    (false_from_ne_true _ (λ e. other ((bytes_eq-Decides (bytes_at before offset 16) (bytes_at bytes offset 16)).0 e)))))
 
-pub row_same : (number offset : ℕ) (text opening bytes : List ℕ) → bytes_at opening offset 16 ≡ bytes_at bytes offset 16 → text ≡ text ++ row_text number opening bytes offset
-row_same number offset text opening bytes same =
-    sym (append-nil text) ∙ ap (λ t. text ++ t) (sym (cond-true (bytes_eq (bytes_at opening offset 16) (bytes_at bytes offset 16)) _ _ ((bytes_eq-Decides (bytes_at opening offset 16) (bytes_at bytes offset 16)).1 same)))
+pub row_same : (number offset : ℕ) (text before bytes : List ℕ) → bytes_at before offset 16 ≡ bytes_at bytes offset 16 → text ≡ text ++ row_text number before bytes offset
+row_same number offset text before bytes same =
+    sym (append-nil text) ∙ ap (λ t. text ++ t) (sym (cond-true (bytes_eq (bytes_at before offset 16) (bytes_at bytes offset 16)) _ _ ((bytes_eq-Decides (bytes_at before offset 16) (bytes_at bytes offset 16)).1 same)))

@@ -34,33 +34,33 @@ bytes_at bytes from count = map (λ place. slice_index bytes place) (range_with_
 abbrev pub row_at : List ℕ → ℕ → List ℕ
 row_at bytes offset = bytes_at bytes offset 16
 
--- the line of a row, where it differs from the opening contents
+-- the line of a row, where it differs from the initial contents
 abbrev pub row_text : ℕ → List ℕ → List ℕ → ℕ → List ℕ
-row_text number opening bytes offset =
-    if bytes_eq (row_at opening offset) (row_at bytes offset)
+row_text number before bytes offset =
+    if bytes_eq (row_at before offset) (row_at bytes offset)
     then []
     else line (codes "row " ++ decimal number ++ codes " " ++ decimal offset ++ codes " " ++ flat_map hex_text (row_at bytes offset))
 
 -- the rows of a memory that differ, rising
 abbrev pub rows_text : ℕ → List ℕ → List ℕ → List ℕ
-rows_text number opening bytes = flat_map (λ row. row_text number opening bytes (16 * row)) (range_with_len 0 (length bytes / 16))
+rows_text number before bytes = flat_map (λ row. row_text number before bytes (16 * row)) (range_with_len 0 (length bytes / 16))
 
 -- a memory: its pages, and the rows of it that differ
 abbrev pub memory_text : ℕ → List ℕ → MemoryState → List ℕ
-memory_text number opening memory =
-    line (codes "memory " ++ decimal number ++ codes " pages " ++ decimal memory.pages) ++ rows_text number opening memory.bytes
+memory_text number before memory =
+    line (codes "memory " ++ decimal number ++ codes " pages " ++ decimal memory.pages) ++ rows_text number before memory.bytes
 
--- the opening contents of a memory
-abbrev pub opening_bytes : List MemoryState → ℕ → List ℕ
-opening_bytes opening number = option_map_or (λ memory. memory.bytes) (slice_get opening number) []
+-- the initial contents of a memory
+abbrev pub initial_bytes : List MemoryState → ℕ → List ℕ
+initial_bytes initial number = option_map_or (λ memory. memory.bytes) (slice_get initial number) []
 
 -- each memory in order
 abbrev pub memories_text : List MemoryState → List MemoryState → List ℕ
-memories_text opening memories = flat_map (λ each. memory_text each.0 (opening_bytes opening each.0) each.1) (enumerate_from 0 memories)
+memories_text initial memories = flat_map (λ each. memory_text each.0 (initial_bytes initial each.0) each.1) (enumerate_from 0 memories)
 
 -- the outcome of a function with results of those types, from those memories and within so many steps
 abbrev pub outcome_text : List ValueType → List MemoryState → ℕ → Option Outcome → List ℕ
-outcome_text kinds opening steps (Some (returned values memories)) = line (codes "returned" ++ values_text kinds values)
-    ++ memories_text opening memories
-outcome_text kinds opening steps (Some (trapped kind memories)) = line (codes "trapped " ++ text_of kind) ++ memories_text opening memories
-outcome_text kinds opening steps None = line (codes "spent " ++ decimal steps)
+outcome_text kinds initial steps (Some (returned values memories)) = line (codes "returned" ++ values_text kinds values)
+    ++ memories_text initial memories
+outcome_text kinds initial steps (Some (trapped kind memories)) = line (codes "trapped " ++ text_of kind) ++ memories_text initial memories
+outcome_text kinds initial steps None = line (codes "spent " ++ decimal steps)

@@ -4,7 +4,7 @@ ghost use Rattle.std.specs.Fmt.{decimal, digits};
 ghost use Rattle.std.specs.List.{flat_map};
 ghost use Rattle.bl_base.specs.Runs.{memory_of};
 ghost use Rattle.bl_outcome.specs.Lines.{line};
-ghost use Rattle.bl_outcome.specs.Outcomes.{bytes_at, hex_text, memories_text, memory_text, opening_bytes, row_text, rows_text};
+ghost use Rattle.bl_outcome.specs.Outcomes.{bytes_at, hex_text, initial_bytes, memories_text, memory_text, row_text, rows_text};
 
 use bl_base::{NoMemory, Pages};
 use std::alloc::Global;
@@ -14,23 +14,23 @@ use std::alloc::Global;
 pub(crate) fn with_memories(
     alloc: Global,
     mut text: Vec<u8>,
-    opening: &[Pages],
+    initial_memories: &[Pages],
     memories: &[Pages],
 ) -> Result<Vec<u8>, NoMemory>
-    ensures { IfOk result (λ all. all.items ≡ text.items ++ memories_text (map memory_of opening.now) (map memory_of memories.now)) }
+    ensures { IfOk result (λ all. all.items ≡ text.items ++ memories_text (map memory_of initial_memories.now) (map memory_of memories.now)) }
 {
     for number in 0..memories.len() {
-        let before = opening_bytes(opening, number);
+        let before = initial_bytes(initial_memories, number);
         push_memory(alloc, &mut text, number, before, &memories[number])?;
     }
     Ok(text)
 }
 
 /// The bytes of a memory at the start.
-fn opening_bytes(opening: &[Pages], number: usize) -> &[u8]
-    ensures { result.now ≡ opening_bytes (map memory_of opening.now) number }
+fn initial_bytes(initial_memories: &[Pages], number: usize) -> &[u8]
+    ensures { result.now ≡ initial_bytes (map memory_of initial_memories.now) number }
 {
-    match opening.get(number) {
+    match initial_memories.get(number) {
         Some(memory) => memory.bytes.as_slice(),
         None => &[],
     }
@@ -41,14 +41,14 @@ fn push_memory(
     alloc: Global,
     text: &mut Vec<u8>,
     number: usize,
-    opening: &[u8],
+    before: &[u8],
     memory: &Pages,
 ) -> Result<(), NoMemory>
-    ensures { IfOk result (λ _. text.new.items ≡ text.old.items ++ memory_text number opening.now (memory_of memory.now)) }
+    ensures { IfOk result (λ _. text.new.items ≡ text.old.items ++ memory_text number before.now (memory_of memory.now)) }
 {
     let head = memory_line(alloc, number, memory.pages)?;
     text.extend_from_slice(&head)?;
-    push_rows(alloc, text, number, opening, memory.bytes.as_slice())?;
+    push_rows(alloc, text, number, before, memory.bytes.as_slice())?;
     Ok(())
 }
 
@@ -65,13 +65,13 @@ fn push_rows(
     alloc: Global,
     text: &mut Vec<u8>,
     number: usize,
-    opening: &[u8],
+    before: &[u8],
     bytes: &[u8],
 ) -> Result<(), NoMemory>
-    ensures { IfOk result (λ _. text.new.items ≡ text.old.items ++ rows_text number opening.now bytes.now) }
+    ensures { IfOk result (λ _. text.new.items ≡ text.old.items ++ rows_text number before.now bytes.now) }
 {
     for row in 0..bytes.len() / 16 {
-        push_row(alloc, text, number, opening, bytes, 16 * row)?;
+        push_row(alloc, text, number, before, bytes, 16 * row)?;
     }
     Ok(())
 }
@@ -81,14 +81,14 @@ fn push_row(
     alloc: Global,
     text: &mut Vec<u8>,
     number: usize,
-    opening: &[u8],
+    before: &[u8],
     bytes: &[u8],
     offset: usize,
 ) -> Result<(), NoMemory>
     requires { offset < 2 ^ 63 }
-    ensures { IfOk result (λ _. text.new.items ≡ text.old.items ++ row_text number opening.now bytes.now offset) }
+    ensures { IfOk result (λ _. text.new.items ≡ text.old.items ++ row_text number before.now bytes.now offset) }
 {
-    if is_same(opening, bytes, offset, 16) {
+    if is_same(before, bytes, offset, 16) {
         return Ok(());
     }
     text.extend_from_slice(&row_head(alloc, number, offset)?)?;
@@ -106,12 +106,12 @@ fn row_head(alloc: Global, number: usize, offset: usize) -> Result<Vec<u8>, NoMe
 }
 
 /// Whether two memories have the same bytes, so many from a place on.
-fn is_same(opening: &[u8], bytes: &[u8], from: usize, count: usize) -> bool
+fn is_same(before: &[u8], bytes: &[u8], from: usize, count: usize) -> bool
     requires { from + count < 2 ^ 64 }
-    ensures { IsTrue result ↔ (bytes_at opening.now from count ≡ bytes_at bytes.now from count) }
+    ensures { IsTrue result ↔ (bytes_at before.now from count ≡ bytes_at bytes.now from count) }
 {
     for place in from..from + count {
-        if byte_at(opening, place) != byte_at(bytes, place) {
+        if byte_at(before, place) != byte_at(bytes, place) {
             return false;
         }
     }

@@ -11,25 +11,25 @@ use bl_base::{NoMemory, Pages, Run, Trap, ValueType};
 use std::alloc::Global;
 
 /// The text of a run that was given so many steps: a line of its results, each with its type and unsigned, or of the trap, and then
-/// each memory; or a line of the steps that were spent. `kinds` are the types of the results, `opening` the memories at the start.
-/// Linear in the results and in the bytes of the memories.
+/// each memory; or a line of the steps that were spent. `kinds` are the types of the results, `initial_memories` the memories at the
+/// start. Linear in the results and in the bytes of the memories.
 pub fn outcome_text(
     alloc: Global,
     kinds: &[ValueType],
-    opening: &[Pages],
+    initial_memories: &[Pages],
     steps: u64,
     run: &Run,
 ) -> Result<Vec<u8>, NoMemory>
-    ensures { IfOk result (λ text. text.items ≡ outcome_text kinds.now (map memory_of opening.now) steps (outcome_of run.now)) }
+    ensures { IfOk result (λ text. text.items ≡ outcome_text kinds.now (map memory_of initial_memories.now) steps (outcome_of run.now)) }
 {
     match run {
         Run::Returned { values, memories } => {
             let text = returned_line(alloc, kinds, values.as_slice())?;
-            with_memories(alloc, text, opening, memories.as_slice())
+            with_memories(alloc, text, initial_memories, memories.as_slice())
         }
         Run::Trapped { kind, memories } => {
             let text = trapped_line(alloc, *kind)?;
-            with_memories(alloc, text, opening, memories.as_slice())
+            with_memories(alloc, text, initial_memories, memories.as_slice())
         }
         Run::Spent => spent_line(alloc, steps),
     }

@@ -11,8 +11,8 @@ first_memories-requires c = c.requires.start.fits.patches
 pub returns : goal.returns
 returns c =
     let outcome = outcome_of c.in_ok-run.run' in
-    let opening : map memory_of c.as_slice.result.now ≡ (first_store c.args.linked.now c.args.opening.now.start).memories = ap (map memory_of) c.as_slice.ensures ∙ c.in_ok-memories.ensures in
-    let text = c.in_ok-text.ensures ∙ (λ i. outcome_text (c.as_slice-kinds.ensures i) (opening i) c.args.steps outcome) in
+    let memories : map memory_of c.as_slice.result.now ≡ (first_store c.args.linked.now c.args.invocation.now.start).memories = ap (map memory_of) c.as_slice.ensures ∙ c.in_ok-memories.ensures in
+    let text = c.in_ok-text.ensures ∙ (λ i. outcome_text (c.as_slice-kinds.ensures i) (memories i) c.args.steps outcome) in
     record {
       outcome = outcome;
       within = c.in_ok-run.ensures.answers;

@@ -8,8 +8,8 @@ use Rattle.bl_app.proofs.run.tell.Goals as goal
 pub returns : goal.returns
 returns c =
     let outcome = outcome_of c.in_ok-run.run' in
-    let opening : map memory_of c.as_slice.result.now ≡ first_memories c.args.program.now c.args.start.now = ap (map memory_of) c.as_slice.ensures ∙ c.in_ok-opening.ensures in
-    let text = c.in_ok-text.ensures ∙ (λ i. outcome_text (c.as_slice-kinds.ensures i) (opening i) c.args.steps outcome) in
+    let memories : map memory_of c.as_slice.result.now ≡ first_memories c.args.program.now c.args.start.now = ap (map memory_of) c.as_slice.ensures ∙ c.in_ok-memories.ensures in
+    let text = c.in_ok-text.ensures ∙ (λ i. outcome_text (c.as_slice-kinds.ensures i) (memories i) c.args.steps outcome) in
     record {
       outcome = outcome;
       within = c.in_ok-run.ensures;

@@ -1,5 +1,5 @@
 use Rattle.bl_build.proofs.BuildLemmas.{compiling_lawful}
-use Rattle.bl_build.proofs.OpeningLemmas.{preparing_lawful}
+use Rattle.bl_build.proofs.InvokingLemmas.{preparing_lawful}
 use Rattle.bl_build.proofs.EnteringLemmas.{entering_lawful}
 use Rattle.bl_build.proofs.TracingLemmas.{speculating_lawful, twinning_lawful}
 use Rattle.bl_build.proofs.CertifyingLemmas.{verifying_lawful}

@@ -5,4 +5,4 @@ use Rattle.bl_outcome.proofs.memories.push_rows.Given as goal
 
 abbrev pub invariant-loop-row : goal.invariant-loop-row
 invariant-loop-row l =
-    l.text.items ++ flat_map (λ row. row_text l.number l.opening l.bytes (16 * row)) (range_with_len l.row (l.row-end - l.row)) ≡ l.fn.text.items ++ rows_text l.number l.opening l.bytes
+    l.text.items ++ flat_map (λ row. row_text l.number l.before l.bytes (16 * row)) (range_with_len l.row (l.row-end - l.row)) ≡ l.fn.text.items ++ rows_text l.number l.before l.bytes

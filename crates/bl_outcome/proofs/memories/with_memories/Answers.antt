@@ -6,11 +6,11 @@ use Rattle.bl_outcome.proofs.memories.with_memories.Goals as goal
 
 pub loop-number-preserved : goal.loop-number-preserved
 loop-number-preserved c =
-    let opening = map memory_of c.args.opening.now in
+    let initial = map memory_of c.args.initial_memories.now in
     let memory = c.index-memories-number.result in
-    ap (λ t. t ++ texts_from opening c.args.memories.now (c.loop-number.number + 1))
-    (c.in_ok-push_memory.ensures ∙ ap (λ b. c.loop-number.text.items ++ memory_text c.loop-number.number b (memory_of memory)) c.opening_bytes-before.ensures)
-    ∙ texts_next opening c.args.memories.now c.loop-number.text.items c.loop-number.number memory memory (omega arith) c.index-memories-number.is ∙ c.loop-number.invariant
+    ap (λ t. t ++ texts_from initial c.args.memories.now (c.loop-number.number + 1))
+    (c.in_ok-push_memory.ensures ∙ ap (λ b. c.loop-number.text.items ++ memory_text c.loop-number.number b (memory_of memory)) c.initial_bytes-before.ensures)
+    ∙ texts_next initial c.args.memories.now c.loop-number.text.items c.loop-number.number memory memory (omega arith) c.index-memories-number.is ∙ c.loop-number.invariant
 
 pub returns : goal.returns
-returns c = texts_all (map memory_of c.args.opening.now) c.args.memories.now c.loop-number.text.items _ c.loop-number.number (omega arith) c.loop-number.invariant
+returns c = texts_all (map memory_of c.args.initial_memories.now) c.args.memories.now c.loop-number.text.items _ c.loop-number.number (omega arith) c.loop-number.invariant

@@ -5,4 +5,4 @@ use Rattle.bl_outcome.proofs.MemoryTexts.{texts_from}
 use Rattle.bl_outcome.proofs.memories.with_memories.Given as goal
 
 abbrev pub invariant-loop-number : goal.invariant-loop-number
-invariant-loop-number l = l.text.items ++ texts_from (map memory_of l.opening) l.memories l.number ≡ l.fn.text.items ++ memories_text (map memory_of l.opening) (map memory_of l.memories)
+invariant-loop-number l = l.text.items ++ texts_from (map memory_of l.initial_memories) l.memories l.number ≡ l.fn.text.items ++ memories_text (map memory_of l.initial_memories) (map memory_of l.memories)

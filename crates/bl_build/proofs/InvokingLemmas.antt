@@ -9,7 +9,7 @@ use Rattle.bl_trace.specs.StartFiles.{answer_of, IsAnswer}
 use Rattle.bl_trace.specs.declared.error.StartError.{StartError}
 use Rattle.bl_trace.specs.declared.error.StartError.TheVariants.{Line, Count, Memory}
 use Rattle.bl_wasm.specs.Linked.{type_of}
-use Rattle.bl_build.specs.Running.{preparing, Opened, OpeningRefuses, Opens, line_is_bad, not_exported, opening, sizes_of, too_few}
+use Rattle.bl_build.specs.Running.{preparing, Invoked, Invokes, InvokingRefuses, invoking, line_is_bad, not_exported, sizes_of, too_few}
 use Rattle.bl_build.specs.Loading.{loading}
 use Rattle.bl_build.specs.Refusals.{Refusal, bad_line, few_arguments}
 use Rattle.bl_build.specs.Stages.{IsLawfulStage}
@@ -36,8 +36,8 @@ module _ (export bytes : List ℕ) (tree : Tree) where
       → answer_of t.params (sizes_of tree) bytes ≡ a → answer_of u.params (sizes_of tree) bytes ≡ b → a ≡ b
   one_answer f g t u a b is other typed typed' e e' = sym e ∙ (ap (λ t. answer_of t.params (sizes_of tree) bytes) (one_type f g t u is other typed typed') ∙ e')
 
-  one_opened : (a b : Opened) → Opens export bytes tree a → Opens export bytes tree b → a ≡ b
-  one_opened a b o p =
+  one_invoked : (a b : Invoked) → Invokes export bytes tree a → Invokes export bytes tree b → a ≡ b
+  one_invoked a b o p =
       let trees = o.same_tree ∙ sym p.same_tree in
       let functions = same_Some a.function b.function (sym o.exported ∙ p.exported) in
       let types = one_type a.function b.function a.type b.type o.exported p.exported o.typed p.typed in
@@ -46,14 +46,14 @@ module _ (export bytes : List ℕ) (tree : Tree) where
       λ i. record { tree = trees i; function = functions i; type = types i; start = starts i }
 
   -- what opens is not refused
-  opens_against : (a : Opened) (refusal : Refusal) → Opens export bytes tree a → OpeningRefuses export bytes tree refusal → ⊥
-  opens_against a refusal o (not_exported none e) = let is = o.exported in cc
-  opens_against a refusal o (line_is_bad g line u is typed read e) =
+  invokes_against : (a : Invoked) (refusal : Refusal) → Invokes export bytes tree a → InvokingRefuses export bytes tree refusal → ⊥
+  invokes_against a refusal o (not_exported none e) = let is = o.exported in cc
+  invokes_against a refusal o (line_is_bad g line u is typed read e) =
       let no : Ok a.start ≡ Err (Line line) = one_answer a.function g a.type u (Ok a.start) (Err (Line line)) o.exported is o.typed typed o.read read in cc
-  opens_against a refusal o (too_few g count u is typed read e) =
+  invokes_against a refusal o (too_few g count u is typed read e) =
       let no : Ok a.start ≡ Err (Count count) = one_answer a.function g a.type u (Ok a.start) (Err (Count count)) o.exported is o.typed typed o.read read in cc
 
-  start_one : (a b : Refusal) → OpeningRefuses export bytes tree a → OpeningRefuses export bytes tree b → a ≡ b
+  start_one : (a b : Refusal) → InvokingRefuses export bytes tree a → InvokingRefuses export bytes tree b → a ≡ b
   start_one a b (not_exported none e) (not_exported none' e') = e ∙ sym e'
   start_one a b (not_exported none e) (line_is_bad g line u is typed read e') = cc
   start_one a b (not_exported none e) (too_few g count u is typed read e') = cc
@@ -72,15 +72,15 @@ module _ (export bytes : List ℕ) (tree : Tree) where
       let number : count ≡ other = cc in
       e ∙ (ap few_arguments number ∙ sym e')
 
-opening_lawful : (export bytes : List ℕ) → IsLawfulStage (opening export bytes)
-opening_lawful export bytes = record {
-  one_result = one_opened export bytes;
+invoking_lawful : (export bytes : List ℕ) → IsLawfulStage (invoking export bytes)
+invoking_lawful export bytes = record {
+  one_result = one_invoked export bytes;
   one_refusal = start_one export bytes;
-  not_both = opens_against export bytes;
+  not_both = invokes_against export bytes;
 }
 
 pub preparing_lawful : (export start : List ℕ) → IsLawfulStage (preparing export start)
-preparing_lawful export start = chain_lawful loading (opening export start) loading_lawful (opening_lawful export start)
+preparing_lawful export start = chain_lawful loading (invoking export start) loading_lawful (invoking_lawful export start)
 
 -- the number under a name is one of those that are listed
 pub exported_exists : (count : ℕ) (name : List ℕ) (pairs : Pairs) (function : ℕ) → All (λ pair. pair.1 < count) pairs → number_of name pairs ≡ Some function → function < count
@@ -95,8 +95,8 @@ exported_exists count name (pair ∷ pairs) function all e =
     of_test false behind e = behind e
 
 -- an error of reading a start file is why it is refused
-pub start_refused : {X : Type 0} (value : X → Opened) (tree : Tree) (export bytes : List ℕ) (function : ℕ) (type : Signature) (error : StartError) → number_of export tree.exports ≡ Some function → type_of tree function ≡ Some type
-    → IsAnswer (answer_of type.params (sizes_of tree) bytes) (Err error) → IsStaged (opening export bytes) value tree (Err (start_error error))
+pub start_refused : {X : Type 0} (value : X → Invoked) (tree : Tree) (export bytes : List ℕ) (function : ℕ) (type : Signature) (error : StartError) → number_of export tree.exports ≡ Some function → type_of tree function ≡ Some type
+    → IsAnswer (answer_of type.params (sizes_of tree) bytes) (Err error) → IsStaged (invoking export bytes) value tree (Err (start_error error))
 start_refused value tree export bytes function type (Line number) is typed answer = line_is_bad function number type is typed (sym answer) refl
 start_refused value tree export bytes function type (Count count) is typed answer = too_few function count type is typed (sym answer) refl
 start_refused value tree export bytes function type Memory is typed answer = tt

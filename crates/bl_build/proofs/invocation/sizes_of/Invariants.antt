@@ -1,7 +1,7 @@
 use Rattle.std.proofs.Common.{◌≡◌, ◌++◌, map, drop}
 use Rattle.bl_wasm.specs.declared.linked.Memory.{Memory}
 use Rattle.bl_build.specs.Running.{sizes_of}
-use Rattle.bl_build.proofs.opening.sizes_of.Given as goal
+use Rattle.bl_build.proofs.invocation.sizes_of.Given as goal
 
 abbrev pub invariant-loop-memory : goal.invariant-loop-memory
 invariant-loop-memory l = l.pages.items ++ map (λ (memory : Memory). memory.pages) (drop l.memory-index l.tree.memories) ≡ sizes_of l.tree

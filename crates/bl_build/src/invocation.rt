@@ -2,8 +2,8 @@
 ghost use Rattle.std.specs.Prelude.{◌≡◌, ◌<◌, IfOk, Some, length};
 ghost use Rattle.bl_wasm.specs.Linked.{IsLinked, type_of};
 ghost use Rattle.bl_reduce.specs.Outcomes.{IsStart};
-ghost use Rattle.bl_build.specs.Running.{opening as opening_stage, sizes_of};
-ghost use Rattle.bl_build.specs.Working.{IsStaged, opened_in};
+ghost use Rattle.bl_build.specs.Running.{invoking, sizes_of};
+ghost use Rattle.bl_build.specs.Working.{IsStaged, invoked_in};
 
 use crate::refusal::{Refusal, WorkError};
 use crate::start::of_start;
@@ -14,7 +14,7 @@ use std::alloc::Global;
 
 /// A function that was found, its type, and the start of it.
 #[derive(Drop)]
-pub struct Opening<'a> {
+pub struct Invocation<'a> {
     /// The function's number.
     pub function: u32,
     /// Its type.
@@ -29,10 +29,10 @@ pub fn prepare<'a, 'b>(
     tree: &'a Tree,
     export: &str,
     bytes: &[u8],
-) -> Result<Opening<'a>, WorkError<'b>>
+) -> Result<Invocation<'a>, WorkError<'b>>
     requires { IsLinked tree.now }
-    ensures opened { IsStaged (opening_stage export.now bytes.now) (opened_in tree.now) tree.now result }
-    ensures fits { IfOk result (λ opening. IsStart tree.now opening.function opening.start) }
+    ensures invoked { IsStaged (invoking export.now bytes.now) (invoked_in tree.now) tree.now result }
+    ensures fits { IfOk result (λ invocation. IsStart tree.now invocation.function invocation.start) }
 {
     let Some(function) = tree.exports.find(export) else {
         return Err(WorkError::Refused(Refusal::NoExport));
@@ -40,7 +40,7 @@ pub fn prepare<'a, 'b>(
     let kind = signature(tree, function);
     let sizes = sizes_of(alloc, tree)?;
     match read_start(alloc, bytes, kind.params.as_slice(), sizes.as_slice()) {
-        Ok(start) => Ok(Opening {
+        Ok(start) => Ok(Invocation {
             function,
             kind,
             start,
