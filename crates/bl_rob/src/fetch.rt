@@ -1,6 +1,7 @@
 //! Fetching and predicting.
-ghost use Rattle.std.specs.Prelude.{◌≡◌, ◌≤◌, ◌<◌, ◌++◌, ◌∷◌, [], ℕ, Bool, List, suc, IfErr, IfOk, None, OnErr, OnOk, Some, length};
-ghost use Rattle.bl_cmd.specs.Layout.{entry_of};
+ghost use Rattle.std.specs.Prelude.{◌≡◌, ◌≤◌, ◌<◌, ◌++◌, ◌∷◌, [], ℕ, Bool, List, suc, IfErr, IfOk, IsTrue, None, OnErr, OnOk, Some, length};
+ghost use Rattle.bl_ops.specs.Access.{is_load};
+ghost use Rattle.bl_cmd.specs.Layout.{entry_of, param, result as variable_of_result, running};
 ghost use Rattle.bl_cmd.specs.Programs.{IsCommand};
 ghost use Rattle.bl_cmd.specs.declared.definitions.ProgramParts.{ProgramParts};
 ghost use Rattle.bl_seq.specs.Layouts.{IsLayout};
@@ -9,14 +10,14 @@ ghost use Rattle.bl_rob.specs.Machines.{at_position, back, called, ended_at, fet
 ghost use Rattle.bl_rob.specs.declared.directive.Directive.TheVariants.{Fetch, Predict};
 ghost use Rattle.bl_rob.specs.declared.directive.Observation.TheVariants.{Nothing};
 ghost use Rattle.bl_rob.specs.declared.directive.StepError.TheVariants.{Memory};
-ghost use Rattle.bl_rob.specs.declared.entry.Work.TheVariants.{Guard};
+ghost use Rattle.bl_rob.specs.declared.entry.Work.TheVariants.{Assign, Guard, Load, Store};
 
 use crate::chain::Chain;
 use crate::directive::{End, Observation, StepError};
 use crate::entry::{Entry, LoadKind, Register, Source, Work};
 use crate::machine::Machine;
 use bl_base::{MOST_CALLS, NoMemory, Pos, Trap, Var};
-use bl_cmd::{Command, Operand};
+use bl_cmd::{Command, Mark, Operand};
 use bl_ops::{AccessKind, Op};
 use bl_seq::Layout;
 use std::alloc::Global;
@@ -155,7 +156,6 @@ impl Machine {
         requires command { IsCommand command }
         ensures { result ≡ work_in (fetched layout.now.parts.now self.now.front.position self.now.front.chain (Some command)) }
     {
-        let depth = self.front.chain.depth();
         match command {
             Command::Set {
                 mark,
@@ -164,14 +164,7 @@ impl Machine {
                 a,
                 b,
                 c,
-            } => Some(Work::Assign {
-                protect: mark.protect,
-                op,
-                to: register_of(layout, depth, to),
-                a: source_of(layout, depth, a),
-                b: source_of(layout, depth, b),
-                c: source_of(layout, depth, c),
-            }),
+            } => Some(self.assignment(layout, mark, op, to, a, b, c)),
             Command::Load {
                 mark,
                 kind,
@@ -179,27 +172,14 @@ impl Machine {
                 to,
                 offset,
                 address,
-            } => Some(Work::Load {
-                protect: mark.protect,
-                kind: LoadKind::of(kind),
-                memory,
-                to: register_of(layout, depth, to),
-                offset,
-                address: source_of(layout, depth, address),
-            }),
+            } => Some(self.load_of(layout, mark, kind, memory, to, offset, address)),
             Command::Store {
                 kind,
                 memory,
                 offset,
                 address,
                 value,
-            } => Some(Work::Store {
-                kind,
-                memory,
-                offset,
-                address: source_of(layout, depth, address),
-                value: source_of(layout, depth, value),
-            }),
+            } => Some(self.store_of(layout, kind, memory, offset, address, value)),
             Command::Test { .. } => None,
             Command::Jump { .. } | Command::Ret => Some(Work::Nop),
             Command::Arg {
@@ -207,27 +187,123 @@ impl Machine {
                 function,
                 index,
                 value,
-            } => {
-                let var = layout.frame(function).first + index as usize;
-                Some(moved(
-                    mark.protect,
-                    depth + 1,
-                    var,
-                    source_of(layout, depth, value),
-                ))
-            }
-            Command::Call { .. } => Some(called(depth)),
-            Command::Out { mark, index, value } => {
-                let var = layout.result(self.front.position as usize, index);
-                Some(moved(
-                    mark.protect,
-                    depth - 1,
-                    var,
-                    source_of(layout, depth, value),
-                ))
-            }
+            } => Some(self.argument(layout, mark, function, index, value)),
+            Command::Call { .. } => Some(called(self.front.chain.depth())),
+            Command::Out { mark, index, value } => Some(self.output(layout, mark, index, value)),
             Command::Trap { kind } => Some(Work::Fail(kind)),
         }
+    }
+
+    /// The work of a Set.
+    fn assignment(
+        &self,
+        layout: &Layout,
+        mark: Mark,
+        op: Op,
+        to: Var,
+        a: Operand,
+        b: Operand,
+        c: Operand,
+    ) -> Work
+        requires { IsLayout layout.now }
+        ensures { result ≡ Assign mark.protect op (register_of layout.now.parts.now (suc (length self.now.front.chain)) to.0)
+            (source_of layout.now.parts.now (suc (length self.now.front.chain)) a)
+            (source_of layout.now.parts.now (suc (length self.now.front.chain)) b)
+            (source_of layout.now.parts.now (suc (length self.now.front.chain)) c) }
+    {
+        let depth = self.front.chain.depth();
+        Work::Assign {
+            protect: mark.protect,
+            op,
+            to: register_of(layout, depth, to),
+            a: source_of(layout, depth, a),
+            b: source_of(layout, depth, b),
+            c: source_of(layout, depth, c),
+        }
+    }
+
+    /// The work of a Load.
+    fn load_of(
+        &self,
+        layout: &Layout,
+        mark: Mark,
+        kind: AccessKind,
+        memory: u32,
+        to: Var,
+        offset: u32,
+        address: Operand,
+    ) -> Work
+        requires layout { IsLayout layout.now }
+        requires load { IsTrue (is_load kind) }
+        ensures { result ≡ Load mark.protect kind memory (register_of layout.now.parts.now (suc (length self.now.front.chain)) to.0) offset
+            (source_of layout.now.parts.now (suc (length self.now.front.chain)) address) }
+    {
+        let depth = self.front.chain.depth();
+        Work::Load {
+            protect: mark.protect,
+            kind: LoadKind::of(kind),
+            memory,
+            to: register_of(layout, depth, to),
+            offset,
+            address: source_of(layout, depth, address),
+        }
+    }
+
+    /// The work of a Store.
+    fn store_of(
+        &self,
+        layout: &Layout,
+        kind: AccessKind,
+        memory: u32,
+        offset: u32,
+        address: Operand,
+        value: Operand,
+    ) -> Work
+        requires { IsLayout layout.now }
+        ensures { result ≡ Store kind memory offset
+            (source_of layout.now.parts.now (suc (length self.now.front.chain)) address)
+            (source_of layout.now.parts.now (suc (length self.now.front.chain)) value) }
+    {
+        let depth = self.front.chain.depth();
+        Work::Store {
+            kind,
+            memory,
+            offset,
+            address: source_of(layout, depth, address),
+            value: source_of(layout, depth, value),
+        }
+    }
+
+    /// The work of an Arg.
+    fn argument(
+        &self,
+        layout: &Layout,
+        mark: Mark,
+        function: u32,
+        index: u32,
+        value: Operand,
+    ) -> Work
+        requires { IsLayout layout.now }
+        ensures { result ≡ moved mark.protect (suc (suc (length self.now.front.chain))) (param layout.now.parts.now function index)
+            (source_of layout.now.parts.now (suc (length self.now.front.chain)) value) }
+    {
+        let depth = self.front.chain.depth();
+        let var = layout.frame(function).first + index as usize;
+        let value = source_of(layout, depth, value);
+        moved(mark.protect, depth + 1, var, value)
+    }
+
+    /// The work of an Out.
+    fn output(&self, layout: &Layout, mark: Mark, index: u32, value: Operand) -> Work
+        requires { IsLayout layout.now }
+        ensures { result ≡ moved mark.protect (length self.now.front.chain)
+            (variable_of_result layout.now.parts.now (running layout.now.parts.now self.now.front.position) index)
+            (source_of layout.now.parts.now (suc (length self.now.front.chain)) value) }
+    {
+        let depth = self.front.chain.depth();
+        let var = layout.result(self.front.position as usize, index);
+        let value = source_of(layout, depth, value);
+        moved(mark.protect, depth - 1, var, value)
     }
 
     /// Moves the front end to where the command there goes; a Test leaves it. A refusal leaves the machine as it was.

@@ -4,10 +4,10 @@ ghost use Rattle.bl_cmd.specs.Sites.{is_division};
 ghost use Rattle.bl_cmd.specs.Steps.{effective};
 ghost use Rattle.bl_seq.specs.Layouts.{IsLayout};
 ghost use Rattle.bl_rob.specs.CallResults.{act_at, shown};
-ghost use Rattle.bl_rob.specs.Machines.{act, assigns, frees, guards, has_guard, has_store, judges, loads, stores, valued};
+ghost use Rattle.bl_rob.specs.Machines.{act, assigns, frees, guards, has_guard, has_store, judges, loads, stores, valued, visible_of};
 
 use crate::directive::Observation;
-use crate::entry::{Act, Entry, LoadKind, Register, Work};
+use crate::entry::{Act, Entry, LoadKind, Register, Source, Work};
 use crate::front::Front;
 use crate::visible::{guards, has_guard, has_store, visible_of};
 use bl_ops::{AccessKind, Op, eval};
@@ -118,12 +118,7 @@ impl Machine {
                 a,
                 b,
                 c,
-            } => {
-                let a = visible_of(&self.registers, before, *a);
-                let b = visible_of(&self.registers, before, *b);
-                let c = visible_of(&self.registers, before, *c);
-                assign(before, *protect, *op, *to, a, b, c)
-            }
+            } => self.assign_behind(before, *protect, *op, *to, *a, *b, *c),
             Work::Load {
                 protect,
                 kind,
@@ -144,11 +139,7 @@ impl Machine {
                 offset,
                 address,
                 value,
-            } => {
-                let address = visible_of(&self.registers, before, *address);
-                let value = visible_of(&self.registers, before, *value);
-                store(layout, before, *kind, *memory, *offset, address, value)
-            }
+            } => self.store_behind(layout, before, *kind, *memory, *offset, *address, *value),
             Work::Guard {
                 cond,
                 predicted,
@@ -156,6 +147,48 @@ impl Machine {
             } => judges(*predicted, visible_of(&self.registers, before, *cond)),
             Work::Nop | Work::Done { .. } | Work::Ready { .. } | Work::Fail(_) => Act::Idle,
         }
+    }
+
+    /// A pending assignment behind those entries.
+    fn assign_behind(
+        &self,
+        before: &[Entry],
+        protect: bool,
+        op: Op,
+        to: Register,
+        a: Source,
+        b: Source,
+        c: Source,
+    ) -> Act
+        requires { length before.now ≤ 64 }
+        ensures { result ≡ assigns (guards before.now) protect op to (visible_of (shown self.now).registers before.now a)
+            (visible_of (shown self.now).registers before.now b) (visible_of (shown self.now).registers before.now c) }
+    {
+        let a = visible_of(&self.registers, before, a);
+        let b = visible_of(&self.registers, before, b);
+        let c = visible_of(&self.registers, before, c);
+        assign(before, protect, op, to, a, b, c)
+    }
+
+    /// A pending store behind those entries.
+    fn store_behind(
+        &self,
+        layout: &Layout,
+        before: &[Entry],
+        kind: AccessKind,
+        memory: u32,
+        offset: u32,
+        address: Source,
+        value: Source,
+    ) -> Act
+        requires layout { IsLayout layout.now }
+        requires few { length before.now ≤ 64 }
+        ensures { result ≡ stores layout.now.parts.now (guards before.now) kind memory offset
+            (visible_of (shown self.now).registers before.now address) (visible_of (shown self.now).registers before.now value) }
+    {
+        let address = visible_of(&self.registers, before, address);
+        let value = visible_of(&self.registers, before, value);
+        store(layout, before, kind, memory, offset, address, value)
     }
 
     /// A pending load behind those entries, where its address is visible or isn't.

@@ -1,11 +1,12 @@
 //! The machine of plain runs, which executes a command a step.
-ghost use Rattle.std.specs.Prelude.{◌≡◌, ◌≤◌, ◌+◌, ◌%◌, ◌^◌, ◌<◌, ◌==◌, if◌then◌else◌, suc, IfOk, OnOk, Some, length};
+ghost use Rattle.std.specs.Prelude.{◌≡◌, ◌≤◌, ◌+◌, ◌%◌, ◌^◌, ◌<◌, ◌==◌, if◌then◌else◌, suc, IfOk, IsTrue, OnOk, Some, length};
 ghost use Rattle.bl_base.specs.Quantity.{most_calls};
+ghost use Rattle.bl_ops.specs.Access.{is_load};
 ghost use Rattle.bl_ops.specs.Numerics.{meaning};
 ghost use Rattle.bl_cmd.specs.declared.definitions.ProgramParts.{ProgramParts};
 ghost use Rattle.bl_cmd.specs.Layout.{param, result as variable_of_result, running};
 ghost use Rattle.bl_cmd.specs.Programs.{IsCommand};
-ghost use Rattle.bl_cmd.specs.Steps.{call, depth, effective, on, perform, place, plain_step, ret, stored, to, value_of, written};
+ghost use Rattle.bl_cmd.specs.Steps.{call, depth, effective, loaded, on, perform, place, plain_step, ret, stored, to, value_of, written};
 ghost use Rattle.bl_base.specs.Runs.{goes};
 ghost use Rattle.bl_seq.specs.Layouts.{IsLayout};
 ghost use Rattle.bl_seq.specs.Machines.{RunsTo, next_of, shown};
@@ -115,10 +116,7 @@ impl Machine {
                 b,
                 c,
                 ..
-            } => {
-                self.set(alloc, layout, op, to, a, b, c)?;
-                Ok(Progress::Running)
-            }
+            } => self.set(alloc, layout, op, to, a, b, c)?,
             Command::Load {
                 kind,
                 memory,
@@ -126,49 +124,28 @@ impl Machine {
                 offset,
                 address,
                 ..
-            } => {
-                let from = self.effective(layout, memory, offset, address);
-                let number = self.space.load(kind, from);
-                self.assign(alloc, layout, to, number)?;
-                Ok(Progress::Running)
-            }
+            } => self.load(alloc, layout, kind, memory, to, offset, address)?,
             Command::Store {
                 kind,
                 memory,
                 offset,
                 address,
                 value,
-            } => {
-                let from = self.effective(layout, memory, offset, address);
-                let value = self.value(layout, value);
-                self.store(kind, from, value);
-                Ok(Progress::Running)
-            }
-            Command::Test { cond, yes, no } => {
-                self.test(layout, cond, yes, no);
-                Ok(Progress::Running)
-            }
-            Command::Jump { to } => {
-                self.position = to.0 as usize;
-                Ok(Progress::Running)
-            }
+            } => self.store(layout, kind, memory, offset, address, value),
+            Command::Test { cond, yes, no } => self.test(layout, cond, yes, no),
+            Command::Jump { to } => self.position = to.0 as usize,
             Command::Arg {
                 function,
                 index,
                 value,
                 ..
-            } => {
-                self.pass(alloc, layout, function, index, value)?;
-                Ok(Progress::Running)
-            }
-            Command::Call { function } => self.call(alloc, layout, function),
-            Command::Out { index, value, .. } => {
-                self.hand_out(alloc, layout, index, value)?;
-                Ok(Progress::Running)
-            }
-            Command::Ret => Ok(self.turn_back(alloc, layout)),
-            Command::Trap { kind } => Ok(Progress::Trapped(kind)),
+            } => self.pass(alloc, layout, function, index, value)?,
+            Command::Call { function } => return self.call(alloc, layout, function),
+            Command::Out { index, value, .. } => self.hand_out(alloc, layout, index, value)?,
+            Command::Ret => return Ok(self.turn_back(alloc, layout)),
+            Command::Trap { kind } => return Ok(Progress::Trapped(kind)),
         }
+        Ok(Progress::Running)
     }
 
     /// Executes a Set.
@@ -195,12 +172,52 @@ impl Machine {
         self.assign(alloc, layout, to, eval(op, a, b, c))
     }
 
-    /// Executes a Store.
-    fn store(&mut self, kind: AccessKind, from: usize, value: u64)
-        requires place { from < 2 ^ 61 }
+    /// Executes a Load.
+    #[inline(always)]
+    fn load(
+        &mut self,
+        alloc: Global,
+        layout: &Layout,
+        kind: AccessKind,
+        memory: u32,
+        to: Var,
+        offset: u32,
+        address: Operand,
+    ) -> Result<(), NoMemory>
+        requires layout { IsLayout layout.now }
+        requires load { IsTrue (is_load kind) }
         requires position { self.old.position + 1 < 2 ^ 64 }
-        ensures { shown self.new ≡ record (shown self.old) { position = suc self.old.position; space = stored kind from value self.old.space } }
+        ensures { OnOk result (on (shown self.old) (written (shown self.old).registers (place layout.now.parts.now to.0 (shown self.old)) to.0
+            (loaded kind self.old.space (effective layout.now.parts.now memory offset (value_of layout.now.parts.now address (shown self.old)))))
+            ≡ goes (shown self.new)) }
     {
+        let from = self.effective(layout, memory, offset, address);
+        let number = self.space.load(kind, from);
+        self.assign(alloc, layout, to, number)
+    }
+
+    /// Executes a Store.
+    #[inline(always)]
+    fn store(
+        &mut self,
+        layout: &Layout,
+        kind: AccessKind,
+        memory: u32,
+        offset: u32,
+        address: Operand,
+        value: Operand,
+    )
+        requires layout { IsLayout layout.now }
+        requires position { self.old.position + 1 < 2 ^ 64 }
+        ensures { shown self.new ≡ record (shown self.old) {
+          position = suc self.old.position;
+          space = stored kind
+              (effective layout.now.parts.now memory offset (value_of layout.now.parts.now address (shown self.old)))
+              (value_of layout.now.parts.now value (shown self.old)) self.old.space;
+        } }
+    {
+        let from = self.effective(layout, memory, offset, address);
+        let value = self.value(layout, value);
         self.space.store(kind, from, value);
         self.position += 1;
     }
