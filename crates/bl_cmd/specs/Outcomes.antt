@@ -43,7 +43,7 @@ space_of (memory ∷ memories) (state ∷ states) = padded memory state ++ space
 -- at depth 0 the globals and the sizes, at depth 1 the arguments; every other one is 0
 abbrev pub first_registers : Program → ℕ → Start → Registers
 first_registers program function start zero x =
-    slice_index (map (λ global. global.initial) program.globals ++ map (λ memory. memory.pages) program.memories) x
+    slice_index (map (λ global. global.first) program.globals ++ map (λ memory. memory.pages) program.memories) x
 first_registers program function start (suc zero) x =
     if nat_lt x (first_of program function) then 0 else slice_index start.args (x - first_of program function)
 first_registers program function start (suc (suc depth)) x = 0

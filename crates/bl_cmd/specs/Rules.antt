@@ -57,7 +57,7 @@ pub record Rule2 (program : Program) : Type 0 where
   pub each : All IsFunction program.functions
   pub variables : first_of program (length program.functions) < 2 ^ 31
   pub commands : length program.commands ≤ limit_of quantity.Commands
-  pub globals : All (λ global. ArgumentFits global.kind global.initial) program.globals
+  pub globals : All (λ global. ArgumentFits global.kind global.first) program.globals
 
 -- ---- rule 3: exports
 

@@ -10,7 +10,7 @@ pub struct GlobalDef {
     /// Who may learn its initial value.
     pub label: Label,
     /// Its initial value.
-    pub initial: u64,
+    pub first: u64,
 }
 
 /// A memory. Its size in pages is a variable.

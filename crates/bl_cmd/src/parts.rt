@@ -167,11 +167,11 @@ fn have_few(functions: &[FunctionDef], most: u32) -> bool
 
 /// Whether each initial value is one of its type.
 fn are_values(globals: &[GlobalDef]) -> bool
-    ensures { IsTrue result ↔ All (λ global. ArgumentFits global.kind global.initial) globals.now }
+    ensures { IsTrue result ↔ All (λ global. ArgumentFits global.kind global.first) globals.now }
 {
     globals
         .iter()
-        .all(|global| argument_fits(global.kind, global.initial))
+        .all(|global| argument_fits(global.kind, global.first))
 }
 
 /// Whether no two exports have one name, and what they name exists.

@@ -91,7 +91,7 @@ operand_one = unique_after byte operand_code operand_fields unique_byte cases
 -- ---- the parts in front of the commands
 
 global_one : IsUnique global
-global_one = unique_from (unique_pair type_one (unique_pair label_one unique_u64)) (λ (y : GlobalDef). (y.kind, (y.label, y.initial))) (λ p. record { kind = p.0; label = p.1.0; initial = p.1.1 }) (λ y. refl)
+global_one = unique_from (unique_pair type_one (unique_pair label_one unique_u64)) (λ (y : GlobalDef). (y.kind, (y.label, y.first))) (λ p. record { kind = p.0; label = p.1.0; first = p.1.1 }) (λ y. refl)
 
 param_one : IsUnique param
 param_one = unique_from (unique_pair type_one label_one) (λ (y : ParamDef). (y.kind, y.label)) (λ p. record { kind = p.0; label = p.1 }) (λ y. refl)

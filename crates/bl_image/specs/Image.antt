@@ -78,9 +78,9 @@ trap_kind kind = byte (trap_code kind)
 
 -- ---- the parts in front of the commands
 
--- value type, label, initial value
+-- value type, label, first value
 abbrev pub global : GlobalDef → Spellings
-global one = value_type one.kind ⨾ label one.label ⨾ u64 one.initial
+global one = value_type one.kind ⨾ label one.label ⨾ u64 one.first
 
 -- what is spelled of a row behind its number: 16 bytes
 abbrev pub row : MemRow → Spellings

@@ -14,15 +14,8 @@ impl Find for GlobalDef {
     ghost spells = { global };
 
     fn find(bytes: &[u8], at: usize) -> Result<(GlobalDef, usize), Malformed> {
-        let ((kind, (label, value)), place) = <(ValueType, (Label, u64))>::find(bytes, at)?;
-        Ok((
-            GlobalDef {
-                kind,
-                label,
-                initial: value,
-            },
-            place,
-        ))
+        let ((kind, (label, first)), place) = <(ValueType, (Label, u64))>::find(bytes, at)?;
+        Ok((GlobalDef { kind, label, first }, place))
     }
 }
 
@@ -144,7 +137,7 @@ impl Write for GlobalDef {
     fn write(&self, to: &mut Vec<u8>) -> Result<(), NoMemory> {
         self.kind.write(to)?;
         self.label.write(to)?;
-        write_u64(self.initial, to)?;
+        write_u64(self.first, to)?;
         Ok(())
     }
 }

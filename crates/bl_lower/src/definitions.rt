@@ -17,7 +17,7 @@ fn global_def(global: &bl_wasm::Global) -> GlobalDef
     GlobalDef {
         kind: global.kind,
         label: global.label,
-        initial: global.initial,
+        first: global.initial,
     }
 }
 

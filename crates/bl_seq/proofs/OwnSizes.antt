@@ -35,13 +35,13 @@ memory_first (m ∷ memories) zero defined e = ap (λ (m : MemoryDef). m.pages) 
 memory_first (m ∷ memories) (suc memory) defined e = memory_first memories memory defined e
 
 size_first : (globals : List GlobalDef) (memories : List MemoryDef) (memory : ℕ) (defined : MemoryDef) → slice_get memories memory ≡ Some defined
-    → slice_index (map (λ g. g.initial) globals ++ map (λ m. m.pages) memories) (length globals + memory) ≡ defined.pages
+    → slice_index (map (λ g. g.first) globals ++ map (λ m. m.pages) memories) (length globals + memory) ≡ defined.pages
 size_first [] memories memory defined e =
     let none : memory ≡ 0 + memory = omega arith in
     subst (λ i. slice_index (map (λ m. m.pages) memories) i ≡ defined.pages) none (memory_first memories memory defined e)
 size_first (g ∷ globals) memories memory defined e =
     let more : suc (length globals + memory) ≡ length (g ∷ globals) + memory = omega arith in
-    subst (λ i. slice_index (map (λ g. g.initial) (g ∷ globals) ++ map (λ m. m.pages) memories) i ≡ defined.pages) more (size_first globals memories memory defined e)
+    subst (λ i. slice_index (map (λ g. g.first) (g ∷ globals) ++ map (λ m. m.pages) memories) i ≡ defined.pages) more (size_first globals memories memory defined e)
 
 module _ (program : Program) (facts : IsProgram program) (rules : IsWellFormed program) where
   -- a run's first state

@@ -87,7 +87,7 @@ overlay_inside state from new le = take_all (length state.bytes) (write state fr
 -- ---- registers
 
 module _ (program : Program) (function : ℕ) (start : Start) (one two : List Tree) (statics : List ℕ)
-    (are : statics ≡ map (λ global. global.initial) program.globals ++ map (λ memory. memory.pages) program.memories)
+    (are : statics ≡ map (λ global. global.first) program.globals ++ map (λ memory. memory.pages) program.memories)
     (first : (d v : ℕ) → register_at one d v ≡ filled (λ d v. 0) 0 0 statics d v)
     (second : (d v : ℕ) → register_at two d v ≡ filled (λ d v. register_at one d v) 1 (first_of program function) start.args d v) where
   beside : (d v : ℕ) → d ≢ 0 → register_at one d v ≡ 0
@@ -108,7 +108,7 @@ module _ (program : Program) (function : ℕ) (start : Start) (one two : List Tr
 
 pub registers_of : (program : Program) (function : ℕ) (start : Start) {E : Type 0} (r : Result (List Tree) E) (one : List Tree) (first : ℕ) (arguments : List ℕ)
     → first ≡ first_of program function → arguments ≡ start.args
-    → ((d v : ℕ) → register_at one d v ≡ filled (λ d v. 0) 0 0 (map (λ global. global.initial) program.globals ++ map (λ memory. memory.pages) program.memories) d v)
+    → ((d v : ℕ) → register_at one d v ≡ filled (λ d v. 0) 0 0 (map (λ global. global.first) program.globals ++ map (λ memory. memory.pages) program.memories) d v)
     → IfOk r (λ two. (d v : ℕ) → register_at two d v ≡ filled (λ d v. register_at one d v) 1 first arguments d v)
     → IfOk r (λ two. (d v : ℕ) → register_at two d v ≡ first_registers program function start d v)
 registers_of program function start (Ok two) one first arguments is are begun e =

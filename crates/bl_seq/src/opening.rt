@@ -139,7 +139,7 @@ fn with_arguments(
 /// The globals and the sizes at depth 0.
 fn statics_only(alloc: Global, parts: &ProgramParts) -> Result<Registers, NoMemory>
     ensures { IfOk result (λ registers. (d v : ℕ) → register_at registers d v
-        ≡ filled (λ d v. 0) 0 0 (map (λ global. global.initial) parts.now.globals ++ map (λ memory. memory.pages) parts.now.memories) d v) }
+        ≡ filled (λ d v. 0) 0 0 (map (λ global. global.first) parts.now.globals ++ map (λ memory. memory.pages) parts.now.memories) d v) }
 {
     let numbers = first_statics(alloc, parts)?;
     let mut registers = Registers::new(alloc);
@@ -158,11 +158,11 @@ fn first_space(alloc: Global, parts: &ProgramParts, start: &Start) -> Result<Spa
 
 /// The initial values of the globals and the first sizes.
 fn first_statics(alloc: Global, parts: &ProgramParts) -> Result<Vec<u64>, NoMemory>
-    ensures { IfOk result (λ numbers. numbers.items ≡ map (λ global. global.initial) parts.now.globals ++ map (λ memory. memory.pages) parts.now.memories) }
+    ensures { IfOk result (λ numbers. numbers.items ≡ map (λ global. global.first) parts.now.globals ++ map (λ memory. memory.pages) parts.now.memories) }
 {
     let mut numbers = Vec::new(alloc);
     for global in parts.globals.as_slice() {
-        numbers.push(global.initial)?;
+        numbers.push(global.first)?;
     }
     for memory in parts.memories.as_slice() {
         numbers.push(u64::from(memory.pages))?;

@@ -12,10 +12,10 @@ abbrev Parts : Type 0
 Parts = ValueType × (Label × ℕ)
 
 abbrev parts : GlobalDef → Parts
-parts one = (one.kind, (one.label, one.initial))
+parts one = (one.kind, (one.label, one.first))
 
 abbrev whole : Parts → GlobalDef
-whole p = record { kind = p.0; label = p.1.0; initial = p.1.1 }
+whole p = record { kind = p.0; label = p.1.0; first = p.1.1 }
 
 abbrev spelled : Parts → Spellings
 spelled p = global (whole p)
@@ -28,4 +28,4 @@ returns-in_err-kind c =
 pub returns : goal.returns
 returns c =
     let read = c.in_ok-kind in
-    (read.ensures.0, begins_from spelled parts whole (drop c.args.at c.args.bytes.now) (drop read.place c.args.bytes.now) (record { kind = read.kind; label = read.label; initial = read.value }) (λ y. refl) read.ensures.1)
+    (read.ensures.0, begins_from spelled parts whole (drop c.args.at c.args.bytes.now) (drop read.place c.args.bytes.now) (record { kind = read.kind; label = read.label; first = read.first }) (λ y. refl) read.ensures.1)
