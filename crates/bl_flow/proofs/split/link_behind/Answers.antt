@@ -1,4 +1,4 @@
-use Rattle.std.proofs.Common.{arith, ◌≡◌, sym}
+use Rattle.std.proofs.Common.{arith, sym}
 use Rattle.bl_flow.proofs.Behind.{through_at, behind_at}
 use Rattle.bl_flow.proofs.split.link_behind.Goals as goal
 

@@ -1,4 +1,4 @@
-use Rattle.std.proofs.Common.{arith, ◌≡◌, ◌+◌, ◌-◌, ◌<◌, length, ap}
+use Rattle.std.proofs.Common.{arith, length, ap}
 use Rattle.bl_flow.specs.Split.{links_behind}
 use Rattle.bl_flow.proofs.Behind.{behind_count}
 use Rattle.bl_flow.proofs.BothWays.{both_count}
