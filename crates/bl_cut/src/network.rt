@@ -23,7 +23,8 @@ pub(crate) fn network(
 {
     let commands = program.program().parts().commands.len() as u32;
     let nodes = commands + variables(program);
-    let mut arcs = Vec::new(alloc);
+    let count = graph.writes.len().saturating_add(graph.reads.len());
+    let mut arcs = Vec::with_capacity(alloc, count)?;
     push_writes(&mut arcs, commands, graph.writes.as_slice())?;
     push_reads(&mut arcs, commands, graph.reads.as_slice())?;
     let weights = node_weights(alloc, program, graph.writes.as_slice(), nodes)?;
@@ -61,7 +62,7 @@ fn node_weights(
 fn no_weights(alloc: Global, count: u32) -> Result<Vec<Option<u64>>, NoMemory>
     ensures { IfOk result (λ weights. weights.items ≡ replicate count None) }
 {
-    let mut weights = Vec::new(alloc);
+    let mut weights = Vec::with_capacity(alloc, count as usize)?;
     for _ in 0..count {
         weights.push(None)?;
     }
@@ -100,7 +101,7 @@ fn push_reads(arcs: &mut Vec<Arc>, commands: u32, reads: &[Read]) -> Result<(), 
 fn load_nodes(alloc: Global, loads: &[Pos]) -> Result<Vec<u32>, NoMemory>
     ensures { IfOk result (λ nodes. nodes.items ≡ map (λ load. load.0) loads.now) }
 {
-    let mut nodes = Vec::new(alloc);
+    let mut nodes = Vec::with_capacity(alloc, loads.len())?;
     for load in loads {
         nodes.push(load.0)?;
     }
@@ -112,7 +113,7 @@ fn sink_nodes(alloc: Global, commands: u32, sinks: &[SinkUse]) -> Result<Vec<u32
     requires { All (λ s. commands + s.var.0 < 2 ^ 32) sinks.now }
     ensures { IfOk result (λ nodes. nodes.items ≡ map (sink_node commands) sinks.now) }
 {
-    let mut nodes = Vec::new(alloc);
+    let mut nodes = Vec::with_capacity(alloc, sinks.len())?;
     for sink in sinks {
         nodes.push(commands + sink.var.0)?;
     }

@@ -34,7 +34,7 @@ pub(crate) fn read_back(
     requires { All (λ path. EndsAtVar commands (length sink_of.now) path.nodes) paths.now }
     ensures { IfOk result (λ all. all.items ≡ map (path_of commands sink_of.now) paths.now) }
 {
-    let mut all = Vec::new(alloc);
+    let mut all = Vec::with_capacity(alloc, paths.len())?;
     for path in paths {
         all.push(chain_of(alloc, commands, sink_of, path)?)?;
     }
@@ -65,7 +65,7 @@ fn chain_of(
 fn sites_among(alloc: Global, commands: u32, nodes: &[u32]) -> Result<Vec<Pos>, NoMemory>
     ensures { IfOk result (λ sites. sites.items ≡ positions (sites_in commands nodes.now)) }
 {
-    let mut sites = Vec::new(alloc);
+    let mut sites = Vec::with_capacity(alloc, nodes.len() / 2)?;
     for node in nodes {
         if *node < commands {
             sites.push(Pos(*node))?;

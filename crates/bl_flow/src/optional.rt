@@ -58,9 +58,6 @@ impl OptionalNumber {
 pub fn no_numbers(alloc: Global, count: usize) -> Result<Vec<OptionalNumber>, NoMemory>
     ensures { IfOk result (λ numbers. numbers.items ≡ replicate count None) }
 {
-    let mut numbers = Vec::with_capacity(alloc, count)?;
-    for _ in 0..count {
-        numbers.push(OptionalNumber::none())?;
-    }
+    let numbers = vec![in alloc; OptionalNumber::none(); count]?;
     Ok(numbers)
 }

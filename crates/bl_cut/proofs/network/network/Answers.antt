@@ -55,7 +55,7 @@ returns c =
     made_network c.args.program.now c.args.graph.now c.requires n c.of.result c.of-2.result c.of-3.result c.of-4.result count
     (ap length c.of.ensures ∙ (c.in_ok-weights.ensures.places ∙ ap (λ m. n + m) c.variables.ensures))
     (λ v. ap (λ l. Rattle.bl_cut.specs.Network.noted l v) c.of.ensures ∙ c.in_ok-weights.ensures.weights v)
-    (c.of-2.ensures ∙ (c.in_ok-push_reads.ensures ∙ (ap (λ l. l ++ map (read_arc n) c.as_slice-2.result.now) (c.in_ok-push_writes.ensures ∙ ap (λ l. l ++ map (write_arc n) c.as_slice.result.now) c.new-arcs.ensures.items)
+    (c.of-2.ensures ∙ (c.in_ok-push_reads.ensures ∙ (ap (λ l. l ++ map (read_arc n) c.as_slice-2.result.now) (c.in_ok-push_writes.ensures ∙ ap (λ l. l ++ map (write_arc n) c.as_slice.result.now) c.in_ok-arcs.ensures.items)
     ∙ (ap (λ l. map (write_arc n) c.as_slice.result.now ++ l) reads ∙ ap (λ l. l ++ map (read_arc n) c.args.graph.now.reads) writes))))
     (c.of-3.ensures ∙ (c.in_ok-starts.ensures ∙ ap (map (λ (load : Pos). load.0)) c.as_slice-4.ensures))
     (c.of-4.ensures ∙ (c.in_ok-ends.ensures ∙ ap (map (sink_node n)) c.as_slice-5.ensures))

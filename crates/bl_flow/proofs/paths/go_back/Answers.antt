@@ -12,14 +12,14 @@ next_carrying-link-requires-clause-some c =
     brings c.args.links.now (length c.args.carries.now) c.args.carries.now (reversed (length c.args.carries.now) c.args.rows.now) c.args.root c.args.end c.loop-at.at c.requires.rows_hold (omega arith) c.requires.fed c.loop-at-test.true
     c.loop-at.places c.loop-at.trail.items c.loop-at.invariant.trace
 
-step : (c : In_ok-push) → OnTrace c.args.links.now (length c.args.carries.now) c.args.carries.now (set c.loop-at.places c.loop-at.at c.len.result) (c.loop-at.trail.items ++ c.next_carrying-link.result ∷ []) c.args.end (link_at c.args.links.now c.next_carrying-link.result).from
+step : (c : In_ok-push) → OnTrace c.args.links.now (length c.args.carries.now) c.args.carries.now (set c.loop-at.places c.loop-at.at c.in_ok-place.place) (c.loop-at.trail.items ++ c.next_carrying-link.result ∷ []) c.args.end (link_at c.args.links.now c.next_carrying-link.result).from
     × (c.next_carrying-link.result < length c.args.links.now)
-    × (off_trail c.args.links.now (set c.loop-at.places c.loop-at.at c.len.result) (c.loop-at.trail.items ++ c.next_carrying-link.result ∷ []) (length c.args.rows.now) < off_trail c.args.links.now c.loop-at.places c.loop-at.trail.items (length c.args.rows.now))
+    × (off_trail c.args.links.now (set c.loop-at.places c.loop-at.at c.in_ok-place.place) (c.loop-at.trail.items ++ c.next_carrying-link.result ∷ []) (length c.args.rows.now) < off_trail c.args.links.now c.loop-at.places c.loop-at.trail.items (length c.args.rows.now))
 step c =
     let fresh : on_trail c.args.links.now c.loop-at.trail.items c.loop-at.places c.loop-at.at ≡ false = ap (λ w. on_trail c.args.links.now w c.loop-at.places c.loop-at.at) (sym c.deref.ensures.value) ∙ sym c.is_on.ensures ∙ c.if-not-is_on.true in
     let places = c.requires.places_in in let auto = c.loop-at.auto.places in let inside = c.loop-at.invariant.inside in
-    let len : c.len.result ≡ length c.loop-at.trail.items = let e = c.len.ensures in let ok = c.loop-at.trail.ok.0 in omega arith in
-    steps_back c.args.links.now c.args.carries.now (reversed (length c.args.carries.now) c.args.rows.now) c.args.end c.loop-at.places c.loop-at.trail.items c.loop-at.at c.next_carrying-link.result c.len.result (length c.args.rows.now)
+    let len : c.in_ok-place.place ≡ length c.loop-at.trail.items = c.in_ok-place.ensures.number ∙ (let e = c.len.ensures in let ok = c.loop-at.trail.ok.0 in omega arith) in
+    steps_back c.args.links.now c.args.carries.now (reversed (length c.args.carries.now) c.args.rows.now) c.args.end c.loop-at.places c.loop-at.trail.items c.loop-at.at c.next_carrying-link.result c.in_ok-place.place (length c.args.rows.now)
     c.requires.rows_hold c.loop-at.invariant.trace fresh (omega arith) inside c.next_carrying-link.ensures.link c.next_carrying-link.ensures.some len
 
 pub loop-at-smaller : goal.loop-at-smaller

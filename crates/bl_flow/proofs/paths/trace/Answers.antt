@@ -9,11 +9,11 @@ use Rattle.bl_flow.proofs.LinksWithin.{from_within}
 use Rattle.bl_flow.proofs.Wiring.{rows_reversed}
 use Rattle.bl_flow.proofs.Tracing.{Dropped, are_fed, circle_dropped, over_less}
 use Rattle.bl_flow.proofs.paths.trace.Goals as goal
-use Rattle.bl_flow.proofs.paths.trace.Goals.{After-slice_known-in-loop-trail-4-1}
+use Rattle.bl_flow.proofs.paths.trace.Goals.{After-slice_known-in-loop-at-4-1}
 
 pub go_back-requires-clause-rows_hold : goal.go_back-requires-clause-rows_hold
 go_back-requires-clause-rows_hold c =
-    subst (λ h. AreRowsIn c.args.links.now (reversed h c.args.rows.now)) (sym c.loop-trail.invariant.carried_.places)
+    subst (λ h. AreRowsIn c.args.links.now (reversed h c.args.rows.now)) (sym c.loop-at.invariant.carried_.places)
     (rows_reversed (links_of c.args.n.now) c.args.links.now c.args.rows.now c.requires.links_hold c.requires.rows_hold)
 
 pub go_back-requires-clause-froms : goal.go_back-requires-clause-froms
@@ -21,29 +21,29 @@ go_back-requires-clause-froms c = from_within c.args.n.now c.requires.in_range (
 
 pub go_back-requires-clause-fed : goal.go_back-requires-clause-fed
 go_back-requires-clause-fed c =
-    subst (λ p. AreFed c.args.links.now (length c.loop-trail.carries) c.loop-trail.carries (2 * p) (2 * p + 1)) (sym c.len-source.ensures)
-    (subst (λ h. AreFed c.args.links.now h c.loop-trail.carries (in_part (size c.args.n.now)) (out_part (size c.args.n.now))) (sym c.loop-trail.invariant.carried_.places)
-    (subst (λ l. AreFed l (link_count c.args.n.now) c.loop-trail.carries (in_part (size c.args.n.now)) (out_part (size c.args.n.now))) (sym c.requires.links_hold)
-    (are_fed c.args.n.now c.loop-trail.carries c.args.left c.loop-trail.invariant.carried_ c.requires.some)))
+    subst (λ p. AreFed c.args.links.now (length c.loop-at.carries) c.loop-at.carries (2 * p) (2 * p + 1)) (sym c.len-source.ensures)
+    (subst (λ h. AreFed c.args.links.now h c.loop-at.carries (in_part (size c.args.n.now)) (out_part (size c.args.n.now))) (sym c.loop-at.invariant.carried_.places)
+    (subst (λ l. AreFed l (link_count c.args.n.now) c.loop-at.carries (in_part (size c.args.n.now)) (out_part (size c.args.n.now))) (sym c.requires.links_hold)
+    (are_fed c.args.n.now c.loop-at.carries c.args.left c.loop-at.invariant.carried_ c.requires.some)))
 
-dropped : (c : After-slice_known-in-loop-trail-4-1) → Dropped c.args.n.now c.args.links.now c.loop-trail.carries c.drop_circle.new.carries c.go_back.new.places c.go_back.new.trail.items (2 * c.len-source.result + 1) c.in_ok-at.at c.args.left
+dropped : (c : After-slice_known-in-loop-at-4-1) → Dropped c.args.n.now c.args.links.now c.loop-at.carries c.drop_circle.new.carries c.go_back.new.places c.go_back.new.trail.items (2 * c.len-source.result + 1) c.in_ok-at.at c.args.left
 dropped c =
-    let trace : OnTrace c.args.links.now (link_count c.args.n.now) c.loop-trail.carries c.go_back.new.places c.go_back.new.trail.items (2 * c.len-source.result + 1) c.in_ok-at.at =
-    subst (λ h. OnTrace c.args.links.now h c.loop-trail.carries c.go_back.new.places c.go_back.new.trail.items (2 * c.len-source.result + 1) c.in_ok-at.at) c.loop-trail.invariant.carried_.places c.in_ok-at.ensures.trace in
-    circle_dropped c.args.n.now c.args.links.now c.loop-trail.carries c.drop_circle.new.carries c.go_back.new.places c.go_back.new.trail.items (2 * c.len-source.result + 1) c.in_ok-at.at c.args.left c.requires.links_hold c.loop-trail.invariant.carried_ trace
+    let trace : OnTrace c.args.links.now (link_count c.args.n.now) c.loop-at.carries c.go_back.new.places c.go_back.new.trail.items (2 * c.len-source.result + 1) c.in_ok-at.at =
+    subst (λ h. OnTrace c.args.links.now h c.loop-at.carries c.go_back.new.places c.go_back.new.trail.items (2 * c.len-source.result + 1) c.in_ok-at.at) c.loop-at.invariant.carried_.places c.in_ok-at.ensures.trace in
+    circle_dropped c.args.n.now c.args.links.now c.loop-at.carries c.drop_circle.new.carries c.go_back.new.places c.go_back.new.trail.items (2 * c.len-source.result + 1) c.in_ok-at.at c.args.left c.requires.links_hold c.loop-at.invariant.carried_ trace
     (c.in_ok-at.ensures.stops c.if-at-source.false) c.drop_circle.ensures.taken
 
-pub loop-trail-smaller : goal.loop-trail-smaller
-loop-trail-smaller c = (dropped c).lower
+pub loop-at-smaller : goal.loop-at-smaller
+loop-at-smaller c = (dropped c).lower
 
-pub loop-trail-preserved : goal.loop-trail-preserved
-loop-trail-preserved c =
+pub loop-at-preserved : goal.loop-at-preserved
+loop-at-preserved c =
     let d = dropped c in
     rw c.drop_circle.ensures.trail (record {
       inside = c.in_ok-at.ensures.part_in;
       carried_ = d.carried_;
-      less = λ k. let a = d.less k in let b = c.loop-trail.invariant.less k in omega arith;
-      passed_ = over_less c.loop-trail.carries (reversed (link_count c.args.n.now) c.args.rows.now) c.drop_circle.new.carries c.go_back.new.passed d.less
-          (subst (λ h. ArePassedOver c.loop-trail.carries (reversed h c.args.rows.now) c.go_back.new.passed) c.loop-trail.invariant.carried_.places c.in_ok-at.ensures.passed);
+      less = λ k. let a = d.less k in let b = c.loop-at.invariant.less k in omega arith;
+      passed_ = over_less c.loop-at.carries (reversed (link_count c.args.n.now) c.args.rows.now) c.drop_circle.new.carries c.go_back.new.passed d.less
+          (subst (λ h. ArePassedOver c.loop-at.carries (reversed h c.args.rows.now) c.go_back.new.passed) c.loop-at.invariant.carried_.places c.in_ok-at.ensures.passed);
       trace = d.trace;
     })

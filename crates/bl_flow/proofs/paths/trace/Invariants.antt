@@ -5,8 +5,8 @@ use Rattle.bl_flow.specs.Flows.{IsCarried, link_count}
 use Rattle.bl_flow.specs.Traces.{ArePassedOver, OnTrace}
 use Rattle.bl_flow.proofs.paths.trace.Given as goal
 
-abbrev pub invariant-loop-trail : goal.invariant-loop-trail
-invariant-loop-trail l = record {
+abbrev pub invariant-loop-at : goal.invariant-loop-at
+invariant-loop-at l = record {
   inside : l.at < length l.rows;
   carried_ : IsCarried l.n l.carries l.left;
   less : (k : ℕ) → slice_index l.carries k ≤ slice_index l.fn.carries k;
@@ -14,5 +14,5 @@ invariant-loop-trail l = record {
   trace : OnTrace l.links (link_count l.n) l.carries l.places l.trail.items (l.source + 1) l.at;
 }
 
-abbrev pub decreases-loop-trail : goal.decreases-loop-trail
-decreases-loop-trail l = sum_below (link_count l.n) (λ k. slice_index l.carries k)
+abbrev pub decreases-loop-at : goal.decreases-loop-at
+decreases-loop-at l = sum_below (link_count l.n) (λ k. slice_index l.carries k)
