@@ -1,11 +1,10 @@
 -- Constants of lowered programs are numbers of 64 bits.
-use Rattle.std.proofs.Common.{◌≡◌, ℕ, zero, suc, ◌+◌, ◌^◌, ◌<◌, ◌≤◌, List, [], ◌∷◌, ◌++◌, length, map, take, drop, reverse, replicate, append-nil, Option, Some, None, slice_get, refl, ap, sym, ◌∙◌, subst, arith, length-append}
+use Rattle.std.proofs.Common.{◌≡◌, ℕ, zero, suc, ◌+◌, ◌*◌, ◌^◌, ◌<◌, List, [], ◌∷◌, ◌++◌, length, map, take, drop, reverse, replicate, append-nil, Option, Some, None, slice_get, refl, sym, subst, arith, length-append}
 use Rattle.std.specs.List.{All}
-use Rattle.std.proofs.lemmas.List.Elements.{All-append, All-cons, All-drop, All-head, All-nil, All-replicate, All-tail, All-take}
+use Rattle.std.proofs.lemmas.List.Elements.{All-cons, All-drop, All-head, All-nil, All-replicate, All-tail, All-take}
 use Rattle.bl_base.proofs.Lists.{all_get}
 use Rattle.bl_base.specs.Trap.{kinds}
 use Rattle.bl_base.specs.declared.trap.Trap.{Trap as TrapKind}
-use Rattle.bl_ops.specs.Access.{width_of}
 use Rattle.bl_ops.specs.Table.{operand_count, row_of}
 use Rattle.bl_ops.specs.declared.op.Op.{Op}
 use Rattle.bl_ops.specs.declared.op.Op.TheVariants.{I32DivS, I64DivS}
@@ -27,7 +26,7 @@ use Rattle.bl_access.specs.Templates.{chain_from, jump_to, shift, test_of}
 use Rattle.bl_image.specs.Widths.{HasConstants, HasWidth}
 use Rattle.bl_emit.specs.Shapes.{Counts, Shape, Slot, armed, bottom, result_reads, strange, vacant}
 use Rattle.bl_emit.specs.Constructs.{Point, Target, again, args, as_whole, behind, branched, first_to, inside, mark_of, moves, outs, pad, part, point, reads, start_of, taken, top, whole}
-use Rattle.bl_emit.specs.Items.{Check, after, arms, check_of, checks, free, leaving, left, nonzero, quotient, results_in, right, slot_arm, slot_arms, slot_head, template, to_label}
+use Rattle.bl_emit.specs.Items.{Check, after, arms, calls_in, check_of, checks, free, hits_from, leaving, left, nonzero, quotient, results_in, right, slot_arm, slot_arms, slot_head, template, to_label}
 use Rattle.bl_emit.specs.Low.{Body, Lowered, Reached, block, choice, closed, closed_size, done, leave, loop, low, next_in, off, on, size_in, step, takes_of}
 use Rattle.bl_emit.specs.Numbers.{blocks, body_of, reserve_in, shape, start_at}
 use Rattle.bl_lower.specs.Trees.{last, low_body, low_function, low_functions, low_tree}
@@ -118,6 +117,9 @@ fine_chain index x number [] last at_ depth wide lt = tt
 fine_chain index x number (arm ∷ arms) last at_ depth wide lt =
     ((wide, omega (arith, lt), zero_fits), (tt, fine_chain index (suc x) (suc number) arms last (suc (suc at_)) depth wide (omega (arith, lt))))
 
+small_chain : (index : Operand) (x : ℕ) (arms : List ℕ) (last at_ depth : ℕ) → HasWidth index → Small (chain_from index x 0 arms last at_ depth)
+small_chain index x arms last at_ depth wide lt = fine_chain index x 0 arms last at_ depth wide (omega (arith, lt))
+
 abbrev CheckFits : Check → Type 0
 CheckFits free = Unit {0}
 CheckFits (nonzero eqz) = Unit {0}
@@ -165,7 +167,7 @@ module _ (shapes : ℕ → Shape) (number : ℕ) (room : (shapes number).reserve
 
   small_slot_head : (depth : ℕ) (index : Operand) (position x : ℕ) (those : List Slot) → HasWidth index → Small (slot_head shapes number depth index position x those)
   small_slot_head depth index position x [] h = λ lt. (tt, tt)
-  small_slot_head depth index position x (slot ∷ those) h = λ lt. fine_chain index x 0 _ 4 position depth h lt
+  small_slot_head depth index position x (slot ∷ those) h = small_chain index x (hits_from (calls_in shapes number) (position + 2 * suc (length those)) (slot ∷ those)) 4 position depth h
 
   small_template : (open_ones : List Target) (item : Instr) (p : Point) → HasImmediates item → Wide p.stack → Small (template shapes number open_ones item p)
   small_template open_ones item p = elim item as (λ k. HasImmediates k → Wide p.stack → Small (template shapes number open_ones k p)) [
@@ -205,7 +207,7 @@ module _ (shapes : ℕ → Shape) (number : ℕ) (room : (shapes number).reserve
   small_leaving : (open_ones : List Target) (item : Instr) (p : Point) → Wide p.stack → Small (leaving shapes number open_ones item p)
   small_leaving open_ones item p h = elim item as (λ k. Small (leaving shapes number open_ones k p)) [
     | Br l ↦ λ lt. fine_label open_ones p.stack l h
-    | BrTable default ls ↦ small_append _ _ (λ lt. fine_chain (top p.stack) p.next 0 _ _ p.position (mark_of open_ones) (wide_top p.stack h) lt)
+    | BrTable default ls ↦ small_append _ _ (small_chain (top p.stack) p.next _ _ p.position (mark_of open_ones) (wide_top p.stack h))
         (λ lt. fine_append (to_label shapes number open_ones (drop 1 p.stack) default) (arms shapes number open_ones (drop 1 p.stack) ls)
         (fine_label open_ones (drop 1 p.stack) default (All-drop HasWidth 1 p.stack h)) (fine_arms open_ones (drop 1 p.stack) ls (All-drop HasWidth 1 p.stack h)))
     | Return ↦ λ lt. fine_branch (mark_of open_ones) (results_in shapes number) None p.stack h
@@ -368,7 +370,7 @@ module _ (tree : Tree) (linked : IsLinked tree) where
       (small_append body.commands (last mine.results body.reached) kept.commands (small_last mine.results body.reached kept.ends))
 
   small_functions : (number : ℕ) (functions : List Function) → All (IsFunction tree) functions → Small (low_functions tree number functions)
-  small_functions number [] h lt = tt
+  small_functions number [] h = λ lt. tt
   small_functions number (function ∷ functions) h =
       small_append (low_function tree number function) (low_functions tree (suc number) functions) (small_function number function (All-head (IsFunction tree) function functions h))
       (small_functions (suc number) functions (All-tail (IsFunction tree) function functions h))

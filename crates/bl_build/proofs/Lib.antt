@@ -1,10 +1,12 @@
 pub mod BuildLemmas
 pub mod CertifyingLemmas
 pub mod Classical
+pub mod Constants
 pub mod EnteringLemmas
 pub mod EntryLemmas
 pub mod FewestLemmas
 pub mod HardeningExists
+pub mod ImagesExist
 pub mod ImagesTotal
 pub mod JudgedPrograms
 pub mod LabelLemmas
