@@ -40,8 +40,11 @@ hardening_total parts given refused made =
 
 -- ---- modules in files
 
+dropped : (n : ℕ) (xs : List ℕ) → length (drop n xs) ≤ length xs
+dropped n xs = omega (arith, length-drop n xs)
+
 name_short : (word : List ℕ) → length (module_name word) ≤ length word
-name_short word = of_test (after_last (nat_eq 47) word) (omega (arith, length-drop _ word)) (bytes_eq (drop (length (after_last (nat_eq 47) word) - 5) (after_last (nat_eq 47) word)) (codes ".wasm"))
+name_short word = of_test (after_last (nat_eq 47) word) (dropped _ word) (bytes_eq (drop (length (after_last (nat_eq 47) word) - 5) (after_last (nat_eq 47) word)) (codes ".wasm"))
   where
     of_test : (name : List ℕ) → length name ≤ length word → (ends : Bool) → length (cond ends (take (length name - 5) name) name) ≤ length word
     of_test name short true = omega (arith, short, length-take (length name - 5) name)

@@ -41,7 +41,7 @@ pub fn jobs_are_total()
     ensures verify { (request : VerifyRequest) → IsTotal (job_of (verify request)) }
     ensures lower { (request : LowerRequest) → AreNamedApart request.modules → AreTexts request.modules → IsTotal (job_of (lower request)) }
     ensures harden { (request : HardenRequest) → AreNamedApart request.modules → AreTexts request.modules → IsTotal (job_of (harden request)) }
-    ensures gen { (request : GenRequest) → IsGenInRange request → IsTotal (job_of (gen request)) }
+    ensures made { (request : GenRequest) → IsGenInRange request → IsTotal (job_of (gen request)) }
 {}
 
 /// At most one refusal of a request is the first.

@@ -27,5 +27,5 @@ returns-clause-lower c = λ request has texts. with_modules_total request.module
 pub returns-clause-harden : goal.returns-clause-harden
 returns-clause-harden c = λ request has texts. with_modules_total request.modules (harden_job request) (λ few. harden_total request few has texts)
 
-pub returns-clause-gen : goal.returns-clause-gen
-returns-clause-gen c = gen_total
+pub returns-clause-made : goal.returns-clause-made
+returns-clause-made c = gen_total
