@@ -15,6 +15,7 @@ pub mod LoadSteps
 pub mod LoadingLemmas
 pub mod LoadingTotal
 pub mod MarkedImages
+pub mod ModuleFiles
 pub mod ModulesTotal
 pub mod OneVerdict
 pub mod OpeningLemmas
