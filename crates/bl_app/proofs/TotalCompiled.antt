@@ -1,8 +1,7 @@
 -- The jobs of `lower`, `harden` and `gen`: of contents that are there something is refused, or something may be done.
-use Rattle.std.proofs.Common.{◌-◌, ◌^◌, ◌<◌, ◌≤◌, [], ◌∷◌, length, codes, refl, arith}
+use Rattle.std.proofs.Common.{◌≤◌, [], ◌∷◌, length, codes, refl, arith}
 use Rattle.std.proofs.lemmas.List.Elements.{All-cons, All-nil}
 use Rattle.std.proofs.lemmas.Option.{slice_get_within}
-use Rattle.bl_base.specs.Fits.{AreBytes}
 use Rattle.bl_base.specs.Quantity.{limit_of}
 use Rattle.bl_base.specs.declared.quantity.Quantity.TheVariants as quantity
 use Rattle.bl_gen.proofs.Lengths.{made_short}
@@ -10,9 +9,9 @@ use Rattle.bl_gen.proofs.OfBytes.{of_bytes}
 use Rattle.bl_words.proofs.ModuleNames.{no_solidus}
 use Rattle.bl_words.specs.Requests.{AreNamedApart, GenRequest, HardenRequest, IsGenInRange, LowerRequest}
 use Rattle.bl_build.specs.Building.{AreCompilable}
-use Rattle.bl_build.specs.Loading.{IsLoadable, Part, parts_of}
+use Rattle.bl_build.specs.Loading.{IsLoadable, parts_of}
 use Rattle.bl_build.proofs.BuildLemmas.{compiling_total}
-use Rattle.bl_build.proofs.ModuleFiles.{are_compilable, hardening_total}
+use Rattle.bl_build.proofs.ModuleFiles.{HasBytes, IsShort, are_compilable, hardening_total}
 use Rattle.bl_app.proofs.HardenLemmas.{short_modules}
 use Rattle.bl_app.specs.Compiling.{AreTexts}
 use Rattle.bl_app.specs.Generating.{gen_job, gen_text, made_part}
@@ -36,12 +35,6 @@ harden_total request few apart texts = record {
 }
 
 -- ---- a module that is made
-
-abbrev IsShort : Part → Type 0
-IsShort part = length part.name < 2 ^ 63
-
-abbrev HasBytes : Part → Type 0
-HasBytes part = AreBytes part.bytes
 
 module _ (request : GenRequest) (sized : IsGenInRange request) where
   made_compilable : AreCompilable (made_part request ∷ [])

@@ -1,9 +1,7 @@
 -- The job of `interp` answers all contents that are there; so do the jobs of the commands on images, however many modules are asked for.
-use Rattle.std.proofs.Common.{◌≡◌, ℕ, ◌≤◌, Bool, true, false, List, [], ◌∷◌, length, inl, inr, refl, sym, ◌∙◌}
-use Rattle.std.specs.Prelude.{nat_le}
+use Rattle.std.proofs.Common.{◌≡◌, ℕ, ◌≤◌, Bool, true, false, List, [], ◌∷◌, length, inl, inr, refl, sym, ◌∙◌, nat_le}
 use Rattle.std.proofs.lemmas.Bool.{cases_lt, false≢true, lt-leb}
 use Rattle.std.proofs.lemmas.List.Elements.{All-tail}
-use Rattle.bl_base.specs.Fits.{AreBytes}
 use Rattle.bl_base.specs.Quantity.{limit_of}
 use Rattle.bl_base.specs.declared.quantity.Quantity.TheVariants as quantity
 use Rattle.bl_reduce.specs.Outcomes.{source}
@@ -11,16 +9,13 @@ use Rattle.bl_words.specs.Requests.{AreNamedApart, InterpRequest}
 use Rattle.bl_build.specs.Loading.{parts_of}
 use Rattle.bl_build.specs.Refusals.{Refusal, limit}
 use Rattle.bl_build.proofs.LoadingTotal.{preparing_total}
-use Rattle.bl_build.proofs.ModuleFiles.{are_loadable}
+use Rattle.bl_build.proofs.ModuleFiles.{Bytes, are_loadable}
 use Rattle.bl_app.proofs.HardenLemmas.{short_modules}
 use Rattle.bl_app.specs.Counting.{job_if, with_modules}
 use Rattle.bl_app.specs.Interpreting.{InterpDoes, InterpRefuses, interp_job, printed_of}
 use Rattle.bl_app.specs.Jobs.{AreThere, IsTotal, Job, Plan, saying}
 use Rattle.bl_app.specs.Outcomes.{outcome_status}
 use Rattle.bl_app.proofs.TotalRuns.{some_within}
-
-abbrev Bytes : List ℕ → Type 0
-Bytes bytes = AreBytes bytes
 
 -- ---- `interp`
 

@@ -1,6 +1,5 @@
 -- The work of `verify`, by its stages.
-use Rattle.std.proofs.Common.{List, [], ◌∷◌, refl, ℕ}
-use Rattle.std.specs.Prelude.{Err}
+use Rattle.std.proofs.Common.{List, [], ◌∷◌, refl, ℕ, Err}
 use Rattle.bl_cmd.specs.declared.definitions.ProgramParts.{ProgramParts as Program}
 use Rattle.bl_words.specs.Requests.{VerifyRequest}
 use Rattle.bl_build.specs.Entering.{IsImaged, imaging}

@@ -21,10 +21,10 @@ use Rattle.bl_build.proofs.HardeningExists.{some_hardened}
 
 -- ---- modules in files can be loaded
 
-abbrev Bytes : List ℕ → Type 0
+abbrev pub Bytes : List ℕ → Type 0
 Bytes bytes = AreBytes bytes
 
-abbrev HasBytes : Part → Type 0
+abbrev pub HasBytes : Part → Type 0
 HasBytes part = AreBytes part.bytes
 
 each_named : (words contents : List (List ℕ)) → AreShort words contents → All IsLoadable (parts_of words contents)
@@ -76,7 +76,7 @@ name_short word = of_test (after_last (nat_eq 47) word) (dropped _ word) (bytes_
     of_test name short true = omega (arith, short, length-take (length name - 5) name)
     of_test name short false = short
 
-abbrev IsShort : Part → Type 0
+abbrev pub IsShort : Part → Type 0
 IsShort part = length part.name < 2 ^ 63
 
 abbrev IsText : List ℕ → Type 0
