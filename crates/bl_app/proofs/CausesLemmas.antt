@@ -1,6 +1,5 @@
 -- Why each status comes.
-use Rattle.std.proofs.Common.{◌≡◌, ℕ, List, Option, Some, None, ap, ◌∙◌, subst, inl, inr}
-use Rattle.std.specs.Prelude.{◌⊎◌}
+use Rattle.std.proofs.Common.{◌≡◌, ℕ, List, Option, Some, None, ap, ◌∙◌, subst, inl, inr, ◌⊎◌}
 use Rattle.bl_outside.specs.Shelf.{Files}
 use Rattle.bl_app.specs.Causes.{Causes, IsDone, NoFault, NoneRose, UnlessFault}
 use Rattle.bl_app.specs.Ends.{Ends}

@@ -1,6 +1,5 @@
 -- The jobs of all commands keep the laws; no status answers all calls.
-use Rattle.std.proofs.Common.{◌≡◌, ℕ, List, Some, None, refl, inl, inr, arith}
-use Rattle.std.specs.Prelude.{◌⊎◌}
+use Rattle.std.proofs.Common.{◌≡◌, ℕ, List, Some, None, refl, inl, inr, arith, ◌⊎◌}
 use Rattle.bl_outside.specs.Shelf.{Files}
 use Rattle.bl_app.specs.Causes.{Causes, NoneRose}
 use Rattle.bl_words.proofs.WordsLemmas.{gen_in_range}

@@ -52,9 +52,6 @@ pub record FetchedSo (reads : List Read) (old now : World) (contents : List (Lis
   pub unchanged : Unchanged old now
   pub read : AreRead old.files reads contents
 
-pub fetched_none : (old : World) → FetchedSo [] old old []
-fetched_none old = record { unchanged = record { files = refl; faults = refl; sink = refl }; read = tt }
-
 module _ (before : List Read) (read : Read) (old now new : World) (contents : List (List ℕ)) (so : FetchedSo before old now contents) where
   pub fetched_more : (bytes : List ℕ) → Unchanged now new → AreRead now.files (read ∷ []) (bytes ∷ []) → FetchedSo (before ++ read ∷ []) old new (contents ++ bytes ∷ [])
   fetched_more bytes u r =

@@ -1,6 +1,5 @@
 -- A file, of which the first bytes were fetched.
-use Rattle.std.proofs.Common.{◌≡◌, ℕ, ◌+◌, ◌<◌, ◌≤◌, List, length, take, Option, Some, None, refl, sym, ap, ◌∙◌, arith}
-use Rattle.std.specs.Option.{option_map}
+use Rattle.std.proofs.Common.{◌≡◌, ℕ, ◌+◌, ◌<◌, ◌≤◌, List, length, take, Option, Some, None, refl, sym, ap, ◌∙◌, arith, option_map}
 use Rattle.std.specs.FinMap as fin
 use Rattle.std.proofs.lemmas.List.{take_all, length-take}
 use Rattle.bl_base.specs.Quantity.{limit_of}

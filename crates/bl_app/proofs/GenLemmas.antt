@@ -1,5 +1,5 @@
 -- The job of `gen` keeps the laws; what is said where it is done.
-use Rattle.std.proofs.Common.{◌≡◌, Option, Some, ap, sym, ◌∙◌, subst, map}
+use Rattle.std.proofs.Common.{◌≡◌, Option, Some, ap, sym, ◌∙◌, subst, map, [], ◌∷◌}
 use Rattle.bl_cmd.specs.Rules.{IsWellFormed}
 use Rattle.bl_image.specs.Image.{Image}
 use Rattle.bl_lower.proofs.WellFormed.{rules}
@@ -8,7 +8,6 @@ use Rattle.bl_app.specs.Causes.{IsDone}
 use Rattle.bl_app.specs.Commands.{job_of}
 use Rattle.bl_app.specs.Generating.{GenDoes, Generates, gen_job, made_part}
 use Rattle.bl_app.specs.Jobs.{IsLawful}
-use Rattle.std.specs.Prelude.{[], ◌∷◌}
 use Rattle.bl_app.specs.Status.{kind_of}
 use Rattle.bl_app.specs.Worlds.{World, took, with_files}
 use Rattle.bl_app.specs.declared.status.Status.{Status}

@@ -1,7 +1,6 @@
 -- The definitions on words, and on one worked module: a function that adds 1 to its parameter.
-use Rattle.std.proofs.Common.{◌≡◌, [], ◌∷◌, ◌++◌, refl}
+use Rattle.std.proofs.Common.{◌≡◌, [], ◌∷◌, ◌++◌, refl, codes, Some, None}
 use Rattle.std.specs.Fmt.{digits}
-use Rattle.std.specs.Prelude.{codes, Some, None}
 use Rattle.bl_lower.specs.Trees.{low_tree}
 use Rattle.bl_words.specs.Requests.{harden, lower, module_name, request_of}
 use Rattle.bl_app.specs.Texts.{commands_text}

@@ -1,6 +1,5 @@
 -- The work of `run`, by its stages.
-use Rattle.std.proofs.Common.{◌≡◌, List, [], ◌∷◌, None, refl, ℕ}
-use Rattle.std.specs.Prelude.{Ok, Err}
+use Rattle.std.proofs.Common.{◌≡◌, List, [], ◌∷◌, None, refl, ℕ, Ok, Err}
 use Rattle.bl_base.specs.declared.start.Start.{Start}
 use Rattle.bl_cmd.specs.declared.definitions.ProgramParts.{ProgramParts as Program}
 use Rattle.bl_build.specs.Entering.{Entry, Finds, IsImaged, Starts, function_named, imaging, starting}

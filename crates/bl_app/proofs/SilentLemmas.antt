@@ -1,6 +1,5 @@
 -- Protects don't show in a run of an image.
-use Rattle.std.proofs.Common.{◌≡◌, ℕ, List, [], ◌∷◌, map, Option, Some, None, slice_get, refl, sym, ap, ◌∙◌, subst}
-use Rattle.std.specs.Prelude.{◌↔◌}
+use Rattle.std.proofs.Common.{◌≡◌, ℕ, List, [], ◌∷◌, map, Option, Some, None, slice_get, refl, sym, ap, ◌∙◌, subst, ◌↔◌}
 use Rattle.std.specs.List.{fold}
 use Rattle.bl_base.specs.Bytes.{patched}
 use Rattle.bl_base.specs.Runs.{IsWithin, Outcome}

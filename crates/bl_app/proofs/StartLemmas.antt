@@ -1,6 +1,5 @@
 -- The work of `interp`, by its stages.
-use Rattle.std.proofs.Common.{ℕ, List, ◌∷◌}
-use Rattle.std.specs.Prelude.{Result, Ok, Err}
+use Rattle.std.proofs.Common.{ℕ, List, ◌∷◌, Result, Ok, Err}
 use Rattle.bl_wasm.specs.declared.linked.Tree.{Tree}
 use Rattle.bl_app.specs.Interpreting.{interp_job}
 use Rattle.bl_build.specs.Loading.{loading, parts_of}

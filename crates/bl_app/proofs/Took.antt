@@ -24,10 +24,6 @@ pub push_took : (n : ℕ) (t : Option (List ℕ)) (piece : List ℕ) → after_p
 push_took n None piece = refl
 push_took n (Some bytes) piece = refl
 
-pub fault_took : (e : SinkFault) (t : Option (List ℕ)) (piece : List ℕ) → after_push (Err e) t piece ≡ t
-fault_took e None piece = refl
-fault_took e (Some bytes) piece = refl
-
 -- a piece that was taken from a place on
 pub push_further : (done n : ℕ) (t u : Option (List ℕ)) (text : List ℕ) → u ≡ took t (take done text) → after_push (Ok n) u (drop done text) ≡ took t (take (done + n) text)
 push_further done n t u text e =
@@ -62,10 +58,6 @@ cut_second a b s t u first second = record {
   rose = subst (λ n. Rose n u.faults) first.faults second.rose;
   not_fell = subst (λ n. n ≤ u.faults) first.faults second.not_fell;
 }
-
--- nothing of a text was taken
-pub cut_none : (text : List ℕ) (s t : Stream) → t.taken ≡ s.taken → Rose s.faults t.faults → s.faults ≤ t.faults → Cut text s t
-cut_none text s t same rose not_fell = record { count = 0; within = omega arith; taken = same ∙ sym (took_nothing s.taken); rose = rose; not_fell = not_fell }
 
 -- a call that failed, and cut the text
 pub cut_pushes : (r : Result (Unit {0}) SinkFault) (text : List ℕ) (s t : Stream) → IsErr r → Cut text s t → Pushes r text s t

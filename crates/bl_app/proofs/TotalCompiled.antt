@@ -1,39 +1,56 @@
--- The jobs of `lower` and `harden`: of contents that are there of modules whose program has an image something is refused or may be done.
-use Rattle.std.proofs.Common.{◌≡◌, ℕ, ◌≤◌, List, [], ◌∷◌, length, refl, sym, subst}
+-- The jobs of `lower`, `harden` and `gen`: of contents that are there something is refused, or something may be done.
+use Rattle.std.proofs.Common.{◌≤◌, [], ◌∷◌, length, codes, refl, arith}
+use Rattle.std.proofs.lemmas.List.Elements.{All-cons, All-nil}
+use Rattle.std.proofs.lemmas.Option.{slice_get_within}
 use Rattle.bl_base.specs.Quantity.{limit_of}
 use Rattle.bl_base.specs.declared.quantity.Quantity.TheVariants as quantity
-use Rattle.bl_cmd.specs.Rules.{IsWellFormed}
-use Rattle.bl_image.specs.Image.{Image}
-use Rattle.bl_lower.proofs.WellFormed.{rules}
-use Rattle.bl_words.specs.Requests.{AreNamedApart, HardenRequest, LowerRequest}
-use Rattle.bl_build.specs.Building.{Built, compiling}
-use Rattle.bl_build.specs.Loading.{Part, parts_of}
+use Rattle.bl_gen.proofs.Lengths.{made_short}
+use Rattle.bl_gen.proofs.OfBytes.{of_bytes}
+use Rattle.bl_words.proofs.ModuleNames.{no_solidus}
+use Rattle.bl_words.specs.Requests.{AreNamedApart, GenRequest, HardenRequest, IsGenInRange, LowerRequest}
+use Rattle.bl_build.specs.Building.{AreCompilable}
+use Rattle.bl_build.specs.Loading.{IsLoadable, parts_of}
 use Rattle.bl_build.proofs.BuildLemmas.{compiling_total}
-use Rattle.bl_build.proofs.HardeningExists.{some_hardened}
-use Rattle.bl_app.specs.Compiling.{IsTotalImaged, compiling_job}
-use Rattle.bl_app.specs.Hardening.{HardenPlans, harden_job, harden_plan}
-use Rattle.bl_app.specs.Jobs.{Plan}
+use Rattle.bl_build.proofs.ModuleFiles.{HasBytes, IsShort, are_compilable, hardening_total}
+use Rattle.bl_app.proofs.HardenLemmas.{short_modules}
+use Rattle.bl_app.specs.Compiling.{AreTexts}
+use Rattle.bl_app.specs.Generating.{gen_job, gen_text, made_part}
+use Rattle.bl_app.specs.Hardening.{harden_job, harden_plan}
+use Rattle.bl_app.specs.Jobs.{IsTotal, saying}
 use Rattle.bl_app.specs.Lowering.{lower_job, lower_plan}
-use Rattle.bl_app.proofs.TotalJobs.{are_loadable}
+use Rattle.bl_app.specs.declared.status.Status.TheVariants.{Done}
 
-module _ (words : List (List ℕ)) (few : length words ≤ limit_of quantity.Modules) (apart : AreNamedApart words) where
-  -- where it can't be that nothing is planned for a program that is made of modules
-  planned : (keeps : List (List ℕ)) (Plans : Built → Plan → Type 0) → ((parts : List Part) (built : Built) → compiling.Passes parts built → ((plan : Plan) → Plans built plan → ⊥) → ⊥)
-      → IsTotalImaged words (compiling_job words keeps Plans)
-  planned keeps Plans some = record {
-    always = λ contents there imaged refused made.
-        compiling_total.always (parts_of words contents) (record { loadable = are_loadable words contents few apart there.read there.bytes; imaged = imaged })
-        (λ built compiled. some (parts_of words contents) built compiled (λ plan plans. made plan (record { built = built; compiled = compiled; plans = plans }))) refused;
+pub lower_total : (request : LowerRequest) → length request.modules ≤ limit_of quantity.Modules → AreNamedApart request.modules → AreTexts request.modules → IsTotal (lower_job request)
+lower_total request few apart texts = record {
+  always = λ contents there refused made.
+      compiling_total.always (parts_of request.modules contents) (are_compilable request.modules contents few apart texts (short_modules request.modules contents there.read) there.bytes)
+      (λ built compiled. made (lower_plan request built) (record { built = built; compiled = compiled; plans = refl })) refused;
+}
+
+pub harden_total : (request : HardenRequest) → length request.modules ≤ limit_of quantity.Modules → AreNamedApart request.modules → AreTexts request.modules → IsTotal (harden_job request)
+harden_total request few apart texts = record {
+  always = λ contents there refused made.
+      hardening_total (parts_of request.modules contents) (are_compilable request.modules contents few apart texts (short_modules request.modules contents there.read) there.bytes) refused
+      (λ built one compiled is. made (harden_plan request one) (record { built = built; compiled = compiled; plans = record { hardened = one; is_hardened = is; is_plan = refl } }));
+}
+
+-- ---- a module that is made
+
+module _ (request : GenRequest) (sized : IsGenInRange request) where
+  made_compilable : AreCompilable (made_part request ∷ [])
+  made_compilable = record {
+    loadable = record {
+      few = omega arith;
+      each = All-cons IsLoadable (made_part request) [] (no_solidus (codes "gen"), made_short request.seed request.size sized.size_is_within) (All-nil IsLoadable);
+      distinct = λ i j a b e f same. omega (arith, slice_get_within (made_part request ∷ []) i a e, slice_get_within (made_part request ∷ []) j b f);
+      bytes = All-cons HasBytes (made_part request) [] (of_bytes request.seed request.size) (All-nil HasBytes);
+    };
+    names = All-cons IsShort (made_part request) [] (omega arith) (All-nil IsShort);
   }
 
-pub lower_total : (request : LowerRequest) → length request.modules ≤ limit_of quantity.Modules → AreNamedApart request.modules → IsTotalImaged request.modules (lower_job request)
-lower_total request few apart =
-    planned request.modules few apart (request.image ∷ []) (λ built plan. plan ≡ lower_plan request built) (λ parts built compiled none. none (lower_plan request built) refl)
-
-pub harden_total : (request : HardenRequest) → length request.modules ≤ limit_of quantity.Modules → AreNamedApart request.modules → IsTotalImaged request.modules (harden_job request)
-harden_total request few apart =
-    planned request.modules few apart (request.certificate ∷ request.image ∷ []) (HardenPlans request) (λ parts built compiled none.
-    let builds = compiled.2 in
-    let own = subst (λ p. Image p built.image) (sym builds.is_program) builds.image in
-    let wells = subst IsWellFormed (sym builds.is_program) (rules compiled.0 compiled.1.2.2.2.can_run builds.few) in
-    some_hardened built.program built.image wells own (λ hardened is. none (harden_plan request hardened) (record { hardened = hardened; is_hardened = is; is_plan = refl })))
+  pub gen_total : IsTotal (gen_job request)
+  gen_total = record {
+    always = λ contents there refused made.
+        hardening_total (made_part request ∷ []) made_compilable refused
+        (λ built one compiled is. made (saying Done (gen_text request one)) (record { built = built; compiled = compiled; hardened = one; is_hardened = is; is_plan = refl }));
+  }

@@ -1,13 +1,8 @@
 -- The contents of one file, of two, and of one and the rest.
-use Rattle.std.proofs.Common.{◌≡◌, ℕ, ◌-◌, ◌<◌, ◌≤◌, List, [], ◌∷◌, length, get_or, take, drop, ap, sym, arith}
+use Rattle.std.proofs.Common.{◌≡◌, ℕ, ◌-◌, ◌<◌, ◌≤◌, List, [], ◌∷◌, length, get_or, take, drop, sym, arith}
 use Rattle.std.specs.Prelude.{Vec}
 use Rattle.std.proofs.lemmas.List.{take_all}
 use Rattle.std.specs.declared.alloc.Global.{Global}
-
-pub one_content : (contents : List (Vec ℕ Global)) (item : Vec ℕ Global) → 1 ≤ length contents → length contents < 2 → item ≡ get_or contents 0 item → contents ≡ item ∷ []
-one_content [] item low high is = absurd (omega (arith, low))
-one_content (x ∷ []) item low high is = ap (λ y. y ∷ []) (sym is)
-one_content (x ∷ y ∷ contents) item low high is = absurd (omega (arith, high))
 
 pub two_contents : (contents : List (Vec ℕ Global)) (first second : Vec ℕ Global) → 2 ≤ length contents → length contents < 3 → first ≡ get_or contents 0 first → second ≡ get_or contents 1 second
     → contents ≡ first ∷ second ∷ []

@@ -1,11 +1,10 @@
 -- Jobs on the program of modules: their files are read and compiled, and something is planned for what comes of them.
-use Rattle.std.specs.Prelude.{ℕ, List, map}
+use Rattle.std.specs.Prelude.{ℕ, ◌^◌, ◌<◌, List, length, map}
+use Rattle.std.specs.List.{All}
 use Rattle.bl_base.specs.declared.quantity.Quantity.TheVariants as quantity
-use Rattle.bl_wasm.specs.declared.linked.Tree.{Tree}
-use Rattle.bl_app.specs.Jobs.{AreThere, Read, Job, Plan}
-use Rattle.bl_build.specs.Loading.{loading, parts_of}
-use Rattle.bl_build.specs.Building.{Built, HasImage, compiling}
-use Rattle.bl_build.specs.Refusals.{Refusal}
+use Rattle.bl_app.specs.Jobs.{Read, Job, Plan}
+use Rattle.bl_build.specs.Loading.{parts_of}
+use Rattle.bl_build.specs.Building.{Built, compiling}
 
 -- the file of a module
 abbrev pub module_read : List ℕ → Read
@@ -27,9 +26,6 @@ compiling_job words keeps Plans = record {
   Does = Makes words Plans;
 }
 
--- of contents that are there of modules whose program has an image something is refused, or something may be done: it can't be that
--- neither is so
-pub record IsTotalImaged (words : List (List ℕ)) (job : Job) : Type 0 where
-  pub always : (contents : List (List ℕ)) → AreThere job.reads contents
-      → ((tree : Tree) → loading.Passes (parts_of words contents) tree → HasImage tree)
-      → ((refusal : Refusal) → job.Against contents refusal → ⊥) → ((plan : Plan) → job.Does contents plan → ⊥) → ⊥
+-- words of a call are texts, so the bytes of each are fewer than 2^63
+abbrev pub AreTexts : List (List ℕ) → Type 0
+AreTexts words = All (λ word. length word < 2 ^ 63) words

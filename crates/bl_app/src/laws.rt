@@ -1,14 +1,12 @@
 //! Laws of the definitions. Each function is its contract alone.
-ghost use Rattle.std.specs.Prelude.{◌≡◌, ◌↔◌, ◌⊎◌, ◌≤◌, ℕ, ◌*◌, length, List as Listed, [], ◌∷◌, None, Some, slice_get};
-ghost use Rattle.bl_base.specs.Quantity.{limit_of};
-ghost use Rattle.bl_base.specs.declared.quantity.Quantity.TheVariants as quantity;
+ghost use Rattle.std.specs.Prelude.{◌≡◌, ◌↔◌, ◌⊎◌, ℕ, ◌*◌, List as Listed, [], ◌∷◌, None, Some, slice_get};
 ghost use Rattle.bl_outside.specs.Shelf.{Files};
 ghost use Rattle.bl_wasm.specs.Linked.{IsLinked};
 ghost use Rattle.bl_wasm.specs.declared.linked.Tree.{Tree};
 ghost use Rattle.bl_lower.specs.Trees.{step_bound};
 ghost use Rattle.bl_report.specs.Verdicts.{safe_line};
 ghost use Rattle.bl_build.specs.Building.{AreCompiled, Builds, Built};
-ghost use Rattle.bl_app.specs.Compiling.{IsTotalImaged, Makes};
+ghost use Rattle.bl_app.specs.Compiling.{AreTexts, Makes};
 ghost use Rattle.bl_app.specs.Causes.{Causes, NoneRose};
 ghost use Rattle.bl_app.specs.Commands.{job_of};
 ghost use Rattle.bl_app.specs.Executing.{RunDoes};
@@ -18,7 +16,7 @@ ghost use Rattle.bl_app.specs.Interpreting.{InterpDoes};
 ghost use Rattle.bl_app.specs.Jobs.{AreRead, FirstRefusal, IsLawful, IsTotal, Plan};
 ghost use Rattle.bl_app.specs.Lowering.{lower_job};
 ghost use Rattle.bl_build.specs.Refusals.{Refusal};
-ghost use Rattle.bl_words.specs.Requests.{AreNamedApart, HardenRequest, InterpRequest, LowerRequest, Request, RunRequest, SpecRequest, TwinRequest, VerifyRequest, harden, interp, lower, run as run_image, spec, twin, verify};
+ghost use Rattle.bl_words.specs.Requests.{AreNamedApart, GenRequest, HardenRequest, InterpRequest, IsGenInRange, LowerRequest, Request, RunRequest, SpecRequest, TwinRequest, VerifyRequest, gen, harden, interp, lower, run as run_image, spec, twin, verify};
 ghost use Rattle.bl_app.specs.Speculating.{SpecDoes};
 ghost use Rattle.bl_app.specs.Twinning.{TwinDoes};
 ghost use Rattle.bl_app.specs.Verifying.{VerifyDoes};
@@ -32,19 +30,18 @@ pub fn jobs_are_lawful()
     ensures { (request : Request) → IsLawful (job_of request) }
 {}
 
-/// The jobs of these requests: of contents that are there something is refused, or something may be done. It can't be that neither is so.
+/// The job of each request: of contents that are there something is refused, or something may be done. It can't be that neither is so.
+/// Of a request with modules this is said where they are named apart, as they are in each that words ask for; of those whose program
+/// is written to an image where the words are texts, as the words of each call are; and of a module that is made where its size is in range.
 pub fn jobs_are_total()
     ensures interp { (request : InterpRequest) → AreNamedApart request.modules → IsTotal (job_of (interp request)) }
     ensures run { (request : RunRequest) → IsTotal (job_of (run_image request)) }
     ensures spec { (request : SpecRequest) → IsTotal (job_of (spec request)) }
     ensures twin { (request : TwinRequest) → IsTotal (job_of (twin request)) }
     ensures verify { (request : VerifyRequest) → IsTotal (job_of (verify request)) }
-{}
-
-/// The same of `lower` and `harden` where the modules' program has an image.
-pub fn compiled_jobs_are_total()
-    ensures lower { (request : LowerRequest) → length request.modules ≤ limit_of quantity.Modules → AreNamedApart request.modules → IsTotalImaged request.modules (lower_job request) }
-    ensures harden { (request : HardenRequest) → length request.modules ≤ limit_of quantity.Modules → AreNamedApart request.modules → IsTotalImaged request.modules (harden_job request) }
+    ensures lower { (request : LowerRequest) → AreNamedApart request.modules → AreTexts request.modules → IsTotal (job_of (lower request)) }
+    ensures harden { (request : HardenRequest) → AreNamedApart request.modules → AreTexts request.modules → IsTotal (job_of (harden request)) }
+    ensures made { (request : GenRequest) → IsGenInRange request → IsTotal (job_of (gen request)) }
 {}
 
 /// At most one refusal of a request is the first.

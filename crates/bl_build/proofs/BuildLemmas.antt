@@ -17,7 +17,7 @@ use Rattle.bl_image.specs.Image.{Image}
 use Rattle.bl_image.proofs.Prefixes.{one_image}
 use Rattle.bl_lower.specs.Trees.{low_tree}
 use Rattle.bl_lower.proofs.Opening.{ends_after, plain_ended}
-use Rattle.bl_build.specs.Building.{AreCompilable, AreCompiled, Builds, BuildingRefuses, Built, HasImage, building, command_count, compiling, long_image, many_commands}
+use Rattle.bl_build.specs.Building.{AreCompilable, AreCompiled, Builds, BuildingRefuses, Built, building, command_count, compiling, long_image, many_commands}
 use Rattle.bl_build.specs.Loading.{Part, loading, parts_of}
 use Rattle.bl_build.specs.Meaning.{SameOutcomes}
 use Rattle.bl_build.specs.Refusals.{Refusal, limit}
@@ -26,6 +26,7 @@ use Rattle.bl_build.specs.Working.{IsStaged, built_in}
 use Rattle.bl_build.specs.declared.build.Built.{Built as BuiltMade}
 use Rattle.bl_build.specs.declared.refusal.WorkError.{WorkError}
 use Rattle.bl_build.specs.declared.refusal.WorkError.TheVariants as error
+use Rattle.bl_build.proofs.ImagesExist.{IsOfParts, has_image, of_parts}
 use Rattle.bl_build.proofs.LoadingLemmas.{loading_lawful}
 use Rattle.bl_build.proofs.LoadingTotal.{loading_total}
 use Rattle.bl_build.proofs.ModulesTotal.{chain_total}
@@ -57,16 +58,18 @@ module _ (tree : Tree) where
 building_lawful : IsLawfulStage building
 building_lawful = record { one_result = one_built; one_refusal = build_refusal; not_both = build_not_both }
 
--- a tree whose program has an image is built, or refused
-building_total : IsTotalStage HasImage building
+-- a tree that is linked of few parts is built, or refused
+building_total : IsTotalStage IsOfParts building
 building_total = record {
   always = λ tree given made refused.
       elim (cases_lt (limit_of quantity.Commands) (command_count tree)) as (λ _. ⊥) [
         | inl over ↦ refused (limit quantity.Commands (min (command_count tree) (2 ^ 64 - 1))) (many_commands over refl)
-        | inr few ↦ elim (cases_lt (limit_of quantity.Image) (length given.bytes)) as (λ _. ⊥) [
-          | inl long ↦ refused (limit quantity.Image (length given.bytes)) (long_image given.bytes few given.image long refl)
-          | inr short ↦ made (record { program = low_tree tree; image = given.bytes }) (record { is_program = refl; few = few; image = given.image; short = short })
-        ]
+        | inr few ↦
+            let own = has_image tree given few in
+            elim (cases_lt (limit_of quantity.Image) (length own.0)) as (λ _. ⊥) [
+              | inl long ↦ refused (limit quantity.Image (length own.0)) (long_image own.0 few own.1 long refl)
+              | inr short ↦ made (record { program = low_tree tree; image = own.0 }) (record { is_program = refl; few = few; image = own.1; short = short })
+            ]
       ];
 }
 
@@ -76,8 +79,7 @@ compiling_lawful = chain_lawful loading building loading_lawful building_lawful
 -- modules are compiled, or refused
 pub compiling_total : IsTotalStage AreCompilable compiling
 compiling_total =
-    chain_total AreCompilable HasImage loading building (record { always = λ parts given made refused. loading_total.always parts given.loadable made refused }) building_total
-    (λ parts tree given loaded. given.imaged tree loaded)
+    chain_total AreCompilable IsOfParts loading building (record { always = λ parts given made refused. loading_total.always parts given.loadable made refused }) building_total of_parts
 
 -- a program that was made of a tree, and its image
 module _ (tree : Tree) (program : Program) (same : program ≡ low_tree tree) (rules : IsWellFormed program) (image : List ℕ) (is : Image program image) where

@@ -1,10 +1,12 @@
 pub mod BuildLemmas
 pub mod CertifyingLemmas
 pub mod Classical
+pub mod Constants
 pub mod EnteringLemmas
 pub mod EntryLemmas
 pub mod FewestLemmas
 pub mod HardeningExists
+pub mod ImagesExist
 pub mod ImagesTotal
 pub mod InvokingLemmas
 pub mod JudgedPrograms
@@ -14,6 +16,7 @@ pub mod LoadSteps
 pub mod LoadingLemmas
 pub mod LoadingTotal
 pub mod MarkedImages
+pub mod ModuleFiles
 pub mod ModulesTotal
 pub mod OneVerdict
 pub mod Readings

@@ -40,10 +40,10 @@ use Rattle.bl_build.proofs.WidthsLemmas.{has_widths}
 
 -- ---- modules that are loaded can be linked
 
-abbrev IsOf : LabelledModule → Part → Type 0
+abbrev pub IsOf : LabelledModule → Part → Type 0
 IsOf one part = IsAccepted part one
 
-turned : (parts : List Part) (all : List LabelledModule) → AllZip IsAccepted parts all → AllZip IsOf all parts
+pub turned : (parts : List Part) (all : List LabelledModule) → AllZip IsAccepted parts all → AllZip IsOf all parts
 turned [] [] h = tt
 turned [] (one ∷ all) h = h
 turned (part ∷ parts) [] h = h
@@ -66,14 +66,14 @@ module _ (one : LabelledModule) (part : Part) (is : IsOf one part) where
   is_sound : AreBytes part.bytes → IsSound (part_of one.name one.tree one.labels)
   is_sound bytes = record { typed = is.1.valid; widths = has_widths one.name part.bytes one.tree one.labels bytes is.1.spelled }
 
-each_one : (P : Part → Type 0) (Q : LinkPart → Type 0) → ((one : LabelledModule) (part : Part) → IsOf one part → P part → Q (part_of one.name one.tree one.labels)) → (all : List LabelledModule) (parts : List Part) → AllZip IsOf all parts → All P parts
+pub each_one : (P : Part → Type 0) (Q : LinkPart → Type 0) → ((one : LabelledModule) (part : Part) → IsOf one part → P part → Q (part_of one.name one.tree one.labels)) → (all : List LabelledModule) (parts : List Part) → AllZip IsOf all parts → All P parts
     → All Q (linked_parts all)
 each_one P Q gives [] parts h holds = All-nil Q
 each_one P Q gives (one ∷ all) [] h holds = absurd h
 each_one P Q gives (one ∷ all) (part ∷ parts) h holds =
     All-cons Q (part_of one.name one.tree one.labels) (linked_parts all) (gives one part h.0 (All-head P part parts holds)) (each_one P Q gives all parts h.1 (All-tail P part parts holds))
 
-as_many : (all : List LabelledModule) (parts : List Part) → AllZip IsOf all parts → length (linked_parts all) ≡ length parts
+pub as_many : (all : List LabelledModule) (parts : List Part) → AllZip IsOf all parts → length (linked_parts all) ≡ length parts
 as_many [] [] h = refl
 as_many [] (part ∷ parts) h = absurd h
 as_many (one ∷ all) [] h = absurd h

@@ -1,5 +1,5 @@
 -- What the spelling of a module in bytes says of its numbers: they are of their widths.
-use Rattle.std.proofs.Common.{◌≡◌, ℕ, ◌-◌, ◌^◌, ◌<◌, List, [], ◌∷◌, ◌++◌, inl, inr, sym, subst, arith}
+use Rattle.std.proofs.Common.{◌≡◌, ℕ, ◌-◌, ◌^◌, ◌<◌, List, [], ◌∷◌, ◌++◌, length, inl, inr, ap, sym, subst, arith}
 use Rattle.std.proofs.lemmas.Int.{ints}
 use Rattle.std.specs.Prelude.{ℤ, pos, negsuc}
 use Rattle.std.specs.List.{All}
@@ -12,7 +12,7 @@ use Rattle.bl_ops.specs.Integer.{unsigned}
 use Rattle.bl_wasm.specs.Instructions.{instruction}
 use Rattle.bl_wasm.specs.Linked.{HasImmediates}
 use Rattle.bl_wasm.specs.Modules.{Spells, ◌▷◌}
-use Rattle.bl_wasm.specs.Sections.{code_entry, data_entry, global_entry, vec_section}
+use Rattle.bl_wasm.specs.Sections.{code_entry, code_section, data_entry, data_section, export_entry, export_section, global_entry, global_section, vec_section}
 use Rattle.bl_leb.specs.Grammar.{Spellings}
 use Rattle.bl_wasm.specs.Values.{each}
 use Rattle.bl_wasm.specs.declared.instruction.Instr.{Instr}
@@ -20,7 +20,7 @@ use Rattle.bl_wasm.specs.declared.instruction.Instr.TheVariants.{Unreachable, No
 use Rattle.bl_wasm.specs.declared.module.CustomSection.{CustomSection}
 use Rattle.bl_wasm.specs.declared.module.Module.{Module}
 use Rattle.bl_labels.specs.declared.labels.Labels.{Labels}
-use Rattle.bl_link.specs.Linkable.{HasWidths}
+use Rattle.bl_link.specs.Linkable.{HasFewExports, HasWidths, IsShortExport}
 use Rattle.bl_link.specs.Links.{part_of}
 
 -- ---- bytes of parts
@@ -113,8 +113,24 @@ stands customs bytes all h =
     let parts = split_bytes s.rest s.second.front s.second.rest s.second.whole tail in
     record { section = s.second.front; spelled = s.second.first; bytes = parts.0; customs = h.after; rest = s.second.rest; behind = s.second.second; left = parts.1 }
 
-pub has_widths : (name bytes : List ℕ) (tree : Module) (labels : Labels) → AreBytes bytes → Spells bytes tree → HasWidths (part_of name tree labels)
-has_widths name bytes tree labels all h =
+-- the section is there
+record Found (Section : Spellings) : Type 0 where
+  section : List ℕ
+  spelled : Section section
+  bytes : AreBytes section
+
+found : {Section : Spellings} {Behind : List CustomSection → Spellings} → Stands Section Behind → Found Section
+found s = record { section = s.section; spelled = s.spelled; bytes = s.bytes }
+
+-- the sections that have such numbers
+record Sections (tree : Module) : Type 0 where
+  globals : Found (global_section tree.globals)
+  exports : Found (export_section tree.exports)
+  codes : Found (code_section tree.bodies)
+  segments : Found (data_section tree.segments)
+
+sections_of : (bytes : List ℕ) (tree : Module) → AreBytes bytes → Spells bytes tree → Sections tree
+sections_of bytes tree all h =
     let start = h.1.second in
     let version = (split_bytes bytes h.1.front h.1.rest h.1.whole all).1 in
     let types = stands tree.customs start.rest (split_bytes h.1.rest start.front start.rest start.whole version).1 start.second in
@@ -128,15 +144,34 @@ has_widths name bytes tree labels all h =
     let elements = stands start_function.customs start_function.rest start_function.left start_function.behind in
     let codes = stands elements.customs elements.rest elements.left elements.behind in
     let segments = stands codes.customs codes.rest codes.left codes.behind in
+    record { globals = found globals; exports = found exports; codes = found codes; segments = found segments }
+
+pub has_widths : (name bytes : List ℕ) (tree : Module) (labels : Labels) → AreBytes bytes → Spells bytes tree → HasWidths (part_of name tree labels)
+has_widths name bytes tree labels all h =
+    let s = sections_of bytes tree all h in
     record {
       bodies = section_all 10 code_entry (λ code. All HasImmediates code.items)
-          (λ code these spelled bytes. let body = spelled.spelled.1.second.1 in items_fit code.items body.front body.first) tree.bodies codes.section codes.spelled codes.bytes;
+          (λ code these spelled bytes. let body = spelled.spelled.1.second.1 in items_fit code.items body.front body.first) tree.bodies s.codes.section s.codes.spelled s.codes.bytes;
       initials = section_all 6 global_entry (λ global. All HasImmediates global.initial)
-          (λ global these spelled bytes. let first = spelled.second.1 in items_fit global.initial first.front first.first) tree.globals globals.section globals.spelled globals.bytes;
+          (λ global these spelled bytes. let first = spelled.second.1 in items_fit global.initial first.front first.first) tree.globals s.globals.section s.globals.spelled s.globals.bytes;
       bytes = section_all 11 data_entry (λ segment. AreBytes segment.bytes)
           (λ segment these spelled bytes.
           let behind = (split_bytes these spelled.front spelled.rest spelled.whole bytes).1 in
           let vector = spelled.second.second in
           let last = (split_bytes spelled.rest spelled.second.front spelled.second.rest spelled.second.whole behind).1 in
-          subst AreBytes vector.second (split_bytes spelled.second.rest vector.front vector.rest vector.whole last).1) tree.segments segments.section segments.spelled segments.bytes;
+          subst AreBytes vector.second (split_bytes spelled.second.rest vector.front vector.rest vector.whole last).1) tree.segments s.segments.section s.segments.spelled s.segments.bytes;
+    }
+
+section_few : {A : Type 0} (id : ℕ) (B : A → Spellings) (xs : List A) (bytes : List ℕ) → vec_section id B xs bytes → length xs < 2 ^ 32
+section_few id B xs bytes (inl h) = let vector = h.second.spelled in bounded 32 vector.front (length xs) vector.first
+section_few id B xs bytes (inr none) = omega (arith, ap length none.0)
+
+-- exports are counted in 32 bits, and so are the bytes of their names
+pub few_exports : (name bytes : List ℕ) (tree : Module) (labels : Labels) → AreBytes bytes → Spells bytes tree → length name < 2 ^ 63 → HasFewExports (part_of name tree labels)
+few_exports name bytes tree labels all h short =
+    let s = (sections_of bytes tree all h).exports in
+    record {
+      name = short;
+      few = section_few 7 export_entry tree.exports s.section s.spelled;
+      names = section_all 7 export_entry IsShortExport (λ entry these spelled bytes. let vector = spelled.first.1 in bounded 32 vector.front (length entry.name) vector.first) tree.exports s.section s.spelled s.bytes;
     }

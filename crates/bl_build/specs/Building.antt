@@ -1,5 +1,6 @@
 -- From the bytes of modules to the image of their program: they are linked, and the linked tree is lowered.
 use Rattle.std.specs.Prelude.{◌≡◌, ℕ, ◌-◌, ◌^◌, ◌<◌, ◌≤◌, List, length, min}
+use Rattle.std.specs.List.{All}
 use Rattle.bl_base.specs.Quantity.{limit_of}
 use Rattle.bl_base.specs.declared.quantity.Quantity.TheVariants as quantity
 use Rattle.bl_wasm.specs.Linked.{IsLinked}
@@ -28,11 +29,6 @@ pub record Builds (tree : Tree) (built : Built) : Type 0 where
   pub image : Image (low_tree tree) built.image
   pub short : length built.image ≤ limit_of quantity.Image
 
--- the program of a tree has an image
-pub record HasImage (tree : Tree) : Type 0 where
-  pub bytes : List ℕ
-  pub image : Image (low_tree tree) bytes
-
 pub data BuildingRefuses (tree : Tree) (refusal : Refusal) : Type 0 where
   -- the program has too many commands; their number is told, or the greatest of 64 bits where it is greater
   many_commands : limit_of quantity.Commands < command_count tree
@@ -50,10 +46,10 @@ building = record { Passes = Builds; Refuses = BuildingRefuses }
 abbrev pub compiling : Stage (List Part) Built
 compiling = chain loading building
 
--- modules that can be loaded, and whose program has an image where they are
+-- modules that can be loaded, and whose names are texts: the bytes of a name of an export are counted in 64 bits
 pub record AreCompilable (parts : List Part) : Type 0 where
   pub loadable : AreLoadable parts
-  pub imaged : (tree : Tree) → loading.Passes parts tree → HasImage tree
+  pub names : All (λ part. length part.name < 2 ^ 63) parts
 
 -- the contents of the files of modules are those of modules that are linked to a tree, which is lowered; the program ends exactly as
 -- the tree does

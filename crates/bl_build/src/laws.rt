@@ -31,7 +31,7 @@ pub fn stages_are_lawful()
 {}
 
 /// Each of these stages makes something of contents, or refuses them: it can't be that neither is so. Of modules this is said where
-/// they can be loaded, of compiling them where their program has an image too, and of the bytes of other files without a condition.
+/// they can be loaded, of compiling them where their names are texts too, and of the bytes of other files without a condition.
 pub fn stages_are_total()
     ensures loading { IsTotalStage AreLoadable loading }
     ensures compiling { IsTotalStage AreCompilable compiling }

@@ -1,6 +1,7 @@
 pub mod Bodies
 pub mod Lengths
 pub mod Numbers
+pub mod OfBytes
 pub mod Pieces
 pub mod Ranges
 pub mod Spelled

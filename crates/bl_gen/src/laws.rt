@@ -1,5 +1,6 @@
 //! Laws of the modules that are made. Each function is its contract alone.
 ghost use Rattle.std.specs.Prelude.{◌≤◌, ◌<◌, ◌^◌, ℕ, Result, length};
+ghost use Rattle.bl_base.specs.Fits.{AreBytes};
 ghost use Rattle.bl_base.specs.Quantity.{limit_of};
 ghost use Rattle.bl_base.specs.declared.quantity.Quantity.TheVariants as quantity;
 ghost use Rattle.bl_leb.specs.Numbers.{IsUnsigned};
@@ -22,6 +23,11 @@ pub fn made_modules_are_accepted()
 /// A module that is made has few enough bytes.
 pub fn made_modules_are_short()
     ensures { (seed size : ℕ) → size ≤ limit_of quantity.Functions → length (made seed size) ≤ limit_of quantity.Module }
+{}
+
+/// A module that is made is of bytes.
+pub fn made_modules_are_of_bytes()
+    ensures { (seed size : ℕ) → AreBytes (made seed size) }
 {}
 
 /// Numbers are in their shortest spellings, at each width that they fit.

@@ -82,7 +82,7 @@ numbered program (Result f i) = sum_before (λ (function : FunctionDef). functio
 numbered program (Global x) = sum_before (λ (function : FunctionDef). function.vars) program.functions (length program.functions) + x
 
 -- what is found stands within
-found_within : {X : Type 0} (xs : List X) (i : ℕ) (P : X → Type 0) → IsSomeAnd (slice_get xs i) P → i < length xs
+pub found_within : {X : Type 0} (xs : List X) (i : ℕ) (P : X → Type 0) → IsSomeAnd (slice_get xs i) P → i < length xs
 found_within [] i P h = absurd h
 found_within (x ∷ xs) zero P h = omega arith
 found_within (x ∷ xs) (suc i) P h = let rest = found_within xs i P h in omega arith
@@ -127,7 +127,7 @@ demand_small program rule (Global x) p =
 -- ---- weights
 
 -- a site is a position of a command
-site_within : (weights : Option ℕ) (commands : List Command) (s : ℕ) → IsSome (option_map (λ (mark : Mark). unwrap_or weights (10 ^ mark.depth)) (option_and_then mark_of (slice_get commands s))) → s < length commands
+pub site_within : (weights : Option ℕ) (commands : List Command) (s : ℕ) → IsSome (option_map (λ (mark : Mark). unwrap_or weights (10 ^ mark.depth)) (option_and_then mark_of (slice_get commands s))) → s < length commands
 site_within weights [] s h = absurd (false≢true h)
 site_within weights (x ∷ xs) zero h = omega arith
 site_within weights (x ∷ xs) (suc s) h = let rest = site_within weights xs s h in omega arith

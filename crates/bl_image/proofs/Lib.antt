@@ -2,6 +2,7 @@ pub mod Adds
 pub mod Begins
 pub mod Cases
 pub mod Chains
+pub mod Exists
 pub mod Fits
 pub mod Images
 pub mod Numbers

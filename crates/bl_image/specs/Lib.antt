@@ -1,4 +1,5 @@
 pub mod Grammar
 pub mod Image
 pub mod Reading
+pub mod Widths
 pub mod Writing

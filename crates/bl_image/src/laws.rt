@@ -1,7 +1,10 @@
 //! Laws of images. Each function is its contract alone.
 ghost use Rattle.std.specs.Prelude.{◌≡◌, ℕ, List, [], ◌++◌};
 ghost use Rattle.bl_cmd.specs.declared.definitions.ProgramParts.{ProgramParts};
+ghost use Rattle.bl_cmd.specs.Programs.{IsProgram};
+ghost use Rattle.bl_cmd.specs.Rules.{IsWellFormed};
 ghost use Rattle.bl_image.specs.Image.{Image};
+ghost use Rattle.bl_image.specs.Widths.{HasWidths};
 
 /// Bytes are the image of at most one program.
 pub fn one_program()
@@ -16,4 +19,9 @@ pub fn one_image()
 /// Images are prefix-free: where one image is a prefix of another, nothing stands behind it.
 pub fn no_prefix()
     ensures { (program other : ProgramParts) (bytes rest : List ℕ) → Image program bytes → Image other (bytes ++ rest) → rest ≡ [] }
+{}
+
+/// Each well-formed program whose numbers are of their widths has an image.
+pub fn programs_have_images()
+    ensures { (program : ProgramParts) → IsProgram program → IsWellFormed program → HasWidths program → (bytes : List ℕ) × Image program bytes }
 {}

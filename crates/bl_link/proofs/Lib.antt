@@ -1,4 +1,5 @@
 pub mod Counted
+pub mod Exports
 pub mod FaultLemmas
 pub mod Linking
 pub mod Matched

@@ -1,5 +1,5 @@
 -- Parts that can be linked: what the callers of linking know of them.
-use Rattle.std.specs.Prelude.{◌≡◌, ℕ, ◌^◌, ◌<◌, ◌≤◌, false, List, length, slice_get, Some, IsTrue}
+use Rattle.std.specs.Prelude.{◌≡◌, ℕ, ◌*◌, ◌^◌, ◌<◌, ◌≤◌, false, List, length, slice_get, Some, IsTrue}
 use Rattle.std.specs.List.{All, zip}
 use Rattle.bl_base.specs.Fits.{AreBytes}
 use Rattle.bl_base.specs.Quantity.{limit_of}
@@ -8,6 +8,7 @@ use Rattle.bl_labels.specs.Marked.{is_listed}
 use Rattle.bl_wasm.specs.Limits.{local_count}
 use Rattle.bl_wasm.specs.Linked.{HasImmediates}
 use Rattle.bl_wasm.specs.Validity.{Typed, functions_of, globals_of}
+use Rattle.bl_wasm.specs.declared.module.Export.{Export}
 use Rattle.bl_link.specs.IndexSpaces.{Part}
 
 -- no byte of a name is a solidus
@@ -45,3 +46,23 @@ pub record HasWidths (part : Part) : Type 0 where
 pub record IsSound (part : Part) : Type 0 where
   pub typed : Typed part.wasm
   pub widths : HasWidths part
+
+-- ---- exports
+
+-- the bytes of the name of an export in the tree are counted in 64 bits
+abbrev pub IsShort : List ℕ × ℕ → Type 0
+IsShort pair = length pair.0 < 2 ^ 64
+
+abbrev pub IsShortExport : Export → Type 0
+IsShortExport entry = length entry.name < 2 ^ 32
+
+-- the name of a part is a text, its exports are counted in 32 bits, and so are the bytes of their names
+pub record HasFewExports (part : Part) : Type 0 where
+  pub name : length part.name < 2 ^ 63
+  pub few : length part.wasm.exports < 2 ^ 32
+  pub names : All IsShortExport part.wasm.exports
+
+-- so few exports has the tree of so many parts
+pub record AreFew (parts : ℕ) (exports : List (List ℕ × ℕ)) : Type 0 where
+  pub few : length exports ≤ parts * 2 ^ 32
+  pub names : All IsShort exports

@@ -1,9 +1,9 @@
 //! Laws of linking. Each function is its contract alone.
-ghost use Rattle.std.specs.Prelude.{◌≡◌, Err, List, Ok};
+ghost use Rattle.std.specs.Prelude.{◌≡◌, Err, List, Ok, length};
 ghost use Rattle.std.specs.List.{All};
 ghost use Rattle.bl_wasm.specs.Linked.{IsLinked};
 ghost use Rattle.bl_wasm.specs.declared.linked.Tree.{Tree};
-ghost use Rattle.bl_link.specs.Linkable.{AreParts, IsSound};
+ghost use Rattle.bl_link.specs.Linkable.{AreFew, AreParts, HasFewExports, IsSound};
 ghost use Rattle.bl_link.specs.Links.{links};
 ghost use Rattle.bl_link.specs.declared.error.LinkError.TheVariants.{Memory};
 ghost use Rattle.bl_link.specs.declared.part.Part.{Part};
@@ -16,4 +16,9 @@ pub fn what_is_linked_can_run()
 /// Want of memory is no fault of parts.
 pub fn memory_is_no_fault()
     ensures { (parts : List Part) → links parts ≡ Err Memory → ⊥ }
+{}
+
+/// The tree of parts with few exports of short names has few exports, and their names are short.
+pub fn exports_are_few()
+    ensures { (parts : List Part) (tree : Tree) → All HasFewExports parts → links parts ≡ Ok tree → AreFew (length parts) tree.exports }
 {}

@@ -1,4 +1,7 @@
 use Rattle.bl_app.specs.Interpreting.{interp_job}
+use Rattle.bl_app.specs.Hardening.{harden_job}
+use Rattle.bl_app.specs.Lowering.{lower_job}
+use Rattle.bl_app.proofs.TotalCompiled.{gen_total, harden_total, lower_total}
 use Rattle.bl_app.proofs.TotalJobs.{interp_total, with_modules_total}
 use Rattle.bl_app.proofs.TotalRuns.{run_total, spec_total, twin_total, verify_total}
 use Rattle.bl_app.proofs.laws.jobs_are_total.Goals as goal
@@ -17,3 +20,12 @@ returns-clause-twin c = twin_total
 
 pub returns-clause-verify : goal.returns-clause-verify
 returns-clause-verify c = verify_total
+
+pub returns-clause-lower : goal.returns-clause-lower
+returns-clause-lower c = λ request has texts. with_modules_total request.modules (lower_job request) (λ few. lower_total request few has texts)
+
+pub returns-clause-harden : goal.returns-clause-harden
+returns-clause-harden c = λ request has texts. with_modules_total request.modules (harden_job request) (λ few. harden_total request few has texts)
+
+pub returns-clause-made : goal.returns-clause-made
+returns-clause-made c = gen_total

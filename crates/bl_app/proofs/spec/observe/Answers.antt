@@ -1,5 +1,4 @@
-use Rattle.std.proofs.Common.{◌≡◌, ◌++◌, ◌∙◌, ap, map}
-use Rattle.std.specs.List.{flat_map}
+use Rattle.std.proofs.Common.{◌≡◌, ◌++◌, ◌∙◌, ap, map, flat_map}
 use Rattle.bl_rob.specs.CallResults.{outcome_in, seen_in, shown}
 use Rattle.bl_rob.specs.Observed.{Observed}
 use Rattle.bl_trace.specs.Observations.{observation_text}

@@ -1,5 +1,4 @@
-use Rattle.std.proofs.Common.{◌≡◌, take}
-use Rattle.std.specs.List.{flat_map}
+use Rattle.std.proofs.Common.{◌≡◌, take, flat_map}
 use Rattle.bl_trace.specs.Observations.{observation_text}
 use Rattle.bl_app.proofs.spec.observed_text.Given as goal
 
