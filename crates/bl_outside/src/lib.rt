@@ -15,6 +15,3 @@ pub use memory_sink::MemorySink;
 pub use shelf::{Shelf, ShelfError};
 pub use sink::{Sink, SinkFault};
 pub use std_sink::StdSink;
-
-#[cfg(test)]
-mod tests;

@@ -1,0 +1,33 @@
+//! The sink in memory, and standard output.
+use bl_base::NoMemory;
+use bl_outside::{MemorySink, Sink, SinkFault, StdSink};
+use std::alloc::Global;
+use std::test::Fail;
+
+/// Whether a sink with that limit takes none of a piece before it has room, and then what its limit leaves.
+fn takes_what_is_left(alloc: Global, limit: u64) -> Result<bool, NoMemory> {
+    let mut sink = MemorySink::new(alloc, Some(limit));
+    let without_room = sink.push(b"a") == Err(SinkFault);
+    sink.reserve(100)?;
+    Ok(
+        without_room
+            && sink.push(b"twelve bytes") == Ok(10)
+            && sink.push(b"es") == Err(SinkFault)
+            && sink.push(b"") == Ok(0)
+            && sink.bytes() == b"twelve byt".as_slice(),
+    )
+}
+
+#[test]
+fn a_memory_sink_takes_what_limit_and_room_leave(rt: HostRuntime) -> Result<(), Fail> {
+    assert!(rt; takes_what_is_left(rt.alloc(), 10)?);
+    Ok(())
+}
+
+#[test]
+fn a_standard_sink_takes_a_short_piece(rt: HostRuntime) -> Result<(), Fail> {
+    let mut sink = StdSink::new(&rt);
+    assert_eq!(rt; sink.push(b"\n"), Ok(1));
+    assert_eq!(rt; sink.push(b""), Ok(0));
+    Ok(())
+}
