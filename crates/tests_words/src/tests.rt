@@ -1,4 +1,7 @@
-use bl_words::{Request, read_words};
+use bl_base::NoMemory;
+use bl_words::{
+    HardenWords, InterpWords, LowerWords, Request, RunWords, SpecWords, TwinWords, read_words,
+};
 use std::alloc::Global;
 use std::test::Fail;
 
@@ -159,7 +162,7 @@ static OF_RUNS: [(&str, &str); 14] = [
 ];
 
 /// The words with a space before each.
-fn joined(alloc: Global, words: &[&str]) -> Result<String, Fail> {
+fn joined(alloc: Global, words: &[&str]) -> Result<String, NoMemory> {
     let mut text = String::new(alloc);
     for word in words {
         text.push(' ')?;
@@ -168,109 +171,139 @@ fn joined(alloc: Global, words: &[&str]) -> Result<String, Fail> {
     Ok(text)
 }
 
-/// What the words ask for, as a line.
-fn asked(alloc: Global, words: &[String]) -> Result<String, Fail> {
-    match read_words(alloc, words)? {
-        None => Ok(format!(in alloc; "none")?),
-        Some(Request::Harden(harden)) => {
-            let modules = joined(alloc, harden.modules.as_slice())?;
-            let (image, certificate) = (harden.image, harden.certificate);
-            Ok(format!(in alloc; "harden {image} {certificate}:{modules}")?)
-        }
-        Some(Request::Lower(lower)) => {
-            let modules = joined(alloc, lower.modules.as_slice())?;
-            let image = lower.image;
-            Ok(format!(in alloc; "lower {image}:{modules}")?)
-        }
-        Some(Request::Interp(interp)) => {
-            let modules = joined(alloc, interp.modules.as_slice())?;
-            let (export, start, steps) = (interp.export, interp.start, interp.steps);
-            Ok(format!(in alloc; "interp {export} {start} {steps}:{modules}")?)
-        }
-        Some(Request::Run(run)) => Ok(format!(in alloc;
-            "run {} {} {} {}",
-            run.image, run.export, run.start, run.steps
-        )?),
-        Some(Request::Spec(spec)) => Ok(format!(in alloc;
-            "spec {} {} {} {}",
-            spec.image, spec.export, spec.trace, spec.start
-        )?),
-        Some(Request::Verify(verify)) => Ok(format!(in alloc;
+fn harden_line(alloc: Global, words: &HardenWords<'_>) -> Result<String, NoMemory> {
+    let modules = joined(alloc, words.modules.as_slice())?;
+    let (image, certificate) = (words.image, words.certificate);
+    Ok(format!(in alloc; "harden {image} {certificate}:{modules}")?)
+}
+
+fn lower_line(alloc: Global, words: &LowerWords<'_>) -> Result<String, NoMemory> {
+    let modules = joined(alloc, words.modules.as_slice())?;
+    let image = words.image;
+    Ok(format!(in alloc; "lower {image}:{modules}")?)
+}
+
+fn interp_line(alloc: Global, words: &InterpWords<'_>) -> Result<String, NoMemory> {
+    let modules = joined(alloc, words.modules.as_slice())?;
+    let (export, start, steps) = (words.export, words.start, words.steps);
+    Ok(format!(in alloc; "interp {export} {start} {steps}:{modules}")?)
+}
+
+fn run_line(alloc: Global, words: &RunWords<'_>) -> Result<String, NoMemory> {
+    let (image, export, start, steps) = (words.image, words.export, words.start, words.steps);
+    Ok(format!(in alloc; "run {image} {export} {start} {steps}")?)
+}
+
+fn spec_line(alloc: Global, words: &SpecWords<'_>) -> Result<String, NoMemory> {
+    let (image, export, trace, start) = (words.image, words.export, words.trace, words.start);
+    Ok(format!(in alloc; "spec {image} {export} {trace} {start}")?)
+}
+
+fn twin_line(alloc: Global, words: &TwinWords<'_>) -> Result<String, NoMemory> {
+    let (image, export, trace) = (words.image, words.export, words.trace);
+    let (start, other) = (words.start, words.other_start);
+    Ok(format!(in alloc; "twin {image} {export} {trace} {start} {other}")?)
+}
+
+/// What is asked for, as a line.
+fn line_of(alloc: Global, request: &Request<'_>) -> Result<String, NoMemory> {
+    match request {
+        Request::Harden(words) => harden_line(alloc, words),
+        Request::Lower(words) => lower_line(alloc, words),
+        Request::Interp(words) => interp_line(alloc, words),
+        Request::Run(words) => run_line(alloc, words),
+        Request::Spec(words) => spec_line(alloc, words),
+        Request::Verify(words) => Ok(format!(in alloc;
             "verify {} {}",
-            verify.image, verify.certificate
+            words.image, words.certificate
         )?),
-        Some(Request::Twin(twin)) => Ok(format!(in alloc;
-            "twin {} {} {} {} {}",
-            twin.image, twin.export, twin.trace, twin.start, twin.other_start
-        )?),
-        Some(Request::Gen(numbers)) => Ok(format!(in alloc;
-            "gen {} {}",
-            numbers.seed, numbers.size
-        )?),
+        Request::Twin(words) => twin_line(alloc, words),
+        Request::Gen(words) => Ok(format!(in alloc; "gen {} {}", words.seed, words.size)?),
     }
 }
 
-/// What the program's name and the words of a line behind it ask for, as a line.
-fn asked_by(alloc: Global, line: &str) -> Result<String, Fail> {
+/// Whether a request is that line.
+fn is_line(alloc: Global, request: &Request<'_>, expected: &str) -> Result<bool, NoMemory> {
+    let line = line_of(alloc, request)?;
+    Ok(line.as_str() == expected)
+}
+
+/// Whether the words ask for that, as a line.
+fn ask(alloc: Global, words: &[String], expected: &str) -> Result<bool, NoMemory> {
+    match &read_words(alloc, words)? {
+        None => Ok(expected == "none"),
+        Some(request) => is_line(alloc, request, expected),
+    }
+}
+
+/// The program's name and the words of a line.
+fn words_of(alloc: Global, line: &str) -> Result<Vec<String>, NoMemory> {
     let mut words = Vec::new(alloc);
     words.push(String::from_str(alloc, "blade")?)?;
     for word in line.split(' ') {
         words.push(String::from_str(alloc, word)?)?;
     }
-    asked(alloc, words.as_slice())
+    Ok(words)
+}
+
+/// Whether the program's name and the words of a line behind it ask for that, as a line.
+fn asks(alloc: Global, line: &str, expected: &str) -> Result<bool, NoMemory> {
+    let words = words_of(alloc, line)?;
+    ask(alloc, words.as_slice(), expected)
+}
+
+/// How many lines ask for what is said before the first that doesn't.
+fn told(alloc: Global, lines: &[(&str, &str)]) -> Result<u32, NoMemory> {
+    let mut passed = 0u32;
+    for (line, expected) in lines {
+        if !asks(alloc, *line, *expected)? {
+            break;
+        }
+        passed = passed.wrapping_add(1);
+    }
+    Ok(passed)
 }
 
 #[test]
 fn steps_stand_at_most_once_among_the_arguments_of_a_run(rt: HostRuntime) -> Result<(), Fail> {
-    for (line, expected) in OPTIONS {
-        let found = asked_by(rt.alloc(), line)?;
-        assert_eq!(rt; found.as_str(), expected, "{line}");
-    }
+    assert_eq!(rt; told(rt.alloc(), &OPTIONS)?, 28);
     Ok(())
 }
 
 #[test]
 fn each_command_has_its_arguments(rt: HostRuntime) -> Result<(), Fail> {
-    for (line, expected) in COMMANDS {
-        let found = asked_by(rt.alloc(), line)?;
-        assert_eq!(rt; found.as_str(), expected, "{line}");
-    }
+    assert_eq!(rt; told(rt.alloc(), &COMMANDS)?, 27);
     Ok(())
 }
 
 #[test]
 fn the_commands_that_check_have_their_arguments(rt: HostRuntime) -> Result<(), Fail> {
-    for (line, expected) in CHECKS {
-        let found = asked_by(rt.alloc(), line)?;
-        assert_eq!(rt; found.as_str(), expected, "{line}");
-    }
+    assert_eq!(rt; told(rt.alloc(), &CHECKS)?, 28);
     Ok(())
 }
 
 #[test]
 fn a_seed_and_a_size_have_so_many_digits_and_are_in_range(rt: HostRuntime) -> Result<(), Fail> {
-    for (line, expected) in NUMBERS {
-        let found = asked_by(rt.alloc(), line)?;
-        assert_eq!(rt; found.as_str(), expected, "{line}");
-    }
+    assert_eq!(rt; told(rt.alloc(), &NUMBERS)?, 30);
     Ok(())
 }
 
 #[test]
 fn a_run_takes_steps_as_interp_does(rt: HostRuntime) -> Result<(), Fail> {
-    for (line, expected) in OF_RUNS {
-        let found = asked_by(rt.alloc(), line)?;
-        assert_eq!(rt; found.as_str(), expected, "{line}");
-    }
+    assert_eq!(rt; told(rt.alloc(), &OF_RUNS)?, 14);
     Ok(())
+}
+
+/// Whether the program's name alone asks for nothing.
+fn name_asks_nothing(alloc: Global) -> Result<bool, NoMemory> {
+    let words = vec![in alloc; String::from_str(alloc, "blade")?]?;
+    ask(alloc, words.as_slice(), "none")
 }
 
 #[test]
 fn no_words_are_no_request(rt: HostRuntime) -> Result<(), Fail> {
-    let alloc = rt.alloc();
-    assert_eq!(rt; asked(alloc, &[])?.as_str(), "none");
-    let name = String::from_str(alloc, "blade")?;
-    assert_eq!(rt; asked(alloc, &[name])?.as_str(), "none");
-    assert_eq!(rt; asked_by(alloc, "")?.as_str(), "none");
+    assert!(rt; ask(rt.alloc(), &[], "none")?);
+    assert!(rt; name_asks_nothing(rt.alloc())?);
+    assert!(rt; asks(rt.alloc(), "", "none")?);
     Ok(())
 }
