@@ -1,8 +1,10 @@
+//! Two runs of an image by the same directives, from starts that differ in a secret or in public.
+//!
 //! The lines are computed by hand from the rules of the machine with a buffer. Entry 1 of it is the move of the parameter, 3 and 6 are the
 //! guards of the two loads, 4 and 7 the loads.
-use bl_app::blade;
-use bl_base::List;
-use bl_outside::{MemoryShelf, MemorySink};
+use crate::calls::{ends, holds, shelf_of, status_of};
+use bl_base::NoMemory;
+use bl_outside::MemoryShelf;
 use std::alloc::Global;
 use std::test::Fail;
 
@@ -44,32 +46,21 @@ const HARDEN: &str = "blade harden i c main.wasm vault.wasm";
 
 const TWIN: &str = "blade twin i main/f trace one two";
 
-/// Calls `blade` with the words of a line, and answers its status and what it printed.
-fn say(alloc: Global, shelf: &mut MemoryShelf, line: &str) -> Result<(u8, MemorySink), Fail> {
-    let mut out = MemorySink::new(alloc, None);
-    out.reserve(400)?;
-    let mut words = Vec::new(alloc);
-    for word in line.split(' ') {
-        words.push(String::from_str(alloc, word)?)?;
-    }
-    let status = blade(alloc, words.as_slice(), shelf, &mut out);
-    Ok((status, out))
-}
-
 /// A shelf with the main module, the one of the secret memory, a trace and two starts.
-fn shelf_of(
+fn shelf_with(
     alloc: Global,
     main: &[u8],
     trace: &str,
     starts: (&str, &str),
-) -> Result<MemoryShelf, Fail> {
-    let mut shelf = MemoryShelf::new(alloc, List::new(alloc));
-    shelf.put("main.wasm", main)?;
-    shelf.put("vault.wasm", &VAULT)?;
-    shelf.put("trace", trace.as_bytes())?;
-    shelf.put("one", starts.0.as_bytes())?;
-    shelf.put("two", starts.1.as_bytes())?;
-    Ok(shelf)
+) -> Result<MemoryShelf, NoMemory> {
+    let files: [(&str, &[u8]); 5] = [
+        ("main.wasm", main),
+        ("vault.wasm", &VAULT),
+        ("trace", trace.as_bytes()),
+        ("one", starts.0.as_bytes()),
+        ("two", starts.1.as_bytes()),
+    ];
+    shelf_of(alloc, &files)
 }
 
 /// The command that writes the image, the trace, the two starts, and the status and the text of `twin`.
@@ -187,26 +178,43 @@ static EIGHT: [Case; 4] = [
     ),
 ];
 
+/// Whether a call ends well, and `twin` on what it wrote ends with that status and prints that text.
+fn writes_and_twins(
+    alloc: Global,
+    shelf: &mut MemoryShelf,
+    lines: (&str, &str),
+    status: u8,
+    text: &str,
+) -> Result<bool, NoMemory> {
+    let written = status_of(alloc, shelf, lines.0)?;
+    let told = ends(alloc, shelf, lines.1, status, text)?;
+    Ok(written == 0 && told)
+}
+
 /// Whether the image of the main module is written, and `twin` answers on it as the case says.
-fn is_answered(alloc: Global, main: &[u8], case: &Case) -> Result<bool, Fail> {
-    let (line, trace, starts, status, text) = case;
-    let mut shelf = shelf_of(alloc, main, trace, *starts)?;
-    let (written, _text) = say(alloc, &mut shelf, line)?;
-    let (answer, out) = say(alloc, &mut shelf, TWIN)?;
-    Ok(written == 0 && answer == *status && out.bytes() == text.as_bytes())
+fn is_answered(alloc: Global, main: &[u8], case: &Case) -> Result<bool, NoMemory> {
+    let (line, trace, starts, status, text) = *case;
+    let mut shelf = shelf_with(alloc, main, trace, starts)?;
+    writes_and_twins(alloc, &mut shelf, (line, TWIN), status, text)
+}
+
+/// How many cases are answered so before the first that isn't.
+fn answered(alloc: Global, main: &[u8], cases: &[Case]) -> Result<u32, NoMemory> {
+    let mut passed = 0u32;
+    for case in cases {
+        if !is_answered(alloc, main, case)? {
+            break;
+        }
+        passed = passed.wrapping_add(1);
+    }
+    Ok(passed)
 }
 
 #[test]
 fn a_secret_byte_is_read_ahead_of_its_test_and_becomes_an_address_unless_it_is_protected(
     rt: HostRuntime,
 ) -> Result<(), Fail> {
-    for case in &BYTES {
-        assert!(rt;
-            is_answered(rt.alloc(), &BYTES_OF_BYTES, case)?,
-            "{}",
-            case.4
-        );
-    }
+    assert_eq!(rt; answered(rt.alloc(), &BYTES_OF_BYTES, &BYTES)?, 8);
     Ok(())
 }
 
@@ -214,52 +222,77 @@ fn a_secret_byte_is_read_ahead_of_its_test_and_becomes_an_address_unless_it_is_p
 fn a_load_reads_past_its_memory_and_past_all_of_them_before_its_test(
     rt: HostRuntime,
 ) -> Result<(), Fail> {
-    for case in &EIGHT {
-        assert!(rt; is_answered(rt.alloc(), &EIGHT_BYTES, case)?, "{}", case.4);
-    }
+    assert_eq!(rt; answered(rt.alloc(), &EIGHT_BYTES, &EIGHT)?, 4);
     Ok(())
+}
+
+/// The certificate of no path.
+static NO_PATHS: &[u8] = b"{\"paths\":[],\"weight\":0}";
+
+/// The line of a call that verifies the image.
+const VERIFY: &str = "blade verify i c";
+
+/// What `verify` prints of the lowered program.
+const UNSAFE: &str = "certificate yes\nstable no 13\nconstant-time yes\nsafe no\n";
+
+/// What it prints of the hardened one.
+const SAFE: &str = "certificate yes\nstable yes\nconstant-time yes\nsafe yes\n";
+
+/// Whether the lowered program is constant time and yet two runs of it differ.
+fn differs(alloc: Global, shelf: &mut MemoryShelf) -> Result<bool, NoMemory> {
+    shelf.put("c", NO_PATHS)?;
+    let lowered = ends(alloc, shelf, LOWER, 0, "commands 17\n")?;
+    let verified = ends(alloc, shelf, VERIFY, 1, UNSAFE)?;
+    let twin = status_of(alloc, shelf, TWIN)?;
+    Ok(lowered && verified && twin == 1)
+}
+
+/// Whether that holds, and the hardened program is safe.
+fn is_made_safe(alloc: Global, shelf: &mut MemoryShelf) -> Result<bool, NoMemory> {
+    let differs = differs(alloc, shelf)?;
+    let hardened = status_of(alloc, shelf, HARDEN)?;
+    let verified = ends(alloc, shelf, VERIFY, 0, SAFE)?;
+    Ok(differs && hardened == 0 && verified)
+}
+
+/// Whether that holds for the program of two loads.
+fn is_hardened(alloc: Global) -> Result<bool, NoMemory> {
+    let mut shelf = shelf_with(alloc, &BYTES_OF_BYTES, AHEAD, SECRETS)?;
+    is_made_safe(alloc, &mut shelf)
 }
 
 #[test]
 fn a_program_whose_runs_differ_may_be_constant_time(rt: HostRuntime) -> Result<(), Fail> {
-    let alloc = rt.alloc();
-    let mut shelf = shelf_of(alloc, &BYTES_OF_BYTES, AHEAD, SECRETS)?;
-    shelf.put("c", b"{\"paths\":[],\"weight\":0}")?;
-    let (lowered, line) = say(alloc, &mut shelf, LOWER)?;
-    assert_eq!(rt; line.bytes(), b"commands 17\n".as_slice());
-    assert_eq!(rt; lowered, 0);
-    let (verified, lines) = say(alloc, &mut shelf, "blade verify i c")?;
-    let text = "certificate yes\nstable no 13\nconstant-time yes\nsafe no\n";
-    assert_eq!(rt; lines.bytes(), text.as_bytes());
-    assert_eq!(rt; verified, 1);
-    let (twin, _lines) = say(alloc, &mut shelf, TWIN)?;
-    assert_eq!(rt; twin, 1);
-    let (hardened, _report) = say(alloc, &mut shelf, HARDEN)?;
-    let (safe, lines) = say(alloc, &mut shelf, "blade verify i c")?;
-    let text = "certificate yes\nstable yes\nconstant-time yes\nsafe yes\n";
-    assert_eq!(rt; (hardened, safe), (0, 0));
-    assert_eq!(rt; lines.bytes(), text.as_bytes());
+    assert!(rt; is_hardened(rt.alloc())?);
     Ok(())
+}
+
+/// Whether the secret memory on the shelf is hardened to that report and that image, and needs no path.
+fn gives_image(
+    alloc: Global,
+    shelf: &mut MemoryShelf,
+    report: &str,
+    image: &[u8],
+) -> Result<bool, NoMemory> {
+    let hardened = ends(alloc, shelf, "blade harden i c vault.wasm", 0, report)?;
+    Ok(hardened && holds(shelf, "i", image) && holds(shelf, "c", NO_PATHS))
+}
+
+/// Whether that holds where it stands there alone.
+fn has_image(alloc: Global, report: &str, image: &[u8]) -> Result<bool, NoMemory> {
+    let mut shelf = shelf_of(alloc, &[("vault.wasm", &VAULT)])?;
+    gives_image(alloc, &mut shelf, report, image)
 }
 
 #[test]
 fn a_secret_memory_alone_has_an_image(rt: HostRuntime) -> Result<(), Fail> {
-    let alloc = rt.alloc();
-    let mut shelf = shelf_of(alloc, &VAULT, "", ("", ""))?;
-    let (status, out) = say(alloc, &mut shelf, "blade harden i c vault.wasm")?;
     let report = "functions 0\ncommands 7\nsites 0\nprotects 0 weight 0\nconstant-time yes\n";
-    assert_eq!(rt; out.bytes(), report.as_bytes());
-    assert_eq!(rt; status, 0);
     let image = b"BLIM\x01\0\x01\x01\x01\x01\0\0\0";
-    assert_eq!(rt; shelf.entry("i").unwrap_or(b""), image.as_slice());
-    assert_eq!(rt;
-        shelf.entry("c").unwrap_or(b""),
-        b"{\"paths\":[],\"weight\":0}".as_slice()
-    );
+    assert!(rt; has_image(rt.alloc(), report, image)?);
     Ok(())
 }
 
-/// The words behind the image, the trace, the two starts, and the status and the line of a refusal.
+/// The line of a call, the trace, the two starts, and the status and the line of a refusal.
 type Refusal = (
     &'static str,
     &'static str,
@@ -270,49 +303,49 @@ type Refusal = (
 
 static REFUSALS: [Refusal; 7] = [
     (
-        "main/g trace one two",
+        "blade twin i main/g trace one two",
         "leap\n",
         ("", ""),
         15,
         "start: export\n",
     ),
     (
-        "main/f trace one two",
+        "blade twin i main/f trace one two",
         "fetch\nleap\n",
         ("", ""),
         14,
         "trace: line 2\n",
     ),
     (
-        "main/f trace one two",
+        "blade twin i main/f trace one two",
         "",
         ("", "x"),
         15,
         "start: arguments 0\n",
     ),
     (
-        "main/f trace one two",
+        "blade twin i main/f trace one two",
         "",
         ("arg 1", "arg 1\narg 2"),
         15,
         "start: line 2\n",
     ),
     (
-        "main/f trace one two",
+        "blade twin i main/f trace one two",
         "",
         ("arg 1", ""),
         15,
         "start: arguments 0\n",
     ),
     (
-        "main/f trace one absent",
+        "blade twin i main/f trace one absent",
         "leap",
         ("x", ""),
         3,
         "read fault: absent\n",
     ),
     (
-        "main/f trace one",
+        "blade twin i main/f trace one",
         "",
         ("arg 1", ""),
         2,
@@ -320,17 +353,27 @@ static REFUSALS: [Refusal; 7] = [
     ),
 ];
 
+/// Whether `twin` on the lowered program is refused so.
+fn is_refused(alloc: Global, refusal: &Refusal) -> Result<bool, NoMemory> {
+    let (line, trace, starts, status, text) = *refusal;
+    let mut shelf = shelf_with(alloc, &BYTES_OF_BYTES, trace, starts)?;
+    writes_and_twins(alloc, &mut shelf, (LOWER, line), status, text)
+}
+
+/// How many are refused so before the first that isn't.
+fn refused(alloc: Global) -> Result<u32, NoMemory> {
+    let mut passed = 0u32;
+    for refusal in &REFUSALS {
+        if !is_refused(alloc, refusal)? {
+            break;
+        }
+        passed = passed.wrapping_add(1);
+    }
+    Ok(passed)
+}
+
 #[test]
 fn exports_traces_and_either_start_may_be_refused(rt: HostRuntime) -> Result<(), Fail> {
-    let alloc = rt.alloc();
-    for (words, trace, starts, status, text) in &REFUSALS {
-        let mut shelf = shelf_of(alloc, &BYTES_OF_BYTES, *trace, *starts)?;
-        let (lowered, _line) = say(alloc, &mut shelf, LOWER)?;
-        assert_eq!(rt; lowered, 0);
-        let line = format!(in alloc; "blade twin i {words}")?;
-        let (answer, out) = say(alloc, &mut shelf, line.as_str())?;
-        assert_eq!(rt; answer, *status);
-        assert_eq!(rt; out.bytes(), text.as_bytes());
-    }
+    assert_eq!(rt; refused(rt.alloc())?, 7);
     Ok(())
 }

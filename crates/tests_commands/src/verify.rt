@@ -1,7 +1,7 @@
 //! The lines are computed by hand from the rules of certificates, the transient rules and the label rules.
-use bl_app::blade;
-use bl_base::List;
-use bl_outside::{MemoryShelf, MemorySink};
+use crate::calls::{ends, holds, shelf_of, status_of};
+use bl_base::NoMemory;
+use bl_outside::MemoryShelf;
 use std::alloc::Global;
 use std::test::Fail;
 
@@ -106,56 +106,57 @@ static REFUSED: [Case; 5] = [
     (b"", "{}", 12, "image: not an image\n"),
 ];
 
-/// Calls `blade` with the words of a line, and answers its status and what it printed.
-fn say(alloc: Global, shelf: &mut MemoryShelf, line: &str) -> Result<(u8, MemorySink), Fail> {
-    let mut out = MemorySink::new(alloc, None);
-    out.reserve(400)?;
-    let mut words = Vec::new(alloc);
-    for word in line.split(' ') {
-        words.push(String::from_str(alloc, word)?)?;
-    }
-    let status = blade(alloc, words.as_slice(), shelf, &mut out);
-    Ok((status, out))
+/// The line of a call on a shelf with an image and a certificate.
+const VERIFY: &str = "blade verify i c";
+
+/// Whether `verify` answers a case so on a shelf with its files, and leaves both as they were.
+fn is_verified_so(alloc: Global, shelf: &mut MemoryShelf, case: &Case) -> Result<bool, NoMemory> {
+    let (image, certificate, status, text) = *case;
+    let answered = ends(alloc, shelf, VERIFY, status, text)?;
+    Ok(answered && holds(shelf, "i", image) && holds(shelf, "c", certificate.as_bytes()))
 }
 
-/// Whether `verify` answers a case so and leaves both files as they were.
-fn is_answered(alloc: Global, case: &Case) -> Result<bool, Fail> {
-    let (image, certificate, status, text) = case;
-    let mut shelf = MemoryShelf::new(alloc, List::new(alloc));
-    shelf.put("i", image)?;
-    shelf.put("c", certificate.as_bytes())?;
-    let (answer, out) = say(alloc, &mut shelf, "blade verify i c")?;
-    let left = shelf.entry("i") == Some(*image) && shelf.entry("c") == Some(certificate.as_bytes());
-    Ok(answer == *status && out.bytes() == text.as_bytes() && left)
+/// Whether that holds for a shelf with these files.
+fn is_answered(alloc: Global, case: &Case) -> Result<bool, NoMemory> {
+    let files = [("i", case.0), ("c", case.1.as_bytes())];
+    let mut shelf = shelf_of(alloc, &files)?;
+    is_verified_so(alloc, &mut shelf, case)
+}
+
+/// How many cases are answered so before the first that isn't.
+fn answered(alloc: Global, cases: &[Case]) -> Result<u32, NoMemory> {
+    let mut passed = 0u32;
+    for case in cases {
+        if !is_answered(alloc, case)? {
+            break;
+        }
+        passed = passed.wrapping_add(1);
+    }
+    Ok(passed)
 }
 
 #[test]
 fn a_certificate_holds_or_the_first_broken_rule_is_told(rt: HostRuntime) -> Result<(), Fail> {
-    for case in &CASES {
-        assert!(rt; is_answered(rt.alloc(), case)?, "{}", case.3);
-    }
+    assert_eq!(rt; answered(rt.alloc(), &CASES)?, 8);
     Ok(())
 }
 
 #[test]
 fn texts_that_are_no_certificate_and_bytes_that_are_no_image(rt: HostRuntime) -> Result<(), Fail> {
-    for case in &REFUSED {
-        assert!(rt; is_answered(rt.alloc(), case)?, "{}", case.3);
-    }
+    assert_eq!(rt; answered(rt.alloc(), &REFUSED)?, 5);
     Ok(())
+}
+
+/// Whether a call with these files names one that can't be read.
+fn is_named(alloc: Global, files: &[(&str, &[u8])], text: &str) -> Result<bool, NoMemory> {
+    let mut shelf = shelf_of(alloc, files)?;
+    ends(alloc, &mut shelf, VERIFY, 3, text)
 }
 
 #[test]
 fn a_file_that_cannot_be_read_is_named(rt: HostRuntime) -> Result<(), Fail> {
-    let alloc = rt.alloc();
-    let mut shelf = MemoryShelf::new(alloc, List::new(alloc));
-    let (first, out) = say(alloc, &mut shelf, "blade verify i c")?;
-    assert_eq!(rt; out.bytes(), b"read fault: i\n".as_slice());
-    assert_eq!(rt; first, 3);
-    shelf.put("i", b"")?;
-    let (second, out) = say(alloc, &mut shelf, "blade verify i c")?;
-    assert_eq!(rt; out.bytes(), b"read fault: c\n".as_slice());
-    assert_eq!(rt; second, 3);
+    assert!(rt; is_named(rt.alloc(), &[], "read fault: i\n")?);
+    assert!(rt; is_named(rt.alloc(), &[("i", b"")], "read fault: c\n")?);
     Ok(())
 }
 
@@ -166,16 +167,26 @@ static CHAIN: [u8; 46] = [
     0x0A, 0x0C, 0x01, 0x0A, 0x00, 0x20, 0x00, 0x28, 0x02, 0x00, 0x28, 0x02, 0x00, 0x0B,
 ];
 
+/// Whether what `harden` writes of the module on the shelf is verified with these lines.
+fn hardens_and_verifies(
+    alloc: Global,
+    shelf: &mut MemoryShelf,
+    lines: &str,
+) -> Result<bool, NoMemory> {
+    let hardened = status_of(alloc, shelf, "blade harden i c m.wasm")?;
+    let verified = ends(alloc, shelf, VERIFY, 0, lines)?;
+    Ok(hardened == 0 && verified)
+}
+
+/// Whether that holds for that module.
+fn is_verified(alloc: Global, lines: &str) -> Result<bool, NoMemory> {
+    let mut shelf = shelf_of(alloc, &[("m.wasm", &CHAIN)])?;
+    hardens_and_verifies(alloc, &mut shelf, lines)
+}
+
 #[test]
 fn what_harden_writes_is_verified(rt: HostRuntime) -> Result<(), Fail> {
-    let alloc = rt.alloc();
-    let mut shelf = MemoryShelf::new(alloc, List::new(alloc));
-    shelf.put("m.wasm", &CHAIN)?;
-    let (hardened, _report) = say(alloc, &mut shelf, "blade harden i c m.wasm")?;
-    assert_eq!(rt; hardened, 0);
-    let (status, out) = say(alloc, &mut shelf, "blade verify i c")?;
     let lines = "certificate yes\nstable yes\nconstant-time yes\nsafe yes\n";
-    assert_eq!(rt; out.bytes(), lines.as_bytes());
-    assert_eq!(rt; status, 0);
+    assert!(rt; is_verified(rt.alloc(), lines)?);
     Ok(())
 }
