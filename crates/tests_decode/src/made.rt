@@ -1,3 +1,5 @@
+//! Modules that are made, byte by byte, and read.
+use bl_base::NoMemory;
 use bl_decode::decode;
 use bl_gen::make;
 use bl_validate::validate;
@@ -38,35 +40,59 @@ static SECOND: [u8; 25] = [
 /// The second function's end: the call of function 0, local.get 1 and end.
 static CALL: [u8; 9] = [0x20, 0x01, 0x10, 0x00, 0x21, 0x01, 0x20, 0x01, 0x0B];
 
+/// Whether the module of so many functions for the seed 0 is that one.
+fn is_made(alloc: Global, size: u32, wanted: &[u8]) -> Result<bool, NoMemory> {
+    if size == 0 || size > 10_000 {
+        return Ok(false);
+    }
+    let bytes = make(alloc, 0, size)?;
+    Ok(bytes.as_slice() == wanted)
+}
+
 #[test]
 fn a_module_of_one_function_is_made_byte_by_byte(rt: HostRuntime) -> Result<(), Fail> {
-    let bytes = make(rt.alloc(), 0, 1)?;
-    assert_eq!(rt; bytes.as_slice(), ONE.as_slice());
+    assert!(rt; is_made(rt.alloc(), 1, &ONE)?);
     Ok(())
+}
+
+/// Whether the module of so many functions for the seed 5 has that length.
+fn has_length(alloc: Global, size: u32, length: usize) -> Result<bool, NoMemory> {
+    if size == 0 || size > 10_000 {
+        return Ok(false);
+    }
+    let bytes = make(alloc, 5, size)?;
+    Ok(bytes.len() == length)
 }
 
 #[test]
 fn modules_have_the_lengths_that_the_rule_gives(rt: HostRuntime) -> Result<(), Fail> {
-    let alloc = rt.alloc();
-    assert_eq!(rt; make(alloc, 5, 100)?.len(), 7_629);
-    assert_eq!(rt; make(alloc, 5, 1_000)?.len(), 76_905);
+    assert!(rt; has_length(rt.alloc(), 100, 7_629)?);
+    assert!(rt; has_length(rt.alloc(), 1_000, 76_905)?);
     Ok(())
+}
+
+/// Whether those bytes stand between two places.
+fn stands(bytes: &[u8], from: usize, to: usize, wanted: &[u8]) -> bool {
+    match bytes.get(from..to) {
+        Some(found) => found == wanted,
+        None => false,
+    }
+}
+
+/// Whether the module of two functions for the greatest seed has these parts.
+fn is_whole(alloc: Global) -> Result<bool, NoMemory> {
+    let bytes = make(alloc, 18_446_744_073_709_551_615, 2)?;
+    Ok(
+        bytes.len() == 181
+            && stands(&bytes, 33, 65, &FIRST)
+            && stands(&bytes, 106, 131, &SECOND)
+            && stands(&bytes, 172, 181, &CALL),
+    )
 }
 
 #[test]
 fn the_sum_with_the_greatest_seed_is_a_whole_number(rt: HostRuntime) -> Result<(), Fail> {
-    let bytes = make(rt.alloc(), 18_446_744_073_709_551_615, 2)?;
-    assert_eq!(rt; bytes.len(), 181);
-    let first = bytes
-        .get(33..65)
-        .expect(&rt, "the first function stands there");
-    assert_eq!(rt; first, FIRST.as_slice());
-    let second = bytes
-        .get(106..131)
-        .expect(&rt, "the second function stands there");
-    assert_eq!(rt; second, SECOND.as_slice());
-    let call = bytes.get(172..181).expect(&rt, "the call stands there");
-    assert_eq!(rt; call, CALL.as_slice());
+    assert!(rt; is_whole(rt.alloc())?);
     Ok(())
 }
 
@@ -79,10 +105,14 @@ fn is_accepted(alloc: Global, bytes: &[u8]) -> bool {
     validate(alloc, tree).is_ok()
 }
 
+/// Whether the module of 100 functions for the seed 5 is.
+fn made_is_accepted(alloc: Global) -> Result<bool, NoMemory> {
+    let bytes = make(alloc, 5, 100)?;
+    Ok(is_accepted(alloc, &bytes))
+}
+
 #[test]
 fn a_module_that_is_made_is_accepted(rt: HostRuntime) -> Result<(), Fail> {
-    let alloc = rt.alloc();
-    let bytes = make(alloc, 5, 100)?;
-    assert!(rt; is_accepted(alloc, &bytes));
+    assert!(rt; made_is_accepted(rt.alloc())?);
     Ok(())
 }
