@@ -1,7 +1,9 @@
-use bl_base::Pos;
+//! The verdict on two runs of a program.
+use bl_base::{NoMemory, Pos};
 use bl_graph::{Origin, SecretChain};
 use bl_image::decode_image;
 use bl_sct::{Verdict, assess};
+use std::alloc::Global;
 use std::test::Fail;
 
 /// A function that returns its secret parameter, as a result that is demanded to be public.
@@ -33,29 +35,49 @@ fn is_way_of_the_parameter(chain: &SecretChain) -> bool {
     }
 }
 
+/// The verdict on an image's program; bytes that are no image are answered like want of memory.
+fn verdict(alloc: Global, image: &[u8]) -> Result<Verdict, NoMemory> {
+    let Ok(program) = decode_image(alloc, image) else {
+        return Err(NoMemory);
+    };
+    assess(alloc, &program)
+}
+
+/// Whether the parameter's way alone leaves the program not constant time.
+fn is_given(alloc: Global) -> Result<bool, NoMemory> {
+    match &verdict(alloc, GIVEN)? {
+        Verdict::NotConstantTime(chain) => Ok(is_way_of_the_parameter(chain)),
+        _ => Ok(false),
+    }
+}
+
 #[test]
 fn a_secret_that_is_demanded_public_isnt_constant_time(rt: HostRuntime) -> Result<(), Fail> {
-    let alloc = rt.alloc();
-    let program = decode_image(alloc, GIVEN)?;
-    let verdict = assess(alloc, &program)?;
-    assert!(rt;
-        matches!(&verdict, Verdict::NotConstantTime(chain) if is_way_of_the_parameter(chain))
-    );
+    assert!(rt; is_given(rt.alloc())?);
     Ok(())
+}
+
+/// Whether a sink at that position keeps the program from passing.
+fn is_unstable(alloc: Global, image: &[u8], at: u32) -> Result<bool, NoMemory> {
+    match &verdict(alloc, image)? {
+        Verdict::NotStable(Pos(found)) => Ok(*found == at),
+        _ => Ok(false),
+    }
 }
 
 #[test]
 fn what_a_load_gives_reaches_a_test(rt: HostRuntime) -> Result<(), Fail> {
-    let alloc = rt.alloc();
-    let program = decode_image(alloc, LOADS)?;
-    assert!(rt; matches!(assess(alloc, &program)?, Verdict::NotStable(Pos(13))));
+    assert!(rt; is_unstable(rt.alloc(), LOADS, 13)?);
     Ok(())
+}
+
+/// Whether a program is safe.
+fn is_safe(alloc: Global, image: &[u8]) -> Result<bool, NoMemory> {
+    Ok(matches!(&verdict(alloc, image)?, Verdict::Safe))
 }
 
 #[test]
 fn a_protect_makes_it_safe(rt: HostRuntime) -> Result<(), Fail> {
-    let alloc = rt.alloc();
-    let program = decode_image(alloc, PROTECTED)?;
-    assert!(rt; matches!(assess(alloc, &program)?, Verdict::Safe));
+    assert!(rt; is_safe(rt.alloc(), PROTECTED)?);
     Ok(())
 }
