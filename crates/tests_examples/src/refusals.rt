@@ -1,5 +1,6 @@
 //! Label sections that break a rule.
 use crate::calls::{ends, put, shelf_of, stands};
+use bl_base::NoMemory;
 use std::alloc::Global;
 use std::test::Fail;
 
@@ -46,14 +47,14 @@ static CASES: [(&[u8], &[u8], &str); 18] = [
 ];
 
 /// Whether a module with those labels is refused with that line, and nothing is kept.
-fn is_refused(alloc: Global, sections: &[u8], labels: &[u8], text: &str) -> Result<bool, Fail> {
+fn is_refused(alloc: Global, sections: &[u8], labels: &[u8], text: &str) -> Result<bool, NoMemory> {
     let mut shelf = shelf_of(alloc, sections, labels)?;
-    let refused = ends(alloc, &mut shelf, "blade harden i c m.wasm", 10, text)?;
+    let refused = ends(alloc, &mut shelf, "harden i c m.wasm", 10, text)?;
     Ok(refused && !stands(&shelf, "i") && !stands(&shelf, "c"))
 }
 
 /// How many cases pass before the first that doesn't.
-fn refused(alloc: Global) -> Result<u32, Fail> {
+fn refused(alloc: Global) -> Result<u32, NoMemory> {
     let mut passed = 0u32;
     for (sections, labels, text) in &CASES {
         if !is_refused(alloc, *sections, *labels, *text)? {
@@ -79,9 +80,9 @@ type Pair = (
 );
 
 static LINES: [&str; 3] = [
-    "blade harden i c m.wasm n.wasm",
-    "blade lower i m.wasm n.wasm",
-    "blade interp m/f s m.wasm n.wasm",
+    "harden i c m.wasm n.wasm",
+    "lower i m.wasm n.wasm",
+    "interp m/f s m.wasm n.wasm",
 ];
 
 static PAIRS: [Pair; 4] = [
@@ -116,7 +117,7 @@ static PAIRS: [Pair; 4] = [
 ];
 
 /// Whether each command that reads modules refuses two of them so, and nothing is kept.
-fn are_refused(alloc: Global, case: &Pair) -> Result<bool, Fail> {
+fn are_refused(alloc: Global, case: &Pair) -> Result<bool, NoMemory> {
     let (first, second, status, text) = *case;
     let mut shelf = shelf_of(alloc, first.0, first.1)?;
     put(alloc, &mut shelf, "n.wasm", second.0, second.1)?;
@@ -130,7 +131,7 @@ fn are_refused(alloc: Global, case: &Pair) -> Result<bool, Fail> {
 }
 
 /// How many pairs pass before the first that doesn't.
-fn pairs_refused(alloc: Global) -> Result<u32, Fail> {
+fn pairs_refused(alloc: Global) -> Result<u32, NoMemory> {
     let mut passed = 0u32;
     for case in &PAIRS {
         if !are_refused(alloc, case)? {

@@ -1,6 +1,6 @@
 //! Labels and images of version 2. The images are written by hand from the rules of lowering.
 use crate::calls::{ends, put, shelf_of, stands};
-use bl_base::List;
+use bl_base::{List, NoMemory};
 use bl_outside::MemoryShelf;
 use std::alloc::Global;
 use std::test::Fail;
@@ -46,7 +46,7 @@ static CASES: [(&[u8], &str, &[u8]); 3] = [
 const CERTIFICATE: &str = "{\"paths\":[],\"weight\":0}";
 
 /// A shelf with that function as `id.wasm`, a start file and the certificate of no path.
-fn identity(alloc: Global, labels: &[u8]) -> Result<MemoryShelf, Fail> {
+fn identity(alloc: Global, labels: &[u8]) -> Result<MemoryShelf, NoMemory> {
     let mut shelf = MemoryShelf::new(alloc, List::new(alloc));
     put(alloc, &mut shelf, "id.wasm", IDENTITY, labels)?;
     shelf.put("s", b"arg 5")?;
@@ -60,24 +60,18 @@ fn holds(shelf: &MemoryShelf, name: &str, bytes: &[u8]) -> bool {
 }
 
 /// Whether that function with those labels has that report and that image, which runs.
-fn is_hardened(alloc: Global, labels: &[u8], report: &str, image: &[u8]) -> Result<bool, Fail> {
+fn is_hardened(alloc: Global, labels: &[u8], report: &str, image: &[u8]) -> Result<bool, NoMemory> {
     let mut shelf = identity(alloc, labels)?;
     Ok(
-        ends(alloc, &mut shelf, "blade harden i c id.wasm", 0, report)?
+        ends(alloc, &mut shelf, "harden i c id.wasm", 0, report)?
             && holds(&shelf, "i", image)
             && holds(&shelf, "c", CERTIFICATE.as_bytes())
-            && ends(
-                alloc,
-                &mut shelf,
-                "blade run i id/f s",
-                0,
-                "returned i32 5\n",
-            )?,
+            && ends(alloc, &mut shelf, "run i id/f s", 0, "returned i32 5\n")?,
     )
 }
 
 /// How many cases pass before the first that doesn't.
-fn hardened(alloc: Global) -> Result<u32, Fail> {
+fn hardened(alloc: Global) -> Result<u32, NoMemory> {
     let mut passed = 0u32;
     for (labels, report, image) in &CASES {
         if !is_hardened(alloc, *labels, *report, *image)? {
@@ -97,12 +91,12 @@ fn a_result_that_is_demanded_public_stands_in_the_image_and_ends_a_chain(
 }
 
 /// Whether those labels of that function are malformed, and nothing is kept.
-fn are_malformed(alloc: Global, labels: &[u8]) -> Result<bool, Fail> {
+fn are_malformed(alloc: Global, labels: &[u8]) -> Result<bool, NoMemory> {
     let mut shelf = identity(alloc, labels)?;
     let refused = ends(
         alloc,
         &mut shelf,
-        "blade harden i c id.wasm",
+        "harden i c id.wasm",
         10,
         "labels: id malformed\n",
     )?;
@@ -116,7 +110,13 @@ fn demands_in_a_section_of_version_1_are_malformed(rt: HostRuntime) -> Result<()
 }
 
 /// Whether a call with an image beside that function and the certificate of no path ends so.
-fn answers(alloc: Global, image: &[u8], line: &str, status: u8, text: &str) -> Result<bool, Fail> {
+fn answers(
+    alloc: Global,
+    image: &[u8],
+    line: &str,
+    status: u8,
+    text: &str,
+) -> Result<bool, NoMemory> {
     let mut shelf = identity(alloc, b"")?;
     shelf.put("i", image)?;
     ends(alloc, &mut shelf, line, status, text)
@@ -130,13 +130,13 @@ const SAFE: &str = "certificate yes\nstable yes\nconstant-time yes\nsafe yes\n";
 
 #[test]
 fn a_chain_does_not_make_verify_refuse(rt: HostRuntime) -> Result<(), Fail> {
-    assert!(rt; answers(rt.alloc(), &DEMANDED, "blade verify i e", 0, NOT_SAFE)?);
-    assert!(rt; answers(rt.alloc(), &SECRET, "blade verify i e", 0, SAFE)?);
+    assert!(rt; answers(rt.alloc(), &DEMANDED, "verify i e", 0, NOT_SAFE)?);
+    assert!(rt; answers(rt.alloc(), &SECRET, "verify i e", 0, SAFE)?);
     Ok(())
 }
 
 /// The image with the demand, of a result that does not exist.
-fn demanded_of_no_result(alloc: Global) -> Result<Vec<u8>, Fail> {
+fn demanded_of_no_result(alloc: Global) -> Result<Vec<u8>, NoMemory> {
     let mut image = DEMANDED[..25].to_vec(alloc)?;
     image.push(0x01)?;
     image.extend_from_slice(&DEMANDED[26..])?;
@@ -144,7 +144,7 @@ fn demanded_of_no_result(alloc: Global) -> Result<Vec<u8>, Fail> {
 }
 
 /// Whether a call with that image is refused.
-fn is_refused(alloc: Global, line: &str) -> Result<bool, Fail> {
+fn is_refused(alloc: Global, line: &str) -> Result<bool, NoMemory> {
     let image = demanded_of_no_result(alloc)?;
     answers(alloc, &image, line, 12, "image: rule 9 at 0\n")
 }
@@ -153,8 +153,8 @@ fn is_refused(alloc: Global, line: &str) -> Result<bool, Fail> {
 fn an_image_that_demands_a_result_that_does_not_exist_is_refused(
     rt: HostRuntime,
 ) -> Result<(), Fail> {
-    assert!(rt; is_refused(rt.alloc(), "blade run i id/f s")?);
-    assert!(rt; is_refused(rt.alloc(), "blade verify i e")?);
+    assert!(rt; is_refused(rt.alloc(), "run i id/f s")?);
+    assert!(rt; is_refused(rt.alloc(), "verify i e")?);
     Ok(())
 }
 
@@ -185,9 +185,9 @@ static THREE: [u8; 69] = [
 const REPORT: &str = "functions 2\ncommands 15\nsites 4\nprotects 0 weight 0\nconstant-time yes\n";
 
 /// Whether those functions with those labels have that report and that image.
-fn are_hardened(alloc: Global, labels: &[u8]) -> Result<bool, Fail> {
+fn are_hardened(alloc: Global, labels: &[u8]) -> Result<bool, NoMemory> {
     let mut shelf = shelf_of(alloc, TWO, labels)?;
-    let reported = ends(alloc, &mut shelf, "blade harden i c m.wasm", 0, REPORT)?;
+    let reported = ends(alloc, &mut shelf, "harden i c m.wasm", 0, REPORT)?;
     Ok(reported && holds(&shelf, "i", &THREE))
 }
 

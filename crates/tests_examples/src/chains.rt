@@ -1,5 +1,6 @@
 //! Secrets that reach an end. Positions are computed by hand from the rules of lowering; each program has one chain alone.
 use crate::calls::{ends, put, shelf_of, stands};
+use bl_base::NoMemory;
 use std::alloc::Global;
 use std::test::Fail;
 
@@ -106,14 +107,19 @@ static CASES: [(&[u8], &[u8], &str); 11] = [
 ];
 
 /// Whether a module with those labels has that report, and the image and the certificate are kept.
-fn is_reported(alloc: Global, sections: &[u8], labels: &[u8], report: &str) -> Result<bool, Fail> {
+fn is_reported(
+    alloc: Global,
+    sections: &[u8],
+    labels: &[u8],
+    report: &str,
+) -> Result<bool, NoMemory> {
     let mut shelf = shelf_of(alloc, sections, labels)?;
-    let reported = ends(alloc, &mut shelf, "blade harden i c m.wasm", 0, report)?;
+    let reported = ends(alloc, &mut shelf, "harden i c m.wasm", 0, report)?;
     Ok(reported && stands(&shelf, "i") && stands(&shelf, "c"))
 }
 
 /// How many cases pass before the first that doesn't.
-fn reported(alloc: Global) -> Result<u32, Fail> {
+fn reported(alloc: Global) -> Result<u32, NoMemory> {
     let mut passed = 0u32;
     for (sections, labels, report) in &CASES {
         if !is_reported(alloc, *sections, *labels, *report)? {
@@ -176,20 +182,14 @@ fn is_reported_behind(
     sections: &[u8],
     labels: &[u8],
     report: &str,
-) -> Result<bool, Fail> {
+) -> Result<bool, NoMemory> {
     let mut shelf = shelf_of(alloc, sections, labels)?;
     put(alloc, &mut shelf, "a.wasm", FIRST, b"")?;
-    ends(
-        alloc,
-        &mut shelf,
-        "blade harden i c a.wasm m.wasm",
-        0,
-        report,
-    )
+    ends(alloc, &mut shelf, "harden i c a.wasm m.wasm", 0, report)
 }
 
 /// How many modules behind the first one pass before the first that doesn't.
-fn reported_behind(alloc: Global) -> Result<u32, Fail> {
+fn reported_behind(alloc: Global) -> Result<u32, NoMemory> {
     let mut passed = 0u32;
     for (sections, labels, report) in &BEHIND {
         if !is_reported_behind(alloc, *sections, *labels, *report)? {
