@@ -53,8 +53,15 @@ fn is_start(
 }
 
 /// The outcome of the first function of an image's program, from a start of one argument; None where the start doesn't fit.
-fn outcome(alloc: Global, image: &[u8], argument: u64, steps: u64) -> Result<Option<Run>, Fail> {
-    let program = decode_image(alloc, image)?;
+fn outcome(
+    alloc: Global,
+    image: &[u8],
+    argument: u64,
+    steps: u64,
+) -> Result<Option<Run>, NoMemory> {
+    let Ok(program) = decode_image(alloc, image) else {
+        return Ok(None);
+    };
     let mut start = Start {
         args: List::new(alloc),
         patches: List::new(alloc),
@@ -67,7 +74,7 @@ fn outcome(alloc: Global, image: &[u8], argument: u64, steps: u64) -> Result<Opt
 }
 
 /// Whether the run of `INC` with the greatest argument returns 0 within six steps.
-fn returns(alloc: Global) -> Result<bool, Fail> {
+fn returns(alloc: Global) -> Result<bool, NoMemory> {
     match outcome(alloc, &INC, 4_294_967_295, 6)? {
         Some(Run::Returned { values, memories }) => {
             Ok(values.as_slice() == [0].as_slice() && memories.is_empty())
@@ -77,12 +84,12 @@ fn returns(alloc: Global) -> Result<bool, Fail> {
 }
 
 /// Whether five steps are too few for it.
-fn is_spent(alloc: Global) -> Result<bool, Fail> {
+fn is_spent(alloc: Global) -> Result<bool, NoMemory> {
     Ok(matches!(&outcome(alloc, &INC, 4_294_967_295, 5)?, Some(Run::Spent)))
 }
 
 /// Whether an argument of 33 bits fits no start.
-fn is_unfit(alloc: Global) -> Result<bool, Fail> {
+fn is_unfit(alloc: Global) -> Result<bool, NoMemory> {
     Ok(outcome(alloc, &INC, 4_294_967_296, 5)?.is_none())
 }
 
@@ -103,7 +110,7 @@ fn is_one_page(memories: &[Pages]) -> bool {
 }
 
 /// Whether the second load of `LOADS` leaves its memory.
-fn leaves(alloc: Global) -> Result<bool, Fail> {
+fn leaves(alloc: Global) -> Result<bool, NoMemory> {
     match outcome(alloc, &LOADS, 65_533, 100)? {
         Some(Run::Trapped { kind, memories }) => {
             Ok(kind == Trap::OutOfBounds && is_one_page(memories.as_slice()))
