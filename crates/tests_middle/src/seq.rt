@@ -52,7 +52,8 @@ fn is_start(
     Ok(fits(kinds.as_slice(), pages.as_slice(), start))
 }
 
-/// The outcome of the first function of an image's program, from a start of one argument; None where the start doesn't fit.
+/// The outcome of the first function of an image's program, from a start of one argument; None where the start doesn't fit. Bytes that
+/// are no image are answered like want of memory.
 fn outcome(
     alloc: Global,
     image: &[u8],
@@ -60,7 +61,7 @@ fn outcome(
     steps: u64,
 ) -> Result<Option<Run>, NoMemory> {
     let Ok(program) = decode_image(alloc, image) else {
-        return Ok(None);
+        return Err(NoMemory);
     };
     let mut start = Start {
         args: List::new(alloc),
