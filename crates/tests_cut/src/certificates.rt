@@ -1,31 +1,21 @@
 //! Certificates that break a rule, and texts that are none.
 use crate::images::{DOUBLED, LOADS, SUM};
-use bl_base::{NoMemory, Pos, SiteSet};
+use bl_base::{Pos, SiteSet};
 use bl_cut::protect;
 use bl_image::decode_image;
 use bl_witness::{CertError, CertVerdict, check_certificate, from_json};
 use std::alloc::Global;
 use std::test::Fail;
 
-/// The verdict on a certificate's text for an image whose protects are those; what is no image or no certificate is answered like want
-/// of memory.
-fn verdict(
-    alloc: Global,
-    image: &[u8],
-    protects: &[u32],
-    text: &str,
-) -> Result<CertVerdict, NoMemory> {
-    let Ok(program) = decode_image(alloc, image) else {
-        return Err(NoMemory);
-    };
+/// The verdict on a certificate's text for an image whose protects are those.
+fn verdict(alloc: Global, image: &[u8], protects: &[u32], text: &str) -> Result<CertVerdict, Fail> {
+    let program = decode_image(alloc, image)?;
     let mut sites = SiteSet::new(alloc);
     for position in protects {
         sites.insert(Pos(*position))?;
     }
     let protected = protect(program, &sites);
-    let Ok(certificate) = from_json(alloc, text.as_bytes()) else {
-        return Err(NoMemory);
-    };
+    let certificate = from_json(alloc, text.as_bytes())?;
     let verdict = check_certificate(alloc, &protected, &certificate)?;
     Ok(verdict)
 }
@@ -37,7 +27,7 @@ fn breaks(
     protects: &[u32],
     text: &str,
     broken: (u8, u64),
-) -> Result<bool, NoMemory> {
+) -> Result<bool, Fail> {
     let (rule, index) = broken;
     Ok(verdict(alloc, image, protects, text)? == CertVerdict::No { rule, index })
 }

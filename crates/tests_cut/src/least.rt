@@ -5,6 +5,7 @@ use bl_image::decode_image;
 use bl_transient::{FlowVerdict, flows};
 use bl_witness::{CertVerdict, check_certificate, from_json, to_json};
 use std::alloc::Global;
+use std::test::Fail;
 
 /// The least protects of a program, and what is said of them.
 #[derive(Drop)]
@@ -21,16 +22,12 @@ pub(crate) struct Found {
     pub(crate) stable: bool,
 }
 
-/// The least protects of the program that the bytes are the image of; bytes that are none are answered like want of memory.
-pub(crate) fn least(alloc: Global, image: &[u8]) -> Result<Found, NoMemory> {
-    let Ok(program) = decode_image(alloc, image) else {
-        return Err(NoMemory);
-    };
+/// The least protects of the program that the bytes are the image of.
+pub(crate) fn least(alloc: Global, image: &[u8]) -> Result<Found, Fail> {
+    let program = decode_image(alloc, image)?;
     let choice = least_protects(alloc, &program)?;
     let text = to_json(alloc, &choice.certificate)?;
-    let Ok(certificate) = from_json(alloc, text.as_slice()) else {
-        return Err(NoMemory);
-    };
+    let certificate = from_json(alloc, text.as_slice())?;
     let protected = protect(program, &choice.protects);
     let verdict = check_certificate(alloc, &protected, &certificate)?;
     let flow = flows(alloc, &protected, &choice.protects)?;
@@ -60,7 +57,7 @@ pub(crate) fn is_least(
     image: &[u8],
     protects: &[u32],
     weight: u64,
-) -> Result<bool, NoMemory> {
+) -> Result<bool, Fail> {
     let found = least(alloc, image)?;
     if found.weight != weight || found.protects.len() != protects.len() {
         return Ok(false);
@@ -74,11 +71,7 @@ pub(crate) fn is_least(
 }
 
 /// Whether the certificate's text is one of those.
-pub(crate) fn is_certified_by(
-    alloc: Global,
-    image: &[u8],
-    texts: &[&str],
-) -> Result<bool, NoMemory> {
+pub(crate) fn is_certified_by(alloc: Global, image: &[u8], texts: &[&str]) -> Result<bool, Fail> {
     let found = least(alloc, image)?;
     for text in texts {
         if found.text.as_slice() == text.as_bytes() {

@@ -2,7 +2,7 @@
 ghost use Rattle.std.specs.Prelude.{IfOk, IfSome};
 ghost use Rattle.bl_link.specs.Linkable.{IsPart};
 
-use bl_base::{List, NoMemory, Text};
+use bl_base::{List, Text};
 use bl_decode::decode;
 use bl_labels::Labels;
 use bl_link::{Part, link};
@@ -13,7 +13,7 @@ use std::test::Fail;
 
 /// The part "m" whose module the bytes spell, without labels; None where they spell no valid one, or are more than 1,000.
 #[tactic(auto, using(bl_wasm::proofs::LimitLemmas::few_functions))]
-fn part(alloc: Global, bytes: &[u8]) -> Result<Option<Part>, NoMemory>
+fn part(alloc: Global, bytes: &[u8]) -> Result<Option<Part>, Fail>
     ensures { IfOk result (λ part. IfSome part IsPart) }
 {
     if bytes.len() > 1_000 {
@@ -34,7 +34,7 @@ fn part(alloc: Global, bytes: &[u8]) -> Result<Option<Part>, NoMemory>
 
 /// The module that the bytes spell, linked under the name "m"; None where there is none.
 #[tactic(auto, using(bl_link::proofs::SpelledParts::one_part))]
-pub fn linked(alloc: Global, bytes: &[u8]) -> Result<Option<Linked>, NoMemory> {
+pub fn linked(alloc: Global, bytes: &[u8]) -> Result<Option<Linked>, Fail> {
     let Some(part) = part(alloc, bytes)? else {
         return Ok(None);
     };
@@ -75,7 +75,7 @@ fn has_global(globals: &[LinkedGlobal]) -> bool {
 }
 
 /// Whether `MODULE` is linked so.
-fn is_linked(alloc: Global) -> Result<bool, NoMemory> {
+fn is_linked(alloc: Global) -> Result<bool, Fail> {
     let Some(linked) = linked(alloc, MODULE)? else {
         return Ok(false);
     };

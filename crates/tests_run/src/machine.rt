@@ -48,7 +48,7 @@ pub fn run_linked(
 }
 
 /// The outcome of function 0 of a module within so many steps; None where the module can't be linked or the arguments don't fit.
-fn run(alloc: Global, wasm: &[u8], args: &[u64], steps: u64) -> Result<Option<Run>, NoMemory> {
+fn run(alloc: Global, wasm: &[u8], args: &[u64], steps: u64) -> Result<Option<Run>, Fail> {
     let Some(linked) = linked(alloc, wasm)? else {
         return Ok(None);
     };
@@ -63,7 +63,7 @@ fn returns_in(
     args: &[u64],
     steps: u64,
     wanted: &[u64],
-) -> Result<bool, NoMemory> {
+) -> Result<bool, Fail> {
     match run(alloc, wasm, args, steps)? {
         Some(Run::Returned { values, .. }) => Ok(values.as_slice() == wanted),
         _ => Ok(false),
@@ -77,14 +77,14 @@ fn traps_in(
     args: &[u64],
     steps: u64,
     wanted: Trap,
-) -> Result<bool, NoMemory> {
+) -> Result<bool, Fail> {
     match run(alloc, wasm, args, steps)? {
         Some(Run::Trapped { kind, .. }) => Ok(kind == wanted),
         _ => Ok(false),
     }
 }
 
-fn is_spent(alloc: Global, wasm: &[u8], args: &[u64], steps: u64) -> Result<bool, NoMemory> {
+fn is_spent(alloc: Global, wasm: &[u8], args: &[u64], steps: u64) -> Result<bool, Fail> {
     Ok(matches!(run(alloc, wasm, args, steps)?, Some(Run::Spent)))
 }
 
@@ -102,7 +102,7 @@ enum End {
 type Case = (&'static [u8], &'static [u64], u64, End);
 
 /// Whether the run ends so.
-fn ends(alloc: Global, wasm: &[u8], args: &[u64], steps: u64, end: &End) -> Result<bool, NoMemory> {
+fn ends(alloc: Global, wasm: &[u8], args: &[u64], steps: u64, end: &End) -> Result<bool, Fail> {
     match end {
         End::Returned(values) => returns_in(alloc, wasm, args, steps, *values),
         End::Trapped(kind) => traps_in(alloc, wasm, args, steps, *kind),
@@ -111,7 +111,7 @@ fn ends(alloc: Global, wasm: &[u8], args: &[u64], steps: u64, end: &End) -> Resu
 }
 
 /// How many runs end as they have to before the first that doesn't.
-fn passing(alloc: Global, cases: &[Case]) -> Result<u32, NoMemory> {
+fn passing(alloc: Global, cases: &[Case]) -> Result<u32, Fail> {
     let mut passed = 0u32;
     for (wasm, args, steps, end) in cases {
         if !ends(alloc, *wasm, *args, *steps, end)? {

@@ -12,7 +12,7 @@ ghost use Rattle.bl_wasm.specs.Validity.{functions_of};
 
 use super::validate_bodies::{BODIES, SEVERAL};
 use super::validate_modules::{CODE, SEGMENTS, STORES, TYPES};
-use bl_base::{List, NoMemory, Text};
+use bl_base::{List, Text};
 use bl_ops::{AccessKind, by_code};
 use bl_validate::{Invalid, validate};
 use bl_wasm::WasmType::{self, F32, F64, I32, I64};
@@ -105,7 +105,7 @@ const AROUND: Parts = Parts {
 };
 
 /// The list of a few values.
-fn list<T: Copy + Drop>(alloc: Global, values: &[T]) -> Result<List<T>, NoMemory> {
+fn list<T: Copy + Drop>(alloc: Global, values: &[T]) -> Result<List<T>, Fail> {
     Ok(List::of(values.to_vec(alloc)?))
 }
 
@@ -122,7 +122,7 @@ fn block_type(byte: u8) -> BlockType {
 }
 
 /// The item of a code, whose immediates are the bytes that follow, one byte each.
-fn item(alloc: Global, code: u8, rest: &[u8]) -> Result<Instr, NoMemory> {
+fn item(alloc: Global, code: u8, rest: &[u8]) -> Result<Instr, Fail> {
     let first = rest.first().map_or(0, |byte| *byte);
     let x = u32::from(first);
     Ok(match code {
@@ -156,7 +156,7 @@ fn item(alloc: Global, code: u8, rest: &[u8]) -> Result<Instr, NoMemory> {
 }
 
 /// A `br_table`.
-fn table(alloc: Global, rest: &[u8]) -> Result<Instr, NoMemory> {
+fn table(alloc: Global, rest: &[u8]) -> Result<Instr, Fail> {
     let (labels, default) = match rest {
         [0, default, ..] => (List::new(alloc), *default),
         [1, label, default, ..] => (list(alloc, &[u32::from(*label)])?, *default),
@@ -202,7 +202,7 @@ fn immediates(code: u8, rest: &[u8]) -> usize {
 }
 
 /// The items of a body.
-fn items(alloc: Global, body: &[u8]) -> Result<List<Instr>, NoMemory> {
+fn items(alloc: Global, body: &[u8]) -> Result<List<Instr>, Fail> {
     let mut items = List::new(alloc);
     let mut skipped = 0;
     for (at, code) in body.iter().enumerate() {
@@ -222,7 +222,7 @@ fn function_type(
     alloc: Global,
     params: &[WasmType],
     results: &[WasmType],
-) -> Result<FuncType, NoMemory> {
+) -> Result<FuncType, Fail> {
     Ok(FuncType {
         params: list(alloc, params)?,
         results: list(alloc, results)?,
@@ -230,7 +230,7 @@ fn function_type(
 }
 
 /// Limits.
-fn limits(parts: &[(u32, Option<u32>)], list: &mut List<Limits>) -> Result<(), NoMemory> {
+fn limits(parts: &[(u32, Option<u32>)], list: &mut List<Limits>) -> Result<(), Fail> {
     for (min, max) in parts {
         list.push(Limits {
             min: *min,
@@ -241,7 +241,7 @@ fn limits(parts: &[(u32, Option<u32>)], list: &mut List<Limits>) -> Result<(), N
 }
 
 /// The types, imports and functions.
-fn put_functions(alloc: Global, parts: &Parts, tree: &mut Module) -> Result<(), NoMemory> {
+fn put_functions(alloc: Global, parts: &Parts, tree: &mut Module) -> Result<(), Fail> {
     for (params, results) in parts.types {
         tree.types.push(function_type(alloc, params, results)?)?;
     }
@@ -259,7 +259,7 @@ fn put_functions(alloc: Global, parts: &Parts, tree: &mut Module) -> Result<(), 
 }
 
 /// Locals.
-fn local_runs(alloc: Global, parts: &[(u32, WasmType)]) -> Result<List<LocalRun>, NoMemory> {
+fn local_runs(alloc: Global, parts: &[(u32, WasmType)]) -> Result<List<LocalRun>, Fail> {
     let mut locals = List::new(alloc);
     for (count, kind) in parts {
         locals.push(LocalRun {
@@ -276,7 +276,7 @@ fn put_bodies(
     locals: &[(u32, WasmType)],
     bodies: &[&[u8]],
     tree: &mut Module,
-) -> Result<(), NoMemory> {
+) -> Result<(), Fail> {
     for body in bodies {
         tree.bodies.push(Code {
             locals: local_runs(alloc, locals)?,
@@ -287,7 +287,7 @@ fn put_bodies(
 }
 
 /// The globals and exports.
-fn put_globals(alloc: Global, parts: &Parts, tree: &mut Module) -> Result<(), NoMemory> {
+fn put_globals(alloc: Global, parts: &Parts, tree: &mut Module) -> Result<(), Fail> {
     for (kind, mutable, first) in parts.globals {
         tree.globals.push(DefinedGlobal {
             kind: GlobalType {
@@ -308,7 +308,7 @@ fn put_globals(alloc: Global, parts: &Parts, tree: &mut Module) -> Result<(), No
 }
 
 /// The segments.
-fn put_segments(alloc: Global, parts: &Parts, tree: &mut Module) -> Result<(), NoMemory> {
+fn put_segments(alloc: Global, parts: &Parts, tree: &mut Module) -> Result<(), Fail> {
     for (table, offset, functions) in parts.elements {
         tree.elements.push(ElementSegment {
             table: *table,
@@ -345,7 +345,7 @@ fn empty(alloc: Global, start: Option<u32>) -> Module {
 }
 
 /// Puts the parts into a module.
-fn put(alloc: Global, parts: &Parts, tree: &mut Module) -> Result<(), NoMemory> {
+fn put(alloc: Global, parts: &Parts, tree: &mut Module) -> Result<(), Fail> {
     put_functions(alloc, parts, tree)?;
     limits(parts.tables, &mut tree.tables)?;
     limits(parts.memories, &mut tree.memories)?;
@@ -354,7 +354,7 @@ fn put(alloc: Global, parts: &Parts, tree: &mut Module) -> Result<(), NoMemory> 
 }
 
 /// The module of the parts with those bodies.
-fn module_of(alloc: Global, parts: &Parts, bodies: &[&[u8]]) -> Result<Module, NoMemory> {
+fn module_of(alloc: Global, parts: &Parts, bodies: &[&[u8]]) -> Result<Module, Fail> {
     let mut tree = empty(alloc, parts.start);
     put(alloc, parts, &mut tree)?;
     put_bodies(alloc, parts.locals, bodies, &mut tree)?;
@@ -400,7 +400,7 @@ fn is_small(tree: &Module) -> bool
 }
 
 /// Why the module of the parts with those bodies isn't valid; None where it is.
-fn verdict(alloc: Global, parts: &Parts, bodies: &[&[u8]]) -> Result<Option<Invalid>, NoMemory> {
+fn verdict(alloc: Global, parts: &Parts, bodies: &[&[u8]]) -> Result<Option<Invalid>, Fail> {
     let tree = module_of(alloc, parts, bodies)?;
     if !is_small(&tree) {
         return Ok(Some(Invalid::Memory));
@@ -415,7 +415,7 @@ fn verdict(alloc: Global, parts: &Parts, bodies: &[&[u8]]) -> Result<Option<Inva
 fn first_wrong_body(
     alloc: Global,
     cases: &[(&[u8], bool)],
-) -> Result<Option<(usize, Option<Invalid>)>, NoMemory> {
+) -> Result<Option<(usize, Option<Invalid>)>, Fail> {
     for (at, (body, valid)) in cases.iter().enumerate() {
         let wanted = if *valid {
             None
@@ -443,10 +443,7 @@ fn blocks_of_several_types_are_judged_as_elsewhere(rt: HostRuntime) -> Result<()
 }
 
 /// The first of the cases that is judged otherwise, and how.
-fn first_wrong(
-    alloc: Global,
-    cases: &[Case],
-) -> Result<Option<(usize, Option<Invalid>)>, NoMemory> {
+fn first_wrong(alloc: Global, cases: &[Case]) -> Result<Option<(usize, Option<Invalid>)>, Fail> {
     for (at, (changes, wanted)) in cases.iter().enumerate() {
         let parts = changed(changes);
         let found = verdict(alloc, &parts, parts.bodies)?;
