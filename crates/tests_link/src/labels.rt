@@ -1,6 +1,5 @@
 //! Labels of modules by their bytes. The expected answers are those of the rules, read off each section by hand.
 
-use bl_base::NoMemory;
 use bl_decode::decode;
 use bl_labels::{LabelError, Labels, Place, labels_of};
 use std::alloc::Global;
@@ -24,7 +23,7 @@ fn answer(
     alloc: Global,
     first: &[u8],
     second: &[u8],
-) -> Result<Option<Result<Labels, LabelError>>, NoMemory> {
+) -> Result<Option<Result<Labels, LabelError>>, Fail> {
     let mut bytes = HEAD.to_vec(alloc)?;
     bytes.extend_from_slice(first)?;
     bytes.extend_from_slice(second)?;
@@ -35,7 +34,7 @@ fn answer(
 }
 
 /// The fault of that module; None where it has labels or isn't one.
-fn fault(alloc: Global, first: &[u8], second: &[u8]) -> Result<Option<LabelError>, NoMemory> {
+fn fault(alloc: Global, first: &[u8], second: &[u8]) -> Result<Option<LabelError>, Fail> {
     match answer(alloc, first, second)? {
         Some(Err(error)) => Ok(Some(error)),
         _ => Ok(None),
@@ -43,12 +42,12 @@ fn fault(alloc: Global, first: &[u8], second: &[u8]) -> Result<Option<LabelError
 }
 
 /// Whether that module has labels.
-fn is_labelled(alloc: Global, first: &[u8], second: &[u8]) -> Result<bool, NoMemory> {
+fn is_labelled(alloc: Global, first: &[u8], second: &[u8]) -> Result<bool, Fail> {
     Ok(matches!(&answer(alloc, first, second)?, Some(Ok(_))))
 }
 
 /// How many of these sections behind `OWN` have such a fault before the first that hasn't.
-fn refused(alloc: Global, sections: &[(&[u8], LabelError)]) -> Result<u32, NoMemory> {
+fn refused(alloc: Global, sections: &[(&[u8], LabelError)]) -> Result<u32, Fail> {
     let mut passed = 0u32;
     for (section, error) in sections {
         if fault(alloc, OWN, *section)? != Some(*error) {
@@ -73,7 +72,7 @@ fn are_entries(labels: &Labels) -> bool {
 }
 
 /// Whether a section of four entries gives those labels.
-fn names_entries(alloc: Global) -> Result<bool, NoMemory> {
+fn names_entries(alloc: Global) -> Result<bool, Fail> {
     let section = b"\0\x19\x0cblade.labels\x02\x04\x02\0\0\x01\0\x03\x01\0\x04\0";
     match answer(alloc, OWN, section)? {
         Some(Ok(labels)) => Ok(are_entries(&labels)),
@@ -88,7 +87,7 @@ fn entries_are_labels_in_their_order(rt: HostRuntime) -> Result<(), Fail> {
 }
 
 /// Whether the one global is named by a section before all others.
-fn names_before(alloc: Global) -> Result<bool, NoMemory> {
+fn names_before(alloc: Global) -> Result<bool, Fail> {
     let section = b"\0\x11\x0cblade.labels\x01\x01\x01\0";
     match answer(alloc, section, OWN)? {
         Some(Ok(labels)) => Ok(labels.globals.as_slice() == [0].as_slice()),
@@ -103,7 +102,7 @@ fn a_section_may_stand_before_all_others(rt: HostRuntime) -> Result<(), Fail> {
 }
 
 /// Whether a section of another name gives no labels.
-fn names_nothing(alloc: Global) -> Result<bool, NoMemory> {
+fn names_nothing(alloc: Global) -> Result<bool, Fail> {
     match answer(alloc, OWN, b"\0\x0d\x0cblade.label.")? {
         Some(Ok(labels)) => Ok(labels.params.len() == 0 && labels.memories.len() == 0),
         _ => Ok(false),
@@ -117,7 +116,7 @@ fn without_a_section_nothing_is_named(rt: HostRuntime) -> Result<(), Fail> {
 }
 
 /// Whether version 1 takes a secret and no demand, and version 2 takes both.
-fn demands_are_new(alloc: Global) -> Result<bool, NoMemory> {
+fn demands_are_new(alloc: Global) -> Result<bool, Fail> {
     let secret = b"\0\x12\x0cblade.labels\x01\x01\0\0\0";
     let demand = b"\0\x15\x0cblade.labels\x01\x02\0\0\0\x03\0\0";
     let later = b"\0\x15\x0cblade.labels\x02\x02\0\0\0\x03\0\0";

@@ -2,7 +2,7 @@
 //! the others break one rule each.
 
 use crate::parts::linked;
-use bl_base::{List, NoMemory};
+use bl_base::List;
 use bl_link::LinkError;
 use bl_wasm::{Exports, Memory};
 use std::alloc::Global;
@@ -68,7 +68,7 @@ fn has_bytes(memories: &[Memory]) -> bool {
 }
 
 /// Whether the three modules are linked so.
-fn are_linked(alloc: Global) -> Result<bool, NoMemory> {
+fn are_linked(alloc: Global) -> Result<bool, Fail> {
     let modules = [("a", FIRST), ("b", SECOND), ("c", THIRD)];
     let Some(Ok(linked)) = linked(alloc, modules.as_slice())? else {
         return Ok(false);
@@ -88,11 +88,7 @@ fn modules_are_linked(rt: HostRuntime) -> Result<(), Fail> {
 }
 
 /// Whether linking those modules has that fault.
-fn is_refused(
-    alloc: Global,
-    modules: [(&str, &[u8]); 2],
-    wanted: LinkError,
-) -> Result<bool, NoMemory> {
+fn is_refused(alloc: Global, modules: [(&str, &[u8]); 2], wanted: LinkError) -> Result<bool, Fail> {
     match linked(alloc, modules.as_slice())? {
         Some(Err(error)) => Ok(error == wanted),
         _ => Ok(false),
@@ -114,7 +110,7 @@ fn a_table_without_a_maximum_does_not_match_one(rt: HostRuntime) -> Result<(), F
 }
 
 /// Whether a byte beyond the memory counts where both element segments are in the table alone.
-fn elements_are_first(alloc: Global) -> Result<bool, NoMemory> {
+fn elements_are_first(alloc: Global) -> Result<bool, Fail> {
     Ok(
         is_refused(
             alloc,

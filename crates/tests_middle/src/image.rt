@@ -47,16 +47,14 @@ static DEMANDED: [u8; 41] = [
 ];
 
 /// Whether an image is read, and written as it was.
-fn is_read_again(alloc: Global, image: &[u8]) -> Result<bool, NoMemory> {
-    let Ok(program) = decode_image(alloc, image) else {
-        return Ok(false);
-    };
+fn is_read_again(alloc: Global, image: &[u8]) -> Result<bool, Fail> {
+    let program = decode_image(alloc, image)?;
     let bytes = encode(alloc, &program)?;
     Ok(bytes.as_slice() == image)
 }
 
 /// How many of the images are read again before the first that isn't.
-fn read_again(alloc: Global) -> Result<u32, NoMemory> {
+fn read_again(alloc: Global) -> Result<u32, Fail> {
     let images: [&[u8]; 6] = [&EMPTY, &INC, &LOADS, &GROWTH, &VAULT, &DEMANDED];
     let mut passed = 0u32;
     for image in images {
@@ -145,7 +143,7 @@ static CHANGES: [Change; 7] = [
 ];
 
 /// Whether another entry of the function makes another image.
-fn is_another(alloc: Global) -> Result<bool, NoMemory> {
+fn is_another(alloc: Global) -> Result<bool, Fail> {
     let bytes = changed(alloc, &INC, 28, 0x08)?;
     is_read_again(alloc, &bytes)
 }
@@ -221,11 +219,9 @@ fn three_sites(alloc: Global) -> Result<SiteSet, NoMemory> {
 }
 
 /// Whether the sites weigh 100 for the mark and 5 as listed; at 10 stands no site.
-fn is_weighed(alloc: Global) -> Result<bool, NoMemory> {
+fn is_weighed(alloc: Global) -> Result<bool, Fail> {
     let bytes = listed(alloc)?;
-    let Ok(program) = decode_image(alloc, &bytes) else {
-        return Ok(false);
-    };
+    let program = decode_image(alloc, &bytes)?;
     let protects = three_sites(alloc)?;
     Ok(weight(&program, &protects) == 105)
 }

@@ -52,17 +52,9 @@ fn is_start(
     Ok(fits(kinds.as_slice(), pages.as_slice(), start))
 }
 
-/// The outcome of the first function of an image's program, from a start of one argument; None where the start doesn't fit. Bytes that
-/// are no image are answered like want of memory.
-fn outcome(
-    alloc: Global,
-    image: &[u8],
-    argument: u64,
-    steps: u64,
-) -> Result<Option<Run>, NoMemory> {
-    let Ok(program) = decode_image(alloc, image) else {
-        return Err(NoMemory);
-    };
+/// The outcome of the first function of an image's program, from a start of one argument; None where the start doesn't fit.
+fn outcome(alloc: Global, image: &[u8], argument: u64, steps: u64) -> Result<Option<Run>, Fail> {
+    let program = decode_image(alloc, image)?;
     let mut start = Start {
         args: List::new(alloc),
         patches: List::new(alloc),
@@ -75,7 +67,7 @@ fn outcome(
 }
 
 /// Whether the run of `INC` with the greatest argument returns 0 within six steps.
-fn returns(alloc: Global) -> Result<bool, NoMemory> {
+fn returns(alloc: Global) -> Result<bool, Fail> {
     match outcome(alloc, &INC, 4_294_967_295, 6)? {
         Some(Run::Returned { values, memories }) => {
             Ok(values.as_slice() == [0].as_slice() && memories.is_empty())
@@ -85,12 +77,12 @@ fn returns(alloc: Global) -> Result<bool, NoMemory> {
 }
 
 /// Whether five steps are too few for it.
-fn is_spent(alloc: Global) -> Result<bool, NoMemory> {
+fn is_spent(alloc: Global) -> Result<bool, Fail> {
     Ok(matches!(&outcome(alloc, &INC, 4_294_967_295, 5)?, Some(Run::Spent)))
 }
 
 /// Whether an argument of 33 bits fits no start.
-fn is_unfit(alloc: Global) -> Result<bool, NoMemory> {
+fn is_unfit(alloc: Global) -> Result<bool, Fail> {
     Ok(outcome(alloc, &INC, 4_294_967_296, 5)?.is_none())
 }
 
@@ -111,7 +103,7 @@ fn is_one_page(memories: &[Pages]) -> bool {
 }
 
 /// Whether the second load of `LOADS` leaves its memory.
-fn leaves(alloc: Global) -> Result<bool, NoMemory> {
+fn leaves(alloc: Global) -> Result<bool, Fail> {
     match outcome(alloc, &LOADS, 65_533, 100)? {
         Some(Run::Trapped { kind, memories }) => {
             Ok(kind == Trap::OutOfBounds && is_one_page(memories.as_slice()))
