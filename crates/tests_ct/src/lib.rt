@@ -1,4 +1,4 @@
-//! Tests of the check of constant time, from an image's bytes on.
+//! Tests of the check of constant time and of the verdict on two runs, from an image's bytes on.
 #![tactic(auto)]
 
 #[cfg(test)]
@@ -7,5 +7,7 @@ mod chains;
 mod images;
 #[cfg(test)]
 mod labels;
+#[cfg(test)]
+mod pairs;
 #[cfg(test)]
 mod verdicts;

@@ -1,21 +1,22 @@
 //! The verdict on an image.
-use bl_base::Label;
+use bl_base::{Label, NoMemory};
 use bl_ct::{CtVerdict, constant_time};
 use bl_graph::{Origin, graph};
 use bl_image::decode_image;
 use std::alloc::Global;
-use std::test::Fail;
 
-/// The verdict on the program of an image.
-pub(crate) fn verdict(alloc: Global, image: &[u8]) -> Result<CtVerdict, Fail> {
-    let program = decode_image(alloc, image)?;
+/// The verdict on the program of an image; bytes that are none are answered like want of memory.
+pub(crate) fn verdict(alloc: Global, image: &[u8]) -> Result<CtVerdict, NoMemory> {
+    let Ok(program) = decode_image(alloc, image) else {
+        return Err(NoMemory);
+    };
     let graph = graph(alloc, &program)?;
     let verdict = constant_time(alloc, &program, &graph)?;
     Ok(verdict)
 }
 
 /// Whether the labels of the program's variables are these.
-pub(crate) fn has_labels(alloc: Global, image: &[u8], labels: &[Label]) -> Result<bool, Fail> {
+pub(crate) fn has_labels(alloc: Global, image: &[u8], labels: &[Label]) -> Result<bool, NoMemory> {
     match &verdict(alloc, image)? {
         CtVerdict::Yes(found) => Ok(found.as_slice() == labels),
         CtVerdict::No(_) => Ok(false),
@@ -29,7 +30,7 @@ pub(crate) fn leaks(
     origin: Origin,
     through: &[u32],
     end: u32,
-) -> Result<bool, Fail> {
+) -> Result<bool, NoMemory> {
     match &verdict(alloc, image)? {
         CtVerdict::Yes(_) => Ok(false),
         CtVerdict::No(chain) => {

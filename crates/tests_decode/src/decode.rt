@@ -1,25 +1,26 @@
 use bl_base::{NoMemory, Quantity};
 use bl_decode::{DecodeError, decode};
+use bl_wasm::Module;
 use std::alloc::Global;
 use std::test::Fail;
 
-const HEADER: [u8; 8] = [0x00, 0x61, 0x73, 0x6D, 0x01, 0x00, 0x00, 0x00];
+static HEADER: [u8; 8] = [0x00, 0x61, 0x73, 0x6D, 0x01, 0x00, 0x00, 0x00];
 
 /// A module whose one function loads from what it loaded.
-const LOADS: [u8; 46] = [
+static LOADS: [u8; 46] = [
     0x00, 0x61, 0x73, 0x6D, 0x01, 0x00, 0x00, 0x00, 0x01, 0x06, 0x01, 0x60, 0x01, 0x7F, 0x01, 0x7F,
     0x03, 0x02, 0x01, 0x00, 0x05, 0x03, 0x01, 0x00, 0x01, 0x07, 0x05, 0x01, 0x01, 0x66, 0x00, 0x00,
     0x0A, 0x0C, 0x01, 0x0A, 0x00, 0x20, 0x00, 0x28, 0x02, 0x00, 0x28, 0x02, 0x00, 0x0B,
 ];
 
 /// The type section of the one type of no parameters and no results.
-const TYPE: [u8; 6] = [0x01, 0x04, 0x01, 0x60, 0x00, 0x00];
+static TYPE: [u8; 6] = [0x01, 0x04, 0x01, 0x60, 0x00, 0x00];
 
 /// The function section of one function of the first type.
-const FUNCTION: [u8; 4] = [0x03, 0x02, 0x01, 0x00];
+static FUNCTION: [u8; 4] = [0x03, 0x02, 0x01, 0x00];
 
 /// The code section of one function without items.
-const CODE: [u8; 6] = [0x0A, 0x04, 0x01, 0x02, 0x00, 0x0B];
+static CODE: [u8; 6] = [0x0A, 0x04, 0x01, 0x02, 0x00, 0x0B];
 
 /// Why the header with those sections behind it isn't decoded; None where it is.
 fn refusal(alloc: Global, sections: &[&[u8]]) -> Result<Option<DecodeError>, NoMemory> {
@@ -39,9 +40,34 @@ fn times(alloc: Global, bytes: &[u8], count: u32) -> Result<Vec<u8>, NoMemory> {
     Ok(all)
 }
 
-#[test]
-fn a_module_is_decoded_whole(rt: HostRuntime) -> Result<(), Fail> {
-    let alloc = rt.alloc();
+/// Whether the sections are refused with that cause.
+fn is_refused(alloc: Global, sections: &[&[u8]], cause: DecodeError) -> Result<bool, NoMemory> {
+    Ok(refusal(alloc, sections)? == Some(cause))
+}
+
+/// Whether they are decoded.
+fn are_decoded(alloc: Global, sections: &[&[u8]]) -> Result<bool, NoMemory> {
+    Ok(refusal(alloc, sections)?.is_none())
+}
+
+/// Whether a quantity of the sections is above its number.
+fn exceeds(
+    alloc: Global,
+    sections: &[&[u8]],
+    which: Quantity,
+    value: u64,
+) -> Result<bool, NoMemory> {
+    is_refused(alloc, sections, DecodeError::Limit { which, value })
+}
+
+/// Whether bytes are malformed.
+fn is_malformed(alloc: Global, bytes: &[u8]) -> bool {
+    decode(alloc, bytes).err() == Some(DecodeError::Malformed)
+}
+
+/// How many prefixes are malformed before the first that isn't, but for two that are modules.
+fn prefixes(alloc: Global) -> u32 {
+    let mut passed = 0u32;
     for len in 0..LOADS.len() {
         let whole = len == 8 || len == 16;
         let cause = if whole {
@@ -49,33 +75,72 @@ fn a_module_is_decoded_whole(rt: HostRuntime) -> Result<(), Fail> {
         } else {
             Some(DecodeError::Malformed)
         };
-        assert_eq!(rt; decode(alloc, &LOADS[..len]).err(), cause);
+        if decode(alloc, &LOADS[..len]).err() != cause {
+            break;
+        }
+        passed = passed.wrapping_add(1);
     }
-    let tree = decode(alloc, &LOADS).expect(&rt, "the module is decoded");
-    assert_eq!(rt; tree.types.len(), 1);
-    assert_eq!(rt; tree.functions.as_slice(), [0].as_slice());
-    for code in tree.bodies.as_slice() {
-        assert_eq!(rt; code.items.len(), 3);
+    passed
+}
+
+/// Whether a module has one type, one function of it with three items, and one export, `f`.
+fn has_one_function(tree: &Module) -> bool {
+    let items = tree.bodies.as_slice().first().map(|code| code.items.len());
+    let name = tree
+        .exports
+        .as_slice()
+        .first()
+        .map(|export| export.name.as_slice());
+    tree.types.len() == 1
+        && tree.functions.as_slice() == [0].as_slice()
+        && items == Some(3)
+        && name == Some(b"f".as_slice())
+        && tree.bodies.len() == 1
+        && tree.exports.len() == 1
+}
+
+/// Whether `LOADS` is decoded to that.
+fn is_whole(alloc: Global) -> bool {
+    match &decode(alloc, &LOADS) {
+        Ok(tree) => has_one_function(tree),
+        Err(_) => false,
     }
-    for export in tree.exports.as_slice() {
-        assert_eq!(rt; export.name.as_slice(), b"f".as_slice());
-    }
-    assert_eq!(rt; (tree.bodies.len(), tree.exports.len()), (1, 1));
+}
+
+#[test]
+fn a_module_is_decoded_whole(rt: HostRuntime) -> Result<(), Fail> {
+    assert_eq!(rt; prefixes(rt.alloc()), 46);
+    assert!(rt; is_whole(rt.alloc()));
     Ok(())
+}
+
+/// The text on the tree of a module; what is none is answered like want of memory.
+fn text_of(alloc: Global, bytes: &[u8]) -> Result<String, NoMemory> {
+    match &decode(alloc, bytes) {
+        Ok(tree) => Ok(format!(in alloc; "{tree:?}")?),
+        Err(_) => Err(NoMemory),
+    }
+}
+
+/// `LOADS` with the size of its code in five bytes.
+fn long_size(alloc: Global) -> Result<Vec<u8>, NoMemory> {
+    let mut bytes = LOADS[..33].to_vec(alloc)?;
+    bytes.extend_from_slice(&[0x8C, 0x80, 0x80, 0x80, 0x00])?;
+    bytes.extend_from_slice(&LOADS[34..])?;
+    Ok(bytes)
+}
+
+/// Whether both have the same tree.
+fn is_same_tree(alloc: Global) -> Result<bool, NoMemory> {
+    let bytes = long_size(alloc)?;
+    let long = text_of(alloc, &bytes)?;
+    let short = text_of(alloc, &LOADS)?;
+    Ok(long.as_str() == short.as_str())
 }
 
 #[test]
 fn a_size_of_five_bytes_gives_the_same_tree(rt: HostRuntime) -> Result<(), Fail> {
-    let alloc = rt.alloc();
-    let mut bytes = LOADS[..33].to_vec(alloc)?;
-    bytes.extend_from_slice(&[0x8C, 0x80, 0x80, 0x80, 0x00])?;
-    bytes.extend_from_slice(&LOADS[34..])?;
-    let short = decode(alloc, &LOADS).expect(&rt, "the module is decoded");
-    let long = decode(alloc, &bytes).expect(&rt, "the module is decoded");
-    assert_eq!(rt;
-        format!(in alloc; "{long:?}")?,
-        format!(in alloc; "{short:?}")?
-    );
+    assert!(rt; is_same_tree(rt.alloc())?);
     Ok(())
 }
 
@@ -121,39 +186,51 @@ static MALFORMED: [&[u8]; 24] = [
     &[0x01, 0x05, 0xFF, 0xFF, 0xFF, 0xFF, 0x0F],
 ];
 
+/// How many of them are malformed before the first that isn't.
+fn malformed(alloc: Global) -> Result<u32, NoMemory> {
+    let mut passed = 0u32;
+    for section in &MALFORMED {
+        if !is_refused(alloc, &[*section], DecodeError::Malformed)? {
+            break;
+        }
+        passed = passed.wrapping_add(1);
+    }
+    Ok(passed)
+}
+
+/// Another first word, and another version.
+static HEADERS: [[u8; 8]; 2] = [
+    [0x00, 0x61, 0x73, 0x6E, 0x01, 0x00, 0x00, 0x00],
+    [0x00, 0x61, 0x73, 0x6D, 0x02, 0x00, 0x00, 0x00],
+];
+
 #[test]
 fn each_rule_of_the_grammar_is_tested(rt: HostRuntime) -> Result<(), Fail> {
-    let alloc = rt.alloc();
-    let malformed = Some(DecodeError::Malformed);
-    for section in MALFORMED.iter() {
-        assert_eq!(rt; refusal(alloc, &[section])?, malformed);
-    }
-    // another first word, and another version
-    let found = decode(alloc, &[0x00, 0x61, 0x73, 0x6E, 0x01, 0x00, 0x00, 0x00]);
-    assert_eq!(rt; found.err(), malformed);
-    let found = decode(alloc, &[0x00, 0x61, 0x73, 0x6D, 0x02, 0x00, 0x00, 0x00]);
-    assert_eq!(rt; found.err(), malformed);
+    assert_eq!(rt; malformed(rt.alloc())?, 24);
+    assert!(rt; is_malformed(rt.alloc(), &HEADERS[0]));
+    assert!(rt; is_malformed(rt.alloc(), &HEADERS[1]));
     Ok(())
+}
+
+/// Whether a type of 1,024 results is decoded.
+fn are_not_too_many(alloc: Global) -> Result<bool, NoMemory> {
+    let results = times(alloc, &[0x7F], 1_024)?;
+    let head = [0x01, 0x85, 0x08, 0x01, 0x60, 0x00, 0x80, 0x08];
+    are_decoded(alloc, &[&head, &results])
+}
+
+/// Whether one result more is told, before a table of 1,025 slots.
+fn are_too_many(alloc: Global) -> Result<bool, NoMemory> {
+    let results = times(alloc, &[0x7F], 1_025)?;
+    let head = [0x01, 0x86, 0x08, 0x01, 0x60, 0x00, 0x81, 0x08];
+    let table = [0x04, 0x05, 0x01, 0x70, 0x00, 0x81, 0x08];
+    exceeds(alloc, &[&head, &results, &table], Quantity::Results, 1025)
 }
 
 #[test]
 fn a_type_has_at_most_1024_results(rt: HostRuntime) -> Result<(), Fail> {
-    let alloc = rt.alloc();
-    let most = times(alloc, &[0x7F], 1_024)?;
-    let largest: [&[u8]; 2] = [&[0x01, 0x85, 0x08, 0x01, 0x60, 0x00, 0x80, 0x08], &most];
-    assert_eq!(rt; refusal(alloc, &largest)?, None);
-    // one more, before a table of 1,025 slots
-    let results = times(alloc, &[0x7F], 1_025)?;
-    let larger: [&[u8]; 3] = [
-        &[0x01, 0x86, 0x08, 0x01, 0x60, 0x00, 0x81, 0x08],
-        &results,
-        &[0x04, 0x05, 0x01, 0x70, 0x00, 0x81, 0x08],
-    ];
-    let cause = DecodeError::Limit {
-        which: Quantity::Results,
-        value: 1025,
-    };
-    assert_eq!(rt; refusal(alloc, &larger)?, Some(cause));
+    assert!(rt; are_not_too_many(rt.alloc())?);
+    assert!(rt; are_too_many(rt.alloc())?);
     Ok(())
 }
 
@@ -166,23 +243,41 @@ static UNSUPPORTED: [&[u8]; 2] = [
     &[0x0A, 0x07, 0x01, 0x05, 0x00, 0x02, 0x7C, 0x0B, 0x0B],
 ];
 
+/// How many bodies are refused so before the first that isn't.
+fn refused_codes(alloc: Global, codes: &[&[u8]], cause: DecodeError) -> Result<u32, NoMemory> {
+    let mut passed = 0u32;
+    for code in codes {
+        if !is_refused(alloc, &[&TYPE, &FUNCTION, *code], cause)? {
+            break;
+        }
+        passed = passed.wrapping_add(1);
+    }
+    Ok(passed)
+}
+
+/// Whether a type of a float and a start function are unsupported, and an extension by sign is supported.
+fn is_told_as_supported(alloc: Global) -> Result<bool, NoMemory> {
+    let float = [0x01, 0x05, 0x01, 0x60, 0x01, 0x7C, 0x00];
+    let start = [0x08, 0x01, 0x00];
+    let extension = [0x0A, 0x05, 0x01, 0x03, 0x00, 0xC0, 0x0B];
+    Ok(
+        is_refused(alloc, &[&float], DecodeError::Unsupported)?
+            && is_refused(
+                alloc,
+                &[&TYPE, &FUNCTION, &start, &CODE],
+                DecodeError::Unsupported,
+            )?
+            && are_decoded(alloc, &[&TYPE, &FUNCTION, &extension])?,
+    )
+}
+
 #[test]
 fn floats_and_start_functions_are_unsupported(rt: HostRuntime) -> Result<(), Fail> {
-    let alloc = rt.alloc();
-    let unsupported = Some(DecodeError::Unsupported);
-    for code in UNSUPPORTED.iter() {
-        assert_eq!(rt; refusal(alloc, &[&TYPE, &FUNCTION, code])?, unsupported);
-    }
-    let float = [0x01, 0x05, 0x01, 0x60, 0x01, 0x7C, 0x00];
-    assert_eq!(rt; refusal(alloc, &[&float])?, unsupported);
-    let start = [0x08, 0x01, 0x00];
     assert_eq!(rt;
-        refusal(alloc, &[&TYPE, &FUNCTION, &start, &CODE])?,
-        unsupported
+        refused_codes(rt.alloc(), &UNSUPPORTED, DecodeError::Unsupported)?,
+        2
     );
-    // an extension by sign is supported
-    let extension = [0x0A, 0x05, 0x01, 0x03, 0x00, 0xC0, 0x0B];
-    assert_eq!(rt; refusal(alloc, &[&TYPE, &FUNCTION, &extension])?, None);
+    assert!(rt; is_told_as_supported(rt.alloc())?);
     Ok(())
 }
 
@@ -200,75 +295,76 @@ static MALFORMED_CODE: [&[u8]; 5] = [
     &[0x0A, 0x05, 0x01, 0x03, 0x00, 0x01, 0x01],
 ];
 
+/// Whether sections in their order are decoded, with custom sections among them.
+fn are_in_order(alloc: Global) -> Result<bool, NoMemory> {
+    let custom = [0x00, 0x03, 0x01, 0x61, 0xFF];
+    are_decoded(alloc, &[&custom, &TYPE, &custom, &FUNCTION, &CODE, &custom])
+}
+
+/// Whether another order, a function without code and a section that stands twice are malformed.
+fn are_malformed(alloc: Global) -> Result<bool, NoMemory> {
+    let malformed = DecodeError::Malformed;
+    Ok(
+        is_refused(alloc, &[&FUNCTION, &TYPE, &CODE], malformed)?
+            && is_refused(alloc, &[&TYPE, &FUNCTION], malformed)?
+            && is_refused(alloc, &[&TYPE, &TYPE], malformed)?,
+    )
+}
+
 #[test]
 fn sections_stand_in_their_order(rt: HostRuntime) -> Result<(), Fail> {
-    let alloc = rt.alloc();
-    let malformed = Some(DecodeError::Malformed);
-    let custom = [0x00, 0x03, 0x01, 0x61, 0xFF];
-    let whole: [&[u8]; 6] = [&custom, &TYPE, &custom, &FUNCTION, &CODE, &custom];
-    assert_eq!(rt; refusal(alloc, &whole)?, None);
-    assert_eq!(rt; refusal(alloc, &[&FUNCTION, &TYPE, &CODE])?, malformed);
-    assert_eq!(rt; refusal(alloc, &[&TYPE, &FUNCTION])?, malformed);
-    assert_eq!(rt; refusal(alloc, &[&TYPE, &TYPE])?, malformed);
-    for code in MALFORMED_CODE.iter() {
-        assert_eq!(rt; refusal(alloc, &[&TYPE, &FUNCTION, code])?, malformed);
-    }
+    assert!(rt; are_in_order(rt.alloc())?);
+    assert!(rt; are_malformed(rt.alloc())?);
+    assert_eq!(rt;
+        refused_codes(rt.alloc(), &MALFORMED_CODE, DecodeError::Malformed)?,
+        5
+    );
     Ok(())
 }
 
 #[test]
 fn a_table_and_a_memory_have_limits(rt: HostRuntime) -> Result<(), Fail> {
-    let alloc = rt.alloc();
-    let table = DecodeError::Limit {
-        which: Quantity::Table,
-        value: 1025,
-    };
     let slots = [0x04, 0x05, 0x01, 0x70, 0x00, 0x81, 0x08];
-    assert_eq!(rt; refusal(alloc, &[&slots])?, Some(table));
-    let memory = DecodeError::Limit {
-        which: Quantity::Memory,
-        value: 257,
-    };
     let pages = [0x05, 0x04, 0x01, 0x00, 0x81, 0x02];
-    assert_eq!(rt; refusal(alloc, &[&pages])?, Some(memory));
+    assert!(rt; exceeds(rt.alloc(), &[&slots], Quantity::Table, 1025)?);
+    assert!(rt; exceeds(rt.alloc(), &[&pages], Quantity::Memory, 257)?);
     Ok(())
+}
+
+/// Whether 10,001 functions are told.
+fn are_many_functions(alloc: Global) -> Result<bool, NoMemory> {
+    let indices = times(alloc, &[0x00], 10_001)?;
+    let codes = times(alloc, &[0x02, 0x00, 0x0B], 10_001)?;
+    let functions = [0x03, 0x93, 0x4E, 0x91, 0x4E];
+    let code = [0x0A, 0xB5, 0xEA, 0x01, 0x91, 0x4E];
+    let sections: [&[u8]; 5] = [&TYPE, &functions, &indices, &code, &codes];
+    exceeds(alloc, &sections, Quantity::Functions, 10_001)
+}
+
+/// Items of 257 blocks round a br_table of 1,025 targets, with their ends and that of the body.
+fn deep_items(alloc: Global) -> Result<Vec<u8>, NoMemory> {
+    let mut items = times(alloc, &[0x02, 0x40], 257)?;
+    items.extend_from_slice(&[0x0E, 0x81, 0x08])?;
+    for _ in 0..1_026 {
+        items.push(0x00)?;
+    }
+    for _ in 0..258 {
+        items.push(0x0B)?;
+    }
+    Ok(items)
+}
+
+/// Whether the blocks are told.
+fn is_deep(alloc: Global) -> Result<bool, NoMemory> {
+    let items = deep_items(alloc)?;
+    let code = [0x0A, 0x8D, 0x0E, 0x01, 0x8A, 0x0E, 0x00];
+    let sections: [&[u8]; 4] = [&TYPE, &FUNCTION, &code, &items];
+    exceeds(alloc, &sections, Quantity::Nesting, 257)
 }
 
 #[test]
 fn limits_are_tested_in_their_order(rt: HostRuntime) -> Result<(), Fail> {
-    let alloc = rt.alloc();
-    // 10,001 functions
-    let indices = times(alloc, &[0x00], 10_001)?;
-    let codes = times(alloc, &[0x02, 0x00, 0x0B], 10_001)?;
-    let many: [&[u8]; 5] = [
-        &TYPE,
-        &[0x03, 0x93, 0x4E, 0x91, 0x4E],
-        &indices,
-        &[0x0A, 0xB5, 0xEA, 0x01, 0x91, 0x4E],
-        &codes,
-    ];
-    let functions = DecodeError::Limit {
-        which: Quantity::Functions,
-        value: 10_001,
-    };
-    assert_eq!(rt; refusal(alloc, &many)?, Some(functions));
-    // 257 blocks round a br_table of 1,025 targets
-    let blocks = times(alloc, &[0x02, 0x40], 257)?;
-    let targets = times(alloc, &[0x00], 1_026)?;
-    let ends = times(alloc, &[0x0B], 258)?;
-    let deep: [&[u8]; 7] = [
-        &TYPE,
-        &FUNCTION,
-        &[0x0A, 0x8D, 0x0E, 0x01, 0x8A, 0x0E, 0x00],
-        &blocks,
-        &[0x0E, 0x81, 0x08],
-        &targets,
-        &ends,
-    ];
-    let nesting = DecodeError::Limit {
-        which: Quantity::Nesting,
-        value: 257,
-    };
-    assert_eq!(rt; refusal(alloc, &deep)?, Some(nesting));
+    assert!(rt; are_many_functions(rt.alloc())?);
+    assert!(rt; is_deep(rt.alloc())?);
     Ok(())
 }

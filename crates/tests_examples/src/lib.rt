@@ -1,7 +1,18 @@
-//! Tests of the program on modules that clang made of C sources, which stand in `examples/`.
+//! Tests of the program on modules that clang made of C sources, which stand in `examples/`, and of label sections through the program:
+//! what is refused, and what the last line of the report says; and of words that ask for nothing.
 #![tactic(auto)]
 
 #[cfg(test)]
+mod calls;
+#[cfg(test)]
+mod chains;
+#[cfg(test)]
+mod demands;
+#[cfg(test)]
 mod modules;
 #[cfg(test)]
+mod refusals;
+#[cfg(test)]
 mod tests;
+#[cfg(test)]
+mod words;

@@ -1,75 +1,21 @@
 //! The counts in the reports are those of `examples/positions`, which follows the rules of lowering and knows nothing of the program;
 //! weights, paths and chains are read off its list of commands by hand. Where several chains or paths are right, each is taken that
 //! takes no position twice.
+use crate::calls::{call, ends, files_of, is_joined, status_of};
 use crate::modules::{COMPARE, LIST, LOOKUP, MASKED, MASKED_SSA, QUARTER};
-use bl_app::blade;
-use bl_base::List;
-use bl_outside::{MemoryShelf, MemorySink};
+use bl_base::NoMemory;
+use bl_outside::MemoryShelf;
 use std::alloc::Global;
 use std::test::Fail;
 
-/// A shelf with these files.
-fn shelf_of(alloc: Global, entries: &[(&str, &[u8])]) -> Result<MemoryShelf, Fail> {
-    let mut files = MemoryShelf::new(alloc, List::new(alloc));
-    for (name, bytes) in entries {
-        files.put(*name, *bytes)?;
-    }
-    Ok(files)
-}
-
-/// The program's name and the words of a text, which are parted by spaces.
-fn words_of(alloc: Global, text: &str) -> Result<Vec<String>, Fail> {
-    let mut words = Vec::new(alloc);
-    words.push(String::from_str(alloc, "blade")?)?;
-    for word in text.split(' ') {
-        words.push(String::from_str(alloc, word)?)?;
-    }
-    Ok(words)
-}
-
-/// Calls `blade` with these words on a shelf: the exit status and what is printed.
-fn call(alloc: Global, files: &mut MemoryShelf, text: &str) -> Result<(u8, MemorySink), Fail> {
-    let words = words_of(alloc, text)?;
-    let mut out = MemorySink::new(alloc, None);
-    out.reserve(1_000)?;
-    let status = blade(alloc, words.as_slice(), files, &mut out);
-    Ok((status, out))
-}
-
-/// The status of a call.
-fn status_of(alloc: Global, files: &mut MemoryShelf, words: &str) -> Result<u8, Fail> {
-    let (status, _out) = call(alloc, files, words)?;
-    Ok(status)
-}
-
-/// Whether a call ends with that status and prints that text.
-fn ends(
-    alloc: Global,
-    files: &mut MemoryShelf,
-    words: &str,
-    status: u8,
-    text: &str,
-) -> Result<bool, Fail> {
-    let (answer, out) = call(alloc, files, words)?;
-    Ok(answer == status && out.bytes() == text.as_bytes())
-}
-
 /// Whether the bytes are those of a head, of one of some middles, and of a tail.
-fn is_one_of(
-    alloc: Global,
-    bytes: &[u8],
-    head: &str,
-    middles: &[&str],
-    tail: &str,
-) -> Result<bool, Fail> {
+fn is_one_of(bytes: &[u8], head: &str, middles: &[&str], tail: &str) -> bool {
     for middle in middles {
-        let middle = *middle;
-        let whole = format!(in alloc; "{head}{middle}{tail}")?;
-        if bytes == whole.as_bytes() {
-            return Ok(true);
+        if is_joined(bytes, &[head, *middle, tail]) {
+            return true;
         }
     }
-    Ok(false)
+    false
 }
 
 /// A module, the head of its report, what may stand behind that, and the head of what `verify` says.
@@ -125,14 +71,19 @@ static CASES: [Case; 6] = [
 ];
 
 /// Whether the report of a module is that head, one of those middles, and the end of the line.
-fn is_reported(alloc: Global, module: &[u8], head: &str, middles: &[&str]) -> Result<bool, Fail> {
-    let mut files = shelf_of(alloc, &[("m.wasm", module)])?;
+fn is_reported(
+    alloc: Global,
+    module: &[u8],
+    head: &str,
+    middles: &[&str],
+) -> Result<bool, NoMemory> {
+    let mut files = files_of(alloc, &[("m.wasm", module)])?;
     let (status, out) = call(alloc, &mut files, "harden i c m.wasm")?;
-    Ok(status == 0 && is_one_of(alloc, out.bytes(), head, middles, "\n")?)
+    Ok(status == 0 && is_one_of(out.bytes(), head, middles, "\n"))
 }
 
 /// How many reports pass before the first that doesn't.
-fn reported(alloc: Global) -> Result<u32, Fail> {
+fn reported(alloc: Global) -> Result<u32, NoMemory> {
     let mut passed = 0u32;
     for (module, head, middles) in &CASES {
         if !is_reported(alloc, *module, *head, *middles)? {
@@ -150,8 +101,8 @@ fn reports_of_modules_that_clang_made(rt: HostRuntime) -> Result<(), Fail> {
 }
 
 /// Whether the image of a module is made, and passes with its own certificate.
-fn passes(alloc: Global, module: &[u8], text: &str) -> Result<bool, Fail> {
-    let mut files = shelf_of(alloc, &[("m.wasm", module)])?;
+fn passes(alloc: Global, module: &[u8], text: &str) -> Result<bool, NoMemory> {
+    let mut files = files_of(alloc, &[("m.wasm", module)])?;
     let hardened = status_of(alloc, &mut files, "harden i c m.wasm")?;
     Ok(hardened == 0 && ends(alloc, &mut files, "verify i c", 0, text)?)
 }
@@ -159,7 +110,7 @@ fn passes(alloc: Global, module: &[u8], text: &str) -> Result<bool, Fail> {
 static PASSING: [&[u8]; 4] = [&MASKED_SSA, &COMPARE, &QUARTER, &LIST];
 
 /// How many of those pass before the first that doesn't.
-fn passing(alloc: Global, text: &str) -> Result<u32, Fail> {
+fn passing(alloc: Global, text: &str) -> Result<u32, NoMemory> {
     let mut passed = 0u32;
     for module in &PASSING {
         if !passes(alloc, *module, text)? {
@@ -171,8 +122,8 @@ fn passing(alloc: Global, text: &str) -> Result<u32, Fail> {
 }
 
 /// Whether that is said of an image of the list, which is made so, with the certificate of the lookup.
-fn fails(alloc: Global, made: &str, text: &str) -> Result<bool, Fail> {
-    let mut files = shelf_of(alloc, &[("m.wasm", &LIST), ("n.wasm", &LOOKUP)])?;
+fn fails(alloc: Global, made: &str, text: &str) -> Result<bool, NoMemory> {
+    let mut files = files_of(alloc, &[("m.wasm", &LIST), ("n.wasm", &LOOKUP)])?;
     Ok(
         status_of(alloc, &mut files, "harden j d n.wasm")? == 0
             && status_of(alloc, &mut files, made)? == 0
@@ -196,8 +147,8 @@ fn hardened_images_pass_and_one_with_another_certificate_does_not(
 }
 
 /// A shelf with a module, its lowered image and its hardened one.
-fn prepared(alloc: Global, module: &[u8]) -> Result<MemoryShelf, Fail> {
-    let mut files = shelf_of(alloc, &[("m.wasm", module)])?;
+fn prepared(alloc: Global, module: &[u8]) -> Result<MemoryShelf, NoMemory> {
+    let mut files = files_of(alloc, &[("m.wasm", module)])?;
     let _lowered = status_of(alloc, &mut files, "lower k m.wasm")?;
     let _hardened = status_of(alloc, &mut files, "harden i c m.wasm")?;
     Ok(files)
@@ -237,7 +188,7 @@ fn all_print(
     calls: &[&str],
     start: &str,
     text: &str,
-) -> Result<bool, Fail> {
+) -> Result<bool, NoMemory> {
     let mut files = prepared(alloc, module)?;
     files.put("s", start.as_bytes())?;
     for words in calls {
@@ -292,7 +243,7 @@ static TAGS: [(&str, &str); 3] = [
 ];
 
 /// How many comparisons pass before the first that doesn't.
-fn compared(alloc: Global) -> Result<u32, Fail> {
+fn compared(alloc: Global) -> Result<u32, NoMemory> {
     let mut passed = 0u32;
     for (start, text) in &TAGS {
         if !all_print(alloc, &COMPARE, &COMPARES, *start, *text)? {
@@ -322,7 +273,7 @@ fn the_sum_of_a_list(rt: HostRuntime) -> Result<(), Fail> {
 }
 
 /// Lines, each so many times.
-fn lines(alloc: Global, counted: &[(&str, u32)]) -> Result<String, Fail> {
+fn lines(alloc: Global, counted: &[(&str, u32)]) -> Result<String, NoMemory> {
     let mut text = String::new(alloc);
     for (line, count) in counted {
         for _time in 0..*count {
@@ -334,7 +285,7 @@ fn lines(alloc: Global, counted: &[(&str, u32)]) -> Result<String, Fail> {
 }
 
 /// A shelf with the hardened image of a module, a trace, and the starts of the indices 3 and 5.
-fn traced(alloc: Global, module: &[u8], trace: &[(&str, u32)]) -> Result<MemoryShelf, Fail> {
+fn traced(alloc: Global, module: &[u8], trace: &[(&str, u32)]) -> Result<MemoryShelf, NoMemory> {
     let mut files = prepared(alloc, module)?;
     files.put("t", lines(alloc, trace)?.as_bytes())?;
     files.put("s", b"arg 3")?;
@@ -349,7 +300,7 @@ fn twins(
     words: &str,
     status: u8,
     text: &[(&str, u32)],
-) -> Result<bool, Fail> {
+) -> Result<bool, NoMemory> {
     let text = lines(alloc, text)?;
     ends(alloc, files, words, status, text.as_str())
 }
@@ -393,13 +344,13 @@ static MASKED_TEXT: [(&str, u32); 3] = [
 ];
 
 /// Whether the lookup tells the indices apart.
-fn are_told_apart(alloc: Global, words: &str) -> Result<bool, Fail> {
+fn are_told_apart(alloc: Global, words: &str) -> Result<bool, NoMemory> {
     let mut files = traced(alloc, &LOOKUP, &LOOKUP_TRACE)?;
     twins(alloc, &mut files, words, 1, &LOOKUP_TEXT)
 }
 
 /// Whether the masked one doesn't.
-fn are_equal(alloc: Global, words: &str) -> Result<bool, Fail> {
+fn are_equal(alloc: Global, words: &str) -> Result<bool, NoMemory> {
     let mut files = traced(alloc, &MASKED_SSA, &MASKED_TRACE)?;
     twins(alloc, &mut files, words, 0, &MASKED_TEXT)
 }

@@ -14,7 +14,7 @@ use bl_base::Trap;
 use bl_ops::{by_code, eval, trap_of};
 
 /// Operands of i32: least, greatest, 0, 1, -1, and shifts by less than the width, by the width and beyond.
-const PAIRS_32: [(u64, u64); 11] = [
+static PAIRS_32: [(u64, u64); 11] = [
     (0, 1),
     (0xFFFF_FFFF, 0xFFFF_FFFF),
     (0xFFFF_FFFF, 1),
@@ -29,7 +29,7 @@ const PAIRS_32: [(u64, u64); 11] = [
 ];
 
 /// Operands of i64.
-const PAIRS_64: [(u64, u64); 11] = [
+static PAIRS_64: [(u64, u64); 11] = [
     (0, 1),
     (0xFFFF_FFFF_FFFF_FFFF, 0xFFFF_FFFF_FFFF_FFFF),
     (0xFFFF_FFFF_FFFF_FFFF, 1),
@@ -46,15 +46,33 @@ const PAIRS_64: [(u64, u64); 11] = [
 /// Bits that an operand of type i32 is read without.
 const ABOVE: u64 = 0xABCD_EF01_0000_0000;
 
-/// The numbers that the operator of a code gives at these pairs, where each operand has those bits beside its own.
-fn values(code: u8, pairs: [(u64, u64); 11], above: u64) -> Option<[u64; 11]> {
-    let op = by_code(code)?;
-    let mut values = [0; 11];
-    for i in 0..11 {
-        let (a, b) = pairs[i];
-        values[i] = eval(op, a | above, b | above, 0);
+/// A code, and the numbers that its operator gives at the pairs.
+type Case = (u8, &'static [u64]);
+
+/// Whether the operator of a code gives those numbers at these pairs, where each operand has those bits beside its own.
+fn gives(code: u8, pairs: &[(u64, u64)], above: u64, wanted: &[u64]) -> bool {
+    let Some(op) = by_code(code) else {
+        return false;
+    };
+    for (pair, number) in pairs.iter().zip(wanted) {
+        let (a, b) = *pair;
+        if eval(op, a | above, b | above, 0) != *number {
+            return false;
+        }
     }
-    Some(values)
+    pairs.len() == wanted.len()
+}
+
+/// How many codes give their numbers before the first that doesn't.
+fn giving(cases: &[Case], pairs: &[(u64, u64)], above: u64) -> u32 {
+    let mut passed = 0u32;
+    for (code, wanted) in cases {
+        if !gives(*code, pairs, above, *wanted) {
+            break;
+        }
+        passed = passed.wrapping_add(1);
+    }
+    passed
 }
 
 /// The trap of the operator of a code.
@@ -62,13 +80,22 @@ fn trap_at(code: u8, a: u64, b: u64) -> Option<Trap> {
     trap_of(by_code(code)?, a, b)
 }
 
-/// At how many of these pairs it traps.
-fn count_traps(code: u8, pairs: [(u64, u64); 11]) -> u32 {
+/// At how many of these pairs the operator of a code traps.
+fn traps_of(code: u8, pairs: &[(u64, u64)]) -> u32 {
     let mut count = 0u32;
     for (a, b) in pairs {
-        if trap_at(code, a, b).is_some() {
+        if trap_at(code, *a, *b).is_some() {
             count = count.wrapping_add(1);
         }
+    }
+    count
+}
+
+/// How often the operators of these codes trap at these pairs.
+fn count_traps(cases: &[Case], pairs: &[(u64, u64)]) -> u32 {
+    let mut count = 0u32;
+    for (code, _) in cases {
+        count = count.wrapping_add(traps_of(*code, pairs));
     }
     count
 }

@@ -5,8 +5,8 @@ mod interp;
 mod lists;
 mod lower;
 mod run;
-mod words;
 
+use bl_base::NoMemory;
 use calls::{
     EMPTY, ends, ends_within, holds, module_of, shelf_failing, shelf_of, stands, status_of,
 };
@@ -35,7 +35,7 @@ const REPORT: &str = "functions 1\ncommands 13\nsites 4\nprotects 0 weight 0\nco
 const HARDEN: &str = "blade harden inc.img inc.json inc.wasm";
 
 /// Whether a module is hardened, with that image, the certificate of no path and that report.
-fn is_hardened(alloc: Global, wasm: &[u8], image: &[u8], report: &str) -> Result<bool, Fail> {
+fn is_hardened(alloc: Global, wasm: &[u8], image: &[u8], report: &str) -> Result<bool, NoMemory> {
     let mut files = shelf_of(alloc, &[("inc.wasm", wasm)])?;
     Ok(
         ends(alloc, &mut files, HARDEN, 0, report)?
@@ -59,7 +59,7 @@ fn is_refused(
     wasm: &[u8],
     status: u8,
     text: &str,
-) -> Result<bool, Fail> {
+) -> Result<bool, NoMemory> {
     let mut files = shelf_of(alloc, &[("inc.wasm", wasm)])?;
     let refused = ends(alloc, &mut files, line, status, text)?;
     Ok(refused && !stands(&files, "inc.img") && !stands(&files, "inc.json"))
@@ -87,14 +87,14 @@ static DASHES: [(&str, u8, &str); 7] = [
 ];
 
 /// Whether a call has that status, and the file is kept where that is 0.
-fn has_status(alloc: Global, line: &str, status: u8, name: &str) -> Result<bool, Fail> {
+fn has_status(alloc: Global, line: &str, status: u8, name: &str) -> Result<bool, NoMemory> {
     let mut files = shelf_of(alloc, &[("inc.wasm", &ADD_ONE)])?;
     let answer = status_of(alloc, &mut files, line)?;
     Ok(answer == status && stands(&files, name) == (status == 0))
 }
 
 /// How many lines pass before the first that doesn't.
-fn dashes(alloc: Global) -> Result<u32, Fail> {
+fn dashes(alloc: Global) -> Result<u32, NoMemory> {
     let mut passed = 0u32;
     for (line, status, name) in &DASHES {
         if !has_status(alloc, *line, *status, *name)? {
@@ -124,7 +124,7 @@ const LOADS: [u8; 46] = [
 ];
 
 /// Whether a prefix of that module is malformed, and hardened where it is 8 or 16 bytes long.
-fn is_told_as_prefix(alloc: Global, wasm: &[u8]) -> Result<bool, Fail> {
+fn is_told_as_prefix(alloc: Global, wasm: &[u8]) -> Result<bool, NoMemory> {
     if wasm.len() == 8 || wasm.len() == 16 {
         return is_hardened(alloc, wasm, &EMPTY_IMAGE, EMPTY_REPORT);
     }
@@ -132,7 +132,7 @@ fn is_told_as_prefix(alloc: Global, wasm: &[u8]) -> Result<bool, Fail> {
 }
 
 /// How many prefixes pass before the first that doesn't.
-fn prefixes(alloc: Global) -> Result<u32, Fail> {
+fn prefixes(alloc: Global) -> Result<u32, NoMemory> {
     let mut passed = 0u32;
     for length in 0..LOADS.len() {
         if !is_told_as_prefix(alloc, &LOADS[..length])? {
@@ -152,7 +152,7 @@ fn prefixes_of_a_module_are_malformed_but_for_two_that_are_modules_without_funct
 }
 
 /// A module of 10,001 functions of type [] -> [] without items.
-fn many_functions(alloc: Global) -> Result<Vec<u8>, Fail> {
+fn many_functions(alloc: Global) -> Result<Vec<u8>, NoMemory> {
     let mut bytes = module_of(
         alloc,
         &[
@@ -170,7 +170,7 @@ fn many_functions(alloc: Global) -> Result<Vec<u8>, Fail> {
 }
 
 /// The module that adds 1, with the size of its code in five bytes.
-fn long_size(alloc: Global) -> Result<Vec<u8>, Fail> {
+fn long_size(alloc: Global) -> Result<Vec<u8>, NoMemory> {
     let mut bytes = ADD_ONE[..30].to_vec(alloc)?;
     bytes.extend_from_slice(&[0x89, 0x80, 0x80, 0x80, 0x00])?;
     bytes.extend_from_slice(&ADD_ONE[31..])?;
@@ -178,7 +178,7 @@ fn long_size(alloc: Global) -> Result<Vec<u8>, Fail> {
 }
 
 /// Whether a module is told so, and its image is kept where the status is 0.
-fn is_told(alloc: Global, wasm: &[u8], status: u8, text: &str) -> Result<bool, Fail> {
+fn is_told(alloc: Global, wasm: &[u8], status: u8, text: &str) -> Result<bool, NoMemory> {
     let mut files = shelf_of(alloc, &[("inc.wasm", wasm)])?;
     let told = ends(alloc, &mut files, HARDEN, status, text)?;
     Ok(told && stands(&files, "inc.img") == (status == 0))
@@ -208,7 +208,7 @@ static REFUSED: [(&[u8], u8, &str); 4] = [
 ];
 
 /// How many modules pass before the first that doesn't.
-fn refused(alloc: Global) -> Result<u32, Fail> {
+fn refused(alloc: Global) -> Result<u32, NoMemory> {
     let mut passed = 0u32;
     for (sections, status, text) in &REFUSED {
         if !is_told(alloc, &module_of(alloc, *sections)?, *status, *text)? {
@@ -220,12 +220,12 @@ fn refused(alloc: Global) -> Result<u32, Fail> {
 }
 
 /// Whether a module of 10,001 functions is told so.
-fn are_too_many(alloc: Global, text: &str) -> Result<bool, Fail> {
+fn are_too_many(alloc: Global, text: &str) -> Result<bool, NoMemory> {
     is_told(alloc, &many_functions(alloc)?, 8, text)
 }
 
 /// Whether a file of 4,194,305 bytes is told so.
-fn is_too_long(alloc: Global, text: &str) -> Result<bool, Fail> {
+fn is_too_long(alloc: Global, text: &str) -> Result<bool, NoMemory> {
     is_told(alloc, &vec![in alloc; 0; 4_194_305]?, 8, text)
 }
 
@@ -239,7 +239,7 @@ fn modules_that_are_refused_and_one_by_a_long_spelling(rt: HostRuntime) -> Resul
 }
 
 /// The module of one function of type [] -> [i32], with its sections from the exports on.
-fn function_of(alloc: Global, sections: &[u8]) -> Result<Vec<u8>, Fail> {
+fn function_of(alloc: Global, sections: &[u8]) -> Result<Vec<u8>, NoMemory> {
     let mut bytes = module_of(
         alloc,
         &[
@@ -277,7 +277,7 @@ static UNTYPED: [(&[u8], u8, &str); 4] = [
 ];
 
 /// How many of those pass before the first that doesn't.
-fn untyped(alloc: Global) -> Result<u32, Fail> {
+fn untyped(alloc: Global) -> Result<u32, NoMemory> {
     let mut passed = 0u32;
     for (sections, status, text) in &UNTYPED {
         if !is_told(alloc, &function_of(alloc, *sections)?, *status, *text)? {
@@ -307,7 +307,7 @@ static FAULTS: [Fault; 4] = [
 ];
 
 /// Whether a fault leaves that.
-fn leaves(alloc: Global, fault: &Fault) -> Result<bool, Fail> {
+fn leaves(alloc: Global, fault: &Fault) -> Result<bool, NoMemory> {
     let (failing, limit, status, text, certificate, image) = *fault;
     let mut files = shelf_failing(alloc, &[("inc.wasm", &ADD_ONE)], failing)?;
     Ok(
@@ -318,7 +318,7 @@ fn leaves(alloc: Global, fault: &Fault) -> Result<bool, Fail> {
 }
 
 /// How many faults pass before the first that doesn't.
-fn faults(alloc: Global) -> Result<u32, Fail> {
+fn faults(alloc: Global) -> Result<u32, NoMemory> {
     let mut passed = 0u32;
     for fault in &FAULTS {
         if !leaves(alloc, fault)? {

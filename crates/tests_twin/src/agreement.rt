@@ -1,9 +1,6 @@
 //! Starts that agree in public, and starts that don't.
-ghost use Rattle.std.specs.Prelude.{◌≡◌, IfOk, IsTrue, map};
-ghost use Rattle.bl_cmd.specs.Outcomes.{IsStart};
-
-use bl_base::{List, NoMemory, Patch, Start, Text, ValueType, fits};
-use bl_cmd::{MemoryDef, ParamDef, WellFormed};
+use crate::begun::is_start;
+use bl_base::{List, NoMemory, Patch, Start, Text};
 use bl_image::decode_image;
 use bl_twin::agree;
 use std::alloc::Global;
@@ -25,46 +22,6 @@ static SECRET: [u8; 41] = [
     0x02, 0x00, 0x00, 0x07, 0x00, 0x00, 0x00, 0x02, 0x08,
 ];
 
-/// The types of parameters.
-fn kinds_of(alloc: Global, params: &[ParamDef]) -> Result<Vec<ValueType>, NoMemory>
-    ensures { IfOk result (λ kinds. kinds.items ≡ map (λ param. param.kind) params.now) }
-{
-    let mut kinds = Vec::new(alloc);
-    for param in params {
-        kinds.push(param.kind)?;
-    }
-    Ok(kinds)
-}
-
-/// The first pages of memories.
-fn pages_of(alloc: Global, memories: &[MemoryDef]) -> Result<Vec<u32>, NoMemory>
-    ensures { IfOk result (λ pages. pages.items ≡ map (λ memory. memory.pages) memories.now) }
-{
-    let mut pages = Vec::new(alloc);
-    for memory in memories {
-        pages.push(memory.pages)?;
-    }
-    Ok(pages)
-}
-
-/// Whether a start fits the function of that number.
-fn is_start(
-    alloc: Global,
-    program: &WellFormed,
-    function: u32,
-    start: &Start,
-) -> Result<bool, NoMemory>
-    ensures { IfOk result (λ yes. IsTrue yes → IsStart program.now function start.now) }
-{
-    let parts = program.program().parts();
-    let Some(defined) = parts.functions.as_slice().get(function as usize) else {
-        return Ok(false);
-    };
-    let kinds = kinds_of(alloc, defined.params.as_slice())?;
-    let pages = pages_of(alloc, parts.memories.as_slice())?;
-    Ok(fits(&kinds, &pages, start))
-}
-
 /// A start of one argument, and of patches of memory 0 of one byte each.
 fn start_of(alloc: Global, argument: u64, patches: &[(u32, u8)]) -> Result<Start, NoMemory> {
     let mut start = Start {
@@ -82,9 +39,16 @@ fn start_of(alloc: Global, argument: u64, patches: &[(u32, u8)]) -> Result<Start
     Ok(start)
 }
 
-/// Whether two starts of an image's first function agree in public; None where one of them doesn't fit.
-fn answer(alloc: Global, image: &[u8], one: &Start, other: &Start) -> Result<Option<bool>, Fail> {
-    let program = decode_image(alloc, image)?;
+/// Whether two starts of an image's first function agree in public; None where the bytes are no image, or one of them doesn't fit.
+fn answer(
+    alloc: Global,
+    image: &[u8],
+    one: &Start,
+    other: &Start,
+) -> Result<Option<bool>, NoMemory> {
+    let Ok(program) = decode_image(alloc, image) else {
+        return Ok(None);
+    };
     if !is_start(alloc, &program, 0, one)? {
         return Ok(None);
     }
@@ -94,24 +58,44 @@ fn answer(alloc: Global, image: &[u8], one: &Start, other: &Start) -> Result<Opt
     Ok(Some(agree(alloc, &program, 0, one, other)?))
 }
 
-#[test]
-fn arguments_agree_at_public_parameters_alone(rt: HostRuntime) -> Result<(), Fail> {
-    let alloc = rt.alloc();
+/// Whether two starts of an image's first function fit and agree in public, or don't agree.
+fn answers(
+    alloc: Global,
+    image: &[u8],
+    one: &Start,
+    other: &Start,
+    wanted: bool,
+) -> Result<bool, NoMemory> {
+    Ok(answer(alloc, image, one, other)? == Some(wanted))
+}
+
+/// Whether two arguments differ where the parameter is public alone.
+fn differ_in_public(alloc: Global) -> Result<bool, NoMemory> {
     let five = start_of(alloc, 5, &[])?;
     let six = start_of(alloc, 6, &[])?;
-    assert_eq!(rt; answer(alloc, &GROWTH, &five, &five)?, Some(true));
-    assert_eq!(rt; answer(alloc, &GROWTH, &five, &six)?, Some(false));
-    assert_eq!(rt; answer(alloc, &SECRET, &five, &six)?, Some(true));
+    Ok(
+        answers(alloc, &GROWTH, &five, &five, true)?
+            && answers(alloc, &GROWTH, &five, &six, false)?
+            && answers(alloc, &SECRET, &five, &six, true)?,
+    )
+}
+
+#[test]
+fn arguments_agree_at_public_parameters_alone(rt: HostRuntime) -> Result<(), Fail> {
+    assert!(rt; differ_in_public(rt.alloc())?);
     Ok(())
+}
+
+/// Whether a start without patches and one of these patches agree in public, or don't.
+fn is_like_none(alloc: Global, patches: &[(u32, u8)], wanted: bool) -> Result<bool, NoMemory> {
+    let none = start_of(alloc, 5, &[])?;
+    let patched = start_of(alloc, 5, patches)?;
+    answers(alloc, &GROWTH, &none, &patched, wanted)
 }
 
 #[test]
 fn memories_agree_by_their_contents_behind_the_patches(rt: HostRuntime) -> Result<(), Fail> {
-    let alloc = rt.alloc();
-    let none = start_of(alloc, 5, &[])?;
-    let zero = start_of(alloc, 5, &[(65_535, 9), (65_535, 0)])?;
-    let nine = start_of(alloc, 5, &[(65_535, 0), (65_535, 9)])?;
-    assert_eq!(rt; answer(alloc, &GROWTH, &none, &zero)?, Some(true));
-    assert_eq!(rt; answer(alloc, &GROWTH, &none, &nine)?, Some(false));
+    assert!(rt; is_like_none(rt.alloc(), &[(65_535, 9), (65_535, 0)], true)?);
+    assert!(rt; is_like_none(rt.alloc(), &[(65_535, 0), (65_535, 9)], false)?);
     Ok(())
 }

@@ -36,7 +36,7 @@ fn is_told(
     runs: (&Seen, &Seen),
     comparison: Comparison,
     lines: (&str, &str),
-) -> Result<bool, Fail> {
+) -> Result<bool, NoMemory> {
     let found = compare(alloc, agree, runs.0, runs.1)?;
     let mut text = lines.0.as_bytes().to_vec(alloc)?;
     text.extend_from_slice(&FRONT)?;
@@ -44,59 +44,58 @@ fn is_told(
     Ok(found.comparison == comparison && found.text.as_slice() == text.as_slice())
 }
 
-#[test]
-fn two_runs_that_read_from_different_places_differ(rt: HostRuntime) -> Result<(), Fail> {
-    let alloc = rt.alloc();
-    let one = run(alloc, Some(5), None)?;
-    let other = run(alloc, Some(7), None)?;
-    let end = "differ 11\nread 5 guards 3 6\nread 7 guards 3 6\n";
-    let told = is_told(
+/// Whether two runs with those last observations and refusals, whose starts agree in public, differ with that end.
+fn differ(
+    alloc: Global,
+    one: (Option<u64>, Option<u64>),
+    other: (Option<u64>, Option<u64>),
+    end: &str,
+) -> Result<bool, NoMemory> {
+    let one = run(alloc, one.0, one.1)?;
+    let other = run(alloc, other.0, other.1)?;
+    is_told(
         alloc,
         true,
         (&one, &other),
         Comparison::Differ,
         ("public agree\n", end),
-    )?;
-    assert!(rt; told);
+    )
+}
+
+#[test]
+fn two_runs_that_read_from_different_places_differ(rt: HostRuntime) -> Result<(), Fail> {
+    let end = "differ 11\nread 5 guards 3 6\nread 7 guards 3 6\n";
+    assert!(rt; differ(rt.alloc(), (Some(5), None), (Some(7), None), end)?);
     Ok(())
 }
 
 #[test]
 fn a_run_that_is_stuck_alone_differs(rt: HostRuntime) -> Result<(), Fail> {
-    let alloc = rt.alloc();
-    let one = run(alloc, None, Some(11))?;
-    let other = run(alloc, Some(7), None)?;
     let end = "differ 11\nstuck\nread 7 guards 3 6\n";
-    let told = is_told(
-        alloc,
-        true,
-        (&one, &other),
-        Comparison::Differ,
-        ("public agree\n", end),
-    )?;
-    assert!(rt; told);
+    assert!(rt; differ(rt.alloc(), (None, Some(11)), (Some(7), None), end)?);
     Ok(())
+}
+
+/// Whether a run with that refusal, if any, is told so beside itself, where the starts don't agree in public.
+fn is_told_of_itself(
+    alloc: Global,
+    refused: Option<u64>,
+    comparison: Comparison,
+    end: &str,
+) -> Result<bool, NoMemory> {
+    let run = run(alloc, None, refused)?;
+    is_told(
+        alloc,
+        false,
+        (&run, &run),
+        comparison,
+        ("public differ\n", end),
+    )
 }
 
 #[test]
 fn two_runs_are_equal_to_their_end_or_to_what_both_refuse(rt: HostRuntime) -> Result<(), Fail> {
-    let alloc = rt.alloc();
-    let whole = run(alloc, None, None)?;
-    let equal = is_told(
-        alloc,
-        false,
-        (&whole, &whole),
-        Comparison::Equal,
-        ("public differ\n", "equal 10\n"),
-    )?;
-    let refused = run(alloc, None, Some(11))?;
-    let stuck = is_told(
-        alloc,
-        false,
-        (&refused, &refused),
-        Comparison::Stuck,
-        ("public differ\n", "stuck 11\n"),
-    )?;
-    assert!(rt; equal && stuck);
+    assert!(rt; is_told_of_itself(rt.alloc(), None, Comparison::Equal, "equal 10\n")?);
+    assert!(rt; is_told_of_itself(rt.alloc(), Some(11), Comparison::Stuck, "stuck 11\n")?);
     Ok(())
 }

@@ -1,12 +1,12 @@
 //! Conversions and extensions by sign.
-use super::{ABOVE, PAIRS_32, PAIRS_64, count_traps, values};
+use super::{ABOVE, Case, PAIRS_32, PAIRS_64, count_traps, giving};
 use std::test::Fail;
 
 /// Codes, and the numbers that they give at the pairs of i32.
-const CASES_32: [(u8, [u64; 11]); 4] = [
+static CASES_32: [Case; 4] = [
     (
         0xAC,
-        [
+        &[
             0,
             0xFFFF_FFFF_FFFF_FFFF,
             0xFFFF_FFFF_FFFF_FFFF,
@@ -22,7 +22,7 @@ const CASES_32: [(u8, [u64; 11]); 4] = [
     ),
     (
         0xAD,
-        [
+        &[
             0,
             0xFFFF_FFFF,
             0xFFFF_FFFF,
@@ -38,7 +38,7 @@ const CASES_32: [(u8, [u64; 11]); 4] = [
     ),
     (
         0xC0,
-        [
+        &[
             0,
             0xFFFF_FFFF,
             0xFFFF_FFFF,
@@ -54,7 +54,7 @@ const CASES_32: [(u8, [u64; 11]); 4] = [
     ),
     (
         0xC1,
-        [
+        &[
             0,
             0xFFFF_FFFF,
             0xFFFF_FFFF,
@@ -71,10 +71,10 @@ const CASES_32: [(u8, [u64; 11]); 4] = [
 ];
 
 /// Codes, and the numbers that they give at the pairs of i64.
-const CASES_64: [(u8, [u64; 11]); 4] = [
+static CASES_64: [Case; 4] = [
     (
         0xA7,
-        [
+        &[
             0,
             0xFFFF_FFFF,
             0xFFFF_FFFF,
@@ -90,7 +90,7 @@ const CASES_64: [(u8, [u64; 11]); 4] = [
     ),
     (
         0xC2,
-        [
+        &[
             0,
             0xFFFF_FFFF_FFFF_FFFF,
             0xFFFF_FFFF_FFFF_FFFF,
@@ -106,7 +106,7 @@ const CASES_64: [(u8, [u64; 11]); 4] = [
     ),
     (
         0xC3,
-        [
+        &[
             0,
             0xFFFF_FFFF_FFFF_FFFF,
             0xFFFF_FFFF_FFFF_FFFF,
@@ -122,7 +122,7 @@ const CASES_64: [(u8, [u64; 11]); 4] = [
     ),
     (
         0xC4,
-        [
+        &[
             0,
             0xFFFF_FFFF_FFFF_FFFF,
             0xFFFF_FFFF_FFFF_FFFF,
@@ -140,19 +140,15 @@ const CASES_64: [(u8, [u64; 11]); 4] = [
 
 #[test]
 fn conversions_of_i32(rt: HostRuntime) -> Result<(), Fail> {
-    for (code, wants) in CASES_32 {
-        assert_eq!(rt; values(code, PAIRS_32, 0), Some(wants));
-        assert_eq!(rt; values(code, PAIRS_32, ABOVE), Some(wants));
-        assert_eq!(rt; count_traps(code, PAIRS_32), 0);
-    }
+    assert_eq!(rt; giving(&CASES_32, &PAIRS_32, 0), 4);
+    assert_eq!(rt; giving(&CASES_32, &PAIRS_32, ABOVE), 4);
+    assert_eq!(rt; count_traps(&CASES_32, &PAIRS_32), 0);
     Ok(())
 }
 
 #[test]
 fn conversions_of_i64(rt: HostRuntime) -> Result<(), Fail> {
-    for (code, wants) in CASES_64 {
-        assert_eq!(rt; values(code, PAIRS_64, 0), Some(wants));
-        assert_eq!(rt; count_traps(code, PAIRS_64), 0);
-    }
+    assert_eq!(rt; giving(&CASES_64, &PAIRS_64, 0), 4);
+    assert_eq!(rt; count_traps(&CASES_64, &PAIRS_64), 0);
     Ok(())
 }

@@ -1,12 +1,12 @@
 //! Shifts and rotations.
-use super::{ABOVE, PAIRS_32, PAIRS_64, count_traps, values};
+use super::{ABOVE, Case, PAIRS_32, PAIRS_64, count_traps, giving};
 use std::test::Fail;
 
 /// Codes, and the numbers that they give at the pairs of i32.
-const CASES_32: [(u8, [u64; 11]); 5] = [
+static CASES_32: [Case; 5] = [
     (
         0x74,
-        [
+        &[
             0,
             0x8000_0000,
             0xFFFF_FFFE,
@@ -22,7 +22,7 @@ const CASES_32: [(u8, [u64; 11]); 5] = [
     ),
     (
         0x75,
-        [
+        &[
             0,
             0xFFFF_FFFF,
             0xFFFF_FFFF,
@@ -38,7 +38,7 @@ const CASES_32: [(u8, [u64; 11]); 5] = [
     ),
     (
         0x76,
-        [
+        &[
             0,
             1,
             0x7FFF_FFFF,
@@ -54,7 +54,7 @@ const CASES_32: [(u8, [u64; 11]); 5] = [
     ),
     (
         0x77,
-        [
+        &[
             0,
             0xFFFF_FFFF,
             0xFFFF_FFFF,
@@ -70,7 +70,7 @@ const CASES_32: [(u8, [u64; 11]); 5] = [
     ),
     (
         0x78,
-        [
+        &[
             0,
             0xFFFF_FFFF,
             0xFFFF_FFFF,
@@ -87,10 +87,10 @@ const CASES_32: [(u8, [u64; 11]); 5] = [
 ];
 
 /// Codes, and the numbers that they give at the pairs of i64.
-const CASES_64: [(u8, [u64; 11]); 5] = [
+static CASES_64: [Case; 5] = [
     (
         0x86,
-        [
+        &[
             0,
             0x8000_0000_0000_0000,
             0xFFFF_FFFF_FFFF_FFFE,
@@ -106,7 +106,7 @@ const CASES_64: [(u8, [u64; 11]); 5] = [
     ),
     (
         0x87,
-        [
+        &[
             0,
             0xFFFF_FFFF_FFFF_FFFF,
             0xFFFF_FFFF_FFFF_FFFF,
@@ -122,7 +122,7 @@ const CASES_64: [(u8, [u64; 11]); 5] = [
     ),
     (
         0x88,
-        [
+        &[
             0,
             1,
             0x7FFF_FFFF_FFFF_FFFF,
@@ -138,7 +138,7 @@ const CASES_64: [(u8, [u64; 11]); 5] = [
     ),
     (
         0x89,
-        [
+        &[
             0,
             0xFFFF_FFFF_FFFF_FFFF,
             0xFFFF_FFFF_FFFF_FFFF,
@@ -154,7 +154,7 @@ const CASES_64: [(u8, [u64; 11]); 5] = [
     ),
     (
         0x8A,
-        [
+        &[
             0,
             0xFFFF_FFFF_FFFF_FFFF,
             0xFFFF_FFFF_FFFF_FFFF,
@@ -172,19 +172,15 @@ const CASES_64: [(u8, [u64; 11]); 5] = [
 
 #[test]
 fn shifts_of_i32(rt: HostRuntime) -> Result<(), Fail> {
-    for (code, wants) in CASES_32 {
-        assert_eq!(rt; values(code, PAIRS_32, 0), Some(wants));
-        assert_eq!(rt; values(code, PAIRS_32, ABOVE), Some(wants));
-        assert_eq!(rt; count_traps(code, PAIRS_32), 0);
-    }
+    assert_eq!(rt; giving(&CASES_32, &PAIRS_32, 0), 5);
+    assert_eq!(rt; giving(&CASES_32, &PAIRS_32, ABOVE), 5);
+    assert_eq!(rt; count_traps(&CASES_32, &PAIRS_32), 0);
     Ok(())
 }
 
 #[test]
 fn shifts_of_i64(rt: HostRuntime) -> Result<(), Fail> {
-    for (code, wants) in CASES_64 {
-        assert_eq!(rt; values(code, PAIRS_64, 0), Some(wants));
-        assert_eq!(rt; count_traps(code, PAIRS_64), 0);
-    }
+    assert_eq!(rt; giving(&CASES_64, &PAIRS_64, 0), 5);
+    assert_eq!(rt; count_traps(&CASES_64, &PAIRS_64), 0);
     Ok(())
 }

@@ -2,6 +2,7 @@
 //! WebAssembly, and the same modules are refused there but for one: it takes the spelling `C0 7F` of a negative number for `40`. The limit on
 //! results is this program's own.
 use super::calls::{Run, interprets};
+use bl_base::NoMemory;
 use std::alloc::Global;
 use std::test::Fail;
 
@@ -68,7 +69,7 @@ static RUNS: [Run; 8] = [
 ];
 
 /// How many runs pass before the first that doesn't.
-fn interpreted(alloc: Global) -> Result<u32, Fail> {
+fn interpreted(alloc: Global) -> Result<u32, NoMemory> {
     let mut passed = 0u32;
     for (sections, start, status, text) in &RUNS {
         if !interprets(alloc, *sections, *start, *status, *text)? {
@@ -92,7 +93,7 @@ const FRONT: [u8; 18] = [
 ];
 
 /// The sections of a function of type 0, [] -> [], with one block of that block type, which is spelled in at most two bytes.
-fn with_block(alloc: Global, block_type: &[u8]) -> Result<Vec<u8>, Fail> {
+fn with_block(alloc: Global, block_type: &[u8]) -> Result<Vec<u8>, NoMemory> {
     let mut bytes = FRONT.to_vec(alloc)?;
     let two = block_type.len() == 2;
     bytes.extend_from_slice(&[if two { 0x08 } else { 0x07 }, 0x01])?;
@@ -115,7 +116,7 @@ static BLOCK_TYPES: [(&[u8], u8, &str); 8] = [
 ];
 
 /// How many block types pass before the first that doesn't.
-fn block_types(alloc: Global) -> Result<u32, Fail> {
+fn block_types(alloc: Global) -> Result<u32, NoMemory> {
     let mut passed = 0u32;
     for (block_type, status, text) in &BLOCK_TYPES {
         if !interprets(alloc, &with_block(alloc, *block_type)?, "", *status, *text)? {
@@ -133,7 +134,7 @@ fn a_block_type_is_one_of_values_or_names_a_type(rt: HostRuntime) -> Result<(), 
 }
 
 /// The sections of a module with a type of 1,025 results.
-fn many_results(alloc: Global) -> Result<Vec<u8>, Fail> {
+fn many_results(alloc: Global) -> Result<Vec<u8>, NoMemory> {
     let mut bytes = [0x01, 0x86, 0x08, 0x01, 0x60, 0x00, 0x81, 0x08].to_vec(alloc)?;
     for _result in 0..1_025 {
         bytes.push(0x7F)?;
@@ -142,7 +143,7 @@ fn many_results(alloc: Global) -> Result<Vec<u8>, Fail> {
 }
 
 /// Whether a module with that type is interpreted so.
-fn are_too_many(alloc: Global, status: u8, text: &str) -> Result<bool, Fail> {
+fn are_too_many(alloc: Global, status: u8, text: &str) -> Result<bool, NoMemory> {
     interprets(alloc, &many_results(alloc)?, "", status, text)
 }
 

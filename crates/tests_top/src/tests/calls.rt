@@ -1,12 +1,11 @@
 //! Calls of the program over files in memory, and what they leave.
 use bl_app::blade;
-use bl_base::List;
+use bl_base::{List, NoMemory};
 use bl_outside::{MemoryShelf, MemorySink};
 use std::alloc::Global;
-use std::test::Fail;
 
 /// The words of a line.
-fn words_of(alloc: Global, line: &str) -> Result<Vec<String>, Fail> {
+fn words_of(alloc: Global, line: &str) -> Result<Vec<String>, NoMemory> {
     let mut words = Vec::new(alloc);
     for word in line.split(' ') {
         words.push(String::from_str(alloc, word)?)?;
@@ -20,7 +19,7 @@ fn say_within(
     shelf: &mut MemoryShelf,
     line: &str,
     limit: Option<u64>,
-) -> Result<(u8, MemorySink), Fail> {
+) -> Result<(u8, MemorySink), NoMemory> {
     let words = words_of(alloc, line)?;
     let mut out = MemorySink::new(alloc, limit);
     out.reserve(200)?;
@@ -33,7 +32,7 @@ pub(super) fn say(
     alloc: Global,
     shelf: &mut MemoryShelf,
     line: &str,
-) -> Result<(u8, MemorySink), Fail> {
+) -> Result<(u8, MemorySink), NoMemory> {
     say_within(alloc, shelf, line, None)
 }
 
@@ -45,7 +44,7 @@ pub(super) fn ends_within(
     limit: Option<u64>,
     status: u8,
     text: &str,
-) -> Result<bool, Fail> {
+) -> Result<bool, NoMemory> {
     let (answer, out) = say_within(alloc, shelf, line, limit)?;
     Ok(answer == status && out.bytes() == text.as_bytes())
 }
@@ -57,12 +56,16 @@ pub(super) fn ends(
     line: &str,
     status: u8,
     text: &str,
-) -> Result<bool, Fail> {
+) -> Result<bool, NoMemory> {
     ends_within(alloc, shelf, line, None, status, text)
 }
 
 /// The status of a call.
-pub(super) fn status_of(alloc: Global, shelf: &mut MemoryShelf, line: &str) -> Result<u8, Fail> {
+pub(super) fn status_of(
+    alloc: Global,
+    shelf: &mut MemoryShelf,
+    line: &str,
+) -> Result<u8, NoMemory> {
     let (status, _out) = say(alloc, shelf, line)?;
     Ok(status)
 }
@@ -78,7 +81,7 @@ pub(super) fn holds(shelf: &MemoryShelf, name: &str, bytes: &[u8]) -> bool {
 }
 
 /// The numbers of the calls of a shelf that fail: that one, if any.
-fn failing_calls(alloc: Global, failing: Option<u64>) -> Result<List<u64>, Fail> {
+fn failing_calls(alloc: Global, failing: Option<u64>) -> Result<List<u64>, NoMemory> {
     let mut numbers = List::new(alloc);
     if let Some(number) = failing {
         numbers.push(number)?;
@@ -91,7 +94,7 @@ pub(super) fn shelf_failing(
     alloc: Global,
     files: &[(&str, &[u8])],
     failing: Option<u64>,
-) -> Result<MemoryShelf, Fail> {
+) -> Result<MemoryShelf, NoMemory> {
     let mut shelf = MemoryShelf::new(alloc, failing_calls(alloc, failing)?);
     for (name, bytes) in files {
         shelf.put(*name, *bytes)?;
@@ -100,7 +103,7 @@ pub(super) fn shelf_failing(
 }
 
 /// A shelf with these files.
-pub(super) fn shelf_of(alloc: Global, files: &[(&str, &[u8])]) -> Result<MemoryShelf, Fail> {
+pub(super) fn shelf_of(alloc: Global, files: &[(&str, &[u8])]) -> Result<MemoryShelf, NoMemory> {
     shelf_failing(alloc, files, None)
 }
 
@@ -112,7 +115,7 @@ pub(super) fn ends_on(
     line: &str,
     status: u8,
     text: &str,
-) -> Result<bool, Fail> {
+) -> Result<bool, NoMemory> {
     let mut shelf = shelf_failing(alloc, files, failing)?;
     ends(alloc, &mut shelf, line, status, text)
 }
@@ -121,7 +124,7 @@ pub(super) fn ends_on(
 pub(super) const EMPTY: [u8; 8] = [0x00, 0x61, 0x73, 0x6D, 0x01, 0x00, 0x00, 0x00];
 
 /// The module of some sections behind the magic and the version.
-pub(super) fn module_of(alloc: Global, sections: &[u8]) -> Result<Vec<u8>, Fail> {
+pub(super) fn module_of(alloc: Global, sections: &[u8]) -> Result<Vec<u8>, NoMemory> {
     let mut bytes = EMPTY.to_vec(alloc)?;
     bytes.extend_from_slice(sections)?;
     Ok(bytes)
@@ -135,7 +138,11 @@ pub(super) const RUN: &str = "blade run i.img m/f start";
 pub(super) const INTERP: &str = "blade interp m/f start m.wasm";
 
 /// A shelf with the module of some sections and a start file.
-pub(super) fn shelf_with(alloc: Global, sections: &[u8], start: &str) -> Result<MemoryShelf, Fail> {
+pub(super) fn shelf_with(
+    alloc: Global,
+    sections: &[u8],
+    start: &str,
+) -> Result<MemoryShelf, NoMemory> {
     let mut shelf = MemoryShelf::new(alloc, List::new(alloc));
     shelf.put("m.wasm", &module_of(alloc, sections)?)?;
     shelf.put("start", start.as_bytes())?;
@@ -149,9 +156,24 @@ pub(super) fn interprets(
     start: &str,
     status: u8,
     text: &str,
-) -> Result<bool, Fail> {
+) -> Result<bool, NoMemory> {
     let mut shelf = shelf_with(alloc, sections, start)?;
     ends(alloc, &mut shelf, INTERP, status, text)
+}
+
+/// Whether a call ends well, and two others end so.
+pub(super) fn end_alike(
+    alloc: Global,
+    shelf: &mut MemoryShelf,
+    lines: [&str; 3],
+    status: u8,
+    text: &str,
+) -> Result<bool, NoMemory> {
+    let [first, second, third] = lines;
+    let lowered = status_of(alloc, shelf, first)?;
+    let ran = ends(alloc, shelf, second, status, text)?;
+    let interpreted = ends(alloc, shelf, third, status, text)?;
+    Ok(lowered == 0 && ran && interpreted)
 }
 
 /// Whether the module of some sections is lowered, and its image and the module itself end so.
@@ -161,20 +183,16 @@ pub(super) fn runs_alike(
     start: &str,
     status: u8,
     text: &str,
-) -> Result<bool, Fail> {
+) -> Result<bool, NoMemory> {
     let mut shelf = shelf_with(alloc, sections, start)?;
-    Ok(
-        status_of(alloc, &mut shelf, LOWER)? == 0
-            && ends(alloc, &mut shelf, RUN, status, text)?
-            && ends(alloc, &mut shelf, INTERP, status, text)?,
-    )
+    end_alike(alloc, &mut shelf, [LOWER, RUN, INTERP], status, text)
 }
 
 /// Sections of a module, a start file, the status and the text.
 pub(super) type Run = (&'static [u8], &'static str, u8, &'static str);
 
 /// How many modules run alike before the first that doesn't.
-pub(super) fn alike(alloc: Global, runs: &[Run]) -> Result<u32, Fail> {
+pub(super) fn alike(alloc: Global, runs: &[Run]) -> Result<u32, NoMemory> {
     let mut passed = 0u32;
     for (sections, start, status, text) in runs {
         if !runs_alike(alloc, *sections, *start, *status, *text)? {

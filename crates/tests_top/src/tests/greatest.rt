@@ -1,11 +1,12 @@
 //! Runs near the greatest inputs, where want of memory could hide.
 use super::ADD_ONE;
 use super::calls::{ends, shelf_of};
+use bl_base::NoMemory;
 use std::alloc::Global;
 use std::test::Fail;
 
 /// The module that adds 1 with a custom section behind it, 4,194,304 bytes in all.
-fn longest_module(alloc: Global) -> Result<Vec<u8>, Fail> {
+fn longest_module(alloc: Global) -> Result<Vec<u8>, NoMemory> {
     let mut bytes = ADD_ONE.to_vec(alloc)?;
     bytes.extend_from_slice(&[0x00, 0xD3, 0xFF, 0xFF, 0x01, 0x01, 0x78])?;
     let rest: Vec<u8> = vec![in alloc; 0; 4_194_257]?;
@@ -14,7 +15,7 @@ fn longest_module(alloc: Global) -> Result<Vec<u8>, Fail> {
 }
 
 /// A start file of the argument 41 behind zeros, 16,777,216 bytes in all.
-fn longest_start(alloc: Global) -> Result<Vec<u8>, Fail> {
+fn longest_start(alloc: Global) -> Result<Vec<u8>, NoMemory> {
     let mut bytes = b"arg ".to_vec(alloc)?;
     let zeros: Vec<u8> = vec![in alloc; 0x30; 16_777_210]?;
     bytes.extend_from_slice(zeros.as_slice())?;
@@ -23,7 +24,7 @@ fn longest_start(alloc: Global) -> Result<Vec<u8>, Fail> {
 }
 
 /// Whether the longest module runs so from the longest start.
-fn runs(alloc: Global, line: &str, text: &str) -> Result<bool, Fail> {
+fn runs(alloc: Global, line: &str, text: &str) -> Result<bool, NoMemory> {
     let module = longest_module(alloc)?;
     let start = longest_start(alloc)?;
     let longest = module.len() == 4_194_304 && start.len() == 16_777_216;

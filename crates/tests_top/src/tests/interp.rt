@@ -1,5 +1,6 @@
 use super::calls::{ends_on, interprets};
 use super::{ADD_ONE, LOADS};
+use bl_base::NoMemory;
 use std::alloc::Global;
 use std::test::Fail;
 
@@ -106,7 +107,12 @@ static STEPS: [Case; 7] = [
 ];
 
 /// How many cases of a file of that name beside the start file pass before the first that doesn't.
-pub(super) fn passed(alloc: Global, name: &str, bytes: &[u8], cases: &[Case]) -> Result<u32, Fail> {
+pub(super) fn passed(
+    alloc: Global,
+    name: &str,
+    bytes: &[u8],
+    cases: &[Case],
+) -> Result<u32, NoMemory> {
     let mut passed = 0u32;
     for (line, start, failing, status, text) in cases {
         let files = [(name, bytes), ("start", *start)];
@@ -188,7 +194,7 @@ static LOADING: [Case; 1] = [(
 )];
 
 /// Whether a start file of 16,777,217 bytes is told so, where that call of the shelf fails.
-fn is_too_long(alloc: Global, failing: Option<u64>, text: &str) -> Result<bool, Fail> {
+fn is_too_long(alloc: Global, failing: Option<u64>, text: &str) -> Result<bool, NoMemory> {
     let long = vec![in alloc; b'a'; 16_777_217]?;
     let files: [(&str, &[u8]); 2] = [("m.wasm", &ADD_ONE), ("start", &long)];
     ends_on(

@@ -1,7 +1,7 @@
 //! Lists of modules that import from one another, and modules with memories and tables. What node gives of them is printed by lists.js.
 use super::ADD_ONE;
-use super::calls::{Run, alike, ends, module_of, say, shelf_with, stands, status_of};
-use bl_base::List;
+use super::calls::{Run, alike, end_alike, ends, module_of, say, shelf_with, stands};
+use bl_base::{List, NoMemory};
 use bl_outside::MemoryShelf;
 use std::alloc::Global;
 use std::test::Fail;
@@ -39,7 +39,11 @@ const LAST: [u8; 106] = [
 ];
 
 /// A shelf with these modules and a start file.
-fn shelf_of(alloc: Global, modules: &[(&str, &[u8])], start: &str) -> Result<MemoryShelf, Fail> {
+fn shelf_of(
+    alloc: Global,
+    modules: &[(&str, &[u8])],
+    start: &str,
+) -> Result<MemoryShelf, NoMemory> {
     let mut shelf = MemoryShelf::new(alloc, List::new(alloc));
     for (name, sections) in modules {
         shelf.put(*name, &module_of(alloc, *sections)?)?;
@@ -48,16 +52,18 @@ fn shelf_of(alloc: Global, modules: &[(&str, &[u8])], start: &str) -> Result<Mem
     Ok(shelf)
 }
 
-/// Whether the three modules run to that text, interpreted and lowered.
-fn is_chained(alloc: Global, start: &str, text: &str) -> Result<bool, Fail> {
+/// The calls on three modules.
+const CHAINED: [&str; 3] = [
+    "blade lower i.img a.wasm b.wasm d/c",
+    "blade run i.img c/f start",
+    "blade interp c/f start a.wasm b.wasm d/c",
+];
+
+/// Whether the three modules run to that text, lowered and interpreted.
+fn is_chained(alloc: Global, start: &str, text: &str) -> Result<bool, NoMemory> {
     let modules: [(&str, &[u8]); 3] = [("a.wasm", &BASE), ("b.wasm", &MIDDLE), ("d/c", &LAST)];
     let mut shelf = shelf_of(alloc, &modules, start)?;
-    let line = "blade interp c/f start a.wasm b.wasm d/c";
-    Ok(
-        ends(alloc, &mut shelf, line, 0, text)?
-            && status_of(alloc, &mut shelf, "blade lower i.img a.wasm b.wasm d/c")? == 0
-            && ends(alloc, &mut shelf, "blade run i.img c/f start", 0, text)?,
-    )
+    end_alike(alloc, &mut shelf, CHAINED, 0, text)
 }
 
 #[test]
@@ -161,13 +167,22 @@ fn modules_with_memories_and_tables_run_alike_interpreted_and_lowered(
     Ok(())
 }
 
-/// Whether the module of a C compiler is lowered with that line, and its image runs to that text.
-fn sums(alloc: Global, start: &str, line: &str, text: &str) -> Result<bool, Fail> {
+/// Whether the module on the shelf is lowered with that line, and its image runs to that text.
+fn lowers_and_sums(
+    alloc: Global,
+    shelf: &mut MemoryShelf,
+    line: &str,
+    text: &str,
+) -> Result<bool, NoMemory> {
+    let lowered = ends(alloc, shelf, "blade lower i.img m.wasm", 0, line)?;
+    let ran = ends(alloc, shelf, "blade run i.img m/sum start", 0, text)?;
+    Ok(lowered && ran)
+}
+
+/// Whether that holds for the module of a C compiler.
+fn sums(alloc: Global, start: &str, line: &str, text: &str) -> Result<bool, NoMemory> {
     let mut shelf = shelf_with(alloc, &SUM, start)?;
-    Ok(
-        ends(alloc, &mut shelf, "blade lower i.img m.wasm", 0, line)?
-            && ends(alloc, &mut shelf, "blade run i.img m/sum start", 0, text)?,
-    )
+    lowers_and_sums(alloc, &mut shelf, line, text)
 }
 
 #[test]
@@ -188,7 +203,7 @@ const BYTES: [u8; 39] = [
 const PAGE: [u8; 6] = [0x05, 0x04, 0x01, 0x01, 0x01, 0x01];
 
 /// Whether those two modules, with memories of their own, end so.
-fn ends_apart(alloc: Global, start: &str, status: u8, text: &str) -> Result<bool, Fail> {
+fn ends_apart(alloc: Global, start: &str, status: u8, text: &str) -> Result<bool, NoMemory> {
     let modules: [(&str, &[u8]); 2] = [("main.wasm", &BYTES), ("vault.wasm", &PAGE)];
     let mut shelf = shelf_of(alloc, &modules, start)?;
     let line = "blade interp main/f start main.wasm vault.wasm";
@@ -242,29 +257,28 @@ static UNLINKED: [(&[u8], &str); 5] = [
     (&HOST, "link: m import 0 unknown\n"),
 ];
 
-/// Whether the module is named so, interpreted and lowered, and no image is kept.
-fn is_unlinked(alloc: Global, sections: &[u8], text: &str) -> Result<bool, Fail> {
+/// Whether the last of the modules on the shelf is named so, interpreted and lowered, and no image is kept.
+fn names_module(alloc: Global, shelf: &mut MemoryShelf, text: &str) -> Result<bool, NoMemory> {
+    let interpreted = ends(
+        alloc,
+        shelf,
+        "blade interp a/d start a.wasm m.wasm",
+        9,
+        text,
+    )?;
+    let lowered = ends(alloc, shelf, "blade lower i.img a.wasm m.wasm", 9, text)?;
+    Ok(interpreted && lowered && !stands(shelf, "i.img"))
+}
+
+/// Whether that holds for the module of some sections.
+fn is_unlinked(alloc: Global, sections: &[u8], text: &str) -> Result<bool, NoMemory> {
     let modules: [(&str, &[u8]); 2] = [("a.wasm", &BASE), ("m.wasm", sections)];
     let mut shelf = shelf_of(alloc, &modules, "")?;
-    Ok(
-        ends(
-            alloc,
-            &mut shelf,
-            "blade interp a/d start a.wasm m.wasm",
-            9,
-            text,
-        )? && ends(
-            alloc,
-            &mut shelf,
-            "blade lower i.img a.wasm m.wasm",
-            9,
-            text,
-        )? && !stands(&shelf, "i.img"),
-    )
+    names_module(alloc, &mut shelf, text)
 }
 
 /// How many modules pass before the first that doesn't.
-fn unlinked(alloc: Global) -> Result<u32, Fail> {
+fn unlinked(alloc: Global) -> Result<u32, NoMemory> {
     let mut passed = 0u32;
     for (sections, text) in &UNLINKED {
         if !is_unlinked(alloc, *sections, *text)? {
@@ -289,23 +303,38 @@ const TWICE: [u8; 44] = [
 ];
 
 /// Whether a call ends with status 0, and what it prints begins so.
-fn begins(alloc: Global, shelf: &mut MemoryShelf, line: &str, head: &[u8]) -> Result<bool, Fail> {
+fn begins(
+    alloc: Global,
+    shelf: &mut MemoryShelf,
+    line: &str,
+    head: &[u8],
+) -> Result<bool, NoMemory> {
     let (status, out) = say(alloc, shelf, line)?;
     Ok(status == 0 && out.bytes().starts_with(head))
 }
 
-/// Whether the module that calls that of `inc` is hardened with it, and then runs to that text.
-fn is_hardened(alloc: Global, line: &str, head: &[u8], text: &str) -> Result<bool, Fail> {
-    let mut shelf = shelf_with(alloc, &TWICE, "arg 40\n")?;
+/// Whether the module on the shelf is hardened with `inc`, which is put there, and then runs to that text.
+fn hardens_and_runs(
+    alloc: Global,
+    shelf: &mut MemoryShelf,
+    line: &str,
+    head: &[u8],
+    text: &str,
+) -> Result<bool, NoMemory> {
     shelf.put("inc.wasm", &ADD_ONE)?;
-    Ok(
-        begins(alloc, &mut shelf, line, head)?
-            && ends(alloc, &mut shelf, "blade run i.img m/f start", 0, text)?,
-    )
+    let hardened = begins(alloc, shelf, line, head)?;
+    let ran = ends(alloc, shelf, "blade run i.img m/f start", 0, text)?;
+    Ok(hardened && ran)
+}
+
+/// Whether that holds for the module that calls that of `inc`.
+fn is_hardened(alloc: Global, line: &str, head: &[u8], text: &str) -> Result<bool, NoMemory> {
+    let mut shelf = shelf_with(alloc, &TWICE, "arg 40\n")?;
+    hardens_and_runs(alloc, &mut shelf, line, head, text)
 }
 
 /// Whether modules that can't be linked are refused so, and no image is kept.
-fn is_refused(alloc: Global, line: &str, text: &str) -> Result<bool, Fail> {
+fn is_refused(alloc: Global, line: &str, text: &str) -> Result<bool, NoMemory> {
     let modules: [(&str, &[u8]); 2] = [("a.wasm", &BASE), ("b.wasm", &HOST)];
     let mut shelf = shelf_of(alloc, &modules, "")?;
     let refused = ends(alloc, &mut shelf, line, 9, text)?;
@@ -344,7 +373,7 @@ static COUNTED: [(&str, u8, &str); 6] = [
 ];
 
 /// How many lines pass, where none of their modules stands on the shelf, before the first that doesn't.
-fn counted(alloc: Global) -> Result<u32, Fail> {
+fn counted(alloc: Global) -> Result<u32, NoMemory> {
     let mut passed = 0u32;
     for (line, status, text) in &COUNTED {
         if !ends(alloc, &mut shelf_of(alloc, &[], "")?, *line, *status, *text)? {

@@ -6,6 +6,7 @@ use super::calls::{
 };
 use super::interp::{COUNT_DOWN, DIVISION, REMAINDER, UNREACHABLE, UNTYPED};
 use super::{ADD_ONE, EMPTY_IMAGE, IMAGE};
+use bl_base::NoMemory;
 use bl_outside::MemoryShelf;
 use std::alloc::Global;
 use std::test::Fail;
@@ -60,14 +61,14 @@ const LOOP_IMAGE: [u8; 94] = [
 ];
 
 /// Whether the module of some sections is lowered to that image, without a certificate.
-fn is_lowered(alloc: Global, sections: &[u8], image: &[u8]) -> Result<bool, Fail> {
+fn is_lowered(alloc: Global, sections: &[u8], image: &[u8]) -> Result<bool, NoMemory> {
     let mut shelf = shelf_with(alloc, sections, "")?;
     let status = status_of(alloc, &mut shelf, LOWER)?;
     Ok(status == 0 && holds(&shelf, "i.img", image) && !stands(&shelf, "i.json"))
 }
 
 /// Whether the module that adds 1 is lowered so, where another one stands beside it.
-fn is_lowered_alone(alloc: Global, line: &str, text: &str, image: &[u8]) -> Result<bool, Fail> {
+fn is_lowered_alone(alloc: Global, line: &str, text: &str, image: &[u8]) -> Result<bool, NoMemory> {
     let mut shelf = shelf_of(alloc, &[("m.wasm", &EMPTY), ("inc.wasm", &ADD_ONE)])?;
     let lowered = ends(alloc, &mut shelf, line, 0, text)?;
     Ok(lowered && holds(&shelf, "inc.img", image))
@@ -106,15 +107,26 @@ static COUNTS: [(&[u8], &str, &str); 4] = [
     ),
 ];
 
-/// Whether `lower` and `harden` count so.
-fn is_counted(alloc: Global, sections: &[u8], line: &str, report: &str) -> Result<bool, Fail> {
+/// Whether `lower` and `harden` count so of the module on the shelf.
+fn counts(
+    alloc: Global,
+    shelf: &mut MemoryShelf,
+    line: &str,
+    report: &str,
+) -> Result<bool, NoMemory> {
+    let lowered = ends(alloc, shelf, LOWER, 0, line)?;
+    let hardened = ends(alloc, shelf, "blade harden i.img i.json m.wasm", 0, report)?;
+    Ok(lowered && hardened)
+}
+
+/// Whether they count so of the module of some sections.
+fn is_counted(alloc: Global, sections: &[u8], line: &str, report: &str) -> Result<bool, NoMemory> {
     let mut shelf = shelf_with(alloc, sections, "")?;
-    let harden = "blade harden i.img i.json m.wasm";
-    Ok(ends(alloc, &mut shelf, LOWER, 0, line)? && ends(alloc, &mut shelf, harden, 0, report)?)
+    counts(alloc, &mut shelf, line, report)
 }
 
 /// How many modules pass before the first that doesn't.
-fn counted(alloc: Global) -> Result<u32, Fail> {
+fn counted(alloc: Global) -> Result<u32, NoMemory> {
     let mut passed = 0u32;
     for (sections, line, report) in &COUNTS {
         if !is_counted(alloc, *sections, *line, *report)? {
@@ -133,7 +145,7 @@ fn commands_and_sites_are_counted(rt: HostRuntime) -> Result<(), Fail> {
 
 /// A module of one function of so many nops, with the last seven bits of the size of its code section and of its body. The
 /// other bits are those of sizes near 2^20.
-fn nops(alloc: Global, count: usize, section: u8, body: u8) -> Result<Vec<u8>, Fail> {
+fn nops(alloc: Global, count: usize, section: u8, body: u8) -> Result<Vec<u8>, NoMemory> {
     let mut bytes = module_of(
         alloc,
         &[
@@ -148,7 +160,13 @@ fn nops(alloc: Global, count: usize, section: u8, body: u8) -> Result<Vec<u8>, F
 }
 
 /// Whether a call on a module ends so, and an image is kept where the status is 0.
-fn is_told(alloc: Global, module: &[u8], line: &str, status: u8, text: &str) -> Result<bool, Fail> {
+fn is_told(
+    alloc: Global,
+    module: &[u8],
+    line: &str,
+    status: u8,
+    text: &str,
+) -> Result<bool, NoMemory> {
     let mut shelf = shelf_of(alloc, &[("m.wasm", module), ("start", b"")])?;
     let told = ends(alloc, &mut shelf, line, status, text)?;
     Ok(told && stands(&shelf, "i.img") == (status == 0))
@@ -161,7 +179,7 @@ static MANY: [(usize, u8, u8, u8, &str); 2] = [
 ];
 
 /// How many of those pass before the first that doesn't.
-fn many(alloc: Global) -> Result<u32, Fail> {
+fn many(alloc: Global) -> Result<u32, NoMemory> {
     let mut passed = 0u32;
     for (count, section, body, status, text) in &MANY {
         let module = nops(alloc, *count, *section, *body)?;
@@ -209,7 +227,7 @@ static REFUSED: [(&str, &[u8], u8, &str); 5] = [
 ];
 
 /// How many of those pass before the first that doesn't.
-fn refused(alloc: Global) -> Result<u32, Fail> {
+fn refused(alloc: Global) -> Result<u32, NoMemory> {
     let mut passed = 0u32;
     for (line, sections, status, text) in &REFUSED {
         let module = module_of(alloc, *sections)?;
@@ -252,7 +270,7 @@ fn of_operator(
     kind: u8,
     two: bool,
     given: u8,
-) -> Result<Vec<u8>, Fail> {
+) -> Result<Vec<u8>, NoMemory> {
     let types: [u8; 10] = [0x01, 0x07, 0x01, 0x60, 0x02, kind, kind, 0x01, given, 0x03];
     let one: [u8; 9] = [0x01, 0x06, 0x01, 0x60, 0x01, kind, 0x01, given, 0x03];
     let mut bytes = module_of(alloc, if two { &types } else { &one })?;
@@ -269,14 +287,14 @@ fn of_operator(
 }
 
 /// Whether a lowered module runs by its image and by itself to the same text.
-fn run_alike(alloc: Global, shelf: &mut MemoryShelf) -> Result<bool, Fail> {
+fn run_alike(alloc: Global, shelf: &mut MemoryShelf) -> Result<bool, NoMemory> {
     let (ran, out) = say(alloc, shelf, RUN)?;
     let (interpreted, other) = say(alloc, shelf, INTERP)?;
     Ok(ran == 0 && interpreted == 0 && out.bytes() == other.bytes())
 }
 
 /// Whether an operator gives the same by an image and by the module itself, from those arguments.
-fn is_alike(alloc: Global, operator: u8, kind: u8, two: bool, given: u8) -> Result<bool, Fail> {
+fn is_alike(alloc: Global, operator: u8, kind: u8, two: bool, given: u8) -> Result<bool, NoMemory> {
     let start = if two {
         "arg 2147483653\narg 3\n"
     } else {
@@ -288,7 +306,14 @@ fn is_alike(alloc: Global, operator: u8, kind: u8, two: bool, given: u8) -> Resu
 }
 
 /// How many operators of a row of the table don't give the same.
-fn unlike(alloc: Global, first: u8, last: u8, kind: u8, two: bool, given: u8) -> Result<u32, Fail> {
+fn unlike(
+    alloc: Global,
+    first: u8,
+    last: u8,
+    kind: u8,
+    two: bool,
+    given: u8,
+) -> Result<u32, NoMemory> {
     let mut count = 0u32;
     for operator in first..=last {
         if !is_alike(alloc, operator, kind, two, given)? {
@@ -299,7 +324,7 @@ fn unlike(alloc: Global, first: u8, last: u8, kind: u8, two: bool, given: u8) ->
 }
 
 /// How many operators there are, where each of them gives the same; None where one doesn't.
-fn operators(alloc: Global) -> Result<Option<u32>, Fail> {
+fn operators(alloc: Global) -> Result<Option<u32>, NoMemory> {
     let mut count = 0u32;
     for (first, last, kind, operands, given) in &OPERATORS {
         if unlike(alloc, *first, *last, *kind, *operands == 2, *given)? != 0 {

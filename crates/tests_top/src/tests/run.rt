@@ -1,6 +1,7 @@
 use super::IMAGE;
 use super::calls::ends_on;
 use super::interp::{Case, passed};
+use bl_base::NoMemory;
 use std::alloc::Global;
 use std::test::Fail;
 
@@ -171,14 +172,14 @@ fn exports_and_starts_of_an_image_that_are_refused(rt: HostRuntime) -> Result<()
 }
 
 /// The image of the function that adds 1, without its last bytes, and with others in their place.
-fn with_end(alloc: Global, without: usize, end: &[u8]) -> Result<Vec<u8>, Fail> {
+fn with_end(alloc: Global, without: usize, end: &[u8]) -> Result<Vec<u8>, NoMemory> {
     let mut bytes = IMAGE[..IMAGE.len().saturating_sub(without)].to_vec(alloc)?;
     bytes.extend_from_slice(end)?;
     Ok(bytes)
 }
 
 /// Whether the run of an image ends so.
-fn runs(alloc: Global, image: &[u8], status: u8, text: &str) -> Result<bool, Fail> {
+fn runs(alloc: Global, image: &[u8], status: u8, text: &str) -> Result<bool, NoMemory> {
     let files = [("i.img", image), ("start", b"arg 1\n".as_slice())];
     ends_on(
         alloc,
@@ -197,12 +198,12 @@ fn runs_with_end(
     end: &[u8],
     status: u8,
     text: &str,
-) -> Result<bool, Fail> {
+) -> Result<bool, NoMemory> {
     runs(alloc, &with_end(alloc, without, end)?, status, text)
 }
 
 /// Whether a file of 134,217,729 bytes is told so.
-fn is_too_long(alloc: Global, text: &str) -> Result<bool, Fail> {
+fn is_too_long(alloc: Global, text: &str) -> Result<bool, NoMemory> {
     runs(alloc, &vec![in alloc; 0x42; 134_217_729]?, 8, text)
 }
 

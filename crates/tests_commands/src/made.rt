@@ -1,0 +1,57 @@
+//! Each of the four kinds of items stands twice in a function, whatever the seed: 47 commands and 35 sites a function, and 5 commands and 4
+//! sites for each call of the function before it.
+use crate::calls::{ends, failing};
+use bl_base::NoMemory;
+use std::alloc::Global;
+use std::test::Fail;
+
+/// A line, and the status and the text.
+static CASES: [(&str, u8, &str); 7] = [
+    (
+        "blade gen 0 1",
+        0,
+        "module 104\nfunctions 1\ncommands 54\nsites 35\nprotects 8 weight 8\nconstant-time yes\n",
+    ),
+    (
+        "blade gen 5 100",
+        0,
+        "module 7629\nfunctions 100\ncommands 5202\nsites 3896\nprotects 800 weight 800\nconstant-time yes\n",
+    ),
+    (
+        "blade gen -- 00000000000000000000 00001",
+        0,
+        "module 104\nfunctions 1\ncommands 54\nsites 35\nprotects 8 weight 8\nconstant-time yes\n",
+    ),
+    ("blade gen 0 0", 2, "usage: blade COMMAND ARGUMENTS\n"),
+    ("blade gen 0 10001", 2, "usage: blade COMMAND ARGUMENTS\n"),
+    (
+        "blade gen 18446744073709551616 1",
+        2,
+        "usage: blade COMMAND ARGUMENTS\n",
+    ),
+    ("blade gen 0", 2, "usage: blade COMMAND ARGUMENTS\n"),
+];
+
+/// Whether a call ends so on a shelf of which any call would fail.
+fn ends_without_files(alloc: Global, line: &str, status: u8, text: &str) -> Result<bool, NoMemory> {
+    let mut shelf = failing(alloc, 1)?;
+    ends(alloc, &mut shelf, line, status, text)
+}
+
+/// How many calls end so before the first that doesn't.
+fn made(alloc: Global) -> Result<u32, NoMemory> {
+    let mut passed = 0u32;
+    for (line, status, text) in &CASES {
+        if !ends_without_files(alloc, *line, *status, *text)? {
+            break;
+        }
+        passed = passed.wrapping_add(1);
+    }
+    Ok(passed)
+}
+
+#[test]
+fn a_made_module_is_hardened_without_files(rt: HostRuntime) -> Result<(), Fail> {
+    assert_eq!(rt; made(rt.alloc())?, 7);
+    Ok(())
+}

@@ -1,5 +1,0 @@
-//! Tests of `blade harden`: reports, certificates and images of modules that load.
-#![tactic(auto)]
-
-#[cfg(test)]
-mod tests;
