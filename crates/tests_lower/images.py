@@ -1,5 +1,5 @@
 #!/usr/bin/env python3
-"""Prints the image of each module of `src/rows.rt`, and of four that tests_harden hardens, by the commands that the table of lowering
+"""Prints the image of each module of `src/rows.rt`, and of four that tests_commands hardens, by the commands that the table of lowering
 gives them, written here by hand.
 
 Commands are listed one a line from position 7 on, with their positions, as `11 load v5 v3` or `16 out 0 v7`. A word `vN` is a

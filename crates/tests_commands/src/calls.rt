@@ -85,14 +85,18 @@ pub(crate) fn failing(alloc: Global, number: u64) -> Result<MemoryShelf, NoMemor
     Ok(MemoryShelf::new(alloc, numbers))
 }
 
-/// Whether bytes are these texts behind one another.
-pub(crate) fn is_joined(bytes: &[u8], texts: &[&str]) -> bool {
-    let mut rest = bytes;
-    for text in texts {
-        match rest.strip_prefix(text.as_bytes()) {
-            Some(behind) => rest = behind,
-            None => return false,
-        }
+/// Whether bytes are a text and another one behind it.
+fn is_pair(bytes: &[u8], head: &str, end: &str) -> bool {
+    match bytes.strip_prefix(head.as_bytes()) {
+        Some(rest) => rest == end.as_bytes(),
+        None => false,
     }
-    rest.is_empty()
+}
+
+/// Whether bytes are three texts behind one another.
+pub(crate) fn is_joined(bytes: &[u8], head: &str, middle: &str, end: &str) -> bool {
+    match bytes.strip_prefix(head.as_bytes()) {
+        Some(rest) => is_pair(rest, middle, end),
+        None => false,
+    }
 }

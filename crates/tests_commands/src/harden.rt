@@ -155,10 +155,12 @@ const HARDEN: &str = "blade harden i c m.wasm";
 /// Whether a report is a head and a path, and a certificate is that of the same path, by its `sink` and `sites`.
 fn is_path(report: &[u8], certificate: &[u8], head: &str, path: &Path) -> bool {
     let (line, object) = *path;
-    is_joined(report, &[head, line, "\nconstant-time yes\n"])
+    is_joined(report, head, line, "\nconstant-time yes\n")
         && is_joined(
             certificate,
-            &["{\"paths\":[{\"amount\":1,", object, "}],\"weight\":1}"],
+            "{\"paths\":[{\"amount\":1,",
+            object,
+            "}],\"weight\":1}",
         )
 }
 

@@ -46,21 +46,24 @@ const HARDEN: &str = "blade harden i c main.wasm vault.wasm";
 
 const TWIN: &str = "blade twin i main/f trace one two";
 
-/// A shelf with the main module, the one of the secret memory, a trace and two starts.
+/// Puts the module of the secret memory, a trace and two starts on a shelf.
+fn put_starts(shelf: &mut MemoryShelf, trace: &str, starts: (&str, &str)) -> Result<(), NoMemory> {
+    shelf.put("vault.wasm", &VAULT)?;
+    shelf.put("trace", trace.as_bytes())?;
+    shelf.put("one", starts.0.as_bytes())?;
+    shelf.put("two", starts.1.as_bytes())
+}
+
+/// A shelf with those and the main module.
 fn shelf_with(
     alloc: Global,
     main: &[u8],
     trace: &str,
     starts: (&str, &str),
 ) -> Result<MemoryShelf, NoMemory> {
-    let files: [(&str, &[u8]); 5] = [
-        ("main.wasm", main),
-        ("vault.wasm", &VAULT),
-        ("trace", trace.as_bytes()),
-        ("one", starts.0.as_bytes()),
-        ("two", starts.1.as_bytes()),
-    ];
-    shelf_of(alloc, &files)
+    let mut shelf = shelf_of(alloc, &[("main.wasm", main)])?;
+    put_starts(&mut shelf, trace, starts)?;
+    Ok(shelf)
 }
 
 /// The command that writes the image, the trace, the two starts, and the status and the text of `twin`.
