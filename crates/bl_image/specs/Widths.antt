@@ -24,7 +24,7 @@ HasConstants (Out mark index value) = HasWidth value
 HasConstants Ret = Unit {0}
 HasConstants (Trap kind) = Unit {0}
 
--- the numbers of a program that its rules leave without a bound
+-- the numbers of a program that its rules bound nowhere by themselves (of listed weights they bound the sum)
 pub record HasWidths (program : Program) : Type 0 where
   pub constants : All HasConstants program.commands
   -- a row is of 16 bytes

@@ -18,7 +18,7 @@ pub fn memory_is_no_fault()
     ensures { (parts : List Part) → links parts ≡ Err Memory → ⊥ }
 {}
 
-/// The tree of parts with few exports of short names has few exports, and their names are short.
+/// The tree of parts of short names, each with few exports of short names, has few exports, and their names are short.
 pub fn exports_are_few()
     ensures { (parts : List Part) (tree : Tree) → All HasFewExports parts → links parts ≡ Ok tree → AreFew (length parts) tree.exports }
 {}
