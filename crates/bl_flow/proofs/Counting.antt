@@ -10,35 +10,14 @@ use Rattle.bl_flow.specs.Searches.{AreRows, row_at}
 use Rattle.bl_flow.specs.Rows.{AreOffsets, row_from, rows_from, from_below, AreCounts, AreEnds}
 use Rattle.bl_flow.proofs.Offsets.{rows_count, row_is, row_length, row_entry}
 
--- one link more, from a part below or not
-abbrev one_if : Bool → ℕ
-one_if b = (if b then 1 else 0)
-
-below_more : (links : List Link) (part k : ℕ) → (link_at links k).from < part → from_below links part (suc k) ≡ suc (from_below links part k)
-below_more links part k lt = let one : one_if (nat_lt (link_at links k).from part) ≡ one_if true = ap one_if (lt-ltb (link_at links k).from part lt) in omega arith
-
-below_same : (links : List Link) (part k : ℕ) → part ≤ (link_at links k).from → from_below links part (suc k) ≡ from_below links part k
-below_same links part k le = let none : one_if (nat_lt (link_at links k).from part) ≡ one_if false = ap one_if (le-ltb (link_at links k).from part le) in omega arith
-
 -- of the links behind some, more are from below the higher of two parts
 grows : (links : List Link) (low high k m : ℕ) → low ≤ high → k ≤ m
     → from_below links high k + from_below links low m ≤ from_below links high m + from_below links low k
-grows links low high k zero le before =
-    let e : k ≡ 0 = omega arith in let a = ap (from_below links low) e in let b = ap (from_below links high) e in omega arith
+grows links low high k zero le before = let e : k ≡ zero = omega arith in subst (λ j. from_below links high j + 0 ≤ 0 + from_below links low j) (sym e) (omega arith)
 grows links low high k (suc m) le before =
     elim (cases_lt m k) as (λ _. from_below links high k + from_below links low (suc m) ≤ from_below links high (suc m) + from_below links low k) [
-      | inl now ↦ let e : k ≡ suc m = omega arith in let a = ap (from_below links low) e in let b = ap (from_below links high) e in omega arith
-      | inr later ↦
-          let rest = grows links low high k m le later in
-          elim (cases_lt (link_at links m).from low) as (λ _. from_below links high k + from_below links low (suc m) ≤ from_below links high (suc m) + from_below links low k) [
-            | inl lt ↦ let a = below_more links low m lt in let b = below_more links high m (omega arith) in omega arith
-            | inr past ↦
-                let a = below_same links low m past in
-                elim (cases_lt (link_at links m).from high) as (λ _. from_below links high k + from_below links low (suc m) ≤ from_below links high (suc m) + from_below links low k) [
-                  | inl lt ↦ let b = below_more links high m lt in omega arith
-                  | inr over ↦ let b = below_same links high m over in omega arith
-                ]
-          ]
+      | inl now ↦ let e : k ≡ suc m = omega arith in subst (λ j. from_below links high j + from_below links low (suc m) ≤ from_below links high (suc m) + from_below links low j) (sym e) (omega arith)
+      | inr later ↦ let rest = grows links low high k m le later in grind (arith, rest)
     ]
 
 rises : (links : List Link) (low high k : ℕ) → low ≤ high → from_below links low k ≤ from_below links high k
@@ -46,16 +25,18 @@ rises links low high k le = let all = grows links low high 0 k le (omega arith) 
 
 most : (links : List Link) (part k : ℕ) → from_below links part k ≤ k
 most links part zero = omega arith
-most links part (suc k) =
-    let rest = most links part k in
-    elim (cases_lt (link_at links k).from part) as (λ _. from_below links part (suc k) ≤ suc k) [
-      | inl lt ↦ let a = below_more links part k lt in omega arith
-      | inr past ↦ let a = below_same links part k past in omega arith
-    ]
+most links part (suc k) = let rest = most links part k in grind (arith, rest)
 
 none_below : (links : List Link) (k : ℕ) → from_below links 0 k ≡ 0
 none_below links zero = omega arith
-none_below links (suc k) = let rest = none_below links k in let a = below_same links 0 k (omega arith) in omega arith
+none_below links (suc k) = let rest = none_below links k in grind (arith, rest)
+
+-- one link more
+below_more : (links : List Link) (part k : ℕ) → (link_at links k).from < part → from_below links part (suc k) ≡ suc (from_below links part k)
+below_more links part k lt = grind arith
+
+below_same : (links : List Link) (part k : ℕ) → part ≤ (link_at links k).from → from_below links part (suc k) ≡ from_below links part k
+below_same links part k le = grind arith
 
 -- counts
 
@@ -148,20 +129,10 @@ module _ (links : List Link) (places k place : ℕ) (offsets entries : List ℕ)
   cursor_here = get_or-set_same offsets from_ place 0 (let p = to.parts in let i = inside k lt in omega arith)
 
   cursor_falls : (part q : ℕ) → slice_index offsets_ part ≤ q → (q ≡ place → ⊥) → slice_index offsets part ≤ q
-  cursor_falls part q le apart =
-      elim (cases_eq part from_) as (λ _. slice_index offsets part ≤ q) [
-        | inl e ↦
-            let now = ap (slice_index offsets_) e in let was = ap (slice_index offsets) e in let here = cursor_here in
-            elim (cases_eq q place) as (λ _. slice_index offsets part ≤ q) [ inl same ↦ absurd (apart same) | inr other ↦ omega arith ]
-        | inr other ↦ let same = get_or-set_other offsets from_ part place 0 other in omega arith
-      ]
+  cursor_falls part q le apart = let here = cursor_here in grind (arith, here, get_or-set_other)
 
   cursor_fell : (part : ℕ) → slice_index offsets_ part ≤ slice_index offsets part
-  cursor_fell part =
-      elim (cases_eq part from_) as (λ _. slice_index offsets_ part ≤ slice_index offsets part) [
-        | inl e ↦ let now = ap (slice_index offsets_) e in let was = ap (slice_index offsets) e in let here = cursor_here in omega arith
-        | inr other ↦ let same = get_or-set_other offsets from_ part place 0 other in omega arith
-      ]
+  cursor_fell part = let here = cursor_here in grind (arith, here, get_or-set_other)
 
   -- no other row has the place
   apart_ : (part : ℕ) → part < places → (part ≡ from_ → ⊥) → slice_index offsets part ≤ place → place < from_below links (suc part) (length links) → ⊥
@@ -178,23 +149,7 @@ module _ (links : List Link) (places k place : ℕ) (offsets entries : List ℕ)
       ]
 
   cursor_more : (part : ℕ) → part < places → slice_index offsets_ part + from_below links (suc part) (suc k) ≡ from_below links (suc part) (length links) + from_below links part (suc k)
-  cursor_more part within =
-      let old = to.cursor part within in
-      elim (cases_eq part from_) as (λ _. slice_index offsets_ part + from_below links (suc part) (suc k) ≡ from_below links (suc part) (length links) + from_below links part (suc k)) [
-        | inl e ↦
-            let now = ap (slice_index offsets_) e in let was = ap (slice_index offsets) e in let here = cursor_here in
-            let a = below_same links part k (omega arith) in let b = below_more links (suc part) k (omega arith) in omega arith
-        | inr other ↦
-            let same = get_or-set_other offsets from_ part place 0 other in
-            elim (cases_lt from_ part) as (λ _. slice_index offsets_ part + from_below links (suc part) (suc k) ≡ from_below links (suc part) (length links) + from_below links part (suc k)) [
-              | inl low ↦ let a = below_more links part k low in let b = below_more links (suc part) k (omega arith) in omega arith
-              | inr high ↦
-                  elim (cases_lt part from_) as (λ _. slice_index offsets_ part + from_below links (suc part) (suc k) ≡ from_below links (suc part) (length links) + from_below links part (suc k)) [
-                    | inl over ↦ let a = below_same links part k high in let b = below_same links (suc part) k (omega arith) in omega arith
-                    | inr under ↦ absurd (other (omega arith))
-                  ]
-            ]
-      ]
+  cursor_more part within = let old = to.cursor part within in let here = cursor_here in grind (arith, old, here, get_or-set_other)
 
   sound_more : (part q : ℕ) → part < places → slice_index offsets_ part ≤ q → q < from_below links (suc part) (length links) →
       (slice_index entries_ q < suc k) × ((link_at links (slice_index entries_ q)).from ≡ part)
