@@ -1,7 +1,7 @@
 -- Rows made by counting.
-use Rattle.std.proofs.Common.{◌≡◌, ℕ, zero, suc, ◌+◌, ◌-◌, ◌^◌, ◌<◌, ◌≤◌, Bool, true, false, List, [], length, if◌then◌else◌, set, sym, ap, subst, ◌∙◌, arith, inl, inr, slice_index, slice_index_or, nat_lt, length-set}
+use Rattle.std.proofs.Common.{◌≡◌, ℕ, zero, suc, ◌+◌, ◌-◌, ◌^◌, ◌<◌, ◌≤◌, List, [], length, set, sym, ap, subst, ◌∙◌, arith, ◌⊎◌, inl, inr, slice_index, slice_index_or, length-set}
 use Rattle.std.specs.List.{Contains}
-use Rattle.std.proofs.lemmas.Bool.{cases_lt, cases_eq, lt-ltb, le-ltb}
+use Rattle.std.proofs.lemmas.Bool.{cases_lt, cases_eq}
 use Rattle.std.proofs.lemmas.List.{get_or-set_same, get_or-set_other, get_or_past, get_or_default}
 use Rattle.bl_base.specs.Sums.{sum_below}
 use Rattle.bl_flow.specs.declared.split.Link.{Link}
@@ -13,10 +13,10 @@ use Rattle.bl_flow.proofs.Offsets.{rows_count, row_is, row_length, row_entry}
 -- of the links behind some, more are from below the higher of two parts
 grows : (links : List Link) (low high k m : ℕ) → low ≤ high → k ≤ m
     → from_below links high k + from_below links low m ≤ from_below links high m + from_below links low k
-grows links low high k zero le before = let e : k ≡ zero = omega arith in subst (λ j. from_below links high j + 0 ≤ 0 + from_below links low j) (sym e) (omega arith)
+grows links low high k zero le before = let e : k ≡ 0 = omega arith in rw e (omega arith)
 grows links low high k (suc m) le before =
     elim (cases_lt m k) as (λ _. from_below links high k + from_below links low (suc m) ≤ from_below links high (suc m) + from_below links low k) [
-      | inl now ↦ let e : k ≡ suc m = omega arith in subst (λ j. from_below links high j + from_below links low (suc m) ≤ from_below links high (suc m) + from_below links low j) (sym e) (omega arith)
+      | inl now ↦ let e : k ≡ suc m = omega arith in rw e (omega arith)
       | inr later ↦ let rest = grows links low high k m le later in grind (arith, rest)
     ]
 
@@ -68,10 +68,10 @@ pub record SumsTo (numbers : List ℕ) (place sum : ℕ) (sums : List ℕ) : Typ
   pub rest : (p : ℕ) → place ≤ p → slice_index sums p ≡ slice_index numbers p
 
 sums_rise : (numbers : List ℕ) (low high : ℕ) → low ≤ high → sum_below low (slice_index numbers) ≤ sum_below high (slice_index numbers)
-sums_rise numbers low zero le = let e : low ≡ 0 = omega arith in let same = ap (λ n. sum_below n (slice_index numbers)) e in omega arith
+sums_rise numbers low zero le = let e : low ≡ 0 = omega arith in rw e (omega arith)
 sums_rise numbers low (suc high) le =
     elim (cases_lt high low) as (λ _. sum_below low (slice_index numbers) ≤ sum_below (suc high) (slice_index numbers)) [
-      | inl last ↦ let e : low ≡ suc high = omega arith in let same = ap (λ n. sum_below n (slice_index numbers)) e in omega arith
+      | inl last ↦ let e : low ≡ suc high = omega arith in rw e (omega arith)
       | inr less ↦ let rest = sums_rise numbers low high less in omega arith
     ]
 
@@ -94,131 +94,102 @@ pub record Filled (links : List Link) (places k : ℕ) (offsets entries : List �
       (slice_index entries place < k) × ((link_at links (slice_index entries place)).from ≡ part)
   pub full : (j : ℕ) → j < k → StandsIn entries (slice_index offsets (link_at links j).from) (from_below links (suc (link_at links j).from) (length links)) j
 
--- where the next link goes: into its row
-pub record Fits (links : List Link) (k offset : ℕ) : Type 0 where
-  pub above : from_below links (link_at links k).from (length links) < offset
-  pub below : offset ≤ from_below links (suc (link_at links k).from) (length links)
-
-pub fits : (links : List Link) (places k : ℕ) (offsets entries : List ℕ) → Filled links places k offsets entries → k < length links → (link_at links k).from < places → Fits links k (slice_index offsets (link_at links k).from)
-fits links places k offsets entries to lt inside =
-    let c = to.cursor (link_at links k).from inside in
-    let g = grows links (link_at links k).from (suc (link_at links k).from) (suc k) (length links) (omega arith) (omega arith) in
-    let a = below_more links (suc (link_at links k).from) k (omega arith) in
-    let b = below_same links (link_at links k).from k (omega arith) in
-    let r = rises links (link_at links k).from (suc (link_at links k).from) k (omega arith) in
-    record { above = omega arith; below = omega arith }
-
-module _ (links : List Link) (places k place : ℕ) (offsets entries : List ℕ) (to : Filled links places k offsets entries) (inside : (j : ℕ) → j < length links → (link_at links j).from < places)
-  (lt : k < length links) (next : suc place ≡ slice_index offsets (link_at links k).from) where
+-- the next link: it goes before where its row begins now
+module _ (links : List Link) (places k offset : ℕ) (offsets entries : List ℕ) (to : Filled links places k offsets entries) (inside : (j : ℕ) → j < length links → (link_at links j).from + 1 < places)
+    (lt : k < length links) (read : offset ≡ slice_index_or offsets (link_at links k).from offset) where
   abbrev from_ : ℕ
   from_ = (link_at links k).from
 
   abbrev offsets_ : List ℕ
-  offsets_ = set offsets from_ place
+  offsets_ = set offsets from_ (offset - 1)
 
   abbrev entries_ : List ℕ
-  entries_ = set entries place k
+  entries_ = set entries (offset - 1) k
 
-  fit : Fits links k (slice_index offsets from_)
-  fit = fits links places k offsets entries to lt (inside k lt)
+  within_ : from_ < places
+  within_ = let i = inside k lt in omega arith
 
-  place_inside : place < length entries
-  place_inside = let c = to.count in let b = fit.below in let m = most links (suc from_) (length links) in omega arith
+  cursor_is : slice_index offsets from_ ≡ offset
+  cursor_is = let p = to.parts in let i = within_ in sym (read ∙ get_or_default offsets from_ offset 0 (omega arith))
 
-  cursor_here : slice_index offsets_ from_ ≡ place
-  cursor_here = get_or-set_same offsets from_ place 0 (let p = to.parts in let i = inside k lt in omega arith)
+  above_ : from_below links from_ (length links) < offset
+  above_ =
+      let c = to.cursor from_ within_ in let is = cursor_is in
+      let g = grows links from_ (suc from_) (suc k) (length links) (omega arith) (omega arith) in
+      let a = below_more links (suc from_) k (omega arith) in let b = below_same links from_ k (omega arith) in
+      omega arith
 
-  cursor_falls : (part q : ℕ) → slice_index offsets_ part ≤ q → (q ≡ place → ⊥) → slice_index offsets part ≤ q
-  cursor_falls part q le apart = let here = cursor_here in grind (arith, here, get_or-set_other)
+  below_ : offset ≤ from_below links (suc from_) (length links)
+  below_ =
+      let c = to.cursor from_ within_ in let is = cursor_is in
+      let r = rises links from_ (suc from_) k (omega arith) in omega arith
 
-  cursor_fell : (part : ℕ) → slice_index offsets_ part ≤ slice_index offsets part
-  cursor_fell part = let here = cursor_here in grind (arith, here, get_or-set_other)
+  offset_within : offset ≤ length entries
+  offset_within = let b = below_ in let m = most links (suc from_) (length links) in let c = to.count in omega arith
 
-  -- no other row has the place
-  apart_ : (part : ℕ) → part < places → (part ≡ from_ → ⊥) → slice_index offsets part ≤ place → place < from_below links (suc part) (length links) → ⊥
-  apart_ part within other above below =
-      elim (cases_lt part from_) as (λ _. ⊥) [
-        | inl low ↦ let r = rises links (suc part) from_ (length links) (omega arith) in let a = fit.above in omega arith
-        | inr high ↦
-            elim (cases_lt from_ part) as (λ _. ⊥) [
-              | inl over ↦
-                  let r = rises links (suc from_) part (length links) (omega arith) in let b = fit.below in
-                  let c = to.cursor part within in let g = grows links part (suc part) k (length links) (omega arith) (omega arith) in omega arith
-              | inr under ↦ other (omega arith)
-            ]
-      ]
+  cursor_here : slice_index offsets_ from_ ≡ offset - 1
+  cursor_here = get_or-set_same offsets from_ (offset - 1) 0 (let p = to.parts in let i = within_ in omega arith)
+
+  entry_here : slice_index entries_ (offset - 1) ≡ k
+  entry_here = get_or-set_same entries (offset - 1) k 0 (let a = above_ in let w = offset_within in omega arith)
 
   cursor_more : (part : ℕ) → part < places → slice_index offsets_ part + from_below links (suc part) (suc k) ≡ from_below links (suc part) (length links) + from_below links part (suc k)
-  cursor_more part within = let old = to.cursor part within in let here = cursor_here in grind (arith, old, here, get_or-set_other)
+  cursor_more part within =
+      let old = to.cursor part within in let here = cursor_here in let is = cursor_is in let a = above_ in grind (arith, old, here, is, a, get_or-set_other)
+
+  -- a place of a row is the new one, or one that it had
+  row_more : (part q : ℕ) → part < places → slice_index offsets_ part ≤ q → q < from_below links (suc part) (length links) → ((q ≡ offset - 1) × (part ≡ from_)) ⊎ ((q ≡ offset - 1 → ⊥) × (slice_index offsets part ≤ q))
+  row_more part q within above below =
+      let here = cursor_here in let is = cursor_is in let a = above_ in let b = below_ in let c = to.cursor part within in
+      let g = grows links part (suc part) k (length links) (omega arith) (omega arith) in
+      grind (arith, here, is, a, b, c, g, rises, get_or-set_other)
+
+  row_kept : (part q : ℕ) → part < places → slice_index offsets part ≤ q → q < from_below links (suc part) (length links) → (q ≡ offset - 1 → ⊥) × (slice_index offsets_ part ≤ q)
+  row_kept part q within above below =
+      let here = cursor_here in let is = cursor_is in let a = above_ in let b = below_ in let c = to.cursor part within in
+      let g = grows links part (suc part) k (length links) (omega arith) (omega arith) in
+      (λ e. grind (arith, e, is, a, b, c, g, rises), grind (arith, here, is, a, get_or-set_other))
 
   sound_more : (part q : ℕ) → part < places → slice_index offsets_ part ≤ q → q < from_below links (suc part) (length links) →
       (slice_index entries_ q < suc k) × ((link_at links (slice_index entries_ q)).from ≡ part)
   sound_more part q within above below =
-      elim (cases_eq q place) as (λ _. (slice_index entries_ q < suc k) × ((link_at links (slice_index entries_ q)).from ≡ part)) [
-        | inl e ↦
-            let is : slice_index entries_ q ≡ k = ap (slice_index entries_) e ∙ get_or-set_same entries place k 0 place_inside in
-            elim (cases_eq part from_) as (λ _. (slice_index entries_ q < suc k) × ((link_at links (slice_index entries_ q)).from ≡ part)) [
-              | inl here ↦ (omega arith, ap (λ j. (link_at links j).from) is ∙ sym here)
-              | inr other ↦ absurd (apart_ part within other (let same = get_or-set_other offsets from_ part place 0 other in omega arith) (omega arith))
-            ]
-        | inr other ↦
-            let old = to.sound part q within (cursor_falls part q above other) below in
-            let same = get_or-set_other entries place q k 0 other in
-            (let lt = old.0 in omega arith, ap (λ j. (link_at links j).from) same ∙ old.1)
-      ]
+      let row = row_more part q within above below in let old = to.sound part q within in let here = entry_here in
+      grind (arith, row, old, here, get_or-set_other)
 
   full_more : (j : ℕ) → j < suc k → StandsIn entries_ (slice_index offsets_ (link_at links j).from) (from_below links (suc (link_at links j).from) (length links)) j
   full_more j before =
       elim (cases_eq j k) as (λ _. StandsIn entries_ (slice_index offsets_ (link_at links j).from) (from_below links (suc (link_at links j).from) (length links)) j) [
-        | inl e ↦
-            subst (λ i. StandsIn entries_ (slice_index offsets_ (link_at links i).from) (from_below links (suc (link_at links i).from) (length links)) i) (sym e)
-            (record { place = place; above = let here = cursor_here in omega arith; below = let b = fit.below in omega arith; is = get_or-set_same entries place k 0 place_inside })
+        | inl e ↦ rw e (record { place = offset - 1; above = let here = cursor_here in omega arith; below = let a = above_ in let b = below_ in omega arith; is = entry_here })
         | inr earlier ↦
-            let old = to.full j (omega arith) in let above = old.above in let below = old.below in
-            let fell = cursor_fell (link_at links j).from in
-            let other : old.place ≡ place → ⊥ = λ e.
-            elim (cases_eq (link_at links j).from from_) as (λ _. ⊥) [
-              | inl same ↦ let was = ap (slice_index offsets) same in omega arith
-              | inr apart ↦ apart_ (link_at links j).from (inside j (omega arith)) apart (omega arith) (omega arith)
-            ] in
-            record { place = old.place; above = omega arith; below = below; is = get_or-set_other entries place old.place k 0 other ∙ old.is }
+            let old = to.full j (omega arith) in let i = inside j (omega arith) in
+            let kept = row_kept (link_at links j).from old.place (omega arith) old.above old.below in
+            record { place = old.place; above = kept.1; below = old.below; is = get_or-set_other entries (offset - 1) old.place k 0 kept.0 ∙ old.is }
       ]
 
-  pub fill_more : Filled links places (suc k) offsets_ entries_
+  fill_more : Filled links places (suc k) offsets_ entries_
   fill_more = record {
-    parts = length-set offsets from_ place ∙ to.parts;
-    count = length-set entries place k ∙ to.count;
+    parts = length-set offsets from_ (offset - 1) ∙ to.parts;
+    count = length-set entries (offset - 1) k ∙ to.count;
     cursor = cursor_more;
     sound = sound_more;
     full = full_more;
   }
 
--- the next link, as it is read
-module _ (links : List Link) (places k offset : ℕ) (link : Link) (offsets entries : List ℕ) (to : Filled links places k offsets entries) (inside : (j : ℕ) → j < length links → (link_at links j).from + 1 < places)
-  (lt : k < length links) (is : link ≡ link_at links k) (read : offset ≡ slice_index_or offsets link.from offset) where
-  within_ : (j : ℕ) → j < length links → (link_at links j).from < places
-  within_ j before = let i = inside j before in omega arith
+-- what a link more does, where its row's begin is read
+pub record FillsNext (links : List Link) (places k offset : ℕ) (link : Link) (offsets entries : List ℕ) : Type 0 where
+  pub some : 0 < offset
+  pub within : offset ≤ length entries
+  pub next : Filled links places (k + 1) (set offsets link.from (offset - 1)) (set entries (offset - 1) k)
 
-  cursor_is : offset ≡ slice_index offsets (link_at links k).from
-  cursor_is =
-      let from = ap (λ l. l.from) is in let p = to.parts in let i = inside k lt in
-      read ∙ get_or_default offsets link.from offset 0 (omega arith) ∙ ap (slice_index offsets) from
-
-  fit_ : Fits links k (slice_index offsets (link_at links k).from)
-  fit_ = fits links places k offsets entries to lt (within_ k lt)
-
-  pub next_inside : (0 < offset) × (offset ≤ length entries)
-  next_inside =
-      let fit = fit_ in let a = fit.above in let b = fit.below in let c = cursor_is in let count = to.count in
-      let m = most links (suc (link_at links k).from) (length links) in
-      (omega arith, omega arith)
-
-  pub fill_next : Filled links places (k + 1) (set offsets link.from (offset - 1)) (set entries (offset - 1) k)
-  fill_next =
-      let some = next_inside.0 in let c = cursor_is in
-      subst (λ l. Filled links places (k + 1) (set offsets l.from (offset - 1)) (set entries (offset - 1) k)) (sym is)
-      (subst (λ n. Filled links places n (set offsets (link_at links k).from (offset - 1)) (set entries (offset - 1) k)) (omega arith)
-      (fill_more links places k (offset - 1) offsets entries to within_ lt (omega arith)))
+pub fills_next : (links : List Link) (places k offset : ℕ) (link : Link) (offsets entries : List ℕ) → Filled links places k offsets entries → ((j : ℕ) → j < length links → (link_at links j).from + 1 < places)
+    → k < length links → link ≡ link_at links k → offset ≡ slice_index_or offsets link.from offset → FillsNext links places k offset link offsets entries
+fills_next links places k offset link offsets entries to inside lt is read =
+    let read_ = subst (λ l. offset ≡ slice_index_or offsets l.from offset) is read in
+    subst (λ l. FillsNext links places k offset l offsets entries) (sym is) (record {
+      some = let a = above_ links places k offset offsets entries to inside lt read_ in omega arith;
+      within = offset_within links places k offset offsets entries to inside lt read_;
+      next = subst (λ n. Filled links places n (set offsets (link_at links k).from (offset - 1)) (set entries (offset - 1) k)) (omega arith) (fill_more links places k offset offsets entries to inside lt read_);
+    })
 
 -- all links are in their rows
 module _ (links : List Link) (places : ℕ) (offsets entries : List ℕ) (to : Filled links places (length links) offsets entries) where

@@ -81,7 +81,7 @@ impl Rows {
     }
 }
 
-/// For each part the links from it, the last first. More links than have numbers of 32 bits are too many for memory.
+/// For each part the links from it. More links than have numbers of 32 bits are too many for memory.
 pub fn rows_of(alloc: Global, links: &Links, parts: usize) -> Result<Rows, NoMemory>
     requires { (k : ℕ) → k < length links.now → (link_at links.now k).from < parts }
     ensures places { IfOk result (λ rows. length rows ≡ parts) }
@@ -89,16 +89,11 @@ pub fn rows_of(alloc: Global, links: &Links, parts: usize) -> Result<Rows, NoMem
 {
     let count = number_of(2 * links.half())?;
     let counts = counts_of(alloc, links, count, parts)?;
-    rows_before(alloc, links, count, sums_of(counts))
+    filled_rows(alloc, links, count, sums_of(counts))
 }
 
 /// For each part how many links are from it, and a 0 behind that.
-fn counts_of(
-    alloc: Global,
-    links: &Links,
-    count: u32,
-    parts: usize,
-) -> Result<Vec<u32>, NoMemory>
+fn counts_of(alloc: Global, links: &Links, count: u32, parts: usize) -> Result<Vec<u32>, NoMemory>
     requires count { count ≡ length links.now }
     requires inside { (k : ℕ) → k < length links.now → (link_at links.now k).from < parts }
     ensures { IfOk result (λ counts. AreCounts links.now parts (length links.now) counts.items) }
@@ -128,12 +123,7 @@ fn sums_of(numbers: Vec<u32>) -> Vec<u32>
 
 /// The rows that end where each part's row is to end. Each link goes before those of its row that are there already,
 /// and so an end becomes where its row begins.
-fn rows_before(
-    alloc: Global,
-    links: &Links,
-    count: u32,
-    ends: Vec<u32>,
-) -> Result<Rows, NoMemory>
+fn filled_rows(alloc: Global, links: &Links, count: u32, ends: Vec<u32>) -> Result<Rows, NoMemory>
     requires count { count ≡ length links.now }
     requires inside { (k : ℕ) → k < length links.now → (link_at links.now k).from + 1 < length ends.items }
     requires ends { AreEnds links.now ends.items }

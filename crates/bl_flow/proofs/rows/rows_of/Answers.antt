@@ -8,6 +8,6 @@ sums_of-requires c =
     let small = sum_small c.args.links.now c.args.parts (length c.args.links.now) (length counts) counts c.in_ok-counts.ensures (omega arith) in
     let number = c.in_ok-count.ensures.number in let below = c.in_ok-count.ensures.small in let sum = c.half.ensures.sum in omega arith
 
-pub rows_before-requires-clause-ends : goal.rows_before-requires-clause-ends
-rows_before-requires-clause-ends c =
+pub filled_rows-requires-clause-ends : goal.filled_rows-requires-clause-ends
+filled_rows-requires-clause-ends c =
     are_ends c.args.links.now c.args.parts c.in_ok-counts.counts.items c.sums_of.result.items c.in_ok-counts.ensures c.sums_of.ensures.places c.sums_of.ensures.sums

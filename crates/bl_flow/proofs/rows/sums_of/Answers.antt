@@ -1,4 +1,4 @@
-use Rattle.std.proofs.Common.{arith, ◌≡◌, length, slice_index, ◌∙◌}
+use Rattle.std.proofs.Common.{arith, ◌≡◌, slice_index, ◌∙◌}
 use Rattle.std.proofs.lemmas.List.{get_or_default}
 use Rattle.bl_flow.proofs.Counting.{next_small}
 use Rattle.bl_flow.proofs.rows.sums_of.Goals as goal

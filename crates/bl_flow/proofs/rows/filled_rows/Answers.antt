@@ -1,24 +1,23 @@
-use Rattle.std.proofs.Common.{arith, ◌≡◌, ◌<◌, length, subst}
+use Rattle.std.proofs.Common.{arith, ◌≡◌, length, subst}
 use Rattle.bl_flow.proofs.Offsets.{rows_count}
-use Rattle.bl_flow.proofs.Counting.{Filled, next_inside, fill_next, are_offsets, are_rows}
-use Rattle.bl_flow.proofs.rows.rows_before.Goals as goal
+use Rattle.bl_flow.proofs.Counting.{Filled, fills_next, are_offsets, are_rows}
+use Rattle.bl_flow.proofs.rows.filled_rows.Goals as goal
 
 pub overflow_sub-place : goal.overflow_sub-place
 overflow_sub-place c =
     let loop = c.loop-k in let count = c.requires.count in let test = c.loop-k-test.true in
-    let next = next_inside c.args.links.now (length c.args.ends.items) loop.k c.index.result.now c.link-from.result loop.offsets.items loop.entries.items loop.invariant c.requires.inside (omega arith) c.link-from.ensures c.index.ensures in
-    next.0
+    (fills_next c.args.links.now (length c.args.ends.items) loop.k c.index.result.now c.link-from.result loop.offsets.items loop.entries.items loop.invariant c.requires.inside (omega arith) c.link-from.ensures c.index.ensures).some
 
 pub index_mut-requires : goal.index_mut-requires
 index_mut-requires c =
     let loop = c.loop-k in let count = c.requires.count in let test = c.loop-k-test.true in let ok = loop.entries.ok.0 in
-    let next = next_inside c.args.links.now (length c.args.ends.items) loop.k c.index.result.now c.link-from.result loop.offsets.items loop.entries.items loop.invariant c.requires.inside (omega arith) c.link-from.ensures c.index.ensures in
-    let some = next.0 in let within = next.1 in omega arith
+    let next = fills_next c.args.links.now (length c.args.ends.items) loop.k c.index.result.now c.link-from.result loop.offsets.items loop.entries.items loop.invariant c.requires.inside (omega arith) c.link-from.ensures c.index.ensures in
+    let some = next.some in let within = next.within in omega arith
 
 pub loop-k-preserved : goal.loop-k-preserved
 loop-k-preserved c =
     let loop = c.loop-k in let count = c.requires.count in let test = c.loop-k-test.true in
-    fill_next c.args.links.now (length c.args.ends.items) loop.k c.index.result.now c.link-from.result loop.offsets.items loop.entries.items loop.invariant c.requires.inside (omega arith) c.link-from.ensures c.index.ensures
+    (fills_next c.args.links.now (length c.args.ends.items) loop.k c.index.result.now c.link-from.result loop.offsets.items loop.entries.items loop.invariant c.requires.inside (omega arith) c.link-from.ensures c.index.ensures).next
 
 pub invariant_of-result : goal.invariant_of-result
 invariant_of-result c =
