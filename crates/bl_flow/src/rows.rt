@@ -1,10 +1,10 @@
 //! Compressed rows: for each part the links from it, one row behind the other.
-ghost use Rattle.std.specs.Prelude.{◌≡◌, ◌<◌, ◌^◌, ℕ, List as Listed, Some, None, length, slice_get, slice_index_or, replicate, OnOk, IfOk};
+ghost use Rattle.std.specs.Prelude.{◌≡◌, ◌<◌, ◌+◌, ◌^◌, ℕ, suc, length, slice_get, slice_index, IfOk};
+ghost use Rattle.bl_base.specs.Sums.{sum_below};
 ghost use Rattle.bl_flow.specs.Split.{link_at};
 ghost use Rattle.bl_flow.specs.Searches.{AreRows, row_at};
-ghost use Rattle.bl_flow.specs.Rows.{reversed, AreChained, AreBefore, IsLast, AppendsRow};
+ghost use Rattle.bl_flow.specs.Rows.{reversed, AreCounts, AreEnds};
 
-use crate::optional::{OptionalNumber, no_numbers};
 use crate::split::{Link, Links, number_of, reverse_of};
 use bl_base::NoMemory;
 use std::alloc::Global;
@@ -81,68 +81,62 @@ impl Rows {
     }
 }
 
-/// The last link of each part among the first so many, and for each of those the last one before it from
-/// the same part.
-#[derive(Drop)]
-struct Chains {
-    last: Vec<OptionalNumber>,
-    before: Vec<OptionalNumber>,
-}
-
 /// For each part the links from it. More links than have numbers of 32 bits are too many for memory.
 pub fn rows_of(alloc: Global, links: &Links, parts: usize) -> Result<Rows, NoMemory>
     requires { (k : ℕ) → k < length links.now → (link_at links.now k).from < parts }
     ensures places { IfOk result (λ rows. length rows ≡ parts) }
     ensures rows { IfOk result (λ rows. AreRows links.now rows) }
 {
-    let chains = chains_of(alloc, links, parts)?;
-    let mut offsets = Vec::with_capacity(alloc, parts)?;
-    let mut entries = Vec::with_capacity(alloc, 2 * links.half())?;
-    offsets.push(0)?;
-    for part in 0..parts {
-        push_chain(&chains.before, chains.last[part].get(), &mut entries)?;
-        let end = number_of(entries.len())?;
-        offsets.push(end)?;
+    let count = number_of(2 * links.half())?;
+    let counts = counts_of(alloc, links, count, parts)?;
+    filled_rows(alloc, links, count, sums_of(counts))
+}
+
+/// For each part how many links are from it, and a 0 behind that.
+fn counts_of(alloc: Global, links: &Links, count: u32, parts: usize) -> Result<Vec<u32>, NoMemory>
+    requires count { count ≡ length links.now }
+    requires inside { (k : ℕ) → k < length links.now → (link_at links.now k).from < parts }
+    ensures { IfOk result (λ counts. AreCounts links.now parts (length links.now) counts.items) }
+{
+    let mut counts = vec![in alloc; 0u32; parts.saturating_add(1)]?;
+    for k in 0..count {
+        let from = links.link(k as usize).from as usize;
+        counts[from] += 1;
+    }
+    Ok(counts)
+}
+
+/// For each place the sum of the numbers up to it.
+fn sums_of(numbers: Vec<u32>) -> Vec<u32>
+    requires { sum_below (length numbers.items) (slice_index numbers.items) < 2 ^ 32 }
+    ensures places { length result.items ≡ length numbers.items }
+    ensures sums { (p : ℕ) → p < length numbers.items → slice_index result.items p ≡ sum_below (suc p) (slice_index numbers.items) }
+{
+    let mut sums = numbers;
+    let mut sum = 0;
+    for place in 0..sums.len() {
+        sum += sums[place];
+        sums[place] = sum;
+    }
+    sums
+}
+
+/// The rows that end where each part's row is to end. Each link goes before those of its row that are there already,
+/// and so an end becomes where its row begins.
+fn filled_rows(alloc: Global, links: &Links, count: u32, ends: Vec<u32>) -> Result<Rows, NoMemory>
+    requires count { count ≡ length links.now }
+    requires inside { (k : ℕ) → k < length links.now → (link_at links.now k).from + 1 < length ends.items }
+    requires ends { AreEnds links.now ends.items }
+    ensures places { IfOk result (λ rows. length rows + 1 ≡ length ends.items) }
+    ensures rows { IfOk result (λ rows. AreRows links.now rows) }
+{
+    let mut offsets = ends;
+    let mut entries = vec![in alloc; 0u32; count as usize]?;
+    for k in 0..count {
+        let from = links.link(k as usize).from as usize;
+        let place = offsets[from] - 1;
+        entries[place as usize] = k;
+        offsets[from] = place;
     }
     Ok(Rows { offsets, entries })
-}
-
-/// The chains of links from the same part.
-fn chains_of(alloc: Global, links: &Links, parts: usize) -> Result<Chains, NoMemory>
-    requires { (k : ℕ) → k < length links.now → (link_at links.now k).from < parts }
-    ensures { IfOk result (λ chains. AreChained links.now parts (length links.now) chains.last.items chains.before.items) }
-{
-    let count = 2 * links.half();
-    let mut last = no_numbers(alloc, parts)?;
-    let mut before = Vec::with_capacity(alloc, count)?;
-    for k in 0..count {
-        let from = links.link(k).from as usize;
-        let number = number_of(k)?;
-        // A last number of 32 bits would be one more than an optional number can be.
-        if number == u32::MAX {
-            return Err(NoMemory);
-        }
-        before.push(last[from])?;
-        last[from] = OptionalNumber::of(number);
-    }
-    Ok(Chains { last, before })
-}
-
-/// Appends the links of a chain, the last first.
-fn push_chain(
-    before: &[OptionalNumber],
-    last: Option<u32>,
-    entries: &mut Vec<u32>,
-) -> Result<(), NoMemory>
-    requires falls { (k j : ℕ) → slice_index_or before.now k None ≡ Some j → j < k }
-    requires inside { (j : ℕ) → last ≡ Some j → j < length before.now }
-    ensures { OnOk result ((links : Listed Link) (part : ℕ) → AreBefore links before.now → IsLast links part (length before.now) last
-        → AppendsRow links part (length before.now) entries.old.items entries.new.items) }
-{
-    let mut next = last;
-    while let Some(link) = next {
-        entries.push(link)?;
-        next = before[link as usize].get();
-    }
-    Ok(())
 }

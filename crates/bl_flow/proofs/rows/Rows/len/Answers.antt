@@ -1,5 +1,5 @@
 use Rattle.std.proofs.Common.{arith, ◌≡◌, ◌-◌, sym, ap, ◌∙◌, length}
-use Rattle.bl_flow.proofs.Chains.{rows_count}
+use Rattle.bl_flow.proofs.Offsets.{rows_count}
 use Rattle.bl_flow.proofs.rows.Rows.len.Goals as goal
 
 pub returns : goal.returns

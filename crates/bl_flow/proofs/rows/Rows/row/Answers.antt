@@ -1,6 +1,6 @@
 use Rattle.std.proofs.Common.{rules, arith, ◌≡◌, ◌≤◌, ◌+◌, ◌-◌, ◌^◌, sym, ap, ◌∙◌, length, slice_index, take, drop}
 use Rattle.std.proofs.lemmas.List.{get_or_default}
-use Rattle.bl_flow.proofs.Chains.{row_bounds, rows_short}
+use Rattle.bl_flow.proofs.Offsets.{row_bounds, rows_short}
 use Rattle.bl_flow.proofs.rows.Rows.row.Goals as goal
 
 pub index-start-requires : goal.index-start-requires

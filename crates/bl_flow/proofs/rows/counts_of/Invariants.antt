@@ -1,0 +1,5 @@
+use Rattle.bl_flow.specs.Rows.{AreCounts}
+use Rattle.bl_flow.proofs.rows.counts_of.Given as goal
+
+abbrev pub invariant-loop-k : goal.invariant-loop-k
+invariant-loop-k l = AreCounts l.links l.parts l.k l.counts.items
