@@ -3,7 +3,7 @@ ghost use Rattle.std.specs.Prelude.{IfOk};
 ghost use Rattle.bl_graph.specs.Graphs.{IsGraph};
 
 use crate::facts::Graph;
-use crate::reads::{loads_of, reads_of, sinks_of};
+use crate::reads::uses_of;
 use crate::writes::writes_of;
 use bl_base::NoMemory;
 use bl_cmd::WellFormed;
@@ -14,14 +14,12 @@ pub fn graph(alloc: Global, program: &WellFormed) -> Result<Graph, NoMemory>
     ensures { IfOk result (λ graph. IsGraph program.now graph) }
 {
     let commands = program.program().parts().commands.as_slice();
-    let loads = loads_of(alloc, commands)?;
     let writes = writes_of(alloc, program)?;
-    let reads = reads_of(alloc, commands)?;
-    let sinks = sinks_of(alloc, commands)?;
+    let uses = uses_of(alloc, commands)?;
     Ok(Graph {
-        loads,
+        loads: uses.loads,
         writes,
-        reads,
-        sinks,
+        reads: uses.reads,
+        sinks: uses.sinks,
     })
 }

@@ -10,16 +10,37 @@ use bl_cmd::{Command, Operand};
 use bl_ops::Op;
 use std::alloc::Global;
 
-/// The positions of the Loads.
-pub(crate) fn loads_of(alloc: Global, commands: &[Command]) -> Result<List<Pos>, NoMemory>
+/// What a program's commands read. Each list rises in position and then in variable.
+#[derive(Drop)]
+pub(crate) struct Uses {
+    /// The positions of the Loads.
+    pub loads: List<Pos>,
+    /// What each Set, Arg and Out reads.
+    pub reads: List<Use>,
+    /// What sinks read.
+    pub sinks: List<Use>,
+}
+
+/// What the commands read, in one pass over them.
+pub(crate) fn uses_of(alloc: Global, commands: &[Command]) -> Result<Uses, NoMemory>
     requires { length commands.now < 2 ^ 32 }
-    ensures { IfOk result (λ loads. ArePlacesBelow (LoadAt commands.now) (length commands.now) loads) }
+    ensures loads { IfOk result (λ uses. ArePlacesBelow (LoadAt commands.now) (length commands.now) uses.loads) }
+    ensures reads { IfOk result (λ uses. AreUses (OperandAt moved_by commands.now) uses.reads) }
+    ensures sinks { IfOk result (λ uses. AreUses (OperandAt sunk_by commands.now) uses.sinks) }
 {
     let mut loads = List::new(alloc);
+    let mut reads = List::new(alloc);
+    let mut sinks = List::new(alloc);
     for (at, command) in commands.iter().enumerate() {
         push_load(&mut loads, at as u32, *command)?;
+        push_row(&mut reads, at as u32, &moved(*command))?;
+        push_row(&mut sinks, at as u32, &sunk(*command))?;
     }
-    Ok(loads)
+    Ok(Uses {
+        loads,
+        reads,
+        sinks,
+    })
 }
 
 /// Appends the position of the command if it is a Load.
@@ -48,30 +69,6 @@ fn is_load(command: Command) -> bool
         Command::Ret => false,
         Command::Trap { .. } => false,
     }
-}
-
-/// What each Set, Arg and Out reads.
-pub(crate) fn reads_of(alloc: Global, commands: &[Command]) -> Result<List<Use>, NoMemory>
-    requires { length commands.now < 2 ^ 32 }
-    ensures { IfOk result (λ reads. AreUses (OperandAt moved_by commands.now) reads) }
-{
-    let mut reads = List::new(alloc);
-    for (at, command) in commands.iter().enumerate() {
-        push_row(&mut reads, at as u32, &moved(*command))?;
-    }
-    Ok(reads)
-}
-
-/// What sinks read.
-pub(crate) fn sinks_of(alloc: Global, commands: &[Command]) -> Result<List<Use>, NoMemory>
-    requires { length commands.now < 2 ^ 32 }
-    ensures { IfOk result (λ sinks. AreUses (OperandAt sunk_by commands.now) sinks) }
-{
-    let mut sinks = List::new(alloc);
-    for (at, command) in commands.iter().enumerate() {
-        push_row(&mut sinks, at as u32, &sunk(*command))?;
-    }
-    Ok(sinks)
 }
 
 /// An operand that names no variable.

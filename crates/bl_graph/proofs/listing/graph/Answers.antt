@@ -5,6 +5,6 @@ use Rattle.bl_graph.proofs.listing.graph.Goals as goal
 
 pub returns : goal.returns
 returns c =
-    made_graph c.args.program.now c.as_slice-commands.result.now c.in_ok-loads.loads c.in_ok-writes.writes c.in_ok-reads.reads c.in_ok-sinks.sinks
+    made_graph c.args.program.now c.as_slice-commands.result.now c.in_ok-uses.uses.loads c.in_ok-writes.writes c.in_ok-uses.uses.reads c.in_ok-uses.uses.sinks
     (c.as_slice-commands.ensures ∙ ap (λ (p : ProgramParts). p.commands) (c.parts.ensures.same ∙ c.program.ensures.same))
-    c.in_ok-loads.ensures c.in_ok-writes.ensures c.in_ok-reads.ensures c.in_ok-sinks.ensures
+    c.in_ok-uses.ensures.loads c.in_ok-writes.ensures c.in_ok-uses.ensures.reads c.in_ok-uses.ensures.sinks

@@ -1,6 +1,0 @@
-use Rattle.bl_cmd.specs.Sites.{sunk_by}
-use Rattle.bl_graph.specs.Rows.{AreBelow, OperandAt}
-use Rattle.bl_graph.proofs.reads.sinks_of.Given as goal
-
-abbrev pub invariant-loop-at : goal.invariant-loop-at
-invariant-loop-at l = AreBelow (OperandAt sunk_by l.commands) l.at l.sinks
