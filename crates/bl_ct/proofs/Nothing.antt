@@ -1,38 +1,69 @@
 -- Where nothing is declared secret, all labels are public.
-use Rattle.std.proofs.Common.{◌≡◌, ◌∙◌, ℕ, zero, suc, false, List, [], not, ap, refl, sym, subst, length, replicate}
-use Rattle.std.specs.Prelude.{IsTrue}
-use Rattle.std.specs.List.{Contains}
+use Rattle.std.proofs.Common.{◌≡◌, ◌∙◌, ℕ, zero, suc, false, List, not, ap, refl, sym, length, replicate, slice_get}
+use Rattle.std.specs.Prelude.{All, IsSomeAnd, IsTrue}
 use Rattle.std.proofs.lemmas.Bool.{false≢true, not_from_false}
 use Rattle.std.proofs.lemmas.List.{length-replicate}
+use Rattle.bl_base.proofs.Lists.{all_get}
 use Rattle.bl_base.specs.declared.names.Label.{Label}
 use Rattle.bl_base.specs.declared.names.Label.TheVariants as label
+use Rattle.bl_cmd.specs.Layout.{command_at}
+use Rattle.bl_cmd.specs.declared.command.Command.{Command}
+use Rattle.bl_cmd.specs.declared.command.Command.TheVariants.{Set, Load, Store, Test, Jump, Arg, Call, Out, Ret, Trap}
+use Rattle.bl_cmd.specs.declared.definitions.FunctionDef.{FunctionDef}
+use Rattle.bl_cmd.specs.declared.definitions.GlobalDef.{GlobalDef}
+use Rattle.bl_cmd.specs.declared.definitions.MemoryDef.{MemoryDef}
+use Rattle.bl_cmd.specs.declared.definitions.ParamDef.{ParamDef}
 use Rattle.bl_cmd.specs.declared.definitions.ProgramParts.{ProgramParts as Program}
 use Rattle.bl_graph.specs.Labels.{Secret, declared, loaded, moved}
 use Rattle.bl_graph.specs.Ranges.{variables}
-use Rattle.bl_graph.specs.Secrets.{Declares, LoadsSecret}
+use Rattle.bl_graph.specs.Secrets.{Declares, LoadsSecret, TakesSecret}
 use Rattle.bl_graph.specs.declared.secret.Origin.{Origin}
-use Rattle.bl_graph.proofs.Members.{none_in}
-use Rattle.bl_ct.specs.Facts.{AreFacts}
+use Rattle.bl_graph.specs.declared.secret.Origin.TheVariants.{Parameter, Global, Memory}
+use Rattle.bl_ct.specs.Facts.{HasNoSecrets, HasPublicParams}
 use Rattle.bl_ct.specs.Verdicts.{IsLeastLabelling, labelling_of}
-use Rattle.bl_ct.specs.declared.facts.Declared.{Declared}
-use Rattle.bl_ct.specs.declared.facts.Facts.{Facts}
-use Rattle.bl_ct.specs.declared.facts.SecretLoad.{SecretLoad}
+use Rattle.bl_ct.proofs.Knowing.{found, secret_public}
 
 public : (n x : ℕ) → labelling_of (replicate n label.Public) x ≡ false
 public zero x = refl
 public (suc n) zero = refl
 public (suc n) (suc x) = public n x
 
-module _ (program : Program) (facts : Facts) (are : AreFacts program facts) (no_declared : facts.declared ≡ []) (no_loads : facts.loads ≡ []) where
+-- what is public isn't secret
+none_secret : {A : Type 0} (label_in : A → Label) (xs : List A) (place : ℕ) → All (λ x. label_in x ≡ label.Public) xs
+    → IsSomeAnd (slice_get xs place) (λ x. label_in x ≡ label.Secret) → ⊥
+none_secret label_in xs place all h =
+    let one = found (slice_get xs place) (λ x. label_in x ≡ label.Secret) h in
+    secret_public (sym one.2 ∙ all_get (λ x. label_in x ≡ label.Public) xs place one.0 all one.1)
+
+params_public : (function : FunctionDef) → HasPublicParams function → All (λ (param : ParamDef). param.label ≡ label.Public) function.params
+unfolding HasPublicParams
+params_public function h = h
+
+module _ (program : Program) (none : HasNoSecrets program) where
   not_declared : (x : ℕ) (origin : Origin) → Declares program x origin → ⊥
-  not_declared x origin h =
-      let one : Declared = record { var = x; origin = origin } in
-      none_in one (subst (λ l. Contains l one) no_declared ((are.declared one).1 h))
+  not_declared x (Parameter function index) h =
+      let one = found (slice_get program.functions function) (λ defined. IsSomeAnd (slice_get defined.params index) (λ one. one.label ≡ label.Secret)) h.0 in
+      none_secret (λ (param : ParamDef). param.label) one.0.params index
+      (params_public one.0 (all_get HasPublicParams program.functions function one.0 none.functions one.1)) one.2
+  not_declared x (Global number) h = none_secret (λ (global : GlobalDef). global.label) program.globals number none.globals h.0
+  not_declared x (Memory number) h = absurd h
+
+  not_taken : (command : Command) (memory : ℕ) → TakesSecret program command memory → ⊥
+  not_taken (Set mark op to a b c) memory h = absurd h
+  not_taken (Load mark kind from to offset address) memory h = none_secret (λ (one : MemoryDef). one.label) program.memories memory none.memories h.1
+  not_taken (Store kind to offset address value) memory h = absurd h
+  not_taken (Test cond one other) memory h = absurd h
+  not_taken (Jump to) memory h = absurd h
+  not_taken (Arg mark function index value) memory h = absurd h
+  not_taken (Call function) memory h = absurd h
+  not_taken (Out mark index value) memory h = absurd h
+  not_taken Ret memory h = absurd h
+  not_taken (Trap kind) memory h = absurd h
 
   not_loaded : (s memory : ℕ) → LoadsSecret program s memory → ⊥
   not_loaded s memory h =
-      let load : SecretLoad = record { at = s; memory = memory } in
-      none_in load (subst (λ l. Contains l load) no_loads ((are.loads load).1 h))
+      let stands = found (command_at program s) (λ command. TakesSecret program command memory) h in
+      not_taken stands.0 memory stands.2
 
   not_secret : (x : ℕ) → Secret program x → ⊥
   not_secret _ (declared x origin h) = not_declared x origin h

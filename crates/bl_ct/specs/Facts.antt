@@ -1,5 +1,5 @@
 -- What is known of a program: its graph, what it declares secret, and where it has to be public, as lists.
-use Rattle.std.specs.Prelude.{◌≡◌, ◌⊎◌, ◌↔◌, ◌+◌, ◌<◌, ℕ, Contains, List, Some, slice_get}
+use Rattle.std.specs.Prelude.{◌≡◌, ◌⊎◌, ◌↔◌, ◌+◌, ◌<◌, ℕ, All, Contains, List, Some, slice_get}
 use Rattle.bl_base.specs.declared.names.Label.TheVariants as label
 use Rattle.bl_cmd.specs.Layout.{first_of}
 use Rattle.bl_cmd.specs.Programs.{IsProgram}
@@ -50,6 +50,18 @@ LoadFits program s command load = (load.at ≡ s) × TakesSecret program command
 -- what a Store gives to a public memory
 abbrev pub StoreFits : Program → ℕ → Command → Use → Type 0
 StoreFits program position command store = (store.at.0 ≡ position) × GivesPublic program command store.var.0
+
+-- ---- where nothing is declared secret
+
+-- the parameters of a function are public
+unfoldable pub HasPublicParams : FunctionDef → Type 0
+HasPublicParams function = All (λ param. param.label ≡ label.Public) function.params
+
+-- no global, no parameter and no memory is declared secret
+pub record HasNoSecrets (program : Program) : Type 0 where
+  pub globals : All (λ global. global.label ≡ label.Public) program.globals
+  pub functions : All HasPublicParams program.functions
+  pub memories : All (λ memory. memory.label ≡ label.Public) program.memories
 
 -- ---- what is known
 

@@ -2,7 +2,7 @@
 use Rattle.std.specs.Prelude.{◌≡◌, ◌↔◌, ℕ, ◌+◌, ◌<◌, ◌≤◌, ◌⊎◌, Bool, List, [], ◌++◌, Option, Some, None, is_some, Contains, length, slice_get, slice_index_or, IsTrue}
 use Rattle.bl_cmd.specs.Sites.{Writes, Reads}
 use Rattle.bl_cmd.specs.declared.definitions.ProgramParts.{ProgramParts as Program}
-use Rattle.bl_graph.specs.Arcs.{is_in, unmarked, row_at}
+use Rattle.bl_graph.specs.Arcs.{is_in, unmarked}
 use Rattle.bl_graph.specs.Graphs.{use_of}
 use Rattle.bl_graph.specs.Ranges.{variables}
 use Rattle.bl_graph.specs.declared.arcs.Arc.{Arc}

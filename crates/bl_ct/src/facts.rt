@@ -46,6 +46,15 @@ pub(crate) struct Facts {
     pub(crate) demanded: List<u32>,
 }
 
+/// The Loads and Stores that tell what is secret and what has to be public.
+#[derive(Debug, Drop)]
+pub(crate) struct Accesses {
+    /// The Loads of memories that are declared secret.
+    pub(crate) loads: List<SecretLoad>,
+    /// What Stores give to public memories.
+    pub(crate) stores: List<Use>,
+}
+
 /// A program with its graph and what it declares.
 #[derive(Clone, Copy)]
 pub(crate) struct Known<'p> {
@@ -65,13 +74,12 @@ pub(crate) fn facts_of(alloc: Global, parts: &ProgramParts) -> Result<Facts, NoM
 {
     let firsts = firsts_of(alloc, parts)?;
     let declared = declared_of(alloc, parts, &firsts)?;
-    let loads = loads_of(alloc, parts)?;
-    let stores = stores_of(alloc, parts)?;
+    let accesses = accesses_of(alloc, parts)?;
     let demanded = demanded_of(alloc, parts, &firsts)?;
     Ok(Facts {
         declared,
-        loads,
-        stores,
+        loads: accesses.loads,
+        stores: accesses.stores,
         demanded,
     })
 }
@@ -149,16 +157,19 @@ fn push_secret(all: &mut List<Declared>, label: Label, declared: Declared) -> Re
     }
 }
 
-/// The Loads of memories that are declared secret.
-fn loads_of(alloc: Global, parts: &ProgramParts) -> Result<List<SecretLoad>, NoMemory>
+/// The Loads of secret memories and what Stores give to public ones, in one pass over the commands.
+fn accesses_of(alloc: Global, parts: &ProgramParts) -> Result<Accesses, NoMemory>
     requires { length parts.now.commands < 2 ^ 32 }
-    ensures { IfOk result (Gathers (SomeAt parts.now.commands (LoadFits parts.now)) []) }
+    ensures loads { IfOk result (λ found. Gathers (SomeAt parts.now.commands (LoadFits parts.now)) [] found.loads) }
+    ensures stores { IfOk result (λ found. Gathers (SomeAt parts.now.commands (StoreFits parts.now)) [] found.stores) }
 {
     let mut loads = List::new(alloc);
+    let mut stores = List::new(alloc);
     for (at, command) in parts.commands.as_slice().iter().enumerate() {
         push_load(&mut loads, at as u32, taken(parts, *command))?;
+        push_store(&mut stores, at as u32, given(parts, *command))?;
     }
-    Ok(loads)
+    Ok(Accesses { loads, stores })
 }
 
 /// Appends the position with the memory, where there is one.
@@ -193,18 +204,6 @@ fn taken(parts: &ProgramParts, command: Command) -> Option<u32>
         Command::Ret => None,
         Command::Trap { .. } => None,
     }
-}
-
-/// What Stores give to public memories.
-fn stores_of(alloc: Global, parts: &ProgramParts) -> Result<List<Use>, NoMemory>
-    requires { length parts.now.commands < 2 ^ 32 }
-    ensures { IfOk result (Gathers (SomeAt parts.now.commands (StoreFits parts.now)) []) }
-{
-    let mut stores = List::new(alloc);
-    for (at, command) in parts.commands.as_slice().iter().enumerate() {
-        push_store(&mut stores, at as u32, given(parts, *command))?;
-    }
-    Ok(stores)
 }
 
 /// Appends the position with the variable, where there is one.

@@ -6,6 +6,7 @@ mod ends;
 mod facts;
 pub mod laws;
 mod search;
+mod secrets;
 mod verdict;
 
 pub use verdict::{CtVerdict, constant_time};

@@ -12,6 +12,7 @@ ghost use Rattle.bl_ct.specs.declared.search.Step.{Step as StepOf};
 use crate::ends::{ends_of, marked};
 use crate::facts::{Known, facts_of};
 use crate::search::{Cause, Step, secret_variables};
+use crate::secrets::has_no_secrets;
 use bl_base::{Label, List, NoMemory, Pos};
 use bl_cmd::WellFormed;
 use bl_graph::{Graph, Origin, SecretChain, variables};
@@ -45,11 +46,12 @@ pub fn constant_time(
     requires { IsGraph program.now graph.now }
     ensures { IfOk result (λ verdict. Judges program.now verdict) }
 {
-    let facts = facts_of(alloc, program.program().parts())?;
-    if facts.declared.is_empty() && facts.loads.is_empty() {
+    let parts = program.program().parts();
+    if has_no_secrets(parts) {
         let labels = all_public(alloc, variables(program))?;
         return Ok(CtVerdict::Yes(labels));
     }
+    let facts = facts_of(alloc, parts)?;
     let known = Known {
         program,
         graph,
@@ -62,7 +64,7 @@ pub fn constant_time(
 fn all_public(alloc: Global, count: u32) -> Result<List<Label>, NoMemory>
     ensures { IfOk result (λ labels. labels ≡ replicate count label.Public) }
 {
-    let mut labels = Vec::new(alloc);
+    let mut labels = Vec::with_capacity(alloc, count as usize)?;
     for _ in 0..count {
         labels.push(Label::Public)?;
     }
@@ -165,7 +167,7 @@ impl Known<'_> {
 fn labels_of(alloc: Global, marks: &[bool]) -> Result<List<Label>, NoMemory>
     ensures { IfOk result (λ labels. labels ≡ map label_of marks.now) }
 {
-    let mut labels = List::new(alloc);
+    let mut labels = List::of(Vec::with_capacity(alloc, marks.len())?);
     for mark in marks {
         labels.push(if *mark { Label::Secret } else { Label::Public })?;
     }
