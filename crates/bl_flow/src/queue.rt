@@ -1,9 +1,12 @@
 //! Queues of parts.
-ghost use Rattle.std.specs.Prelude.{◌≡◌, ◌<◌, ◌^◌, ◌++◌, ◌∷◌, [], if◌then◌else◌, length, slice_index, OnOk, OnErr};
+ghost use Rattle.std.specs.Prelude.{◌≡◌, ◌<◌, ◌^◌, ◌++◌, ◌∷◌, [], if◌then◌else◌, length, slice_index, take, OnOk, OnErr};
 
 use bl_base::NoMemory;
 use std::alloc::Global;
 use std::marker::Model;
+
+/// How many parts there is room for more at a time: a page of memory.
+const ROOM: usize = 1024;
 
 /// Parts in the order in which they came in. Contracts see the list.
 #[derive(Debug, Drop)]
@@ -66,11 +69,23 @@ impl Queue {
         ensures err { OnErr result (self.new ≡ self.old) }
     {
         if self.len == self.parts.len() {
-            self.parts.push(part)?;
-        } else {
-            self.parts[self.len] = part;
+            lengthen(&mut self.parts, ROOM)?;
         }
+        self.parts[self.len] = part;
         self.len += usize::from(is_in);
         Ok(())
     }
+}
+
+/// Appends room for so many parts.
+fn lengthen(parts: &mut Vec<u32>, room: usize) -> Result<(), NoMemory>
+    requires some { 0 < room }
+    requires small { room < 2 ^ 63 }
+    ensures kept { OnOk result (take (length parts.old.items) parts.new.items ≡ parts.old.items) }
+    ensures longer { OnOk result (length parts.old.items < length parts.new.items) }
+    ensures err { OnErr result (parts.new.items ≡ parts.old.items) }
+{
+    let len = parts.len();
+    parts.resize(len + room, 0)?;
+    Ok(())
 }
