@@ -78,6 +78,8 @@ impl Queue {
 }
 
 /// Appends room for so many parts.
+#[cold]
+#[inline(never)]
 fn lengthen(parts: &mut Vec<u32>, room: usize) -> Result<(), NoMemory>
     requires some { 0 < room }
     requires small { room < 2 ^ 63 }
