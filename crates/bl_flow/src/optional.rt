@@ -1,5 +1,6 @@
 //! Numbers or none, in four bytes each.
-ghost use Rattle.std.specs.Prelude.{◌≡◌, ◌<◌, ◌+◌, ◌^◌, None, Some, replicate, IfOk};
+ghost use Rattle.std.specs.Prelude.{◌≡◌, ◌<◌, ◌+◌, ◌^◌, if◌then◌else◌, None, Some, replicate, IfOk};
+ghost use Rattle.bl_flow.specs.Codes.{is_below, least};
 
 use bl_base::NoMemory;
 use std::alloc::Global;
@@ -40,6 +41,31 @@ impl OptionalNumber {
         ensures { result ≡ Some number }
     {
         OptionalNumber { code: number + 1 }
+    }
+
+    /// A number where the flag is set, and none where not.
+    pub fn when(is: bool, number: u32) -> OptionalNumber
+        requires { number + 1 < 2 ^ 32 }
+        ensures { result ≡ (if is then Some number else None) }
+    {
+        OptionalNumber {
+            code: if is { number + 1 } else { 0 },
+        }
+    }
+
+    /// Whether it is less than another one, where none is more than all numbers.
+    pub fn below(self, other: OptionalNumber) -> bool
+        ensures { result ≡ is_below self other }
+    {
+        // As none wraps to the greatest number, one comparison serves all cases.
+        self.code.wrapping_sub(1) < other.code.wrapping_sub(1)
+    }
+
+    /// The lesser of two, where none is more than all numbers.
+    pub fn least(self, other: OptionalNumber) -> OptionalNumber
+        ensures { result ≡ least self other }
+    {
+        if self.below(other) { self } else { other }
     }
 
     /// The number, if there is one.

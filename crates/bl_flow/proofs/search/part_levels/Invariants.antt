@@ -7,8 +7,8 @@ use Rattle.bl_flow.proofs.search.part_levels.Given as goal
 abbrev pub invariant-loop-rest : goal.invariant-loop-rest
 invariant-loop-rest l = record {
   places : length l.levels.items ≡ length l.rows;
-  empty : length l.queue.items ≡ 0;
-  state : Levelling l.links l.capacities l.root l.end l.stops l.levels.items l.queue.items 0 l.root;
+  empty : length l.queue ≡ 0;
+  state : Levelling l.links l.capacities l.root l.end l.stops l.levels.items l.queue 0 l.root;
   sound : (k : ℕ) → Contains l.rest k → (k < length l.links) × ((link_at l.links k).from ≡ l.root) × (l.root ≡ l.end → ⊥);
   full : (l.root ≡ l.end → ⊥) → (k : ℕ) → k < length l.links → 0 < slice_index l.capacities k → (link_at l.links k).from ≡ l.root
       → Contains l.rest k ⊎ ((e : ℕ) × (level_at l.levels.items (link_at l.links k).to ≡ Some e) × (e ≤ 1));
