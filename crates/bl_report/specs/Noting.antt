@@ -1,9 +1,14 @@
--- First paths by sites.
-use Rattle.std.specs.Prelude.{◌≡◌, ℕ, List, nat_eq, Option, Some, None, slice_get, if◌then◌else◌}
+-- What is noted by sites: protects and first paths.
+use Rattle.std.specs.Prelude.{◌≡◌, ℕ, Bool, false, List, nat_eq, Option, Some, None, option_map, slice_get, unwrap_or, if◌then◌else◌}
 use Rattle.std.specs.List.{list_any, slice_index_or}
 use Rattle.std.specs.Option.{option_or}
+use Rattle.bl_cmd.specs.declared.command.Mark.{Mark}
 use Rattle.bl_graph.specs.declared.certificate.FlowPath.{FlowPath}
 use Rattle.bl_report.specs.Reports.{first_path}
+
+-- a mark of a site that is protected
+abbrev pub is_protect : Option Mark → Bool
+is_protect mark = unwrap_or (option_map (λ one. one.protect) mark) false
 
 -- the first of some paths that takes the site is the one of that index in a list; or none does
 abbrev pub IsFirst : List FlowPath → List FlowPath → ℕ → Option ℕ → Type 0

@@ -35,7 +35,7 @@ fn note_paths(firsts: &mut [Option<usize>], paths: &[FlowPath])
 fn no_paths(alloc: Global, count: usize) -> Result<Vec<Option<usize>>, NoMemory>
     ensures { IfOk result (λ firsts. firsts.items ≡ replicate count None) }
 {
-    let mut firsts = Vec::new(alloc);
+    let mut firsts = Vec::with_capacity(alloc, count)?;
     for _ in 0..count {
         firsts.push(None)?;
     }

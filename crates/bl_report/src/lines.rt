@@ -13,7 +13,7 @@ use bl_graph::FlowPath;
 use itoa::Buffer;
 use std::alloc::Global;
 
-/// Puts the lines of the protects at these sites behind a text.
+/// Puts the lines of the protects at these sites behind a text; does nothing where there are none.
 pub(crate) fn push_protects(
     alloc: Global,
     text: &mut Vec<u8>,
@@ -24,6 +24,9 @@ pub(crate) fn push_protects(
     requires { All (IsSite program.now) sites.now }
     ensures { IfOk result (λ _. text.new.items ≡ text.old.items ++ flat_map (protect_text program.now paths.now) sites.now) }
 {
+    if sites.is_empty() {
+        return Ok(());
+    }
     let firsts = first_paths(alloc, program.program().parts().commands.len(), paths)?;
     for site in sites {
         let first = firsts[*site as usize];

@@ -1,46 +1,48 @@
 //! A program's sites and protects.
-ghost use Rattle.std.specs.Prelude.{◌≡◌, ◌<◌, ◌^◌, IfOk, count_by, length};
-ghost use Rattle.bl_report.specs.Reports.{is_site, protects};
+ghost use Rattle.std.specs.Prelude.{◌≡◌, ◌+◌, ◌++◌, ◌<◌, ◌^◌, [], ◌∷◌, IfOk, if◌then◌else◌, is_some, length};
+ghost use Rattle.bl_report.specs.Noting.{is_protect};
+ghost use Rattle.bl_report.specs.Reports.{protects, site_count};
 
 use bl_base::NoMemory;
-use bl_cmd::{Command, ProgramParts};
-use bl_witness::is_protected;
+use bl_cmd::{Mark, ProgramParts, mark_at};
 use std::alloc::Global;
 
-/// The number of commands that write a variable whose value can be protected.
-pub(crate) fn site_count(commands: &[Command]) -> usize
-    ensures { result ≡ count_by is_site commands.now }
-{
-    let mut count = 0;
-    for command in commands {
-        if is_site_command(command) {
-            count += 1;
-        }
-    }
-    count
+/// A program's sites, which are the commands that write a variable whose value can be protected.
+#[derive(Debug, Drop)]
+pub(crate) struct Sites {
+    /// How many there are.
+    pub(crate) count: usize,
+    /// The positions of those that are protected, rising.
+    pub(crate) protects: Vec<u32>,
 }
 
-/// Whether a command writes a variable whose value can be protected.
-#[tactic(auto, unfolding(crate::specs::Reports::is_site))]
-fn is_site_command(command: &Command) -> bool
-    ensures { result ≡ is_site command.now }
-{
-    matches!(
-        command,
-        Command::Set { .. } | Command::Load { .. } | Command::Arg { .. } | Command::Out { .. }
-    )
-}
-
-/// The positions of the protected commands, rising.
-pub(crate) fn protects(alloc: Global, parts: &ProgramParts) -> Result<Vec<u32>, NoMemory>
+/// A program's sites, in one pass over its commands.
+pub(crate) fn sites_of(alloc: Global, parts: &ProgramParts) -> Result<Sites, NoMemory>
     requires { length parts.now.commands < 2 ^ 32 }
-    ensures { IfOk result (λ sites. sites.items ≡ protects parts.now) }
+    ensures count { IfOk result (λ sites. sites.count ≡ site_count parts.now) }
+    ensures protects { IfOk result (λ sites. sites.protects.items ≡ protects parts.now) }
 {
-    let mut sites = Vec::new(alloc);
+    let mut sites = Sites {
+        count: 0,
+        protects: Vec::new(alloc),
+    };
     for at in 0..parts.commands.len() {
-        if is_protected(parts, at) {
-            sites.push(at as u32)?;
-        }
+        note_mark(&mut sites, at as u32, mark_at(parts, at))?;
     }
     Ok(sites)
+}
+
+/// Counts the site that has the mark at a position, where it has one, and keeps the position where it is protected.
+fn note_mark(sites: &mut Sites, at: u32, mark: Option<Mark>) -> Result<(), NoMemory>
+    requires { sites.now.count < 2 ^ 32 }
+    ensures count { IfOk result (λ _. sites.new.count ≡ sites.old.count + (if is_some mark then 1 else 0)) }
+    ensures protects { IfOk result (λ _. sites.new.protects.items ≡ sites.old.protects.items ++ (if is_protect mark then at ∷ [] else [])) }
+{
+    if let Some(mark) = mark {
+        sites.count += 1;
+        if mark.protect {
+            sites.protects.push(at)?;
+        }
+    }
+    Ok(())
 }

@@ -1,13 +1,13 @@
 //! The report.
-ghost use Rattle.std.specs.Prelude.{◌≡◌, IfOk, length};
+ghost use Rattle.std.specs.Prelude.{◌≡◌, IfOk};
 ghost use Rattle.bl_cmd.specs.Sites.{is_protected, weight_of};
 ghost use Rattle.bl_graph.specs.Certificates.{Certifies};
 ghost use Rattle.bl_ct.specs.Verdicts.{Judges};
-ghost use Rattle.bl_report.specs.Reports.{counts_text, protects, report_text, summary_text};
+ghost use Rattle.bl_report.specs.Reports.{counts_text, protects, report_text, site_count, summary_text};
 
 use crate::lines::push_protects;
 use crate::secrets::push_constant_time;
-use crate::sites::{protects, site_count};
+use crate::sites::{Sites, sites_of};
 use bl_base::{NoMemory, Text};
 use bl_cmd::{ProgramParts, WellFormed};
 use bl_ct::CtVerdict;
@@ -29,14 +29,14 @@ pub fn report(
     ensures { IfOk result (λ text. text ≡ report_text program.now certificate.now verdict.now) }
 {
     let parts = program.program().parts();
-    let sites = protects(alloc, parts)?;
-    let mut text = counts(alloc, parts, sites.len(), certificate.weight)?;
+    let sites = sites_of(alloc, parts)?;
+    let mut text = counts(alloc, parts, &sites, certificate.weight)?;
     push_protects(
         alloc,
         &mut text,
         program,
         certificate.paths.as_slice(),
-        &sites,
+        &sites.protects,
     )?;
     push_constant_time(alloc, &mut text, verdict)?;
     Ok(Text::of(text))
@@ -55,28 +55,30 @@ pub fn summary(
     ensures { IfOk result (λ text. text ≡ summary_text program.now verdict.now) }
 {
     let parts = program.program().parts();
-    let sites = protects(alloc, parts)?;
-    let mut text = counts(alloc, parts, sites.len(), certificate.weight)?;
+    let sites = sites_of(alloc, parts)?;
+    let mut text = counts(alloc, parts, &sites, certificate.weight)?;
     push_constant_time(alloc, &mut text, verdict)?;
     Ok(Text::of(text))
 }
 
-/// The lines of the counts, where so many protects have that weight.
+/// The lines of the counts, where the program has these sites and the protects have that weight.
 fn counts(
     alloc: Global,
     parts: &ProgramParts,
-    count: usize,
+    sites: &Sites,
     weight: u64,
 ) -> Result<Vec<u8>, NoMemory>
-    requires count { count ≡ length (protects parts.now) }
+    requires count { sites.now.count ≡ site_count parts.now }
+    requires protects { sites.now.protects.items ≡ protects parts.now }
     requires weight { weight ≡ weight_of parts.now (is_protected parts.now) }
     ensures { IfOk result (λ text. text.items ≡ counts_text parts.now) }
 {
     let functions = parts.functions.len();
     let commands = parts.commands.len();
-    let sites = site_count(parts.commands.as_slice());
+    let all = sites.count;
+    let some = sites.protects.len();
     let text = format!(in alloc;
-        "functions {functions}\ncommands {commands}\nsites {sites}\nprotects {count} weight {weight}\n"
+        "functions {functions}\ncommands {commands}\nsites {all}\nprotects {some} weight {weight}\n"
     )?;
     Ok(text.into_bytes())
 }

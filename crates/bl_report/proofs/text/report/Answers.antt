@@ -8,5 +8,5 @@ use Rattle.bl_report.proofs.text.report.Goals as goal
 pub push_protects-requires : goal.push_protects-requires
 push_protects-requires c =
     subst (All (IsSite c.args.program.now))
-    (sym (c.deref.ensures.value ∙ c.in_ok-sites.ensures ∙ ap protects (c.parts-parts.ensures.same ∙ c.program.ensures.same)))
+    (sym (c.deref.ensures.value ∙ c.in_ok-sites.ensures.protects ∙ ap protects (c.parts-parts.ensures.same ∙ c.program.ensures.same)))
     (protects_are_sites c.args.program.now)
