@@ -24,10 +24,10 @@ use Rattle.bl_graph.proofs.Rows.{place_yes, place_no, row_one, nothing_below, al
 
 -- ---- operands
 
-pub row_at : (operands : Command → List Operand) (commands : List Command) (at : ℕ) (d : Command) (Has : ℕ → Type 0) → at < length commands
-    → ((x : ℕ) → Has x ↔ Among (operands (get_or commands at d)) x) → (x : ℕ) → Has x ↔ OperandAt operands commands at x
-row_at operands commands at d Has lt same x =
-    subst (λ o. Has x ↔ IsSomeAnd o (λ command. Among (operands command) x)) (sym (slice_get-get_or commands at d lt)) (same x)
+pub row_at : (operands : Command → List Operand) (commands : List Command) (at : ℕ) (d : Command) → at < length commands
+    → (x : ℕ) → Among (operands (get_or commands at d)) x ↔ OperandAt operands commands at x
+row_at operands commands at d lt x =
+    subst (λ o. Among (operands (get_or commands at d)) x ↔ IsSomeAnd o (λ command. Among (operands command) x)) (sym (slice_get-get_or commands at d lt)) ((λ h. h), (λ h. h))
 
 pub operand_low : (operands : Command → List Operand) (commands : List Command) (bound : ℕ) → length commands ≤ bound → (position x : ℕ) → OperandAt operands commands position x → position < bound
 operand_low operands commands bound le position x h =

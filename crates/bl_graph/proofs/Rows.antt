@@ -8,8 +8,10 @@ use Rattle.std.proofs.lemmas.List.Elements.{Contains-append_left, Contains-appen
 use Rattle.std.proofs.lemmas.List.Kept.{AllPairs-cons}
 use Rattle.std.proofs.lemmas.List.Quantifiers.{all_pairs_push}
 use Rattle.bl_base.specs.declared.number.Pos.{Pos}
+use Rattle.bl_base.specs.declared.number.Var.{Var as Variable}
 use Rattle.bl_cmd.specs.Sites.{Names, Among}
 use Rattle.bl_cmd.specs.declared.command.Operand.{Operand}
+use Rattle.bl_cmd.specs.declared.command.Operand.TheVariants.{Var, Const}
 use Rattle.bl_graph.specs.Graphs.{use_of, Precedes, AreUses}
 use Rattle.bl_graph.specs.Rows.{AreBelow, ArePlacesBelow, AddsRow, IsLeastFrom, lower_of}
 use Rattle.bl_graph.specs.declared.facts.Use.{Use}
@@ -160,6 +162,24 @@ row_empty Has position old none = record {
   each = λ x. ((λ h. absurd (none_in x h)), (λ h. absurd (none x h)));
   rise = λ i j d lt low. absurd (omega arith);
 }
+
+-- the variables among equal operands, and among none
+pub row_among : (operands others : List Operand) (position : ℕ) (old new : List Use) → others ≡ operands → AddsRow (Among operands) position old new → AddsRow (Among others) position old new
+row_among operands others position old new same adds = subst (λ l. AddsRow (Among l) position old new) (sym same) adds
+
+pub row_none_among : (operands : List Operand) (position : ℕ) (old : List Use) → operands ≡ [] → AddsRow (Among operands) position old old
+row_none_among operands position old none = row_among [] operands position old old none (row_empty (Among []) position old (λ x h. h))
+
+-- the variable that is the only operand
+pub row_var : (operand : Operand) (var : Variable) (position : ℕ) (old new : List Use) → operand ≡ Var var → new ≡ old ++ use_of position var.0 ∷ [] → AddsRow (Among (operand ∷ [])) position old new
+row_var operand var position old new is e =
+    row_among (Var var ∷ []) (operand ∷ []) position old new (ap (λ o. o ∷ []) is)
+    (row_one (Among (Var var ∷ [])) position var.0 old new (inl refl) (λ y h. elim h as (λ _. var.0 ≡ y) [ inl same ↦ same | inr none ↦ absurd none ]) e)
+
+pub row_const : (operand : Operand) (n position : ℕ) (old : List Use) → operand ≡ Const n → AddsRow (Among (operand ∷ [])) position old old
+row_const operand n position old is =
+    row_among (Const n ∷ []) (operand ∷ []) position old old (ap (λ o. o ∷ []) is)
+    (row_empty (Among (Const n ∷ [])) position old (λ x h. elim h as (λ _. ⊥) [ inl other ↦ other | inr none ↦ none ]))
 
 -- ---- the lesser of two least numbers
 

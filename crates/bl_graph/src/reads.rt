@@ -1,5 +1,5 @@
 //! What commands read.
-ghost use Rattle.std.specs.Prelude.{◌≡◌, ◌↔◌, ◌<◌, ◌^◌, ℕ, IfOk, IsTrue, OnOk, length, option_map};
+ghost use Rattle.std.specs.Prelude.{◌≡◌, ◌↔◌, ◌<◌, ◌^◌, [], ◌∷◌, IfOk, IsTrue, OnOk, length, option_map};
 ghost use Rattle.bl_cmd.specs.Sites.{Among, Loads, Names, is_division, moved_by, sunk_by};
 ghost use Rattle.bl_graph.specs.Graphs.{AreUses};
 ghost use Rattle.bl_graph.specs.Rows.{AddsPlace, AddsRow, ArePlacesBelow, IsLeastFrom, LoadAt, OperandAt, lower_of};
@@ -33,8 +33,8 @@ pub(crate) fn uses_of(alloc: Global, commands: &[Command]) -> Result<Uses, NoMem
     let mut sinks = List::new(alloc);
     for (at, command) in commands.iter().enumerate() {
         push_load(&mut loads, at as u32, *command)?;
-        push_row(&mut reads, at as u32, &moved(*command))?;
-        push_row(&mut sinks, at as u32, &sunk(*command))?;
+        push_reads(&mut reads, at as u32, *command)?;
+        push_sinks(&mut sinks, at as u32, *command)?;
     }
     Ok(Uses {
         loads,
@@ -71,48 +71,47 @@ fn is_load(command: Command) -> bool
     }
 }
 
-/// An operand that names no variable.
-const NONE: Operand = Operand::Const(0);
-
-/// The operands that a Set, an Arg or an Out makes its value of, and others that name no variable.
-fn moved(command: Command) -> [Operand; 3]
-    ensures { (x : ℕ) → Among result x ↔ Among (moved_by command) x }
+/// Appends what a Set, an Arg or an Out reads.
+#[tactic(auto, using(crate::proofs::Rows::row_none_among))]
+fn push_reads(reads: &mut List<Use>, at: u32, command: Command) -> Result<(), NoMemory>
+    ensures { OnOk result (AddsRow (Among (moved_by command)) at reads.old reads.new) }
 {
     match command {
-        Command::Set { a, b, c, .. } => [a, b, c],
-        Command::Load { .. } => [NONE; 3],
-        Command::Store { .. } => [NONE; 3],
-        Command::Test { .. } => [NONE; 3],
-        Command::Jump { .. } => [NONE; 3],
-        Command::Arg { value, .. } => [value, NONE, NONE],
-        Command::Call { .. } => [NONE; 3],
-        Command::Out { value, .. } => [value, NONE, NONE],
-        Command::Ret => [NONE; 3],
-        Command::Trap { .. } => [NONE; 3],
+        Command::Set { a, b, c, .. } => push_row(reads, at, &[a, b, c]),
+        Command::Load { .. } => Ok(()),
+        Command::Store { .. } => Ok(()),
+        Command::Test { .. } => Ok(()),
+        Command::Jump { .. } => Ok(()),
+        Command::Arg { value, .. } => push_operand(reads, at, value),
+        Command::Call { .. } => Ok(()),
+        Command::Out { value, .. } => push_operand(reads, at, value),
+        Command::Ret => Ok(()),
+        Command::Trap { .. } => Ok(()),
     }
 }
 
-/// The operands at sinks, and others that name no variable.
-fn sunk(command: Command) -> [Operand; 3]
-    ensures { (x : ℕ) → Among result x ↔ Among (sunk_by command) x }
+/// Appends what a sink of the command reads.
+#[tactic(auto, using(crate::proofs::Rows::row_none_among))]
+fn push_sinks(sinks: &mut List<Use>, at: u32, command: Command) -> Result<(), NoMemory>
+    ensures { OnOk result (AddsRow (Among (sunk_by command)) at sinks.old sinks.new) }
 {
     match command {
         Command::Set { op, a, b, .. } => {
             if is_division(op) {
-                [a, b, NONE]
+                push_row(sinks, at, &[a, b])
             } else {
-                [NONE; 3]
+                Ok(())
             }
         }
-        Command::Load { address, .. } => [address, NONE, NONE],
-        Command::Store { address, .. } => [address, NONE, NONE],
-        Command::Test { cond, .. } => [cond, NONE, NONE],
-        Command::Jump { .. } => [NONE; 3],
-        Command::Arg { .. } => [NONE; 3],
-        Command::Call { .. } => [NONE; 3],
-        Command::Out { .. } => [NONE; 3],
-        Command::Ret => [NONE; 3],
-        Command::Trap { .. } => [NONE; 3],
+        Command::Load { address, .. } => push_operand(sinks, at, address),
+        Command::Store { address, .. } => push_operand(sinks, at, address),
+        Command::Test { cond, .. } => push_operand(sinks, at, cond),
+        Command::Jump { .. } => Ok(()),
+        Command::Arg { .. } => Ok(()),
+        Command::Call { .. } => Ok(()),
+        Command::Out { .. } => Ok(()),
+        Command::Ret => Ok(()),
+        Command::Trap { .. } => Ok(()),
     }
 }
 
@@ -124,6 +123,19 @@ fn is_division(op: Op) -> bool
         Op::I32DivS | Op::I32DivU | Op::I32RemS | Op::I32RemU => true,
         Op::I64DivS | Op::I64DivU | Op::I64RemS | Op::I64RemU => true,
         _ => false,
+    }
+}
+
+/// Appends the position with the operand where that is a variable.
+fn push_operand(uses: &mut List<Use>, at: u32, operand: Operand) -> Result<(), NoMemory>
+    ensures { OnOk result (AddsRow (Among (operand ∷ [])) at uses.old uses.new) }
+{
+    match operand {
+        Operand::Var(var) => {
+            uses.push(Use { at: Pos(at), var })?;
+            Ok(())
+        }
+        Operand::Const(_) => Ok(()),
     }
 }
 

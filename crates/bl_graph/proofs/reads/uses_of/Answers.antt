@@ -1,5 +1,5 @@
 use Rattle.std.proofs.Common.{◌≡◌, length, refl, subst, arith}
-use Rattle.bl_cmd.specs.Sites.{Among, moved_by, sunk_by}
+use Rattle.bl_cmd.specs.Sites.{moved_by, sunk_by}
 use Rattle.bl_graph.specs.Rows.{ArePlacesBelow, LoadAt, OperandAt}
 use Rattle.bl_graph.proofs.Rows.{next_row, all_below}
 use Rattle.bl_graph.proofs.Placing.{load_step, row_at, operand_low}
@@ -8,10 +8,10 @@ use Rattle.bl_graph.proofs.reads.uses_of.Goals as goal
 pub loop-at-preserved : goal.loop-at-preserved
 loop-at-preserved c = record {
   loads = load_step c.args.commands.now c.loop-at.at _ c.loop-at.loads c.push_load.new.loads c.loop-at-test.true c.in_ok-push_load.ensures c.loop-at.invariant.loads;
-  reads = next_row (OperandAt moved_by c.args.commands.now) c.loop-at.at _ c.loop-at.reads c.push_row.new.uses (Among c.moved.result) refl
-      (row_at moved_by c.args.commands.now c.loop-at.at _ (Among c.moved.result) c.loop-at-test.true c.moved.ensures) c.loop-at.invariant.reads c.in_ok-push_row.ensures;
-  sinks = next_row (OperandAt sunk_by c.args.commands.now) c.loop-at.at _ c.loop-at.sinks c.push_row-in-loop-at.new.uses (Among c.sunk.result) refl
-      (row_at sunk_by c.args.commands.now c.loop-at.at _ (Among c.sunk.result) c.loop-at-test.true c.sunk.ensures) c.loop-at.invariant.sinks c.in_ok-push_row-2.ensures;
+  reads = next_row (OperandAt moved_by c.args.commands.now) c.loop-at.at _ c.loop-at.reads c.push_reads.new.reads _ refl
+      (row_at moved_by c.args.commands.now c.loop-at.at _ c.loop-at-test.true) c.loop-at.invariant.reads c.in_ok-push_reads.ensures;
+  sinks = next_row (OperandAt sunk_by c.args.commands.now) c.loop-at.at _ c.loop-at.sinks c.push_sinks.new.sinks _ refl
+      (row_at sunk_by c.args.commands.now c.loop-at.at _ c.loop-at-test.true) c.loop-at.invariant.sinks c.in_ok-push_sinks.ensures;
 }
 
 pub returns-clause-loads : goal.returns-clause-loads
