@@ -81,7 +81,7 @@ pub(crate) type Case = (&'static [Change], Option<Invalid>);
 
 /// A module with one function: it takes an i32, has a local of i64 and gives an i32. Function 0 and global 0, an immutable
 /// i32, are imported; global 1 is a mutable i64; there is a table and a memory.
-const AROUND: Parts = Parts {
+static AROUND: Parts = Parts {
     types: &[
         (&[], &[]),
         (&[I32], &[I32]),
@@ -366,32 +366,34 @@ fn module_of(alloc: Global, parts: &Parts, bodies: &[&[u8]]) -> Result<Module, N
     Ok(tree)
 }
 
-/// The parts with one part changed.
-fn with_change(parts: Parts, change: Change) -> Parts {
+/// Puts a part in its place.
+fn put_change(change: Change, parts: &mut Parts) {
     match change {
-        Change::Types(types) => Parts { types, ..parts },
-        Change::Imports(imports) => Parts { imports, ..parts },
-        Change::Functions(functions) => Parts { functions, ..parts },
-        Change::Tables(tables) => Parts { tables, ..parts },
-        Change::Memories(memories) => Parts { memories, ..parts },
-        Change::Globals(globals) => Parts { globals, ..parts },
-        Change::Exports(exports) => Parts { exports, ..parts },
-        Change::Start(start) => Parts {
-            start: Some(start),
-            ..parts
-        },
-        Change::Elements(elements) => Parts { elements, ..parts },
-        Change::Segments(segments) => Parts { segments, ..parts },
-        Change::Locals(locals) => Parts { locals, ..parts },
-        Change::Bodies(bodies) => Parts { bodies, ..parts },
+        Change::Types(types) => parts.types = types,
+        Change::Imports(imports) => parts.imports = imports,
+        Change::Functions(functions) => parts.functions = functions,
+        Change::Tables(tables) => parts.tables = tables,
+        Change::Memories(memories) => parts.memories = memories,
+        Change::Globals(globals) => parts.globals = globals,
+        Change::Exports(exports) => parts.exports = exports,
+        Change::Start(start) => parts.start = Some(start),
+        Change::Elements(elements) => parts.elements = elements,
+        Change::Segments(segments) => parts.segments = segments,
+        Change::Locals(locals) => parts.locals = locals,
+        Change::Bodies(bodies) => parts.bodies = bodies,
     }
+}
+
+/// The parts of `AROUND`.
+fn around() -> Parts {
+    AROUND
 }
 
 /// The parts of a case.
 fn changed(changes: &[Change]) -> Parts {
-    let mut parts = AROUND;
+    let mut parts = around();
     for part in changes {
-        parts = with_change(parts, *part);
+        put_change(*part, &mut parts);
     }
     parts
 }
@@ -408,9 +410,9 @@ fn is_small(tree: &Module) -> bool
 fn judged(alloc: Global, tree: Module) -> Option<Invalid>
     requires { length (functions_of tree) < 2 ^ 32 }
 {
-    match validate(alloc, tree) {
+    match &validate(alloc, tree) {
         Ok(_) => None,
-        Err((_, reason)) => Some(reason),
+        Err((_, reason)) => Some(*reason),
     }
 }
 
@@ -426,6 +428,7 @@ fn verdict(alloc: Global, parts: &Parts, bodies: &[&[u8]]) -> Result<Option<Inva
 /// The first of the bodies that is judged otherwise, and how.
 fn first_wrong_body(
     alloc: Global,
+    parts: &Parts,
     cases: &[(&[u8], bool)],
 ) -> Result<Option<(usize, Option<Invalid>)>, NoMemory> {
     for (at, (body, valid)) in cases.iter().enumerate() {
@@ -434,7 +437,7 @@ fn first_wrong_body(
         } else {
             Some(Invalid::Function(1))
         };
-        let found = verdict(alloc, &AROUND, &[*body])?;
+        let found = verdict(alloc, parts, &[*body])?;
         if found != wanted {
             return Ok(Some((at, found)));
         }
@@ -442,15 +445,25 @@ fn first_wrong_body(
     Ok(None)
 }
 
+/// The bodies with blocks of at most one type.
+fn bodies() -> &'static [(&'static [u8], bool)] {
+    &BODIES
+}
+
+/// The bodies with blocks of several types.
+fn several() -> &'static [(&'static [u8], bool)] {
+    &SEVERAL
+}
+
 #[test]
 fn bodies_are_judged_as_elsewhere(rt: HostRuntime) -> Result<(), Fail> {
-    assert_eq!(rt; first_wrong_body(rt.alloc(), &BODIES)?, None);
+    assert_eq!(rt; first_wrong_body(rt.alloc(), &around(), bodies())?, None);
     Ok(())
 }
 
 #[test]
 fn blocks_of_several_types_are_judged_as_elsewhere(rt: HostRuntime) -> Result<(), Fail> {
-    assert_eq!(rt; first_wrong_body(rt.alloc(), &SEVERAL)?, None);
+    assert_eq!(rt; first_wrong_body(rt.alloc(), &around(), several())?, None);
     Ok(())
 }
 
@@ -469,35 +482,52 @@ fn first_wrong(
     Ok(None)
 }
 
+/// Cases of types, and of imports and exports.
+fn types() -> &'static [Case] {
+    &TYPES
+}
+
+/// Cases of functions and their code.
+fn code() -> &'static [Case] {
+    &CODE
+}
+
+/// Cases of tables, memories and globals.
+fn stores() -> &'static [Case] {
+    &STORES
+}
+
+/// Cases of segments.
+fn segments() -> &'static [Case] {
+    &SEGMENTS
+}
+
 #[test]
 fn types_are_judged_as_elsewhere(rt: HostRuntime) -> Result<(), Fail> {
-    assert_eq!(rt; first_wrong(rt.alloc(), &TYPES)?, None);
+    assert_eq!(rt; first_wrong(rt.alloc(), types())?, None);
     Ok(())
 }
 
 #[test]
 fn code_is_judged_as_elsewhere(rt: HostRuntime) -> Result<(), Fail> {
-    assert_eq!(rt; first_wrong(rt.alloc(), &CODE)?, None);
+    assert_eq!(rt; first_wrong(rt.alloc(), code())?, None);
     Ok(())
 }
 
 #[test]
 fn stores_are_judged_as_elsewhere(rt: HostRuntime) -> Result<(), Fail> {
-    assert_eq!(rt; first_wrong(rt.alloc(), &STORES)?, None);
+    assert_eq!(rt; first_wrong(rt.alloc(), stores())?, None);
     Ok(())
 }
 
 #[test]
 fn segments_are_judged_as_elsewhere(rt: HostRuntime) -> Result<(), Fail> {
-    assert_eq!(rt; first_wrong(rt.alloc(), &SEGMENTS)?, None);
+    assert_eq!(rt; first_wrong(rt.alloc(), segments())?, None);
     Ok(())
 }
 
 /// Two memories, the second one of at most three pages.
-const TWO_MEMORIES: Parts = Parts {
-    memories: &[(1, None), (2, Some(3))],
-    ..AROUND
-};
+static TWO_MEMORIES: [Change; 1] = [Change::Memories(&[(1, None), (2, Some(3))])];
 
 /// Whether the module is one of those two memories.
 fn has_second_memory(tree: &Module) -> bool {
@@ -511,15 +541,16 @@ fn has_second_memory(tree: &Module) -> bool {
 fn comes_back(alloc: Global, tree: Module) -> bool
     requires { length (functions_of tree) < 2 ^ 32 }
 {
-    match validate(alloc, tree) {
+    match &validate(alloc, tree) {
         Ok(_) => false,
-        Err((tree, reason)) => reason == Invalid::Module && has_second_memory(&tree),
+        Err((tree, reason)) => *reason == Invalid::Module && has_second_memory(tree),
     }
 }
 
 /// Whether the module of two memories is refused and comes back.
 fn two_memories_come_back(alloc: Global) -> Result<bool, NoMemory> {
-    let tree = module_of(alloc, &TWO_MEMORIES, TWO_MEMORIES.bodies)?;
+    let parts = changed(&TWO_MEMORIES);
+    let tree = module_of(alloc, &parts, parts.bodies)?;
     if !is_small(&tree) {
         return Ok(false);
     }
