@@ -47,8 +47,8 @@ fn answer(
 
 /// The fault of that module; None where it has labels or isn't one.
 fn fault(alloc: Global, first: &[u8], second: &[u8]) -> Result<Option<LabelError>, NoMemory> {
-    match answer(alloc, first, second)? {
-        Some(Err(error)) => Ok(Some(error)),
+    match &answer(alloc, first, second)? {
+        Some(Err(error)) => Ok(Some(*error)),
         _ => Ok(None),
     }
 }
@@ -86,8 +86,8 @@ fn are_entries(labels: &Labels) -> bool {
 /// Whether a section of four entries gives those labels.
 fn names_entries(alloc: Global) -> Result<bool, NoMemory> {
     let section = b"\0\x19\x0cblade.labels\x02\x04\x02\0\0\x01\0\x03\x01\0\x04\0";
-    match answer(alloc, OWN, section)? {
-        Some(Ok(labels)) => Ok(are_entries(&labels)),
+    match &answer(alloc, OWN, section)? {
+        Some(Ok(labels)) => Ok(are_entries(labels)),
         _ => Ok(false),
     }
 }
@@ -101,7 +101,7 @@ fn entries_are_labels_in_their_order(rt: HostRuntime) -> Result<(), Fail> {
 /// Whether the one global is named by a section before all others.
 fn names_before(alloc: Global) -> Result<bool, NoMemory> {
     let section = b"\0\x11\x0cblade.labels\x01\x01\x01\0";
-    match answer(alloc, section, OWN)? {
+    match &answer(alloc, section, OWN)? {
         Some(Ok(labels)) => Ok(labels.globals.as_slice() == [0].as_slice()),
         _ => Ok(false),
     }
@@ -115,7 +115,7 @@ fn a_section_may_stand_before_all_others(rt: HostRuntime) -> Result<(), Fail> {
 
 /// Whether a section of another name gives no labels.
 fn names_nothing(alloc: Global) -> Result<bool, NoMemory> {
-    match answer(alloc, OWN, b"\0\x0d\x0cblade.label.")? {
+    match &answer(alloc, OWN, b"\0\x0d\x0cblade.label.")? {
         Some(Ok(labels)) => Ok(labels.params.len() == 0 && labels.memories.len() == 0),
         _ => Ok(false),
     }

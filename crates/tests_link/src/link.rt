@@ -77,7 +77,7 @@ fn is_wanted(tree: &Tree) -> bool {
 /// Whether the three modules are linked so.
 fn are_linked(alloc: Global) -> Result<bool, NoMemory> {
     let modules = [("a", FIRST), ("b", SECOND), ("c", THIRD)];
-    match linked(alloc, modules.as_slice())? {
+    match &linked(alloc, modules.as_slice())? {
         Some(Ok(linked)) => Ok(is_wanted(linked.tree())),
         _ => Ok(false),
     }
@@ -95,8 +95,8 @@ fn is_refused(
     modules: [(&str, &[u8]); 2],
     wanted: LinkError,
 ) -> Result<bool, NoMemory> {
-    match linked(alloc, modules.as_slice())? {
-        Some(Err(error)) => Ok(error == wanted),
+    match &linked(alloc, modules.as_slice())? {
+        Some(Err(error)) => Ok(*error == wanted),
         _ => Ok(false),
     }
 }
