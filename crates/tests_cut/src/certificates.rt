@@ -1,23 +1,38 @@
 //! Certificates that break a rule, and texts that are none.
 use crate::images::{DOUBLED, LOADS, SUM};
-use bl_base::{Pos, SiteSet};
+use crate::least::{certificate_of, program_of, verdict};
+use bl_base::{NoMemory, Pos, SiteSet};
+use bl_cmd::WellFormed;
 use bl_cut::protect;
-use bl_image::decode_image;
-use bl_witness::{CertError, CertVerdict, check_certificate, from_json};
+use bl_witness::{CertError, CertVerdict, from_json};
 use std::alloc::Global;
 use std::test::Fail;
 
-/// The verdict on a certificate's text for an image whose protects are those.
-fn verdict(alloc: Global, image: &[u8], protects: &[u32], text: &str) -> Result<CertVerdict, Fail> {
-    let program = decode_image(alloc, image)?;
+/// The set of those positions.
+fn sites_of(alloc: Global, positions: &[u32]) -> Result<SiteSet, NoMemory> {
     let mut sites = SiteSet::new(alloc);
-    for position in protects {
+    for position in positions {
         sites.insert(Pos(*position))?;
     }
-    let protected = protect(program, &sites);
-    let certificate = from_json(alloc, text.as_bytes())?;
-    let verdict = check_certificate(alloc, &protected, &certificate)?;
-    Ok(verdict)
+    Ok(sites)
+}
+
+/// The program that the bytes are the image of, with protects at those positions.
+fn protected(alloc: Global, image: &[u8], protects: &[u32]) -> Result<WellFormed, NoMemory> {
+    let sites = sites_of(alloc, protects)?;
+    let program = program_of(alloc, image)?;
+    Ok(protect(program, &sites))
+}
+
+/// The verdict on a certificate's text for an image whose protects are those.
+fn verdict_on(
+    alloc: Global,
+    image: &[u8],
+    protects: &[u32],
+    text: &str,
+) -> Result<CertVerdict, NoMemory> {
+    let program = protected(alloc, image, protects)?;
+    verdict(alloc, &program, text.as_bytes())
 }
 
 /// Whether the first broken rule is that one, at that index.
@@ -27,9 +42,9 @@ fn breaks(
     protects: &[u32],
     text: &str,
     broken: (u8, u64),
-) -> Result<bool, Fail> {
+) -> Result<bool, NoMemory> {
     let (rule, index) = broken;
-    Ok(verdict(alloc, image, protects, text)? == CertVerdict::No { rule, index })
+    Ok(verdict_on(alloc, image, protects, text)? == CertVerdict::No { rule, index })
 }
 
 /// The certificate of the protect at 11.
@@ -38,34 +53,63 @@ const CERTIFICATE: &str = "{\"paths\":[{\"amount\":1,\"sink\":14,\"sites\":[11]}
 #[test]
 fn one_certificate_of_the_loads_is_lawful(rt: HostRuntime) -> Result<(), Fail> {
     assert_eq!(rt;
-        verdict(rt.alloc(), LOADS, &[11], CERTIFICATE)?,
+        verdict_on(rt.alloc(), LOADS, &[11], CERTIFICATE)?,
         CertVerdict::Yes
     );
     Ok(())
 }
 
+/// Protects of the program of loads, a certificate's text, and the rule that it breaks first, at an index.
+static BROKEN: [(&[u32], &str, (u8, u64)); 7] = [
+    // not a load
+    (
+        &[11],
+        "{\"paths\":[{\"amount\":1,\"sink\":13,\"sites\":[12]}],\"weight\":1}",
+        (1, 0),
+    ),
+    // no site
+    (
+        &[11],
+        "{\"paths\":[{\"amount\":1,\"sink\":14,\"sites\":[]}],\"weight\":1}",
+        (1, 0),
+    ),
+    // another sink
+    (
+        &[11],
+        "{\"paths\":[{\"amount\":1,\"sink\":10,\"sites\":[11]}],\"weight\":1}",
+        (1, 0),
+    ),
+    // no amount
+    (
+        &[11],
+        "{\"paths\":[{\"amount\":0,\"sink\":14,\"sites\":[11]}],\"weight\":1}",
+        (2, 0),
+    ),
+    (&[], CERTIFICATE, (3, 0)),
+    // twice the weight
+    (
+        &[11],
+        "{\"paths\":[{\"amount\":2,\"sink\":14,\"sites\":[11]}],\"weight\":1}",
+        (4, 11),
+    ),
+    (&[11], "{\"paths\":[],\"weight\":0}", (5, 0)),
+];
+
+/// How many of them break that rule, before the first that doesn't.
+fn named(alloc: Global) -> Result<u32, NoMemory> {
+    let mut passed = 0u32;
+    for (protects, text, broken) in &BROKEN {
+        if !breaks(alloc, LOADS, protects, text, *broken)? {
+            break;
+        }
+        passed = passed.wrapping_add(1);
+    }
+    Ok(passed)
+}
+
 #[test]
 fn the_first_broken_rule_is_named(rt: HostRuntime) -> Result<(), Fail> {
-    let not_a_load = "{\"paths\":[{\"amount\":1,\"sink\":13,\"sites\":[12]}],\"weight\":1}";
-    let no_site = "{\"paths\":[{\"amount\":1,\"sink\":14,\"sites\":[]}],\"weight\":1}";
-    let another_sink = "{\"paths\":[{\"amount\":1,\"sink\":10,\"sites\":[11]}],\"weight\":1}";
-    let no_amount = "{\"paths\":[{\"amount\":0,\"sink\":14,\"sites\":[11]}],\"weight\":1}";
-    let twice = "{\"paths\":[{\"amount\":2,\"sink\":14,\"sites\":[11]}],\"weight\":1}";
-    assert!(rt; breaks(rt.alloc(), LOADS, &[11], not_a_load, (1, 0))?);
-    assert!(rt; breaks(rt.alloc(), LOADS, &[11], no_site, (1, 0))?);
-    assert!(rt; breaks(rt.alloc(), LOADS, &[11], another_sink, (1, 0))?);
-    assert!(rt; breaks(rt.alloc(), LOADS, &[11], no_amount, (2, 0))?);
-    assert!(rt; breaks(rt.alloc(), LOADS, &[], CERTIFICATE, (3, 0))?);
-    assert!(rt; breaks(rt.alloc(), LOADS, &[11], twice, (4, 11))?);
-    assert!(rt;
-        breaks(
-            rt.alloc(),
-            LOADS,
-            &[11],
-            "{\"paths\":[],\"weight\":0}",
-            (5, 0)
-        )?
-    );
+    assert_eq!(rt; named(rt.alloc())?, 7);
     Ok(())
 }
 
@@ -96,33 +140,49 @@ fn fails(alloc: Global, text: &str, error: CertError) -> bool {
     matches!(&from_json(alloc, text.as_bytes()), Err(other) if *other == error)
 }
 
+/// Texts that are no certificates, and what is answered.
+static NONE: [(&str, CertError); 7] = [
+    ("{", CertError::NotJson),
+    ("{\"paths\":[],\"weight\":01}", CertError::NotJson),
+    ("{}", CertError::Shape),
+    ("{\"paths\":[],\"weight\":1.0}", CertError::Shape),
+    (
+        "{\"paths\":[],\"weight\":18446744073709551616}",
+        CertError::Shape,
+    ),
+    ("{\"paths\":[],\"weight\":0,\"more\":0}", CertError::Shape),
+    (
+        "{\"paths\":[{\"amount\":1,\"sink\":4294967296,\"sites\":[]}],\"weight\":1}",
+        CertError::Shape,
+    ),
+];
+
+/// How many of them are answered so, before the first that isn't.
+fn refused(alloc: Global) -> u32 {
+    let mut passed = 0u32;
+    for (text, error) in &NONE {
+        if !fails(alloc, text, *error) {
+            break;
+        }
+        passed = passed.wrapping_add(1);
+    }
+    passed
+}
+
 #[test]
 fn a_text_that_is_no_certificate(rt: HostRuntime) -> Result<(), Fail> {
-    let not_json = CertError::NotJson;
-    let shape = CertError::Shape;
-    assert!(rt; fails(rt.alloc(), "{", not_json));
-    assert!(rt; fails(rt.alloc(), "{\"paths\":[],\"weight\":01}", not_json));
-    assert!(rt; fails(rt.alloc(), "{}", shape));
-    assert!(rt; fails(rt.alloc(), "{\"paths\":[],\"weight\":1.0}", shape));
-    assert!(rt;
-        fails(
-            rt.alloc(),
-            "{\"paths\":[],\"weight\":18446744073709551616}",
-            shape
-        )
-    );
-    assert!(rt; fails(rt.alloc(), "{\"paths\":[],\"weight\":0,\"more\":0}", shape));
-    let far = "{\"paths\":[{\"amount\":1,\"sink\":4294967296,\"sites\":[]}],\"weight\":1}";
-    assert!(rt; fails(rt.alloc(), far, shape));
+    assert_eq!(rt; refused(rt.alloc()), 7);
     Ok(())
+}
+
+/// The weight that a certificate's text says.
+fn weight_in(alloc: Global, text: &str) -> Result<u64, NoMemory> {
+    Ok(certificate_of(alloc, text.as_bytes())?.weight)
 }
 
 #[test]
 fn of_a_key_that_stands_twice_the_last_counts(rt: HostRuntime) -> Result<(), Fail> {
-    let found = from_json(
-        rt.alloc(),
-        " {\"weight\":\"x\", \"paths\":[], \"\\u0077eight\":9} ".as_bytes(),
-    )?;
-    assert_eq!(rt; found.weight, 9);
+    let text = " {\"weight\":\"x\", \"paths\":[], \"\\u0077eight\":9} ";
+    assert_eq!(rt; weight_in(rt.alloc(), text)?, 9);
     Ok(())
 }

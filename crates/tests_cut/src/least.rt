@@ -1,54 +1,87 @@
-//! What is found for the bytes of an image.
-use bl_base::{List, NoMemory, Pos, SiteSet, Text};
-use bl_cut::{least_protects, protect};
+//! What is found for the bytes of an image. Bytes that are no image, and texts that are no certificate, are answered like want of memory.
+use bl_base::{NoMemory, Pos, SiteSet};
+use bl_cmd::WellFormed;
+use bl_cut::{Choice, least_protects, protect};
+use bl_graph::Certificate;
 use bl_image::decode_image;
 use bl_transient::{FlowVerdict, flows};
 use bl_witness::{CertVerdict, check_certificate, from_json, to_json};
 use std::alloc::Global;
-use std::test::Fail;
 
-/// The least protects of a program, and what is said of them.
-#[derive(Drop)]
-pub(crate) struct Found {
-    /// Their positions, rising.
-    pub(crate) protects: List<Pos>,
-    /// Their weight.
-    pub(crate) weight: u64,
-    /// The certificate's text.
-    pub(crate) text: Text,
-    /// Whether the certificate, read from its text, keeps the rules in the program with these protects.
-    pub(crate) certified: bool,
-    /// Whether that program passes.
-    pub(crate) stable: bool,
+/// The program that the bytes are the image of.
+pub(crate) fn program_of(alloc: Global, image: &[u8]) -> Result<WellFormed, NoMemory> {
+    match decode_image(alloc, image) {
+        Ok(program) => Ok(program),
+        Err(_) => Err(NoMemory),
+    }
+}
+
+/// The certificate that the bytes spell.
+pub(crate) fn certificate_of(alloc: Global, text: &[u8]) -> Result<Certificate, NoMemory> {
+    match from_json(alloc, text) {
+        Ok(certificate) => Ok(certificate),
+        Err(_) => Err(NoMemory),
+    }
+}
+
+/// The verdict on the certificate that the bytes spell, in a program.
+pub(crate) fn verdict(
+    alloc: Global,
+    program: &WellFormed,
+    text: &[u8],
+) -> Result<CertVerdict, NoMemory> {
+    let certificate = certificate_of(alloc, text)?;
+    check_certificate(alloc, program, &certificate)
 }
 
 /// The least protects of the program that the bytes are the image of.
-pub(crate) fn least(alloc: Global, image: &[u8]) -> Result<Found, Fail> {
-    let program = decode_image(alloc, image)?;
-    let choice = least_protects(alloc, &program)?;
-    let text = to_json(alloc, &choice.certificate)?;
-    let certificate = from_json(alloc, text.as_slice())?;
-    let protected = protect(program, &choice.protects);
-    let verdict = check_certificate(alloc, &protected, &certificate)?;
-    let flow = flows(alloc, &protected, &choice.protects)?;
-    Ok(Found {
-        protects: positions(alloc, &choice.protects)?,
-        weight: choice.weight,
-        text,
-        certified: verdict == CertVerdict::Yes,
-        stable: matches!(&flow, FlowVerdict::Yes(_)),
-    })
+fn choice_of(alloc: Global, image: &[u8]) -> Result<Choice, NoMemory> {
+    let program = program_of(alloc, image)?;
+    least_protects(alloc, &program)
 }
 
-/// The positions below 100 in a set, rising.
-fn positions(alloc: Global, sites: &SiteSet) -> Result<List<Pos>, NoMemory> {
-    let mut found = List::new(alloc);
+/// The program that the bytes are the image of, with protects at those sites.
+fn protected(alloc: Global, image: &[u8], protects: &SiteSet) -> Result<WellFormed, NoMemory> {
+    let program = program_of(alloc, image)?;
+    Ok(protect(program, protects))
+}
+
+/// Whether a certificate, read from its own text, keeps the rules in a program.
+fn is_certified(
+    alloc: Global,
+    program: &WellFormed,
+    certificate: &Certificate,
+) -> Result<bool, NoMemory> {
+    let text = to_json(alloc, certificate)?;
+    Ok(verdict(alloc, program, text.as_slice())? == CertVerdict::Yes)
+}
+
+/// Whether a program with those protects passes.
+fn is_stable(alloc: Global, program: &WellFormed, protects: &SiteSet) -> Result<bool, NoMemory> {
+    Ok(matches!(&flows(alloc, program, protects)?, FlowVerdict::Yes(_)))
+}
+
+/// Whether the choice's protects, in the program that the bytes are the image of, are certified and pass.
+fn holds(alloc: Global, image: &[u8], choice: &Choice) -> Result<bool, NoMemory> {
+    let program = protected(alloc, image, &choice.protects)?;
+    if !is_certified(alloc, &program, &choice.certificate)? {
+        return Ok(false);
+    }
+    is_stable(alloc, &program, &choice.protects)
+}
+
+/// Whether the positions below 100 in a set are those, which rise.
+fn are(sites: &SiteSet, positions: &[u32]) -> bool {
+    let mut next = 0;
     for at in 0..100 {
         if sites.contains(Pos(at)) {
-            found.push(Pos(at))?;
+            if next >= positions.len() || positions[next] != at {
+                return false;
+            }
+            next += 1;
         }
     }
-    Ok(found)
+    next == positions.len()
 }
 
 /// Whether the least protects are those positions, with that weight, are certified and pass.
@@ -57,26 +90,31 @@ pub(crate) fn is_least(
     image: &[u8],
     protects: &[u32],
     weight: u64,
-) -> Result<bool, Fail> {
-    let found = least(alloc, image)?;
-    if found.weight != weight || found.protects.len() != protects.len() {
+) -> Result<bool, NoMemory> {
+    let choice = choice_of(alloc, image)?;
+    if choice.weight != weight || !are(&choice.protects, protects) {
         return Ok(false);
     }
-    for (position, expected) in found.protects.as_slice().iter().zip(protects) {
-        if position.0 != *expected {
-            return Ok(false);
+    holds(alloc, image, &choice)
+}
+
+/// Whether the bytes are those of one of the texts.
+fn is_one_of(bytes: &[u8], texts: &[&str]) -> bool {
+    for text in texts {
+        if bytes == text.as_bytes() {
+            return true;
         }
     }
-    Ok(found.certified && found.stable)
+    false
 }
 
 /// Whether the certificate's text is one of those.
-pub(crate) fn is_certified_by(alloc: Global, image: &[u8], texts: &[&str]) -> Result<bool, Fail> {
-    let found = least(alloc, image)?;
-    for text in texts {
-        if found.text.as_slice() == text.as_bytes() {
-            return Ok(true);
-        }
-    }
-    Ok(false)
+pub(crate) fn is_certified_by(
+    alloc: Global,
+    image: &[u8],
+    texts: &[&str],
+) -> Result<bool, NoMemory> {
+    let choice = choice_of(alloc, image)?;
+    let text = to_json(alloc, &choice.certificate)?;
+    Ok(is_one_of(text.as_slice(), texts))
 }

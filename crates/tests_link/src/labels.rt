@@ -1,5 +1,6 @@
 //! Labels of modules by their bytes. The expected answers are those of the rules, read off each section by hand.
 
+use bl_base::NoMemory;
 use bl_decode::decode;
 use bl_labels::{LabelError, Labels, Place, labels_of};
 use std::alloc::Global;
@@ -18,36 +19,47 @@ static OWN: &[u8] =
 static IDENTITY: &[u8] =
     b"\x01\x06\x01`\x01\x7f\x01\x7f\x03\x02\x01\0\x07\x05\x01\x01f\0\0\n\x06\x01\x04\0 \0\x0b";
 
+/// The bytes of the module of those sections and others behind them.
+fn module_of(alloc: Global, first: &[u8], second: &[u8]) -> Result<Vec<u8>, NoMemory> {
+    let mut bytes = HEAD.to_vec(alloc)?;
+    bytes.extend_from_slice(first)?;
+    bytes.extend_from_slice(second)?;
+    Ok(bytes)
+}
+
+/// What `labels_of` answers of the module that the bytes spell; None where they spell none.
+fn labels_in(alloc: Global, bytes: &[u8]) -> Option<Result<Labels, LabelError>> {
+    match decode(alloc, bytes) {
+        Ok(wasm) => Some(labels_of(alloc, &wasm)),
+        Err(_) => None,
+    }
+}
+
 /// What `labels_of` answers of the module of those sections and others behind them; None where that is no module.
 fn answer(
     alloc: Global,
     first: &[u8],
     second: &[u8],
-) -> Result<Option<Result<Labels, LabelError>>, Fail> {
-    let mut bytes = HEAD.to_vec(alloc)?;
-    bytes.extend_from_slice(first)?;
-    bytes.extend_from_slice(second)?;
-    match decode(alloc, bytes.as_slice()) {
-        Ok(wasm) => Ok(Some(labels_of(alloc, &wasm))),
-        Err(_) => Ok(None),
-    }
+) -> Result<Option<Result<Labels, LabelError>>, NoMemory> {
+    let bytes = module_of(alloc, first, second)?;
+    Ok(labels_in(alloc, bytes.as_slice()))
 }
 
 /// The fault of that module; None where it has labels or isn't one.
-fn fault(alloc: Global, first: &[u8], second: &[u8]) -> Result<Option<LabelError>, Fail> {
-    match answer(alloc, first, second)? {
-        Some(Err(error)) => Ok(Some(error)),
+fn fault(alloc: Global, first: &[u8], second: &[u8]) -> Result<Option<LabelError>, NoMemory> {
+    match &answer(alloc, first, second)? {
+        Some(Err(error)) => Ok(Some(*error)),
         _ => Ok(None),
     }
 }
 
 /// Whether that module has labels.
-fn is_labelled(alloc: Global, first: &[u8], second: &[u8]) -> Result<bool, Fail> {
+fn is_labelled(alloc: Global, first: &[u8], second: &[u8]) -> Result<bool, NoMemory> {
     Ok(matches!(&answer(alloc, first, second)?, Some(Ok(_))))
 }
 
 /// How many of these sections behind `OWN` have such a fault before the first that hasn't.
-fn refused(alloc: Global, sections: &[(&[u8], LabelError)]) -> Result<u32, Fail> {
+fn refused(alloc: Global, sections: &[(&[u8], LabelError)]) -> Result<u32, NoMemory> {
     let mut passed = 0u32;
     for (section, error) in sections {
         if fault(alloc, OWN, *section)? != Some(*error) {
@@ -72,10 +84,10 @@ fn are_entries(labels: &Labels) -> bool {
 }
 
 /// Whether a section of four entries gives those labels.
-fn names_entries(alloc: Global) -> Result<bool, Fail> {
+fn names_entries(alloc: Global) -> Result<bool, NoMemory> {
     let section = b"\0\x19\x0cblade.labels\x02\x04\x02\0\0\x01\0\x03\x01\0\x04\0";
-    match answer(alloc, OWN, section)? {
-        Some(Ok(labels)) => Ok(are_entries(&labels)),
+    match &answer(alloc, OWN, section)? {
+        Some(Ok(labels)) => Ok(are_entries(labels)),
         _ => Ok(false),
     }
 }
@@ -87,9 +99,9 @@ fn entries_are_labels_in_their_order(rt: HostRuntime) -> Result<(), Fail> {
 }
 
 /// Whether the one global is named by a section before all others.
-fn names_before(alloc: Global) -> Result<bool, Fail> {
+fn names_before(alloc: Global) -> Result<bool, NoMemory> {
     let section = b"\0\x11\x0cblade.labels\x01\x01\x01\0";
-    match answer(alloc, section, OWN)? {
+    match &answer(alloc, section, OWN)? {
         Some(Ok(labels)) => Ok(labels.globals.as_slice() == [0].as_slice()),
         _ => Ok(false),
     }
@@ -102,8 +114,8 @@ fn a_section_may_stand_before_all_others(rt: HostRuntime) -> Result<(), Fail> {
 }
 
 /// Whether a section of another name gives no labels.
-fn names_nothing(alloc: Global) -> Result<bool, Fail> {
-    match answer(alloc, OWN, b"\0\x0d\x0cblade.label.")? {
+fn names_nothing(alloc: Global) -> Result<bool, NoMemory> {
+    match &answer(alloc, OWN, b"\0\x0d\x0cblade.label.")? {
         Some(Ok(labels)) => Ok(labels.params.len() == 0 && labels.memories.len() == 0),
         _ => Ok(false),
     }
@@ -116,7 +128,7 @@ fn without_a_section_nothing_is_named(rt: HostRuntime) -> Result<(), Fail> {
 }
 
 /// Whether version 1 takes a secret and no demand, and version 2 takes both.
-fn demands_are_new(alloc: Global) -> Result<bool, Fail> {
+fn demands_are_new(alloc: Global) -> Result<bool, NoMemory> {
     let secret = b"\0\x12\x0cblade.labels\x01\x01\0\0\0";
     let demand = b"\0\x15\x0cblade.labels\x01\x02\0\0\0\x03\0\0";
     let later = b"\0\x15\x0cblade.labels\x02\x02\0\0\0\x03\0\0";

@@ -2,9 +2,9 @@
 //! the others break one rule each.
 
 use crate::parts::linked;
-use bl_base::List;
+use bl_base::{List, NoMemory};
 use bl_link::LinkError;
-use bl_wasm::{Exports, Memory};
+use bl_wasm::{Exports, Memory, Tree};
 use std::alloc::Global;
 use std::test::Fail;
 
@@ -67,18 +67,20 @@ fn has_bytes(memories: &[Memory]) -> bool {
         && memory.reserve == 3
 }
 
+/// Whether that is what is linked of the three modules.
+fn is_wanted(tree: &Tree) -> bool {
+    has_exports(&tree.exports)
+        && has_slots(tree.tables.as_slice())
+        && has_bytes(tree.memories.as_slice())
+}
+
 /// Whether the three modules are linked so.
-fn are_linked(alloc: Global) -> Result<bool, Fail> {
+fn are_linked(alloc: Global) -> Result<bool, NoMemory> {
     let modules = [("a", FIRST), ("b", SECOND), ("c", THIRD)];
-    let Some(Ok(linked)) = linked(alloc, modules.as_slice())? else {
-        return Ok(false);
-    };
-    let tree = linked.tree();
-    Ok(
-        has_exports(&tree.exports)
-            && has_slots(tree.tables.as_slice())
-            && has_bytes(tree.memories.as_slice()),
-    )
+    match &linked(alloc, modules.as_slice())? {
+        Some(Ok(linked)) => Ok(is_wanted(linked.tree())),
+        _ => Ok(false),
+    }
 }
 
 #[test]
@@ -88,9 +90,13 @@ fn modules_are_linked(rt: HostRuntime) -> Result<(), Fail> {
 }
 
 /// Whether linking those modules has that fault.
-fn is_refused(alloc: Global, modules: [(&str, &[u8]); 2], wanted: LinkError) -> Result<bool, Fail> {
-    match linked(alloc, modules.as_slice())? {
-        Some(Err(error)) => Ok(error == wanted),
+fn is_refused(
+    alloc: Global,
+    modules: [(&str, &[u8]); 2],
+    wanted: LinkError,
+) -> Result<bool, NoMemory> {
+    match &linked(alloc, modules.as_slice())? {
+        Some(Err(error)) => Ok(*error == wanted),
         _ => Ok(false),
     }
 }
@@ -110,7 +116,7 @@ fn a_table_without_a_maximum_does_not_match_one(rt: HostRuntime) -> Result<(), F
 }
 
 /// Whether a byte beyond the memory counts where both element segments are in the table alone.
-fn elements_are_first(alloc: Global) -> Result<bool, Fail> {
+fn elements_are_first(alloc: Global) -> Result<bool, NoMemory> {
     Ok(
         is_refused(
             alloc,

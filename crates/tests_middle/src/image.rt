@@ -1,5 +1,6 @@
+use crate::seq::program_of;
 use bl_base::{NoMemory, Pos, SiteSet};
-use bl_cmd::weight;
+use bl_cmd::{WellFormed, weight};
 use bl_image::{ImageError, decode_image, encode};
 use std::alloc::Global;
 use std::test::Fail;
@@ -46,15 +47,20 @@ static DEMANDED: [u8; 41] = [
     0x02, 0x00, 0x00, 0x07, 0x00, 0x00, 0x00, 0x02, 0x08,
 ];
 
+/// The image of the program that the bytes are the image of.
+fn written_again(alloc: Global, image: &[u8]) -> Result<Vec<u8>, NoMemory> {
+    let program = program_of(alloc, image)?;
+    encode(alloc, &program)
+}
+
 /// Whether an image is read, and written as it was.
-fn is_read_again(alloc: Global, image: &[u8]) -> Result<bool, Fail> {
-    let program = decode_image(alloc, image)?;
-    let bytes = encode(alloc, &program)?;
+fn is_read_again(alloc: Global, image: &[u8]) -> Result<bool, NoMemory> {
+    let bytes = written_again(alloc, image)?;
     Ok(bytes.as_slice() == image)
 }
 
 /// How many of the images are read again before the first that isn't.
-fn read_again(alloc: Global) -> Result<u32, Fail> {
+fn read_again(alloc: Global) -> Result<u32, NoMemory> {
     let images: [&[u8]; 6] = [&EMPTY, &INC, &LOADS, &GROWTH, &VAULT, &DEMANDED];
     let mut passed = 0u32;
     for image in images {
@@ -143,7 +149,7 @@ static CHANGES: [Change; 7] = [
 ];
 
 /// Whether another entry of the function makes another image.
-fn is_another(alloc: Global) -> Result<bool, Fail> {
+fn is_another(alloc: Global) -> Result<bool, NoMemory> {
     let bytes = changed(alloc, &INC, 28, 0x08)?;
     is_read_again(alloc, &bytes)
 }
@@ -190,10 +196,15 @@ fn a_program_that_breaks_one_rule_is_told_it(rt: HostRuntime) -> Result<(), Fail
 // rule 4 at 8 stands before rule 7 at 11; of rules 6 and 7 at one position, the lower is told
 static SECOND_BREAKS: [Change; 2] = [(33, 0x08, Some((4, 8))), (52, 0x01, Some((6, 11)))];
 
+/// How many of them are answered so where the loads break another rule.
+fn second_broken(alloc: Global) -> Result<u32, NoMemory> {
+    let bytes = changed(alloc, &LOADS, 43, 0x05)?;
+    answered(alloc, &bytes, &SECOND_BREAKS)
+}
+
 #[test]
 fn of_two_broken_rules_the_first_is_told(rt: HostRuntime) -> Result<(), Fail> {
-    let bytes = changed(rt.alloc(), &LOADS, 43, 0x05)?;
-    assert_eq!(rt; answered(rt.alloc(), &bytes, &SECOND_BREAKS)?, 2);
+    assert_eq!(rt; second_broken(rt.alloc())?, 2);
     Ok(())
 }
 
@@ -218,12 +229,22 @@ fn three_sites(alloc: Global) -> Result<SiteSet, NoMemory> {
     Ok(protects)
 }
 
-/// Whether the sites weigh 100 for the mark and 5 as listed; at 10 stands no site.
-fn is_weighed(alloc: Global) -> Result<bool, Fail> {
-    let bytes = listed(alloc)?;
-    let program = decode_image(alloc, &bytes)?;
+/// What three sites of a program weigh.
+fn weight_of_three(alloc: Global, program: &WellFormed) -> Result<u64, NoMemory> {
     let protects = three_sites(alloc)?;
-    Ok(weight(&program, &protects) == 105)
+    Ok(weight(program, &protects))
+}
+
+/// The program of the loads with a listed weight.
+fn listed_program(alloc: Global) -> Result<WellFormed, NoMemory> {
+    let bytes = listed(alloc)?;
+    program_of(alloc, &bytes)
+}
+
+/// Whether the sites weigh 100 for the mark and 5 as listed; at 10 stands no site.
+fn is_weighed(alloc: Global) -> Result<bool, NoMemory> {
+    let program = listed_program(alloc)?;
+    Ok(weight_of_three(alloc, &program)? == 105)
 }
 
 #[test]
@@ -240,10 +261,15 @@ fn longer(alloc: Global) -> Result<Vec<u8>, NoMemory> {
     Ok(bytes)
 }
 
+/// Whether those bytes are no image.
+fn is_too_long(alloc: Global) -> Result<bool, NoMemory> {
+    let bytes = longer(alloc)?;
+    Ok(is_refused(alloc, &bytes, ImageError::NotAnImage))
+}
+
 #[test]
 fn a_longer_spelling_is_no_image(rt: HostRuntime) -> Result<(), Fail> {
-    let bytes = longer(rt.alloc())?;
-    assert!(rt; is_refused(rt.alloc(), &bytes, ImageError::NotAnImage));
+    assert!(rt; is_too_long(rt.alloc())?);
     Ok(())
 }
 

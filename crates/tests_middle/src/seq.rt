@@ -52,23 +52,51 @@ fn is_start(
     Ok(fits(kinds.as_slice(), pages.as_slice(), start))
 }
 
-/// The outcome of the first function of an image's program, from a start of one argument; None where the start doesn't fit.
-fn outcome(alloc: Global, image: &[u8], argument: u64, steps: u64) -> Result<Option<Run>, Fail> {
-    let program = decode_image(alloc, image)?;
-    let mut start = Start {
-        args: List::new(alloc),
+/// The program that the bytes are the image of; bytes that are none are answered like want of memory.
+pub(crate) fn program_of(alloc: Global, image: &[u8]) -> Result<WellFormed, NoMemory> {
+    match decode_image(alloc, image) {
+        Ok(program) => Ok(program),
+        Err(_) => Err(NoMemory),
+    }
+}
+
+/// The start of one argument.
+fn start_of(alloc: Global, argument: u64) -> Result<Start, NoMemory> {
+    let args = vec![in alloc; argument]?;
+    Ok(Start {
+        args: List::of(args),
         patches: List::new(alloc),
-    };
-    start.args.push(argument)?;
-    if !is_start(alloc, &program, 0, &start)? {
+    })
+}
+
+/// The outcome of the first function of a program within so many steps; None where the start doesn't fit.
+fn run_from(
+    alloc: Global,
+    program: &WellFormed,
+    start: &Start,
+    steps: u64,
+) -> Result<Option<Run>, NoMemory> {
+    if !is_start(alloc, program, 0, start)? {
         return Ok(None);
     }
-    Ok(Some(run(alloc, &program, 0, &start, steps)?))
+    Ok(Some(run(alloc, program, 0, start, steps)?))
+}
+
+/// The outcome of the first function of an image's program, from a start of one argument; None where the start doesn't fit.
+fn outcome(
+    alloc: Global,
+    image: &[u8],
+    argument: u64,
+    steps: u64,
+) -> Result<Option<Run>, NoMemory> {
+    let start = start_of(alloc, argument)?;
+    let program = program_of(alloc, image)?;
+    run_from(alloc, &program, &start, steps)
 }
 
 /// Whether the run of `INC` with the greatest argument returns 0 within six steps.
-fn returns(alloc: Global) -> Result<bool, Fail> {
-    match outcome(alloc, &INC, 4_294_967_295, 6)? {
+fn returns(alloc: Global) -> Result<bool, NoMemory> {
+    match &outcome(alloc, &INC, 4_294_967_295, 6)? {
         Some(Run::Returned { values, memories }) => {
             Ok(values.as_slice() == [0].as_slice() && memories.is_empty())
         }
@@ -77,12 +105,12 @@ fn returns(alloc: Global) -> Result<bool, Fail> {
 }
 
 /// Whether five steps are too few for it.
-fn is_spent(alloc: Global) -> Result<bool, Fail> {
+fn is_spent(alloc: Global) -> Result<bool, NoMemory> {
     Ok(matches!(&outcome(alloc, &INC, 4_294_967_295, 5)?, Some(Run::Spent)))
 }
 
 /// Whether an argument of 33 bits fits no start.
-fn is_unfit(alloc: Global) -> Result<bool, Fail> {
+fn is_unfit(alloc: Global) -> Result<bool, NoMemory> {
     Ok(outcome(alloc, &INC, 4_294_967_296, 5)?.is_none())
 }
 
@@ -103,10 +131,10 @@ fn is_one_page(memories: &[Pages]) -> bool {
 }
 
 /// Whether the second load of `LOADS` leaves its memory.
-fn leaves(alloc: Global) -> Result<bool, Fail> {
-    match outcome(alloc, &LOADS, 65_533, 100)? {
+fn leaves(alloc: Global) -> Result<bool, NoMemory> {
+    match &outcome(alloc, &LOADS, 65_533, 100)? {
         Some(Run::Trapped { kind, memories }) => {
-            Ok(kind == Trap::OutOfBounds && is_one_page(memories.as_slice()))
+            Ok(*kind == Trap::OutOfBounds && is_one_page(memories.as_slice()))
         }
         _ => Ok(false),
     }

@@ -1,46 +1,78 @@
 //! One module as a program of its own. The module's bytes were run by node v20.20.
-ghost use Rattle.std.specs.Prelude.{IfOk, IfSome};
+ghost use Rattle.std.specs.Prelude.{◌≤◌, length, Ok, IfOk, IfSome};
+ghost use Rattle.bl_decode.specs.Decoding.{Answers};
 ghost use Rattle.bl_link.specs.Linkable.{IsPart};
 
-use bl_base::{List, Text};
+use bl_base::{List, NoMemory, Text};
 use bl_decode::decode;
 use bl_labels::Labels;
 use bl_link::{Part, link};
-use bl_validate::validate;
-use bl_wasm::{BlockType, Exports, Function, Global as LinkedGlobal, Instr, Linked, Signature};
+use bl_validate::{ValidModule, validate};
+use bl_wasm::{
+    BlockType, Exports, Function, Global as LinkedGlobal, Instr, Linked, Signature, Tree,
+};
 use std::alloc::Global;
 use std::test::Fail;
 
-/// The part "m" whose module the bytes spell, without labels; None where they spell no valid one, or are more than 1,000.
+/// The valid module that the bytes spell; None where they spell none.
 #[tactic(auto, using(bl_wasm::proofs::LimitLemmas::few_functions))]
-fn part(alloc: Global, bytes: &[u8]) -> Result<Option<Part>, Fail>
+fn valid(alloc: Global, bytes: &[u8]) -> Option<ValidModule>
+    ensures { IfSome result (λ wasm. Answers bytes.now (Ok wasm)) }
+{
+    let Ok(tree) = decode(alloc, bytes) else {
+        return None;
+    };
+    let Ok(wasm) = validate(alloc, tree) else {
+        return None;
+    };
+    Some(wasm)
+}
+
+/// The part "m" of the valid module that few bytes spell, without labels.
+fn bare(alloc: Global, bytes: &[u8], wasm: ValidModule) -> Result<Part, NoMemory>
+    requires few { length bytes.now ≤ 1000 }
+    requires read { Answers bytes.now (Ok wasm) }
+    ensures { IfOk result IsPart }
+{
+    Ok(Part {
+        name: Text::copy_of(alloc, b"m")?,
+        wasm,
+        labels: Labels::none(alloc),
+    })
+}
+
+/// The part "m" whose module the bytes spell, without labels; None where they spell no valid one, or are more than 1,000.
+fn part(alloc: Global, bytes: &[u8]) -> Result<Option<Part>, NoMemory>
     ensures { IfOk result (λ part. IfSome part IsPart) }
 {
     if bytes.len() > 1_000 {
         return Ok(None);
     }
-    let Ok(tree) = decode(alloc, bytes) else {
-        return Ok(None);
-    };
-    let Ok(wasm) = validate(alloc, tree) else {
-        return Ok(None);
-    };
-    Ok(Some(Part {
-        name: Text::copy_of(alloc, b"m")?,
-        wasm,
-        labels: Labels::none(alloc),
-    }))
+    match valid(alloc, bytes) {
+        Some(wasm) => Ok(Some(bare(alloc, bytes, wasm)?)),
+        None => Ok(None),
+    }
+}
+
+/// What is linked of a part by itself; None where it is refused.
+#[tactic(auto, using(bl_link::proofs::SpelledParts::one_part))]
+fn linked_alone(alloc: Global, part: Part) -> Result<Option<Linked>, NoMemory>
+    requires { IsPart part }
+{
+    let mut parts = List::new(alloc);
+    parts.push(part)?;
+    match link(alloc, parts) {
+        Ok(tree) => Ok(Some(tree)),
+        Err(_) => Ok(None),
+    }
 }
 
 /// The module that the bytes spell, linked under the name "m"; None where there is none.
-#[tactic(auto, using(bl_link::proofs::SpelledParts::one_part))]
-pub fn linked(alloc: Global, bytes: &[u8]) -> Result<Option<Linked>, Fail> {
-    let Some(part) = part(alloc, bytes)? else {
-        return Ok(None);
-    };
-    let mut parts = List::new(alloc);
-    parts.push(part)?;
-    Ok(link(alloc, parts).ok())
+pub fn linked(alloc: Global, bytes: &[u8]) -> Result<Option<Linked>, NoMemory> {
+    match part(alloc, bytes)? {
+        Some(part) => linked_alone(alloc, part),
+        None => Ok(None),
+    }
 }
 
 /// The types [i32] -> [i32] and [] -> [i32 i64]; a global i32 that is 7 at first; an exported function "f" that sets it and calls
@@ -74,18 +106,20 @@ fn has_global(globals: &[LinkedGlobal]) -> bool {
         && globals.first().map(|global| global.demanded) == Some(false)
 }
 
+/// Whether that is what is linked of `MODULE`.
+fn is_wanted(tree: &Tree) -> bool {
+    has_export(&tree.exports)
+        && has_types(tree.types.as_slice())
+        && has_functions(tree.functions.as_slice())
+        && has_global(tree.globals.as_slice())
+}
+
 /// Whether `MODULE` is linked so.
-fn is_linked(alloc: Global) -> Result<bool, Fail> {
-    let Some(linked) = linked(alloc, MODULE)? else {
-        return Ok(false);
-    };
-    let tree = linked.tree();
-    Ok(
-        has_export(&tree.exports)
-            && has_types(tree.types.as_slice())
-            && has_functions(tree.functions.as_slice())
-            && has_global(tree.globals.as_slice()),
-    )
+fn is_linked(alloc: Global) -> Result<bool, NoMemory> {
+    match linked(alloc, MODULE)? {
+        Some(linked) => Ok(is_wanted(linked.tree())),
+        None => Ok(false),
+    }
 }
 
 #[test]

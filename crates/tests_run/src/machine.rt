@@ -47,13 +47,23 @@ pub fn run_linked(
     Ok(Some(interp(alloc, linked, number, start, steps)?))
 }
 
-/// The outcome of function 0 of a module within so many steps; None where the module can't be linked or the arguments don't fit.
-fn run(alloc: Global, wasm: &[u8], args: &[u64], steps: u64) -> Result<Option<Run>, Fail> {
-    let Some(linked) = linked(alloc, wasm)? else {
-        return Ok(None);
-    };
+/// The outcome of function 0 of a tree within so many steps; None where the arguments don't fit.
+fn run_tree(
+    alloc: Global,
+    linked: &Linked,
+    args: &[u64],
+    steps: u64,
+) -> Result<Option<Run>, NoMemory> {
     let start = start_of(alloc, args)?;
-    Ok(run_linked(alloc, &linked, 0, &start, steps)?)
+    run_linked(alloc, linked, 0, &start, steps)
+}
+
+/// The outcome of function 0 of a module within so many steps; None where the module can't be linked or the arguments don't fit.
+fn run(alloc: Global, wasm: &[u8], args: &[u64], steps: u64) -> Result<Option<Run>, NoMemory> {
+    match linked(alloc, wasm)? {
+        Some(linked) => run_tree(alloc, &linked, args, steps),
+        None => Ok(None),
+    }
 }
 
 /// Whether the function returns these values within so many steps.
@@ -63,7 +73,7 @@ fn returns_in(
     args: &[u64],
     steps: u64,
     wanted: &[u64],
-) -> Result<bool, Fail> {
+) -> Result<bool, NoMemory> {
     match run(alloc, wasm, args, steps)? {
         Some(Run::Returned { values, .. }) => Ok(values.as_slice() == wanted),
         _ => Ok(false),
@@ -77,14 +87,14 @@ fn traps_in(
     args: &[u64],
     steps: u64,
     wanted: Trap,
-) -> Result<bool, Fail> {
+) -> Result<bool, NoMemory> {
     match run(alloc, wasm, args, steps)? {
         Some(Run::Trapped { kind, .. }) => Ok(kind == wanted),
         _ => Ok(false),
     }
 }
 
-fn is_spent(alloc: Global, wasm: &[u8], args: &[u64], steps: u64) -> Result<bool, Fail> {
+fn is_spent(alloc: Global, wasm: &[u8], args: &[u64], steps: u64) -> Result<bool, NoMemory> {
     Ok(matches!(run(alloc, wasm, args, steps)?, Some(Run::Spent)))
 }
 
@@ -102,7 +112,7 @@ enum End {
 type Case = (&'static [u8], &'static [u64], u64, End);
 
 /// Whether the run ends so.
-fn ends(alloc: Global, wasm: &[u8], args: &[u64], steps: u64, end: &End) -> Result<bool, Fail> {
+fn ends(alloc: Global, wasm: &[u8], args: &[u64], steps: u64, end: &End) -> Result<bool, NoMemory> {
     match end {
         End::Returned(values) => returns_in(alloc, wasm, args, steps, *values),
         End::Trapped(kind) => traps_in(alloc, wasm, args, steps, *kind),
@@ -111,7 +121,7 @@ fn ends(alloc: Global, wasm: &[u8], args: &[u64], steps: u64, end: &End) -> Resu
 }
 
 /// How many runs end as they have to before the first that doesn't.
-fn passing(alloc: Global, cases: &[Case]) -> Result<u32, Fail> {
+fn passing(alloc: Global, cases: &[Case]) -> Result<u32, NoMemory> {
     let mut passed = 0u32;
     for (wasm, args, steps, end) in cases {
         if !ends(alloc, *wasm, *args, *steps, end)? {

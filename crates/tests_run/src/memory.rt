@@ -1,5 +1,5 @@
 //! Runs over one memory. Results and bytes are those that node v20.20's WebAssembly gives for the same items.
-ghost use Rattle.std.specs.Prelude.{◌≡◌, ◌<◌, ◌≤◌, ◌^◌, IfOk, IfSome};
+ghost use Rattle.std.specs.Prelude.{◌≡◌, [], ◌∷◌, ◌<◌, ◌≤◌, ◌^◌, IfOk, IfSome};
 ghost use Rattle.tests_run.specs.MemoryTrees.{accessing_function, accessing_type, growing_function, growing_type, memory_tree, zeros};
 
 use crate::machine::run_linked;
@@ -116,21 +116,46 @@ fn memory(alloc: Global, pages: u32, reserve: u32) -> Result<Memory, NoMemory>
     })
 }
 
+/// The types of both functions.
+fn types(alloc: Global, setting: &Setting) -> Result<List<Signature>, NoMemory>
+    ensures { IfOk result (λ types. types ≡ accessing_type setting.now.store setting.now.load ∷ growing_type ∷ []) }
+{
+    let mut types = List::new(alloc);
+    types.push(accessing_signature(alloc, setting)?)?;
+    types.push(growing_signature(alloc)?)?;
+    Ok(types)
+}
+
+/// Both functions.
+fn functions(alloc: Global, setting: &Setting) -> Result<List<Function>, NoMemory>
+    ensures { IfOk result (λ functions. functions
+        ≡ accessing_function setting.now.store setting.now.load setting.now.offset ∷ growing_function ∷ []) }
+{
+    let mut functions = List::new(alloc);
+    functions.push(accessing(alloc, setting)?)?;
+    functions.push(growing(alloc)?)?;
+    Ok(functions)
+}
+
+/// The only memory.
+fn memories(alloc: Global, setting: &Setting) -> Result<List<Memory>, NoMemory>
+    requires { setting.now.pages ≤ 256 }
+    ensures { IfOk result (λ memories. memories ≡ zeros setting.now.pages setting.now.reserve ∷ []) }
+{
+    let mut memories = List::new(alloc);
+    memories.push(memory(alloc, setting.pages, setting.reserve)?)?;
+    Ok(memories)
+}
+
 fn tree_of(alloc: Global, setting: &Setting) -> Result<Tree, NoMemory>
     requires { setting.now.pages ≤ 256 }
     ensures { IfOk result (λ tree. tree ≡ memory_tree setting.now.store setting.now.load setting.now.offset setting.now.pages setting.now.reserve) }
 {
-    let types = vec![in alloc;
-        accessing_signature(alloc, setting)?,
-        growing_signature(alloc)?,
-    ]?;
-    let functions = vec![in alloc; accessing(alloc, setting)?, growing(alloc)?]?;
-    let memories = vec![in alloc; memory(alloc, setting.pages, setting.reserve)?]?;
     Ok(Tree {
-        types: List::of(types),
-        functions: List::of(functions),
+        types: types(alloc, setting)?,
+        functions: functions(alloc, setting)?,
         globals: List::new(alloc),
-        memories: List::of(memories),
+        memories: memories(alloc, setting)?,
         tables: List::new(alloc),
         exports: Exports::new(alloc),
     })
@@ -248,6 +273,22 @@ fn gives(
     ends_with(alloc, setting, &start, wanted, from as usize, bytes)
 }
 
+/// The start with these arguments alone.
+fn start_with(alloc: Global, args: &[u64]) -> Result<Start, NoMemory> {
+    start_of(alloc, args, List::new(alloc))
+}
+
+/// The outcome of a function of a setting's tree with these arguments, within ten steps; None where they don't fit.
+fn run_with(
+    alloc: Global,
+    setting: &Setting,
+    number: u32,
+    args: &[u64],
+) -> Result<Option<Run>, NoMemory> {
+    let start = start_with(alloc, args)?;
+    run(alloc, setting, number, &start)
+}
+
 /// Whether storing and loading at an address traps, with these bytes from a place on.
 fn is_outside(
     alloc: Global,
@@ -256,12 +297,22 @@ fn is_outside(
     from: usize,
     bytes: &[u8],
 ) -> Result<bool, NoMemory> {
-    let start = start_of(alloc, &args, List::new(alloc))?;
-    match run(alloc, setting, 0, &start)? {
+    match run_with(alloc, setting, 0, args.as_slice())? {
         Some(Run::Trapped { kind, memories }) => Ok(
             kind == Trap::OutOfBounds && are_told(memories.as_slice(), setting.pages, from, bytes),
         ),
         _ => Ok(false),
+    }
+}
+
+/// The setting of a memory of so many pages, which may grow to a reserve.
+fn growable(pages: u32, reserve: u32) -> Setting {
+    Setting {
+        store: AccessKind::I32Store,
+        load: AccessKind::I32Load,
+        offset: 0,
+        pages,
+        reserve,
     }
 }
 
@@ -274,15 +325,8 @@ fn grows(
     wanted: u64,
 ) -> Result<bool, NoMemory> {
     let [pages, behind] = sizes;
-    let setting = Setting {
-        store: AccessKind::I32Store,
-        load: AccessKind::I32Load,
-        offset: 0,
-        pages,
-        reserve,
-    };
-    let start = start_of(alloc, &[delta], List::new(alloc))?;
-    match run(alloc, &setting, 1, &start)? {
+    let setting = growable(pages, reserve);
+    match run_with(alloc, &setting, 1, [delta].as_slice())? {
         Some(Run::Returned { values, memories }) => Ok(
             values.as_slice() == [wanted, u64::from(behind)].as_slice()
                 && are_told(memories.as_slice(), behind, 0, &[]),

@@ -1,7 +1,9 @@
 //! Runs that call through a table. Results are those that node v20.20's WebAssembly gives for the same items, and it traps in the same
 //! rows; which trap it is follows section 4.4.5 of WebAssembly 1.0, since node has one text for an empty slot and another type.
-ghost use Rattle.std.specs.Prelude.{◌≡◌, IfOk};
-ghost use Rattle.tests_run.specs.TableTrees.{giving, over_table, table_tree};
+ghost use Rattle.std.specs.Prelude.{◌≡◌, [], ◌∷◌, IfOk, OnOk};
+ghost use Rattle.tests_run.specs.TableTrees.{calling, giving, giving_nine, over_table, table_tree};
+ghost use Rattle.bl_base.specs.declared.names.Label.TheVariants.{Public};
+ghost use Rattle.bl_base.specs.declared.names.ValueType.TheVariants.{I32};
 
 use crate::machine::run_linked;
 use bl_base::{Label, List, NoMemory, Run, Start, Trap, ValueType};
@@ -20,19 +22,39 @@ fn signature(alloc: Global, params: List<ValueType>) -> Result<Signature, NoMemo
     })
 }
 
+/// The type with one i32, and one i32.
+fn of_one(alloc: Global) -> Result<Signature, NoMemory>
+    ensures { IfOk result (λ kind. kind ≡ giving (I32 ∷ [])) }
+{
+    let params = vec![in alloc; ValueType::I32]?;
+    signature(alloc, List::of(params))
+}
+
+/// The type with two i32, and one i32.
+fn of_two(alloc: Global) -> Result<Signature, NoMemory>
+    ensures { IfOk result (λ kind. kind ≡ giving (I32 ∷ I32 ∷ [])) }
+{
+    let params = vec![in alloc; ValueType::I32, ValueType::I32]?;
+    signature(alloc, List::of(params))
+}
+
+/// The types are written into an empty list: one of two parameters, two equal ones of one, and one of none.
+fn add_types(alloc: Global, types: &mut List<Signature>) -> Result<(), NoMemory>
+    requires { types.old ≡ [] }
+    ensures { OnOk result (types.new ≡ table_tree.types) }
+{
+    types.push(of_two(alloc)?)?;
+    types.push(of_one(alloc)?)?;
+    types.push(of_one(alloc)?)?;
+    types.push(signature(alloc, List::new(alloc))?)
+}
+
 fn types(alloc: Global) -> Result<List<Signature>, NoMemory>
     ensures { IfOk result (λ types. types ≡ table_tree.types) }
 {
-    let two = vec![in alloc; ValueType::I32, ValueType::I32]?;
-    let one = vec![in alloc; ValueType::I32]?;
-    let same = vec![in alloc; ValueType::I32]?;
-    let types = vec![in alloc;
-        signature(alloc, List::of(two))?,
-        signature(alloc, List::of(one))?,
-        signature(alloc, List::of(same))?,
-        signature(alloc, List::new(alloc))?,
-    ]?;
-    Ok(List::of(types))
+    let mut types = List::new(alloc);
+    add_types(alloc, &mut types)?;
+    Ok(types)
 }
 
 /// A function of that type, over table 0.
@@ -58,43 +80,74 @@ fn function(
     })
 }
 
-/// One that calls what is in the slot of its first argument with the second one at type 1; then one of type 1, which gives back its
-/// argument; one of type 2, which is equal to it, that gives 7; and one of another type.
-fn functions(alloc: Global) -> Result<List<Function>, NoMemory>
-    ensures { IfOk result (λ functions. functions ≡ table_tree.functions) }
+/// Calls what is in the slot of its first argument, with the second one, at type 1.
+fn calling_slot(alloc: Global) -> Result<Function, NoMemory>
+    ensures { IfOk result (λ function. function ≡ calling) }
 {
-    let two = vec![in alloc; Label::Public, Label::Public]?;
-    let one = vec![in alloc; Label::Public]?;
-    let same = vec![in alloc; Label::Public]?;
-    let calling = vec![in alloc;
+    let labels = vec![in alloc; Label::Public, Label::Public]?;
+    let items = vec![in alloc;
         Instr::LocalGet(1),
         Instr::LocalGet(0),
         Instr::CallIndirect(1),
     ]?;
-    let giving_back = vec![in alloc; Instr::LocalGet(0)]?;
-    let giving_seven = vec![in alloc; Instr::I32Const(7)]?;
-    let giving_nine = vec![in alloc; Instr::I32Const(9)]?;
-    let functions = vec![in alloc;
-        function(alloc, 0, List::of(two), List::of(calling))?,
-        function(alloc, 1, List::of(one), List::of(giving_back))?,
-        function(alloc, 2, List::of(same), List::of(giving_seven))?,
-        function(alloc, 3, List::new(alloc), List::of(giving_nine))?,
-    ]?;
-    Ok(List::of(functions))
+    function(alloc, 0, List::of(labels), List::of(items))
 }
 
-/// The tree: its table has the functions 1 and 2, an empty slot, and function 3.
-fn tree_of(alloc: Global) -> Result<Tree, NoMemory>
-    ensures { IfOk result (λ tree. tree ≡ table_tree) }
+/// The function of one parameter, of that type, that has one item.
+fn of_one_item(alloc: Global, type_index: u32, item: Instr) -> Result<Function, NoMemory>
+    ensures { IfOk result (λ function. function ≡ over_table type_index (Public ∷ []) (item ∷ [])) }
+{
+    let labels = vec![in alloc; Label::Public]?;
+    let items = vec![in alloc; item]?;
+    function(alloc, type_index, List::of(labels), List::of(items))
+}
+
+/// Gives 9 without a parameter.
+fn giving_9(alloc: Global) -> Result<Function, NoMemory>
+    ensures { IfOk result (λ function. function ≡ giving_nine) }
+{
+    let items = vec![in alloc; Instr::I32Const(9)]?;
+    function(alloc, 3, List::new(alloc), List::of(items))
+}
+
+/// The functions are written into an empty list: one that calls what is in the slot of its first argument; then one of type 1, which
+/// gives back its argument; one of type 2, which is equal to it, that gives 7; and one of another type.
+fn add_functions(alloc: Global, functions: &mut List<Function>) -> Result<(), NoMemory>
+    requires { functions.old ≡ [] }
+    ensures { OnOk result (functions.new ≡ table_tree.functions) }
+{
+    functions.push(calling_slot(alloc)?)?;
+    functions.push(of_one_item(alloc, 1, Instr::LocalGet(0))?)?;
+    functions.push(of_one_item(alloc, 2, Instr::I32Const(7))?)?;
+    functions.push(giving_9(alloc)?)
+}
+
+fn functions(alloc: Global) -> Result<List<Function>, NoMemory>
+    ensures { IfOk result (λ functions. functions ≡ table_tree.functions) }
+{
+    let mut functions = List::new(alloc);
+    add_functions(alloc, &mut functions)?;
+    Ok(functions)
+}
+
+/// The table has the functions 1 and 2, an empty slot, and function 3.
+fn tables(alloc: Global) -> Result<List<List<Option<u32>>>, NoMemory>
+    ensures { IfOk result (λ tables. tables ≡ table_tree.tables) }
 {
     let slots = vec![in alloc; Some(1), Some(2), None, Some(3)]?;
     let tables = vec![in alloc; List::of(slots)]?;
+    Ok(List::of(tables))
+}
+
+fn tree_of(alloc: Global) -> Result<Tree, NoMemory>
+    ensures { IfOk result (λ tree. tree ≡ table_tree) }
+{
     Ok(Tree {
         types: types(alloc)?,
         functions: functions(alloc)?,
         globals: List::new(alloc),
         memories: List::new(alloc),
-        tables: List::of(tables),
+        tables: tables(alloc)?,
         exports: Exports::new(alloc),
     })
 }
@@ -104,15 +157,19 @@ fn linked(alloc: Global) -> Result<Linked, NoMemory> {
     Ok(Linked::of(tree))
 }
 
-/// The outcome of function 0 at the slot of that number with the argument 10, within ten steps.
-fn through(alloc: Global, slot: u64) -> Result<Option<Run>, NoMemory> {
-    let tree = linked(alloc)?;
+/// The arguments of a call through the slot of that number: the slot and 10.
+fn start_at(alloc: Global, slot: u64) -> Result<Start, NoMemory> {
     let args = vec![in alloc; slot, 10]?;
-    let start = Start {
+    Ok(Start {
         args: List::of(args),
         patches: List::new(alloc),
-    };
-    run_linked(alloc, &tree, 0, &start, 10)
+    })
+}
+
+/// The outcome of function 0 at the slot of that number with the argument 10, within ten steps.
+fn through(alloc: Global, slot: u64) -> Result<Option<Run>, NoMemory> {
+    let start = start_at(alloc, slot)?;
+    run_linked(alloc, &linked(alloc)?, 0, &start, 10)
 }
 
 /// Whether the call through that slot gives this value.

@@ -12,7 +12,7 @@ ghost use Rattle.bl_wasm.specs.Validity.{functions_of};
 
 use super::validate_bodies::{BODIES, SEVERAL};
 use super::validate_modules::{CODE, SEGMENTS, STORES, TYPES};
-use bl_base::{List, Text};
+use bl_base::{List, NoMemory, Text};
 use bl_ops::{AccessKind, by_code};
 use bl_validate::{Invalid, validate};
 use bl_wasm::WasmType::{self, F32, F64, I32, I64};
@@ -81,7 +81,7 @@ pub(crate) type Case = (&'static [Change], Option<Invalid>);
 
 /// A module with one function: it takes an i32, has a local of i64 and gives an i32. Function 0 and global 0, an immutable
 /// i32, are imported; global 1 is a mutable i64; there is a table and a memory.
-const AROUND: Parts = Parts {
+static AROUND: Parts = Parts {
     types: &[
         (&[], &[]),
         (&[I32], &[I32]),
@@ -105,7 +105,7 @@ const AROUND: Parts = Parts {
 };
 
 /// The list of a few values.
-fn list<T: Copy + Drop>(alloc: Global, values: &[T]) -> Result<List<T>, Fail> {
+fn list<T: Copy + Drop>(alloc: Global, values: &[T]) -> Result<List<T>, NoMemory> {
     Ok(List::of(values.to_vec(alloc)?))
 }
 
@@ -122,7 +122,7 @@ fn block_type(byte: u8) -> BlockType {
 }
 
 /// The item of a code, whose immediates are the bytes that follow, one byte each.
-fn item(alloc: Global, code: u8, rest: &[u8]) -> Result<Instr, Fail> {
+fn item(alloc: Global, code: u8, rest: &[u8]) -> Result<Instr, NoMemory> {
     let first = rest.first().map_or(0, |byte| *byte);
     let x = u32::from(first);
     Ok(match code {
@@ -156,7 +156,7 @@ fn item(alloc: Global, code: u8, rest: &[u8]) -> Result<Instr, Fail> {
 }
 
 /// A `br_table`.
-fn table(alloc: Global, rest: &[u8]) -> Result<Instr, Fail> {
+fn table(alloc: Global, rest: &[u8]) -> Result<Instr, NoMemory> {
     let (labels, default) = match rest {
         [0, default, ..] => (List::new(alloc), *default),
         [1, label, default, ..] => (list(alloc, &[u32::from(*label)])?, *default),
@@ -202,7 +202,7 @@ fn immediates(code: u8, rest: &[u8]) -> usize {
 }
 
 /// The items of a body.
-fn items(alloc: Global, body: &[u8]) -> Result<List<Instr>, Fail> {
+fn items(alloc: Global, body: &[u8]) -> Result<List<Instr>, NoMemory> {
     let mut items = List::new(alloc);
     let mut skipped = 0;
     for (at, code) in body.iter().enumerate() {
@@ -222,7 +222,7 @@ fn function_type(
     alloc: Global,
     params: &[WasmType],
     results: &[WasmType],
-) -> Result<FuncType, Fail> {
+) -> Result<FuncType, NoMemory> {
     Ok(FuncType {
         params: list(alloc, params)?,
         results: list(alloc, results)?,
@@ -230,7 +230,7 @@ fn function_type(
 }
 
 /// Limits.
-fn limits(parts: &[(u32, Option<u32>)], list: &mut List<Limits>) -> Result<(), Fail> {
+fn limits(parts: &[(u32, Option<u32>)], list: &mut List<Limits>) -> Result<(), NoMemory> {
     for (min, max) in parts {
         list.push(Limits {
             min: *min,
@@ -240,17 +240,22 @@ fn limits(parts: &[(u32, Option<u32>)], list: &mut List<Limits>) -> Result<(), F
     Ok(())
 }
 
+/// An import of that kind.
+fn import(alloc: Global, kind: ImportKind) -> Result<Import, NoMemory> {
+    Ok(Import {
+        from: Text::copy_of(alloc, b"m")?,
+        name: Text::copy_of(alloc, b"x")?,
+        kind,
+    })
+}
+
 /// The types, imports and functions.
-fn put_functions(alloc: Global, parts: &Parts, tree: &mut Module) -> Result<(), Fail> {
+fn put_functions(alloc: Global, parts: &Parts, tree: &mut Module) -> Result<(), NoMemory> {
     for (params, results) in parts.types {
         tree.types.push(function_type(alloc, params, results)?)?;
     }
     for kind in parts.imports {
-        tree.imports.push(Import {
-            from: Text::copy_of(alloc, b"m")?,
-            name: Text::copy_of(alloc, b"x")?,
-            kind: *kind,
-        })?;
+        tree.imports.push(import(alloc, *kind)?)?;
     }
     for index in parts.functions {
         tree.functions.push(*index)?;
@@ -259,7 +264,7 @@ fn put_functions(alloc: Global, parts: &Parts, tree: &mut Module) -> Result<(), 
 }
 
 /// Locals.
-fn local_runs(alloc: Global, parts: &[(u32, WasmType)]) -> Result<List<LocalRun>, Fail> {
+fn local_runs(alloc: Global, parts: &[(u32, WasmType)]) -> Result<List<LocalRun>, NoMemory> {
     let mut locals = List::new(alloc);
     for (count, kind) in parts {
         locals.push(LocalRun {
@@ -276,7 +281,7 @@ fn put_bodies(
     locals: &[(u32, WasmType)],
     bodies: &[&[u8]],
     tree: &mut Module,
-) -> Result<(), Fail> {
+) -> Result<(), NoMemory> {
     for body in bodies {
         tree.bodies.push(Code {
             locals: local_runs(alloc, locals)?,
@@ -287,7 +292,7 @@ fn put_bodies(
 }
 
 /// The globals and exports.
-fn put_globals(alloc: Global, parts: &Parts, tree: &mut Module) -> Result<(), Fail> {
+fn put_globals(alloc: Global, parts: &Parts, tree: &mut Module) -> Result<(), NoMemory> {
     for (kind, mutable, value) in parts.globals {
         tree.globals.push(DefinedGlobal {
             kind: GlobalType {
@@ -308,7 +313,7 @@ fn put_globals(alloc: Global, parts: &Parts, tree: &mut Module) -> Result<(), Fa
 }
 
 /// The segments.
-fn put_segments(alloc: Global, parts: &Parts, tree: &mut Module) -> Result<(), Fail> {
+fn put_segments(alloc: Global, parts: &Parts, tree: &mut Module) -> Result<(), NoMemory> {
     for (table, offset, functions) in parts.elements {
         tree.elements.push(ElementSegment {
             table: *table,
@@ -344,49 +349,51 @@ fn empty(alloc: Global, start: Option<u32>) -> Module {
     }
 }
 
-/// Puts the parts into a module.
-fn put(alloc: Global, parts: &Parts, tree: &mut Module) -> Result<(), Fail> {
+/// Puts the parts with those bodies into a module.
+fn put(alloc: Global, parts: &Parts, bodies: &[&[u8]], tree: &mut Module) -> Result<(), NoMemory> {
     put_functions(alloc, parts, tree)?;
     limits(parts.tables, &mut tree.tables)?;
     limits(parts.memories, &mut tree.memories)?;
     put_globals(alloc, parts, tree)?;
-    put_segments(alloc, parts, tree)
+    put_segments(alloc, parts, tree)?;
+    put_bodies(alloc, parts.locals, bodies, tree)
 }
 
 /// The module of the parts with those bodies.
-fn module_of(alloc: Global, parts: &Parts, bodies: &[&[u8]]) -> Result<Module, Fail> {
+fn module_of(alloc: Global, parts: &Parts, bodies: &[&[u8]]) -> Result<Module, NoMemory> {
     let mut tree = empty(alloc, parts.start);
-    put(alloc, parts, &mut tree)?;
-    put_bodies(alloc, parts.locals, bodies, &mut tree)?;
+    put(alloc, parts, bodies, &mut tree)?;
     Ok(tree)
 }
 
-/// The parts with one part changed.
-fn with_change(parts: Parts, change: Change) -> Parts {
+/// Puts a part in its place.
+fn put_change(change: Change, parts: &mut Parts) {
     match change {
-        Change::Types(types) => Parts { types, ..parts },
-        Change::Imports(imports) => Parts { imports, ..parts },
-        Change::Functions(functions) => Parts { functions, ..parts },
-        Change::Tables(tables) => Parts { tables, ..parts },
-        Change::Memories(memories) => Parts { memories, ..parts },
-        Change::Globals(globals) => Parts { globals, ..parts },
-        Change::Exports(exports) => Parts { exports, ..parts },
-        Change::Start(start) => Parts {
-            start: Some(start),
-            ..parts
-        },
-        Change::Elements(elements) => Parts { elements, ..parts },
-        Change::Segments(segments) => Parts { segments, ..parts },
-        Change::Locals(locals) => Parts { locals, ..parts },
-        Change::Bodies(bodies) => Parts { bodies, ..parts },
+        Change::Types(types) => parts.types = types,
+        Change::Imports(imports) => parts.imports = imports,
+        Change::Functions(functions) => parts.functions = functions,
+        Change::Tables(tables) => parts.tables = tables,
+        Change::Memories(memories) => parts.memories = memories,
+        Change::Globals(globals) => parts.globals = globals,
+        Change::Exports(exports) => parts.exports = exports,
+        Change::Start(start) => parts.start = Some(start),
+        Change::Elements(elements) => parts.elements = elements,
+        Change::Segments(segments) => parts.segments = segments,
+        Change::Locals(locals) => parts.locals = locals,
+        Change::Bodies(bodies) => parts.bodies = bodies,
     }
+}
+
+/// The parts of `AROUND`.
+fn around() -> Parts {
+    AROUND
 }
 
 /// The parts of a case.
 fn changed(changes: &[Change]) -> Parts {
-    let mut parts = AROUND;
+    let mut parts = around();
     for part in changes {
-        parts = with_change(parts, *part);
+        put_change(*part, &mut parts);
     }
     parts
 }
@@ -399,30 +406,38 @@ fn is_small(tree: &Module) -> bool
     tree.imports.len() < 100 && tree.functions.len() < 100
 }
 
+/// Why a module of few functions isn't valid; None where it is.
+fn judged(alloc: Global, tree: Module) -> Option<Invalid>
+    requires { length (functions_of tree) < 2 ^ 32 }
+{
+    match &validate(alloc, tree) {
+        Ok(_) => None,
+        Err((_, reason)) => Some(*reason),
+    }
+}
+
 /// Why the module of the parts with those bodies isn't valid; None where it is.
-fn verdict(alloc: Global, parts: &Parts, bodies: &[&[u8]]) -> Result<Option<Invalid>, Fail> {
+fn verdict(alloc: Global, parts: &Parts, bodies: &[&[u8]]) -> Result<Option<Invalid>, NoMemory> {
     let tree = module_of(alloc, parts, bodies)?;
     if !is_small(&tree) {
         return Ok(Some(Invalid::Memory));
     }
-    match validate(alloc, tree) {
-        Ok(_) => Ok(None),
-        Err((_, reason)) => Ok(Some(reason)),
-    }
+    Ok(judged(alloc, tree))
 }
 
 /// The first of the bodies that is judged otherwise, and how.
 fn first_wrong_body(
     alloc: Global,
+    parts: &Parts,
     cases: &[(&[u8], bool)],
-) -> Result<Option<(usize, Option<Invalid>)>, Fail> {
+) -> Result<Option<(usize, Option<Invalid>)>, NoMemory> {
     for (at, (body, valid)) in cases.iter().enumerate() {
         let wanted = if *valid {
             None
         } else {
             Some(Invalid::Function(1))
         };
-        let found = verdict(alloc, &AROUND, &[*body])?;
+        let found = verdict(alloc, parts, &[*body])?;
         if found != wanted {
             return Ok(Some((at, found)));
         }
@@ -430,20 +445,33 @@ fn first_wrong_body(
     Ok(None)
 }
 
+/// The bodies with blocks of at most one type.
+fn bodies() -> &'static [(&'static [u8], bool)] {
+    &BODIES
+}
+
+/// The bodies with blocks of several types.
+fn several() -> &'static [(&'static [u8], bool)] {
+    &SEVERAL
+}
+
 #[test]
 fn bodies_are_judged_as_elsewhere(rt: HostRuntime) -> Result<(), Fail> {
-    assert_eq!(rt; first_wrong_body(rt.alloc(), &BODIES)?, None);
+    assert_eq!(rt; first_wrong_body(rt.alloc(), &around(), bodies())?, None);
     Ok(())
 }
 
 #[test]
 fn blocks_of_several_types_are_judged_as_elsewhere(rt: HostRuntime) -> Result<(), Fail> {
-    assert_eq!(rt; first_wrong_body(rt.alloc(), &SEVERAL)?, None);
+    assert_eq!(rt; first_wrong_body(rt.alloc(), &around(), several())?, None);
     Ok(())
 }
 
 /// The first of the cases that is judged otherwise, and how.
-fn first_wrong(alloc: Global, cases: &[Case]) -> Result<Option<(usize, Option<Invalid>)>, Fail> {
+fn first_wrong(
+    alloc: Global,
+    cases: &[Case],
+) -> Result<Option<(usize, Option<Invalid>)>, NoMemory> {
     for (at, (changes, wanted)) in cases.iter().enumerate() {
         let parts = changed(changes);
         let found = verdict(alloc, &parts, parts.bodies)?;
@@ -454,46 +482,83 @@ fn first_wrong(alloc: Global, cases: &[Case]) -> Result<Option<(usize, Option<In
     Ok(None)
 }
 
+/// Cases of types, and of imports and exports.
+fn types() -> &'static [Case] {
+    &TYPES
+}
+
+/// Cases of functions and their code.
+fn code() -> &'static [Case] {
+    &CODE
+}
+
+/// Cases of tables, memories and globals.
+fn stores() -> &'static [Case] {
+    &STORES
+}
+
+/// Cases of segments.
+fn segments() -> &'static [Case] {
+    &SEGMENTS
+}
+
 #[test]
 fn types_are_judged_as_elsewhere(rt: HostRuntime) -> Result<(), Fail> {
-    assert_eq!(rt; first_wrong(rt.alloc(), &TYPES)?, None);
+    assert_eq!(rt; first_wrong(rt.alloc(), types())?, None);
     Ok(())
 }
 
 #[test]
 fn code_is_judged_as_elsewhere(rt: HostRuntime) -> Result<(), Fail> {
-    assert_eq!(rt; first_wrong(rt.alloc(), &CODE)?, None);
+    assert_eq!(rt; first_wrong(rt.alloc(), code())?, None);
     Ok(())
 }
 
 #[test]
 fn stores_are_judged_as_elsewhere(rt: HostRuntime) -> Result<(), Fail> {
-    assert_eq!(rt; first_wrong(rt.alloc(), &STORES)?, None);
+    assert_eq!(rt; first_wrong(rt.alloc(), stores())?, None);
     Ok(())
 }
 
 #[test]
 fn segments_are_judged_as_elsewhere(rt: HostRuntime) -> Result<(), Fail> {
-    assert_eq!(rt; first_wrong(rt.alloc(), &SEGMENTS)?, None);
+    assert_eq!(rt; first_wrong(rt.alloc(), segments())?, None);
     Ok(())
+}
+
+/// Two memories, the second one of at most three pages.
+static TWO_MEMORIES: [Change; 1] = [Change::Memories(&[(1, None), (2, Some(3))])];
+
+/// Whether the module is one of those two memories.
+fn has_second_memory(tree: &Module) -> bool {
+    matches!(
+        tree.memories.as_slice().get(1),
+        Some(Limits { max: Some(3), .. })
+    )
+}
+
+/// Whether a module of few functions is refused for a rule, and comes back as one of those two memories.
+fn comes_back(alloc: Global, tree: Module) -> bool
+    requires { length (functions_of tree) < 2 ^ 32 }
+{
+    match &validate(alloc, tree) {
+        Ok(_) => false,
+        Err((tree, reason)) => *reason == Invalid::Module && has_second_memory(tree),
+    }
+}
+
+/// Whether the module of two memories is refused and comes back.
+fn two_memories_come_back(alloc: Global) -> Result<bool, NoMemory> {
+    let parts = changed(&TWO_MEMORIES);
+    let tree = module_of(alloc, &parts, parts.bodies)?;
+    if !is_small(&tree) {
+        return Ok(false);
+    }
+    Ok(comes_back(alloc, tree))
 }
 
 #[test]
 fn a_refused_module_comes_back(rt: HostRuntime) -> Result<(), Fail> {
-    let alloc = rt.alloc();
-    let parts = Parts {
-        memories: &[(1, None), (2, Some(3))],
-        ..AROUND
-    };
-    let tree = module_of(alloc, &parts, parts.bodies)?;
-    assert!(rt; is_small(&tree));
-    let Err((tree, reason)) = validate(alloc, tree) else {
-        return Ok(());
-    };
-    assert_eq!(rt; reason, Invalid::Module);
-    assert_eq!(rt;
-        tree.memories.as_slice().get(1).map(|limits| limits.max),
-        Some(Some(3))
-    );
+    assert!(rt; two_memories_come_back(rt.alloc())?);
     Ok(())
 }

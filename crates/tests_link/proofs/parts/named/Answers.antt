@@ -1,0 +1,8 @@
+use Rattle.std.proofs.Common.{refl}
+use Rattle.bl_link.proofs.SpelledParts.{read_part}
+use Rattle.tests_link.proofs.parts.named.Goals as goal
+
+pub returns : goal.returns
+returns c =
+    let read = c.requires.read in
+    read_part c.in_ok-copy_of.field-0 c.args.letters.now c.args.bytes.now c.args.wasm c.args.wasm c.args.labels c.in_ok-copy_of.ensures refl c.requires.consistent c.requires.plain read.0 c.requires.few read.2
