@@ -277,7 +277,7 @@ def literal(image):
 def show(name, text, program):
     protects, weight = program.least()
     print('/// %s: %d commands, %d sites.' % (text, 7 + len(program.commands), len(program.sites())))
-    print('pub(crate) static %s: &[u8] =\n    b"%s";' % (name, literal(program.image())))
+    print('pub(crate) const %s: &[u8] =\n    b"%s";' % (name, literal(program.image())))
     print('// protects %s weight %d' % (list(protects), weight))
 
 
