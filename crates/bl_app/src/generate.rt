@@ -14,14 +14,14 @@ ghost use Rattle.bl_words.specs.Words.{gen_in};
 use crate::job::Plan;
 use crate::status::Status;
 use bl_base::NoMemory;
-use bl_build::{Hardened, WorkError, compile, protect_least};
+use bl_build::{Hardened, WorkError, compile_hardened};
 use bl_gen::make;
 use bl_report::summary;
 use bl_words::GenWords;
 use std::alloc::Global;
 
 /// Printing the summary of a module that is made of a number and a size, compiled and hardened. Costs a maximum flow in a network that
-/// is linear in the program.
+/// is linear in the program, also where the image is too long.
 pub fn generate<'a>(alloc: Global, words: &GenWords) -> Result<Plan<'a>, WorkError<'a>>
     requires { (1 ≤ words.now.size) × (words.now.size ≤ limit_of quantity.Functions) }
     ensures { IsWork (gen_job (gen_in words.now)) [] result }
@@ -31,12 +31,8 @@ pub fn generate<'a>(alloc: Global, words: &GenWords) -> Result<Plan<'a>, WorkErr
     let mut contents = Vec::new(alloc);
     contents.push(bytes)?;
     let names: [&'a str; 1] = ["gen"];
-    match compile(alloc, &names, contents.as_slice()) {
-        Ok(built) => {
-            let hardened = protect_least(alloc, built.program)?;
-            let plan = plan_of(alloc, length, hardened)?;
-            Ok(plan)
-        }
+    match compile_hardened(alloc, &names, contents.as_slice()) {
+        Ok(hardened) => Ok(plan_of(alloc, length, hardened)?),
         Err(error) => Err(error),
     }
 }

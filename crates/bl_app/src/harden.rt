@@ -15,7 +15,7 @@ use crate::job::{Keep, Plan, Read};
 use crate::module::read_modules;
 use crate::status::Status;
 use bl_base::NoMemory;
-use bl_build::{Hardened, WorkError, compile, protect_least};
+use bl_build::{Hardened, WorkError, compile_hardened};
 use bl_report::report;
 use bl_witness::to_json;
 use bl_words::HardenWords;
@@ -31,7 +31,8 @@ pub fn harden_reads<'a>(alloc: Global, words: &HardenWords<'a>) -> Result<Vec<Re
 }
 
 /// Keeping a certificate and then the image of the modules' program with the least protects, and printing the report; Refused
-/// exactly where the bytes are refused. Costs a maximum flow in a network that is linear in the program.
+/// exactly where the bytes are refused. Costs a maximum flow in a network that is linear in the program, also where the image is too
+/// long.
 pub fn harden<'a>(
     alloc: Global,
     words: &HardenWords<'a>,
@@ -42,12 +43,8 @@ pub fn harden<'a>(
     requires read { AreRead None (harden_job (harden_in words.now)).reads (contents_in contents.now) }
     ensures { IsWork (harden_job (harden_in words.now)) (contents_in contents.now) result }
 {
-    match compile(alloc, words.modules.as_slice(), contents) {
-        Ok(built) => {
-            let hardened = protect_least(alloc, built.program)?;
-            let plan = plan_of(alloc, words, hardened)?;
-            Ok(plan)
-        }
+    match compile_hardened(alloc, words.modules.as_slice(), contents) {
+        Ok(hardened) => Ok(plan_of(alloc, words, hardened)?),
         Err(error) => Err(error),
     }
 }

@@ -10,6 +10,7 @@ use Rattle.bl_wasm.specs.declared.linked.Tree.{Tree}
 use Rattle.bl_reduce.specs.Outcomes.{opening as source_opening}
 use Rattle.bl_reduce.specs.Steps.{source_step}
 use Rattle.bl_cmd.specs.Outcomes.{opening}
+use Rattle.bl_cmd.specs.Programs.{IsProgram}
 use Rattle.bl_cmd.specs.Rules.{IsWellFormed}
 use Rattle.bl_cmd.specs.Steps.{plain_step}
 use Rattle.bl_cmd.specs.declared.definitions.ProgramParts.{ProgramParts as Program}
@@ -18,17 +19,20 @@ use Rattle.bl_image.proofs.Prefixes.{one_image}
 use Rattle.bl_lower.specs.Trees.{low_tree}
 use Rattle.bl_lower.proofs.Opening.{ends_after, plain_ended}
 use Rattle.bl_build.specs.Building.{AreCompilable, AreCompiled, Builds, BuildingRefuses, Built, building, command_count, compiling, long_image, many_commands}
+use Rattle.bl_build.specs.Hardening.{Hardened, IsHardened, hardening, tree_hardening}
 use Rattle.bl_build.specs.Loading.{Part, loading, parts_of}
 use Rattle.bl_build.specs.Meaning.{SameOutcomes}
 use Rattle.bl_build.specs.Refusals.{Refusal, limit}
-use Rattle.bl_build.specs.Stages.{IsLawfulStage, IsTotalStage, at_first, at_second}
-use Rattle.bl_build.specs.Working.{IsStaged, built_in}
+use Rattle.bl_build.specs.Stages.{IsLawfulStage, IsTotalStage, Stage, at_second}
+use Rattle.bl_build.specs.Working.{IsStaged, built_in, hardened_in, refusal_in}
 use Rattle.bl_build.specs.declared.build.Built.{Built as BuiltMade}
+use Rattle.bl_build.specs.declared.harden.Hardened.{Hardened as HardenedMade}
 use Rattle.bl_build.specs.declared.refusal.WorkError.{WorkError}
 use Rattle.bl_build.specs.declared.refusal.WorkError.TheVariants as error
 use Rattle.bl_build.proofs.ImagesExist.{IsOfParts, has_image, of_parts}
 use Rattle.bl_build.proofs.LoadingLemmas.{loading_lawful}
 use Rattle.bl_build.proofs.LoadingTotal.{loading_total}
+use Rattle.bl_build.proofs.MarkedImages.{own_image}
 use Rattle.bl_build.proofs.ModulesTotal.{chain_total}
 use Rattle.bl_build.proofs.StageLemmas.{chain_lawful}
 
@@ -89,22 +93,44 @@ module _ (tree : Tree) (program : Program) (same : program ≡ low_tree tree) (r
   here : Image (low_tree tree) image
   here = subst (λ p. Image p image) same is
 
+  pub builds : length image ≤ limit_of quantity.Image → Builds tree (record { program = program; image = image })
+  builds short = record { is_program = same; few = few; image = here; short = short }
+
   pub too_long : (value : ℕ) → value ≡ length image → limit_of quantity.Image < value → BuildingRefuses tree (limit quantity.Image value)
   too_long value e long = long_image image few here (omega (arith, e, long)) (ap (limit quantity.Image) e)
 
+-- a program that was hardened of such a one: the image is as long as the program's own
+module _ (tree : Tree) (bare : Program) (same : bare ≡ low_tree tree) (facts : IsProgram bare) (rules : IsWellFormed bare) (hardened : Hardened) (h : IsHardened bare hardened) where
+  own : (own : List ℕ) × Image bare own × (length own ≡ length hardened.image)
+  own = own_image h.set bare facts hardened.image (subst (λ p. Image p hardened.image) h.is_program h.image)
+
+  pub hardened_too_long : (value : ℕ) → value ≡ length hardened.image → limit_of quantity.Image < value → BuildingRefuses tree (limit quantity.Image value)
+  hardened_too_long value e long = too_long tree bare same rules own.0 own.1 value (e ∙ sym own.2) long
+
+  pub tree_hardens : length hardened.image ≤ limit_of quantity.Image → tree_hardening.Passes tree hardened
+  tree_hardens short =
+      let as_long = own.2 in
+      (record { program = bare; image = own.0 }, builds tree bare same rules own.0 own.1 (omega (arith, as_long, short)), h)
+
 -- ---- modules
 
-module _ (parts : List Part) where
-  -- modules that are refused
-  pub not_loaded : (e : WorkError) → IsStaged loading (λ (tree : Tree). tree) parts (Err e) → IsStaged compiling built_in parts (Err e)
-  not_loaded (error.Refused refusal) r = at_first r
-  not_loaded error.Memory r = tt
+-- what one stage refuses, another one does too
+module _ {A B C X Y : Type 0} (one : Stage A B) (other : Stage A C) (f : X → B) (g : Y → C) (a : A) where
+  pub still_refused : ((refusal : Refusal) → one.Refuses a refusal → other.Refuses a refusal) → (e : WorkError) → IsStaged one f a (Err e) → IsStaged other g a (Err e)
+  still_refused on (error.Refused refusal) r = on (refusal_in refusal) r
+  still_refused on error.Memory r = tt
 
+module _ (parts : List Part) where
   -- those that are linked
   pub linked_builds : (tree : Tree) (result : Result BuiltMade WorkError) → loading.Passes parts tree → IsStaged building built_in tree result → IsStaged compiling built_in parts result
   linked_builds tree (Ok built) passed b = (tree, passed, b)
   linked_builds tree (Err (error.Refused refusal)) passed b = at_second tree passed b
   linked_builds tree (Err error.Memory) passed b = tt
+
+  pub linked_hardens : (tree : Tree) (result : Result HardenedMade WorkError) → loading.Passes parts tree → IsStaged tree_hardening hardened_in tree result → IsStaged hardening hardened_in parts result
+  linked_hardens tree (Ok hardened) passed h = (h.0, (tree, passed, h.1), h.2)
+  linked_hardens tree (Err (error.Refused refusal)) passed h = at_second tree passed h
+  linked_hardens tree (Err error.Memory) passed h = tt
 
 -- ---- what it means
 

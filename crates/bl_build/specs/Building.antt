@@ -38,6 +38,10 @@ pub data BuildingRefuses (tree : Tree) (refusal : Refusal) : Type 0 where
   long_image : (image : List ℕ) → command_count tree ≤ limit_of quantity.Commands → Image (low_tree tree) image
       → limit_of quantity.Image < length image → refusal ≡ limit quantity.Image (length image) → BuildingRefuses tree refusal
 
+-- the program of a linked tree alone; what is refused of it is refused of building it
+abbrev pub lowering : Stage Tree Program
+lowering = record { Passes = λ tree program. program ≡ low_tree tree; Refuses = BuildingRefuses }
+
 -- the program of a linked tree, with its image
 abbrev pub building : Stage Tree Built
 building = record { Passes = Builds; Refuses = BuildingRefuses }

@@ -2,7 +2,7 @@
 ghost use Rattle.std.specs.Prelude.{◌≤◌, length, map};
 ghost use Rattle.bl_base.specs.Quantity.{limit_of};
 ghost use Rattle.bl_base.specs.declared.quantity.Quantity.TheVariants as quantity;
-ghost use Rattle.bl_build.specs.Building.{building, compiling};
+ghost use Rattle.bl_build.specs.Building.{building, compiling, lowering};
 ghost use Rattle.bl_build.specs.Loading.{AreShort, parts_of};
 ghost use Rattle.bl_words.specs.Requests.{AreNamedApart};
 ghost use Rattle.bl_build.specs.Working.{IsStaged, built_in, contents_in};
@@ -39,24 +39,18 @@ pub fn compile<'a>(
     ensures { IsStaged compiling built_in (parts_of (map (λ word. word.now) words.now) (contents_in contents.now)) result }
 {
     match load(alloc, words, contents) {
-        Ok(linked) => build(alloc, &linked),
+        Ok(linked) => build(alloc, linked),
         Err(error) => Err(error),
     }
 }
 
 /// The program of a linked tree, with its image.
-fn build<'a>(alloc: Global, linked: &Linked) -> Result<Built, WorkError<'a>>
-    ensures { IsStaged building built_in linked.now result }
+fn build<'a>(alloc: Global, linked: Linked) -> Result<Built, WorkError<'a>>
+    ensures { IsStaged building built_in linked result }
 {
-    let program = match lower(alloc, linked) {
+    let program = match lowered(alloc, linked) {
         Ok(program) => program,
-        Err(LowerError::Limit(value)) => {
-            return Err(WorkError::Refused(Refusal::Limit {
-                which: Quantity::Commands,
-                value,
-            }));
-        }
-        Err(LowerError::Memory) => return Err(WorkError::Memory),
+        Err(error) => return Err(error),
     };
     // What is known of the program is read with it.
     let _rules = program.program();
@@ -69,4 +63,18 @@ fn build<'a>(alloc: Global, linked: &Linked) -> Result<Built, WorkError<'a>>
         }));
     }
     Ok(Built { program, image })
+}
+
+/// The program of a linked tree, which is freed; Refused exactly where the program has too many commands.
+pub(crate) fn lowered<'a>(alloc: Global, linked: Linked) -> Result<WellFormed, WorkError<'a>>
+    ensures { IsStaged lowering (λ program. program) linked result }
+{
+    match lower(alloc, &linked) {
+        Ok(program) => Ok(program),
+        Err(LowerError::Limit(value)) => Err(WorkError::Refused(Refusal::Limit {
+            which: Quantity::Commands,
+            value,
+        })),
+        Err(LowerError::Memory) => Err(WorkError::Memory),
+    }
 }

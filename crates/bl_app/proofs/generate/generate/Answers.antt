@@ -8,8 +8,8 @@ use Rattle.bl_build.specs.Loading.{AreShort}
 use Rattle.bl_build.specs.Working.{contents_in}
 use Rattle.bl_app.proofs.generate.generate.Goals as goal
 
-pub compile-requires-clause-short : goal.compile-requires-clause-short
-compile-requires-clause-short c =
+pub compile_hardened-requires-clause-short : goal.compile_hardened-requires-clause-short
+compile_hardened-requires-clause-short c =
     let these : c.as_slice.result.now ≡ c.in_ok-bytes.bytes ∷ [] = c.as_slice.ensures.value ∙ c.in_ok-push.ensures.items
     ∙ ap (λ (all : List (Vec ℕ Global)). all ++ c.in_ok-bytes.bytes ∷ []) c.new-contents.ensures.items in
     let short : length c.in_ok-bytes.bytes.items ≤ limit_of quantity.Module =
