@@ -18,7 +18,7 @@ use Rattle.bl_image.specs.Image.{Image}
 use Rattle.bl_image.proofs.Prefixes.{one_image}
 use Rattle.bl_lower.specs.Trees.{low_tree}
 use Rattle.bl_lower.proofs.Opening.{ends_after, plain_ended}
-use Rattle.bl_build.specs.Building.{AreCompilable, AreCompiled, Builds, BuildingRefuses, Built, building, command_count, compiling, long_image, many_commands}
+use Rattle.bl_build.specs.Building.{AreCompilable, AreCompiled, Builds, BuildingRefuses, Built, HasManyCommands, building, command_count, compiling, long_image, many_commands}
 use Rattle.bl_build.specs.Hardening.{Hardened, IsHardened, hardening, tree_hardening}
 use Rattle.bl_build.specs.Loading.{Part, loading, parts_of}
 use Rattle.bl_build.specs.Meaning.{SameOutcomes}
@@ -84,6 +84,10 @@ compiling_lawful = chain_lawful loading building loading_lawful building_lawful
 pub compiling_total : IsTotalStage AreCompilable compiling
 compiling_total =
     chain_total AreCompilable IsOfParts loading building (record { always = λ parts given made refused. loading_total.always parts given.loadable made refused }) building_total of_parts
+
+-- what is refused of a tree's program is refused of building it
+pub many_refused : (tree : Tree) (refusal : Refusal) → HasManyCommands tree refusal → BuildingRefuses tree refusal
+many_refused tree refusal h = many_commands h.many h.told
 
 -- a program that was made of a tree, and its image
 module _ (tree : Tree) (program : Program) (same : program ≡ low_tree tree) (rules : IsWellFormed program) (image : List ℕ) (is : Image program image) where

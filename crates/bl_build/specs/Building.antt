@@ -38,9 +38,17 @@ pub data BuildingRefuses (tree : Tree) (refusal : Refusal) : Type 0 where
   long_image : (image : List ℕ) → command_count tree ≤ limit_of quantity.Commands → Image (low_tree tree) image
       → limit_of quantity.Image < length image → refusal ≡ limit quantity.Image (length image) → BuildingRefuses tree refusal
 
--- the program of a linked tree alone; what is refused of it is refused of building it
+-- the program has too many commands; their number is told, or the greatest of 64 bits where it is greater
+pub record HasManyCommands (tree : Tree) (refusal : Refusal) : Type 0 where
+  pub many : limit_of quantity.Commands < command_count tree
+  pub told : refusal ≡ limit quantity.Commands (min (command_count tree) (2 ^ 64 - 1))
+
+-- the program of a linked tree alone
 abbrev pub lowering : Stage Tree Program
-lowering = record { Passes = λ tree program. program ≡ low_tree tree; Refuses = BuildingRefuses }
+lowering = record {
+  Passes = λ tree program. (program ≡ low_tree tree) × (command_count tree ≤ limit_of quantity.Commands);
+  Refuses = HasManyCommands;
+}
 
 -- the program of a linked tree, with its image
 abbrev pub building : Stage Tree Built

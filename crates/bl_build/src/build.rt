@@ -70,7 +70,11 @@ pub(crate) fn lowered<'a>(alloc: Global, linked: Linked) -> Result<WellFormed, W
     ensures { IsStaged lowering (λ program. program) linked result }
 {
     match lower(alloc, &linked) {
-        Ok(program) => Ok(program),
+        Ok(program) => {
+            // What is known of the program is read with it.
+            let _rules = program.program();
+            Ok(program)
+        }
         Err(LowerError::Limit(value)) => Err(WorkError::Refused(Refusal::Limit {
             which: Quantity::Commands,
             value,

@@ -32,8 +32,8 @@ pub struct Hardened {
     pub image: Vec<u8>,
 }
 
-/// The program of the modules in files with these contents with exactly the least protects, and all that `protect_least` gives;
-/// Refused exactly where `compile` refuses the modules. The program's own image, whose length is judged there, isn't made: the one that
+/// The program of the modules in files with these contents, with exactly the least protects, a certificate of that, the verdict on
+/// constant time, and the image; Refused exactly where `compile` refuses the modules. The program's own image, whose length is judged there, isn't made: the one that
 /// is has as many bytes. So a program of few enough commands, whose image is too long, is refused behind the maximum flow. Costs that,
 /// in a network that is linear in the program.
 pub fn compile_hardened<'a>(
@@ -74,7 +74,7 @@ fn harden<'a>(alloc: Global, linked: Linked) -> Result<Hardened, WorkError<'a>>
 }
 
 /// A program with exactly the least protects, a certificate of that, the verdict on constant time, and the image.
-pub fn protect_least(alloc: Global, bare: WellFormed) -> Result<Hardened, NoMemory>
+fn protect_least(alloc: Global, bare: WellFormed) -> Result<Hardened, NoMemory>
     ensures { IfOk result (λ hardened. IsHardened bare (hardened_in hardened)) }
 {
     let facts = graph(alloc, &bare)?;

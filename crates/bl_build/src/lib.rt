@@ -17,7 +17,7 @@ pub use build::{Built, compile};
 pub use certificate::read_certificate;
 pub use directives::read_directives;
 pub use entry::{Entry, find_entry, read_entry_start, read_image};
-pub use harden::{Hardened, compile_hardened, protect_least};
+pub use harden::{Hardened, compile_hardened};
 pub use invocation::{Invocation, prepare};
 pub use loading::load;
 pub use refusal::{LabelFault, Refusal, WorkError};

@@ -7,7 +7,7 @@ use Rattle.bl_base.specs.Sums.{sum_below}
 use Rattle.bl_flow.specs.declared.split.Link.{Link}
 use Rattle.bl_flow.specs.Split.{link_at}
 use Rattle.bl_flow.specs.Searches.{AreRows, row_at}
-use Rattle.bl_flow.specs.Rows.{AreOffsets, row_from, rows_from, from_below, AreCounts, AreEnds}
+use Rattle.bl_flow.specs.Rows.{AreOffsets, row_from, rows_from, from_below, AreCounts, AreRowEnds}
 use Rattle.bl_flow.proofs.Offsets.{rows_count, row_is, row_length, row_entry}
 
 -- of the links behind some, more are from below the higher of two parts
@@ -53,7 +53,7 @@ pub sum_small : (links : List Link) (parts k part : ℕ) (counts : List ℕ) →
 sum_small links parts k part counts are le = let e = sum_is links parts k part counts are le in let m = most links part k in omega arith
 
 pub are_ends : (links : List Link) (parts : ℕ) (counts ends : List ℕ) → AreCounts links parts (length links) counts → length ends ≡ length counts
-    → ((part : ℕ) → part < length counts → slice_index ends part ≡ sum_below (suc part) (slice_index counts)) → AreEnds links ends
+    → ((part : ℕ) → part < length counts → slice_index ends part ≡ sum_below (suc part) (slice_index counts)) → AreRowEnds links ends
 are_ends links parts counts ends are places sums = record {
   some = let p = are.places in omega arith;
   each = λ part lt. sums part (omega arith) ∙ sum_is links parts (length links) (suc part) counts are (omega arith);

@@ -1,4 +1,4 @@
--- Options as numbers.
+-- Options as numbers, and which of two is the lesser.
 use Rattle.std.specs.Prelude.{◌≡◌, ℕ, zero, suc, Option, Some, None, Bool, true, false, nat_lt, if◌then◌else◌, refl}
 
 -- what a number stands for: 0 for none, and any other for the one before it

@@ -38,6 +38,6 @@ pub record AreCounts (links : List Link) (parts k : ℕ) (counts : List ℕ) : T
   pub each : (part : ℕ) → part < length counts → slice_index counts part + from_below links part k ≡ from_below links (suc part) k
 
 -- for each part, and one more, where its row ends
-pub record AreEnds (links : List Link) (ends : List ℕ) : Type 0 where
+pub record AreRowEnds (links : List Link) (ends : List ℕ) : Type 0 where
   pub some : 0 < length ends
   pub each : (part : ℕ) → part < length ends → slice_index ends part ≡ from_below links (suc part) (length links)

@@ -11,7 +11,7 @@ const ROOM: usize = 1024;
 /// Parts in the order in which they came in. Contracts see the list.
 #[derive(Debug, Drop)]
 pub struct Queue {
-    /// The parts, and behind them what is left of former ones.
+    /// The parts, and behind them room, whatever stands in it.
     parts: Vec<u32>,
     /// How many parts there are.
     len: usize,

@@ -3,7 +3,7 @@ ghost use Rattle.std.specs.Prelude.{◌≡◌, ◌<◌, ◌+◌, ◌^◌, ℕ, s
 ghost use Rattle.bl_base.specs.Sums.{sum_below};
 ghost use Rattle.bl_flow.specs.Split.{link_at};
 ghost use Rattle.bl_flow.specs.Searches.{AreRows, row_at};
-ghost use Rattle.bl_flow.specs.Rows.{reversed, AreCounts, AreEnds};
+ghost use Rattle.bl_flow.specs.Rows.{reversed, AreCounts, AreRowEnds};
 
 use crate::split::{Link, Links, number_of, reverse_of};
 use bl_base::NoMemory;
@@ -126,7 +126,7 @@ fn sums_of(numbers: Vec<u32>) -> Vec<u32>
 fn filled_rows(alloc: Global, links: &Links, count: u32, ends: Vec<u32>) -> Result<Rows, NoMemory>
     requires count { count ≡ length links.now }
     requires inside { (k : ℕ) → k < length links.now → (link_at links.now k).from + 1 < length ends.items }
-    requires ends { AreEnds links.now ends.items }
+    requires ends { AreRowEnds links.now ends.items }
     ensures places { IfOk result (λ rows. length rows + 1 ≡ length ends.items) }
     ensures rows { IfOk result (λ rows. AreRows links.now rows) }
 {

@@ -10,15 +10,15 @@ use bl_cmd::{Command, Operand};
 use bl_ops::Op;
 use std::alloc::Global;
 
-/// What a program's commands read. Each list rises in position and then in variable.
+/// What a program's commands read. Loads rise in position, the other lists in position and then in variable.
 #[derive(Drop)]
 pub(crate) struct Uses {
     /// The positions of the Loads.
-    pub loads: List<Pos>,
+    pub(crate) loads: List<Pos>,
     /// What each Set, Arg and Out reads.
-    pub reads: List<Use>,
+    pub(crate) reads: List<Use>,
     /// What sinks read.
-    pub sinks: List<Use>,
+    pub(crate) sinks: List<Use>,
 }
 
 /// What the commands read, in one pass over them.

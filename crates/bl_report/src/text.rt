@@ -75,10 +75,10 @@ fn counts(
 {
     let functions = parts.functions.len();
     let commands = parts.commands.len();
-    let all = sites.count;
-    let some = sites.protects.len();
+    let site_count = sites.count;
+    let protect_count = sites.protects.len();
     let text = format!(in alloc;
-        "functions {functions}\ncommands {commands}\nsites {all}\nprotects {some} weight {weight}\n"
+        "functions {functions}\ncommands {commands}\nsites {site_count}\nprotects {protect_count} weight {weight}\n"
     )?;
     Ok(text.into_bytes())
 }

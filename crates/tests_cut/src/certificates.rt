@@ -96,7 +96,7 @@ static BROKEN: [(&[u32], &str, (u8, u64)); 7] = [
 ];
 
 /// How many of them break that rule, before the first that doesn't.
-fn named(alloc: Global) -> Result<u32, NoMemory> {
+fn named_rightly(alloc: Global) -> Result<u32, NoMemory> {
     let mut passed = 0u32;
     for (protects, text, broken) in &BROKEN {
         if !breaks(alloc, LOADS, protects, text, *broken)? {
@@ -109,7 +109,7 @@ fn named(alloc: Global) -> Result<u32, NoMemory> {
 
 #[test]
 fn the_first_broken_rule_is_named(rt: HostRuntime) -> Result<(), Fail> {
-    assert_eq!(rt; named(rt.alloc())?, 7);
+    assert_eq!(rt; named_rightly(rt.alloc())?, 7);
     Ok(())
 }
 
@@ -141,7 +141,7 @@ fn fails(alloc: Global, text: &str, error: CertError) -> bool {
 }
 
 /// Texts that are no certificates, and what is answered.
-static NONE: [(&str, CertError); 7] = [
+static NO_CERTIFICATES: [(&str, CertError); 7] = [
     ("{", CertError::NotJson),
     ("{\"paths\":[],\"weight\":01}", CertError::NotJson),
     ("{}", CertError::Shape),
@@ -158,9 +158,9 @@ static NONE: [(&str, CertError); 7] = [
 ];
 
 /// How many of them are answered so, before the first that isn't.
-fn refused(alloc: Global) -> u32 {
+fn refused_rightly(alloc: Global) -> u32 {
     let mut passed = 0u32;
-    for (text, error) in &NONE {
+    for (text, error) in &NO_CERTIFICATES {
         if !fails(alloc, text, *error) {
             break;
         }
@@ -171,7 +171,7 @@ fn refused(alloc: Global) -> u32 {
 
 #[test]
 fn a_text_that_is_no_certificate(rt: HostRuntime) -> Result<(), Fail> {
-    assert_eq!(rt; refused(rt.alloc()), 7);
+    assert_eq!(rt; refused_rightly(rt.alloc()), 7);
     Ok(())
 }
 

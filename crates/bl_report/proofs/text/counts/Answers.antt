@@ -9,8 +9,8 @@ returns c =
     let program = c.args.parts.now in
     let kept = ap length c.requires.protects in
     let whole = c.args.sites.now.protects.ok.0 in
-    let is = c.len-some.ensures in
-    let some : c.len-some.result ≡ length (protects program) = omega arith in
+    let is = c.len-protect_count.ensures in
+    let some : c.len-protect_count.result ≡ length (protects program) = omega arith in
     ap (λ v. v.items) c.into_bytes.ensures.value ∙ c.in_ok-text.ensures.ok
     ∙ lines _ _ _ _ _ (length program.functions) (length program.commands) (site_count program) (length (protects program)) (weight_of program (is_protected program)) c.len-functions.ensures
     c.len-commands.ensures c.requires.count some c.requires.weight
