@@ -9,13 +9,14 @@ use Rattle.bl_outside.specs.declared.shelf.ShelfError.{ShelfError}
 use Rattle.bl_outside.specs.declared.shelf.ShelfError.TheVariants as shelf
 use Rattle.bl_rob.specs.declared.directive.Directive.{Directive}
 use Rattle.bl_wasm.specs.declared.linked.Tree.{Tree}
-use Rattle.bl_build.specs.Entering.{Entered, Entry}
+use Rattle.bl_build.specs.Entering.{Entered, Entry, finding, starting}
 use Rattle.bl_app.specs.Executing.{HasPlainOutcome, plain_text}
 use Rattle.bl_app.specs.Interpreting.{HasOutcome, printed_of}
 use Rattle.bl_app.specs.Jobs.{AreRead, Job, Plan, Read, ReadsName, RefusesLength, saying}
 use Rattle.bl_app.specs.Outcomes.{outcome_status}
 use Rattle.bl_build.specs.Refusals.{Refusal}
-use Rattle.bl_words.specs.Requests.{InterpRequest}
+use Rattle.bl_build.specs.Stages.{Stage, chain}
+use Rattle.bl_words.specs.Requests.{InterpRequest, RunRequest}
 use Rattle.bl_build.specs.Running.{Invoked, Invokes, InvokingRefuses}
 use Rattle.bl_build.specs.Tracing.{Speculated, Twinned}
 use Rattle.bl_app.specs.Twinning.{StartsAgree, twin_plan}
@@ -87,6 +88,17 @@ pub record IsPlainTold (entered : Entered) (steps : ℕ) (plan : PlanMade) : Typ
   pub outcome : Option Outcome
   pub within : HasPlainOutcome entered steps outcome
   pub is_plan : plan_in plan ≡ saying (outcome_status outcome) (plain_text entered steps outcome)
+
+-- from a program to its function of the export that `run` names, with the start that the bytes of a start file ask for
+abbrev pub entering_program : RunRequest → List ℕ → Stage Program Entered
+entering_program request start = chain (finding request.export) (starting start)
+
+-- what `run` does with the program of its image: what it prints, or why the export or the start is refused
+abbrev pub IsPlainRunOf : RunRequest → List ℕ → Program → Result PlanMade WorkError → Type 0
+IsPlainRunOf request start program (Ok plan) =
+    (entered : Entered) × (entering_program request start).Passes program entered × IsPlainTold entered request.steps plan
+IsPlainRunOf request start program (Err (error.Refused refusal)) = (entering_program request start).Refuses program (refusal_in refusal)
+IsPlainRunOf request start program (Err error.Memory) = Unit {0}
 
 -- printing the outcome of a function's run from a start
 pub record IsTold (invoked : Invoked) (steps : ℕ) (plan : PlanMade) : Type 0 where

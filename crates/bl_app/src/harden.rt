@@ -1,14 +1,15 @@
 //! `harden`: from modules' bytes to an image, a certificate and a report.
-ghost use Rattle.std.specs.Prelude.{◌≡◌, ◌≤◌, None, IfOk, length, map};
+ghost use Rattle.std.specs.Prelude.{◌≡◌, ◌≤◌, ◌∷◌, [], None, IfOk, length, map};
 ghost use Rattle.bl_base.specs.Quantity.{limit_of};
 ghost use Rattle.bl_base.specs.declared.quantity.Quantity.TheVariants as quantity;
 ghost use Rattle.bl_graph.specs.Certificates.{Certifies};
+ghost use Rattle.bl_witness.specs.Texts.{certificate_text};
 ghost use Rattle.bl_ct.specs.Verdicts.{Judges};
 ghost use Rattle.bl_app.specs.Hardening.{harden_job, harden_plan};
 ghost use Rattle.bl_app.specs.Jobs.{AreRead};
 ghost use Rattle.bl_words.specs.Requests.{AreNamedApart};
 ghost use Rattle.bl_words.specs.Words.{harden_in};
-ghost use Rattle.bl_app.specs.Working.{IsWork, plan_in, read_in};
+ghost use Rattle.bl_app.specs.Working.{IsWork, keep_in, plan_in, read_in};
 ghost use Rattle.bl_build.specs.Working.{contents_in, hardened_in};
 
 use crate::job::{Keep, Plan, Read};
@@ -16,6 +17,7 @@ use crate::module::read_modules;
 use crate::status::Status;
 use bl_base::NoMemory;
 use bl_build::{Hardened, WorkError, compile_hardened};
+use bl_graph::Certificate;
 use bl_report::report;
 use bl_witness::to_json;
 use bl_words::HardenWords;
@@ -65,19 +67,50 @@ fn plan_of<'a>(
         &hardened.certificate,
         &hardened.verdict,
     )?;
-    let certificate = to_json(alloc, &hardened.certificate)?;
-    let mut keeps = Vec::new(alloc);
-    keeps.push(Keep {
-        name: words.certificate,
-        bytes: certificate.into_vec(),
-    })?;
-    keeps.push(Keep {
-        name: words.image,
-        bytes: hardened.image,
-    })?;
+    let keeps = keeps_of(alloc, words, hardened)?;
     Ok(Plan {
         status: Status::Done,
         keeps,
         text: text.into_vec(),
     })
+}
+
+/// The certificate and the image, which are kept.
+fn keeps_of<'a>(
+    alloc: Global,
+    words: &HardenWords<'a>,
+    hardened: Hardened,
+) -> Result<Vec<Keep<'a>>, NoMemory>
+    ensures { IfOk result (λ keeps. map keep_in keeps.items ≡ (harden_plan (harden_in words.now) (hardened_in hardened)).keeps) }
+{
+    let mut keeps = certificate_kept(alloc, words, &hardened.certificate)?;
+    keeps.push(Keep {
+        name: words.image,
+        bytes: image_of(hardened),
+    })?;
+    Ok(keeps)
+}
+
+/// The certificate, which is kept.
+fn certificate_kept<'a>(
+    alloc: Global,
+    words: &HardenWords<'a>,
+    certificate: &Certificate,
+) -> Result<Vec<Keep<'a>>, NoMemory>
+    ensures { IfOk result (λ keeps. map keep_in keeps.items ≡ ((harden_in words.now).certificate, certificate_text certificate.now) ∷ []) }
+{
+    let text = to_json(alloc, certificate)?;
+    let mut keeps = Vec::new(alloc);
+    keeps.push(Keep {
+        name: words.certificate,
+        bytes: text.into_vec(),
+    })?;
+    Ok(keeps)
+}
+
+/// The image of a program with its protects.
+fn image_of(hardened: Hardened) -> Vec<u8>
+    ensures { result ≡ hardened.image }
+{
+    hardened.image
 }

@@ -4,7 +4,7 @@ ghost use Rattle.bl_cmd.specs.Outcomes.{IsStart};
 ghost use Rattle.bl_app.specs.Executing.{run_job};
 ghost use Rattle.bl_app.specs.Jobs.{AreRead};
 ghost use Rattle.bl_words.specs.Words.{run_in};
-ghost use Rattle.bl_app.specs.Working.{IsPlainTold, IsWork, read_in};
+ghost use Rattle.bl_app.specs.Working.{IsPlainRunOf, IsPlainTold, IsWork, read_in};
 ghost use Rattle.bl_build.specs.Working.{contents_in, entered_in, entry_in};
 
 use crate::job::{Plan, Read};
@@ -58,18 +58,29 @@ fn execute_image<'a>(
 ) -> Result<Plan<'a>, WorkError<'a>>
     ensures { IsWork (run_job (run_in words.now)) (image.now ∷ start.now ∷ []) result }
 {
-    let program = match read_image(alloc, image) {
-        Ok(program) => program,
-        Err(error) => return Err(error),
-    };
-    let Some(entry) = find_entry(&program, words.export) else {
+    match read_image(alloc, image) {
+        Ok(program) => execute_program(alloc, words, &program, start),
+        Err(error) => Err(error),
+    }
+}
+
+/// The same, by the image's program.
+fn execute_program<'a>(
+    alloc: Global,
+    words: &RunWords<'a>,
+    program: &WellFormed,
+    start: &[u8],
+) -> Result<Plan<'a>, WorkError<'a>>
+    ensures { IsPlainRunOf (run_in words.now) start.now program.now result }
+{
+    let Some(entry) = find_entry(program, words.export) else {
         return Err(WorkError::Refused(Refusal::NoExport));
     };
-    let start = match read_entry_start(alloc, &program, &entry, start) {
+    let start = match read_entry_start(alloc, program, &entry, start) {
         Ok(start) => start,
         Err(error) => return Err(error),
     };
-    match tell(alloc, &program, &entry, &start, words.steps) {
+    match tell(alloc, program, &entry, &start, words.steps) {
         Ok(plan) => Ok(plan),
         Err(NoMemory) => Err(WorkError::Memory),
     }

@@ -22,7 +22,7 @@ use bl_build::{
 };
 use bl_cmd::WellFormed;
 use bl_outcome::outcome_text;
-use bl_rob::{Directive, Observation, Rob};
+use bl_rob::{Directive, Observation, Rob, Seen};
 use bl_seq::first_memories;
 use bl_trace::print_observation;
 use bl_words::SpecWords;
@@ -109,14 +109,31 @@ fn observe<'a>(
 {
     let mut rob: Rob<'_, 64> = Rob::begin(alloc, program, entry.function, start)?;
     let seen = rob.observe(alloc, directives)?;
-    let mut text = observed_text(alloc, seen.made.as_slice())?;
-    let last = last_text(alloc, program, entry, start, &rob, seen.refused)?;
-    text.extend_from_slice(&last)?;
+    let text = seen_text(alloc, program, entry, start, &rob, &seen)?;
     Ok(Plan {
         status: spec_status(seen.refused),
         keeps: Vec::new(alloc),
         text,
     })
+}
+
+/// What is printed of what was observed until the machine came to this state.
+fn seen_text(
+    alloc: Global,
+    program: &WellFormed,
+    entry: &Entry<'_>,
+    start: &Start,
+    rob: &Rob<'_, 64>,
+    seen: &Seen,
+) -> Result<Vec<u8>, NoMemory>
+    requires { IsStart program.now entry.now.function start.now }
+    ensures { IfOk result (λ text. text.items ≡ flat_map observation_text seen.now.made
+        ++ last_text (entered_in (entry_in program.now entry.now) start.now) (outcome_in rob.now.program (shown rob.now.machine)) seen.now.refused) }
+{
+    let mut text = observed_text(alloc, seen.made.as_slice())?;
+    let last = last_text(alloc, program, entry, start, rob, seen.refused)?;
+    text.extend_from_slice(&last)?;
+    Ok(text)
 }
 
 /// The exit status, by the place of the first directive that isn't enabled.

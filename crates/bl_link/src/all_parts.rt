@@ -26,7 +26,7 @@ use crate::spaces::spaces_of;
 use crate::store::{Spaces, Store};
 use crate::widths::check_parts;
 use bl_base::{List, NoMemory, Quantity};
-use bl_labels::Marks;
+use bl_labels::{Labels, Marks};
 use bl_wasm::{Code, DataSegment, ElementSegment, Exports, Linked, Module, Tree};
 use std::alloc::Global;
 use std::mem;
@@ -96,14 +96,29 @@ fn link_part(alloc: Global, store: &mut Store, number: u32, part: Part) -> Resul
     ensures { Makes result store.new (with_next (Ok store.old) (number, part)) }
 {
     let Part { name, wasm, labels } = part;
-    let Ok(marks) = Marks::of(alloc, labels) else {
-        return Err(LinkError::Memory);
-    };
     let mut wasm = wasm.into_module();
-    link_module(alloc, store, number, name.as_slice(), &mut wasm, &marks)
+    link_labelled(alloc, store, number, name.as_slice(), &mut wasm, labels)
 }
 
-/// A part is linked by its name, its module and its labels; its bodies are moved.
+/// A part is linked by its name, its module and its labels as they are listed; its bodies are moved.
+fn link_labelled(
+    alloc: Global,
+    store: &mut Store,
+    number: u32,
+    name: &[u8],
+    wasm: &mut Module,
+    labels: Labels,
+) -> Result<(), LinkError>
+    requires { CanLink store.old (part_of name.now wasm.old labels) }
+    ensures { Makes result store.new (with_next (Ok store.old) (number, part_of name.now wasm.old labels)) }
+{
+    match Marks::of(alloc, labels) {
+        Ok(marks) => link_module(alloc, store, number, name, wasm, &marks),
+        Err(_) => Err(LinkError::Memory),
+    }
+}
+
+/// A part is linked by its name, its module and its marks; its bodies are moved.
 fn link_module(
     alloc: Global,
     store: &mut Store,

@@ -16,7 +16,5 @@ returns c =
     (shown new.machine) (seen_in c.in_ok-seen.seen) c.in_ok-rob.ensures.0 c.in_ok-rob.ensures.1 c.in_ok-seen.ensures.seen in
     let same : new.program ≡ c.args.program.now = c.in_ok-seen.ensures.same ∙ c.in_ok-rob.ensures.0 in
     let refused = ap (λ (o : Observed). o.refused) both.0 in
-    let first = c.in_ok-text.ensures ∙ ap (flat_map observation_text) (c.as_slice.ensures ∙ ap (λ (o : Observed). o.made) both.0) in
-    let last = c.deref.ensures.value ∙ (c.in_ok-last.ensures ∙ (λ i. last_text entered (outcome_in (same i) (both.1 i)) (refused i))) in
-    let text = c.in_ok-extend_from_slice.ensures.items ∙ (λ i. first i ++ last i) in
+    let text = c.in_ok-text.ensures ∙ (λ i. flat_map observation_text (both.0 i).made ++ last_text entered (outcome_in (same i) (both.1 i)) (refused i)) in
     λ i. record { status = (c.spec_status.ensures ∙ ap spec_status refused) i; keeps = map keep_in (c.new.ensures.items i); text = text i }
