@@ -1,6 +1,8 @@
 //! Levels and advances, by hand: of each node the level of its in place, and then that of its out place.
+ghost use Rattle.bl_flow.specs.Residuals.{AreLevelsOf};
+
 use crate::networks::{crossing, is_fit, ladder};
-use bl_base::{List, NoMemory};
+use bl_base::NoMemory;
 use bl_flow::{Network, Residual, advance, levels, pack};
 use std::alloc::Global;
 use std::test::Fail;
@@ -14,13 +16,50 @@ fn packed(alloc: Global, n: &Network) -> Result<Option<Residual>, NoMemory> {
     Ok(Some(r))
 }
 
-/// An advance, and the levels before it.
-fn step(alloc: Global, r: Residual) -> Result<(Residual, u64, List<Option<u64>>), NoMemory> {
-    let before = levels(alloc, &r)?;
-    match advance(alloc, r, before.as_slice()) {
-        Ok((r, more)) => Ok((r, more, before)),
-        Err((_, error)) => Err(error),
+/// The residual network of the crossing in which nothing flows.
+fn packed_crossing(alloc: Global) -> Result<Option<Residual>, NoMemory> {
+    let n = crossing(alloc)?;
+    let r = packed(alloc, &n);
+    drop(n);
+    r
+}
+
+/// The residual network of a ladder in which nothing flows.
+fn packed_ladder(alloc: Global) -> Result<Option<Residual>, NoMemory> {
+    let n = ladder(alloc, 12)?;
+    let r = packed(alloc, &n);
+    drop(n);
+    r
+}
+
+/// The residual network behind an advance on those levels, and how much more flows.
+fn advanced(alloc: Global, r: Residual, levels: &[Option<u64>]) -> Result<(Residual, u64), NoMemory>
+    requires { AreLevelsOf r levels.now }
+{
+    match advance(alloc, r, levels) {
+        Ok(next) => Ok(next),
+        Err((r, error)) => {
+            drop(r);
+            Err(error)
+        }
     }
+}
+
+/// The residual network behind an advance, and how much more flows.
+fn step(alloc: Global, r: Residual) -> Result<(Residual, u64), NoMemory> {
+    match levels(alloc, &r) {
+        Ok(before) => advanced(alloc, r, before.as_slice()),
+        Err(error) => {
+            drop(r);
+            Err(error)
+        }
+    }
+}
+
+/// Whether the levels are those.
+fn has_levels(alloc: Global, r: &Residual, wanted: &[Option<u64>]) -> Result<bool, NoMemory> {
+    let found = levels(alloc, r)?;
+    Ok(found.as_slice() == wanted)
 }
 
 /// What an advance adds, the amount behind it, and the levels before it.
@@ -95,30 +134,57 @@ static ADVANCES: [Advance; 3] = [
     ),
 ];
 
-/// How many advances of the crossing are as they have to be before the first that isn't.
-fn rising(alloc: Global) -> Result<u32, NoMemory> {
-    let n = crossing(alloc)?;
-    let Some(mut r) = packed(alloc, &n)? else {
-        return Ok(0);
-    };
+/// The residual network behind an advance, and whether it and the levels before it are as they have to be.
+fn rise(alloc: Global, r: Residual, wanted: &Advance) -> Result<(Residual, bool), NoMemory> {
+    let (wanted_more, wanted_amount, before) = *wanted;
+    match has_levels(alloc, &r, before) {
+        Ok(is_level) => {
+            let (next, more) = step(alloc, r)?;
+            let is_right = is_level && more == wanted_more && next.amount() == wanted_amount;
+            Ok((next, is_right))
+        }
+        Err(error) => {
+            drop(r);
+            Err(error)
+        }
+    }
+}
+
+/// How many advances are as they have to be before the first that isn't.
+fn count_rises(alloc: Global, first: Residual) -> Result<u32, NoMemory> {
+    let mut r = first;
     let mut passed = 0u32;
-    for (wanted, amount, before) in &ADVANCES {
-        let (next, more, found) = step(alloc, r)?;
-        let is_right = more == *wanted && next.amount() == *amount && found.as_slice() == *before;
+    for wanted in &ADVANCES {
+        let (next, is_right) = rise(alloc, r, wanted)?;
+        r = next;
         if !is_right {
             break;
         }
-        r = next;
         passed = passed.wrapping_add(1);
     }
+    drop(r);
     Ok(passed)
+}
+
+/// How many advances of the crossing are as they have to be before the first that isn't.
+fn rising(alloc: Global) -> Result<u32, NoMemory> {
+    match packed_crossing(alloc)? {
+        Some(r) => count_rises(alloc, r),
+        None => Ok(0),
+    }
+}
+
+/// Whether nothing flows.
+fn is_empty(r: Residual) -> bool {
+    let is_empty = r.amount() == 0;
+    drop(r);
+    is_empty
 }
 
 /// Whether nothing flows through the crossing at first.
 fn begins_empty(alloc: Global) -> Result<bool, NoMemory> {
-    let n = crossing(alloc)?;
-    match packed(alloc, &n)? {
-        Some(r) => Ok(r.amount() == 0),
+    match packed_crossing(alloc)? {
+        Some(r) => Ok(is_empty(r)),
         None => Ok(false),
     }
 }
@@ -130,24 +196,31 @@ fn the_end_rises_until_it_has_no_level(rt: HostRuntime) -> Result<(), Fail> {
     Ok(())
 }
 
+/// How many advances add 1 before the first that adds nothing, and the amount then; None where one adds more, or the amount is
+/// not how many there were.
+fn climb(alloc: Global, first: Residual) -> Result<Option<(u64, u64)>, NoMemory> {
+    let mut r = first;
+    let mut climbed = None;
+    for before in 0..13u64 {
+        let (next, more) = step(alloc, r)?;
+        r = next;
+        if more == 0 {
+            climbed = Some((before, r.amount()));
+        }
+        if more != 1 || r.amount() != before + 1 {
+            break;
+        }
+    }
+    drop(r);
+    Ok(climbed)
+}
+
 /// How many advances of a ladder add 1 before the first that doesn't, and the amount then.
 fn climbed(alloc: Global) -> Result<Option<(u64, u64)>, NoMemory> {
-    let n = ladder(alloc, 12)?;
-    let Some(mut r) = packed(alloc, &n)? else {
-        return Ok(None);
-    };
-    for before in 0..13u64 {
-        let (next, more, _) = step(alloc, r)?;
-        if more != 1 || next.amount() != before + 1 {
-            return Ok(if more == 0 {
-                Some((before, next.amount()))
-            } else {
-                None
-            });
-        }
-        r = next;
+    match packed_ladder(alloc)? {
+        Some(r) => climb(alloc, r),
+        None => Ok(None),
     }
-    Ok(None)
 }
 
 #[test]
