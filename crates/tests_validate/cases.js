@@ -318,20 +318,27 @@ const body_table = (name, title, cases) => {
   const rows = cases.map(([hex, what, profile]) => {
     const answer = judged({ ...base, bodies: [hex] }) === "None";
     if (profile === answer) throw new Error(what);
-    return `    // ${what}\n    (${bytes(hex)}, ${profile === undefined ? answer : profile}),`;
+    if (/["\\]/.test(what)) throw new Error(what);
+    return `${hex} = ${(profile === undefined ? answer : profile) ? "valid" : "refused"}, ${what}`.trim();
   });
-  return `/// ${title}, without their \`end\`, in the binary format, and whether the module round each is valid.\npub(super) static ${name}: [(&[u8], bool); ${cases.length}] = [\n${rows.join("\n")}\n];\n`;
+  return `/// ${title}.\npub(super) const ${name}: &str = "\\\n${rows.join("\n")}\n";\n`;
+};
+// the changes of the module above; where all parts of the bare one are given, those of the bare one
+const changes = parts => {
+  if (!Object.keys(bare).every(name => name in parts)) return Object.entries(parts).map(change);
+  const others = Object.entries(parts).filter(([name, v]) => JSON.stringify(v) !== JSON.stringify(bare[name]));
+  return ["Change::Bare", ...others.map(change)];
 };
 const module_table = (name, title, modules) => {
   const rows = modules.map(([what, parts, profile]) => {
     const answer = judged({ ...base, ...parts });
     if (profile === answer) throw new Error(what);
-    return `    // ${what}\n    (${list(Object.entries(parts).map(change))}, ${profile || answer}),`;
+    return `    // ${what}\n    (${list(changes(parts))}, ${profile || answer}),`;
   });
   return `/// ${title}.\npub(super) static ${name}: [Case; ${modules.length}] = [\n${rows.join("\n")}\n];\n`;
 };
 
-writeFileSync(`${process.argv[2]}/validate_bodies.rt`, ["//! Bodies that were judged elsewhere.\n",
+writeFileSync(`${process.argv[2]}/validate_bodies.rt`, ["//! Bodies that were judged elsewhere, each on a line: in the binary format, without its `end`, and whether the module round it\n//! is valid.\n",
   body_table("BODIES", "Bodies", bodies), body_table("SEVERAL", "Bodies with blocks that have parameters or several results", several)].join("\n"));
 writeFileSync(`${process.argv[2]}/validate_modules.rt`, ["//! Modules that were judged elsewhere, by the parts that differ from those of a valid one.\nuse super::validate::{CONSTANT, Case, Change, FUNCTION, RULE};\nuse bl_validate::Invalid;\nuse bl_wasm::WasmType::{F32, F64, I32, I64};\nuse bl_wasm::{ExportKind, GlobalType, ImportKind, Limits};\n",
   module_table("TYPES", "Types and functions", type_cases), module_table("CODE", "Code", code_cases), module_table("STORES", "Tables, memories and globals", store_cases),

@@ -14,7 +14,7 @@ use super::validate_bodies::{BODIES, SEVERAL};
 use super::validate_modules::{CODE, SEGMENTS, STORES, TYPES};
 use bl_base::{List, NoMemory, Text};
 use bl_ops::{AccessKind, by_code};
-use bl_validate::{Invalid, validate};
+use bl_validate::{Invalid, ValidModule, validate};
 use bl_wasm::WasmType::{self, F32, F64, I32, I64};
 use bl_wasm::{
     BlockType, Code, DataSegment, DefinedGlobal, ElementSegment, Export, ExportKind, FloatOp,
@@ -62,6 +62,8 @@ pub(crate) struct Parts {
 /// A part that stands in the place of that of `AROUND`.
 #[derive(Clone, Copy)]
 pub(crate) enum Change {
+    /// All parts are those of `BARE`.
+    Bare,
     Types(&'static [(&'static [WasmType], &'static [WasmType])]),
     Imports(&'static [ImportKind]),
     Functions(&'static [u32]),
@@ -102,6 +104,22 @@ static AROUND: Parts = Parts {
     segments: &[],
     locals: &[(1, I64)],
     bodies: &[&[0x20, 0x00]],
+};
+
+/// A module with one function alone, of no parameters, results and locals.
+static BARE: Parts = Parts {
+    types: &[(&[], &[])],
+    imports: &[],
+    functions: &[0],
+    tables: &[],
+    memories: &[],
+    globals: &[],
+    exports: &[],
+    start: None,
+    elements: &[],
+    segments: &[],
+    locals: &[],
+    bodies: &[&[]],
 };
 
 /// The list of a few values.
@@ -366,9 +384,15 @@ fn module_of(alloc: Global, parts: &Parts, bodies: &[&[u8]]) -> Result<Module, N
     Ok(tree)
 }
 
+/// The parts of `BARE`.
+fn bare() -> Parts {
+    BARE
+}
+
 /// Puts a part in its place.
 fn put_change(change: Change, parts: &mut Parts) {
     match change {
+        Change::Bare => *parts = bare(),
         Change::Types(types) => parts.types = types,
         Change::Imports(imports) => parts.imports = imports,
         Change::Functions(functions) => parts.functions = functions,
@@ -406,80 +430,137 @@ fn is_small(tree: &Module) -> bool
     tree.imports.len() < 100 && tree.functions.len() < 100
 }
 
-/// Why a module of few functions isn't valid; None where it is.
-fn judged(alloc: Global, tree: Module) -> Option<Invalid>
+/// What the validator says of a module.
+#[derive(Clone, Copy)]
+struct Judgement {
+    /// Why the module isn't valid; None where it is.
+    reason: Option<Invalid>,
+    /// Whether it came back as one of `TWO_MEMORIES`.
+    has_second_memory: bool,
+}
+
+/// Whether the module is one of those two memories.
+fn has_second_memory(tree: &Module) -> bool {
+    matches!(
+        tree.memories.as_slice().get(1),
+        Some(Limits { max: Some(3), .. })
+    )
+}
+
+/// What the validator's answer says.
+fn judgement_of(answer: &Result<ValidModule, (Module, Invalid)>) -> Judgement {
+    match answer {
+        Ok(_) => Judgement {
+            reason: None,
+            has_second_memory: false,
+        },
+        Err((tree, reason)) => Judgement {
+            reason: Some(*reason),
+            has_second_memory: has_second_memory(tree),
+        },
+    }
+}
+
+/// What the validator says of a module of few functions.
+fn judged(alloc: Global, tree: Module) -> Judgement
     requires { length (functions_of tree) < 2 ^ 32 }
 {
-    match &validate(alloc, tree) {
-        Ok(_) => None,
-        Err((_, reason)) => Some(*reason),
-    }
+    judgement_of(&validate(alloc, tree))
 }
 
-/// Why the module of the parts with those bodies isn't valid; None where it is.
-fn verdict(alloc: Global, parts: &Parts, bodies: &[&[u8]]) -> Result<Option<Invalid>, NoMemory> {
-    let tree = module_of(alloc, parts, bodies)?;
+/// What the validator says of a module; one of too many functions isn't shown to it.
+fn judged_if_small(alloc: Global, tree: Module) -> Judgement {
     if !is_small(&tree) {
-        return Ok(Some(Invalid::Memory));
-    }
-    Ok(judged(alloc, tree))
-}
-
-/// The first of the bodies that is judged otherwise, and how.
-fn first_wrong_body(
-    alloc: Global,
-    parts: &Parts,
-    cases: &[(&[u8], bool)],
-) -> Result<Option<(usize, Option<Invalid>)>, NoMemory> {
-    for (at, (body, valid)) in cases.iter().enumerate() {
-        let wanted = if *valid {
-            None
-        } else {
-            Some(Invalid::Function(1))
+        return Judgement {
+            reason: Some(Invalid::Memory),
+            has_second_memory: false,
         };
-        let found = verdict(alloc, parts, &[*body])?;
-        if found != wanted {
-            return Ok(Some((at, found)));
-        }
     }
-    Ok(None)
+    judged(alloc, tree)
 }
 
-/// The bodies with blocks of at most one type.
-fn bodies() -> &'static [(&'static [u8], bool)] {
-    &BODIES
+/// What the validator says of the module of the parts with those bodies.
+fn verdict(alloc: Global, parts: &Parts, bodies: &[&[u8]]) -> Result<Judgement, NoMemory> {
+    Ok(judged_if_small(alloc, module_of(alloc, parts, bodies)?))
 }
 
-/// The bodies with blocks of several types.
-fn several() -> &'static [(&'static [u8], bool)] {
-    &SEVERAL
+/// The byte that two hexadecimal digits write; what is none is answered like want of memory.
+fn byte(digits: &str) -> Result<u8, NoMemory> {
+    match u8::from_str_radix(digits, 16) {
+        Ok(byte) => Ok(byte),
+        Err(_) => Err(NoMemory),
+    }
+}
+
+/// The bytes of a body in hexadecimal digits.
+fn body_of(alloc: Global, digits: &str) -> Result<Vec<u8>, NoMemory> {
+    let mut body = Vec::new(alloc);
+    for word in digits.split_whitespace() {
+        body.push(byte(word)?)?;
+    }
+    Ok(body)
+}
+
+/// Why the module round a body in hexadecimal digits isn't valid; None where it is.
+fn reason_of(alloc: Global, digits: &str) -> Result<Option<Invalid>, NoMemory> {
+    let body = body_of(alloc, digits)?;
+    Ok(verdict(alloc, &around(), &[body.as_slice()])?.reason)
+}
+
+/// Whether the module round the body of a line is judged as it says.
+fn is_judged(alloc: Global, line: &str) -> Result<bool, NoMemory> {
+    let Some((digits, answer)) = line.split_once('=') else {
+        return Ok(false);
+    };
+    let wanted = if answer.starts_with(" valid") {
+        None
+    } else {
+        Some(Invalid::Function(1))
+    };
+    Ok(reason_of(alloc, digits)? == wanted)
+}
+
+/// How many bodies are judged as their lines say before the first that isn't.
+fn judged_bodies(alloc: Global, cases: &str) -> Result<u32, NoMemory> {
+    let mut passed = 0u32;
+    for line in cases.lines() {
+        if !is_judged(alloc, line)? {
+            break;
+        }
+        passed = passed.wrapping_add(1);
+    }
+    Ok(passed)
 }
 
 #[test]
 fn bodies_are_judged_as_elsewhere(rt: HostRuntime) -> Result<(), Fail> {
-    assert_eq!(rt; first_wrong_body(rt.alloc(), &around(), bodies())?, None);
+    assert_eq!(rt; judged_bodies(rt.alloc(), BODIES)?, 130);
     Ok(())
 }
 
 #[test]
 fn blocks_of_several_types_are_judged_as_elsewhere(rt: HostRuntime) -> Result<(), Fail> {
-    assert_eq!(rt; first_wrong_body(rt.alloc(), &around(), several())?, None);
+    assert_eq!(rt; judged_bodies(rt.alloc(), SEVERAL)?, 79);
     Ok(())
 }
 
-/// The first of the cases that is judged otherwise, and how.
-fn first_wrong(
-    alloc: Global,
-    cases: &[Case],
-) -> Result<Option<(usize, Option<Invalid>)>, NoMemory> {
-    for (at, (changes, wanted)) in cases.iter().enumerate() {
-        let parts = changed(changes);
-        let found = verdict(alloc, &parts, parts.bodies)?;
-        if found != *wanted {
-            return Ok(Some((at, found)));
+/// Whether the module of a case is judged as it says.
+fn is_judged_so(alloc: Global, case: &Case) -> Result<bool, NoMemory> {
+    let (changes, wanted) = case;
+    let parts = changed(changes);
+    Ok(verdict(alloc, &parts, parts.bodies)?.reason == *wanted)
+}
+
+/// How many of the cases are judged as they say before the first that isn't.
+fn judged_cases(alloc: Global, cases: &[Case]) -> Result<u32, NoMemory> {
+    let mut passed = 0u32;
+    for case in cases {
+        if !is_judged_so(alloc, case)? {
+            break;
         }
+        passed = passed.wrapping_add(1);
     }
-    Ok(None)
+    Ok(passed)
 }
 
 /// Cases of types, and of imports and exports.
@@ -504,57 +585,36 @@ fn segments() -> &'static [Case] {
 
 #[test]
 fn types_are_judged_as_elsewhere(rt: HostRuntime) -> Result<(), Fail> {
-    assert_eq!(rt; first_wrong(rt.alloc(), types())?, None);
+    assert_eq!(rt; judged_cases(rt.alloc(), types())?, 26);
     Ok(())
 }
 
 #[test]
 fn code_is_judged_as_elsewhere(rt: HostRuntime) -> Result<(), Fail> {
-    assert_eq!(rt; first_wrong(rt.alloc(), code())?, None);
+    assert_eq!(rt; judged_cases(rt.alloc(), code())?, 16);
     Ok(())
 }
 
 #[test]
 fn stores_are_judged_as_elsewhere(rt: HostRuntime) -> Result<(), Fail> {
-    assert_eq!(rt; first_wrong(rt.alloc(), stores())?, None);
+    assert_eq!(rt; judged_cases(rt.alloc(), stores())?, 25);
     Ok(())
 }
 
 #[test]
 fn segments_are_judged_as_elsewhere(rt: HostRuntime) -> Result<(), Fail> {
-    assert_eq!(rt; first_wrong(rt.alloc(), segments())?, None);
+    assert_eq!(rt; judged_cases(rt.alloc(), segments())?, 32);
     Ok(())
 }
 
 /// Two memories, the second one of at most three pages.
 static TWO_MEMORIES: [Change; 1] = [Change::Memories(&[(1, None), (2, Some(3))])];
 
-/// Whether the module is one of those two memories.
-fn has_second_memory(tree: &Module) -> bool {
-    matches!(
-        tree.memories.as_slice().get(1),
-        Some(Limits { max: Some(3), .. })
-    )
-}
-
-/// Whether a module of few functions is refused for a rule, and comes back as one of those two memories.
-fn comes_back(alloc: Global, tree: Module) -> bool
-    requires { length (functions_of tree) < 2 ^ 32 }
-{
-    match &validate(alloc, tree) {
-        Ok(_) => false,
-        Err((tree, reason)) => *reason == Invalid::Module && has_second_memory(tree),
-    }
-}
-
-/// Whether the module of two memories is refused and comes back.
+/// Whether the module of two memories is refused for a rule and comes back.
 fn two_memories_come_back(alloc: Global) -> Result<bool, NoMemory> {
     let parts = changed(&TWO_MEMORIES);
-    let tree = module_of(alloc, &parts, parts.bodies)?;
-    if !is_small(&tree) {
-        return Ok(false);
-    }
-    Ok(comes_back(alloc, tree))
+    let found = verdict(alloc, &parts, parts.bodies)?;
+    Ok(found.reason == Some(Invalid::Module) && found.has_second_memory)
 }
 
 #[test]

@@ -1,730 +1,219 @@
-//! Bodies that were judged elsewhere.
+//! Bodies that were judged elsewhere, each on a line: in the binary format, without its `end`, and whether the module round it
+//! is valid.
 
-/// Bodies, without their `end`, in the binary format, and whether the module round each is valid.
-pub(super) static BODIES: [(&[u8], bool); 130] = [
-    // the parameter
-    (&[0x20, 0x00], true),
-    // no operand for the result
-    (&[], false),
-    // i32.add without operands
-    (&[0x6A, 0x20, 0x00], false),
-    // one operand too many
-    (&[0x20, 0x00, 0x20, 0x00], false),
-    // unreachable
-    (&[0x00], true),
-    // code behind unreachable: i32.add
-    (&[0x00, 0x6A], true),
-    // i64 for i32 behind unreachable
-    (&[0x00, 0x42, 0x00, 0x6A], false),
-    // an i64 result behind unreachable
-    (&[0x00, 0x42, 0x00], false),
-    // unknown operands behind unreachable
-    (&[0x00, 0x1A, 0x1B, 0x6A], true),
-    // too many known operands behind unreachable
-    (&[0x00, 0x41, 0x00, 0x41, 0x00, 0x41, 0x00], false),
-    // nop
-    (&[0x01, 0x20, 0x00], true),
-    // block
-    (&[0x02, 0x7F, 0x41, 0x00, 0x0B], true),
-    // block without its result
-    (&[0x02, 0x7F, 0x0B], false),
-    // block with an operand left
-    (&[0x02, 0x40, 0x41, 0x00, 0x0B, 0x20, 0x00], false),
-    // block takes nothing from outside
-    (&[0x20, 0x00, 0x02, 0x7F, 0x0B], false),
-    // a block drops an outer operand
-    (&[0x20, 0x00, 0x02, 0x40, 0x1A, 0x0B], false),
-    // a block of i64
-    (&[0x02, 0x7E, 0x42, 0x00, 0x0B, 0xA7], true),
-    // loop
-    (&[0x03, 0x7F, 0x41, 0x00, 0x0B], true),
-    // branch to a loop with an operand left
-    (&[0x03, 0x7F, 0x41, 0x00, 0x0C, 0x00, 0x0B], true),
-    // branch to a loop takes nothing
-    (&[0x03, 0x7F, 0x0C, 0x00, 0x0B], true),
-    // endless loop
-    (&[0x03, 0x40, 0x0C, 0x00, 0x0B, 0x41, 0x00], true),
-    // br_if to a loop
-    (
-        &[0x03, 0x7F, 0x20, 0x00, 0x0D, 0x00, 0x41, 0x00, 0x0B],
-        true,
-    ),
-    // if with both parts
-    (
-        &[0x20, 0x00, 0x04, 0x7F, 0x41, 0x01, 0x05, 0x41, 0x02, 0x0B],
-        true,
-    ),
-    // if without else has a result
-    (&[0x20, 0x00, 0x04, 0x7F, 0x41, 0x01, 0x0B], false),
-    // if without else or result
-    (&[0x20, 0x00, 0x04, 0x40, 0x01, 0x0B, 0x41, 0x02], true),
-    // if without a condition
-    (&[0x04, 0x40, 0x0B, 0x41, 0x02], false),
-    // if with an i64 condition
-    (&[0x42, 0x00, 0x04, 0x40, 0x0B, 0x41, 0x02], false),
-    // else part without its result
-    (&[0x20, 0x00, 0x04, 0x7F, 0x41, 0x01, 0x05, 0x0B], false),
-    // then part without its result
-    (&[0x20, 0x00, 0x04, 0x7F, 0x05, 0x41, 0x01, 0x0B], false),
-    // both parts can't be reached
-    (&[0x20, 0x00, 0x04, 0x7F, 0x00, 0x05, 0x00, 0x0B], true),
-    // then part of i64
-    (
-        &[0x20, 0x00, 0x04, 0x7F, 0x42, 0x00, 0x05, 0x41, 0x01, 0x0B],
-        false,
-    ),
-    // then part leaves an operand
-    (
-        &[0x20, 0x00, 0x04, 0x40, 0x41, 0x00, 0x05, 0x0B, 0x20, 0x00],
-        false,
-    ),
-    // br to a block
-    (&[0x02, 0x7F, 0x41, 0x05, 0x0C, 0x00, 0x0B], true),
-    // br without the operand
-    (&[0x02, 0x7F, 0x0C, 0x00, 0x0B], false),
-    // br to the function
-    (&[0x41, 0x01, 0x0C, 0x00], true),
-    // br to no label
-    (&[0x41, 0x01, 0x0C, 0x01], false),
-    // br to the function without its result
-    (&[0x0C, 0x00], false),
-    // br out of a block to the function
-    (
-        &[0x02, 0x40, 0x41, 0x07, 0x0C, 0x01, 0x0B, 0x20, 0x00],
-        true,
-    ),
-    // code behind br
-    (&[0x41, 0x01, 0x0C, 0x00, 0x6A], true),
-    // i32.add behind br in a block
-    (
-        &[0x02, 0x40, 0x0C, 0x00, 0x6A, 0x1A, 0x0B, 0x20, 0x00],
-        true,
-    ),
-    // br with an i64
-    (&[0x42, 0x01, 0x0C, 0x00], false),
-    // br_if
-    (
-        &[0x02, 0x7F, 0x41, 0x01, 0x20, 0x00, 0x0D, 0x00, 0x0B],
-        true,
-    ),
-    // br_if without the operand
-    (&[0x02, 0x7F, 0x20, 0x00, 0x0D, 0x00, 0x0B], false),
-    // br_if with an i64 condition
-    (
-        &[0x02, 0x7F, 0x41, 0x01, 0x42, 0x00, 0x0D, 0x00, 0x0B],
-        false,
-    ),
-    // br_if behind unreachable
-    (&[0x02, 0x7F, 0x00, 0x0D, 0x00, 0x0B], true),
-    // br_if to no label
-    (&[0x41, 0x01, 0x20, 0x00, 0x0D, 0x01], false),
-    // br_if leaves the label's types
-    (
-        &[0x02, 0x7E, 0x00, 0x41, 0x00, 0x0D, 0x00, 0x0B, 0xA7],
-        true,
-    ),
-    // br_if leaves the label's types, used as another
-    (
-        &[0x02, 0x7E, 0x00, 0x41, 0x00, 0x0D, 0x00, 0x6A, 0x0B, 0xA7],
-        false,
-    ),
-    // br_table
-    (
-        &[
-            0x02, 0x7F, 0x41, 0x01, 0x20, 0x00, 0x0E, 0x01, 0x00, 0x01, 0x0B,
-        ],
-        true,
-    ),
-    // br_table of labels with different types
-    (
-        &[
-            0x02, 0x40, 0x41, 0x01, 0x20, 0x00, 0x0E, 0x01, 0x00, 0x01, 0x0B, 0x20, 0x00,
-        ],
-        false,
-    ),
-    // br_table to no label
-    (
-        &[0x02, 0x7F, 0x41, 0x01, 0x20, 0x00, 0x0E, 0x00, 0x02, 0x0B],
-        false,
-    ),
-    // br_table with an entry to no label
-    (
-        &[
-            0x02, 0x7F, 0x41, 0x01, 0x20, 0x00, 0x0E, 0x01, 0x02, 0x00, 0x0B,
-        ],
-        false,
-    ),
-    // br_table without the operand
-    (&[0x02, 0x7F, 0x20, 0x00, 0x0E, 0x00, 0x00, 0x0B], false),
-    // br_table with an i64 index
-    (
-        &[0x02, 0x7F, 0x41, 0x01, 0x42, 0x00, 0x0E, 0x00, 0x00, 0x0B],
-        false,
-    ),
-    // br_table to a loop and a block with a result
-    (
-        &[
-            0x03, 0x7F, 0x02, 0x7F, 0x41, 0x01, 0x20, 0x00, 0x0E, 0x01, 0x00, 0x01, 0x0B, 0x0B,
-        ],
-        false,
-    ),
-    // br_table to a loop and a block without
-    (
-        &[
-            0x03, 0x40, 0x02, 0x40, 0x20, 0x00, 0x0E, 0x01, 0x00, 0x01, 0x0B, 0x0B, 0x20, 0x00,
-        ],
-        true,
-    ),
-    // code behind br_table
-    (&[0x41, 0x01, 0x20, 0x00, 0x0E, 0x00, 0x00, 0x6A], true),
-    // return
-    (&[0x41, 0x01, 0x0F], true),
-    // return without the result
-    (&[0x0F], false),
-    // return of an i64
-    (&[0x42, 0x01, 0x0F], false),
-    // return out of a block
-    (&[0x02, 0x40, 0x41, 0x01, 0x0F, 0x0B, 0x20, 0x00], true),
-    // code behind return
-    (&[0x41, 0x01, 0x0F, 0x6A, 0x1A, 0x41, 0x01], true),
-    // call of an import
-    (&[0x20, 0x00, 0x10, 0x00], true),
-    // call without the parameter
-    (&[0x10, 0x00], false),
-    // call of itself
-    (&[0x20, 0x00, 0x10, 0x01], true),
-    // call of no function
-    (&[0x20, 0x00, 0x10, 0x02], false),
-    // call with an i64
-    (&[0x20, 0x01, 0x10, 0x00], false),
-    // call of no function behind unreachable
-    (&[0x00, 0x10, 0x02], false),
-    // call_indirect
-    (&[0x20, 0x00, 0x20, 0x00, 0x11, 0x01, 0x00], true),
-    // call_indirect without the parameter
-    (&[0x20, 0x00, 0x11, 0x01, 0x00], false),
-    // call_indirect of no type
-    (&[0x20, 0x00, 0x20, 0x00, 0x11, 0x09, 0x00], false),
-    // call_indirect of two parameters
-    (
-        &[0x20, 0x00, 0x20, 0x01, 0x20, 0x00, 0x11, 0x02, 0x00, 0xA7],
-        true,
-    ),
-    // call_indirect with an i64 slot
-    (&[0x20, 0x00, 0x20, 0x01, 0x11, 0x01, 0x00], false),
-    // drop
-    (&[0x20, 0x00, 0x1A, 0x41, 0x01], true),
-    // drop of nothing
-    (&[0x1A, 0x41, 0x01], false),
-    // select
-    (&[0x20, 0x00, 0x41, 0x01, 0x20, 0x00, 0x1B], true),
-    // select of different types
-    (&[0x20, 0x01, 0x41, 0x01, 0x20, 0x00, 0x1B], false),
-    // select by an i64
-    (&[0x20, 0x00, 0x41, 0x01, 0x20, 0x01, 0x1B], false),
-    // select of i64
-    (&[0x20, 0x01, 0x42, 0x00, 0x41, 0x00, 0x1B, 0xA7], true),
-    // select of a known and an unknown, used as another
-    (&[0x00, 0x42, 0x00, 0x41, 0x00, 0x1B, 0x6A], false),
-    // select of unknowns
-    (&[0x00, 0x41, 0x00, 0x1B], true),
-    // local.get
-    (&[0x20, 0x01, 0xA7], true),
-    // local.get of no local
-    (&[0x20, 0x02], false),
-    // local.set
-    (&[0x41, 0x01, 0x21, 0x00, 0x20, 0x00], true),
-    // local.set of another type
-    (&[0x41, 0x01, 0x21, 0x01, 0x20, 0x00], false),
-    // local.tee
-    (&[0x41, 0x01, 0x22, 0x00], true),
-    // local.tee of i64
-    (&[0x42, 0x01, 0x22, 0x01, 0xA7], true),
-    // local.tee of another type
-    (&[0x42, 0x01, 0x22, 0x00], false),
-    // local.set of no local
-    (&[0x41, 0x01, 0x21, 0x02, 0x20, 0x00], false),
-    // global.get
-    (&[0x23, 0x00], true),
-    // global.get of i64
-    (&[0x23, 0x01, 0xA7], true),
-    // global.get of no global
-    (&[0x23, 0x02], false),
-    // global.set
-    (&[0x42, 0x01, 0x24, 0x01, 0x20, 0x00], true),
-    // global.set of an immutable global
-    (&[0x41, 0x01, 0x24, 0x00, 0x20, 0x00], false),
-    // global.set of another type
-    (&[0x41, 0x01, 0x24, 0x01, 0x20, 0x00], false),
-    // global.set of no global
-    (&[0x42, 0x01, 0x24, 0x02, 0x20, 0x00], false),
-    // i32.load
-    (&[0x20, 0x00, 0x28, 0x02, 0x00], true),
-    // i32.load aligned too much
-    (&[0x20, 0x00, 0x28, 0x03, 0x00], false),
-    // i64.load
-    (&[0x20, 0x00, 0x29, 0x03, 0x00, 0xA7], true),
-    // i64.load aligned too much
-    (&[0x20, 0x00, 0x29, 0x04, 0x00, 0xA7], false),
-    // i32.load8_u
-    (&[0x20, 0x00, 0x2D, 0x00, 0x00], true),
-    // i32.load8_u aligned too much
-    (&[0x20, 0x00, 0x2D, 0x01, 0x00], false),
-    // a load at an i64
-    (&[0x20, 0x01, 0x28, 0x02, 0x00], false),
-    // i64.load32_s
-    (&[0x20, 0x00, 0x34, 0x02, 0x00, 0xA7], true),
-    // i64.load32_s aligned too much
-    (&[0x20, 0x00, 0x34, 0x03, 0x00, 0xA7], false),
-    // i32.store
-    (
-        &[0x20, 0x00, 0x41, 0x01, 0x36, 0x02, 0x00, 0x20, 0x00],
-        true,
-    ),
-    // i32.store aligned too much
-    (
-        &[0x20, 0x00, 0x41, 0x01, 0x36, 0x03, 0x00, 0x20, 0x00],
-        false,
-    ),
-    // i32.store of an i64
-    (
-        &[0x20, 0x00, 0x42, 0x01, 0x36, 0x02, 0x00, 0x20, 0x00],
-        false,
-    ),
-    // i64.store16
-    (
-        &[0x20, 0x00, 0x42, 0x01, 0x3D, 0x01, 0x00, 0x20, 0x00],
-        true,
-    ),
-    // i64.store16 aligned too much
-    (
-        &[0x20, 0x00, 0x42, 0x01, 0x3D, 0x02, 0x00, 0x20, 0x00],
-        false,
-    ),
-    // memory.size
-    (&[0x3F, 0x00], true),
-    // memory.grow
-    (&[0x20, 0x00, 0x40, 0x00], true),
-    // memory.grow without operand
-    (&[0x40, 0x00], false),
-    // memory.grow of an i64
-    (&[0x20, 0x01, 0x40, 0x00], false),
-    // i64.const for i32
-    (&[0x42, 0x01], false),
-    // i32.eqz
-    (&[0x20, 0x00, 0x45], true),
-    // i64.eqz
-    (&[0x20, 0x01, 0x50], true),
-    // i32.eqz of an i64
-    (&[0x20, 0x01, 0x45], false),
-    // i64.add
-    (&[0x20, 0x01, 0x20, 0x01, 0x7C, 0xA7], true),
-    // i64.add of an i32
-    (&[0x20, 0x01, 0x20, 0x00, 0x7C, 0xA7], false),
-    // i64.extend_i32_u
-    (&[0x20, 0x00, 0xAD, 0xA7], true),
-    // i32.clz
-    (&[0x20, 0x00, 0x67], true),
-    // else without if
-    (&[0x05, 0x20, 0x00], false),
-    // a second else
-    (
-        &[0x20, 0x00, 0x04, 0x40, 0x05, 0x05, 0x0B, 0x20, 0x00],
-        false,
-    ),
-    // else in a block
-    (&[0x02, 0x40, 0x05, 0x0B, 0x20, 0x00], false),
-    // an end too many
-    (&[0x20, 0x00, 0x0B, 0x20, 0x00], false),
-    // a block that isn't closed
-    (&[0x02, 0x7F, 0x20, 0x00], false),
-    // a branch to a loop leaves operands
-    (
-        &[0x03, 0x40, 0x41, 0x00, 0x0C, 0x00, 0x0B, 0x20, 0x00],
-        true,
-    ),
-    // br_if to a loop keeps its operand
-    (
-        &[0x03, 0x7F, 0x41, 0x00, 0x20, 0x00, 0x0D, 0x00, 0x0B],
-        true,
-    ),
-    // else part of i64 behind unreachable
-    (
-        &[
-            0x02, 0x40, 0x00, 0x04, 0x7F, 0x41, 0x01, 0x05, 0x42, 0x01, 0x0B, 0x1A, 0x0B, 0x20,
-            0x00,
-        ],
-        false,
-    ),
-];
+/// Bodies.
+pub(super) const BODIES: &str = "\
+20 00 = valid, the parameter
+= refused, no operand for the result
+6A 20 00 = refused, i32.add without operands
+20 00 20 00 = refused, one operand too many
+00 = valid, unreachable
+00 6A = valid, code behind unreachable: i32.add
+00 42 00 6A = refused, i64 for i32 behind unreachable
+00 42 00 = refused, an i64 result behind unreachable
+00 1A 1B 6A = valid, unknown operands behind unreachable
+00 41 00 41 00 41 00 = refused, too many known operands behind unreachable
+01 20 00 = valid, nop
+02 7F 41 00 0B = valid, block
+02 7F 0B = refused, block without its result
+02 40 41 00 0B 20 00 = refused, block with an operand left
+20 00 02 7F 0B = refused, block takes nothing from outside
+20 00 02 40 1A 0B = refused, a block drops an outer operand
+02 7E 42 00 0B A7 = valid, a block of i64
+03 7F 41 00 0B = valid, loop
+03 7F 41 00 0C 00 0B = valid, branch to a loop with an operand left
+03 7F 0C 00 0B = valid, branch to a loop takes nothing
+03 40 0C 00 0B 41 00 = valid, endless loop
+03 7F 20 00 0D 00 41 00 0B = valid, br_if to a loop
+20 00 04 7F 41 01 05 41 02 0B = valid, if with both parts
+20 00 04 7F 41 01 0B = refused, if without else has a result
+20 00 04 40 01 0B 41 02 = valid, if without else or result
+04 40 0B 41 02 = refused, if without a condition
+42 00 04 40 0B 41 02 = refused, if with an i64 condition
+20 00 04 7F 41 01 05 0B = refused, else part without its result
+20 00 04 7F 05 41 01 0B = refused, then part without its result
+20 00 04 7F 00 05 00 0B = valid, both parts can't be reached
+20 00 04 7F 42 00 05 41 01 0B = refused, then part of i64
+20 00 04 40 41 00 05 0B 20 00 = refused, then part leaves an operand
+02 7F 41 05 0C 00 0B = valid, br to a block
+02 7F 0C 00 0B = refused, br without the operand
+41 01 0C 00 = valid, br to the function
+41 01 0C 01 = refused, br to no label
+0C 00 = refused, br to the function without its result
+02 40 41 07 0C 01 0B 20 00 = valid, br out of a block to the function
+41 01 0C 00 6A = valid, code behind br
+02 40 0C 00 6A 1A 0B 20 00 = valid, i32.add behind br in a block
+42 01 0C 00 = refused, br with an i64
+02 7F 41 01 20 00 0D 00 0B = valid, br_if
+02 7F 20 00 0D 00 0B = refused, br_if without the operand
+02 7F 41 01 42 00 0D 00 0B = refused, br_if with an i64 condition
+02 7F 00 0D 00 0B = valid, br_if behind unreachable
+41 01 20 00 0D 01 = refused, br_if to no label
+02 7E 00 41 00 0D 00 0B A7 = valid, br_if leaves the label's types
+02 7E 00 41 00 0D 00 6A 0B A7 = refused, br_if leaves the label's types, used as another
+02 7F 41 01 20 00 0E 01 00 01 0B = valid, br_table
+02 40 41 01 20 00 0E 01 00 01 0B 20 00 = refused, br_table of labels with different types
+02 7F 41 01 20 00 0E 00 02 0B = refused, br_table to no label
+02 7F 41 01 20 00 0E 01 02 00 0B = refused, br_table with an entry to no label
+02 7F 20 00 0E 00 00 0B = refused, br_table without the operand
+02 7F 41 01 42 00 0E 00 00 0B = refused, br_table with an i64 index
+03 7F 02 7F 41 01 20 00 0E 01 00 01 0B 0B = refused, br_table to a loop and a block with a result
+03 40 02 40 20 00 0E 01 00 01 0B 0B 20 00 = valid, br_table to a loop and a block without
+41 01 20 00 0E 00 00 6A = valid, code behind br_table
+41 01 0F = valid, return
+0F = refused, return without the result
+42 01 0F = refused, return of an i64
+02 40 41 01 0F 0B 20 00 = valid, return out of a block
+41 01 0F 6A 1A 41 01 = valid, code behind return
+20 00 10 00 = valid, call of an import
+10 00 = refused, call without the parameter
+20 00 10 01 = valid, call of itself
+20 00 10 02 = refused, call of no function
+20 01 10 00 = refused, call with an i64
+00 10 02 = refused, call of no function behind unreachable
+20 00 20 00 11 01 00 = valid, call_indirect
+20 00 11 01 00 = refused, call_indirect without the parameter
+20 00 20 00 11 09 00 = refused, call_indirect of no type
+20 00 20 01 20 00 11 02 00 A7 = valid, call_indirect of two parameters
+20 00 20 01 11 01 00 = refused, call_indirect with an i64 slot
+20 00 1A 41 01 = valid, drop
+1A 41 01 = refused, drop of nothing
+20 00 41 01 20 00 1B = valid, select
+20 01 41 01 20 00 1B = refused, select of different types
+20 00 41 01 20 01 1B = refused, select by an i64
+20 01 42 00 41 00 1B A7 = valid, select of i64
+00 42 00 41 00 1B 6A = refused, select of a known and an unknown, used as another
+00 41 00 1B = valid, select of unknowns
+20 01 A7 = valid, local.get
+20 02 = refused, local.get of no local
+41 01 21 00 20 00 = valid, local.set
+41 01 21 01 20 00 = refused, local.set of another type
+41 01 22 00 = valid, local.tee
+42 01 22 01 A7 = valid, local.tee of i64
+42 01 22 00 = refused, local.tee of another type
+41 01 21 02 20 00 = refused, local.set of no local
+23 00 = valid, global.get
+23 01 A7 = valid, global.get of i64
+23 02 = refused, global.get of no global
+42 01 24 01 20 00 = valid, global.set
+41 01 24 00 20 00 = refused, global.set of an immutable global
+41 01 24 01 20 00 = refused, global.set of another type
+42 01 24 02 20 00 = refused, global.set of no global
+20 00 28 02 00 = valid, i32.load
+20 00 28 03 00 = refused, i32.load aligned too much
+20 00 29 03 00 A7 = valid, i64.load
+20 00 29 04 00 A7 = refused, i64.load aligned too much
+20 00 2D 00 00 = valid, i32.load8_u
+20 00 2D 01 00 = refused, i32.load8_u aligned too much
+20 01 28 02 00 = refused, a load at an i64
+20 00 34 02 00 A7 = valid, i64.load32_s
+20 00 34 03 00 A7 = refused, i64.load32_s aligned too much
+20 00 41 01 36 02 00 20 00 = valid, i32.store
+20 00 41 01 36 03 00 20 00 = refused, i32.store aligned too much
+20 00 42 01 36 02 00 20 00 = refused, i32.store of an i64
+20 00 42 01 3D 01 00 20 00 = valid, i64.store16
+20 00 42 01 3D 02 00 20 00 = refused, i64.store16 aligned too much
+3F 00 = valid, memory.size
+20 00 40 00 = valid, memory.grow
+40 00 = refused, memory.grow without operand
+20 01 40 00 = refused, memory.grow of an i64
+42 01 = refused, i64.const for i32
+20 00 45 = valid, i32.eqz
+20 01 50 = valid, i64.eqz
+20 01 45 = refused, i32.eqz of an i64
+20 01 20 01 7C A7 = valid, i64.add
+20 01 20 00 7C A7 = refused, i64.add of an i32
+20 00 AD A7 = valid, i64.extend_i32_u
+20 00 67 = valid, i32.clz
+05 20 00 = refused, else without if
+20 00 04 40 05 05 0B 20 00 = refused, a second else
+02 40 05 0B 20 00 = refused, else in a block
+20 00 0B 20 00 = refused, an end too many
+02 7F 20 00 = refused, a block that isn't closed
+03 40 41 00 0C 00 0B 20 00 = valid, a branch to a loop leaves operands
+03 7F 41 00 20 00 0D 00 0B = valid, br_if to a loop keeps its operand
+02 40 00 04 7F 41 01 05 42 01 0B 1A 0B 20 00 = refused, else part of i64 behind unreachable
+";
 
-/// Bodies with blocks that have parameters or several results, without their `end`, in the binary format, and whether the module round each is valid.
-pub(super) static SEVERAL: [(&[u8], bool); 79] = [
-    // a block passes its parameter on
-    (&[0x20, 0x00, 0x02, 0x01, 0x0B], true),
-    // a block without its parameter
-    (&[0x02, 0x01, 0x0B], false),
-    // a block with a parameter of another type
-    (&[0x20, 0x01, 0x02, 0x01, 0x0B], false),
-    // a block of two parameters and two results
-    (
-        &[
-            0x20, 0x00, 0x20, 0x01, 0x02, 0x04, 0xA7, 0x1A, 0x1A, 0x42, 0x00, 0x41, 0x01, 0x0B,
-            0x1A, 0xA7,
-        ],
-        true,
-    ),
-    // a block leaves its results in another order
-    (
-        &[0x20, 0x00, 0x20, 0x01, 0x02, 0x04, 0x0B, 0x1A, 0xA7],
-        false,
-    ),
-    // a block takes its parameters in another order
-    (
-        &[0x20, 0x01, 0x20, 0x00, 0x02, 0x04, 0x00, 0x0B, 0x1A, 0xA7],
-        false,
-    ),
-    // a block without its first parameter
-    (&[0x20, 0x01, 0x02, 0x04, 0x00, 0x0B, 0x1A, 0xA7], false),
-    // a block of two results
-    (
-        &[0x02, 0x05, 0x41, 0x00, 0x42, 0x00, 0x0B, 0xA7, 0x6A],
-        true,
-    ),
-    // a block without its first result
-    (&[0x02, 0x05, 0x42, 0x00, 0x0B, 0xA7, 0x6A], false),
-    // a block with an operand below its results
-    (
-        &[
-            0x02, 0x05, 0x41, 0x00, 0x41, 0x00, 0x42, 0x00, 0x0B, 0xA7, 0x6A,
-        ],
-        false,
-    ),
-    // a block takes an operand below its parameter
-    (&[0x41, 0x01, 0x20, 0x00, 0x02, 0x01, 0x6A, 0x0B], false),
-    // an operand stands below a block's parameter
-    (&[0x41, 0x01, 0x20, 0x00, 0x02, 0x01, 0x0B, 0x6A], true),
-    // a block of one parameter and no result
-    (&[0x20, 0x00, 0x02, 0x06, 0x1A, 0x0B, 0x20, 0x00], true),
-    // a block leaves its parameter
-    (&[0x20, 0x00, 0x02, 0x06, 0x0B, 0x20, 0x00], false),
-    // a block of no type
-    (&[0x02, 0x09, 0x0B, 0x20, 0x00], false),
-    // a loop of no type
-    (&[0x03, 0x09, 0x0B, 0x20, 0x00], false),
-    // an if of no type
-    (&[0x20, 0x00, 0x04, 0x09, 0x0B, 0x20, 0x00], false),
-    // br_if to a loop with its parameter
-    (
-        &[0x20, 0x00, 0x03, 0x01, 0x20, 0x00, 0x0D, 0x00, 0x0B],
-        true,
-    ),
-    // br to a loop with its parameter
-    (
-        &[0x20, 0x00, 0x03, 0x06, 0x0C, 0x00, 0x0B, 0x20, 0x00],
-        true,
-    ),
-    // br to a loop without its parameter
-    (
-        &[0x20, 0x00, 0x03, 0x06, 0x1A, 0x0C, 0x00, 0x0B, 0x20, 0x00],
-        false,
-    ),
-    // br to a loop with a parameter of another type
-    (
-        &[
-            0x20, 0x00, 0x03, 0x06, 0x1A, 0x42, 0x00, 0x0C, 0x00, 0x0B, 0x20, 0x00,
-        ],
-        false,
-    ),
-    // br to a loop with its parameters
-    (
-        &[
-            0x20, 0x00, 0x20, 0x01, 0x03, 0x04, 0x0C, 0x00, 0x0B, 0x1A, 0xA7,
-        ],
-        true,
-    ),
-    // br to a loop with its results
-    (
-        &[
-            0x20, 0x00, 0x20, 0x01, 0x03, 0x04, 0x1A, 0x1A, 0x42, 0x00, 0x41, 0x00, 0x0C, 0x00,
-            0x0B, 0x1A, 0xA7,
-        ],
-        false,
-    ),
-    // br to a loop of results alone
-    (&[0x03, 0x05, 0x0C, 0x00, 0x0B, 0xA7, 0x6A], true),
-    // br_if to a loop takes none of its results
-    (
-        &[
-            0x03, 0x05, 0x41, 0x00, 0x42, 0x00, 0x20, 0x00, 0x0D, 0x00, 0x0B, 0xA7, 0x6A,
-        ],
-        true,
-    ),
-    // a loop of two parameters and two results
-    (
-        &[
-            0x20, 0x00, 0x20, 0x01, 0x03, 0x04, 0x1A, 0x1A, 0x42, 0x00, 0x41, 0x00, 0x0B, 0x1A,
-            0xA7,
-        ],
-        true,
-    ),
-    // an if without else passes its parameter on
-    (&[0x20, 0x00, 0x20, 0x00, 0x04, 0x01, 0x0B], true),
-    // an if without else of equal parameters and results
-    (
-        &[0x20, 0x00, 0x20, 0x00, 0x04, 0x01, 0x1A, 0x41, 0x05, 0x0B],
-        true,
-    ),
-    // an if without else of other results than parameters
-    (
-        &[
-            0x20, 0x00, 0x20, 0x01, 0x20, 0x00, 0x04, 0x04, 0x1A, 0x1A, 0x42, 0x00, 0x41, 0x00,
-            0x0B, 0x1A, 0xA7,
-        ],
-        false,
-    ),
-    // an if without else of a parameter alone
-    (
-        &[0x20, 0x00, 0x20, 0x00, 0x04, 0x06, 0x1A, 0x0B, 0x20, 0x00],
-        false,
-    ),
-    // an if without else of a result alone
-    (&[0x20, 0x00, 0x04, 0x03, 0x41, 0x00, 0x0B], false),
-    // an if without else of two results
-    (
-        &[
-            0x20, 0x00, 0x04, 0x05, 0x41, 0x00, 0x42, 0x00, 0x0B, 0xA7, 0x6A,
-        ],
-        false,
-    ),
-    // both parts take the parameter
-    (
-        &[
-            0x20, 0x00, 0x20, 0x00, 0x04, 0x06, 0x1A, 0x05, 0x1A, 0x0B, 0x20, 0x00,
-        ],
-        true,
-    ),
-    // an else part leaves the parameter
-    (
-        &[
-            0x20, 0x00, 0x20, 0x00, 0x04, 0x06, 0x1A, 0x05, 0x0B, 0x20, 0x00,
-        ],
-        false,
-    ),
-    // both parts of two parameters and two results
-    (
-        &[
-            0x20, 0x00, 0x20, 0x01, 0x20, 0x00, 0x04, 0x04, 0x1A, 0x1A, 0x42, 0x00, 0x41, 0x00,
-            0x05, 0x1A, 0x1A, 0x42, 0x01, 0x41, 0x01, 0x0B, 0x1A, 0xA7,
-        ],
-        true,
-    ),
-    // an else part with operands below its results
-    (
-        &[
-            0x20, 0x00, 0x20, 0x01, 0x20, 0x00, 0x04, 0x04, 0x1A, 0x1A, 0x42, 0x00, 0x41, 0x00,
-            0x05, 0x42, 0x01, 0x41, 0x01, 0x0B, 0x1A, 0xA7,
-        ],
-        false,
-    ),
-    // an else part leaves the parameters
-    (
-        &[
-            0x20, 0x00, 0x20, 0x01, 0x20, 0x00, 0x04, 0x04, 0x1A, 0x1A, 0x42, 0x00, 0x41, 0x00,
-            0x05, 0x0B, 0x1A, 0xA7,
-        ],
-        false,
-    ),
-    // an if without its parameter
-    (&[0x20, 0x00, 0x04, 0x01, 0x0B], false),
-    // br with two results
-    (
-        &[
-            0x02, 0x05, 0x41, 0x00, 0x42, 0x00, 0x0C, 0x00, 0x0B, 0xA7, 0x6A,
-        ],
-        true,
-    ),
-    // br with two results in another order
-    (
-        &[
-            0x02, 0x05, 0x42, 0x00, 0x41, 0x00, 0x0C, 0x00, 0x0B, 0xA7, 0x6A,
-        ],
-        false,
-    ),
-    // br without the first result
-    (
-        &[0x02, 0x05, 0x42, 0x00, 0x0C, 0x00, 0x0B, 0xA7, 0x6A],
-        false,
-    ),
-    // br with an operand below the results
-    (
-        &[
-            0x02, 0x05, 0x41, 0x09, 0x41, 0x00, 0x42, 0x00, 0x0C, 0x00, 0x0B, 0xA7, 0x6A,
-        ],
-        true,
-    ),
-    // br_if with two results
-    (
-        &[
-            0x02, 0x05, 0x41, 0x00, 0x42, 0x00, 0x20, 0x00, 0x0D, 0x00, 0x0B, 0xA7, 0x6A,
-        ],
-        true,
-    ),
-    // br_table with two results
-    (
-        &[
-            0x02, 0x05, 0x02, 0x05, 0x41, 0x00, 0x42, 0x00, 0x20, 0x00, 0x0E, 0x01, 0x00, 0x01,
-            0x0B, 0x0B, 0xA7, 0x6A,
-        ],
-        true,
-    ),
-    // br_table to a loop and a block of two results
-    (
-        &[
-            0x03, 0x05, 0x02, 0x05, 0x41, 0x00, 0x42, 0x00, 0x20, 0x00, 0x0E, 0x01, 0x00, 0x01,
-            0x0B, 0x0B, 0xA7, 0x6A,
-        ],
-        false,
-    ),
-    // call_indirect of two results
-    (&[0x20, 0x00, 0x11, 0x05, 0x00, 0xA7, 0x6A], true),
-    // a block behind unreachable takes any parameter
-    (&[0x00, 0x02, 0x01, 0x0B], true),
-    // parameters behind unreachable are known inside
-    (&[0x00, 0x02, 0x04, 0x0B, 0x1A, 0xA7], false),
-    // a block of two results behind unreachable
-    (
-        &[
-            0x00, 0x02, 0x04, 0x1A, 0x1A, 0x42, 0x00, 0x41, 0x00, 0x0B, 0x1A, 0xA7,
-        ],
-        true,
-    ),
-    // a block behind unreachable takes a known operand
-    (
-        &[0x00, 0x42, 0x00, 0x02, 0x04, 0x00, 0x0B, 0x1A, 0xA7],
-        true,
-    ),
-    // a block behind unreachable takes a known operand of another type
-    (
-        &[0x00, 0x41, 0x00, 0x02, 0x04, 0x00, 0x0B, 0x1A, 0xA7],
-        false,
-    ),
-    // br to a loop behind unreachable
-    (&[0x00, 0x03, 0x01, 0x0C, 0x00, 0x0B], true),
-    // br_if to a loop behind unreachable keeps the parameters
-    (
-        &[0x00, 0x03, 0x04, 0x20, 0x00, 0x0D, 0x00, 0x0B, 0x1A, 0xA7],
-        false,
-    ),
-    // br_if behind unreachable leaves a loop's parameters
-    (
-        &[
-            0x20, 0x00, 0x20, 0x01, 0x03, 0x04, 0x00, 0x0D, 0x00, 0x0B, 0x1A, 0xA7,
-        ],
-        false,
-    ),
-    // br behind unreachable to a loop
-    (
-        &[
-            0x20, 0x00, 0x20, 0x01, 0x03, 0x04, 0x00, 0x0C, 0x00, 0x0B, 0x1A, 0xA7,
-        ],
-        true,
-    ),
-    // br behind unreachable with a known parameter
-    (
-        &[
-            0x20, 0x00, 0x20, 0x01, 0x03, 0x04, 0x00, 0x42, 0x00, 0x0C, 0x00, 0x0B, 0x1A, 0xA7,
-        ],
-        true,
-    ),
-    // br behind unreachable with a known parameter of another type
-    (
-        &[
-            0x20, 0x00, 0x20, 0x01, 0x03, 0x04, 0x00, 0x41, 0x00, 0x0C, 0x00, 0x0B, 0x1A, 0xA7,
-        ],
-        false,
-    ),
-    // an if behind unreachable
-    (&[0x00, 0x04, 0x01, 0x0B], true),
-    // an if without else behind unreachable of other results than parameters
-    (&[0x00, 0x04, 0x04, 0x0B, 0x1A, 0xA7], false),
-    // both parts behind unreachable
-    (
-        &[0x00, 0x04, 0x04, 0x00, 0x05, 0x00, 0x0B, 0x1A, 0xA7],
-        true,
-    ),
-    // an if without else whose end can't be reached
-    (
-        &[
-            0x20, 0x00, 0x20, 0x01, 0x20, 0x00, 0x04, 0x04, 0x00, 0x0B, 0x1A, 0xA7,
-        ],
-        false,
-    ),
-    // an else part leaves the parameter behind unreachable
-    (&[0x00, 0x04, 0x06, 0x00, 0x05, 0x0B, 0x20, 0x00], false),
-    // br behind unreachable with one known result
-    (
-        &[0x02, 0x05, 0x00, 0x42, 0x00, 0x0C, 0x00, 0x0B, 0xA7, 0x6A],
-        true,
-    ),
-    // br behind unreachable with one known result of another type
-    (
-        &[0x02, 0x05, 0x00, 0x41, 0x00, 0x0C, 0x00, 0x0B, 0xA7, 0x6A],
-        false,
-    ),
-    // br_if behind unreachable leaves two results
-    (&[0x02, 0x05, 0x00, 0x0D, 0x00, 0xA7, 0x6A, 0x0B], false),
-    // br_if behind unreachable leaves the block's results
-    (&[0x02, 0x05, 0x00, 0x0D, 0x00, 0x0B, 0xA7, 0x6A], true),
-    // br_table behind unreachable
-    (
-        &[
-            0x02, 0x05, 0x02, 0x05, 0x00, 0x0E, 0x01, 0x00, 0x01, 0x0B, 0x0B, 0xA7, 0x6A,
-        ],
-        true,
-    ),
-    // br_table behind unreachable to labels of different numbers of types
-    (
-        &[
-            0x03, 0x05, 0x02, 0x05, 0x00, 0x0E, 0x01, 0x00, 0x01, 0x0B, 0x0B, 0xA7, 0x6A,
-        ],
-        false,
-    ),
-    // br_table behind unreachable to labels of different types
-    (
-        &[
-            0x02, 0x7E, 0x02, 0x7F, 0x00, 0x0E, 0x01, 0x00, 0x01, 0x0B, 0x1A, 0x42, 0x00, 0x0B,
-            0xA7,
-        ],
-        false,
-    ),
-    // a block of no type behind unreachable
-    (&[0x00, 0x02, 0x09, 0x0B], false),
-    // a loop of no type behind unreachable
-    (&[0x00, 0x03, 0x09, 0x0B], false),
-    // an if of no type behind unreachable
-    (&[0x00, 0x04, 0x09, 0x0B], false),
-    // call_indirect of two results behind unreachable
-    (&[0x00, 0x11, 0x05, 0x00, 0xA7, 0x6A], true),
-    // call_indirect behind unreachable with an unknown parameter
-    (&[0x00, 0x41, 0x00, 0x11, 0x02, 0x00, 0xA7], true),
-    // call_indirect behind unreachable with a known parameter of another type
-    (
-        &[0x00, 0x41, 0x00, 0x41, 0x00, 0x11, 0x02, 0x00, 0xA7],
-        false,
-    ),
-    // calls behind unreachable
-    (&[0x00, 0x10, 0x00, 0x10, 0x00], true),
-    // a call behind unreachable with a known parameter of another type
-    (&[0x00, 0x42, 0x00, 0x10, 0x00], false),
-    // a block behind return
-    (&[0x41, 0x00, 0x0F, 0x02, 0x01, 0x0B], true),
-    // a block behind br
-    (
-        &[
-            0x41, 0x00, 0x0C, 0x00, 0x02, 0x04, 0x1A, 0x1A, 0x42, 0x00, 0x41, 0x00, 0x0B, 0x1A,
-            0xA7,
-        ],
-        true,
-    ),
-];
+/// Bodies with blocks that have parameters or several results.
+pub(super) const SEVERAL: &str = "\
+20 00 02 01 0B = valid, a block passes its parameter on
+02 01 0B = refused, a block without its parameter
+20 01 02 01 0B = refused, a block with a parameter of another type
+20 00 20 01 02 04 A7 1A 1A 42 00 41 01 0B 1A A7 = valid, a block of two parameters and two results
+20 00 20 01 02 04 0B 1A A7 = refused, a block leaves its results in another order
+20 01 20 00 02 04 00 0B 1A A7 = refused, a block takes its parameters in another order
+20 01 02 04 00 0B 1A A7 = refused, a block without its first parameter
+02 05 41 00 42 00 0B A7 6A = valid, a block of two results
+02 05 42 00 0B A7 6A = refused, a block without its first result
+02 05 41 00 41 00 42 00 0B A7 6A = refused, a block with an operand below its results
+41 01 20 00 02 01 6A 0B = refused, a block takes an operand below its parameter
+41 01 20 00 02 01 0B 6A = valid, an operand stands below a block's parameter
+20 00 02 06 1A 0B 20 00 = valid, a block of one parameter and no result
+20 00 02 06 0B 20 00 = refused, a block leaves its parameter
+02 09 0B 20 00 = refused, a block of no type
+03 09 0B 20 00 = refused, a loop of no type
+20 00 04 09 0B 20 00 = refused, an if of no type
+20 00 03 01 20 00 0D 00 0B = valid, br_if to a loop with its parameter
+20 00 03 06 0C 00 0B 20 00 = valid, br to a loop with its parameter
+20 00 03 06 1A 0C 00 0B 20 00 = refused, br to a loop without its parameter
+20 00 03 06 1A 42 00 0C 00 0B 20 00 = refused, br to a loop with a parameter of another type
+20 00 20 01 03 04 0C 00 0B 1A A7 = valid, br to a loop with its parameters
+20 00 20 01 03 04 1A 1A 42 00 41 00 0C 00 0B 1A A7 = refused, br to a loop with its results
+03 05 0C 00 0B A7 6A = valid, br to a loop of results alone
+03 05 41 00 42 00 20 00 0D 00 0B A7 6A = valid, br_if to a loop takes none of its results
+20 00 20 01 03 04 1A 1A 42 00 41 00 0B 1A A7 = valid, a loop of two parameters and two results
+20 00 20 00 04 01 0B = valid, an if without else passes its parameter on
+20 00 20 00 04 01 1A 41 05 0B = valid, an if without else of equal parameters and results
+20 00 20 01 20 00 04 04 1A 1A 42 00 41 00 0B 1A A7 = refused, an if without else of other results than parameters
+20 00 20 00 04 06 1A 0B 20 00 = refused, an if without else of a parameter alone
+20 00 04 03 41 00 0B = refused, an if without else of a result alone
+20 00 04 05 41 00 42 00 0B A7 6A = refused, an if without else of two results
+20 00 20 00 04 06 1A 05 1A 0B 20 00 = valid, both parts take the parameter
+20 00 20 00 04 06 1A 05 0B 20 00 = refused, an else part leaves the parameter
+20 00 20 01 20 00 04 04 1A 1A 42 00 41 00 05 1A 1A 42 01 41 01 0B 1A A7 = valid, both parts of two parameters and two results
+20 00 20 01 20 00 04 04 1A 1A 42 00 41 00 05 42 01 41 01 0B 1A A7 = refused, an else part with operands below its results
+20 00 20 01 20 00 04 04 1A 1A 42 00 41 00 05 0B 1A A7 = refused, an else part leaves the parameters
+20 00 04 01 0B = refused, an if without its parameter
+02 05 41 00 42 00 0C 00 0B A7 6A = valid, br with two results
+02 05 42 00 41 00 0C 00 0B A7 6A = refused, br with two results in another order
+02 05 42 00 0C 00 0B A7 6A = refused, br without the first result
+02 05 41 09 41 00 42 00 0C 00 0B A7 6A = valid, br with an operand below the results
+02 05 41 00 42 00 20 00 0D 00 0B A7 6A = valid, br_if with two results
+02 05 02 05 41 00 42 00 20 00 0E 01 00 01 0B 0B A7 6A = valid, br_table with two results
+03 05 02 05 41 00 42 00 20 00 0E 01 00 01 0B 0B A7 6A = refused, br_table to a loop and a block of two results
+20 00 11 05 00 A7 6A = valid, call_indirect of two results
+00 02 01 0B = valid, a block behind unreachable takes any parameter
+00 02 04 0B 1A A7 = refused, parameters behind unreachable are known inside
+00 02 04 1A 1A 42 00 41 00 0B 1A A7 = valid, a block of two results behind unreachable
+00 42 00 02 04 00 0B 1A A7 = valid, a block behind unreachable takes a known operand
+00 41 00 02 04 00 0B 1A A7 = refused, a block behind unreachable takes a known operand of another type
+00 03 01 0C 00 0B = valid, br to a loop behind unreachable
+00 03 04 20 00 0D 00 0B 1A A7 = refused, br_if to a loop behind unreachable keeps the parameters
+20 00 20 01 03 04 00 0D 00 0B 1A A7 = refused, br_if behind unreachable leaves a loop's parameters
+20 00 20 01 03 04 00 0C 00 0B 1A A7 = valid, br behind unreachable to a loop
+20 00 20 01 03 04 00 42 00 0C 00 0B 1A A7 = valid, br behind unreachable with a known parameter
+20 00 20 01 03 04 00 41 00 0C 00 0B 1A A7 = refused, br behind unreachable with a known parameter of another type
+00 04 01 0B = valid, an if behind unreachable
+00 04 04 0B 1A A7 = refused, an if without else behind unreachable of other results than parameters
+00 04 04 00 05 00 0B 1A A7 = valid, both parts behind unreachable
+20 00 20 01 20 00 04 04 00 0B 1A A7 = refused, an if without else whose end can't be reached
+00 04 06 00 05 0B 20 00 = refused, an else part leaves the parameter behind unreachable
+02 05 00 42 00 0C 00 0B A7 6A = valid, br behind unreachable with one known result
+02 05 00 41 00 0C 00 0B A7 6A = refused, br behind unreachable with one known result of another type
+02 05 00 0D 00 A7 6A 0B = refused, br_if behind unreachable leaves two results
+02 05 00 0D 00 0B A7 6A = valid, br_if behind unreachable leaves the block's results
+02 05 02 05 00 0E 01 00 01 0B 0B A7 6A = valid, br_table behind unreachable
+03 05 02 05 00 0E 01 00 01 0B 0B A7 6A = refused, br_table behind unreachable to labels of different numbers of types
+02 7E 02 7F 00 0E 01 00 01 0B 1A 42 00 0B A7 = refused, br_table behind unreachable to labels of different types
+00 02 09 0B = refused, a block of no type behind unreachable
+00 03 09 0B = refused, a loop of no type behind unreachable
+00 04 09 0B = refused, an if of no type behind unreachable
+00 11 05 00 A7 6A = valid, call_indirect of two results behind unreachable
+00 41 00 11 02 00 A7 = valid, call_indirect behind unreachable with an unknown parameter
+00 41 00 41 00 11 02 00 A7 = refused, call_indirect behind unreachable with a known parameter of another type
+00 10 00 10 00 = valid, calls behind unreachable
+00 42 00 10 00 = refused, a call behind unreachable with a known parameter of another type
+41 00 0F 02 01 0B = valid, a block behind return
+41 00 0C 00 02 04 1A 1A 42 00 41 00 0B 1A A7 = valid, a block behind br
+";

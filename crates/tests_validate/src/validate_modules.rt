@@ -26,13 +26,8 @@ pub(super) static TYPES: [Case; 26] = [
     // two results of the function
     (
         &[
+            Change::Bare,
             Change::Types(&[(&[], &[I32, I32])]),
-            Change::Imports(&[]),
-            Change::Functions(&[0]),
-            Change::Tables(&[]),
-            Change::Memories(&[]),
-            Change::Globals(&[]),
-            Change::Locals(&[]),
             Change::Bodies(&[&[0x41, 0x00, 0x41, 0x00]]),
         ],
         None,
@@ -40,13 +35,8 @@ pub(super) static TYPES: [Case; 26] = [
     // one of two results
     (
         &[
+            Change::Bare,
             Change::Types(&[(&[], &[I32, I32])]),
-            Change::Imports(&[]),
-            Change::Functions(&[0]),
-            Change::Tables(&[]),
-            Change::Memories(&[]),
-            Change::Globals(&[]),
-            Change::Locals(&[]),
             Change::Bodies(&[&[0x41, 0x00]]),
         ],
         Some(Invalid::Function(0)),
@@ -54,13 +44,8 @@ pub(super) static TYPES: [Case; 26] = [
     // two results by return
     (
         &[
+            Change::Bare,
             Change::Types(&[(&[], &[I32, I64])]),
-            Change::Imports(&[]),
-            Change::Functions(&[0]),
-            Change::Tables(&[]),
-            Change::Memories(&[]),
-            Change::Globals(&[]),
-            Change::Locals(&[]),
             Change::Bodies(&[&[0x41, 0x00, 0x42, 0x00, 0x0F]]),
         ],
         None,
@@ -68,13 +53,8 @@ pub(super) static TYPES: [Case; 26] = [
     // two results by return in another order
     (
         &[
+            Change::Bare,
             Change::Types(&[(&[], &[I32, I64])]),
-            Change::Imports(&[]),
-            Change::Functions(&[0]),
-            Change::Tables(&[]),
-            Change::Memories(&[]),
-            Change::Globals(&[]),
-            Change::Locals(&[]),
             Change::Bodies(&[&[0x42, 0x00, 0x41, 0x00, 0x0F]]),
         ],
         Some(Invalid::Function(0)),
@@ -82,13 +62,8 @@ pub(super) static TYPES: [Case; 26] = [
     // two results by br
     (
         &[
+            Change::Bare,
             Change::Types(&[(&[], &[I32, I64])]),
-            Change::Imports(&[]),
-            Change::Functions(&[0]),
-            Change::Tables(&[]),
-            Change::Memories(&[]),
-            Change::Globals(&[]),
-            Change::Locals(&[]),
             Change::Bodies(&[&[0x41, 0x00, 0x42, 0x00, 0x0C, 0x00]]),
         ],
         None,
@@ -161,44 +136,21 @@ pub(super) static TYPES: [Case; 26] = [
     (&[Change::Bodies(&[&[0x20, 0x00], &[0x20, 0x00]])], RULE),
     // a body without operands
     (
-        &[
-            Change::Types(&[(&[], &[])]),
-            Change::Imports(&[]),
-            Change::Functions(&[0]),
-            Change::Tables(&[]),
-            Change::Memories(&[]),
-            Change::Globals(&[]),
-            Change::Locals(&[]),
-            Change::Bodies(&[&[0x6A]]),
-        ],
+        &[Change::Bare, Change::Bodies(&[&[0x6A]])],
         Some(Invalid::Function(0)),
     ),
     // that body behind an import
     (
         &[
-            Change::Types(&[(&[], &[])]),
+            Change::Bare,
             Change::Imports(&[ImportKind::Function(0)]),
-            Change::Functions(&[0]),
-            Change::Tables(&[]),
-            Change::Memories(&[]),
-            Change::Globals(&[]),
-            Change::Locals(&[]),
             Change::Bodies(&[&[0x6A]]),
         ],
         Some(Invalid::Function(1)),
     ),
     // that body behind unreachable
     (
-        &[
-            Change::Types(&[(&[], &[])]),
-            Change::Imports(&[]),
-            Change::Functions(&[0]),
-            Change::Tables(&[]),
-            Change::Memories(&[]),
-            Change::Globals(&[]),
-            Change::Locals(&[]),
-            Change::Bodies(&[&[0x00, 0x6A, 0x1A]]),
-        ],
+        &[Change::Bare, Change::Bodies(&[&[0x00, 0x6A, 0x1A]])],
         None,
     ),
     // two such bodies
