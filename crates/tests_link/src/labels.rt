@@ -30,7 +30,11 @@ fn module_of(alloc: Global, first: &[u8], second: &[u8]) -> Result<Vec<u8>, NoMe
 /// What `labels_of` answers of the module that the bytes spell; None where they spell none.
 fn labels_in(alloc: Global, bytes: &[u8]) -> Option<Result<Labels, LabelError>> {
     match decode(alloc, bytes) {
-        Ok(wasm) => Some(labels_of(alloc, &wasm)),
+        Ok(wasm) => {
+            let labels = labels_of(alloc, &wasm);
+            drop(wasm);
+            Some(labels)
+        }
         Err(_) => None,
     }
 }
@@ -47,15 +51,21 @@ fn answer(
 
 /// The fault of that module; None where it has labels or isn't one.
 fn fault(alloc: Global, first: &[u8], second: &[u8]) -> Result<Option<LabelError>, NoMemory> {
-    match &answer(alloc, first, second)? {
-        Some(Err(error)) => Ok(Some(*error)),
-        _ => Ok(None),
-    }
+    let answer = answer(alloc, first, second)?;
+    let fault = match &answer {
+        Some(Err(error)) => Some(*error),
+        _ => None,
+    };
+    drop(answer);
+    Ok(fault)
 }
 
 /// Whether that module has labels.
 fn is_labelled(alloc: Global, first: &[u8], second: &[u8]) -> Result<bool, NoMemory> {
-    Ok(matches!(&answer(alloc, first, second)?, Some(Ok(_))))
+    let answer = answer(alloc, first, second)?;
+    let is_labelled = matches!(&answer, Some(Ok(_)));
+    drop(answer);
+    Ok(is_labelled)
 }
 
 /// How many of these sections behind `OWN` have such a fault before the first that hasn't.
@@ -86,10 +96,13 @@ fn are_entries(labels: &Labels) -> bool {
 /// Whether a section of four entries gives those labels.
 fn names_entries(alloc: Global) -> Result<bool, NoMemory> {
     let section = b"\0\x19\x0cblade.labels\x02\x04\x02\0\0\x01\0\x03\x01\0\x04\0";
-    match &answer(alloc, OWN, section)? {
-        Some(Ok(labels)) => Ok(are_entries(labels)),
-        _ => Ok(false),
-    }
+    let answer = answer(alloc, OWN, section)?;
+    let is_right = match &answer {
+        Some(Ok(labels)) => are_entries(labels),
+        _ => false,
+    };
+    drop(answer);
+    Ok(is_right)
 }
 
 #[test]
@@ -101,10 +114,13 @@ fn entries_are_labels_in_their_order(rt: HostRuntime) -> Result<(), Fail> {
 /// Whether the one global is named by a section before all others.
 fn names_before(alloc: Global) -> Result<bool, NoMemory> {
     let section = b"\0\x11\x0cblade.labels\x01\x01\x01\0";
-    match &answer(alloc, section, OWN)? {
-        Some(Ok(labels)) => Ok(labels.globals.as_slice() == [0].as_slice()),
-        _ => Ok(false),
-    }
+    let answer = answer(alloc, section, OWN)?;
+    let is_right = match &answer {
+        Some(Ok(labels)) => labels.globals.as_slice() == [0].as_slice(),
+        _ => false,
+    };
+    drop(answer);
+    Ok(is_right)
 }
 
 #[test]
@@ -115,10 +131,13 @@ fn a_section_may_stand_before_all_others(rt: HostRuntime) -> Result<(), Fail> {
 
 /// Whether a section of another name gives no labels.
 fn names_nothing(alloc: Global) -> Result<bool, NoMemory> {
-    match &answer(alloc, OWN, b"\0\x0d\x0cblade.label.")? {
-        Some(Ok(labels)) => Ok(labels.params.len() == 0 && labels.memories.len() == 0),
-        _ => Ok(false),
-    }
+    let answer = answer(alloc, OWN, b"\0\x0d\x0cblade.label.")?;
+    let is_right = match &answer {
+        Some(Ok(labels)) => labels.params.len() == 0 && labels.memories.len() == 0,
+        _ => false,
+    };
+    drop(answer);
+    Ok(is_right)
 }
 
 #[test]

@@ -77,10 +77,13 @@ fn is_wanted(tree: &Tree) -> bool {
 /// Whether the three modules are linked so.
 fn are_linked(alloc: Global) -> Result<bool, NoMemory> {
     let modules = [("a", FIRST), ("b", SECOND), ("c", THIRD)];
-    match &linked(alloc, modules.as_slice())? {
-        Some(Ok(linked)) => Ok(is_wanted(linked.tree())),
-        _ => Ok(false),
-    }
+    let answer = linked(alloc, modules.as_slice())?;
+    let is_right = match &answer {
+        Some(Ok(linked)) => is_wanted(linked.tree()),
+        _ => false,
+    };
+    drop(answer);
+    Ok(is_right)
 }
 
 #[test]
@@ -95,10 +98,13 @@ fn is_refused(
     modules: [(&str, &[u8]); 2],
     wanted: LinkError,
 ) -> Result<bool, NoMemory> {
-    match &linked(alloc, modules.as_slice())? {
-        Some(Err(error)) => Ok(*error == wanted),
-        _ => Ok(false),
-    }
+    let answer = linked(alloc, modules.as_slice())?;
+    let is_right = match &answer {
+        Some(Err(error)) => *error == wanted,
+        _ => false,
+    };
+    drop(answer);
+    Ok(is_right)
 }
 
 #[test]

@@ -21,50 +21,56 @@ fn is_plain(name: &[u8]) -> bool
     name.iter().all(|byte| *byte != b'/')
 }
 
-/// A module with its labels; None where it isn't valid or its labels are refused.
-fn labelled(alloc: Global, tree: Module) -> Option<(ValidModule, Labels)>
+/// The module; None where it isn't valid.
+fn valid(alloc: Global, tree: Module) -> Option<ValidModule>
     requires { length (functions_of tree) < 2 ^ 32 }
-    ensures { IfSome result (λ both. (both.0 ≡ tree) × IsConsistent both.1) }
+    ensures { IfSome result (λ wasm. wasm ≡ tree) }
 {
-    let Ok(labels) = labels_of(alloc, &tree) else {
-        return None;
-    };
-    let Ok(wasm) = validate(alloc, tree) else {
-        return None;
-    };
-    Some((wasm, labels))
+    match validate(alloc, tree) {
+        Ok(wasm) => Some(wasm),
+        Err((tree, _)) => {
+            drop(tree);
+            None
+        }
+    }
 }
 
-/// The valid module that the bytes spell, with the labels in them; None where there is none.
+/// The valid module that the bytes spell; None where there is none.
 #[tactic(auto, using(bl_wasm::proofs::LimitLemmas::few_functions))]
-fn read(alloc: Global, bytes: &[u8]) -> Option<(ValidModule, Labels)>
-    ensures { IfSome result (λ both. Answers bytes.now (Ok both.0) × IsConsistent both.1) }
+fn read(alloc: Global, bytes: &[u8]) -> Option<ValidModule>
+    ensures { IfSome result (λ wasm. Answers bytes.now (Ok wasm)) }
 {
     match decode(alloc, bytes) {
-        Ok(tree) => labelled(alloc, tree),
+        Ok(tree) => valid(alloc, tree),
         Err(_) => None,
     }
 }
 
-/// The part of that name with the module that the bytes spell.
-fn named(
-    alloc: Global,
-    letters: &[u8],
-    bytes: &[u8],
-    wasm: ValidModule,
-    labels: Labels,
-) -> Result<Part, NoMemory>
-    requires plain { NoSolidus letters.now }
+/// The part of that name with those labels and the module that the bytes spell.
+fn named(name: Text, bytes: &[u8], wasm: ValidModule, labels: Labels) -> Part
+    requires plain { NoSolidus name }
     requires few { length bytes.now < 2 ^ 25 }
     requires read { Answers bytes.now (Ok wasm) }
     requires consistent { IsConsistent labels }
-    ensures { IfOk result IsPart }
+    ensures { IsPart result }
 {
-    Ok(Part {
-        name: Text::copy_of(alloc, letters)?,
-        wasm,
-        labels,
-    })
+    Part { name, wasm, labels }
+}
+
+/// The part of that name with the module that the bytes spell and the labels in it; None where these are refused.
+fn labelled(alloc: Global, name: Text, bytes: &[u8], wasm: ValidModule) -> Option<Part>
+    requires plain { NoSolidus name }
+    requires few { length bytes.now < 2 ^ 25 }
+    requires read { Answers bytes.now (Ok wasm) }
+    ensures { IfSome result IsPart }
+{
+    match labels_of(alloc, wasm.module()) {
+        Ok(labels) => Some(named(name, bytes, wasm, labels)),
+        Err(_) => {
+            drop(wasm);
+            None
+        }
+    }
 }
 
 /// The part of that name whose module the bytes spell, with the labels in them; None where there is none.
@@ -78,8 +84,9 @@ fn part(alloc: Global, name: &str, bytes: &[u8]) -> Result<Option<Part>, NoMemor
     if !is_plain(letters) {
         return Ok(None);
     }
+    let name = Text::copy_of(alloc, letters)?;
     match read(alloc, bytes) {
-        Some((wasm, labels)) => Ok(Some(named(alloc, letters, bytes, wasm, labels)?)),
+        Some(wasm) => Ok(labelled(alloc, name, bytes, wasm)),
         None => Ok(None),
     }
 }
@@ -98,22 +105,45 @@ fn is_new(name: &[u8], parts: &[Part]) -> bool
     parts.iter().all(|one| is_other(name, one))
 }
 
+/// Whether the part is one more; it isn't where another has its name, or there are too many.
+fn add(parts: &mut List<Part>, part: Part) -> Result<bool, NoMemory>
+    requires parts { AreParts parts.old }
+    requires part { IsPart part }
+    ensures { AreParts parts.new }
+{
+    if parts.len() >= 8 || !is_new(part.name.as_slice(), parts.as_slice()) {
+        drop(part);
+        return Ok(false);
+    }
+    parts.push(part)?;
+    Ok(true)
+}
+
+/// Whether the bytes and their name are one part more.
+fn add_read(
+    alloc: Global,
+    parts: &mut List<Part>,
+    name: &str,
+    bytes: &[u8],
+) -> Result<bool, NoMemory>
+    requires { AreParts parts.old }
+    ensures { AreParts parts.new }
+{
+    match part(alloc, name, bytes)? {
+        Some(part) => add(parts, part),
+        None => Ok(false),
+    }
+}
+
 /// The parts of those names and bytes, in their order; None where one is no part, or two have one name, or there are too many.
 pub fn parts_of(alloc: Global, modules: &[(&str, &[u8])]) -> Result<Option<List<Part>>, NoMemory>
     ensures { IfOk result (λ parts. IfSome parts AreParts) }
 {
     let mut parts = List::new(alloc);
     for (name, bytes) in modules {
-        let Some(part) = part(alloc, name, bytes)? else {
-            return Ok(None);
-        };
-        if parts.len() >= 8 {
+        if !add_read(alloc, &mut parts, name, bytes)? {
             return Ok(None);
         }
-        if !is_new(part.name.as_slice(), parts.as_slice()) {
-            return Ok(None);
-        }
-        parts.push(part)?;
     }
     Ok(Some(parts))
 }

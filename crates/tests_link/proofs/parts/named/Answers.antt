@@ -5,4 +5,4 @@ use Rattle.tests_link.proofs.parts.named.Goals as goal
 pub returns : goal.returns
 returns c =
     let read = c.requires.read in
-    read_part c.in_ok-copy_of.field-0 c.args.letters.now c.args.bytes.now c.args.wasm c.args.wasm c.args.labels c.in_ok-copy_of.ensures refl c.requires.consistent c.requires.plain read.0 c.requires.few read.2
+    read_part c.args.name c.args.name c.args.bytes.now c.args.wasm c.args.wasm c.args.labels refl refl c.requires.consistent c.requires.plain read.0 c.requires.few read.2
