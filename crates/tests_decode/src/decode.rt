@@ -22,21 +22,47 @@ static FUNCTION: [u8; 4] = [0x03, 0x02, 0x01, 0x00];
 /// The code section of one function without items.
 static CODE: [u8; 6] = [0x0A, 0x04, 0x01, 0x02, 0x00, 0x0B];
 
-/// Why the header with those sections behind it isn't decoded; None where it is.
-fn refusal(alloc: Global, sections: &[&[u8]]) -> Result<Option<DecodeError>, NoMemory> {
-    let mut bytes = Vec::from_slice(alloc, &HEADER)?;
+/// Why a module isn't read; None where it is.
+fn cause_of(answer: &Result<Module, DecodeError>) -> Option<DecodeError> {
+    match answer {
+        Ok(_) => None,
+        Err(cause) => Some(*cause),
+    }
+}
+
+/// Why the bytes aren't decoded; None where they are.
+fn cause(alloc: Global, bytes: &[u8]) -> Option<DecodeError> {
+    cause_of(&decode(alloc, bytes))
+}
+
+/// Puts the header and those sections behind the bytes.
+fn put_sections(bytes: &mut Vec<u8>, sections: &[&[u8]]) -> Result<(), NoMemory> {
+    bytes.extend_from_slice(&HEADER)?;
     for section in sections {
         bytes.extend_from_slice(section)?;
     }
-    Ok(decode(alloc, &bytes).err())
+    Ok(())
+}
+
+/// Why the header with those sections behind it isn't decoded; None where it is.
+fn refusal(alloc: Global, sections: &[&[u8]]) -> Result<Option<DecodeError>, NoMemory> {
+    let mut bytes = Vec::new(alloc);
+    put_sections(&mut bytes, sections)?;
+    Ok(cause(alloc, &bytes))
+}
+
+/// Puts the bytes behind others, so many times.
+fn put_times(all: &mut Vec<u8>, bytes: &[u8], count: u32) -> Result<(), NoMemory> {
+    for _ in 0..count {
+        all.extend_from_slice(bytes)?;
+    }
+    Ok(())
 }
 
 /// The bytes, so many times.
 fn times(alloc: Global, bytes: &[u8], count: u32) -> Result<Vec<u8>, NoMemory> {
     let mut all = Vec::new(alloc);
-    for _ in 0..count {
-        all.extend_from_slice(bytes)?;
-    }
+    put_times(&mut all, bytes, count)?;
     Ok(all)
 }
 
@@ -62,7 +88,7 @@ fn exceeds(
 
 /// Whether bytes are malformed.
 fn is_malformed(alloc: Global, bytes: &[u8]) -> bool {
-    decode(alloc, bytes).err() == Some(DecodeError::Malformed)
+    cause(alloc, bytes) == Some(DecodeError::Malformed)
 }
 
 /// How many prefixes are malformed before the first that isn't, but for two that are modules.
@@ -70,12 +96,12 @@ fn prefixes(alloc: Global) -> u32 {
     let mut passed = 0u32;
     for len in 0..LOADS.len() {
         let whole = len == 8 || len == 16;
-        let cause = if whole {
+        let wanted = if whole {
             None
         } else {
             Some(DecodeError::Malformed)
         };
-        if decode(alloc, &LOADS[..len]).err() != cause {
+        if cause(alloc, &LOADS[..len]) != wanted {
             break;
         }
         passed = passed.wrapping_add(1);
@@ -99,12 +125,17 @@ fn has_one_function(tree: &Module) -> bool {
         && tree.exports.len() == 1
 }
 
-/// Whether `LOADS` is decoded to that.
-fn is_whole(alloc: Global) -> bool {
-    match &decode(alloc, &LOADS) {
+/// Whether that was read.
+fn is_one_function(answer: &Result<Module, DecodeError>) -> bool {
+    match answer {
         Ok(tree) => has_one_function(tree),
         Err(_) => false,
     }
+}
+
+/// Whether `LOADS` is decoded to that.
+fn is_whole(alloc: Global) -> bool {
+    is_one_function(&decode(alloc, &LOADS))
 }
 
 #[test]
@@ -114,28 +145,49 @@ fn a_module_is_decoded_whole(rt: HostRuntime) -> Result<(), Fail> {
     Ok(())
 }
 
-/// The text on the tree of a module; what is none is answered like want of memory.
-fn text_of(alloc: Global, bytes: &[u8]) -> Result<String, NoMemory> {
-    match &decode(alloc, bytes) {
-        Ok(tree) => Ok(format!(in alloc; "{tree:?}")?),
+/// The text on a tree.
+fn text(alloc: Global, tree: &Module) -> Result<String, NoMemory> {
+    Ok(format!(in alloc; "{tree:?}")?)
+}
+
+/// The text on what was read; what is none is answered like want of memory.
+fn text_on(alloc: Global, answer: &Result<Module, DecodeError>) -> Result<String, NoMemory> {
+    match answer {
+        Ok(tree) => text(alloc, tree),
         Err(_) => Err(NoMemory),
     }
 }
 
-/// `LOADS` with the size of its code in five bytes.
-fn long_size(alloc: Global) -> Result<Vec<u8>, NoMemory> {
-    let mut bytes = LOADS[..33].to_vec(alloc)?;
+/// The text on the tree of a module; what is none is answered like want of memory.
+fn text_of(alloc: Global, bytes: &[u8]) -> Result<String, NoMemory> {
+    text_on(alloc, &decode(alloc, bytes))
+}
+
+/// Puts `LOADS` with the size of its code in five bytes behind the bytes.
+fn put_long_size(bytes: &mut Vec<u8>) -> Result<(), NoMemory> {
+    bytes.extend_from_slice(&LOADS[..33])?;
     bytes.extend_from_slice(&[0x8C, 0x80, 0x80, 0x80, 0x00])?;
     bytes.extend_from_slice(&LOADS[34..])?;
-    Ok(bytes)
+    Ok(())
+}
+
+/// The text on the tree of `LOADS` with the size of its code in five bytes.
+fn long_text(alloc: Global) -> Result<String, NoMemory> {
+    let mut bytes = Vec::new(alloc);
+    put_long_size(&mut bytes)?;
+    text_of(alloc, &bytes)
+}
+
+/// Whether the tree of `LOADS` has that text.
+fn has_text(alloc: Global, wanted: &str) -> Result<bool, NoMemory> {
+    let found = text_of(alloc, &LOADS)?;
+    Ok(found.as_str() == wanted)
 }
 
 /// Whether both have the same tree.
 fn is_same_tree(alloc: Global) -> Result<bool, NoMemory> {
-    let bytes = long_size(alloc)?;
-    let long = text_of(alloc, &bytes)?;
-    let short = text_of(alloc, &LOADS)?;
-    Ok(long.as_str() == short.as_str())
+    let long = long_text(alloc)?;
+    has_text(alloc, long.as_str())
 }
 
 #[test]
@@ -331,32 +383,33 @@ fn a_table_and_a_memory_have_limits(rt: HostRuntime) -> Result<(), Fail> {
     Ok(())
 }
 
-/// Whether 10,001 functions are told.
-fn are_many_functions(alloc: Global) -> Result<bool, NoMemory> {
-    let indices = times(alloc, &[0x00], 10_001)?;
+/// Whether functions of those 10,001 indices are told.
+fn are_many(alloc: Global, indices: &[u8]) -> Result<bool, NoMemory> {
     let codes = times(alloc, &[0x02, 0x00, 0x0B], 10_001)?;
     let functions = [0x03, 0x93, 0x4E, 0x91, 0x4E];
     let code = [0x0A, 0xB5, 0xEA, 0x01, 0x91, 0x4E];
-    let sections: [&[u8]; 5] = [&TYPE, &functions, &indices, &code, &codes];
+    let sections: [&[u8]; 5] = [&TYPE, &functions, indices, &code, &codes];
     exceeds(alloc, &sections, Quantity::Functions, 10_001)
 }
 
-/// Items of 257 blocks round a br_table of 1,025 targets, with their ends and that of the body.
-fn deep_items(alloc: Global) -> Result<Vec<u8>, NoMemory> {
-    let mut items = times(alloc, &[0x02, 0x40], 257)?;
+/// Whether 10,001 functions are told.
+fn are_many_functions(alloc: Global) -> Result<bool, NoMemory> {
+    let indices = times(alloc, &[0x00], 10_001)?;
+    are_many(alloc, &indices)
+}
+
+/// Puts 257 blocks round a br_table of 1,025 targets behind the items, with their ends and that of the body.
+fn put_deep_items(items: &mut Vec<u8>) -> Result<(), NoMemory> {
+    put_times(items, &[0x02, 0x40], 257)?;
     items.extend_from_slice(&[0x0E, 0x81, 0x08])?;
-    for _ in 0..1_026 {
-        items.push(0x00)?;
-    }
-    for _ in 0..258 {
-        items.push(0x0B)?;
-    }
-    Ok(items)
+    put_times(items, &[0x00], 1_026)?;
+    put_times(items, &[0x0B], 258)
 }
 
 /// Whether the blocks are told.
 fn is_deep(alloc: Global) -> Result<bool, NoMemory> {
-    let items = deep_items(alloc)?;
+    let mut items = Vec::new(alloc);
+    put_deep_items(&mut items)?;
     let code = [0x0A, 0x8D, 0x0E, 0x01, 0x8A, 0x0E, 0x00];
     let sections: [&[u8]; 4] = [&TYPE, &FUNCTION, &code, &items];
     exceeds(alloc, &sections, Quantity::Nesting, 257)

@@ -1,8 +1,12 @@
 //! Modules that are made, byte by byte, and read.
+ghost use Rattle.std.specs.Prelude.{◌<◌, ◌^◌, length};
+ghost use Rattle.bl_wasm.specs.Validity.{functions_of};
+
 use bl_base::NoMemory;
 use bl_decode::decode;
 use bl_gen::make;
 use bl_validate::validate;
+use bl_wasm::Module;
 use std::alloc::Global;
 use std::test::Fail;
 
@@ -79,15 +83,18 @@ fn stands(bytes: &[u8], from: usize, to: usize, wanted: &[u8]) -> bool {
     }
 }
 
+/// Whether bytes have the length and the parts of the module of two functions for the greatest seed.
+fn has_parts(bytes: &[u8]) -> bool {
+    bytes.len() == 181
+        && stands(bytes, 33, 65, &FIRST)
+        && stands(bytes, 106, 131, &SECOND)
+        && stands(bytes, 172, 181, &CALL)
+}
+
 /// Whether the module of two functions for the greatest seed has these parts.
 fn is_whole(alloc: Global) -> Result<bool, NoMemory> {
     let bytes = make(alloc, 18_446_744_073_709_551_615, 2)?;
-    Ok(
-        bytes.len() == 181
-            && stands(&bytes, 33, 65, &FIRST)
-            && stands(&bytes, 106, 131, &SECOND)
-            && stands(&bytes, 172, 181, &CALL),
-    )
+    Ok(has_parts(&bytes))
 }
 
 #[test]
@@ -96,13 +103,20 @@ fn the_sum_with_the_greatest_seed_is_a_whole_number(rt: HostRuntime) -> Result<(
     Ok(())
 }
 
+/// Whether a module of few functions is found valid.
+fn is_found_valid(alloc: Global, tree: Module) -> bool
+    requires { length (functions_of tree) < 2 ^ 32 }
+{
+    validate(alloc, tree).is_ok()
+}
+
 /// Whether the bytes are decoded and found valid.
 #[tactic(auto, using(bl_wasm::proofs::LimitLemmas::few_functions))]
 fn is_accepted(alloc: Global, bytes: &[u8]) -> bool {
-    let Ok(tree) = decode(alloc, bytes) else {
-        return false;
-    };
-    validate(alloc, tree).is_ok()
+    match decode(alloc, bytes) {
+        Ok(tree) => is_found_valid(alloc, tree),
+        Err(_) => false,
+    }
 }
 
 /// Whether the module of 100 functions for the seed 5 is.
