@@ -207,11 +207,17 @@ static REFUSED: [(&[u8], u8, &str); 4] = [
     (b"\x00\x0D\x0Cblade.labels", 10, "labels: inc malformed\n"),
 ];
 
+/// Whether the module of some sections is told so.
+fn is_told_of(alloc: Global, sections: &[u8], status: u8, text: &str) -> Result<bool, NoMemory> {
+    let module = module_of(alloc, sections)?;
+    is_told(alloc, &module, status, text)
+}
+
 /// How many modules pass before the first that doesn't.
 fn refused(alloc: Global) -> Result<u32, NoMemory> {
     let mut passed = 0u32;
     for (sections, status, text) in &REFUSED {
-        if !is_told(alloc, &module_of(alloc, *sections)?, *status, *text)? {
+        if !is_told_of(alloc, *sections, *status, *text)? {
             break;
         }
         passed = passed.wrapping_add(1);
@@ -219,9 +225,16 @@ fn refused(alloc: Global) -> Result<u32, NoMemory> {
     Ok(passed)
 }
 
+/// Whether the module with the long size is hardened.
+fn is_long_told(alloc: Global) -> Result<bool, NoMemory> {
+    let module = long_size(alloc)?;
+    is_told(alloc, &module, 0, REPORT)
+}
+
 /// Whether a module of 10,001 functions is told so.
 fn are_too_many(alloc: Global, text: &str) -> Result<bool, NoMemory> {
-    is_told(alloc, &many_functions(alloc)?, 8, text)
+    let module = many_functions(alloc)?;
+    is_told(alloc, &module, 8, text)
 }
 
 /// Whether a file of 4,194,305 bytes is told so.
@@ -231,7 +244,7 @@ fn is_too_long(alloc: Global, text: &str) -> Result<bool, NoMemory> {
 
 #[test]
 fn modules_that_are_refused_and_one_by_a_long_spelling(rt: HostRuntime) -> Result<(), Fail> {
-    assert!(rt; is_told(rt.alloc(), &long_size(rt.alloc())?, 0, REPORT)?);
+    assert!(rt; is_long_told(rt.alloc())?);
     assert_eq!(rt; refused(rt.alloc())?, 4);
     assert!(rt; are_too_many(rt.alloc(), "limit: functions 10001\n")?);
     assert!(rt; is_too_long(rt.alloc(), "limit: module 4194305\n")?);
@@ -276,11 +289,22 @@ static UNTYPED: [(&[u8], u8, &str); 4] = [
     ),
 ];
 
+/// Whether the module of that function, with its sections from the exports on, is told so.
+fn is_told_function(
+    alloc: Global,
+    sections: &[u8],
+    status: u8,
+    text: &str,
+) -> Result<bool, NoMemory> {
+    let module = function_of(alloc, sections)?;
+    is_told(alloc, &module, status, text)
+}
+
 /// How many of those pass before the first that doesn't.
 fn untyped(alloc: Global) -> Result<u32, NoMemory> {
     let mut passed = 0u32;
     for (sections, status, text) in &UNTYPED {
-        if !is_told(alloc, &function_of(alloc, *sections)?, *status, *text)? {
+        if !is_told_function(alloc, *sections, *status, *text)? {
             break;
         }
         passed = passed.wrapping_add(1);

@@ -96,8 +96,9 @@ const FRONT: [u8; 18] = [
 fn with_block(alloc: Global, block_type: &[u8]) -> Result<Vec<u8>, NoMemory> {
     let mut bytes = FRONT.to_vec(alloc)?;
     let two = block_type.len() == 2;
-    bytes.extend_from_slice(&[if two { 0x08 } else { 0x07 }, 0x01])?;
-    bytes.extend_from_slice(&[if two { 0x06 } else { 0x05 }, 0x00, 0x02])?;
+    let section = if two { 0x08 } else { 0x07 };
+    let body = if two { 0x06 } else { 0x05 };
+    bytes.extend_from_slice(&[section, 0x01, body, 0x00, 0x02])?;
     bytes.extend_from_slice(block_type)?;
     bytes.extend_from_slice(&[0x0B, 0x0B])?;
     Ok(bytes)
@@ -115,11 +116,22 @@ static BLOCK_TYPES: [(&[u8], u8, &str); 8] = [
     (&[0x41], 5, "malformed: m\n"),
 ];
 
+/// Whether the function with a block of that type is interpreted so.
+fn interprets_block(
+    alloc: Global,
+    block_type: &[u8],
+    status: u8,
+    text: &str,
+) -> Result<bool, NoMemory> {
+    let sections = with_block(alloc, block_type)?;
+    interprets(alloc, &sections, "", status, text)
+}
+
 /// How many block types pass before the first that doesn't.
 fn block_types(alloc: Global) -> Result<u32, NoMemory> {
     let mut passed = 0u32;
     for (block_type, status, text) in &BLOCK_TYPES {
-        if !interprets(alloc, &with_block(alloc, *block_type)?, "", *status, *text)? {
+        if !interprets_block(alloc, *block_type, *status, *text)? {
             break;
         }
         passed = passed.wrapping_add(1);

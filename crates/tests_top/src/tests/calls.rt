@@ -13,27 +13,16 @@ fn words_of(alloc: Global, line: &str) -> Result<Vec<String>, NoMemory> {
     Ok(words)
 }
 
-/// Calls `blade` with the words of a line, and answers its status and what it printed to a sink with that limit.
-fn say_within(
-    alloc: Global,
-    shelf: &mut MemoryShelf,
-    line: &str,
-    limit: Option<u64>,
-) -> Result<(u8, MemorySink), NoMemory> {
-    let words = words_of(alloc, line)?;
-    let mut out = MemorySink::new(alloc, limit);
-    out.reserve(200)?;
-    let status = blade(alloc, words.as_slice(), shelf, &mut out);
-    Ok((status, out))
-}
-
-/// Calls `blade` with the words of a line, and answers its status and what it printed.
+/// Calls `blade` with the words of a line, and answers its status; it prints to that sink, which gets room before.
 pub(super) fn say(
     alloc: Global,
     shelf: &mut MemoryShelf,
     line: &str,
-) -> Result<(u8, MemorySink), NoMemory> {
-    say_within(alloc, shelf, line, None)
+    out: &mut MemorySink,
+) -> Result<u8, NoMemory> {
+    out.reserve(200)?;
+    let words = words_of(alloc, line)?;
+    Ok(blade(alloc, words.as_slice(), shelf, out))
 }
 
 /// Whether a call ends with that status and prints that text, on a sink with that limit.
@@ -45,7 +34,8 @@ pub(super) fn ends_within(
     status: u8,
     text: &str,
 ) -> Result<bool, NoMemory> {
-    let (answer, out) = say_within(alloc, shelf, line, limit)?;
+    let mut out = MemorySink::new(alloc, limit);
+    let answer = say(alloc, shelf, line, &mut out)?;
     Ok(answer == status && out.bytes() == text.as_bytes())
 }
 
@@ -66,8 +56,8 @@ pub(super) fn status_of(
     shelf: &mut MemoryShelf,
     line: &str,
 ) -> Result<u8, NoMemory> {
-    let (status, _out) = say(alloc, shelf, line)?;
-    Ok(status)
+    let mut out = MemorySink::new(alloc, None);
+    say(alloc, shelf, line, &mut out)
 }
 
 /// Whether a file stands on a shelf.
@@ -137,6 +127,17 @@ pub(super) const RUN: &str = "blade run i.img m/f start";
 
 pub(super) const INTERP: &str = "blade interp m/f start m.wasm";
 
+/// The module of some sections is put onto a shelf under that name.
+pub(super) fn put_module(
+    alloc: Global,
+    shelf: &mut MemoryShelf,
+    name: &str,
+    sections: &[u8],
+) -> Result<(), NoMemory> {
+    let module = module_of(alloc, sections)?;
+    shelf.put(name, &module)
+}
+
 /// A shelf with the module of some sections and a start file.
 pub(super) fn shelf_with(
     alloc: Global,
@@ -144,7 +145,7 @@ pub(super) fn shelf_with(
     start: &str,
 ) -> Result<MemoryShelf, NoMemory> {
     let mut shelf = MemoryShelf::new(alloc, List::new(alloc));
-    shelf.put("m.wasm", &module_of(alloc, sections)?)?;
+    put_module(alloc, &mut shelf, "m.wasm", sections)?;
     shelf.put("start", start.as_bytes())?;
     Ok(shelf)
 }

@@ -1,6 +1,6 @@
 //! Runs near the greatest inputs, where want of memory could hide.
 use super::ADD_ONE;
-use super::calls::{ends, shelf_of};
+use super::calls::ends_on;
 use bl_base::NoMemory;
 use std::alloc::Global;
 use std::test::Fail;
@@ -9,27 +9,54 @@ use std::test::Fail;
 fn longest_module(alloc: Global) -> Result<Vec<u8>, NoMemory> {
     let mut bytes = ADD_ONE.to_vec(alloc)?;
     bytes.extend_from_slice(&[0x00, 0xD3, 0xFF, 0xFF, 0x01, 0x01, 0x78])?;
-    let rest: Vec<u8> = vec![in alloc; 0; 4_194_257]?;
-    bytes.extend_from_slice(rest.as_slice())?;
+    bytes.resize(4_194_304, 0)?;
     Ok(bytes)
 }
 
 /// A start file of the argument 41 behind zeros, 16,777,216 bytes in all.
 fn longest_start(alloc: Global) -> Result<Vec<u8>, NoMemory> {
     let mut bytes = b"arg ".to_vec(alloc)?;
-    let zeros: Vec<u8> = vec![in alloc; 0x30; 16_777_210]?;
-    bytes.extend_from_slice(zeros.as_slice())?;
+    bytes.resize(16_777_214, 0x30)?;
     bytes.extend_from_slice(b"41")?;
     Ok(bytes)
+}
+
+/// Whether a module and a start file have those lengths, and it runs so.
+fn runs_at(
+    alloc: Global,
+    module: &[u8],
+    start: &[u8],
+    line: &str,
+    text: &str,
+) -> Result<bool, NoMemory> {
+    if module.len() != 4_194_304 || start.len() != 16_777_216 {
+        return Ok(false);
+    }
+    ends_on(
+        alloc,
+        &[("m.wasm", module), ("start", start)],
+        None,
+        line,
+        0,
+        text,
+    )
+}
+
+/// Whether a module runs so from the longest start.
+fn runs_from_longest(
+    alloc: Global,
+    module: &[u8],
+    line: &str,
+    text: &str,
+) -> Result<bool, NoMemory> {
+    let start = longest_start(alloc)?;
+    runs_at(alloc, module, &start, line, text)
 }
 
 /// Whether the longest module runs so from the longest start.
 fn runs(alloc: Global, line: &str, text: &str) -> Result<bool, NoMemory> {
     let module = longest_module(alloc)?;
-    let start = longest_start(alloc)?;
-    let longest = module.len() == 4_194_304 && start.len() == 16_777_216;
-    let mut shelf = shelf_of(alloc, &[("m.wasm", &module), ("start", &start)])?;
-    Ok(longest && ends(alloc, &mut shelf, line, 0, text)?)
+    runs_from_longest(alloc, &module, line, text)
 }
 
 #[test]

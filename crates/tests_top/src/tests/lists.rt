@@ -1,8 +1,8 @@
 //! Lists of modules that import from one another, and modules with memories and tables. What node gives of them is printed by lists.js.
 use super::ADD_ONE;
-use super::calls::{Run, alike, end_alike, ends, module_of, say, shelf_with, stands};
+use super::calls::{Run, alike, end_alike, ends, ends_on, put_module, say, shelf_with, stands};
 use bl_base::{List, NoMemory};
-use bl_outside::MemoryShelf;
+use bl_outside::{MemoryShelf, MemorySink};
 use std::alloc::Global;
 use std::test::Fail;
 
@@ -46,7 +46,7 @@ fn shelf_of(
 ) -> Result<MemoryShelf, NoMemory> {
     let mut shelf = MemoryShelf::new(alloc, List::new(alloc));
     for (name, sections) in modules {
-        shelf.put(*name, &module_of(alloc, *sections)?)?;
+        put_module(alloc, &mut shelf, *name, *sections)?;
     }
     shelf.put("start", start.as_bytes())?;
     Ok(shelf)
@@ -309,7 +309,8 @@ fn begins(
     line: &str,
     head: &[u8],
 ) -> Result<bool, NoMemory> {
-    let (status, out) = say(alloc, shelf, line)?;
+    let mut out = MemorySink::new(alloc, None);
+    let status = say(alloc, shelf, line, &mut out)?;
     Ok(status == 0 && out.bytes().starts_with(head))
 }
 
@@ -372,11 +373,16 @@ static COUNTED: [(&str, u8, &str); 6] = [
     ("blade interp a/f start a b", 3, "read fault: a\n"),
 ];
 
+/// Whether a line ends so, where none of its modules stands on the shelf.
+fn ends_without(alloc: Global, line: &str, status: u8, text: &str) -> Result<bool, NoMemory> {
+    ends_on(alloc, &[("start", b"")], None, line, status, text)
+}
+
 /// How many lines pass, where none of their modules stands on the shelf, before the first that doesn't.
 fn counted(alloc: Global) -> Result<u32, NoMemory> {
     let mut passed = 0u32;
     for (line, status, text) in &COUNTED {
-        if !ends(alloc, &mut shelf_of(alloc, &[], "")?, *line, *status, *text)? {
+        if !ends_without(alloc, *line, *status, *text)? {
             break;
         }
         passed = passed.wrapping_add(1);

@@ -7,7 +7,7 @@ use super::calls::{
 use super::interp::{COUNT_DOWN, DIVISION, REMAINDER, UNREACHABLE, UNTYPED};
 use super::{ADD_ONE, EMPTY_IMAGE, IMAGE};
 use bl_base::NoMemory;
-use bl_outside::MemoryShelf;
+use bl_outside::{MemoryShelf, MemorySink};
 use std::alloc::Global;
 use std::test::Fail;
 
@@ -153,8 +153,7 @@ fn nops(alloc: Global, count: usize, section: u8, body: u8) -> Result<Vec<u8>, N
         ],
     )?;
     bytes.extend_from_slice(&[section, 0xFF, 0x3F, 0x01, body, 0xFF, 0x3F, 0x00])?;
-    let items: Vec<u8> = vec![in alloc; 0x01; count]?;
-    bytes.extend_from_slice(items.as_slice())?;
+    bytes.resize(bytes.len().saturating_add(count), 0x01)?;
     bytes.push(0x0B)?;
     Ok(bytes)
 }
@@ -178,12 +177,24 @@ static MANY: [(usize, u8, u8, u8, &str); 2] = [
     (1_048_568, 0xFE, 0xFA, 8, "limit: commands 1048577\n"),
 ];
 
+/// Whether the module of so many nops is told so where it is lowered.
+fn are_told(
+    alloc: Global,
+    count: usize,
+    section: u8,
+    body: u8,
+    status: u8,
+    text: &str,
+) -> Result<bool, NoMemory> {
+    let module = nops(alloc, count, section, body)?;
+    is_told(alloc, &module, LOWER, status, text)
+}
+
 /// How many of those pass before the first that doesn't.
 fn many(alloc: Global) -> Result<u32, NoMemory> {
     let mut passed = 0u32;
     for (count, section, body, status, text) in &MANY {
-        let module = nops(alloc, *count, *section, *body)?;
-        if !is_told(alloc, &module, LOWER, *status, *text)? {
+        if !are_told(alloc, *count, *section, *body, *status, *text)? {
             break;
         }
         passed = passed.wrapping_add(1);
@@ -226,12 +237,23 @@ static REFUSED: [(&str, &[u8], u8, &str); 5] = [
     ),
 ];
 
+/// Whether a call on the module of some sections ends so, and an image is kept where the status is 0.
+fn is_told_of(
+    alloc: Global,
+    sections: &[u8],
+    line: &str,
+    status: u8,
+    text: &str,
+) -> Result<bool, NoMemory> {
+    let module = module_of(alloc, sections)?;
+    is_told(alloc, &module, line, status, text)
+}
+
 /// How many of those pass before the first that doesn't.
 fn refused(alloc: Global) -> Result<u32, NoMemory> {
     let mut passed = 0u32;
     for (line, sections, status, text) in &REFUSED {
-        let module = module_of(alloc, *sections)?;
-        if !is_told(alloc, &module, *line, *status, *text)? {
+        if !is_told_of(alloc, *sections, *line, *status, *text)? {
             break;
         }
         passed = passed.wrapping_add(1);
@@ -271,26 +293,43 @@ fn of_operator(
     two: bool,
     given: u8,
 ) -> Result<Vec<u8>, NoMemory> {
-    let types: [u8; 10] = [0x01, 0x07, 0x01, 0x60, 0x02, kind, kind, 0x01, given, 0x03];
-    let one: [u8; 9] = [0x01, 0x06, 0x01, 0x60, 0x01, kind, 0x01, given, 0x03];
-    let mut bytes = module_of(alloc, if two { &types } else { &one })?;
-    bytes.extend_from_slice(&[
-        0x02, 0x01, 0x00, 0x07, 0x05, 0x01, 0x01, 0x66, 0x00, 0x00, 0x0A,
-    ])?;
     if two {
-        bytes.extend_from_slice(&[0x09, 0x01, 0x07, 0x00, 0x20, 0x00, 0x20, 0x01])?;
-    } else {
-        bytes.extend_from_slice(&[0x07, 0x01, 0x05, 0x00, 0x20, 0x00])?;
+        return module_of(
+            alloc,
+            &[
+                0x01, 0x07, 0x01, 0x60, 0x02, kind, kind, 0x01, given, 0x03, 0x02, 0x01, 0x00,
+                0x07, 0x05, 0x01, 0x01, 0x66, 0x00, 0x00, 0x0A, 0x09, 0x01, 0x07, 0x00, 0x20, 0x00,
+                0x20, 0x01, operator, 0x0B,
+            ],
+        );
     }
-    bytes.extend_from_slice(&[operator, 0x0B])?;
-    Ok(bytes)
+    module_of(
+        alloc,
+        &[
+            0x01, 0x06, 0x01, 0x60, 0x01, kind, 0x01, given, 0x03, 0x02, 0x01, 0x00, 0x07, 0x05,
+            0x01, 0x01, 0x66, 0x00, 0x00, 0x0A, 0x07, 0x01, 0x05, 0x00, 0x20, 0x00, operator, 0x0B,
+        ],
+    )
+}
+
+/// Whether a module runs by itself to that text.
+fn interprets_to(alloc: Global, shelf: &mut MemoryShelf, text: &[u8]) -> Result<bool, NoMemory> {
+    let mut out = MemorySink::new(alloc, None);
+    let status = say(alloc, shelf, INTERP, &mut out)?;
+    Ok(status == 0 && out.bytes() == text)
 }
 
 /// Whether a lowered module runs by its image and by itself to the same text.
 fn run_alike(alloc: Global, shelf: &mut MemoryShelf) -> Result<bool, NoMemory> {
-    let (ran, out) = say(alloc, shelf, RUN)?;
-    let (interpreted, other) = say(alloc, shelf, INTERP)?;
-    Ok(ran == 0 && interpreted == 0 && out.bytes() == other.bytes())
+    let mut out = MemorySink::new(alloc, None);
+    let status = say(alloc, shelf, RUN, &mut out)?;
+    Ok(status == 0 && interprets_to(alloc, shelf, out.bytes())?)
+}
+
+/// Whether a module is lowered, and runs alike from that start.
+fn is_alike_from(alloc: Global, module: &[u8], start: &str) -> Result<bool, NoMemory> {
+    let mut shelf = shelf_of(alloc, &[("m.wasm", module), ("start", start.as_bytes())])?;
+    Ok(status_of(alloc, &mut shelf, LOWER)? == 0 && run_alike(alloc, &mut shelf)?)
 }
 
 /// Whether an operator gives the same by an image and by the module itself, from those arguments.
@@ -301,8 +340,7 @@ fn is_alike(alloc: Global, operator: u8, kind: u8, two: bool, given: u8) -> Resu
         "arg 2147483653\n"
     };
     let module = of_operator(alloc, operator, kind, two, given)?;
-    let mut shelf = shelf_of(alloc, &[("m.wasm", &module), ("start", start.as_bytes())])?;
-    Ok(status_of(alloc, &mut shelf, LOWER)? == 0 && run_alike(alloc, &mut shelf)?)
+    is_alike_from(alloc, &module, start)
 }
 
 /// How many operators of a row of the table don't give the same.
