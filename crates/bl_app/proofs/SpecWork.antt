@@ -10,15 +10,13 @@ use Rattle.bl_rob.specs.CallResults.{Told}
 use Rattle.bl_rob.specs.Machines.{State, opening}
 use Rattle.bl_rob.specs.Observed.{Observed, Observes, observed, reached}
 use Rattle.bl_rob.specs.declared.directive.Directive.{Directive}
-use Rattle.bl_build.specs.Entering.{Entered, Entry, Finds, IsImaged, Starts, function_named, imaging, starting}
+use Rattle.bl_build.specs.Entering.{Entered}
 use Rattle.bl_app.specs.Executing.{plain_text}
 use Rattle.bl_words.specs.Requests.{SpecRequest}
-use Rattle.bl_app.specs.Speculating.{end_text, last_text, spec_job, spec_plan}
-use Rattle.bl_build.specs.Stages.{at_first, at_second}
-use Rattle.bl_build.specs.Working.{IsStaged, IsTraced, entered_in}
-use Rattle.bl_app.specs.Working.{IsWork, plan_in, speculated_in}
+use Rattle.bl_app.specs.Speculating.{end_text, last_text, spec_job}
+use Rattle.bl_build.specs.Tracing.{speculating}
+use Rattle.bl_app.specs.Working.{IsDoneBehind, IsSpecTold, IsWork}
 use Rattle.bl_app.specs.declared.job.Plan.{Plan as PlanMade}
-use Rattle.bl_build.specs.declared.refusal.Refusal.TheVariants as told
 use Rattle.bl_build.specs.declared.refusal.WorkError.{WorkError}
 use Rattle.bl_build.specs.declared.refusal.WorkError.TheVariants as error
 
@@ -52,58 +50,9 @@ observed_so most program q function start directives old new seen same is o =
     (h.observed, h.leads)
 
 module _ (request : SpecRequest) (image trace start : List ℕ) where
-  -- an image that is refused
-  pub image_refused : (e : WorkError) → IsStaged imaging (λ (p : Program). p) image (Err e) → IsWork (spec_job request) (image ∷ trace ∷ start ∷ []) (Err e)
-  image_refused (error.Refused refusal) r = record { image = image; trace = trace; start = start; are = refl; refuses = at_first r }
-  image_refused error.Memory r = tt
-
-  module _ (program : Program) (imaged : IsImaged image program) where
-    -- an export that is absent
-    pub not_exported : function_named request.export program.exports ≡ None → IsWork (spec_job request) (image ∷ trace ∷ start ∷ []) (Err (error.Refused told.NoExport))
-    not_exported none =
-        record { image = image; trace = trace; start = start; are = refl; refuses = at_second program imaged (at_first (record { not_exported = none; is_refusal = refl })) }
-
-    module _ (entry : Entry) (found : Finds request.export program entry) where
-      -- a trace file that is refused
-      pub trace_refused : (e : WorkError) → IsTraced trace (Err e) → IsWork (spec_job request) (image ∷ trace ∷ start ∷ []) (Err e)
-      trace_refused (error.Refused refusal) r =
-          record { image = image; trace = trace; start = start; are = refl; refuses = at_second program imaged (at_second entry found (at_first r)) }
-      trace_refused error.Memory r = tt
-
-      module _ (directives : List Directive) (traced : IsTraced trace (Ok directives)) where
-        -- a start file that is refused
-        pub start_refused : (e : WorkError) → IsStaged (starting start) (entered_in entry) entry (Err e) → IsWork (spec_job request) (image ∷ trace ∷ start ∷ []) (Err e)
-        start_refused (error.Refused refusal) r = record {
-          image = image;
-          trace = trace;
-          start = start;
-          are = refl;
-          refuses = at_second program imaged (at_second entry found (at_second (record { entry = entry; directives = directives })
-              (record { same_entry = refl; few = traced.0; read = traced.1 }) r));
-        }
-        start_refused error.Memory r = tt
-
-        -- what was observed
-        pub was_observed : (s : Start) (plan : PlanMade) → Starts start entry (entered_in entry s) → plan_in plan ≡ spec_plan (speculated_in entry s directives)
-            → IsWork (spec_job request) (image ∷ trace ∷ start ∷ []) (Ok plan)
-        was_observed s plan starts is = record {
-          image = image;
-          trace = trace;
-          start = start;
-          are = refl;
-          speculated = speculated_in entry s directives;
-          prepared = (
-            program,
-            imaged,
-            (
-              entry,
-              found,
-              (
-                record { entry = entry; directives = directives },
-                record { same_entry = refl; few = traced.0; read = traced.1 },
-                record { same_directives = refl; starts = starts },
-              ),
-            ),
-          );
-          is_plan = is;
-        }
+  pub spec_work : (result : Result PlanMade WorkError) → IsDoneBehind (speculating request.export trace start) IsSpecTold image result
+      → IsWork (spec_job request) (image ∷ trace ∷ start ∷ []) result
+  spec_work (Ok plan) done =
+      record { image = image; trace = trace; start = start; are = refl; speculated = done.0; prepared = done.1; is_plan = done.2 }
+  spec_work (Err (error.Refused refusal)) refused = record { image = image; trace = trace; start = start; are = refl; refuses = refused }
+  spec_work (Err error.Memory) nothing = tt

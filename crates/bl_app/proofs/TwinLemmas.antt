@@ -49,20 +49,20 @@ they_tell t = told 64 (entry_of t).program (entry_of t).function t.speculated.di
 -- the function's program is that of an image, and it is well-formed
 module _ (export trace start other image : List ℕ) (t : Twinned) (prepared : (twinning export trace start other).Passes image t) where
   abbrev program : Program
-  program = prepared.1.0
+  program = prepared.0
 
   same_program : program ≡ (entry_of t).program
   same_program =
-      let behind = prepared.1.2 in
+      let behind = prepared.2.1 in
       let found : Finds export program behind.0 = behind.1 in
       let traces : Traces trace behind.0 behind.2.0 = behind.2.1 in
-      let starts : StartsTraced start behind.2.0 prepared.0 = behind.2.2 in
-      sym (ap (λ (s : Speculated). s.entered.entry.program) prepared.2.same ∙ ap (λ (e : Entry). e.program) (starts.starts.same_entry ∙ traces.same_entry) ∙ found.same_program)
+      let starts : StartsTraced start behind.2.0 prepared.2.0 = behind.2.2 in
+      sym (ap (λ (s : Speculated). s.entered.entry.program) prepared.2.2.same ∙ ap (λ (e : Entry). e.program) (starts.starts.same_entry ∙ traces.same_entry) ∙ found.same_program)
 
   safe_alike : (agree : Bool) → (IsTrue agree ↔ StartsAgree t) → ConstantTime (entry_of t).program → IsStable (entry_of t).program → IsTrue agree
       → comparison_of t ≡ compared.Differ → ⊥
   safe_alike agree agrees constant stable says differ =
-      let imaged : IsImaged image program = prepared.1.1 in
+      let imaged : IsImaged image program = prepared.1 in
       let alike = equal (entry_of t).program (subst IsProgram same_program imaged.image.is_program) (subst IsWellFormed same_program imaged.rules) constant stable in
       never (entry_of t).program alike 64 (omega arith) (omega arith) (entry_of t).function t.speculated.directives t.speculated.entered.start t.other
       (agrees.0 says) differ

@@ -7,21 +7,19 @@ use Rattle.bl_cmd.specs.declared.definitions.ProgramParts.{ProgramParts as Progr
 use Rattle.bl_outside.specs.Shelf.{ReadFails}
 use Rattle.bl_outside.specs.declared.shelf.ShelfError.{ShelfError}
 use Rattle.bl_outside.specs.declared.shelf.ShelfError.TheVariants as shelf
-use Rattle.bl_rob.specs.declared.directive.Directive.{Directive}
-use Rattle.bl_wasm.specs.declared.linked.Tree.{Tree}
-use Rattle.bl_build.specs.Entering.{Entered, Entry, finding, starting}
+use Rattle.bl_build.specs.Entering.{Entered}
 use Rattle.bl_app.specs.Executing.{HasPlainOutcome, plain_text}
 use Rattle.bl_app.specs.Interpreting.{HasOutcome, printed_of}
 use Rattle.bl_app.specs.Jobs.{AreRead, Job, Plan, Read, ReadsName, RefusesLength, saying}
 use Rattle.bl_app.specs.Outcomes.{outcome_status}
 use Rattle.bl_build.specs.Refusals.{Refusal}
-use Rattle.bl_build.specs.Stages.{Stage, chain}
-use Rattle.bl_words.specs.Requests.{InterpRequest, RunRequest}
-use Rattle.bl_build.specs.Running.{Invoked, Invokes, InvokingRefuses}
+use Rattle.bl_build.specs.Stages.{Stage}
+use Rattle.bl_build.specs.Running.{Invoked}
 use Rattle.bl_build.specs.Tracing.{Speculated, Twinned}
+use Rattle.bl_app.specs.Speculating.{spec_plan}
 use Rattle.bl_app.specs.Twinning.{StartsAgree, twin_plan}
 use Rattle.bl_build.specs.Certifying.{Certified}
-use Rattle.bl_app.specs.Verifying.{Verdicts}
+use Rattle.bl_app.specs.Verifying.{AreVerdicts, Verdicts, verify_plan}
 use Rattle.bl_app.specs.declared.verify.Verdicts.{Verdicts as VerdictsFound}
 use Rattle.bl_graph.specs.declared.certificate.Certificate.{Certificate}
 use Rattle.bl_app.specs.Status.{status_of}
@@ -35,7 +33,7 @@ use Rattle.bl_build.specs.declared.refusal.WorkError.{WorkError}
 use Rattle.bl_build.specs.declared.refusal.WorkError.TheVariants as error
 use Rattle.bl_app.specs.declared.status.Status.{Status}
 use Rattle.bl_app.specs.declared.status.Status.TheVariants.{Memory, ReadFault, WriteFault}
-use Rattle.bl_build.specs.Working.{contents_in, refusal_in, entered_in}
+use Rattle.bl_build.specs.Working.{contents_in, refusal_in}
 
 -- ---- values of the code as those of the definitions
 
@@ -83,40 +81,31 @@ IsWork job contents (Ok plan) = job.Does contents (plan_in plan)
 IsWork job contents (Err (error.Refused refusal)) = job.Against contents (refusal_in refusal)
 IsWork job contents (Err error.Memory) = Unit {0}
 
--- printing the outcome of a function's plain run from a start
-pub record IsPlainTold (entered : Entered) (steps : ℕ) (plan : PlanMade) : Type 0 where
+-- what is done with a value that stages take: a plan for what they pass on, or why they refuse it; nothing is said where there was no memory
+abbrev pub IsDoneBehind : {A B : Type 0} → Stage A B → (B → PlanMade → Type 0) → A → Result PlanMade WorkError → Type 0
+IsDoneBehind {B = B} stage Plans a (Ok plan) = (b : B) × stage.Passes a b × Plans b plan
+IsDoneBehind stage Plans a (Err (error.Refused refusal)) = stage.Refuses a (refusal_in refusal)
+IsDoneBehind stage Plans a (Err error.Memory) = Unit {0}
+
+-- ---- `run` and `interp`
+
+-- printing the outcome of a function's plain run from a start, within so many steps
+pub record IsPlainTold (steps : ℕ) (entered : Entered) (plan : PlanMade) : Type 0 where
   pub outcome : Option Outcome
   pub within : HasPlainOutcome entered steps outcome
   pub is_plan : plan_in plan ≡ saying (outcome_status outcome) (plain_text entered steps outcome)
 
--- from a program to its function of the export that `run` names, with the start that the bytes of a start file ask for
-abbrev pub entering_program : RunRequest → List ℕ → Stage Program Entered
-entering_program request start = chain (finding request.export) (starting start)
-
--- what `run` does with the program of its image: what it prints, or why the export or the start is refused
-abbrev pub IsPlainRunOf : RunRequest → List ℕ → Program → Result PlanMade WorkError → Type 0
-IsPlainRunOf request start program (Ok plan) =
-    (entered : Entered) × (entering_program request start).Passes program entered × IsPlainTold entered request.steps plan
-IsPlainRunOf request start program (Err (error.Refused refusal)) = (entering_program request start).Refuses program (refusal_in refusal)
-IsPlainRunOf request start program (Err error.Memory) = Unit {0}
-
--- printing the outcome of a function's run from a start
-pub record IsTold (invoked : Invoked) (steps : ℕ) (plan : PlanMade) : Type 0 where
+-- printing the outcome of a function's run from a start, within so many steps
+pub record IsTold (steps : ℕ) (invoked : Invoked) (plan : PlanMade) : Type 0 where
   pub outcome : Option Outcome
   pub within : HasOutcome invoked steps outcome
   pub is_plan : plan_in plan ≡ saying (outcome_status outcome) (printed_of invoked steps outcome)
 
--- what `interp` does with the linked tree of its modules: what it prints, or why the export or the start is refused
-abbrev pub IsRunOf : InterpRequest → List ℕ → Tree → Result PlanMade WorkError → Type 0
-IsRunOf request start tree (Ok plan) = (invoked : Invoked) × Invokes request.export start tree invoked × IsTold invoked request.steps plan
-IsRunOf request start tree (Err (error.Refused refusal)) = InvokingRefuses request.export start tree (refusal_in refusal)
-IsRunOf request start tree (Err error.Memory) = Unit {0}
-
 -- ---- `spec`
 
--- a function of a program, its start, and directives
-abbrev pub speculated_in : Entry → Start → List Directive → Speculated
-speculated_in entry start directives = record { entered = entered_in entry start; directives = directives }
+-- printing what is observed of directives on a function from a start
+abbrev pub IsSpecTold : Speculated → PlanMade → Type 0
+IsSpecTold speculated plan = plan_in plan ≡ spec_plan speculated
 
 -- ---- `verify`
 
@@ -128,9 +117,15 @@ certified_in program certificate = record { program = program; certificate = cer
 abbrev pub verdicts_in : VerdictsFound → Verdicts
 verdicts_in found = record { rules = found.rules; flow = found.flow; labels = found.labels }
 
+-- printing verdicts on a program and a certificate
+pub record IsJudgedSo (certified : Certified) (plan : PlanMade) : Type 0 where
+  pub verdicts : Verdicts
+  pub are_verdicts : AreVerdicts certified verdicts
+  pub is_plan : plan_in plan ≡ verify_plan verdicts
+
 -- ---- `twin`
 
--- a function of a program, directives, and two starts
+-- a function of a program, a start of it, directives, and another start
 abbrev pub twinned_in : Speculated → Start → Twinned
 twinned_in speculated other = record { speculated = speculated; other = other }
 

@@ -10,10 +10,11 @@ ghost use Rattle.bl_app.specs.Working.{IsWork, read_in};
 ghost use Rattle.bl_build.specs.Working.{contents_in};
 
 use crate::generate::generate;
-use crate::harden::{harden, harden_reads};
+use crate::harden::harden;
 use crate::interp::{interp_reads, interpret};
 use crate::job::{Plan, Read};
-use crate::lower::{lower, lower_reads};
+use crate::lower::lower;
+use crate::module::module_reads;
 use crate::run::{execute, run_reads};
 use crate::spec::{spec_reads, speculate};
 use crate::twin::{twin, twin_reads};
@@ -41,8 +42,8 @@ pub fn reads_of<'a>(alloc: Global, request: &Request<'a>) -> Result<Vec<Read<'a>
     ensures { IfOk result (λ reads. map read_in reads.items ≡ (work_of (request_in request.now)).reads) }
 {
     match request {
-        Request::Harden(words) => harden_reads(alloc, words),
-        Request::Lower(words) => lower_reads(alloc, words),
+        Request::Harden(words) => module_reads(alloc, words.modules.as_slice()),
+        Request::Lower(words) => module_reads(alloc, words.modules.as_slice()),
         Request::Interp(words) => interp_reads(alloc, words),
         Request::Run(words) => run_reads(alloc, words),
         Request::Spec(words) => spec_reads(alloc, words),

@@ -32,16 +32,16 @@ pub fn generate<'a>(alloc: Global, words: &GenWords) -> Result<Plan<'a>, WorkErr
     contents.push(bytes)?;
     let names: [&'a str; 1] = ["gen"];
     match compile_hardened(alloc, &names, contents.as_slice()) {
-        Ok(hardened) => Ok(plan_of(alloc, length, hardened)?),
+        Ok(hardened) => Ok(plan_of(alloc, length, &hardened)?),
         Err(error) => Err(error),
     }
 }
 
 /// The plan of a program with its protects, which is that of a module of so many bytes.
-fn plan_of<'a>(alloc: Global, length: usize, hardened: Hardened) -> Result<Plan<'a>, NoMemory>
-    requires certified { Certifies hardened.program hardened.certificate }
-    requires judged { Judges hardened.program hardened.verdict }
-    ensures { IfOk result (λ plan. plan_in plan ≡ saying Done (summary_of length (hardened_in hardened))) }
+fn plan_of<'a>(alloc: Global, length: usize, hardened: &Hardened) -> Result<Plan<'a>, NoMemory>
+    requires certified { Certifies hardened.now.program hardened.now.certificate }
+    requires judged { Judges hardened.now.program hardened.now.verdict }
+    ensures { IfOk result (λ plan. plan_in plan ≡ saying Done (summary_of length (hardened_in hardened.now))) }
 {
     let mut text = format!(in alloc; "module {length}\n")?.into_bytes();
     let rest = summary(

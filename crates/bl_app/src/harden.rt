@@ -9,11 +9,10 @@ ghost use Rattle.bl_app.specs.Hardening.{harden_job, harden_plan};
 ghost use Rattle.bl_app.specs.Jobs.{AreRead};
 ghost use Rattle.bl_words.specs.Requests.{AreNamedApart};
 ghost use Rattle.bl_words.specs.Words.{harden_in};
-ghost use Rattle.bl_app.specs.Working.{IsWork, keep_in, plan_in, read_in};
+ghost use Rattle.bl_app.specs.Working.{IsWork, keep_in, plan_in};
 ghost use Rattle.bl_build.specs.Working.{contents_in, hardened_in};
 
-use crate::job::{Keep, Plan, Read};
-use crate::module::read_modules;
+use crate::job::{Keep, Plan, one_kept};
 use crate::status::Status;
 use bl_base::NoMemory;
 use bl_build::{Hardened, WorkError, compile_hardened};
@@ -22,15 +21,6 @@ use bl_report::report;
 use bl_witness::to_json;
 use bl_words::HardenWords;
 use std::alloc::Global;
-
-/// The files that `harden` reads.
-pub fn harden_reads<'a>(alloc: Global, words: &HardenWords<'a>) -> Result<Vec<Read<'a>>, NoMemory>
-    ensures { IfOk result (λ reads. map read_in reads.items ≡ (harden_job (harden_in words.now)).reads) }
-{
-    let mut reads = Vec::new(alloc);
-    read_modules(&mut reads, words.modules.as_slice())?;
-    Ok(reads)
-}
 
 /// Keeping a certificate and then the image of the modules' program with the least protects, and printing the report; Refused
 /// exactly where the bytes are refused. Costs a maximum flow in a network that is linear in the program, also where the image is too
@@ -75,7 +65,7 @@ fn plan_of<'a>(
     })
 }
 
-/// The certificate and the image, which are kept.
+/// The certificate and then the image, which are kept.
 fn keeps_of<'a>(
     alloc: Global,
     words: &HardenWords<'a>,
@@ -86,7 +76,7 @@ fn keeps_of<'a>(
     let mut keeps = certificate_kept(alloc, words, &hardened.certificate)?;
     keeps.push(Keep {
         name: words.image,
-        bytes: image_of(hardened),
+        bytes: hardened.into_image(),
     })?;
     Ok(keeps)
 }
@@ -100,17 +90,5 @@ fn certificate_kept<'a>(
     ensures { IfOk result (λ keeps. map keep_in keeps.items ≡ ((harden_in words.now).certificate, certificate_text certificate.now) ∷ []) }
 {
     let text = to_json(alloc, certificate)?;
-    let mut keeps = Vec::new(alloc);
-    keeps.push(Keep {
-        name: words.certificate,
-        bytes: text.into_vec(),
-    })?;
-    Ok(keeps)
-}
-
-/// The image of a program with its protects.
-fn image_of(hardened: Hardened) -> Vec<u8>
-    ensures { result ≡ hardened.image }
-{
-    hardened.image
+    one_kept(alloc, words.certificate, text.into_vec())
 }

@@ -7,7 +7,8 @@ ghost use Rattle.bl_app.specs.Interpreting.{interp_job};
 ghost use Rattle.bl_app.specs.Jobs.{AreRead};
 ghost use Rattle.bl_words.specs.Requests.{AreNamedApart};
 ghost use Rattle.bl_words.specs.Words.{interp_in};
-ghost use Rattle.bl_app.specs.Working.{IsRunOf, IsTold, IsWork, read_in};
+ghost use Rattle.bl_app.specs.Working.{IsDoneBehind, IsTold, IsWork, read_in};
+ghost use Rattle.bl_build.specs.Running.{invoking};
 ghost use Rattle.bl_build.specs.Working.{contents_in, invoked_in};
 
 use crate::job::{Plan, Read};
@@ -63,7 +64,7 @@ fn interpret_tree<'a>(
     start: &[u8],
     linked: &Linked,
 ) -> Result<Plan<'a>, WorkError<'a>>
-    ensures { IsRunOf (interp_in words.now) start.now linked.now result }
+    ensures { IsDoneBehind (invoking (interp_in words.now).export start.now) (IsTold words.now.steps) linked.now result }
 {
     let invocation = match prepare(alloc, linked.tree(), words.export, start) {
         Ok(invocation) => invocation,
@@ -84,7 +85,7 @@ fn tell<'a>(
     steps: u64,
 ) -> Result<Plan<'a>, NoMemory>
     requires start { IsStart linked.now invocation.now.function invocation.now.start }
-    ensures { IfOk result (λ plan. IsTold (invoked_in linked.now invocation.now) steps plan) }
+    ensures { IfOk result (IsTold steps (invoked_in linked.now invocation.now)) }
 {
     let run = interp(alloc, linked, invocation.function, &invocation.start, steps)?;
     let memories = first_memories(alloc, linked, &invocation.start)?;

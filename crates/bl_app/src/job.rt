@@ -1,6 +1,10 @@
 //! What a command reads, and what it does where nothing fails.
+ghost use Rattle.std.specs.Prelude.{◌≡◌, ◌∷◌, [], IfOk, map};
+ghost use Rattle.bl_app.specs.Working.{keep_in};
+
 use crate::status::Status;
-use bl_base::Quantity;
+use bl_base::{NoMemory, Quantity};
+use std::alloc::Global;
 
 /// A file that a command reads.
 #[derive(Clone, Copy, Debug)]
@@ -18,6 +22,15 @@ pub struct Keep<'a> {
     pub name: &'a str,
     /// Its bytes.
     pub bytes: Vec<u8>,
+}
+
+/// One file, which is kept.
+pub fn one_kept<'a>(alloc: Global, name: &'a str, bytes: Vec<u8>) -> Result<Vec<Keep<'a>>, NoMemory>
+    ensures { IfOk result (λ keeps. map keep_in keeps.items ≡ (name.now, bytes.items) ∷ []) }
+{
+    let mut keeps = Vec::new(alloc);
+    keeps.push(Keep { name, bytes })?;
+    Ok(keeps)
 }
 
 /// What a command does where nothing fails: it keeps files, in order, then prints a text, and ends with a status.

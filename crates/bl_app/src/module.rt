@@ -5,6 +5,16 @@ ghost use Rattle.bl_app.specs.Working.{read_in};
 
 use crate::job::Read;
 use bl_base::{NoMemory, Quantity};
+use std::alloc::Global;
+
+/// The files of modules, in order.
+pub fn module_reads<'a>(alloc: Global, words: &[&'a str]) -> Result<Vec<Read<'a>>, NoMemory>
+    ensures { IfOk result (λ reads. map read_in reads.items ≡ map module_read (map (λ word. word.now) words.now)) }
+{
+    let mut reads = Vec::new(alloc);
+    read_modules(&mut reads, words)?;
+    Ok(reads)
+}
 
 /// Puts the files of modules behind those that are read before, each of as many bytes as a module may have.
 pub fn read_modules<'a>(reads: &mut Vec<Read<'a>>, words: &[&'a str]) -> Result<(), NoMemory>

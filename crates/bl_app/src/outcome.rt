@@ -1,10 +1,18 @@
-//! The status of a run's end.
-ghost use Rattle.std.specs.Prelude.{◌≡◌};
+//! The status and the text of a run's end.
+ghost use Rattle.std.specs.Prelude.{◌≡◌, IfOk};
 ghost use Rattle.bl_base.specs.Runs.{outcome_of};
+ghost use Rattle.bl_cmd.specs.Outcomes.{IsStart};
+ghost use Rattle.bl_app.specs.Executing.{plain_text};
 ghost use Rattle.bl_app.specs.Outcomes.{outcome_status};
+ghost use Rattle.bl_build.specs.Working.{entered_in, entry_in};
 
 use crate::status::Status;
-use bl_base::Run;
+use bl_base::{NoMemory, Run, Start};
+use bl_build::Entry;
+use bl_cmd::WellFormed;
+use bl_outcome::outcome_text;
+use bl_seq::first_memories;
+use std::alloc::Global;
 
 /// The exit status of a run's end.
 pub fn outcome_status(run: &Run) -> Status
@@ -15,4 +23,26 @@ pub fn outcome_status(run: &Run) -> Status
         Run::Trapped { .. } => Status::Trapped,
         Run::Spent => Status::Spent,
     }
+}
+
+/// The text of the end of a function's run from a start, within so many steps. Linear in the bytes of the program's memories.
+pub fn plain_text(
+    alloc: Global,
+    program: &WellFormed,
+    entry: &Entry<'_>,
+    start: &Start,
+    steps: u64,
+    run: &Run,
+) -> Result<Vec<u8>, NoMemory>
+    requires { IsStart program.now entry.now.function start.now }
+    ensures { IfOk result (λ text. text.items ≡ plain_text (entered_in (entry_in program.now entry.now) start.now) steps (outcome_of run.now)) }
+{
+    let memories = first_memories(alloc, program, start)?;
+    outcome_text(
+        alloc,
+        entry.defined.results.as_slice(),
+        memories.as_slice(),
+        steps,
+        run,
+    )
 }

@@ -1,19 +1,19 @@
 //! `run`: from an image's bytes and a start file's to the text of the outcome of a plain run.
-ghost use Rattle.std.specs.Prelude.{◌≡◌, ◌∷◌, [], None, IfOk, map};
+ghost use Rattle.std.specs.Prelude.{◌≡◌, None, IfOk, map};
 ghost use Rattle.bl_cmd.specs.Outcomes.{IsStart};
 ghost use Rattle.bl_app.specs.Executing.{run_job};
 ghost use Rattle.bl_app.specs.Jobs.{AreRead};
 ghost use Rattle.bl_words.specs.Words.{run_in};
-ghost use Rattle.bl_app.specs.Working.{IsPlainRunOf, IsPlainTold, IsWork, read_in};
+ghost use Rattle.bl_build.specs.Entering.{entering, entering_program};
+ghost use Rattle.bl_app.specs.Working.{IsDoneBehind, IsPlainTold, IsWork, read_in};
 ghost use Rattle.bl_build.specs.Working.{contents_in, entered_in, entry_in};
 
 use crate::job::{Plan, Read};
-use crate::outcome::outcome_status;
+use crate::outcome::{outcome_status, plain_text};
 use bl_base::{NoMemory, Quantity, Start};
 use bl_build::{Entry, Refusal, WorkError, find_entry, read_entry_start, read_image};
 use bl_cmd::WellFormed;
-use bl_outcome::outcome_text;
-use bl_seq::{first_memories, run};
+use bl_seq::run;
 use bl_words::RunWords;
 use std::alloc::Global;
 
@@ -56,7 +56,7 @@ fn execute_image<'a>(
     image: &[u8],
     start: &[u8],
 ) -> Result<Plan<'a>, WorkError<'a>>
-    ensures { IsWork (run_job (run_in words.now)) (image.now ∷ start.now ∷ []) result }
+    ensures { IsDoneBehind (entering (run_in words.now).export start.now) (IsPlainTold words.now.steps) image.now result }
 {
     match read_image(alloc, image) {
         Ok(program) => execute_program(alloc, words, &program, start),
@@ -71,7 +71,7 @@ fn execute_program<'a>(
     program: &WellFormed,
     start: &[u8],
 ) -> Result<Plan<'a>, WorkError<'a>>
-    ensures { IsPlainRunOf (run_in words.now) start.now program.now result }
+    ensures { IsDoneBehind (entering_program (run_in words.now).export start.now) (IsPlainTold words.now.steps) program.now result }
 {
     let Some(entry) = find_entry(program, words.export) else {
         return Err(WorkError::Refused(Refusal::NoExport));
@@ -95,12 +95,10 @@ fn tell<'a>(
     steps: u64,
 ) -> Result<Plan<'a>, NoMemory>
     requires { IsStart program.now entry.now.function start.now }
-    ensures { IfOk result (λ plan. IsPlainTold (entered_in (entry_in program.now entry.now) start.now) steps plan) }
+    ensures { IfOk result (IsPlainTold steps (entered_in (entry_in program.now entry.now) start.now)) }
 {
     let run = run(alloc, program, entry.function, start, steps)?;
-    let memories = first_memories(alloc, program, start)?;
-    let kinds = entry.defined.results.as_slice();
-    let text = outcome_text(alloc, kinds, memories.as_slice(), steps, &run)?;
+    let text = plain_text(alloc, program, entry, start, steps, &run)?;
     let status = outcome_status(&run);
     Ok(Plan {
         status,

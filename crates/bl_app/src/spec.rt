@@ -1,29 +1,25 @@
 //! `spec`: from the bytes of an image, a trace file and a start file to the lines of what is observed of the buffer machine.
-ghost use Rattle.std.specs.Prelude.{◌≡◌, ◌∷◌, [], ◌++◌, None, IfOk, codes, map};
+ghost use Rattle.std.specs.Prelude.{◌≡◌, ◌++◌, None, IfOk, codes, map};
 ghost use Rattle.std.specs.Fmt.{decimal};
 ghost use Rattle.std.specs.List.{flat_map};
-ghost use Rattle.bl_base.specs.Runs.{outcome_of};
 ghost use Rattle.bl_cmd.specs.Outcomes.{IsStart};
 ghost use Rattle.bl_outcome.specs.Lines.{line};
-ghost use Rattle.bl_app.specs.Executing.{plain_text};
 ghost use Rattle.bl_rob.specs.CallResults.{outcome_in, shown};
 ghost use Rattle.bl_trace.specs.Observations.{observation_text};
 ghost use Rattle.bl_app.specs.Jobs.{AreRead};
 ghost use Rattle.bl_app.specs.Speculating.{last_text, spec_job, spec_plan, spec_status};
 ghost use Rattle.bl_words.specs.Words.{spec_in};
-ghost use Rattle.bl_build.specs.Working.{contents_in, entered_in, entry_in};
-ghost use Rattle.bl_app.specs.Working.{IsWork, plan_in, read_in, speculated_in};
+ghost use Rattle.bl_build.specs.Tracing.{speculating, speculating_program};
+ghost use Rattle.bl_build.specs.Working.{contents_in, entered_in, entry_in, speculation_in};
+ghost use Rattle.bl_app.specs.Working.{IsDoneBehind, IsSpecTold, IsWork, plan_in, read_in};
 
 use crate::job::{Plan, Read};
+use crate::outcome::plain_text;
 use crate::status::Status;
-use bl_base::{NoMemory, Quantity, Run, Start};
-use bl_build::{
-    Entry, Refusal, WorkError, find_entry, read_directives, read_entry_start, read_image,
-};
+use bl_base::{NoMemory, Quantity, Start};
+use bl_build::{Entry, Speculation, WorkError, prepare_speculation, read_image};
 use bl_cmd::WellFormed;
-use bl_outcome::outcome_text;
-use bl_rob::{Directive, Observation, Rob, Seen};
-use bl_seq::first_memories;
+use bl_rob::{Observation, Rob, Seen};
 use bl_trace::print_observation;
 use bl_words::SpecWords;
 use std::alloc::Global;
@@ -73,24 +69,29 @@ fn speculate_image<'a>(
     trace: &[u8],
     start: &[u8],
 ) -> Result<Plan<'a>, WorkError<'a>>
-    ensures { IsWork (spec_job (spec_in words.now)) (image.now ∷ trace.now ∷ start.now ∷ []) result }
+    ensures { IsDoneBehind (speculating (spec_in words.now).export trace.now start.now) IsSpecTold image.now result }
 {
-    let program = match read_image(alloc, image) {
-        Ok(program) => program,
+    match read_image(alloc, image) {
+        Ok(program) => speculate_program(alloc, words, &program, trace, start),
+        Err(error) => Err(error),
+    }
+}
+
+/// The same, by the image's program.
+fn speculate_program<'a>(
+    alloc: Global,
+    words: &SpecWords<'a>,
+    program: &WellFormed,
+    trace: &[u8],
+    start: &[u8],
+) -> Result<Plan<'a>, WorkError<'a>>
+    ensures { IsDoneBehind (speculating_program (spec_in words.now).export trace.now start.now) IsSpecTold program.now result }
+{
+    let speculation = match prepare_speculation(alloc, program, words.export, trace, start) {
+        Ok(speculation) => speculation,
         Err(error) => return Err(error),
     };
-    let Some(entry) = find_entry(&program, words.export) else {
-        return Err(WorkError::Refused(Refusal::NoExport));
-    };
-    let directives = match read_directives(alloc, trace) {
-        Ok(directives) => directives,
-        Err(error) => return Err(error),
-    };
-    let start = match read_entry_start(alloc, &program, &entry, start) {
-        Ok(start) => start,
-        Err(error) => return Err(error),
-    };
-    match observe(alloc, &program, &entry, &start, directives.as_slice()) {
+    match observe(alloc, program, &speculation) {
         Ok(plan) => Ok(plan),
         Err(NoMemory) => Err(WorkError::Memory),
     }
@@ -100,15 +101,15 @@ fn speculate_image<'a>(
 fn observe<'a>(
     alloc: Global,
     program: &WellFormed,
-    entry: &Entry<'_>,
-    start: &Start,
-    directives: &[Directive],
+    speculation: &Speculation<'_>,
 ) -> Result<Plan<'a>, NoMemory>
-    requires { IsStart program.now entry.now.function start.now }
-    ensures { IfOk result (λ plan. plan_in plan ≡ spec_plan (speculated_in (entry_in program.now entry.now) start.now directives.now)) }
+    requires { IsStart program.now speculation.now.entry.function speculation.now.start }
+    ensures { IfOk result (λ plan. plan_in plan ≡ spec_plan (speculation_in program.now speculation.now)) }
 {
+    let entry = &speculation.entry;
+    let start = &speculation.start;
     let mut rob: Rob<'_, 64> = Rob::begin(alloc, program, entry.function, start)?;
-    let seen = rob.observe(alloc, directives)?;
+    let seen = rob.observe(alloc, speculation.directives.as_slice())?;
     let text = seen_text(alloc, program, entry, start, &rob, &seen)?;
     Ok(Plan {
         status: spec_status(seen.refused),
@@ -117,7 +118,7 @@ fn observe<'a>(
     })
 }
 
-/// What is printed of what was observed until the machine came to this state.
+/// The lines of what was observed, and what is said last of the machine behind it.
 fn seen_text(
     alloc: Global,
     program: &WellFormed,
@@ -174,7 +175,7 @@ fn last_text(
         return stuck_line(alloc, place);
     }
     match rob.outcome(alloc)? {
-        Some(run) => ended_text(alloc, program, entry, start, &run),
+        Some(run) => plain_text(alloc, program, entry, start, 0, &run),
         None => Ok(b"pending\n".to_vec(alloc)?),
     }
 }
@@ -185,25 +186,4 @@ fn stuck_line(alloc: Global, place: u64) -> Result<Vec<u8>, NoMemory>
 {
     let text = format!(in alloc; "stuck {place}\n")?;
     Ok(text.into_bytes())
-}
-
-/// What is said of a machine that has ended.
-fn ended_text(
-    alloc: Global,
-    program: &WellFormed,
-    entry: &Entry<'_>,
-    start: &Start,
-    run: &Run,
-) -> Result<Vec<u8>, NoMemory>
-    requires { IsStart program.now entry.now.function start.now }
-    ensures { IfOk result (λ text. text.items ≡ plain_text (entered_in (entry_in program.now entry.now) start.now) 0 (outcome_of run.now)) }
-{
-    let memories = first_memories(alloc, program, start)?;
-    outcome_text(
-        alloc,
-        entry.defined.results.as_slice(),
-        memories.as_slice(),
-        0,
-        run,
-    )
 }

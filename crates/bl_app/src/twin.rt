@@ -1,20 +1,19 @@
 //! `twin`: from the bytes of an image, a trace file and two start files to how the two runs are observed, side by side.
-ghost use Rattle.std.specs.Prelude.{◌≡◌, ◌∷◌, [], None, IfOk, map};
+ghost use Rattle.std.specs.Prelude.{◌≡◌, None, Some, IfOk, map, slice_get};
 ghost use Rattle.bl_cmd.specs.Outcomes.{IsStart};
 ghost use Rattle.bl_rob.specs.CallResults.{seen_in};
 ghost use Rattle.bl_rob.specs.Observed.{observed};
 ghost use Rattle.bl_app.specs.Jobs.{AreRead};
 ghost use Rattle.bl_app.specs.Twinning.{twin_job, twin_status};
-ghost use Rattle.bl_app.specs.Working.{IsTwinTold, IsWork, read_in, speculated_in, twinned_in};
-ghost use Rattle.bl_build.specs.Working.{contents_in, entry_in};
+ghost use Rattle.bl_app.specs.Working.{IsDoneBehind, IsTwinTold, IsWork, read_in, twinned_in};
+ghost use Rattle.bl_build.specs.Tracing.{starting_other, twinning, twinning_program};
+ghost use Rattle.bl_build.specs.Working.{contents_in, speculation_in};
 ghost use Rattle.bl_words.specs.Words.{twin_in};
 
 use crate::job::{Plan, Read};
 use crate::status::Status;
 use bl_base::{NoMemory, Quantity, Start};
-use bl_build::{
-    Entry, Refusal, WorkError, find_entry, read_directives, read_entry_start, read_image,
-};
+use bl_build::{Speculation, WorkError, prepare_speculation, read_entry_start, read_image};
 use bl_cmd::WellFormed;
 use bl_rob::{Directive, Rob, Seen};
 use bl_twin::{Comparison, agree, compare};
@@ -71,35 +70,47 @@ fn twin_image<'a>(
     start: &[u8],
     other: &[u8],
 ) -> Result<Plan<'a>, WorkError<'a>>
-    ensures { IsWork (twin_job (twin_in words.now)) (image.now ∷ trace.now ∷ start.now ∷ other.now ∷ []) result }
+    ensures { IsDoneBehind (twinning (twin_in words.now).export trace.now start.now other.now) IsTwinTold image.now result }
 {
-    let program = match read_image(alloc, image) {
-        Ok(program) => program,
-        Err(error) => return Err(error),
-    };
-    let Some(entry) = find_entry(&program, words.export) else {
-        return Err(WorkError::Refused(Refusal::NoExport));
-    };
-    let directives = match read_directives(alloc, trace) {
-        Ok(directives) => directives,
-        Err(error) => return Err(error),
-    };
-    let start = match read_entry_start(alloc, &program, &entry, start) {
-        Ok(start) => start,
-        Err(error) => return Err(error),
-    };
-    let other = match read_entry_start(alloc, &program, &entry, other) {
+    match read_image(alloc, image) {
+        Ok(program) => twin_program(alloc, words, &program, trace, start, other),
+        Err(error) => Err(error),
+    }
+}
+
+/// The same, by the image's program.
+fn twin_program<'a>(
+    alloc: Global,
+    words: &TwinWords<'a>,
+    program: &WellFormed,
+    trace: &[u8],
+    start: &[u8],
+    other: &[u8],
+) -> Result<Plan<'a>, WorkError<'a>>
+    ensures { IsDoneBehind (twinning_program (twin_in words.now).export trace.now start.now other.now) IsTwinTold program.now result }
+{
+    match prepare_speculation(alloc, program, words.export, trace, start) {
+        Ok(speculation) => twin_speculation(alloc, program, &speculation, other),
+        Err(error) => Err(error),
+    }
+}
+
+/// The same, by the function, the directives and the first start.
+fn twin_speculation<'a>(
+    alloc: Global,
+    program: &WellFormed,
+    speculation: &Speculation<'_>,
+    other: &[u8],
+) -> Result<Plan<'a>, WorkError<'a>>
+    requires exists { slice_get program.now.functions speculation.now.entry.function ≡ Some speculation.now.entry.defined.now }
+    requires fits { IsStart program.now speculation.now.entry.function speculation.now.start }
+    ensures { IsDoneBehind (starting_other other.now) IsTwinTold (speculation_in program.now speculation.now) result }
+{
+    let other = match read_entry_start(alloc, program, &speculation.entry, other) {
         Ok(other) => other,
         Err(error) => return Err(error),
     };
-    match compare_runs(
-        alloc,
-        &program,
-        &entry,
-        &start,
-        &other,
-        directives.as_slice(),
-    ) {
+    match compare_runs(alloc, program, speculation, &other) {
         Ok(plan) => Ok(plan),
         Err(NoMemory) => Err(WorkError::Memory),
     }
@@ -109,18 +120,19 @@ fn twin_image<'a>(
 fn compare_runs<'a>(
     alloc: Global,
     program: &WellFormed,
-    entry: &Entry<'_>,
-    start: &Start,
+    speculation: &Speculation<'_>,
     other: &Start,
-    directives: &[Directive],
 ) -> Result<Plan<'a>, NoMemory>
-    requires start { IsStart program.now entry.now.function start.now }
-    requires other { IsStart program.now entry.now.function other.now }
-    ensures { IfOk result (λ plan. IsTwinTold (twinned_in (speculated_in (entry_in program.now entry.now) start.now directives.now) other.now) plan) }
+    requires start { IsStart program.now speculation.now.entry.function speculation.now.start }
+    requires other { IsStart program.now speculation.now.entry.function other.now }
+    ensures { IfOk result (λ plan. IsTwinTold (twinned_in (speculation_in program.now speculation.now) other.now) plan) }
 {
-    let agree = agree(alloc, program, entry.function, start, other)?;
-    let one = seen_from(alloc, program, entry.function, start, directives)?;
-    let two = seen_from(alloc, program, entry.function, other, directives)?;
+    let function = speculation.entry.function;
+    let start = &speculation.start;
+    let directives = speculation.directives.as_slice();
+    let agree = agree(alloc, program, function, start, other)?;
+    let one = seen_from(alloc, program, function, start, directives)?;
+    let two = seen_from(alloc, program, function, other, directives)?;
     let compared = compare(alloc, agree, &one, &two)?;
     Ok(Plan {
         status: twin_status(compared.comparison),

@@ -1,9 +1,10 @@
 //! `verify`: from the bytes of an image and of a certificate to the verdicts on them.
-ghost use Rattle.std.specs.Prelude.{◌≡◌, ◌∷◌, [], None, IfOk, map};
+ghost use Rattle.std.specs.Prelude.{◌≡◌, None, IfOk, map};
 ghost use Rattle.bl_app.specs.Jobs.{AreRead};
 ghost use Rattle.bl_app.specs.Verifying.{AreVerdicts, verify_job, verify_plan, verify_status};
+ghost use Rattle.bl_build.specs.Certifying.{certifying, verifying};
 ghost use Rattle.bl_build.specs.Working.{contents_in};
-ghost use Rattle.bl_app.specs.Working.{IsWork, certified_in, plan_in, read_in, verdicts_in};
+ghost use Rattle.bl_app.specs.Working.{IsDoneBehind, IsJudgedSo, IsWork, certified_in, plan_in, read_in, verdicts_in};
 ghost use Rattle.bl_words.specs.Words.{verify_in};
 
 use crate::job::{Plan, Read};
@@ -60,27 +61,36 @@ pub fn verify<'a>(
     let [image, certificate] = contents else {
         unreachable!()
     };
-    verify_image(alloc, words, image, certificate)
+    verify_image(alloc, image, certificate)
 }
 
 /// The same, by the bytes of the image and those of the certificate.
 fn verify_image<'a>(
     alloc: Global,
-    words: &VerifyWords<'a>,
     image: &[u8],
     certificate: &[u8],
 ) -> Result<Plan<'a>, WorkError<'a>>
-    ensures { IsWork (verify_job (verify_in words.now)) (image.now ∷ certificate.now ∷ []) result }
+    ensures { IsDoneBehind (verifying certificate.now) IsJudgedSo image.now result }
 {
-    let program = match read_image(alloc, image) {
-        Ok(program) => program,
-        Err(error) => return Err(error),
-    };
+    match read_image(alloc, image) {
+        Ok(program) => verify_program(alloc, &program, certificate),
+        Err(error) => Err(error),
+    }
+}
+
+/// The same, by the image's program.
+fn verify_program<'a>(
+    alloc: Global,
+    program: &WellFormed,
+    certificate: &[u8],
+) -> Result<Plan<'a>, WorkError<'a>>
+    ensures { IsDoneBehind (certifying certificate.now) IsJudgedSo program.now result }
+{
     let certificate = match read_certificate(alloc, certificate) {
         Ok(certificate) => certificate,
         Err(error) => return Err(error),
     };
-    match judge(alloc, &program, &certificate) {
+    match judge(alloc, program, &certificate) {
         Ok(verdicts) => Ok(tell(alloc, &verdicts)?),
         Err(NoMemory) => Err(WorkError::Memory),
     }

@@ -139,12 +139,14 @@ module _ (export trace start : List ℕ) where
         (λ entered starts. made (record { entered = entered; directives = traced.directives }) (record { same_directives = refl; starts = starts })) refused;
   }
 
+  program_total : IsTotalStage IsWellFormed (speculating_program export trace start)
+  program_total =
+      chain_total IsWellFormed Anything (finding export) (chain (tracing trace) (starting_traced start)) (finding_total export)
+      (chain_total Anything Anything (tracing trace) (starting_traced start) tracing_total traced_total (λ entry traced given traces. tt)) (λ program entry rules found. tt)
+
   pub speculating_total : IsTotalStage Anything (speculating export trace start)
   speculating_total =
-      chain_total Anything IsWellFormed imaging (chain (finding export) (chain (tracing trace) (starting_traced start))) imaging_total
-      (chain_total IsWellFormed Anything (finding export) (chain (tracing trace) (starting_traced start)) (finding_total export)
-      (chain_total Anything Anything (tracing trace) (starting_traced start) tracing_total traced_total (λ entry traced given traces. tt)) (λ program entry rules found. tt))
-      (λ bytes program given imaged. imaged.rules)
+      chain_total Anything IsWellFormed imaging (speculating_program export trace start) imaging_total program_total (λ bytes program given imaged. imaged.rules)
 
 other_total : (bytes : List ℕ) → IsTotalStage Anything (starting_other bytes)
 other_total bytes = record {
@@ -157,7 +159,9 @@ other_total bytes = record {
 
 pub twinning_total : (export trace start other : List ℕ) → IsTotalStage Anything (twinning export trace start other)
 twinning_total export trace start other =
-    chain_total Anything Anything (speculating export trace start) (starting_other other) (speculating_total export trace start) (other_total other) (λ bytes speculated given passes. tt)
+    chain_total Anything IsWellFormed imaging (twinning_program export trace start other) imaging_total
+    (chain_total IsWellFormed Anything (speculating_program export trace start) (starting_other other) (program_total export trace start) (other_total other) (λ program speculated rules passes. tt))
+    (λ bytes program given imaged. imaged.rules)
 
 -- ---- certificates
 

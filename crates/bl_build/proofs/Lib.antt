@@ -21,6 +21,7 @@ pub mod ModulesTotal
 pub mod OneVerdict
 pub mod Readings
 pub mod Rows
+pub mod SpeculationLemmas
 pub mod StageLemmas
 pub mod TracingLemmas
 pub mod VerdictsTotal

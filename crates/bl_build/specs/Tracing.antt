@@ -2,6 +2,7 @@
 use Rattle.std.specs.Prelude.{◌≡◌, ℕ, ◌<◌, ◌≤◌, List, length, Ok, Err}
 use Rattle.bl_base.specs.Quantity.{limit_of}
 use Rattle.bl_base.specs.declared.quantity.Quantity.TheVariants as quantity
+use Rattle.bl_cmd.specs.declared.definitions.ProgramParts.{ProgramParts as Program}
 use Rattle.bl_rob.specs.declared.directive.Directive.{Directive}
 use Rattle.bl_trace.specs.Lines.{lines_of}
 use Rattle.bl_trace.specs.Traces.{trace_of}
@@ -52,10 +53,14 @@ starting_traced bytes = record { Passes = StartsTraced bytes; Refuses = λ trace
 
 -- ---- all stages
 
--- from the bytes of an image to a function that is exported under a name, with the directives of a trace file's bytes and the start
--- that the bytes of a start file ask for
+-- from a program to a function of it that is exported under a name, with the directives of a trace file's bytes and the start that the
+-- bytes of a start file ask for
+abbrev pub speculating_program : List ℕ → List ℕ → List ℕ → Stage Program Speculated
+speculating_program export trace start = chain (finding export) (chain (tracing trace) (starting_traced start))
+
+-- from the bytes of an image to such a function of its program
 abbrev pub speculating : List ℕ → List ℕ → List ℕ → Stage (List ℕ) Speculated
-speculating export trace start = chain imaging (chain (finding export) (chain (tracing trace) (starting_traced start)))
+speculating export trace start = chain imaging (speculating_program export trace start)
 
 -- ---- the other start
 
@@ -76,7 +81,11 @@ pub record StartsOther (bytes : List ℕ) (speculated : Speculated) (twinned : T
 abbrev pub starting_other : List ℕ → Stage Speculated Twinned
 starting_other bytes = record { Passes = StartsOther bytes; Refuses = λ speculated. StartingRefuses bytes speculated.entered.entry }
 
--- from the bytes of an image to a function that is exported under a name, with the directives of a trace file's bytes and the two starts
--- that the bytes of two start files ask for
+-- from a program to a function of it that is exported under a name, with the directives of a trace file's bytes and the two starts that
+-- the bytes of two start files ask for
+abbrev pub twinning_program : List ℕ → List ℕ → List ℕ → List ℕ → Stage Program Twinned
+twinning_program export trace start other = chain (speculating_program export trace start) (starting_other other)
+
+-- from the bytes of an image to such a function of its program
 abbrev pub twinning : List ℕ → List ℕ → List ℕ → List ℕ → Stage (List ℕ) Twinned
-twinning export trace start other = chain (speculating export trace start) (starting_other other)
+twinning export trace start other = chain imaging (twinning_program export trace start other)

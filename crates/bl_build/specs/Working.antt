@@ -30,7 +30,7 @@ use Rattle.bl_build.specs.Hardening.{Hardened}
 use Rattle.bl_build.specs.Loading.{LabelledModule, Named}
 use Rattle.bl_build.specs.Refusals.{Refusal, malformed, invalid_function, invalid_module, unsupported, limit, unknown_import, mismatched_import, element_range, data_range, bad_labels, not_an_image, broken_rule, no_export, not_json, other_shape, bad_directive, bad_line, few_arguments}
 use Rattle.bl_build.specs.Running.{Invoked}
-use Rattle.bl_build.specs.Tracing.{TracingRefuses}
+use Rattle.bl_build.specs.Tracing.{Speculated, TracingRefuses}
 use Rattle.bl_build.specs.Certifying.{ReadingRefuses}
 use Rattle.bl_graph.specs.declared.certificate.Certificate.{Certificate}
 use Rattle.bl_witness.specs.Shapes.{Reads}
@@ -49,6 +49,7 @@ use Rattle.bl_build.specs.declared.refusal.Refusal.{Refusal as RefusalTold}
 use Rattle.bl_build.specs.declared.refusal.Refusal.TheVariants as told
 use Rattle.bl_build.specs.declared.refusal.WorkError.{WorkError}
 use Rattle.bl_build.specs.declared.refusal.WorkError.TheVariants as error
+use Rattle.bl_build.specs.declared.speculation.Speculation.{Speculation}
 
 abbrev pub contents_in : List (Vec ℕ Global) → List (List ℕ)
 contents_in contents = map (λ bytes. bytes.items) contents
@@ -165,6 +166,13 @@ hardened_in hardened = record {
   certificate = hardened.certificate;
   verdict = hardened.verdict;
   image = hardened.image.items;
+}
+
+-- a function of a program, a start of it, and directives
+abbrev pub speculation_in : Program → Speculation → Speculated
+speculation_in program speculation = record {
+  entered = entered_in (entry_in program speculation.entry) speculation.start;
+  directives = speculation.directives;
 }
 
 -- the directives of a trace file's bytes, or the refusal; nothing is said where there was no memory

@@ -25,6 +25,15 @@ pub struct Built {
     pub image: Vec<u8>,
 }
 
+impl Built {
+    /// The image's bytes.
+    pub fn into_image(self) -> Vec<u8>
+        ensures { result ≡ self.image }
+    {
+        self.image
+    }
+}
+
 /// The program of the modules in files with these contents, and its image; Refused exactly where the modules are refused (`load`), or
 /// the commands of the program or the bytes of its image are above their limit. Linear in the bytes, those of the memories and in
 /// the image.

@@ -32,6 +32,15 @@ pub struct Hardened {
     pub image: Vec<u8>,
 }
 
+impl Hardened {
+    /// The image's bytes.
+    pub fn into_image(self) -> Vec<u8>
+        ensures { result ≡ self.image }
+    {
+        self.image
+    }
+}
+
 /// The program of the modules in files with these contents, with exactly the least protects, a certificate of that, the verdict on
 /// constant time, and the image; Refused exactly where `compile` refuses the modules. The program's own image, whose length is judged there, isn't made: the one that
 /// is has as many bytes. So a program of few enough commands, whose image is too long, is refused behind the maximum flow. Costs that,

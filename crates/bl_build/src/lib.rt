@@ -11,13 +11,14 @@ mod invocation;
 pub mod laws;
 mod loading;
 mod refusal;
+mod speculation;
 mod start;
 
 pub use build::{Built, compile};
 pub use certificate::read_certificate;
-pub use directives::read_directives;
 pub use entry::{Entry, find_entry, read_entry_start, read_image};
 pub use harden::{Hardened, compile_hardened};
 pub use invocation::{Invocation, prepare};
 pub use loading::load;
 pub use refusal::{LabelFault, Refusal, WorkError};
+pub use speculation::{Speculation, prepare_speculation};

@@ -9,10 +9,12 @@ use Rattle.bl_app.specs.Jobs.{AreRead}
 use Rattle.bl_build.specs.Loading.{loading, parts_of, AreShort}
 use Rattle.bl_words.specs.Requests.{AreNamedApart}
 use Rattle.bl_words.specs.Words.{interp_in}
-use Rattle.bl_app.specs.Working.{IsRunOf, IsWork}
+use Rattle.bl_build.specs.Running.{invoking}
+use Rattle.bl_app.specs.Working.{IsDoneBehind, IsTold, IsWork}
 use Rattle.bl_build.specs.Working.{IsStaged, contents_in}
 use Rattle.bl_app.proofs.HardenLemmas.{short_modules}
-use Rattle.bl_app.proofs.StartLemmas.{not_run, was_run}
+use Rattle.bl_app.proofs.StagedWork.{done_behind, refused_first}
+use Rattle.bl_app.proofs.InterpWork.{interp_work}
 use Rattle.bl_app.proofs.WorkLemmas.{first_and_rest}
 use Rattle.bl_app.proofs.interp.interpret.Goals as goal
 
@@ -46,17 +48,23 @@ load-requires-clause-short c =
 pub returns-in-Err : goal.returns-in-Err
 returns-in-Err c =
     let request = interp_in c.args.words.now in
+    let start = c.start-item.result.items in
+    let parts = parts_of (texts c.args.words.now.modules.items) (behind c.args.contents.now) in
     let shape = first_and_rest c.args.contents.now c.start-item.result c.in-len1-up.len_at_least c.start-item.is in
     let staged =
     subst (λ (words : Words). IsStaged loading (λ (tree : Tree). tree) (parts_of (texts words) (behind c.args.contents.now)) (Err c.in-Err.error)) c.as_slice.ensures.value c.in-Err.ensures in
     subst (λ (all : Contents). IsWork (interp_job request) (contents_in all) (Err c.in-Err.error)) (sym shape)
-    (not_run request c.start-item.result.items (behind c.args.contents.now) c.in-Err.error staged)
+    (interp_work request start (behind c.args.contents.now) (Err c.in-Err.error)
+    (refused_first loading (invoking request.export start) (IsTold request.steps) parts (λ (tree : Tree). tree) c.in-Err.error staged))
 
 pub returns : goal.returns
 returns c =
     let request = interp_in c.args.words.now in
+    let start = c.start-item.result.items in
+    let parts = parts_of (texts c.args.words.now.modules.items) (behind c.args.contents.now) in
     let shape = first_and_rest c.args.contents.now c.start-item.result c.in-len1-up.len_at_least c.start-item.is in
     let loaded = subst (λ (words : Words). loading.Passes (parts_of (texts words) (behind c.args.contents.now)) c.in-Ok.linked) c.as_slice.ensures.value c.in-Ok.ensures in
-    let run = subst (λ (start : List ℕ). IsRunOf request start c.in-Ok.linked c.interpret_tree.result) c.deref.ensures.value c.interpret_tree.ensures in
+    let run = subst (λ (start : List ℕ). IsDoneBehind (invoking request.export start) (IsTold request.steps) c.in-Ok.linked c.interpret_tree.result) c.deref.ensures.value c.interpret_tree.ensures in
     subst (λ (all : Contents). IsWork (interp_job request) (contents_in all) c.interpret_tree.result) (sym shape)
-    (was_run request c.start-item.result.items (behind c.args.contents.now) c.in-Ok.linked c.interpret_tree.result loaded run)
+    (interp_work request start (behind c.args.contents.now) c.interpret_tree.result
+    (done_behind loading (invoking request.export start) (IsTold request.steps) parts c.in-Ok.linked c.interpret_tree.result loaded run))

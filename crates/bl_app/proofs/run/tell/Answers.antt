@@ -1,17 +1,11 @@
-use Rattle.std.proofs.Common.{◌≡◌, ◌∙◌, ap, map}
-use Rattle.bl_base.specs.Runs.{memory_of, outcome_of}
-use Rattle.bl_cmd.specs.Outcomes.{first_memories}
-use Rattle.bl_outcome.specs.Outcomes.{outcome_text}
+use Rattle.std.proofs.Common.{map}
+use Rattle.bl_base.specs.Runs.{outcome_of}
 use Rattle.bl_app.specs.Working.{keep_in}
 use Rattle.bl_app.proofs.run.tell.Goals as goal
 
 pub returns : goal.returns
-returns c =
-    let outcome = outcome_of c.in_ok-run.run' in
-    let memories : map memory_of c.as_slice.result.now ≡ first_memories c.args.program.now c.args.start.now = ap (map memory_of) c.as_slice.ensures ∙ c.in_ok-memories.ensures in
-    let text = c.in_ok-text.ensures ∙ (λ i. outcome_text (c.as_slice-kinds.ensures i) (memories i) c.args.steps outcome) in
-    record {
-      outcome = outcome;
-      within = c.in_ok-run.ensures;
-      is_plan = λ i. record { status = c.outcome_status-status.ensures i; keeps = map keep_in (c.new.ensures.items i); text = text i };
-    }
+returns c = record {
+  outcome = outcome_of c.in_ok-run.run';
+  within = c.in_ok-run.ensures;
+  is_plan = λ i. record { status = c.outcome_status-status.ensures i; keeps = map keep_in (c.new.ensures.items i); text = c.in_ok-text.ensures i };
+}

@@ -10,9 +10,9 @@ use Rattle.bl_app.proofs.spec.observe.Goals as goal
 
 pub returns : goal.returns
 returns c =
-    let entered = entered_in (entry_in c.args.program.now c.args.entry.now) c.args.start.now in
+    let entered = entered_in (entry_in c.args.program.now c.args.speculation.now.entry) c.args.speculation.now.start in
     let new = c.observe.new.self in
-    let both = observed_so 64 c.args.program.now c.in_ok-rob.rob.program c.args.entry.now.function c.args.start.now c.args.directives.now (shown c.in_ok-rob.rob.machine)
+    let both = observed_so 64 c.args.program.now c.in_ok-rob.rob.program c.args.speculation.now.entry.function c.args.speculation.now.start c.as_slice.result.now (shown c.in_ok-rob.rob.machine)
     (shown new.machine) (seen_in c.in_ok-seen.seen) c.in_ok-rob.ensures.0 c.in_ok-rob.ensures.1 c.in_ok-seen.ensures.seen in
     let same : new.program ≡ c.args.program.now = c.in_ok-seen.ensures.same ∙ c.in_ok-rob.ensures.0 in
     let refused = ap (λ (o : Observed). o.refused) both.0 in

@@ -3,7 +3,7 @@ use Rattle.bl_app.specs.Speculating.{spec_job}
 use Rattle.bl_words.specs.Words.{spec_in}
 use Rattle.bl_app.specs.Working.{IsWork}
 use Rattle.bl_build.specs.Working.{contents_in}
-use Rattle.bl_app.proofs.SpecWork.{three_contents}
+use Rattle.bl_app.proofs.SpecWork.{spec_work, three_contents}
 use Rattle.bl_app.proofs.spec.speculate.Goals as goal
 
 pub returns : goal.returns
@@ -12,4 +12,5 @@ returns c =
     c.image-item.is c.trace-item.is c.start-item.is in
     let contents : c.deref.result.now ∷ c.deref-2.result.now ∷ c.deref-3.result.now ∷ [] ≡ contents_in c.args.contents.now
     = (λ i. c.deref.ensures.value i ∷ (c.deref-2.ensures.value i ∷ (c.deref-3.ensures.value i ∷ []))) ∙ sym (ap contents_in shape) in
-    subst (λ l. IsWork (spec_job (spec_in c.args.words.now)) l c.speculate_image.result) contents c.speculate_image.ensures
+    subst (λ l. IsWork (spec_job (spec_in c.args.words.now)) l c.speculate_image.result) contents
+    (spec_work (spec_in c.args.words.now) c.deref.result.now c.deref-2.result.now c.deref-3.result.now c.speculate_image.result c.speculate_image.ensures)

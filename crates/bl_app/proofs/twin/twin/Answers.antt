@@ -3,7 +3,7 @@ use Rattle.bl_app.specs.Twinning.{twin_job}
 use Rattle.bl_words.specs.Words.{twin_in}
 use Rattle.bl_app.specs.Working.{IsWork}
 use Rattle.bl_build.specs.Working.{contents_in}
-use Rattle.bl_app.proofs.TwinWork.{four_contents}
+use Rattle.bl_app.proofs.TwinWork.{four_contents, twin_work}
 use Rattle.bl_app.proofs.twin.twin.Goals as goal
 
 pub returns : goal.returns
@@ -12,4 +12,5 @@ returns c =
     c.image-item.is c.trace-item.is c.start-item.is c.other-item.is in
     let contents : c.deref.result.now ∷ c.deref-2.result.now ∷ c.deref-3.result.now ∷ c.deref-4.result.now ∷ [] ≡ contents_in c.args.contents.now
     = (λ i. c.deref.ensures.value i ∷ (c.deref-2.ensures.value i ∷ (c.deref-3.ensures.value i ∷ (c.deref-4.ensures.value i ∷ [])))) ∙ sym (ap contents_in shape) in
-    subst (λ l. IsWork (twin_job (twin_in c.args.words.now)) l c.twin_image.result) contents c.twin_image.ensures
+    subst (λ l. IsWork (twin_job (twin_in c.args.words.now)) l c.twin_image.result) contents
+    (twin_work (twin_in c.args.words.now) c.deref.result.now c.deref-2.result.now c.deref-3.result.now c.deref-4.result.now c.twin_image.result c.twin_image.ensures)
