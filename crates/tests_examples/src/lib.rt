@@ -1,5 +1,5 @@
 //! Tests of the program on modules that clang made of C sources, which stand in `examples/`, and of label sections through the program:
-//! what is refused, and what the last line of the report says; and of words that ask for nothing.
+//! what is refused, and what the last line of the report says; of words that ask for nothing, and of what words ask for.
 #![tactic(auto)]
 
 #[cfg(test)]
@@ -12,6 +12,8 @@ mod demands;
 mod modules;
 #[cfg(test)]
 mod refusals;
+#[cfg(test)]
+mod requests;
 #[cfg(test)]
 mod tests;
 #[cfg(test)]

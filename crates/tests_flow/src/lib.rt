@@ -1,9 +1,0 @@
-//! Tests of flows and of residual networks, by the public calls.
-#![tactic(auto)]
-
-#[cfg(test)]
-mod flow;
-#[cfg(test)]
-mod networks;
-#[cfg(test)]
-mod residual;

@@ -1,0 +1,32 @@
+//! Tests of what programs give away, from an image's bytes on: least protects and certificates, the check of constant time and the verdict
+//! on two runs, comparisons of two runs, and the buffer machine with room for one entry.
+#![tactic(auto)]
+
+#[cfg(test)]
+mod agreement;
+#[cfg(test)]
+mod begun;
+#[cfg(test)]
+mod certificates;
+#[cfg(test)]
+mod chains;
+#[cfg(test)]
+mod comparisons;
+#[cfg(test)]
+mod drawn;
+#[cfg(test)]
+mod images;
+#[cfg(test)]
+mod labelled;
+#[cfg(test)]
+mod labels;
+#[cfg(test)]
+mod least;
+#[cfg(test)]
+mod pairs;
+#[cfg(test)]
+mod room;
+#[cfg(test)]
+mod rows;
+#[cfg(test)]
+mod verdicts;

@@ -1,5 +1,0 @@
-//! Tests of the words of calls.
-#![tactic(auto)]
-
-#[cfg(test)]
-mod tests;
