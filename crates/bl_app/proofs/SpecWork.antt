@@ -1,15 +1,10 @@
 -- The work of `spec`, by its stages.
-use Rattle.std.proofs.Common.{◌≡◌, ℕ, ◌<◌, ◌≤◌, List, [], ◌∷◌, length, get_or, Option, Some, None, refl, ap, sym, ◌∙◌, subst, arith}
+use Rattle.std.proofs.Common.{◌≡◌, ℕ, ◌<◌, ◌≤◌, List, [], ◌∷◌, length, get_or, Option, Some, None, refl, ap, sym, ◌∙◌, arith}
 use Rattle.std.specs.Prelude.{Ok, Err, IfOk, IsSome, Result, Vec}
 use Rattle.std.specs.declared.alloc.Global.{Global}
 use Rattle.bl_base.specs.Runs.{Outcome, outcome_of}
 use Rattle.bl_base.specs.declared.run.Run.{Run}
-use Rattle.bl_base.specs.declared.start.Start.{Start}
-use Rattle.bl_cmd.specs.declared.definitions.ProgramParts.{ProgramParts as Program}
 use Rattle.bl_rob.specs.CallResults.{Told}
-use Rattle.bl_rob.specs.Machines.{State, opening}
-use Rattle.bl_rob.specs.Observed.{Observed, Observes, observed, reached}
-use Rattle.bl_rob.specs.declared.directive.Directive.{Directive}
 use Rattle.bl_build.specs.Entering.{Entered}
 use Rattle.bl_app.specs.Executing.{plain_text}
 use Rattle.bl_words.specs.Requests.{SpecRequest}
@@ -39,15 +34,6 @@ pub said_run : {E : Type 0} (result : Result (Vec ℕ Global) E) (entered : Ente
 said_run (Err e) entered outcome run refused none told h = tt
 said_run (Ok text) entered outcome run refused none told h =
     h ∙ ap (plain_text entered 0) told.0 ∙ said_of entered outcome told.1 ∙ ap (last_text entered outcome) (sym none)
-
--- what is observed from the opening is what is observed of the function's run
-pub observed_so : (most : ℕ) (program q : Program) (function : ℕ) (start : Start) (directives : List Directive) (old new : State) (seen : Observed) → q ≡ program
-    → old ≡ opening program function start → Observes most q directives old seen new
-    → (seen ≡ observed most program function start directives) × (new ≡ reached most program function start directives)
-observed_so most program q function start directives old new seen same is o =
-    let h : Observes most program directives (opening program function start) seen new
-    = subst (λ p. Observes most p directives (opening program function start) seen new) same (subst (λ s. Observes most q directives s seen new) is o) in
-    (h.observed, h.leads)
 
 module _ (request : SpecRequest) (image trace start : List ℕ) where
   pub spec_work : (result : Result PlanMade WorkError) → IsDoneBehind (speculating request.export trace start) IsSpecTold image result

@@ -1,8 +1,6 @@
 //! `twin`: from the bytes of an image, a trace file and two start files to how the two runs are observed, side by side.
 ghost use Rattle.std.specs.Prelude.{◌≡◌, None, Some, IfOk, map, slice_get};
 ghost use Rattle.bl_cmd.specs.Outcomes.{IsStart};
-ghost use Rattle.bl_rob.specs.CallResults.{seen_in};
-ghost use Rattle.bl_rob.specs.Observed.{observed};
 ghost use Rattle.bl_app.specs.Jobs.{AreRead};
 ghost use Rattle.bl_app.specs.Twinning.{twin_job, twin_status};
 ghost use Rattle.bl_app.specs.Working.{IsDoneBehind, IsTwinTold, IsWork, read_in, twinned_in};
@@ -15,8 +13,7 @@ use crate::status::Status;
 use bl_base::{NoMemory, Quantity, Start};
 use bl_build::{Speculation, WorkError, prepare_speculation, read_entry_start, read_image};
 use bl_cmd::WellFormed;
-use bl_rob::{Directive, Rob, Seen};
-use bl_twin::{Comparison, agree, compare};
+use bl_twin::{Comparison, compare_runs};
 use bl_words::TwinWords;
 use std::alloc::Global;
 
@@ -110,14 +107,14 @@ fn twin_speculation<'a>(
         Ok(other) => other,
         Err(error) => return Err(error),
     };
-    match compare_runs(alloc, program, speculation, &other) {
+    match tell(alloc, program, speculation, &other) {
         Ok(plan) => Ok(plan),
         Err(NoMemory) => Err(WorkError::Memory),
     }
 }
 
 /// Takes directives on a function from each of two starts: printing how the runs compare.
-fn compare_runs<'a>(
+fn tell<'a>(
     alloc: Global,
     program: &WellFormed,
     speculation: &Speculation<'_>,
@@ -125,36 +122,21 @@ fn compare_runs<'a>(
 ) -> Result<Plan<'a>, NoMemory>
     requires start { IsStart program.now speculation.now.entry.function speculation.now.start }
     requires other { IsStart program.now speculation.now.entry.function other.now }
-    ensures { IfOk result (λ plan. IsTwinTold (twinned_in (speculation_in program.now speculation.now) other.now) plan) }
+    ensures { IfOk result (IsTwinTold (twinned_in (speculation_in program.now speculation.now) other.now)) }
 {
-    let function = speculation.entry.function;
-    let start = &speculation.start;
-    let directives = speculation.directives.as_slice();
-    let agree = agree(alloc, program, function, start, other)?;
-    let one = seen_from(alloc, program, function, start, directives)?;
-    let two = seen_from(alloc, program, function, other, directives)?;
-    let compared = compare(alloc, agree, &one, &two)?;
+    let compared = compare_runs(
+        alloc,
+        program,
+        speculation.entry.function,
+        &speculation.start,
+        other,
+        speculation.directives.as_slice(),
+    )?;
     Ok(Plan {
         status: twin_status(compared.comparison),
         keeps: Vec::new(alloc),
         text: compared.text,
     })
-}
-
-/// What is observed of directives on a function from a start.
-fn seen_from(
-    alloc: Global,
-    program: &WellFormed,
-    function: u32,
-    start: &Start,
-    directives: &[Directive],
-) -> Result<Seen, NoMemory>
-    requires { IsStart program.now function start.now }
-    ensures { IfOk result (λ seen. seen_in seen ≡ observed 64 program.now function start.now directives.now) }
-{
-    let mut rob: Rob<'_, 64> = Rob::begin(alloc, program, function, start)?;
-    let seen = rob.observe(alloc, directives)?;
-    Ok(seen)
 }
 
 /// The exit status, by how two runs compare.

@@ -23,6 +23,3 @@ pub use sites::SiteSet;
 pub use start::{Patch, Start, argument_fits, fits};
 pub use text::Text;
 pub use trap::Trap;
-
-#[cfg(test)]
-mod tests;

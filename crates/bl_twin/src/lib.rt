@@ -4,8 +4,10 @@
 mod agreement;
 mod comparison;
 pub mod laws;
+mod runs;
 mod text;
 
 pub use agreement::agree;
 pub use comparison::Comparison;
+pub use runs::compare_runs;
 pub use text::{Compared, compare};

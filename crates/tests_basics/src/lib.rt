@@ -1,5 +1,5 @@
-//! Tests of what stands on few other crates, by the public calls: shelves and sinks, numbers in LEB128, operators, start files, flows and
-//! residual networks.
+//! Tests of what stands on few other crates, by the public calls: lists and starts, shelves and sinks, numbers in LEB128, operators, start
+//! files, flows and residual networks.
 #![tactic(auto)]
 
 #[cfg(test)]
@@ -20,3 +20,5 @@ mod residual;
 mod sinks;
 #[cfg(test)]
 mod trace;
+#[cfg(test)]
+mod values;

@@ -11,6 +11,6 @@ pub returns-in-Err : goal.returns-in-Err
 returns-in-Err c =
     other_refused c.args.other.now (speculation_in c.args.program.now c.args.speculation.now) c.in-Err.error c.in-Err.ensures.staged
 
-pub returns-in-Ok-compare_runs : goal.returns-in-Ok-compare_runs
-returns-in-Ok-compare_runs c =
-    (twinned_in (speculation_in c.args.program.now c.args.speculation.now) c.in-Ok.other, record { same = refl; starts = c.in-Ok.ensures.staged }, c.in-Ok-compare_runs.ensures)
+pub returns-in-Ok-tell : goal.returns-in-Ok-tell
+returns-in-Ok-tell c =
+    (twinned_in (speculation_in c.args.program.now c.args.speculation.now) c.in-Ok.other, record { same = refl; starts = c.in-Ok.ensures.staged }, c.in-Ok-tell.ensures)

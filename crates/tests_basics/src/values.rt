@@ -1,4 +1,5 @@
-use super::*;
+//! Lists and texts, sets of sites, and starts.
+use bl_base::{List, Patch, Pos, SiteSet, Start, Text, ValueType, fits};
 use std::test::Fail;
 
 #[test]

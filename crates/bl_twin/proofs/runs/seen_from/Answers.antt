@@ -1,6 +1,6 @@
 use Rattle.bl_rob.specs.CallResults.{seen_in, shown}
-use Rattle.bl_app.proofs.SpecWork.{observed_so}
-use Rattle.bl_app.proofs.twin.seen_from.Goals as goal
+use Rattle.bl_twin.proofs.Observing.{observed_so}
+use Rattle.bl_twin.proofs.runs.seen_from.Goals as goal
 
 pub returns : goal.returns
 returns c =
