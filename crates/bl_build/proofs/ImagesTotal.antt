@@ -20,7 +20,7 @@ use Rattle.bl_trace.specs.declared.error.StartError.TheVariants.{Line, Count, Me
 use Rattle.bl_witness.specs.Shapes.{certificate_of}
 use Rattle.bl_build.specs.Certifying.{certifying, is_not_json, is_other_shape, verifying}
 use Rattle.bl_build.specs.Entering.{Entry, FindingRefuses, Finds, entering, finding, function_named, ill_formed, imaging, kinds_of, line_is_bad, no_image, pages_of, starting, too_few}
-use Rattle.bl_build.specs.Tracing.{Traced, Traces, TracingRefuses, no_directive, speculating, starting_other, starting_traced, too_many, tracing, twinning}
+use Rattle.bl_build.specs.Tracing.{Traced, Traces, TracingRefuses, no_directive, speculating, speculating_program, starting_other, starting_traced, too_many, tracing, twinning, twinning_program}
 use Rattle.bl_build.specs.Refusals.{Refusal, bad_directive, bad_line, broken_rule, few_arguments, limit, no_export, not_an_image, not_json, other_shape}
 use Rattle.bl_build.specs.Stages.{Anything, IsTotalStage, chain}
 use Rattle.bl_build.proofs.Classical.{NotFalse, all_of, some_first}

@@ -7,5 +7,5 @@ use Rattle.bl_app.proofs.spec.last_text.Goals as goal
 pub returns-in-Some-2 : goal.returns-in-Some-2
 returns-in-Some-2 c =
     let outcome = outcome_in c.args.rob.now.program (shown c.args.rob.now.machine) in
-    said_run c.ended_text.result (entered_in (entry_in c.args.program.now c.args.entry.now) c.args.start.now) outcome c.in-Some-2.run' c.args.refused c.in_default.is
-    (subst (Told outcome) c.in-Some-2.is c.in_ok-run.ensures) c.ended_text.ensures
+    said_run c.plain_text.result (entered_in (entry_in c.args.program.now c.args.entry.now) c.args.start.now) outcome c.in-Some-2.run' c.args.refused c.in_default.is
+    (subst (Told outcome) c.in-Some-2.is c.in_ok-run.ensures) c.plain_text.ensures

@@ -1,10 +1,11 @@
-use Rattle.std.proofs.Common.{◌≡◌, ◌++◌, ◌∙◌, ap, map, flat_map}
+use Rattle.std.proofs.Common.{◌≡◌, ◌++◌, ◌∙◌, List, ap, map, flat_map}
 use Rattle.bl_rob.specs.CallResults.{outcome_in, seen_in, shown}
 use Rattle.bl_rob.specs.Observed.{Observed}
+use Rattle.bl_rob.specs.declared.directive.Directive.{Directive}
 use Rattle.bl_trace.specs.Observations.{observation_text}
-use Rattle.bl_app.specs.Speculating.{last_text, spec_status}
+use Rattle.bl_app.specs.Speculating.{last_text, spec_plan, spec_status}
 use Rattle.bl_build.specs.Working.{entered_in, entry_in}
-use Rattle.bl_app.specs.Working.{keep_in}
+use Rattle.bl_app.specs.Working.{keep_in, plan_in}
 use Rattle.bl_twin.proofs.Observing.{observed_so}
 use Rattle.bl_app.proofs.spec.observe.Goals as goal
 
@@ -17,4 +18,6 @@ returns c =
     let same : new.program ≡ c.args.program.now = c.in_ok-seen.ensures.same ∙ c.in_ok-rob.ensures.0 in
     let refused = ap (λ (o : Observed). o.refused) both.0 in
     let text = c.in_ok-text.ensures ∙ (λ i. flat_map observation_text (both.0 i).made ++ last_text entered (outcome_in (same i) (both.1 i)) (refused i)) in
-    λ i. record { status = (c.spec_status.ensures ∙ ap spec_status refused) i; keeps = map keep_in (c.new.ensures.items i); text = text i }
+    let plan : plan_in (record { status = c.spec_status.result; keeps = c.new.result; text = c.in_ok-text.text }) ≡ spec_plan (record { entered = entered; directives = c.as_slice.result.now })
+    = λ i. record { status = (c.spec_status.ensures ∙ ap spec_status refused) i; keeps = map keep_in (c.new.ensures.items i); text = text i } in
+    plan ∙ ap (λ (directives : List Directive). spec_plan (record { entered = entered; directives = directives })) c.as_slice.ensures

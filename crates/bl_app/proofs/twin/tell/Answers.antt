@@ -1,11 +1,15 @@
-use Rattle.std.proofs.Common.{◌∙◌, ap, map}
+use Rattle.std.proofs.Common.{List, ◌∙◌, ap, map, subst}
+use Rattle.bl_rob.specs.declared.directive.Directive.{Directive}
+use Rattle.bl_twin.specs.Runs.{IsSideBySide}
 use Rattle.bl_app.specs.Twinning.{twin_status}
 use Rattle.bl_app.specs.Working.{keep_in}
 use Rattle.bl_app.proofs.twin.tell.Goals as goal
 
 pub returns : goal.returns
 returns c =
-    let done = c.in_ok-compared.ensures in
+    let speculation = c.args.speculation.now in
+    let done = subst (λ (directives : List Directive). IsSideBySide c.args.program.now speculation.entry.function speculation.start c.args.other.now directives c.in_ok-compared.compared)
+    c.as_slice.ensures c.in_ok-compared.ensures in
     record {
       agree = done.agree;
       agrees = done.agrees;
