@@ -52,20 +52,11 @@ fn refusal(alloc: Global, tree: &Module) -> Result<Option<Invalid>, NoMemory>
     ensures { IfOk result (λ reason. MatchOption reason (Typed tree.now) (IsReason tree.now)) }
 {
     let scope = Scope::of(alloc, tree)?;
-    refusal_in(alloc, tree, &scope)
-}
-
-/// The same, by the spaces of the module.
-fn refusal_in(alloc: Global, tree: &Module, scope: &Scope) -> Result<Option<Invalid>, NoMemory>
-    requires scope { IsScope tree.now scope.now }
-    requires few { length (functions_of tree.now) < 2 ^ 32 }
-    ensures { IfOk result (λ reason. MatchOption reason (Typed tree.now) (IsReason tree.now)) }
-{
-    if let Some(number) = first_without_typing(alloc, tree, scope)? {
+    if let Some(number) = first_without_typing(alloc, tree, &scope)? {
         let imported = scope.functions.len() - tree.functions.len();
         return Ok(Some(Invalid::Function((imported + number) as u32)));
     }
-    if is_valid(alloc, tree, scope)? {
+    if is_valid(alloc, tree, &scope)? {
         Ok(None)
     } else {
         Ok(Some(Invalid::Module))
@@ -102,11 +93,11 @@ fn is_typed(
     requires named { slice_get tree.now.functions number ≡ Some index }
     ensures { IfOk result (λ ok. IsTrue ok ↔ HasTyping tree.now number) }
 {
-    let Some(kind) = scope.types.get(index as usize) else {
-        return Ok(false);
-    };
-    let Some(code) = tree.bodies.as_slice().get(number) else {
-        return Ok(false);
-    };
-    has_typing(alloc, scope, kind, code)
+    match (
+        scope.types.get(index as usize),
+        tree.bodies.as_slice().get(number),
+    ) {
+        (Some(kind), Some(code)) => has_typing(alloc, scope, kind, code),
+        _ => Ok(false),
+    }
 }
