@@ -1,12 +1,14 @@
 //! `gen`: from a number and a size to the summary of a large module that is made of them.
-ghost use Rattle.std.specs.Prelude.{◌≡◌, ◌≤◌, [], IfOk};
+ghost use Rattle.std.specs.Prelude.{◌≡◌, ◌≤◌, [], ◌∷◌, IfOk, codes, length};
 ghost use Rattle.bl_base.specs.Quantity.{limit_of};
 ghost use Rattle.bl_base.specs.declared.quantity.Quantity.TheVariants as quantity;
 ghost use Rattle.bl_app.specs.Generating.{gen_job, summary_of};
 ghost use Rattle.bl_app.specs.Jobs.{saying};
 ghost use Rattle.bl_app.specs.declared.status.Status.TheVariants.{Done};
 ghost use Rattle.bl_app.specs.Working.{IsWork, plan_in};
-ghost use Rattle.bl_build.specs.Working.{hardened_in};
+ghost use Rattle.bl_build.specs.Hardening.{hardening};
+ghost use Rattle.bl_build.specs.Loading.{parts_of};
+ghost use Rattle.bl_build.specs.Working.{IsStaged, hardened_in};
 ghost use Rattle.bl_graph.specs.Certificates.{Certifies};
 ghost use Rattle.bl_ct.specs.Verdicts.{Judges};
 ghost use Rattle.bl_words.specs.Words.{gen_in};
@@ -28,13 +30,21 @@ pub fn generate<'a>(alloc: Global, words: &GenWords) -> Result<Plan<'a>, WorkErr
 {
     let bytes = make(alloc, words.seed, words.size)?;
     let length = bytes.len();
-    let mut contents = Vec::new(alloc);
-    contents.push(bytes)?;
-    let names: [&'a str; 1] = ["gen"];
-    match compile_hardened(alloc, &names, contents.as_slice()) {
+    match hardened_of(alloc, bytes) {
         Ok(hardened) => Ok(plan_of(alloc, length, &hardened)?),
         Err(error) => Err(error),
     }
+}
+
+/// A module compiled and hardened by itself.
+fn hardened_of<'a>(alloc: Global, bytes: Vec<u8>) -> Result<Hardened, WorkError<'a>>
+    requires { length bytes.items ≤ limit_of quantity.Module }
+    ensures { IsStaged hardening hardened_in (parts_of (codes "gen" ∷ []) (bytes.items ∷ [])) result }
+{
+    let mut contents = Vec::new(alloc);
+    contents.push(bytes)?;
+    let names: [&'a str; 1] = ["gen"];
+    compile_hardened(alloc, &names, contents.as_slice())
 }
 
 /// The plan of a program with its protects, which is that of a module of so many bytes.

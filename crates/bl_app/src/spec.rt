@@ -5,13 +5,14 @@ ghost use Rattle.std.specs.List.{flat_map};
 ghost use Rattle.bl_cmd.specs.Outcomes.{IsStart};
 ghost use Rattle.bl_outcome.specs.Lines.{line};
 ghost use Rattle.bl_rob.specs.CallResults.{outcome_in, shown};
+ghost use Rattle.bl_rob.specs.Machines.{opening};
 ghost use Rattle.bl_trace.specs.Observations.{observation_text};
 ghost use Rattle.bl_app.specs.Jobs.{AreRead};
-ghost use Rattle.bl_app.specs.Speculating.{last_text, spec_job, spec_plan, spec_status};
+ghost use Rattle.bl_app.specs.Speculating.{last_text, spec_job, spec_status};
 ghost use Rattle.bl_words.specs.Words.{spec_in};
 ghost use Rattle.bl_build.specs.Tracing.{speculating, speculating_program};
 ghost use Rattle.bl_build.specs.Working.{contents_in, entered_in, entry_in, speculation_in};
-ghost use Rattle.bl_app.specs.Working.{IsDoneBehind, IsSpecTold, IsWork, plan_in, read_in};
+ghost use Rattle.bl_app.specs.Working.{IsDoneBehind, IsSpecTold, IsWork, read_in};
 
 use crate::job::{Plan, Read};
 use crate::outcome::plain_text;
@@ -104,13 +105,34 @@ fn observe<'a>(
     speculation: &Speculation<'_>,
 ) -> Result<Plan<'a>, NoMemory>
     requires { IsStart program.now speculation.now.entry.function speculation.now.start }
-    ensures { IfOk result (λ plan. plan_in plan ≡ spec_plan (speculation_in program.now speculation.now)) }
+    ensures { IfOk result (IsSpecTold (speculation_in program.now speculation.now)) }
 {
-    let entry = &speculation.entry;
-    let start = &speculation.start;
-    let mut rob: Rob<'_, 64> = Rob::begin(alloc, program, entry.function, start)?;
+    let function = speculation.entry.function;
+    let mut rob: Rob<'_, 64> = Rob::begin(alloc, program, function, &speculation.start)?;
+    observe_on(alloc, &mut rob, program, speculation)
+}
+
+/// The same, on a machine before its first directive.
+fn observe_on<'a>(
+    alloc: Global,
+    rob: &mut Rob<'_, 64>,
+    program: &WellFormed,
+    speculation: &Speculation<'_>,
+) -> Result<Plan<'a>, NoMemory>
+    requires start { IsStart program.now speculation.now.entry.function speculation.now.start }
+    requires program { rob.old.program ≡ program.now }
+    requires opening { shown rob.old.machine ≡ opening program.now speculation.now.entry.function speculation.now.start }
+    ensures { IfOk result (IsSpecTold (speculation_in program.now speculation.now)) }
+{
     let seen = rob.observe(alloc, speculation.directives.as_slice())?;
-    let text = seen_text(alloc, program, entry, start, &rob, &seen)?;
+    let text = seen_text(
+        alloc,
+        program,
+        &speculation.entry,
+        &speculation.start,
+        rob,
+        &seen,
+    )?;
     Ok(Plan {
         status: spec_status(seen.refused),
         keeps: Vec::new(alloc),

@@ -7,15 +7,15 @@ use Rattle.bl_app.specs.Speculating.{last_text, spec_plan, spec_status}
 use Rattle.bl_build.specs.Working.{entered_in, entry_in}
 use Rattle.bl_app.specs.Working.{keep_in, plan_in}
 use Rattle.bl_twin.proofs.Observing.{observed_so}
-use Rattle.bl_app.proofs.spec.observe.Goals as goal
+use Rattle.bl_app.proofs.spec.observe_on.Goals as goal
 
 pub returns : goal.returns
 returns c =
     let entered = entered_in (entry_in c.args.program.now c.args.speculation.now.entry) c.args.speculation.now.start in
     let new = c.observe.new.self in
-    let both = observed_so 64 c.args.program.now c.in_ok-rob.rob.program c.args.speculation.now.entry.function c.args.speculation.now.start c.as_slice.result.now (shown c.in_ok-rob.rob.machine)
-    (shown new.machine) (seen_in c.in_ok-seen.seen) c.in_ok-rob.ensures.0 c.in_ok-rob.ensures.1 c.in_ok-seen.ensures.seen in
-    let same : new.program ≡ c.args.program.now = c.in_ok-seen.ensures.same ∙ c.in_ok-rob.ensures.0 in
+    let both = observed_so 64 c.args.program.now c.args.rob.now.program c.args.speculation.now.entry.function c.args.speculation.now.start c.as_slice.result.now (shown c.args.rob.now.machine)
+    (shown new.machine) (seen_in c.in_ok-seen.seen) c.requires.program c.requires.opening c.in_ok-seen.ensures.seen in
+    let same : new.program ≡ c.args.program.now = c.in_ok-seen.ensures.same ∙ c.requires.program in
     let refused = ap (λ (o : Observed). o.refused) both.0 in
     let text = c.in_ok-text.ensures ∙ (λ i. flat_map observation_text (both.0 i).made ++ last_text entered (outcome_in (same i) (both.1 i)) (refused i)) in
     let plan : plan_in (record { status = c.spec_status.result; keeps = c.new.result; text = c.in_ok-text.text }) ≡ spec_plan (record { entered = entered; directives = c.as_slice.result.now })
