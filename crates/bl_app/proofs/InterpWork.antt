@@ -1,4 +1,4 @@
--- What is done behind the modules' tree is the work of `interp`.
+-- What is done with the bytes of modules and of a start file is the work of `interp`.
 use Rattle.std.proofs.Common.{ℕ, List, ◌∷◌, Result, Ok, Err}
 use Rattle.bl_app.specs.Interpreting.{interp_job}
 use Rattle.bl_build.specs.Loading.{parts_of}

@@ -1,4 +1,4 @@
--- The work of `spec`, by its stages.
+-- What is done with the bytes of an image, of a trace file and of a start file is the work of `spec`; what is said of a machine's end.
 use Rattle.std.proofs.Common.{◌≡◌, ℕ, ◌<◌, ◌≤◌, List, [], ◌∷◌, length, get_or, Option, Some, None, refl, ap, sym, ◌∙◌, arith}
 use Rattle.std.specs.Prelude.{Ok, Err, IfOk, IsSome, Result, Vec}
 use Rattle.std.specs.declared.alloc.Global.{Global}

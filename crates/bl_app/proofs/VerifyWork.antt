@@ -5,13 +5,13 @@ use Rattle.bl_cmd.specs.declared.definitions.ProgramParts.{ProgramParts as Progr
 use Rattle.bl_build.specs.Certifying.{certifying, verifying}
 use Rattle.bl_build.specs.Working.{IsCertificateOf}
 use Rattle.bl_app.specs.Verifying.{verify_job}
-use Rattle.bl_app.specs.Working.{IsDoneBehind, IsJudgedSo, IsWork}
+use Rattle.bl_app.specs.Working.{IsDoneBehind, IsVerifyTold, IsWork}
 use Rattle.bl_app.specs.declared.job.Plan.{Plan as PlanMade}
 use Rattle.bl_build.specs.declared.refusal.WorkError.{WorkError}
 use Rattle.bl_build.specs.declared.refusal.WorkError.TheVariants as error
 
 module _ (request : VerifyRequest) (image certificate : List ℕ) where
-  pub verify_work : (result : Result PlanMade WorkError) → IsDoneBehind (verifying certificate) IsJudgedSo image result
+  pub verify_work : (result : Result PlanMade WorkError) → IsDoneBehind (verifying certificate) IsVerifyTold image result
       → IsWork (verify_job request) (image ∷ certificate ∷ []) result
   verify_work (Ok plan) done = record {
     image = image;
@@ -28,6 +28,6 @@ module _ (request : VerifyRequest) (image certificate : List ℕ) where
 
 -- a certificate that is refused
 pub certificate_refused : (certificate : List ℕ) (program : Program) (e : WorkError) → IsCertificateOf certificate (Err e)
-    → IsDoneBehind (certifying certificate) IsJudgedSo program (Err e)
+    → IsDoneBehind (certifying certificate) IsVerifyTold program (Err e)
 certificate_refused certificate program (error.Refused refusal) r = r
 certificate_refused certificate program error.Memory r = tt

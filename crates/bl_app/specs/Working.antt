@@ -118,7 +118,7 @@ abbrev pub verdicts_in : VerdictsFound → Verdicts
 verdicts_in found = record { rules = found.rules; flow = found.flow; labels = found.labels }
 
 -- printing verdicts on a program and a certificate
-pub record IsJudgedSo (certified : Certified) (plan : PlanMade) : Type 0 where
+pub record IsVerifyTold (certified : Certified) (plan : PlanMade) : Type 0 where
   pub verdicts : Verdicts
   pub are_verdicts : AreVerdicts certified verdicts
   pub is_plan : plan_in plan ≡ verify_plan verdicts

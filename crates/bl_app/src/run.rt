@@ -4,7 +4,7 @@ ghost use Rattle.bl_cmd.specs.Outcomes.{IsStart};
 ghost use Rattle.bl_app.specs.Executing.{run_job};
 ghost use Rattle.bl_app.specs.Jobs.{AreRead};
 ghost use Rattle.bl_words.specs.Words.{run_in};
-ghost use Rattle.bl_build.specs.Entering.{entering, entering_program};
+ghost use Rattle.bl_build.specs.Entering.{entering, program_entering};
 ghost use Rattle.bl_app.specs.Working.{IsDoneBehind, IsPlainTold, IsWork, read_in};
 ghost use Rattle.bl_build.specs.Working.{contents_in, entered_in, entry_in};
 
@@ -71,7 +71,7 @@ fn execute_program<'a>(
     program: &WellFormed,
     start: &[u8],
 ) -> Result<Plan<'a>, WorkError<'a>>
-    ensures { IsDoneBehind (entering_program (run_in words.now).export start.now) (IsPlainTold words.now.steps) program.now result }
+    ensures { IsDoneBehind (program_entering (run_in words.now).export start.now) (IsPlainTold words.now.steps) program.now result }
 {
     let Some(entry) = find_entry(program, words.export) else {
         return Err(WorkError::Refused(Refusal::NoExport));

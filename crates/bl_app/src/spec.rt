@@ -10,8 +10,8 @@ ghost use Rattle.bl_trace.specs.Observations.{observation_text};
 ghost use Rattle.bl_app.specs.Jobs.{AreRead};
 ghost use Rattle.bl_app.specs.Speculating.{last_text, spec_job, spec_status};
 ghost use Rattle.bl_words.specs.Words.{spec_in};
-ghost use Rattle.bl_build.specs.Tracing.{speculating, speculating_program};
-ghost use Rattle.bl_build.specs.Working.{contents_in, entered_in, entry_in, speculation_in};
+ghost use Rattle.bl_build.specs.Tracing.{speculating, program_speculating};
+ghost use Rattle.bl_build.specs.Working.{contents_in, entered_in, entry_in, speculated_in};
 ghost use Rattle.bl_app.specs.Working.{IsDoneBehind, IsSpecTold, IsWork, read_in};
 
 use crate::job::{Plan, Read};
@@ -86,7 +86,7 @@ fn speculate_program<'a>(
     trace: &[u8],
     start: &[u8],
 ) -> Result<Plan<'a>, WorkError<'a>>
-    ensures { IsDoneBehind (speculating_program (spec_in words.now).export trace.now start.now) IsSpecTold program.now result }
+    ensures { IsDoneBehind (program_speculating (spec_in words.now).export trace.now start.now) IsSpecTold program.now result }
 {
     let speculation = match prepare_speculation(alloc, program, words.export, trace, start) {
         Ok(speculation) => speculation,
@@ -105,7 +105,7 @@ fn observe<'a>(
     speculation: &Speculation<'_>,
 ) -> Result<Plan<'a>, NoMemory>
     requires { IsStart program.now speculation.now.entry.function speculation.now.start }
-    ensures { IfOk result (IsSpecTold (speculation_in program.now speculation.now)) }
+    ensures { IfOk result (IsSpecTold (speculated_in program.now speculation.now)) }
 {
     let function = speculation.entry.function;
     let mut rob: Rob<'_, 64> = Rob::begin(alloc, program, function, &speculation.start)?;
@@ -122,7 +122,7 @@ fn observe_on<'a>(
     requires start { IsStart program.now speculation.now.entry.function speculation.now.start }
     requires program { rob.old.program ≡ program.now }
     requires opening { shown rob.old.machine ≡ opening program.now speculation.now.entry.function speculation.now.start }
-    ensures { IfOk result (IsSpecTold (speculation_in program.now speculation.now)) }
+    ensures { IfOk result (IsSpecTold (speculated_in program.now speculation.now)) }
 {
     let seen = rob.observe(alloc, speculation.directives.as_slice())?;
     let text = seen_text(

@@ -4,8 +4,8 @@ ghost use Rattle.bl_cmd.specs.Outcomes.{IsStart};
 ghost use Rattle.bl_app.specs.Jobs.{AreRead};
 ghost use Rattle.bl_app.specs.Twinning.{twin_job, twin_status};
 ghost use Rattle.bl_app.specs.Working.{IsDoneBehind, IsTwinTold, IsWork, read_in, twinned_in};
-ghost use Rattle.bl_build.specs.Tracing.{starting_other, twinning, twinning_program};
-ghost use Rattle.bl_build.specs.Working.{contents_in, speculation_in};
+ghost use Rattle.bl_build.specs.Tracing.{starting_other, twinning, program_twinning};
+ghost use Rattle.bl_build.specs.Working.{contents_in, speculated_in};
 ghost use Rattle.bl_words.specs.Words.{twin_in};
 
 use crate::job::{Plan, Read};
@@ -84,7 +84,7 @@ fn twin_program<'a>(
     start: &[u8],
     other: &[u8],
 ) -> Result<Plan<'a>, WorkError<'a>>
-    ensures { IsDoneBehind (twinning_program (twin_in words.now).export trace.now start.now other.now) IsTwinTold program.now result }
+    ensures { IsDoneBehind (program_twinning (twin_in words.now).export trace.now start.now other.now) IsTwinTold program.now result }
 {
     match prepare_speculation(alloc, program, words.export, trace, start) {
         Ok(speculation) => twin_speculation(alloc, program, &speculation, other),
@@ -101,7 +101,7 @@ fn twin_speculation<'a>(
 ) -> Result<Plan<'a>, WorkError<'a>>
     requires exists { slice_get program.now.functions speculation.now.entry.function ≡ Some speculation.now.entry.defined.now }
     requires fits { IsStart program.now speculation.now.entry.function speculation.now.start }
-    ensures { IsDoneBehind (starting_other other.now) IsTwinTold (speculation_in program.now speculation.now) result }
+    ensures { IsDoneBehind (starting_other other.now) IsTwinTold (speculated_in program.now speculation.now) result }
 {
     let other = match read_entry_start(alloc, program, &speculation.entry, other) {
         Ok(other) => other,
@@ -122,7 +122,7 @@ fn tell<'a>(
 ) -> Result<Plan<'a>, NoMemory>
     requires start { IsStart program.now speculation.now.entry.function speculation.now.start }
     requires other { IsStart program.now speculation.now.entry.function other.now }
-    ensures { IfOk result (IsTwinTold (twinned_in (speculation_in program.now speculation.now) other.now)) }
+    ensures { IfOk result (IsTwinTold (twinned_in (speculated_in program.now speculation.now) other.now)) }
 {
     let compared = compare_runs(
         alloc,

@@ -4,7 +4,7 @@ ghost use Rattle.bl_app.specs.Jobs.{AreRead};
 ghost use Rattle.bl_app.specs.Verifying.{AreVerdicts, verify_job, verify_plan, verify_status};
 ghost use Rattle.bl_build.specs.Certifying.{certifying, verifying};
 ghost use Rattle.bl_build.specs.Working.{contents_in};
-ghost use Rattle.bl_app.specs.Working.{IsDoneBehind, IsJudgedSo, IsWork, certified_in, plan_in, read_in, verdicts_in};
+ghost use Rattle.bl_app.specs.Working.{IsDoneBehind, IsVerifyTold, IsWork, certified_in, plan_in, read_in, verdicts_in};
 ghost use Rattle.bl_words.specs.Words.{verify_in};
 
 use crate::job::{Plan, Read};
@@ -70,7 +70,7 @@ fn verify_image<'a>(
     image: &[u8],
     certificate: &[u8],
 ) -> Result<Plan<'a>, WorkError<'a>>
-    ensures { IsDoneBehind (verifying certificate.now) IsJudgedSo image.now result }
+    ensures { IsDoneBehind (verifying certificate.now) IsVerifyTold image.now result }
 {
     match read_image(alloc, image) {
         Ok(program) => verify_program(alloc, &program, certificate),
@@ -84,7 +84,7 @@ fn verify_program<'a>(
     program: &WellFormed,
     certificate: &[u8],
 ) -> Result<Plan<'a>, WorkError<'a>>
-    ensures { IsDoneBehind (certifying certificate.now) IsJudgedSo program.now result }
+    ensures { IsDoneBehind (certifying certificate.now) IsVerifyTold program.now result }
 {
     let certificate = match read_certificate(alloc, certificate) {
         Ok(certificate) => certificate,

@@ -20,7 +20,7 @@ use Rattle.bl_trace.specs.declared.error.StartError.TheVariants.{Line, Count, Me
 use Rattle.bl_witness.specs.Shapes.{certificate_of}
 use Rattle.bl_build.specs.Certifying.{certifying, is_not_json, is_other_shape, verifying}
 use Rattle.bl_build.specs.Entering.{Entry, FindingRefuses, Finds, entering, finding, function_named, ill_formed, imaging, kinds_of, line_is_bad, no_image, pages_of, starting, too_few}
-use Rattle.bl_build.specs.Tracing.{Traced, Traces, TracingRefuses, no_directive, speculating, speculating_program, starting_other, starting_traced, too_many, tracing, twinning, twinning_program}
+use Rattle.bl_build.specs.Tracing.{Traced, Traces, TracingRefuses, no_directive, speculating, program_speculating, starting_other, starting_traced, too_many, tracing, twinning, program_twinning}
 use Rattle.bl_build.specs.Refusals.{Refusal, bad_directive, bad_line, broken_rule, few_arguments, limit, no_export, not_an_image, not_json, other_shape}
 use Rattle.bl_build.specs.Stages.{Anything, IsTotalStage, chain}
 use Rattle.bl_build.proofs.Classical.{NotFalse, all_of, some_first}
@@ -139,14 +139,14 @@ module _ (export trace start : List ℕ) where
         (λ entered starts. made (record { entered = entered; directives = traced.directives }) (record { same_directives = refl; starts = starts })) refused;
   }
 
-  program_total : IsTotalStage IsWellFormed (speculating_program export trace start)
+  program_total : IsTotalStage IsWellFormed (program_speculating export trace start)
   program_total =
       chain_total IsWellFormed Anything (finding export) (chain (tracing trace) (starting_traced start)) (finding_total export)
       (chain_total Anything Anything (tracing trace) (starting_traced start) tracing_total traced_total (λ entry traced given traces. tt)) (λ program entry rules found. tt)
 
   pub speculating_total : IsTotalStage Anything (speculating export trace start)
   speculating_total =
-      chain_total Anything IsWellFormed imaging (speculating_program export trace start) imaging_total program_total (λ bytes program given imaged. imaged.rules)
+      chain_total Anything IsWellFormed imaging (program_speculating export trace start) imaging_total program_total (λ bytes program given imaged. imaged.rules)
 
 other_total : (bytes : List ℕ) → IsTotalStage Anything (starting_other bytes)
 other_total bytes = record {
@@ -159,8 +159,8 @@ other_total bytes = record {
 
 pub twinning_total : (export trace start other : List ℕ) → IsTotalStage Anything (twinning export trace start other)
 twinning_total export trace start other =
-    chain_total Anything IsWellFormed imaging (twinning_program export trace start other) imaging_total
-    (chain_total IsWellFormed Anything (speculating_program export trace start) (starting_other other) (program_total export trace start) (other_total other) (λ program speculated rules passes. tt))
+    chain_total Anything IsWellFormed imaging (program_twinning export trace start other) imaging_total
+    (chain_total IsWellFormed Anything (program_speculating export trace start) (starting_other other) (program_total export trace start) (other_total other) (λ program speculated rules passes. tt))
     (λ bytes program given imaged. imaged.rules)
 
 -- ---- certificates

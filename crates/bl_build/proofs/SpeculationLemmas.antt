@@ -6,7 +6,7 @@ use Rattle.bl_cmd.specs.declared.definitions.ProgramParts.{ProgramParts as Progr
 use Rattle.bl_rob.specs.declared.directive.Directive.{Directive}
 use Rattle.bl_build.specs.Entering.{Entry, Finds, Starts, function_named, starting}
 use Rattle.bl_build.specs.Stages.{at_first, at_second}
-use Rattle.bl_build.specs.Tracing.{Speculated, speculating_program}
+use Rattle.bl_build.specs.Tracing.{Speculated, program_speculating}
 use Rattle.bl_build.specs.Working.{IsStaged, IsTraced, entered_in}
 use Rattle.bl_build.specs.declared.refusal.Refusal.TheVariants as told
 use Rattle.bl_build.specs.declared.refusal.WorkError.{WorkError}
@@ -14,25 +14,25 @@ use Rattle.bl_build.specs.declared.refusal.WorkError.TheVariants as error
 
 module _ {X : Type 0} (value : X → Speculated) (export trace start : List ℕ) (program : Program) where
   -- an export that is absent
-  pub not_exported : function_named export program.exports ≡ None → IsStaged (speculating_program export trace start) value program (Err (error.Refused told.NoExport))
+  pub not_exported : function_named export program.exports ≡ None → IsStaged (program_speculating export trace start) value program (Err (error.Refused told.NoExport))
   not_exported none = at_first (record { not_exported = none; is_refusal = refl })
 
   module _ (entry : Entry) (found : Finds export program entry) where
     -- a trace file that is refused
-    pub trace_refused : (e : WorkError) → IsTraced trace (Err e) → IsStaged (speculating_program export trace start) value program (Err e)
+    pub trace_refused : (e : WorkError) → IsTraced trace (Err e) → IsStaged (program_speculating export trace start) value program (Err e)
     trace_refused (error.Refused refusal) r = at_second entry found (at_first r)
     trace_refused error.Memory r = tt
 
     module _ (directives : List Directive) (traced : IsTraced trace (Ok directives)) where
       -- a start file that is refused
-      pub start_refused : (e : WorkError) → IsStaged (starting start) (entered_in entry) entry (Err e) → IsStaged (speculating_program export trace start) value program (Err e)
+      pub start_refused : (e : WorkError) → IsStaged (starting start) (entered_in entry) entry (Err e) → IsStaged (program_speculating export trace start) value program (Err e)
       start_refused (error.Refused refusal) r =
           at_second entry found (at_second (record { entry = entry; directives = directives }) (record { same_entry = refl; few = traced.0; read = traced.1 }) r)
       start_refused error.Memory r = tt
 
 module _ (export trace start : List ℕ) (program : Program) (entry : Entry) (found : Finds export program entry) (directives : List Directive) (traced : IsTraced trace (Ok directives)) where
   pub all_passed : (s : Start) → Starts start entry (entered_in entry s)
-      → (speculating_program export trace start).Passes program (record { entered = entered_in entry s; directives = directives })
+      → (program_speculating export trace start).Passes program (record { entered = entered_in entry s; directives = directives })
   all_passed s starts = (
     entry,
     found,

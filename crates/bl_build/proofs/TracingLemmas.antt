@@ -6,7 +6,7 @@ use Rattle.bl_cmd.specs.Outcomes.{IsStart}
 use Rattle.bl_trace.proofs.Fitting.{answered_fits}
 use Rattle.bl_build.specs.Entering.{Entry, Finds, finding, imaging, kinds_of, pages_of}
 use Rattle.bl_build.specs.Refusals.{Refusal, bad_directive}
-use Rattle.bl_build.specs.Tracing.{Speculated, StartsTraced, Traced, Traces, TracingRefuses, no_directive, speculating, speculating_program, starting_traced, too_many, tracing, StartsOther, Twinned, starting_other, twinning, twinning_program}
+use Rattle.bl_build.specs.Tracing.{Speculated, StartsTraced, Traced, Traces, TracingRefuses, no_directive, speculating, program_speculating, starting_traced, too_many, tracing, StartsOther, Twinned, starting_other, twinning, program_twinning}
 use Rattle.bl_build.specs.Stages.{IsLawfulStage, chain}
 use Rattle.bl_build.proofs.EnteringLemmas.{finding_lawful, imaging_lawful, starting_lawful}
 use Rattle.bl_build.proofs.StageLemmas.{chain_lawful}
@@ -68,13 +68,13 @@ module _ (bytes : List ℕ) where
     not_both = λ traced a r s. (starting_lawful bytes).not_both traced.entry a.entered r s.starts;
   }
 
-program_lawful : (export trace start : List ℕ) → IsLawfulStage (speculating_program export trace start)
+program_lawful : (export trace start : List ℕ) → IsLawfulStage (program_speculating export trace start)
 program_lawful export trace start =
     chain_lawful (finding export) (chain (tracing trace) (starting_traced start)) (finding_lawful export)
     (chain_lawful (tracing trace) (starting_traced start) (tracing_lawful trace) (started_lawful start))
 
 pub speculating_lawful : (export trace start : List ℕ) → IsLawfulStage (speculating export trace start)
-speculating_lawful export trace start = chain_lawful imaging (speculating_program export trace start) imaging_lawful (program_lawful export trace start)
+speculating_lawful export trace start = chain_lawful imaging (program_speculating export trace start) imaging_lawful (program_lawful export trace start)
 
 -- the start that is asked for fits its function
 module _ (export trace start image : List ℕ) (s : Speculated) (prepared : (speculating export trace start).Passes image s) where
@@ -118,5 +118,5 @@ module _ (bytes : List ℕ) where
 
 pub twinning_lawful : (export trace start other : List ℕ) → IsLawfulStage (twinning export trace start other)
 twinning_lawful export trace start other =
-    chain_lawful imaging (twinning_program export trace start other) imaging_lawful
-    (chain_lawful (speculating_program export trace start) (starting_other other) (program_lawful export trace start) (other_lawful other))
+    chain_lawful imaging (program_twinning export trace start other) imaging_lawful
+    (chain_lawful (program_speculating export trace start) (starting_other other) (program_lawful export trace start) (other_lawful other))

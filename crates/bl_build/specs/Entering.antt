@@ -94,9 +94,9 @@ starting bytes = record { Passes = Starts bytes; Refuses = StartingRefuses bytes
 -- ---- all stages
 
 -- from a program to a function of it that is exported under a name, with the start that the bytes of a start file ask for
-abbrev pub entering_program : List ℕ → List ℕ → Stage Program Entered
-entering_program export start = chain (finding export) (starting start)
+abbrev pub program_entering : List ℕ → List ℕ → Stage Program Entered
+program_entering export start = chain (finding export) (starting start)
 
 -- from the bytes of an image to such a function of its program
 abbrev pub entering : List ℕ → List ℕ → Stage (List ℕ) Entered
-entering export start = chain imaging (entering_program export start)
+entering export start = chain imaging (program_entering export start)

@@ -55,12 +55,12 @@ starting_traced bytes = record { Passes = StartsTraced bytes; Refuses = λ trace
 
 -- from a program to a function of it that is exported under a name, with the directives of a trace file's bytes and the start that the
 -- bytes of a start file ask for
-abbrev pub speculating_program : List ℕ → List ℕ → List ℕ → Stage Program Speculated
-speculating_program export trace start = chain (finding export) (chain (tracing trace) (starting_traced start))
+abbrev pub program_speculating : List ℕ → List ℕ → List ℕ → Stage Program Speculated
+program_speculating export trace start = chain (finding export) (chain (tracing trace) (starting_traced start))
 
 -- from the bytes of an image to such a function of its program
 abbrev pub speculating : List ℕ → List ℕ → List ℕ → Stage (List ℕ) Speculated
-speculating export trace start = chain imaging (speculating_program export trace start)
+speculating export trace start = chain imaging (program_speculating export trace start)
 
 -- ---- the other start
 
@@ -83,9 +83,9 @@ starting_other bytes = record { Passes = StartsOther bytes; Refuses = λ specula
 
 -- from a program to a function of it that is exported under a name, with the directives of a trace file's bytes and the two starts that
 -- the bytes of two start files ask for
-abbrev pub twinning_program : List ℕ → List ℕ → List ℕ → List ℕ → Stage Program Twinned
-twinning_program export trace start other = chain (speculating_program export trace start) (starting_other other)
+abbrev pub program_twinning : List ℕ → List ℕ → List ℕ → List ℕ → Stage Program Twinned
+program_twinning export trace start other = chain (program_speculating export trace start) (starting_other other)
 
 -- from the bytes of an image to such a function of its program
 abbrev pub twinning : List ℕ → List ℕ → List ℕ → List ℕ → Stage (List ℕ) Twinned
-twinning export trace start other = chain imaging (twinning_program export trace start other)
+twinning export trace start other = chain imaging (program_twinning export trace start other)

@@ -169,8 +169,8 @@ hardened_in hardened = record {
 }
 
 -- a function of a program, a start of it, and directives
-abbrev pub speculation_in : Program → Speculation → Speculated
-speculation_in program speculation = record {
+abbrev pub speculated_in : Program → Speculation → Speculated
+speculated_in program speculation = record {
   entered = entered_in (entry_in program speculation.entry) speculation.start;
   directives = speculation.directives;
 }

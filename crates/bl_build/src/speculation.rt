@@ -1,8 +1,8 @@
 //! An exported function of a program, with the directives of a trace file and the start that a start file asks for.
 ghost use Rattle.std.specs.Prelude.{◌≡◌, IfOk, Some, slice_get};
 ghost use Rattle.bl_cmd.specs.Outcomes.{IsStart};
-ghost use Rattle.bl_build.specs.Tracing.{speculating_program};
-ghost use Rattle.bl_build.specs.Working.{IsStaged, speculation_in};
+ghost use Rattle.bl_build.specs.Tracing.{program_speculating};
+ghost use Rattle.bl_build.specs.Working.{IsStaged, speculated_in};
 
 use crate::directives::read_directives;
 use crate::entry::{Entry, find_entry, read_entry_start};
@@ -24,7 +24,7 @@ pub struct Speculation<'p> {
 }
 
 /// The function exported under a name, the directives of a trace file, and the start of the function that a start file asks for; Refused
-/// exactly where one of them is, with the first in this order. Linear in the exports and in the bytes.
+/// exactly where one of them is, with the first in this order. Linear in the exports, the function's parameters, the memories and the bytes.
 pub fn prepare_speculation<'p, 'a>(
     alloc: Global,
     program: &'p WellFormed,
@@ -32,7 +32,7 @@ pub fn prepare_speculation<'p, 'a>(
     trace: &[u8],
     start: &[u8],
 ) -> Result<Speculation<'p>, WorkError<'a>>
-    ensures staged { IsStaged (speculating_program export.now trace.now start.now) (speculation_in program.now) program.now result }
+    ensures staged { IsStaged (program_speculating export.now trace.now start.now) (speculated_in program.now) program.now result }
     ensures found { IfOk result (λ speculation. slice_get program.now.functions speculation.entry.function ≡ Some speculation.entry.defined.now) }
     ensures fits { IfOk result (λ speculation. IsStart program.now speculation.entry.function speculation.start) }
 {

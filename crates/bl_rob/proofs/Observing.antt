@@ -1,10 +1,11 @@
 -- What is observed of directives, one by one.
-use Rattle.std.proofs.Common.{◌≡◌, ℕ, suc, ◌+◌, ◌<◌, ◌≤◌, List, [], ◌∷◌, ◌++◌, length, drop, get_or, Option, Some, None, append-nil, append_assoc, refl, sym, ap, ◌∙◌, arith}
+use Rattle.std.proofs.Common.{◌≡◌, ℕ, suc, ◌+◌, ◌<◌, ◌≤◌, List, [], ◌∷◌, ◌++◌, length, drop, get_or, Option, Some, None, append-nil, append_assoc, refl, sym, ap, ◌∙◌, subst, arith}
 use Rattle.std.proofs.Math.Seq.{drop-cons}
 use Rattle.std.proofs.lemmas.List.{drop_all}
+use Rattle.bl_base.specs.declared.start.Start.{Start}
 use Rattle.bl_cmd.specs.declared.definitions.ProgramParts.{ProgramParts as Program}
-use Rattle.bl_rob.specs.Machines.{State, directive_step}
-use Rattle.bl_rob.specs.Observed.{Observed, Observes, after, go_on, observed_from, see}
+use Rattle.bl_rob.specs.Machines.{State, directive_step, opening}
+use Rattle.bl_rob.specs.Observed.{Observed, Observes, after, go_on, observed, observed_from, reached, see}
 use Rattle.bl_rob.specs.declared.directive.Directive.{Directive}
 use Rattle.bl_rob.specs.declared.directive.Observation.{Observation}
 
@@ -74,3 +75,12 @@ module _ (most : ℕ) (program : Program) (directives : List Directive) (old : S
         };
         leads = sym (ap (λ ds. after most program ds s) none) ∙ h.leads;
       }
+
+-- what is observed of a machine from its opening is what is observed of the function's run
+pub observed_so : (most : ℕ) (program q : Program) (function : ℕ) (start : Start) (directives : List Directive) (old new : State) (seen : Observed) → q ≡ program
+    → old ≡ opening program function start → Observes most q directives old seen new
+    → (seen ≡ observed most program function start directives) × (new ≡ reached most program function start directives)
+observed_so most program q function start directives old new seen same is o =
+    let h : Observes most program directives (opening program function start) seen new
+    = subst (λ p. Observes most p directives (opening program function start) seen new) same (subst (λ s. Observes most q directives s seen new) is o) in
+    (h.observed, h.leads)

@@ -1,5 +1,5 @@
 pub mod Comparisons
 pub mod Counting
 pub mod Fronts
-pub mod Observing
 pub mod Public
+pub mod SideBySide

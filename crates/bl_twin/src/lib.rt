@@ -1,4 +1,4 @@
-//! Two runs of a function from two starts: whether the starts agree in public, and the text on what is observed of both runs.
+//! Two runs of a function from two starts, side by side: whether the starts agree in public, and the text on what is observed of both.
 #![tactic(auto)]
 
 mod agreement;

@@ -13,7 +13,7 @@ use bl_rob::{Directive, Rob, Seen};
 use std::alloc::Global;
 
 /// Takes directives on a function from each of two starts, where the buffer has room for 64 entries, and compares what is observed, behind
-/// whether the starts agree in public. Linear in the program's memories, the patches and the directives.
+/// whether the starts agree in public. Linear in the program, the starts, the program's memories and the directives.
 pub fn compare_runs(
     alloc: Global,
     program: &WellFormed,

@@ -33,7 +33,7 @@ fn is_given_back<R: Files>(alloc: Global, rt: &R, name: &str) -> bool {
 
 #[test]
 fn a_file_shelf_gives_back_what_it_kept(rt: HostRuntime) -> Result<(), Fail> {
-    assert!(rt; is_given_back(rt.alloc(), &rt, "tests_outside_kept"));
+    assert!(rt; is_given_back(rt.alloc(), &rt, "tests_basics_kept"));
     Ok(())
 }
 
@@ -62,7 +62,7 @@ fn is_read_whole<R: Files>(alloc: Global, rt: &R, name: &str, bytes: &[u8]) -> b
 /// Whether that holds of 20,000 bytes.
 fn are_read_whole<R: Files>(alloc: Global, rt: &R) -> Result<bool, NoMemory> {
     let bytes = long(alloc, 20_000)?;
-    Ok(is_read_whole(alloc, rt, "tests_outside_long", &bytes))
+    Ok(is_read_whole(alloc, rt, "tests_basics_long", &bytes))
 }
 
 #[test]

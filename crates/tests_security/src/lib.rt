@@ -1,5 +1,5 @@
-//! Tests of what programs give away, from an image's bytes on: least protects and certificates, the check of constant time and the verdict
-//! on two runs, comparisons of two runs, and the buffer machine with room for one entry.
+//! Tests of what programs give away: least protects and certificates, the check of constant time and the verdict on two runs, each from an
+//! image's bytes on; agreement of starts, comparisons of two runs, and the buffer machine with room for one entry.
 #![tactic(auto)]
 
 #[cfg(test)]

@@ -6,7 +6,7 @@ use Rattle.bl_trace.specs.Observations.{observation_text}
 use Rattle.bl_app.specs.Speculating.{last_text, spec_plan, spec_status}
 use Rattle.bl_build.specs.Working.{entered_in, entry_in}
 use Rattle.bl_app.specs.Working.{keep_in, plan_in}
-use Rattle.bl_twin.proofs.Observing.{observed_so}
+use Rattle.bl_rob.proofs.Observing.{observed_so}
 use Rattle.bl_app.proofs.spec.observe_on.Goals as goal
 
 pub returns : goal.returns

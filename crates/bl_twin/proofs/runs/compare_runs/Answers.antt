@@ -1,4 +1,4 @@
-use Rattle.bl_twin.proofs.Observing.{side_by_side}
+use Rattle.bl_twin.proofs.SideBySide.{side_by_side}
 use Rattle.bl_twin.proofs.runs.compare_runs.Goals as goal
 
 pub returns : goal.returns

@@ -1,27 +1,17 @@
--- What is observed of a machine from its opening is what is observed of the function's run; and two runs, compared.
-use Rattle.std.proofs.Common.{◌≡◌, ◌↔◌, ◌∙◌, ℕ, Bool, IsTrue, List, Result, Ok, Err, subst}
+-- Two runs of a function, of which what is observed is compared.
+use Rattle.std.proofs.Common.{◌≡◌, ◌↔◌, ◌∙◌, ℕ, Bool, IsTrue, List, Result, Ok, Err}
 use Rattle.std.specs.Prelude.{IfOk}
 use Rattle.bl_base.specs.declared.start.Start.{Start}
 use Rattle.bl_cmd.specs.declared.definitions.ProgramParts.{ProgramParts as Program}
 use Rattle.bl_cmd.specs.Outcomes.{Agree}
 use Rattle.bl_rob.specs.CallResults.{seen_in}
-use Rattle.bl_rob.specs.Machines.{State, opening}
-use Rattle.bl_rob.specs.Observed.{Observed, Observes, observed, reached}
+use Rattle.bl_rob.specs.Observed.{observed}
 use Rattle.bl_rob.specs.declared.directive.Directive.{Directive}
 use Rattle.bl_rob.specs.declared.observe.Seen.{Seen}
 use Rattle.bl_twin.specs.Comparing.{comparison, twin_text}
 use Rattle.bl_twin.specs.Runs.{IsSideBySide}
 use Rattle.bl_twin.specs.declared.text.Compared.{Compared}
 
-pub observed_so : (most : ℕ) (program q : Program) (function : ℕ) (start : Start) (directives : List Directive) (old new : State) (seen : Observed) → q ≡ program
-    → old ≡ opening program function start → Observes most q directives old seen new
-    → (seen ≡ observed most program function start directives) × (new ≡ reached most program function start directives)
-observed_so most program q function start directives old new seen same is o =
-    let h : Observes most program directives (opening program function start) seen new
-    = subst (λ p. Observes most p directives (opening program function start) seen new) same (subst (λ s. Observes most q directives s seen new) is o) in
-    (h.observed, h.leads)
-
--- two runs, of which what is observed is compared
 module _ (program : Program) (function : ℕ) (one other : Start) (directives : List Directive) (agree : Bool) (first second : Seen) where
   pub side_by_side : {E : Type 0} (result : Result Compared E) → IsTrue agree ↔ Agree program function one other → seen_in first ≡ observed 64 program function one directives
       → seen_in second ≡ observed 64 program function other directives → IfOk result (λ compared. compared.comparison ≡ comparison (seen_in first) (seen_in second))
