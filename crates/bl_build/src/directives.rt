@@ -9,7 +9,10 @@ use bl_trace::{TraceError, count_lines, read_trace};
 use std::alloc::Global;
 
 /// The directives of a trace file; Refused exactly where it has too many lines, or a line is no directive.
-pub(crate) fn read_directives<'a>(alloc: Global, bytes: &[u8]) -> Result<List<Directive>, WorkError<'a>>
+pub(crate) fn read_directives<'a>(
+    alloc: Global,
+    bytes: &[u8],
+) -> Result<List<Directive>, WorkError<'a>>
     ensures { IsTraced bytes.now result }
 {
     let count = count_lines(bytes);
