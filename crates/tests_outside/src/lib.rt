@@ -6,4 +6,6 @@ mod files;
 #[cfg(test)]
 mod memory;
 #[cfg(test)]
+mod shelves;
+#[cfg(test)]
 mod sinks;
