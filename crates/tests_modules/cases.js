@@ -1,6 +1,6 @@
 // Cases for src/validate.rt, judged by node's WebAssembly: `node cases.js src` writes the tables of src/validate_bodies.rt and
-// src/validate_modules.rt. Each case is a module in short, which is written in the binary format for node, and as a value
-// for the table.
+// src/validate_modules.rt, with the modules whose parts the cases change. Each case is a module in short, which is written in the
+// binary format for node, and as a line or a value for the table.
 //
 // Where this profile differs from node's later version, a case has the profile's answer and says why.
 const types = { I32: 0x7f, I64: 0x7e, F32: 0x7d, F64: 0x7c };
@@ -337,9 +337,17 @@ const module_table = (name, title, modules) => {
   });
   return `/// ${title}.\npub(super) static ${name}: [Case; ${modules.length}] = [\n${rows.join("\n")}\n];\n`;
 };
+const parts_of = (name, title, m) => {
+  const parts = Object.keys(base).map(part => `    ${part}: ${part === "start" ? option(m.start) : list(m[part].map(value[part]))},`);
+  return `${title}\npub(super) static ${name}: Parts = Parts {\n${parts.join("\n")}\n};\n`;
+};
+const around_title = "/// A module with one function: it takes an i32, has a local of i64 and gives an i32. Function 0 and global 0, an immutable\n\
+/// i32, are imported; global 1 is a mutable i64; there is a table and a memory.";
+const bare_title = "/// A module with one function alone, of no parameters, results and locals.";
 
 writeFileSync(`${process.argv[2]}/validate_bodies.rt`, ["//! Bodies that were judged elsewhere, each on a line: in the binary format, without its `end`, and whether the module round it\n//! is valid.\n",
-  body_table("BODIES", "Bodies", bodies), body_table("SEVERAL", "Bodies with blocks that have parameters or several results", several)].join("\n"));
-writeFileSync(`${process.argv[2]}/validate_modules.rt`, ["//! Modules that were judged elsewhere, by the parts that differ from those of a valid one.\nuse super::validate::{CONSTANT, Case, Change, FUNCTION, RULE};\nuse bl_validate::Invalid;\nuse bl_wasm::WasmType::{F32, F64, I32, I64};\nuse bl_wasm::{ExportKind, GlobalType, ImportKind, Limits};\n",
+  body_table("BODIES", "Bodies with blocks of at most one type", bodies), body_table("SEVERAL", "Bodies with blocks that have parameters or several results", several)].join("\n"));
+writeFileSync(`${process.argv[2]}/validate_modules.rt`, ["//! Modules that were judged elsewhere, by the parts that differ from those of a valid one.\nuse super::validate::{CONSTANT, Case, Change, FUNCTION, Parts, RULE};\nuse bl_validate::Invalid;\nuse bl_wasm::WasmType::{F32, F64, I32, I64};\nuse bl_wasm::{ExportKind, GlobalType, ImportKind, Limits};\n",
+  parts_of("AROUND", around_title, base), parts_of("BARE", bare_title, { ...base, ...bare }),
   module_table("TYPES", "Types and functions", type_cases), module_table("CODE", "Code", code_cases), module_table("STORES", "Tables, memories and globals", store_cases),
   module_table("SEGMENTS", "Segments, exports and the start function", segment_cases)].join("\n"));

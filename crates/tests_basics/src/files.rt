@@ -1,26 +1,11 @@
 //! The shelf over the files of the runtime.
+use crate::shelves::{fails, gives};
 use bl_base::NoMemory;
-use bl_outside::{FileShelf, Shelf, ShelfError};
+use bl_outside::{FileShelf, Shelf};
 use std::alloc::Global;
 use std::fs::remove_file;
 use std::rt::Files;
 use std::test::Fail;
-
-/// Whether the first bytes of that file are fetched.
-fn gives<R: Files>(shelf: &mut FileShelf<'_, R>, name: &str, most: u64, bytes: &[u8]) -> bool {
-    match shelf.fetch(name, most) {
-        Ok(front) => front.as_slice() == bytes,
-        Err(_) => false,
-    }
-}
-
-/// Whether fetching that file fails.
-fn fails<R: Files>(shelf: &mut FileShelf<'_, R>, name: &str) -> bool {
-    match shelf.fetch(name, 3) {
-        Ok(_) => false,
-        Err(cause) => cause == ShelfError::Failed,
-    }
-}
 
 /// Whether a file is given back up to one byte beyond the limit, and its fetch fails once it is removed.
 fn is_given_back<R: Files>(alloc: Global, rt: &R, name: &str) -> bool {
@@ -28,7 +13,7 @@ fn is_given_back<R: Files>(alloc: Global, rt: &R, name: &str) -> bool {
     let kept = shelf.keep(name, b"bytes").is_ok();
     let given = gives(&mut shelf, name, 3, b"byte");
     let removed = remove_file(rt, name).is_ok();
-    kept && given && removed && fails(&mut shelf, name)
+    kept && given && removed && fails(&mut shelf, name, 3)
 }
 
 #[test]

@@ -17,6 +17,8 @@ mod ops;
 #[cfg(test)]
 mod residual;
 #[cfg(test)]
+mod shelves;
+#[cfg(test)]
 mod sinks;
 #[cfg(test)]
 mod trace;

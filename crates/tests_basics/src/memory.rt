@@ -1,24 +1,9 @@
 //! The shelf in memory.
+use crate::shelves::{fails, gives};
 use bl_base::{List, NoMemory};
-use bl_outside::{MemoryShelf, Shelf, ShelfError};
+use bl_outside::{MemoryShelf, Shelf};
 use std::alloc::Global;
 use std::test::Fail;
-
-/// Whether the first bytes of that entry are fetched.
-fn gives(shelf: &mut MemoryShelf, name: &str, most: u64, bytes: &[u8]) -> bool {
-    match shelf.fetch(name, most) {
-        Ok(front) => front.as_slice() == bytes,
-        Err(_) => false,
-    }
-}
-
-/// Whether fetching that entry fails.
-fn fails(shelf: &mut MemoryShelf, name: &str, most: u64) -> bool {
-    match shelf.fetch(name, most) {
-        Ok(_) => false,
-        Err(cause) => cause == ShelfError::Failed,
-    }
-}
 
 /// Whether the entry of that name has those bytes.
 fn holds(shelf: &MemoryShelf, name: &str, bytes: &[u8]) -> bool {

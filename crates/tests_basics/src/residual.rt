@@ -24,19 +24,22 @@ fn packed_crossing(alloc: Global) -> Result<Option<Residual>, NoMemory> {
     r
 }
 
-/// The residual network of a ladder in which nothing flows.
+/// How many rungs the ladder has.
+const RUNGS: u32 = 12;
+
+/// The residual network of the ladder in which nothing flows.
 fn packed_ladder(alloc: Global) -> Result<Option<Residual>, NoMemory> {
-    let n = ladder(alloc, 12)?;
+    let n = ladder(alloc, RUNGS)?;
     let r = packed(alloc, &n);
     drop(n);
     r
 }
 
 /// The residual network behind an advance on those levels, and how much more flows.
-fn advanced(alloc: Global, r: Residual, levels: &[Option<u64>]) -> Result<(Residual, u64), NoMemory>
-    requires { AreLevelsOf r levels.now }
+fn advanced(alloc: Global, r: Residual, before: &[Option<u64>]) -> Result<(Residual, u64), NoMemory>
+    requires { AreLevelsOf r before.now }
 {
-    match advance(alloc, r, levels) {
+    match advance(alloc, r, before) {
         Ok(next) => Ok(next),
         Err((r, error)) => {
             drop(r);
@@ -54,12 +57,6 @@ fn step(alloc: Global, r: Residual) -> Result<(Residual, u64), NoMemory> {
             Err(error)
         }
     }
-}
-
-/// Whether the levels are those.
-fn has_levels(alloc: Global, r: &Residual, wanted: &[Option<u64>]) -> Result<bool, NoMemory> {
-    let found = levels(alloc, r)?;
-    Ok(found.as_slice() == wanted)
 }
 
 /// What an advance adds, the amount behind it, and the levels before it.
@@ -134,15 +131,25 @@ static ADVANCES: [Advance; 3] = [
     ),
 ];
 
+/// The residual network behind an advance on those levels, and whether it and they are as they have to be.
+fn risen(
+    alloc: Global,
+    r: Residual,
+    before: &[Option<u64>],
+    wanted: &Advance,
+) -> Result<(Residual, bool), NoMemory>
+    requires { AreLevelsOf r before.now }
+{
+    let (wanted_more, wanted_amount, wanted_before) = *wanted;
+    let (next, more) = advanced(alloc, r, before)?;
+    let is_right = before == wanted_before && more == wanted_more && next.amount() == wanted_amount;
+    Ok((next, is_right))
+}
+
 /// The residual network behind an advance, and whether it and the levels before it are as they have to be.
 fn rise(alloc: Global, r: Residual, wanted: &Advance) -> Result<(Residual, bool), NoMemory> {
-    let (wanted_more, wanted_amount, before) = *wanted;
-    match has_levels(alloc, &r, before) {
-        Ok(is_level) => {
-            let (next, more) = step(alloc, r)?;
-            let is_right = is_level && more == wanted_more && next.amount() == wanted_amount;
-            Ok((next, is_right))
-        }
+    match levels(alloc, &r) {
+        Ok(before) => risen(alloc, r, before.as_slice(), wanted),
         Err(error) => {
             drop(r);
             Err(error)
@@ -175,33 +182,33 @@ fn rising(alloc: Global) -> Result<u32, NoMemory> {
 }
 
 /// Whether nothing flows.
-fn is_empty(r: Residual) -> bool {
-    let is_empty = r.amount() == 0;
+fn carries_nothing(r: Residual) -> bool {
+    let is_right = r.amount() == 0;
     drop(r);
-    is_empty
+    is_right
 }
 
 /// Whether nothing flows through the crossing at first.
-fn begins_empty(alloc: Global) -> Result<bool, NoMemory> {
+fn carries_nothing_at_first(alloc: Global) -> Result<bool, NoMemory> {
     match packed_crossing(alloc)? {
-        Some(r) => Ok(is_empty(r)),
+        Some(r) => Ok(carries_nothing(r)),
         None => Ok(false),
     }
 }
 
 #[test]
 fn the_end_rises_until_it_has_no_level(rt: HostRuntime) -> Result<(), Fail> {
-    assert!(rt; begins_empty(rt.alloc())?);
+    assert!(rt; carries_nothing_at_first(rt.alloc())?);
     assert_eq!(rt; rising(rt.alloc())?, 3);
     Ok(())
 }
 
-/// How many advances add 1 before the first that adds nothing, and the amount then; None where one adds more, or the amount is
-/// not how many there were.
+/// How many advances add 1 before the first that adds nothing, and the amount then; None where one before it adds more or leaves an
+/// amount that isn't how many there were, and where one more than there are rungs add 1 each.
 fn climb(alloc: Global, first: Residual) -> Result<Option<(u64, u64)>, NoMemory> {
     let mut r = first;
     let mut climbed = None;
-    for before in 0..13u64 {
+    for before in 0..u64::from(RUNGS) + 1 {
         let (next, more) = step(alloc, r)?;
         r = next;
         if more == 0 {
@@ -215,7 +222,7 @@ fn climb(alloc: Global, first: Residual) -> Result<Option<(u64, u64)>, NoMemory>
     Ok(climbed)
 }
 
-/// How many advances of a ladder add 1 before the first that doesn't, and the amount then.
+/// The same of the ladder.
 fn climbed(alloc: Global) -> Result<Option<(u64, u64)>, NoMemory> {
     match packed_ladder(alloc)? {
         Some(r) => climb(alloc, r),

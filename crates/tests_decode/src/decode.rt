@@ -150,16 +150,19 @@ fn text(alloc: Global, tree: &Module) -> Result<String, NoMemory> {
     Ok(format!(in alloc; "{tree:?}")?)
 }
 
-/// The text on what was read; what is none is answered like want of memory.
-fn text_on(alloc: Global, answer: &Result<Module, DecodeError>) -> Result<String, NoMemory> {
+/// The text on what was read; None where nothing was.
+fn text_on(
+    alloc: Global,
+    answer: &Result<Module, DecodeError>,
+) -> Result<Option<String>, NoMemory> {
     match answer {
-        Ok(tree) => text(alloc, tree),
-        Err(_) => Err(NoMemory),
+        Ok(tree) => Ok(Some(text(alloc, tree)?)),
+        Err(_) => Ok(None),
     }
 }
 
-/// The text on the tree of a module; what is none is answered like want of memory.
-fn text_of(alloc: Global, bytes: &[u8]) -> Result<String, NoMemory> {
+/// The text on the tree of a module; None where the bytes aren't decoded.
+fn text_of(alloc: Global, bytes: &[u8]) -> Result<Option<String>, NoMemory> {
     text_on(alloc, &decode(alloc, bytes))
 }
 
@@ -171,8 +174,8 @@ fn put_long_size(bytes: &mut Vec<u8>) -> Result<(), NoMemory> {
     Ok(())
 }
 
-/// The text on the tree of `LOADS` with the size of its code in five bytes.
-fn long_text(alloc: Global) -> Result<String, NoMemory> {
+/// The text on the tree of `LOADS` with the size of its code in five bytes; None where that isn't decoded.
+fn long_text(alloc: Global) -> Result<Option<String>, NoMemory> {
     let mut bytes = Vec::new(alloc);
     put_long_size(&mut bytes)?;
     text_of(alloc, &bytes)
@@ -180,14 +183,18 @@ fn long_text(alloc: Global) -> Result<String, NoMemory> {
 
 /// Whether the tree of `LOADS` has that text.
 fn has_text(alloc: Global, wanted: &str) -> Result<bool, NoMemory> {
-    let found = text_of(alloc, &LOADS)?;
-    Ok(found.as_str() == wanted)
+    match text_of(alloc, &LOADS)? {
+        Some(found) => Ok(found.as_str() == wanted),
+        None => Ok(false),
+    }
 }
 
 /// Whether both have the same tree.
 fn is_same_tree(alloc: Global) -> Result<bool, NoMemory> {
-    let long = long_text(alloc)?;
-    has_text(alloc, long.as_str())
+    match long_text(alloc)? {
+        Some(long) => has_text(alloc, long.as_str()),
+        None => Ok(false),
+    }
 }
 
 #[test]
@@ -384,7 +391,7 @@ fn a_table_and_a_memory_have_limits(rt: HostRuntime) -> Result<(), Fail> {
 }
 
 /// Whether functions of those 10,001 indices are told.
-fn are_many(alloc: Global, indices: &[u8]) -> Result<bool, NoMemory> {
+fn are_told_of(alloc: Global, indices: &[u8]) -> Result<bool, NoMemory> {
     let codes = times(alloc, &[0x02, 0x00, 0x0B], 10_001)?;
     let functions = [0x03, 0x93, 0x4E, 0x91, 0x4E];
     let code = [0x0A, 0xB5, 0xEA, 0x01, 0x91, 0x4E];
@@ -395,7 +402,7 @@ fn are_many(alloc: Global, indices: &[u8]) -> Result<bool, NoMemory> {
 /// Whether 10,001 functions are told.
 fn are_many_functions(alloc: Global) -> Result<bool, NoMemory> {
     let indices = times(alloc, &[0x00], 10_001)?;
-    are_many(alloc, &indices)
+    are_told_of(alloc, &indices)
 }
 
 /// Puts 257 blocks round a br_table of 1,025 targets behind the items, with their ends and that of the body.

@@ -51,21 +51,21 @@ fn answer(
 
 /// The fault of that module; None where it has labels or isn't one.
 fn fault(alloc: Global, first: &[u8], second: &[u8]) -> Result<Option<LabelError>, NoMemory> {
-    let answer = answer(alloc, first, second)?;
-    let fault = match &answer {
+    let found = answer(alloc, first, second)?;
+    let error = match &found {
         Some(Err(error)) => Some(*error),
         _ => None,
     };
-    drop(answer);
-    Ok(fault)
+    drop(found);
+    Ok(error)
 }
 
 /// Whether that module has labels.
 fn is_labelled(alloc: Global, first: &[u8], second: &[u8]) -> Result<bool, NoMemory> {
-    let answer = answer(alloc, first, second)?;
-    let is_labelled = matches!(&answer, Some(Ok(_)));
-    drop(answer);
-    Ok(is_labelled)
+    let found = answer(alloc, first, second)?;
+    let is_right = matches!(&found, Some(Ok(_)));
+    drop(found);
+    Ok(is_right)
 }
 
 /// How many of these sections behind `OWN` have such a fault before the first that hasn't.
@@ -96,12 +96,12 @@ fn are_entries(labels: &Labels) -> bool {
 /// Whether a section of four entries gives those labels.
 fn names_entries(alloc: Global) -> Result<bool, NoMemory> {
     let section = b"\0\x19\x0cblade.labels\x02\x04\x02\0\0\x01\0\x03\x01\0\x04\0";
-    let answer = answer(alloc, OWN, section)?;
-    let is_right = match &answer {
+    let found = answer(alloc, OWN, section)?;
+    let is_right = match &found {
         Some(Ok(labels)) => are_entries(labels),
         _ => false,
     };
-    drop(answer);
+    drop(found);
     Ok(is_right)
 }
 
@@ -114,12 +114,12 @@ fn entries_are_labels_in_their_order(rt: HostRuntime) -> Result<(), Fail> {
 /// Whether the one global is named by a section before all others.
 fn names_before(alloc: Global) -> Result<bool, NoMemory> {
     let section = b"\0\x11\x0cblade.labels\x01\x01\x01\0";
-    let answer = answer(alloc, section, OWN)?;
-    let is_right = match &answer {
+    let found = answer(alloc, section, OWN)?;
+    let is_right = match &found {
         Some(Ok(labels)) => labels.globals.as_slice() == [0].as_slice(),
         _ => false,
     };
-    drop(answer);
+    drop(found);
     Ok(is_right)
 }
 
@@ -129,19 +129,28 @@ fn a_section_may_stand_before_all_others(rt: HostRuntime) -> Result<(), Fail> {
     Ok(())
 }
 
+/// Whether nothing has a label.
+fn are_none(labels: &Labels) -> bool {
+    labels.params.len() == 0
+        && labels.globals.len() == 0
+        && labels.memories.len() == 0
+        && labels.results.len() == 0
+        && labels.demanded.len() == 0
+}
+
 /// Whether a section of another name gives no labels.
 fn names_nothing(alloc: Global) -> Result<bool, NoMemory> {
-    let answer = answer(alloc, OWN, b"\0\x0d\x0cblade.label.")?;
-    let is_right = match &answer {
-        Some(Ok(labels)) => labels.params.len() == 0 && labels.memories.len() == 0,
+    let found = answer(alloc, OWN, b"\0\x0d\x0cblade.label.")?;
+    let is_right = match &found {
+        Some(Ok(labels)) => are_none(labels),
         _ => false,
     };
-    drop(answer);
+    drop(found);
     Ok(is_right)
 }
 
 #[test]
-fn without_a_section_nothing_is_named(rt: HostRuntime) -> Result<(), Fail> {
+fn a_section_of_another_name_names_nothing(rt: HostRuntime) -> Result<(), Fail> {
     assert!(rt; names_nothing(rt.alloc())?);
     Ok(())
 }

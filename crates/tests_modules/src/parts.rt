@@ -136,7 +136,7 @@ fn add_read(
 }
 
 /// The parts of those names and bytes, in their order; None where one is no part, or two have one name, or there are too many.
-pub fn parts_of(alloc: Global, modules: &[(&str, &[u8])]) -> Result<Option<List<Part>>, NoMemory>
+fn parts_of(alloc: Global, modules: &[(&str, &[u8])]) -> Result<Option<List<Part>>, NoMemory>
     ensures { IfOk result (λ parts. IfSome parts AreParts) }
 {
     let mut parts = List::new(alloc);

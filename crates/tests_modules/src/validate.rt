@@ -11,7 +11,7 @@ ghost use Rattle.std.specs.Prelude.{◌<◌, ◌^◌, IsTrue, length};
 ghost use Rattle.bl_wasm.specs.Validity.{functions_of};
 
 use super::validate_bodies::{BODIES, SEVERAL};
-use super::validate_modules::{CODE, SEGMENTS, STORES, TYPES};
+use super::validate_modules::{AROUND, BARE, CODE, SEGMENTS, STORES, TYPES};
 use bl_base::{List, NoMemory, Text};
 use bl_ops::{AccessKind, by_code};
 use bl_validate::{Invalid, ValidModule, validate};
@@ -40,26 +40,26 @@ pub(crate) const CONSTANT: ImportKind = ImportKind::Global(GlobalType {
 #[derive(Clone, Copy)]
 pub(crate) struct Parts {
     /// Parameters and results.
-    types: &'static [(&'static [WasmType], &'static [WasmType])],
-    imports: &'static [ImportKind],
-    functions: &'static [u32],
+    pub(crate) types: &'static [(&'static [WasmType], &'static [WasmType])],
+    pub(crate) imports: &'static [ImportKind],
+    pub(crate) functions: &'static [u32],
     /// Minimum and maximum.
-    tables: &'static [(u32, Option<u32>)],
-    memories: &'static [(u32, Option<u32>)],
+    pub(crate) tables: &'static [(u32, Option<u32>)],
+    pub(crate) memories: &'static [(u32, Option<u32>)],
     /// Type, whether it can be set, and initial value.
-    globals: &'static [(WasmType, bool, &'static [u8])],
-    exports: &'static [(&'static [u8], ExportKind, u32)],
-    start: Option<u32>,
+    pub(crate) globals: &'static [(WasmType, bool, &'static [u8])],
+    pub(crate) exports: &'static [(&'static [u8], ExportKind, u32)],
+    pub(crate) start: Option<u32>,
     /// Table, offset and functions.
-    elements: &'static [(u32, &'static [u8], &'static [u32])],
+    pub(crate) elements: &'static [(u32, &'static [u8], &'static [u32])],
     /// Memory and offset.
-    segments: &'static [(u32, &'static [u8])],
+    pub(crate) segments: &'static [(u32, &'static [u8])],
     /// The locals of each function.
-    locals: &'static [(u32, WasmType)],
-    bodies: &'static [&'static [u8]],
+    pub(crate) locals: &'static [(u32, WasmType)],
+    pub(crate) bodies: &'static [&'static [u8]],
 }
 
-/// A part that stands in the place of that of `AROUND`.
+/// What changes in the parts of `AROUND`.
 #[derive(Clone, Copy)]
 pub(crate) enum Change {
     /// All parts are those of `BARE`.
@@ -80,47 +80,6 @@ pub(crate) enum Change {
 
 /// The changes of `AROUND` that make a module, and why it isn't valid.
 pub(crate) type Case = (&'static [Change], Option<Invalid>);
-
-/// A module with one function: it takes an i32, has a local of i64 and gives an i32. Function 0 and global 0, an immutable
-/// i32, are imported; global 1 is a mutable i64; there is a table and a memory.
-static AROUND: Parts = Parts {
-    types: &[
-        (&[], &[]),
-        (&[I32], &[I32]),
-        (&[I32, I64], &[I64]),
-        (&[], &[I32]),
-        (&[I32, I64], &[I64, I32]),
-        (&[], &[I32, I64]),
-        (&[I32], &[]),
-    ],
-    imports: &[FUNCTION, CONSTANT],
-    functions: &[1],
-    tables: &[(1, None)],
-    memories: &[(1, None)],
-    globals: &[(I64, true, &[0x42, 0x00])],
-    exports: &[],
-    start: None,
-    elements: &[],
-    segments: &[],
-    locals: &[(1, I64)],
-    bodies: &[&[0x20, 0x00]],
-};
-
-/// A module with one function alone, of no parameters, results and locals.
-static BARE: Parts = Parts {
-    types: &[(&[], &[])],
-    imports: &[],
-    functions: &[0],
-    tables: &[],
-    memories: &[],
-    globals: &[],
-    exports: &[],
-    start: None,
-    elements: &[],
-    segments: &[],
-    locals: &[],
-    bodies: &[&[]],
-};
 
 /// The list of a few values.
 fn list<T: Copy + Drop>(alloc: Global, values: &[T]) -> Result<List<T>, NoMemory> {
@@ -435,11 +394,11 @@ fn is_small(tree: &Module) -> bool
 struct Judgement {
     /// Why the module isn't valid; None where it is.
     reason: Option<Invalid>,
-    /// Whether it came back as one of `TWO_MEMORIES`.
+    /// Whether it came back as the module of `TWO_MEMORIES`.
     has_second_memory: bool,
 }
 
-/// Whether the module is one of those two memories.
+/// Whether the module has the second memory of `TWO_MEMORIES`.
 fn has_second_memory(tree: &Module) -> bool {
     matches!(
         tree.memories.as_slice().get(1),
@@ -484,47 +443,51 @@ fn verdict(alloc: Global, parts: &Parts, bodies: &[&[u8]]) -> Result<Judgement, 
     Ok(judged_if_small(alloc, module_of(alloc, parts, bodies)?))
 }
 
-/// The byte that two hexadecimal digits write; what is none is answered like want of memory.
-fn byte(digits: &str) -> Result<u8, NoMemory> {
-    match u8::from_str_radix(digits, 16) {
-        Ok(byte) => Ok(byte),
-        Err(_) => Err(NoMemory),
+/// The byte that two hexadecimal digits write; None where they write none.
+fn byte(digits: &str) -> Option<u8> {
+    if digits.len() != 2 || digits.starts_with('+') {
+        return None;
     }
+    u8::from_str_radix(digits, 16).ok()
 }
 
-/// The bytes of a body in hexadecimal digits.
-fn body_of(alloc: Global, digits: &str) -> Result<Vec<u8>, NoMemory> {
-    let mut body = Vec::new(alloc);
+/// Puts the bytes of a body in hexadecimal digits behind others; false where a word isn't two digits.
+fn put_bytes(digits: &str, body: &mut Vec<u8>) -> Result<bool, NoMemory> {
     for word in digits.split_whitespace() {
-        body.push(byte(word)?)?;
+        let Some(value) = byte(word) else {
+            return Ok(false);
+        };
+        body.push(value)?;
     }
-    Ok(body)
+    Ok(true)
 }
 
-/// Why the module round a body in hexadecimal digits isn't valid; None where it is.
-fn reason_of(alloc: Global, digits: &str) -> Result<Option<Invalid>, NoMemory> {
-    let body = body_of(alloc, digits)?;
-    Ok(verdict(alloc, &around(), &[body.as_slice()])?.reason)
+/// Whether the module round a body in hexadecimal digits is judged so; false where a word isn't two digits.
+fn is_body_right(alloc: Global, digits: &str, wanted: Option<Invalid>) -> Result<bool, NoMemory> {
+    let mut body = Vec::new(alloc);
+    if !put_bytes(digits, &mut body)? {
+        return Ok(false);
+    }
+    Ok(verdict(alloc, &around(), &[body.as_slice()])?.reason == wanted)
 }
 
-/// Whether the module round the body of a line is judged as it says.
-fn is_judged(alloc: Global, line: &str) -> Result<bool, NoMemory> {
-    let Some((digits, answer)) = line.split_once('=') else {
+/// Whether the module round the body of a line is judged as it says; false where it says neither of the two words.
+fn is_line_right(alloc: Global, line: &str) -> Result<bool, NoMemory> {
+    let Some((digits, rest)) = line.split_once('=') else {
         return Ok(false);
     };
-    let wanted = if answer.starts_with(" valid") {
-        None
-    } else {
-        Some(Invalid::Function(1))
-    };
-    Ok(reason_of(alloc, digits)? == wanted)
+    match rest.split_once(',') {
+        Some((" valid", _)) => is_body_right(alloc, digits, None),
+        Some((" refused", _)) => is_body_right(alloc, digits, Some(Invalid::Function(1))),
+        _ => Ok(false),
+    }
 }
 
 /// How many bodies are judged as their lines say before the first that isn't.
 fn judged_bodies(alloc: Global, cases: &str) -> Result<u32, NoMemory> {
     let mut passed = 0u32;
     for line in cases.lines() {
-        if !is_judged(alloc, line)? {
+        if !is_line_right(alloc, line)? {
             break;
         }
         passed = passed.wrapping_add(1);
@@ -545,7 +508,7 @@ fn blocks_of_several_types_are_judged_as_elsewhere(rt: HostRuntime) -> Result<()
 }
 
 /// Whether the module of a case is judged as it says.
-fn is_judged_so(alloc: Global, case: &Case) -> Result<bool, NoMemory> {
+fn is_case_right(alloc: Global, case: &Case) -> Result<bool, NoMemory> {
     let (changes, wanted) = case;
     let parts = changed(changes);
     Ok(verdict(alloc, &parts, parts.bodies)?.reason == *wanted)
@@ -555,7 +518,7 @@ fn is_judged_so(alloc: Global, case: &Case) -> Result<bool, NoMemory> {
 fn judged_cases(alloc: Global, cases: &[Case]) -> Result<u32, NoMemory> {
     let mut passed = 0u32;
     for case in cases {
-        if !is_judged_so(alloc, case)? {
+        if !is_case_right(alloc, case)? {
             break;
         }
         passed = passed.wrapping_add(1);
@@ -563,22 +526,22 @@ fn judged_cases(alloc: Global, cases: &[Case]) -> Result<u32, NoMemory> {
     Ok(passed)
 }
 
-/// Cases of types, and of imports and exports.
+/// Types and functions.
 fn types() -> &'static [Case] {
     &TYPES
 }
 
-/// Cases of functions and their code.
+/// Code.
 fn code() -> &'static [Case] {
     &CODE
 }
 
-/// Cases of tables, memories and globals.
+/// Tables, memories and globals.
 fn stores() -> &'static [Case] {
     &STORES
 }
 
-/// Cases of segments.
+/// Segments, exports and the start function.
 fn segments() -> &'static [Case] {
     &SEGMENTS
 }

@@ -1,7 +1,7 @@
 //! Bodies that were judged elsewhere, each on a line: in the binary format, without its `end`, and whether the module round it
 //! is valid.
 
-/// Bodies.
+/// Bodies with blocks of at most one type.
 pub(super) const BODIES: &str = "\
 20 00 = valid, the parameter
 = refused, no operand for the result

@@ -1,8 +1,49 @@
 //! Modules that were judged elsewhere, by the parts that differ from those of a valid one.
-use super::validate::{CONSTANT, Case, Change, FUNCTION, RULE};
+use super::validate::{CONSTANT, Case, Change, FUNCTION, Parts, RULE};
 use bl_validate::Invalid;
 use bl_wasm::WasmType::{F32, F64, I32, I64};
 use bl_wasm::{ExportKind, GlobalType, ImportKind, Limits};
+
+/// A module with one function: it takes an i32, has a local of i64 and gives an i32. Function 0 and global 0, an immutable
+/// i32, are imported; global 1 is a mutable i64; there is a table and a memory.
+pub(super) static AROUND: Parts = Parts {
+    types: &[
+        (&[], &[]),
+        (&[I32], &[I32]),
+        (&[I32, I64], &[I64]),
+        (&[], &[I32]),
+        (&[I32, I64], &[I64, I32]),
+        (&[], &[I32, I64]),
+        (&[I32], &[]),
+    ],
+    imports: &[FUNCTION, CONSTANT],
+    functions: &[1],
+    tables: &[(1, None)],
+    memories: &[(1, None)],
+    globals: &[(I64, true, &[0x42, 0x00])],
+    exports: &[],
+    start: None,
+    elements: &[],
+    segments: &[],
+    locals: &[(1, I64)],
+    bodies: &[&[0x20, 0x00]],
+};
+
+/// A module with one function alone, of no parameters, results and locals.
+pub(super) static BARE: Parts = Parts {
+    types: &[(&[], &[])],
+    imports: &[],
+    functions: &[0],
+    tables: &[],
+    memories: &[],
+    globals: &[],
+    exports: &[],
+    start: None,
+    elements: &[],
+    segments: &[],
+    locals: &[],
+    bodies: &[&[]],
+};
 
 /// Types and functions.
 pub(super) static TYPES: [Case; 26] = [

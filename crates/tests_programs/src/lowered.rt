@@ -1,5 +1,5 @@
 //! One module as a program of its own, and its image.
-ghost use Rattle.std.specs.Prelude.{◌≤◌, length, Ok, IfOk, IfSome};
+ghost use Rattle.std.specs.Prelude.{◌≡◌, ◌≤◌, [], ◌∷◌, length, Ok, IfOk, IfSome};
 ghost use Rattle.bl_decode.specs.Decoding.{Answers};
 ghost use Rattle.bl_link.specs.Linkable.{IsPart};
 
@@ -28,16 +28,17 @@ fn valid(alloc: Global, bytes: &[u8]) -> Option<ValidModule>
 }
 
 /// The part "m" of the valid module that few bytes spell, without labels.
-fn bare(alloc: Global, bytes: &[u8], wasm: ValidModule) -> Result<Part, NoMemory>
+fn bare(alloc: Global, bytes: &[u8], name: Text, wasm: ValidModule) -> Part
     requires few { length bytes.now ≤ 1000 }
     requires read { Answers bytes.now (Ok wasm) }
-    ensures { IfOk result IsPart }
+    requires named { name ≡ 0x6D ∷ [] }
+    ensures { IsPart result }
 {
-    Ok(Part {
-        name: Text::copy_of(alloc, b"m")?,
+    Part {
+        name,
         wasm,
         labels: Labels::none(alloc),
-    })
+    }
 }
 
 /// The part "m" whose module the bytes spell, without labels; None where they spell no valid one, or are more than 1,000.
@@ -47,8 +48,9 @@ fn part(alloc: Global, bytes: &[u8]) -> Result<Option<Part>, NoMemory>
     if bytes.len() > 1_000 {
         return Ok(None);
     }
+    let name = Text::copy_of(alloc, b"m")?;
     match valid(alloc, bytes) {
-        Some(wasm) => Ok(Some(bare(alloc, bytes, wasm)?)),
+        Some(wasm) => Ok(Some(bare(alloc, bytes, name, wasm))),
         None => Ok(None),
     }
 }

@@ -3,19 +3,25 @@
 ghost use Rattle.std.specs.Prelude.{◌≡◌, IfOk, map};
 
 use crate::link::linked;
-use bl_base::{List, NoMemory, Run, Start, Trap, fits};
+use bl_base::{List, NoMemory, Patch, Run, Start, Trap, fits};
 use bl_machine::interp;
 use bl_wasm::{Linked, Memory};
 use std::alloc::Global;
 use std::test::Fail;
 
-fn start_of(alloc: Global, args: &[u64]) -> Result<Start, NoMemory> {
+/// The start with these arguments and patches.
+pub fn patched_start(alloc: Global, args: &[u64], patches: List<Patch>) -> Result<Start, NoMemory> {
     let mut cells = Vec::new(alloc);
     cells.extend_from_slice(args)?;
     Ok(Start {
         args: List::of(cells),
-        patches: List::new(alloc),
+        patches,
     })
+}
+
+/// The start with these arguments alone.
+pub fn start_of(alloc: Global, args: &[u64]) -> Result<Start, NoMemory> {
+    patched_start(alloc, args, List::new(alloc))
 }
 
 /// The first pages of memories.

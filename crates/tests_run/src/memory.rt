@@ -2,7 +2,7 @@
 ghost use Rattle.std.specs.Prelude.{◌≡◌, [], ◌∷◌, ◌<◌, ◌≤◌, ◌^◌, IfOk, IfSome};
 ghost use Rattle.tests_run.specs.MemoryTrees.{accessing_function, accessing_type, growing_function, growing_type, memory_tree, zeros};
 
-use crate::machine::run_linked;
+use crate::machine::{patched_start, run_linked, start_of};
 use bl_base::{Label, List, NoMemory, Pages, Patch, Run, Start, Text, Trap, ValueType};
 use bl_ops::AccessKind;
 use bl_wasm::{Code, Exports, Function, Instr, Linked, Memory, MemoryArgument, Signature, Tree};
@@ -204,15 +204,6 @@ fn patch(alloc: Global, offset: u32, bytes: &[u8]) -> Result<Patch, NoMemory> {
     })
 }
 
-fn start_of(alloc: Global, args: &[u64], patches: List<Patch>) -> Result<Start, NoMemory> {
-    let mut cells = Vec::new(alloc);
-    cells.extend_from_slice(args)?;
-    Ok(Start {
-        args: List::of(cells),
-        patches,
-    })
-}
-
 /// Whether one memory of so many pages is told, which has these bytes from a place on.
 fn are_told(memories: &[Pages], pages: u32, from: usize, bytes: &[u8]) -> bool {
     let Some(memory) = memories.first() else {
@@ -266,16 +257,11 @@ fn gives(
     wanted: u64,
     bytes: &[u8],
 ) -> Result<bool, NoMemory> {
-    let start = start_of(alloc, &args, List::new(alloc))?;
+    let start = start_of(alloc, &args)?;
     let from = args[0]
         .saturating_add(u64::from(setting.offset))
         .saturating_sub(1);
     ends_with(alloc, setting, &start, wanted, from as usize, bytes)
-}
-
-/// The start with these arguments alone.
-fn start_with(alloc: Global, args: &[u64]) -> Result<Start, NoMemory> {
-    start_of(alloc, args, List::new(alloc))
 }
 
 /// The outcome of a function of a setting's tree with these arguments, within ten steps; None where they don't fit.
@@ -285,7 +271,7 @@ fn run_with(
     number: u32,
     args: &[u64],
 ) -> Result<Option<Run>, NoMemory> {
-    let start = start_with(alloc, args)?;
+    let start = start_of(alloc, args)?;
     run(alloc, setting, number, &start)
 }
 
@@ -604,7 +590,7 @@ fn two_patches(alloc: Global) -> Result<List<Patch>, NoMemory> {
 /// Whether the later of two patches stands over the earlier one.
 fn is_patched(alloc: Global) -> Result<bool, NoMemory> {
     let setting = one_page(AccessKind::I32Store8, AccessKind::I32Load, 4);
-    let start = start_of(alloc, &[0, 7], two_patches(alloc)?)?;
+    let start = patched_start(alloc, &[0, 7], two_patches(alloc)?)?;
     ends_with(alloc, &setting, &start, 151_585_287, 3, &[0, 7, 2, 9, 9, 0])
 }
 

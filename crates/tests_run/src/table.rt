@@ -5,8 +5,8 @@ ghost use Rattle.tests_run.specs.TableTrees.{calling, giving, giving_nine, over_
 ghost use Rattle.bl_base.specs.declared.names.Label.TheVariants.{Public};
 ghost use Rattle.bl_base.specs.declared.names.ValueType.TheVariants.{I32};
 
-use crate::machine::run_linked;
-use bl_base::{Label, List, NoMemory, Run, Start, Trap, ValueType};
+use crate::machine::{run_linked, start_of};
+use bl_base::{Label, List, NoMemory, Run, Trap, ValueType};
 use bl_wasm::{Code, Exports, Function, Instr, Linked, Signature, Tree};
 use std::alloc::Global;
 use std::test::Fail;
@@ -157,18 +157,9 @@ fn linked(alloc: Global) -> Result<Linked, NoMemory> {
     Ok(Linked::of(tree))
 }
 
-/// The arguments of a call through the slot of that number: the slot and 10.
-fn start_at(alloc: Global, slot: u64) -> Result<Start, NoMemory> {
-    let args = vec![in alloc; slot, 10]?;
-    Ok(Start {
-        args: List::of(args),
-        patches: List::new(alloc),
-    })
-}
-
 /// The outcome of function 0 at the slot of that number with the argument 10, within ten steps.
 fn through(alloc: Global, slot: u64) -> Result<Option<Run>, NoMemory> {
-    let start = start_at(alloc, slot)?;
+    let start = start_of(alloc, &[slot, 10])?;
     run_linked(alloc, &linked(alloc)?, 0, &start, 10)
 }
 
