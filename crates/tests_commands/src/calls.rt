@@ -13,17 +13,16 @@ fn words_of(alloc: Global, line: &str) -> Result<Vec<String>, NoMemory> {
     Ok(words)
 }
 
-/// Calls `blade` with the words of a line, and answers its status and what it printed.
+/// Calls `blade` with the words of a line, and answers its status; it prints to that sink, which gets room before.
 pub(crate) fn say(
     alloc: Global,
     shelf: &mut MemoryShelf,
     line: &str,
-) -> Result<(u8, MemorySink), NoMemory> {
-    let words = words_of(alloc, line)?;
-    let mut out = MemorySink::new(alloc, None);
+    out: &mut MemorySink,
+) -> Result<u8, NoMemory> {
     out.reserve(20_000)?;
-    let status = blade(alloc, words.as_slice(), shelf, &mut out);
-    Ok((status, out))
+    let words = words_of(alloc, line)?;
+    Ok(blade(alloc, words.as_slice(), shelf, out))
 }
 
 /// Whether a call ends with that status and prints that text.
@@ -34,7 +33,8 @@ pub(crate) fn ends(
     status: u8,
     text: &str,
 ) -> Result<bool, NoMemory> {
-    let (answer, out) = say(alloc, shelf, line)?;
+    let mut out = MemorySink::new(alloc, None);
+    let answer = say(alloc, shelf, line, &mut out)?;
     Ok(answer == status && out.bytes() == text.as_bytes())
 }
 
@@ -44,8 +44,8 @@ pub(crate) fn status_of(
     shelf: &mut MemoryShelf,
     line: &str,
 ) -> Result<u8, NoMemory> {
-    let (status, _out) = say(alloc, shelf, line)?;
-    Ok(status)
+    let mut out = MemorySink::new(alloc, None);
+    say(alloc, shelf, line, &mut out)
 }
 
 /// Whether a file stands on a shelf.

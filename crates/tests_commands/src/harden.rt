@@ -2,7 +2,7 @@
 //! them may be written, so each of their paths is taken.
 use crate::calls::{bytes_of, ends, failing, holds, is_joined, say, stands, status_of};
 use bl_base::{List, NoMemory};
-use bl_outside::MemoryShelf;
+use bl_outside::{MemoryShelf, MemorySink};
 use std::alloc::Global;
 use std::test::Fail;
 
@@ -143,7 +143,7 @@ fn put(
 }
 
 /// A shelf with the module `m.wasm` of some sections.
-fn shelf_of(alloc: Global, sections: &[u8]) -> Result<MemoryShelf, NoMemory> {
+fn shelf_with_module(alloc: Global, sections: &[u8]) -> Result<MemoryShelf, NoMemory> {
     let mut shelf = MemoryShelf::new(alloc, List::new(alloc));
     put(alloc, &mut shelf, "m.wasm", sections)?;
     Ok(shelf)
@@ -182,7 +182,8 @@ fn is_protected(
     head: &str,
     paths: &[Path],
 ) -> Result<bool, NoMemory> {
-    let (status, out) = say(alloc, shelf, line)?;
+    let mut out = MemorySink::new(alloc, None);
+    let status = say(alloc, shelf, line, &mut out)?;
     Ok(status == 0 && has_path(out.bytes(), bytes_of(shelf, "c"), head, paths))
 }
 
@@ -208,7 +209,7 @@ fn needs_no_protects(
 
 /// Whether that holds for the module without sections.
 fn is_empty(alloc: Global, report: &str) -> Result<bool, NoMemory> {
-    let mut shelf = shelf_of(alloc, &[])?;
+    let mut shelf = shelf_with_module(alloc, &[])?;
     needs_no_protects(alloc, &mut shelf, report, &EMPTY_IMAGE)
 }
 
@@ -234,7 +235,7 @@ fn runs_hardened(
 
 /// Whether that holds for the sum of words.
 fn sums(alloc: Global, report: &str, text: &str) -> Result<bool, NoMemory> {
-    let mut shelf = shelf_of(alloc, &SUM)?;
+    let mut shelf = shelf_with_module(alloc, &SUM)?;
     runs_hardened(alloc, &mut shelf, report, text)
 }
 
@@ -316,7 +317,7 @@ fn is_verified(alloc: Global, shelf: &mut MemoryShelf, case: &Case) -> Result<bo
 
 /// Whether that holds for the module of the case.
 fn is_hardened(alloc: Global, case: &Case) -> Result<bool, NoMemory> {
-    let mut shelf = shelf_of(alloc, case.0)?;
+    let mut shelf = shelf_with_module(alloc, case.0)?;
     is_verified(alloc, &mut shelf, case)
 }
 
@@ -360,7 +361,7 @@ fn gives_image(alloc: Global, shelf: &mut MemoryShelf, image: &[u8]) -> Result<b
 
 /// Whether a module has that image.
 fn has_image(alloc: Global, sections: &[u8], image: &[u8]) -> Result<bool, NoMemory> {
-    let mut shelf = shelf_of(alloc, sections)?;
+    let mut shelf = shelf_with_module(alloc, sections)?;
     gives_image(alloc, &mut shelf, image)
 }
 

@@ -17,17 +17,16 @@ fn words_of(alloc: Global, line: &str) -> Result<Vec<String>, NoMemory> {
     Ok(words)
 }
 
-/// Calls `blade` with the words of a line: the exit status and what is printed.
-pub(crate) fn call(
+/// Calls `blade` with the words of a line, and answers its status; it prints to that sink, which gets room before.
+pub(crate) fn say(
     alloc: Global,
     shelf: &mut MemoryShelf,
     line: &str,
-) -> Result<(u8, MemorySink), NoMemory> {
-    let words = words_of(alloc, line)?;
-    let mut out = MemorySink::new(alloc, None);
+    out: &mut MemorySink,
+) -> Result<u8, NoMemory> {
     out.reserve(1_000)?;
-    let status = blade(alloc, words.as_slice(), shelf, &mut out);
-    Ok((status, out))
+    let words = words_of(alloc, line)?;
+    Ok(blade(alloc, words.as_slice(), shelf, out))
 }
 
 /// The status of a call.
@@ -36,8 +35,8 @@ pub(crate) fn status_of(
     shelf: &mut MemoryShelf,
     line: &str,
 ) -> Result<u8, NoMemory> {
-    let (status, _out) = call(alloc, shelf, line)?;
-    Ok(status)
+    let mut out = MemorySink::new(alloc, None);
+    say(alloc, shelf, line, &mut out)
 }
 
 /// Whether a call ends with that status and prints that text.
@@ -48,13 +47,22 @@ pub(crate) fn ends(
     status: u8,
     text: &str,
 ) -> Result<bool, NoMemory> {
-    let (answer, out) = call(alloc, shelf, line)?;
+    let mut out = MemorySink::new(alloc, None);
+    let answer = say(alloc, shelf, line, &mut out)?;
     Ok(answer == status && out.bytes() == text.as_bytes())
 }
 
 /// Whether a file stands on a shelf.
 pub(crate) fn stands(shelf: &MemoryShelf, name: &str) -> bool {
     shelf.entry(name).is_some()
+}
+
+/// Whether a file stands on a shelf with those bytes.
+pub(crate) fn holds(shelf: &MemoryShelf, name: &str, bytes: &[u8]) -> bool {
+    match shelf.entry(name) {
+        Some(found) => found == bytes,
+        None => false,
+    }
 }
 
 /// Puts the module of some sections, with a custom section `blade.labels` of those bytes behind them; with none where there are no bytes.

@@ -1,5 +1,5 @@
 //! Labels and images of version 2. The images are written by hand from the rules of lowering.
-use crate::calls::{ends, put, shelf_of, stands};
+use crate::calls::{ends, holds, put, shelf_of, stands};
 use bl_base::{List, NoMemory};
 use bl_outside::MemoryShelf;
 use std::alloc::Global;
@@ -45,29 +45,37 @@ static CASES: [(&[u8], &str, &[u8]); 3] = [
 /// The certificate of no path.
 const CERTIFICATE: &str = "{\"paths\":[],\"weight\":0}";
 
-/// A shelf with that function as `id.wasm`, a start file and the certificate of no path.
+/// Puts that function as `id.wasm`, a start file and the certificate of no path on a shelf.
+fn put_identity(alloc: Global, shelf: &mut MemoryShelf, labels: &[u8]) -> Result<(), NoMemory> {
+    put(alloc, shelf, "id.wasm", IDENTITY, labels)?;
+    shelf.put("s", b"arg 5")?;
+    shelf.put("e", CERTIFICATE.as_bytes())
+}
+
+/// A shelf with those.
 fn identity(alloc: Global, labels: &[u8]) -> Result<MemoryShelf, NoMemory> {
     let mut shelf = MemoryShelf::new(alloc, List::new(alloc));
-    put(alloc, &mut shelf, "id.wasm", IDENTITY, labels)?;
-    shelf.put("s", b"arg 5")?;
-    shelf.put("e", CERTIFICATE.as_bytes())?;
+    put_identity(alloc, &mut shelf, labels)?;
     Ok(shelf)
 }
 
-/// Whether a file stands on a shelf with those bytes.
-fn holds(shelf: &MemoryShelf, name: &str, bytes: &[u8]) -> bool {
-    shelf.entry(name).unwrap_or(b"") == bytes
+/// Whether that function on the shelf has that report and that image, which runs.
+fn hardens_and_runs(
+    alloc: Global,
+    shelf: &mut MemoryShelf,
+    report: &str,
+    image: &[u8],
+) -> Result<bool, NoMemory> {
+    let reported = ends(alloc, shelf, "harden i c id.wasm", 0, report)?;
+    let kept = holds(shelf, "i", image) && holds(shelf, "c", CERTIFICATE.as_bytes());
+    let ran = ends(alloc, shelf, "run i id/f s", 0, "returned i32 5\n")?;
+    Ok(reported && kept && ran)
 }
 
-/// Whether that function with those labels has that report and that image, which runs.
+/// Whether that holds for those labels.
 fn is_hardened(alloc: Global, labels: &[u8], report: &str, image: &[u8]) -> Result<bool, NoMemory> {
     let mut shelf = identity(alloc, labels)?;
-    Ok(
-        ends(alloc, &mut shelf, "harden i c id.wasm", 0, report)?
-            && holds(&shelf, "i", image)
-            && holds(&shelf, "c", CERTIFICATE.as_bytes())
-            && ends(alloc, &mut shelf, "run i id/f s", 0, "returned i32 5\n")?,
-    )
+    hardens_and_runs(alloc, &mut shelf, report, image)
 }
 
 /// How many cases pass before the first that doesn't.

@@ -1,6 +1,7 @@
 //! Label sections that break a rule.
 use crate::calls::{ends, put, shelf_of, stands};
 use bl_base::NoMemory;
+use bl_outside::MemoryShelf;
 use std::alloc::Global;
 use std::test::Fail;
 
@@ -116,18 +117,24 @@ static PAIRS: [Pair; 4] = [
     ),
 ];
 
-/// Whether each command that reads modules refuses two of them so, and nothing is kept.
-fn are_refused(alloc: Global, case: &Pair) -> Result<bool, NoMemory> {
-    let (first, second, status, text) = *case;
-    let mut shelf = shelf_of(alloc, first.0, first.1)?;
-    put(alloc, &mut shelf, "n.wasm", second.0, second.1)?;
+/// Whether each command that reads modules refuses so the one on the shelf and the second one of a case, and nothing is kept.
+fn all_refuse(alloc: Global, shelf: &mut MemoryShelf, case: &Pair) -> Result<bool, NoMemory> {
+    let (_, second, status, text) = *case;
+    put(alloc, shelf, "n.wasm", second.0, second.1)?;
     shelf.put("s", b"")?;
     for line in &LINES {
-        if !ends(alloc, &mut shelf, *line, status, text)? {
+        if !ends(alloc, shelf, *line, status, text)? {
             return Ok(false);
         }
     }
-    Ok(!stands(&shelf, "i") && !stands(&shelf, "c"))
+    Ok(!stands(shelf, "i") && !stands(shelf, "c"))
+}
+
+/// Whether that holds for both modules of a case.
+fn are_refused(alloc: Global, case: &Pair) -> Result<bool, NoMemory> {
+    let (sections, labels) = case.0;
+    let mut shelf = shelf_of(alloc, sections, labels)?;
+    all_refuse(alloc, &mut shelf, case)
 }
 
 /// How many pairs pass before the first that doesn't.

@@ -1,10 +1,10 @@
 //! The counts in the reports are those of `examples/positions`, which follows the rules of lowering and knows nothing of the program;
 //! weights, paths and chains are read off its list of commands by hand. Where several chains or paths are right, each is taken that
 //! takes no position twice.
-use crate::calls::{call, ends, files_of, is_joined, status_of};
+use crate::calls::{ends, files_of, is_joined, say, status_of};
 use crate::modules::{COMPARE, LIST, LOOKUP, MASKED, MASKED_SSA, QUARTER};
 use bl_base::NoMemory;
-use bl_outside::MemoryShelf;
+use bl_outside::{MemoryShelf, MemorySink};
 use std::alloc::Global;
 use std::test::Fail;
 
@@ -70,7 +70,22 @@ static CASES: [Case; 6] = [
     ),
 ];
 
-/// Whether the report of a module is that head, one of those middles, and the end of the line.
+/// The line of a call on the module `m.wasm`, which keeps `i` and `c`.
+const HARDEN: &str = "harden i c m.wasm";
+
+/// Whether the report of the module among the files is that head, one of those middles, and the end of the line.
+fn reports(
+    alloc: Global,
+    files: &mut MemoryShelf,
+    head: &str,
+    middles: &[&str],
+) -> Result<bool, NoMemory> {
+    let mut out = MemorySink::new(alloc, None);
+    let status = say(alloc, files, HARDEN, &mut out)?;
+    Ok(status == 0 && is_one_of(out.bytes(), head, middles, "\n"))
+}
+
+/// Whether that holds for a module.
 fn is_reported(
     alloc: Global,
     module: &[u8],
@@ -78,8 +93,7 @@ fn is_reported(
     middles: &[&str],
 ) -> Result<bool, NoMemory> {
     let mut files = files_of(alloc, &[("m.wasm", module)])?;
-    let (status, out) = call(alloc, &mut files, "harden i c m.wasm")?;
-    Ok(status == 0 && is_one_of(out.bytes(), head, middles, "\n"))
+    reports(alloc, &mut files, head, middles)
 }
 
 /// How many reports pass before the first that doesn't.
@@ -100,11 +114,21 @@ fn reports_of_modules_that_clang_made(rt: HostRuntime) -> Result<(), Fail> {
     Ok(())
 }
 
-/// Whether the image of a module is made, and passes with its own certificate.
+/// Whether the image of the module among the files is made, and passes with its own certificate.
+fn hardens_and_passes(
+    alloc: Global,
+    files: &mut MemoryShelf,
+    text: &str,
+) -> Result<bool, NoMemory> {
+    let hardened = status_of(alloc, files, HARDEN)?;
+    let verified = ends(alloc, files, "verify i c", 0, text)?;
+    Ok(hardened == 0 && verified)
+}
+
+/// Whether that holds for a module.
 fn passes(alloc: Global, module: &[u8], text: &str) -> Result<bool, NoMemory> {
     let mut files = files_of(alloc, &[("m.wasm", module)])?;
-    let hardened = status_of(alloc, &mut files, "harden i c m.wasm")?;
-    Ok(hardened == 0 && ends(alloc, &mut files, "verify i c", 0, text)?)
+    hardens_and_passes(alloc, &mut files, text)
 }
 
 static PASSING: [&[u8]; 4] = [&MASKED_SSA, &COMPARE, &QUARTER, &LIST];
@@ -121,14 +145,23 @@ fn passing(alloc: Global, text: &str) -> Result<u32, NoMemory> {
     Ok(passed)
 }
 
-/// Whether that is said of an image of the list, which is made so, with the certificate of the lookup.
+/// Whether that is said of an image of the one module, which is made so, with the certificate of the other one.
+fn makes_and_fails(
+    alloc: Global,
+    files: &mut MemoryShelf,
+    made: &str,
+    text: &str,
+) -> Result<bool, NoMemory> {
+    let hardened = status_of(alloc, files, "harden j d n.wasm")?;
+    let image = status_of(alloc, files, made)?;
+    let verified = ends(alloc, files, "verify i d", 1, text)?;
+    Ok(hardened == 0 && image == 0 && verified)
+}
+
+/// Whether that holds for the list and the lookup.
 fn fails(alloc: Global, made: &str, text: &str) -> Result<bool, NoMemory> {
     let mut files = files_of(alloc, &[("m.wasm", &LIST), ("n.wasm", &LOOKUP)])?;
-    Ok(
-        status_of(alloc, &mut files, "harden j d n.wasm")? == 0
-            && status_of(alloc, &mut files, made)? == 0
-            && ends(alloc, &mut files, "verify i d", 1, text)?,
-    )
+    makes_and_fails(alloc, &mut files, made, text)
 }
 
 #[test]
@@ -139,19 +172,18 @@ fn hardened_images_pass_and_one_with_another_certificate_does_not(
     assert_eq!(rt; passing(rt.alloc(), text)?, 4);
     // The lookup's certificate has no paths, so nothing pays for the protect of the list.
     let text = "certificate no 5 0\nstable yes\nconstant-time yes\nsafe yes\n";
-    assert!(rt; fails(rt.alloc(), "harden i c m.wasm", text)?);
+    assert!(rt; fails(rt.alloc(), HARDEN, text)?);
     // Lowered without its protect, the list tests in 11 a copy of the pointer that may come from the load.
     let text = "certificate yes\nstable no 11\nconstant-time yes\nsafe no\n";
     assert!(rt; fails(rt.alloc(), "lower i m.wasm", text)?);
     Ok(())
 }
 
-/// A shelf with a module, its lowered image and its hardened one.
-fn prepared(alloc: Global, module: &[u8]) -> Result<MemoryShelf, NoMemory> {
-    let mut files = files_of(alloc, &[("m.wasm", module)])?;
-    let _lowered = status_of(alloc, &mut files, "lower k m.wasm")?;
-    let _hardened = status_of(alloc, &mut files, "harden i c m.wasm")?;
-    Ok(files)
+/// Makes the lowered image `k` and the hardened one `i` of the module among the files.
+fn prepare(alloc: Global, files: &mut MemoryShelf) -> Result<(), NoMemory> {
+    let _lowered = status_of(alloc, files, "lower k m.wasm")?;
+    let _hardened = status_of(alloc, files, HARDEN)?;
+    Ok(())
 }
 
 /// `interp` of a module, `run` of its lowered image and `run` of its hardened one, by its export.
@@ -181,7 +213,23 @@ static COMPARES: [&str; 3] = [
 
 static LISTS: [&str; 3] = ["interp m/list s m.wasm", "run k m/list s", "run i m/list s"];
 
-/// Whether each of those calls prints that text of a module from a start file.
+/// Whether each of those calls prints that text, where the images of the module among the files are made before.
+fn all_end(
+    alloc: Global,
+    files: &mut MemoryShelf,
+    calls: &[&str],
+    text: &str,
+) -> Result<bool, NoMemory> {
+    prepare(alloc, files)?;
+    for words in calls {
+        if !ends(alloc, files, *words, 0, text)? {
+            return Ok(false);
+        }
+    }
+    Ok(true)
+}
+
+/// Whether that holds for a module and a start file.
 fn all_print(
     alloc: Global,
     module: &[u8],
@@ -189,14 +237,8 @@ fn all_print(
     start: &str,
     text: &str,
 ) -> Result<bool, NoMemory> {
-    let mut files = prepared(alloc, module)?;
-    files.put("s", start.as_bytes())?;
-    for words in calls {
-        if !ends(alloc, &mut files, *words, 0, text)? {
-            return Ok(false);
-        }
-    }
-    Ok(true)
+    let mut files = files_of(alloc, &[("m.wasm", module), ("s", start.as_bytes())])?;
+    all_end(alloc, &mut files, calls, text)
 }
 
 /// The words before and after are those of section 2.1.1 of RFC 8439, the least byte first.
@@ -284,25 +326,51 @@ fn lines(alloc: Global, counted: &[(&str, u32)]) -> Result<String, NoMemory> {
     Ok(text)
 }
 
-/// A shelf with the hardened image of a module, a trace, and the starts of the indices 3 and 5.
-fn traced(alloc: Global, module: &[u8], trace: &[(&str, u32)]) -> Result<MemoryShelf, NoMemory> {
-    let mut files = prepared(alloc, module)?;
-    files.put("t", lines(alloc, trace)?.as_bytes())?;
-    files.put("s", b"arg 3")?;
-    files.put("r", b"arg 5")?;
-    Ok(files)
-}
-
-/// Whether `twin` says that of a trace.
-fn twins(
+/// Whether `twin` says that of a trace among the files, where the hardened image of their module is made before.
+fn hardens_and_twins(
     alloc: Global,
     files: &mut MemoryShelf,
     words: &str,
     status: u8,
+    text: &str,
+) -> Result<bool, NoMemory> {
+    let _hardened = status_of(alloc, files, HARDEN)?;
+    ends(alloc, files, words, status, text)
+}
+
+/// Whether that holds for a module, a trace, and the starts of the indices 3 and 5.
+fn is_answered<'a>(
+    alloc: Global,
+    module: &'a [u8],
+    trace: &'a str,
+    words: &str,
+    status: u8,
+    text: &str,
+) -> Result<bool, NoMemory> {
+    let mut files = files_of(
+        alloc,
+        &[
+            ("m.wasm", module),
+            ("t", trace.as_bytes()),
+            ("s", b"arg 3"),
+            ("r", b"arg 5"),
+        ],
+    )?;
+    hardens_and_twins(alloc, &mut files, words, status, text)
+}
+
+/// Whether that holds for lines, each so many times.
+fn twins(
+    alloc: Global,
+    module: &[u8],
+    trace: &[(&str, u32)],
+    words: &str,
+    status: u8,
     text: &[(&str, u32)],
 ) -> Result<bool, NoMemory> {
+    let trace = lines(alloc, trace)?;
     let text = lines(alloc, text)?;
-    ends(alloc, files, words, status, text.as_str())
+    is_answered(alloc, module, trace.as_str(), words, status, text.as_str())
 }
 
 /// The trace of the lookup, and what is said of it.
@@ -345,14 +413,12 @@ static MASKED_TEXT: [(&str, u32); 3] = [
 
 /// Whether the lookup tells the indices apart.
 fn are_told_apart(alloc: Global, words: &str) -> Result<bool, NoMemory> {
-    let mut files = traced(alloc, &LOOKUP, &LOOKUP_TRACE)?;
-    twins(alloc, &mut files, words, 1, &LOOKUP_TEXT)
+    twins(alloc, &LOOKUP, &LOOKUP_TRACE, words, 1, &LOOKUP_TEXT)
 }
 
 /// Whether the masked one doesn't.
 fn are_equal(alloc: Global, words: &str) -> Result<bool, NoMemory> {
-    let mut files = traced(alloc, &MASKED_SSA, &MASKED_TRACE)?;
-    twins(alloc, &mut files, words, 0, &MASKED_TEXT)
+    twins(alloc, &MASKED_SSA, &MASKED_TRACE, words, 0, &MASKED_TEXT)
 }
 
 /// The load is executed before the test of its bounds, which is entry 7 of the one and 28 of the other; the table stands at 1,024.

@@ -8,7 +8,8 @@ mod run;
 
 use bl_base::NoMemory;
 use calls::{
-    EMPTY, ends, ends_within, holds, module_of, shelf_failing, shelf_of, stands, status_of,
+    HARDEN, Told, ends, ends_within, holds, is_told, module_of, shelf_failing, shelf_of, stands,
+    status_of, told,
 };
 use std::alloc::Global;
 use std::test::Fail;
@@ -32,13 +33,13 @@ const CERTIFICATE: [u8; 23] = *b"{\"paths\":[],\"weight\":0}";
 const REPORT: &str = "functions 1\ncommands 13\nsites 4\nprotects 0 weight 0\nconstant-time yes\n";
 
 /// The line of a call on a shelf with the file `inc.wasm`.
-const HARDEN: &str = "blade harden inc.img inc.json inc.wasm";
+const HARDEN_INC: &str = "blade harden inc.img inc.json inc.wasm";
 
 /// Whether a module is hardened, with that image, the certificate of no path and that report.
 fn is_hardened(alloc: Global, wasm: &[u8], image: &[u8], report: &str) -> Result<bool, NoMemory> {
     let mut files = shelf_of(alloc, &[("inc.wasm", wasm)])?;
     Ok(
-        ends(alloc, &mut files, HARDEN, 0, report)?
+        ends(alloc, &mut files, HARDEN_INC, 0, report)?
             && holds(&files, "inc.img", image)
             && holds(&files, "inc.json", &CERTIFICATE),
     )
@@ -71,7 +72,15 @@ fn words_that_are_no_request_and_a_module_cut_off_keep_nothing(
 ) -> Result<(), Fail> {
     let usage = "usage: blade COMMAND ARGUMENTS\n";
     assert!(rt; is_refused(rt.alloc(), "blade harden a", &ADD_ONE, 2, usage)?);
-    assert!(rt; is_refused(rt.alloc(), HARDEN, &ADD_ONE[..39], 5, "malformed: inc\n")?);
+    assert!(rt;
+        is_refused(
+            rt.alloc(),
+            HARDEN_INC,
+            &ADD_ONE[..39],
+            5,
+            "malformed: inc\n"
+        )?
+    );
     Ok(())
 }
 
@@ -128,7 +137,7 @@ fn is_told_as_prefix(alloc: Global, wasm: &[u8]) -> Result<bool, NoMemory> {
     if wasm.len() == 8 || wasm.len() == 16 {
         return is_hardened(alloc, wasm, &EMPTY_IMAGE, EMPTY_REPORT);
     }
-    is_refused(alloc, HARDEN, wasm, 5, "malformed: inc\n")
+    is_refused(alloc, HARDEN_INC, wasm, 5, "malformed: inc\n")
 }
 
 /// How many prefixes pass before the first that doesn't.
@@ -169,154 +178,103 @@ fn many_functions(alloc: Global) -> Result<Vec<u8>, NoMemory> {
     Ok(bytes)
 }
 
-/// The module that adds 1, with the size of its code in five bytes.
-fn long_size(alloc: Global) -> Result<Vec<u8>, NoMemory> {
-    let mut bytes = ADD_ONE[..30].to_vec(alloc)?;
-    bytes.extend_from_slice(&[0x89, 0x80, 0x80, 0x80, 0x00])?;
-    bytes.extend_from_slice(&ADD_ONE[31..])?;
-    Ok(bytes)
-}
+/// The sections of the module that adds 1, with the size of its code in five bytes.
+const LONG_SIZE: [u8; 36] = [
+    0x01, 0x06, 0x01, 0x60, 0x01, 0x7F, 0x01, 0x7F, 0x03, 0x02, 0x01, 0x00, 0x07, 0x07, 0x01, 0x03,
+    0x69, 0x6E, 0x63, 0x00, 0x00, 0x0A, 0x89, 0x80, 0x80, 0x80, 0x00, 0x01, 0x07, 0x00, 0x20, 0x00,
+    0x41, 0x01, 0x6A, 0x0B,
+];
 
-/// Whether a module is told so, and its image is kept where the status is 0.
-fn is_told(alloc: Global, wasm: &[u8], status: u8, text: &str) -> Result<bool, NoMemory> {
-    let mut files = shelf_of(alloc, &[("inc.wasm", wasm)])?;
-    let told = ends(alloc, &mut files, HARDEN, status, text)?;
-    Ok(told && stands(&files, "inc.img") == (status == 0))
-}
-
-/// Sections of a module, the status and the text.
-static REFUSED: [(&[u8], u8, &str); 4] = [
+/// That module, and what is refused.
+static SPELLED: [Told; 5] = [
+    (HARDEN, &LONG_SIZE, 0, REPORT),
     (
+        HARDEN,
         &[
             0x01, 0x04, 0x01, 0x60, 0x00, 0x00, 0x03, 0x02, 0x01, 0x00, 0x0A, 0x0E, 0x01, 0x0C,
             0x00, 0x44, 0x00, 0x00, 0x00, 0x00, 0x00, 0x00, 0xF0, 0x3F, 0x1A, 0x0B,
         ],
         7,
-        "unsupported: inc\n",
+        "unsupported: m\n",
     ),
     (
+        HARDEN,
         &[0x05, 0x04, 0x01, 0x00, 0x81, 0x02],
         8,
         "limit: memory 257\n",
     ),
     (
+        HARDEN,
         &[0x01, 0x06, 0xFF, 0xFF, 0xFF, 0xFF, 0x0F, 0x60],
         5,
-        "malformed: inc\n",
+        "malformed: m\n",
     ),
-    (b"\x00\x0D\x0Cblade.labels", 10, "labels: inc malformed\n"),
+    (
+        HARDEN,
+        b"\x00\x0D\x0Cblade.labels",
+        10,
+        "labels: m malformed\n",
+    ),
 ];
-
-/// Whether the module of some sections is told so.
-fn is_told_of(alloc: Global, sections: &[u8], status: u8, text: &str) -> Result<bool, NoMemory> {
-    let module = module_of(alloc, sections)?;
-    is_told(alloc, &module, status, text)
-}
-
-/// How many modules pass before the first that doesn't.
-fn refused(alloc: Global) -> Result<u32, NoMemory> {
-    let mut passed = 0u32;
-    for (sections, status, text) in &REFUSED {
-        if !is_told_of(alloc, *sections, *status, *text)? {
-            break;
-        }
-        passed = passed.wrapping_add(1);
-    }
-    Ok(passed)
-}
-
-/// Whether the module with the long size is hardened.
-fn is_long_told(alloc: Global) -> Result<bool, NoMemory> {
-    let module = long_size(alloc)?;
-    is_told(alloc, &module, 0, REPORT)
-}
 
 /// Whether a module of 10,001 functions is told so.
 fn are_too_many(alloc: Global, text: &str) -> Result<bool, NoMemory> {
     let module = many_functions(alloc)?;
-    is_told(alloc, &module, 8, text)
+    is_told(alloc, &module, HARDEN, 8, text)
 }
 
 /// Whether a file of 4,194,305 bytes is told so.
 fn is_too_long(alloc: Global, text: &str) -> Result<bool, NoMemory> {
-    is_told(alloc, &vec![in alloc; 0; 4_194_305]?, 8, text)
+    is_told(alloc, &vec![in alloc; 0; 4_194_305]?, HARDEN, 8, text)
 }
 
 #[test]
 fn modules_that_are_refused_and_one_by_a_long_spelling(rt: HostRuntime) -> Result<(), Fail> {
-    assert!(rt; is_long_told(rt.alloc())?);
-    assert_eq!(rt; refused(rt.alloc())?, 4);
+    assert_eq!(rt; told(rt.alloc(), &SPELLED)?, 5);
     assert!(rt; are_too_many(rt.alloc(), "limit: functions 10001\n")?);
     assert!(rt; is_too_long(rt.alloc(), "limit: module 4194305\n")?);
     Ok(())
 }
 
-/// The module of one function of type [] -> [i32], with its sections from the exports on.
-fn function_of(alloc: Global, sections: &[u8]) -> Result<Vec<u8>, NoMemory> {
-    let mut bytes = module_of(
-        alloc,
+/// Modules of one function of type [] -> [i32].
+static UNTYPED: [Told; 4] = [
+    (
+        HARDEN,
         &[
-            0x01, 0x05, 0x01, 0x60, 0x00, 0x01, 0x7F, 0x03, 0x02, 0x01, 0x00,
+            0x01, 0x05, 0x01, 0x60, 0x00, 0x01, 0x7F, 0x03, 0x02, 0x01, 0x00, 0x0A, 0x05, 0x01,
+            0x03, 0x00, 0x6A, 0x0B,
         ],
-    )?;
-    bytes.extend_from_slice(sections)?;
-    Ok(bytes)
-}
-
-/// The sections of a module from the exports on, the status and the text.
-static UNTYPED: [(&[u8], u8, &str); 4] = [
-    (
-        &[0x0A, 0x05, 0x01, 0x03, 0x00, 0x6A, 0x0B],
         6,
-        "invalid: inc function 0\n",
+        "invalid: m function 0\n",
     ),
     (
-        b"\x00\x0D\x0Cblade.labels\x0A\x05\x01\x03\x00\x6A\x0B",
+        HARDEN,
+        b"\x01\x05\x01\x60\x00\x01\x7F\x03\x02\x01\x00\x00\x0D\x0Cblade.labels\x0A\x05\x01\x03\x00\x6A\x0B",
         6,
-        "invalid: inc function 0\n",
+        "invalid: m function 0\n",
     ),
     (
-        b"\x00\x0D\x0Cblade.labels\x0A\x06\x01\x04\x00\x00\x6A\x0B",
+        HARDEN,
+        b"\x01\x05\x01\x60\x00\x01\x7F\x03\x02\x01\x00\x00\x0D\x0Cblade.labels\x0A\x06\x01\x04\x00\x00\x6A\x0B",
         10,
-        "labels: inc malformed\n",
+        "labels: m malformed\n",
     ),
     (
+        HARDEN,
         &[
-            0x07, 0x05, 0x01, 0x01, 0x66, 0x00, 0x01, 0x0A, 0x05, 0x01, 0x03, 0x00, 0x00, 0x0B,
+            0x01, 0x05, 0x01, 0x60, 0x00, 0x01, 0x7F, 0x03, 0x02, 0x01, 0x00, 0x07, 0x05, 0x01,
+            0x01, 0x66, 0x00, 0x01, 0x0A, 0x05, 0x01, 0x03, 0x00, 0x00, 0x0B,
         ],
         6,
-        "invalid: inc module\n",
+        "invalid: m module\n",
     ),
 ];
-
-/// Whether the module of that function, with its sections from the exports on, is told so.
-fn is_told_function(
-    alloc: Global,
-    sections: &[u8],
-    status: u8,
-    text: &str,
-) -> Result<bool, NoMemory> {
-    let module = function_of(alloc, sections)?;
-    is_told(alloc, &module, status, text)
-}
-
-/// How many of those pass before the first that doesn't.
-fn untyped(alloc: Global) -> Result<u32, NoMemory> {
-    let mut passed = 0u32;
-    for (sections, status, text) in &UNTYPED {
-        if !is_told_function(alloc, *sections, *status, *text)? {
-            break;
-        }
-        passed = passed.wrapping_add(1);
-    }
-    Ok(passed)
-}
 
 #[test]
 fn modules_without_a_typing_are_named_before_those_with_malformed_labels(
     rt: HostRuntime,
 ) -> Result<(), Fail> {
-    assert_eq!(rt; untyped(rt.alloc())?, 4);
+    assert_eq!(rt; told(rt.alloc(), &UNTYPED)?, 4);
     Ok(())
 }
 
@@ -335,7 +293,7 @@ fn leaves(alloc: Global, fault: &Fault) -> Result<bool, NoMemory> {
     let (failing, limit, status, text, certificate, image) = *fault;
     let mut files = shelf_failing(alloc, &[("inc.wasm", &ADD_ONE)], failing)?;
     Ok(
-        ends_within(alloc, &mut files, HARDEN, limit, status, text)?
+        ends_within(alloc, &mut files, HARDEN_INC, limit, status, text)?
             && stands(&files, "inc.json") == certificate
             && stands(&files, "inc.img") == image,
     )

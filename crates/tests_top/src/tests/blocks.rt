@@ -69,9 +69,9 @@ static RUNS: [Run; 8] = [
 ];
 
 /// How many runs pass before the first that doesn't.
-fn interpreted(alloc: Global) -> Result<u32, NoMemory> {
+fn interpreted(alloc: Global, runs: &[Run]) -> Result<u32, NoMemory> {
     let mut passed = 0u32;
-    for (sections, start, status, text) in &RUNS {
+    for (sections, start, status, text) in runs {
         if !interprets(alloc, *sections, *start, *status, *text)? {
             break;
         }
@@ -82,66 +82,40 @@ fn interpreted(alloc: Global) -> Result<u32, NoMemory> {
 
 #[test]
 fn extensions_by_sign_several_results_and_blocks_of_a_type(rt: HostRuntime) -> Result<(), Fail> {
-    assert_eq!(rt; interpreted(rt.alloc())?, 8);
+    assert_eq!(rt; interpreted(rt.alloc(), &RUNS)?, 8);
     Ok(())
 }
 
-/// The sections of a function of type 0, [] -> [], up to its code.
-const FRONT: [u8; 18] = [
-    0x01, 0x04, 0x01, 0x60, 0x00, 0x00, 0x03, 0x02, 0x01, 0x00, 0x07, 0x05, 0x01, 0x01, 0x66, 0x00,
-    0x00, 0x0A,
+/// The sections of a function of type 0, [] -> [], with one block of that block type, which is spelled in one byte or in two.
+macro_rules! of_block {
+    ($byte:literal) => {
+        [
+            0x01, 0x04, 0x01, 0x60, 0x00, 0x00, 0x03, 0x02, 0x01, 0x00, 0x07, 0x05, 0x01, 0x01,
+            0x66, 0x00, 0x00, 0x0A, 0x07, 0x01, 0x05, 0x00, 0x02, $byte, 0x0B, 0x0B,
+        ]
+    };
+    ($first:literal, $second:literal) => {
+        [
+            0x01, 0x04, 0x01, 0x60, 0x00, 0x00, 0x03, 0x02, 0x01, 0x00, 0x07, 0x05, 0x01, 0x01,
+            0x66, 0x00, 0x00, 0x0A, 0x08, 0x01, 0x06, 0x00, 0x02, $first, $second, 0x0B, 0x0B,
+        ]
+    };
+}
+
+static BLOCK_TYPES: [Run; 8] = [
+    (&of_block!(0x40), "", 0, "returned\n"),
+    (&of_block!(0x00), "", 0, "returned\n"),
+    (&of_block!(0x80, 0x00), "", 0, "returned\n"),
+    (&of_block!(0x01), "", 6, "invalid: m function 0\n"),
+    (&of_block!(0x81, 0x00), "", 6, "invalid: m function 0\n"),
+    (&of_block!(0xC0, 0x7F), "", 5, "malformed: m\n"),
+    (&of_block!(0xFF, 0x7F), "", 5, "malformed: m\n"),
+    (&of_block!(0x41), "", 5, "malformed: m\n"),
 ];
-
-/// The sections of a function of type 0, [] -> [], with one block of that block type, which is spelled in at most two bytes.
-fn with_block(alloc: Global, block_type: &[u8]) -> Result<Vec<u8>, NoMemory> {
-    let mut bytes = FRONT.to_vec(alloc)?;
-    let two = block_type.len() == 2;
-    let section = if two { 0x08 } else { 0x07 };
-    let body = if two { 0x06 } else { 0x05 };
-    bytes.extend_from_slice(&[section, 0x01, body, 0x00, 0x02])?;
-    bytes.extend_from_slice(block_type)?;
-    bytes.extend_from_slice(&[0x0B, 0x0B])?;
-    Ok(bytes)
-}
-
-/// A block type, the status and the text.
-static BLOCK_TYPES: [(&[u8], u8, &str); 8] = [
-    (&[0x40], 0, "returned\n"),
-    (&[0x00], 0, "returned\n"),
-    (&[0x80, 0x00], 0, "returned\n"),
-    (&[0x01], 6, "invalid: m function 0\n"),
-    (&[0x81, 0x00], 6, "invalid: m function 0\n"),
-    (&[0xC0, 0x7F], 5, "malformed: m\n"),
-    (&[0xFF, 0x7F], 5, "malformed: m\n"),
-    (&[0x41], 5, "malformed: m\n"),
-];
-
-/// Whether the function with a block of that type is interpreted so.
-fn interprets_block(
-    alloc: Global,
-    block_type: &[u8],
-    status: u8,
-    text: &str,
-) -> Result<bool, NoMemory> {
-    let sections = with_block(alloc, block_type)?;
-    interprets(alloc, &sections, "", status, text)
-}
-
-/// How many block types pass before the first that doesn't.
-fn block_types(alloc: Global) -> Result<u32, NoMemory> {
-    let mut passed = 0u32;
-    for (block_type, status, text) in &BLOCK_TYPES {
-        if !interprets_block(alloc, *block_type, *status, *text)? {
-            break;
-        }
-        passed = passed.wrapping_add(1);
-    }
-    Ok(passed)
-}
 
 #[test]
 fn a_block_type_is_one_of_values_or_names_a_type(rt: HostRuntime) -> Result<(), Fail> {
-    assert_eq!(rt; block_types(rt.alloc())?, 8);
+    assert_eq!(rt; interpreted(rt.alloc(), &BLOCK_TYPES)?, 8);
     Ok(())
 }
 

@@ -67,7 +67,10 @@ pub(super) fn stands(shelf: &MemoryShelf, name: &str) -> bool {
 
 /// Whether a file stands on a shelf with those bytes.
 pub(super) fn holds(shelf: &MemoryShelf, name: &str, bytes: &[u8]) -> bool {
-    shelf.entry(name).unwrap_or(b"") == bytes
+    match shelf.entry(name) {
+        Some(found) => found == bytes,
+        None => false,
+    }
 }
 
 /// The numbers of the calls of a shelf that fail: that one, if any.
@@ -110,6 +113,27 @@ pub(super) fn ends_on(
     ends(alloc, &mut shelf, line, status, text)
 }
 
+/// A line, the start file, the call of the shelf that fails, the status and the text.
+pub(super) type Case = (&'static str, &'static [u8], Option<u64>, u8, &'static str);
+
+/// How many cases of a file of that name beside the start file pass before the first that doesn't.
+pub(super) fn passed(
+    alloc: Global,
+    name: &str,
+    bytes: &[u8],
+    cases: &[Case],
+) -> Result<u32, NoMemory> {
+    let mut count = 0u32;
+    for (line, start, failing, status, text) in cases {
+        let files = [(name, bytes), ("start", *start)];
+        if !ends_on(alloc, &files, *failing, *line, *status, *text)? {
+            break;
+        }
+        count = count.wrapping_add(1);
+    }
+    Ok(count)
+}
+
 /// Magic number and version, which are a module without functions.
 pub(super) const EMPTY: [u8; 8] = [0x00, 0x61, 0x73, 0x6D, 0x01, 0x00, 0x00, 0x00];
 
@@ -120,15 +144,58 @@ pub(super) fn module_of(alloc: Global, sections: &[u8]) -> Result<Vec<u8>, NoMem
     Ok(bytes)
 }
 
-/// The lines of calls of the function `f` of a module `m.wasm` with a start file, by its image and by itself.
+/// The lines of calls on a module `m.wasm`.
+pub(super) const HARDEN: &str = "blade harden i.img i.json m.wasm";
+
 pub(super) const LOWER: &str = "blade lower i.img m.wasm";
 
+/// The lines of calls of its function `f` with a start file, by its image and by itself.
 pub(super) const RUN: &str = "blade run i.img m/f start";
 
 pub(super) const INTERP: &str = "blade interp m/f start m.wasm";
 
+/// Whether a call on a module ends so, and an image is kept where the status is 0.
+pub(super) fn is_told(
+    alloc: Global,
+    module: &[u8],
+    line: &str,
+    status: u8,
+    text: &str,
+) -> Result<bool, NoMemory> {
+    let mut shelf = shelf_of(alloc, &[("m.wasm", module)])?;
+    let ended = ends(alloc, &mut shelf, line, status, text)?;
+    Ok(ended && stands(&shelf, "i.img") == (status == 0))
+}
+
+/// Whether that holds for the module of some sections.
+fn is_told_of(
+    alloc: Global,
+    sections: &[u8],
+    line: &str,
+    status: u8,
+    text: &str,
+) -> Result<bool, NoMemory> {
+    let module = module_of(alloc, sections)?;
+    is_told(alloc, &module, line, status, text)
+}
+
+/// A line, sections of the module, the status and the text.
+pub(super) type Told = (&'static str, &'static [u8], u8, &'static str);
+
+/// How many calls end so before the first that doesn't.
+pub(super) fn told(alloc: Global, cases: &[Told]) -> Result<u32, NoMemory> {
+    let mut passed = 0u32;
+    for (line, sections, status, text) in cases {
+        if !is_told_of(alloc, *sections, *line, *status, *text)? {
+            break;
+        }
+        passed = passed.wrapping_add(1);
+    }
+    Ok(passed)
+}
+
 /// The module of some sections is put onto a shelf under that name.
-pub(super) fn put_module(
+fn put_module(
     alloc: Global,
     shelf: &mut MemoryShelf,
     name: &str,
@@ -138,14 +205,16 @@ pub(super) fn put_module(
     shelf.put(name, &module)
 }
 
-/// A shelf with the module of some sections and a start file.
+/// A shelf with modules, each of some sections, and a start file.
 pub(super) fn shelf_with(
     alloc: Global,
-    sections: &[u8],
+    modules: &[(&str, &[u8])],
     start: &str,
 ) -> Result<MemoryShelf, NoMemory> {
     let mut shelf = MemoryShelf::new(alloc, List::new(alloc));
-    put_module(alloc, &mut shelf, "m.wasm", sections)?;
+    for (name, sections) in modules {
+        put_module(alloc, &mut shelf, *name, *sections)?;
+    }
     shelf.put("start", start.as_bytes())?;
     Ok(shelf)
 }
@@ -158,8 +227,21 @@ pub(super) fn interprets(
     status: u8,
     text: &str,
 ) -> Result<bool, NoMemory> {
-    let mut shelf = shelf_with(alloc, sections, start)?;
+    let mut shelf = shelf_with(alloc, &[("m.wasm", sections)], start)?;
     ends(alloc, &mut shelf, INTERP, status, text)
+}
+
+/// Whether two calls end with that status, each with its own text.
+pub(super) fn both_end(
+    alloc: Global,
+    shelf: &mut MemoryShelf,
+    lines: (&str, &str),
+    status: u8,
+    texts: (&str, &str),
+) -> Result<bool, NoMemory> {
+    let first = ends(alloc, shelf, lines.0, status, texts.0)?;
+    let second = ends(alloc, shelf, lines.1, status, texts.1)?;
+    Ok(first && second)
 }
 
 /// Whether a call ends well, and two others end so.
@@ -171,21 +253,20 @@ pub(super) fn end_alike(
     text: &str,
 ) -> Result<bool, NoMemory> {
     let [first, second, third] = lines;
-    let lowered = status_of(alloc, shelf, first)?;
-    let ran = ends(alloc, shelf, second, status, text)?;
-    let interpreted = ends(alloc, shelf, third, status, text)?;
-    Ok(lowered == 0 && ran && interpreted)
+    let answer = status_of(alloc, shelf, first)?;
+    let both = both_end(alloc, shelf, (second, third), status, (text, text))?;
+    Ok(answer == 0 && both)
 }
 
 /// Whether the module of some sections is lowered, and its image and the module itself end so.
-pub(super) fn runs_alike(
+fn runs_alike(
     alloc: Global,
     sections: &[u8],
     start: &str,
     status: u8,
     text: &str,
 ) -> Result<bool, NoMemory> {
-    let mut shelf = shelf_with(alloc, sections, start)?;
+    let mut shelf = shelf_with(alloc, &[("m.wasm", sections)], start)?;
     end_alike(alloc, &mut shelf, [LOWER, RUN, INTERP], status, text)
 }
 

@@ -21,42 +21,12 @@ fn longest_start(alloc: Global) -> Result<Vec<u8>, NoMemory> {
     Ok(bytes)
 }
 
-/// Whether a module and a start file have those lengths, and it runs so.
-fn runs_at(
-    alloc: Global,
-    module: &[u8],
-    start: &[u8],
-    line: &str,
-    text: &str,
-) -> Result<bool, NoMemory> {
-    if module.len() != 4_194_304 || start.len() != 16_777_216 {
-        return Ok(false);
-    }
-    ends_on(
-        alloc,
-        &[("m.wasm", module), ("start", start)],
-        None,
-        line,
-        0,
-        text,
-    )
-}
-
-/// Whether a module runs so from the longest start.
-fn runs_from_longest(
-    alloc: Global,
-    module: &[u8],
-    line: &str,
-    text: &str,
-) -> Result<bool, NoMemory> {
-    let start = longest_start(alloc)?;
-    runs_at(alloc, module, &start, line, text)
-}
-
 /// Whether the longest module runs so from the longest start.
 fn runs(alloc: Global, line: &str, text: &str) -> Result<bool, NoMemory> {
     let module = longest_module(alloc)?;
-    runs_from_longest(alloc, &module, line, text)
+    let start = longest_start(alloc)?;
+    let files: [(&str, &[u8]); 2] = [("m.wasm", &module), ("start", &start)];
+    ends_on(alloc, &files, None, line, 0, text)
 }
 
 #[test]

@@ -1,4 +1,4 @@
-use super::calls::{ends_on, interprets};
+use super::calls::{Case, ends_on, interprets, passed};
 use super::{ADD_ONE, LOADS};
 use bl_base::NoMemory;
 use std::alloc::Global;
@@ -51,9 +51,6 @@ fn a_million_steps_are_made_where_none_are_asked_for(rt: HostRuntime) -> Result<
     Ok(())
 }
 
-/// A line, the start file, the call of the shelf that fails, the status and the text.
-pub(super) type Case = (&'static str, &'static [u8], Option<u64>, u8, &'static str);
-
 static STEPS: [Case; 7] = [
     (
         "blade interp m/inc start m.wasm",
@@ -105,24 +102,6 @@ static STEPS: [Case; 7] = [
         "read fault: --steps=7\n",
     ),
 ];
-
-/// How many cases of a file of that name beside the start file pass before the first that doesn't.
-pub(super) fn passed(
-    alloc: Global,
-    name: &str,
-    bytes: &[u8],
-    cases: &[Case],
-) -> Result<u32, NoMemory> {
-    let mut passed = 0u32;
-    for (line, start, failing, status, text) in cases {
-        let files = [(name, bytes), ("start", *start)];
-        if !ends_on(alloc, &files, *failing, *line, *status, *text)? {
-            break;
-        }
-        passed = passed.wrapping_add(1);
-    }
-    Ok(passed)
-}
 
 #[test]
 fn steps_are_counted_and_given_once(rt: HostRuntime) -> Result<(), Fail> {

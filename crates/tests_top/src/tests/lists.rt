@@ -1,7 +1,9 @@
 //! Lists of modules that import from one another, and modules with memories and tables. What node gives of them is printed by lists.js.
 use super::ADD_ONE;
-use super::calls::{Run, alike, end_alike, ends, ends_on, put_module, say, shelf_with, stands};
-use bl_base::{List, NoMemory};
+use super::calls::{
+    Case, LOWER, RUN, Run, alike, both_end, end_alike, ends, passed, say, shelf_with, stands,
+};
+use bl_base::NoMemory;
 use bl_outside::{MemoryShelf, MemorySink};
 use std::alloc::Global;
 use std::test::Fail;
@@ -38,20 +40,6 @@ const LAST: [u8; 106] = [
     0x00, 0x41, 0x90, 0x80, 0x04, 0x28, 0x02, 0x00, 0x6A, 0x0B,
 ];
 
-/// A shelf with these modules and a start file.
-fn shelf_of(
-    alloc: Global,
-    modules: &[(&str, &[u8])],
-    start: &str,
-) -> Result<MemoryShelf, NoMemory> {
-    let mut shelf = MemoryShelf::new(alloc, List::new(alloc));
-    for (name, sections) in modules {
-        put_module(alloc, &mut shelf, *name, *sections)?;
-    }
-    shelf.put("start", start.as_bytes())?;
-    Ok(shelf)
-}
-
 /// The calls on three modules.
 const CHAINED: [&str; 3] = [
     "blade lower i.img a.wasm b.wasm d/c",
@@ -62,7 +50,7 @@ const CHAINED: [&str; 3] = [
 /// Whether the three modules run to that text, lowered and interpreted.
 fn is_chained(alloc: Global, start: &str, text: &str) -> Result<bool, NoMemory> {
     let modules: [(&str, &[u8]); 3] = [("a.wasm", &BASE), ("b.wasm", &MIDDLE), ("d/c", &LAST)];
-    let mut shelf = shelf_of(alloc, &modules, start)?;
+    let mut shelf = shelf_with(alloc, &modules, start)?;
     end_alike(alloc, &mut shelf, CHAINED, 0, text)
 }
 
@@ -167,22 +155,11 @@ fn modules_with_memories_and_tables_run_alike_interpreted_and_lowered(
     Ok(())
 }
 
-/// Whether the module on the shelf is lowered with that line, and its image runs to that text.
-fn lowers_and_sums(
-    alloc: Global,
-    shelf: &mut MemoryShelf,
-    line: &str,
-    text: &str,
-) -> Result<bool, NoMemory> {
-    let lowered = ends(alloc, shelf, "blade lower i.img m.wasm", 0, line)?;
-    let ran = ends(alloc, shelf, "blade run i.img m/sum start", 0, text)?;
-    Ok(lowered && ran)
-}
-
-/// Whether that holds for the module of a C compiler.
+/// Whether the module of a C compiler is lowered with that line, and its image runs to that text.
 fn sums(alloc: Global, start: &str, line: &str, text: &str) -> Result<bool, NoMemory> {
-    let mut shelf = shelf_with(alloc, &SUM, start)?;
-    lowers_and_sums(alloc, &mut shelf, line, text)
+    let mut shelf = shelf_with(alloc, &[("m.wasm", &SUM)], start)?;
+    let lines = (LOWER, "blade run i.img m/sum start");
+    both_end(alloc, &mut shelf, lines, 0, (line, text))
 }
 
 #[test]
@@ -205,7 +182,7 @@ const PAGE: [u8; 6] = [0x05, 0x04, 0x01, 0x01, 0x01, 0x01];
 /// Whether those two modules, with memories of their own, end so.
 fn ends_apart(alloc: Global, start: &str, status: u8, text: &str) -> Result<bool, NoMemory> {
     let modules: [(&str, &[u8]); 2] = [("main.wasm", &BYTES), ("vault.wasm", &PAGE)];
-    let mut shelf = shelf_of(alloc, &modules, start)?;
+    let mut shelf = shelf_with(alloc, &modules, start)?;
     let line = "blade interp main/f start main.wasm vault.wasm";
     ends(alloc, &mut shelf, line, status, text)
 }
@@ -257,23 +234,24 @@ static UNLINKED: [(&[u8], &str); 5] = [
     (&HOST, "link: m import 0 unknown\n"),
 ];
 
-/// Whether the last of the modules on the shelf is named so, interpreted and lowered, and no image is kept.
+/// The calls on two modules that make an image.
+const IMAGED: (&str, &str) = (
+    "blade lower i.img a.wasm m.wasm",
+    "blade harden i.img i.json a.wasm m.wasm",
+);
+
+/// Whether the last of the two modules on the shelf is named so by those calls and interpreted, and nothing is kept.
 fn names_module(alloc: Global, shelf: &mut MemoryShelf, text: &str) -> Result<bool, NoMemory> {
-    let interpreted = ends(
-        alloc,
-        shelf,
-        "blade interp a/d start a.wasm m.wasm",
-        9,
-        text,
-    )?;
-    let lowered = ends(alloc, shelf, "blade lower i.img a.wasm m.wasm", 9, text)?;
-    Ok(interpreted && lowered && !stands(shelf, "i.img"))
+    let interp = "blade interp a/d start a.wasm m.wasm";
+    let interpreted = ends(alloc, shelf, interp, 9, text)?;
+    let imaged = both_end(alloc, shelf, IMAGED, 9, (text, text))?;
+    Ok(interpreted && imaged && !stands(shelf, "i.img") && !stands(shelf, "i.json"))
 }
 
 /// Whether that holds for the module of some sections.
 fn is_unlinked(alloc: Global, sections: &[u8], text: &str) -> Result<bool, NoMemory> {
     let modules: [(&str, &[u8]); 2] = [("a.wasm", &BASE), ("m.wasm", sections)];
-    let mut shelf = shelf_of(alloc, &modules, "")?;
+    let mut shelf = shelf_with(alloc, &modules, "")?;
     names_module(alloc, &mut shelf, text)
 }
 
@@ -314,7 +292,7 @@ fn begins(
     Ok(status == 0 && out.bytes().starts_with(head))
 }
 
-/// Whether the module on the shelf is hardened with `inc`, which is put there, and then runs to that text.
+/// Whether the two modules on the shelf are hardened, and the image then runs to that text.
 fn hardens_and_runs(
     alloc: Global,
     shelf: &mut MemoryShelf,
@@ -322,78 +300,75 @@ fn hardens_and_runs(
     head: &[u8],
     text: &str,
 ) -> Result<bool, NoMemory> {
-    shelf.put("inc.wasm", &ADD_ONE)?;
     let hardened = begins(alloc, shelf, line, head)?;
-    let ran = ends(alloc, shelf, "blade run i.img m/f start", 0, text)?;
+    let ran = ends(alloc, shelf, RUN, 0, text)?;
     Ok(hardened && ran)
 }
 
-/// Whether that holds for the module that calls that of `inc`.
+/// Whether that holds for the module that calls that of `inc`, and that one.
 fn is_hardened(alloc: Global, line: &str, head: &[u8], text: &str) -> Result<bool, NoMemory> {
-    let mut shelf = shelf_with(alloc, &TWICE, "arg 40\n")?;
+    let modules: [(&str, &[u8]); 2] = [("inc.wasm", &ADD_ONE[8..]), ("m.wasm", &TWICE)];
+    let mut shelf = shelf_with(alloc, &modules, "arg 40\n")?;
     hardens_and_runs(alloc, &mut shelf, line, head, text)
-}
-
-/// Whether modules that can't be linked are refused so, and no image is kept.
-fn is_refused(alloc: Global, line: &str, text: &str) -> Result<bool, NoMemory> {
-    let modules: [(&str, &[u8]); 2] = [("a.wasm", &BASE), ("b.wasm", &HOST)];
-    let mut shelf = shelf_of(alloc, &modules, "")?;
-    let refused = ends(alloc, &mut shelf, line, 9, text)?;
-    Ok(refused && !stands(&shelf, "j.img"))
 }
 
 #[test]
 fn harden_takes_modules_that_can_be_linked(rt: HostRuntime) -> Result<(), Fail> {
     let line = "blade harden i.img i.json inc.wasm m.wasm";
     assert!(rt; is_hardened(rt.alloc(), line, b"functions 2\n", "returned i32 42\n")?);
-    let line = "blade harden j.img j.json a.wasm b.wasm";
-    assert!(rt; is_refused(rt.alloc(), line, "link: b import 0 unknown\n")?);
     Ok(())
 }
 
-/// A line, the status and the text.
-static COUNTED: [(&str, u8, &str); 6] = [
-    ("blade lower i a b c d e f g h i", 8, "limit: modules 9\n"),
+/// Lines of which no module stands on the shelf.
+static COUNTED: [Case; 6] = [
+    (
+        "blade lower i a b c d e f g h i",
+        b"",
+        None,
+        8,
+        "limit: modules 9\n",
+    ),
     (
         "blade interp a/f s a b c d e f g h i j",
+        b"",
+        None,
         8,
         "limit: modules 10\n",
     ),
     (
         "blade harden i c a b a.wasm",
+        b"",
+        None,
         2,
         "usage: blade COMMAND ARGUMENTS\n",
     ),
     (
         "blade lower i a b c d e f g h d/h",
+        b"",
+        None,
         2,
         "usage: blade COMMAND ARGUMENTS\n",
     ),
-    ("blade lower i a b c d e f g h", 3, "read fault: a\n"),
-    ("blade interp a/f start a b", 3, "read fault: a\n"),
+    (
+        "blade lower i a b c d e f g h",
+        b"",
+        None,
+        3,
+        "read fault: a\n",
+    ),
+    (
+        "blade interp a/f start a b",
+        b"",
+        None,
+        3,
+        "read fault: a\n",
+    ),
 ];
-
-/// Whether a line ends so, where none of its modules stands on the shelf.
-fn ends_without(alloc: Global, line: &str, status: u8, text: &str) -> Result<bool, NoMemory> {
-    ends_on(alloc, &[("start", b"")], None, line, status, text)
-}
-
-/// How many lines pass, where none of their modules stands on the shelf, before the first that doesn't.
-fn counted(alloc: Global) -> Result<u32, NoMemory> {
-    let mut passed = 0u32;
-    for (line, status, text) in &COUNTED {
-        if !ends_without(alloc, *line, *status, *text)? {
-            break;
-        }
-        passed = passed.wrapping_add(1);
-    }
-    Ok(passed)
-}
 
 #[test]
 fn nine_modules_are_too_many_and_two_of_one_name_are_no_request(
     rt: HostRuntime,
 ) -> Result<(), Fail> {
-    assert_eq!(rt; counted(rt.alloc())?, 6);
+    assert_eq!(rt; passed(rt.alloc(), "inc.wasm", &ADD_ONE, &COUNTED)?, 6);
     Ok(())
 }

@@ -1,8 +1,8 @@
 //! Modules that are lowered and hardened: what is printed of them and written, and that their images run as they do.
 use super::blocks::{I32_EXTEND8, LOOP_OF_A_TYPE, SWAP};
 use super::calls::{
-    EMPTY, INTERP, LOWER, RUN, Run, alike, ends, holds, module_of, say, shelf_of, shelf_with,
-    stands, status_of,
+    EMPTY, HARDEN, INTERP, LOWER, RUN, Run, Told, alike, both_end, ends, holds, is_told, module_of,
+    say, shelf_failing, shelf_of, shelf_with, status_of, told,
 };
 use super::interp::{COUNT_DOWN, DIVISION, REMAINDER, UNREACHABLE, UNTYPED};
 use super::{ADD_ONE, EMPTY_IMAGE, IMAGE};
@@ -60,11 +60,17 @@ const LOOP_IMAGE: [u8; 94] = [
     0x00, 0x01, 0x00, 0x04, 0x00, 0x06, 0x04, 0x14, 0x07, 0x00, 0x00, 0x00, 0x04, 0x08,
 ];
 
-/// Whether the module of some sections is lowered to that image, without a certificate.
-fn is_lowered(alloc: Global, sections: &[u8], image: &[u8]) -> Result<bool, NoMemory> {
-    let mut shelf = shelf_with(alloc, sections, "")?;
+/// Whether a module is lowered to that image, which is all that is kept: a third call of the shelf would fail.
+fn is_lowered(alloc: Global, module: &[u8], image: &[u8]) -> Result<bool, NoMemory> {
+    let mut shelf = shelf_failing(alloc, &[("m.wasm", module)], Some(3))?;
     let status = status_of(alloc, &mut shelf, LOWER)?;
-    Ok(status == 0 && holds(&shelf, "i.img", image) && !stands(&shelf, "i.json"))
+    Ok(status == 0 && holds(&shelf, "i.img", image))
+}
+
+/// Whether that holds for the module with a loop.
+fn is_loop_lowered(alloc: Global, image: &[u8]) -> Result<bool, NoMemory> {
+    let module = module_of(alloc, &LOOP_OF_A_TYPE)?;
+    is_lowered(alloc, &module, image)
 }
 
 /// Whether the module that adds 1 is lowered so, where another one stands beside it.
@@ -76,8 +82,8 @@ fn is_lowered_alone(alloc: Global, line: &str, text: &str, image: &[u8]) -> Resu
 
 #[test]
 fn images_of_a_loop_and_of_no_function(rt: HostRuntime) -> Result<(), Fail> {
-    assert!(rt; is_lowered(rt.alloc(), &LOOP_OF_A_TYPE, &LOOP_IMAGE)?);
-    assert!(rt; is_lowered(rt.alloc(), b"", &EMPTY_IMAGE)?);
+    assert!(rt; is_loop_lowered(rt.alloc(), &LOOP_IMAGE)?);
+    assert!(rt; is_lowered(rt.alloc(), &EMPTY, &EMPTY_IMAGE)?);
     let line = "blade lower -- inc.img inc.wasm";
     assert!(rt; is_lowered_alone(rt.alloc(), line, "commands 13\n", &IMAGE)?);
     Ok(())
@@ -107,22 +113,10 @@ static COUNTS: [(&[u8], &str, &str); 4] = [
     ),
 ];
 
-/// Whether `lower` and `harden` count so of the module on the shelf.
-fn counts(
-    alloc: Global,
-    shelf: &mut MemoryShelf,
-    line: &str,
-    report: &str,
-) -> Result<bool, NoMemory> {
-    let lowered = ends(alloc, shelf, LOWER, 0, line)?;
-    let hardened = ends(alloc, shelf, "blade harden i.img i.json m.wasm", 0, report)?;
-    Ok(lowered && hardened)
-}
-
-/// Whether they count so of the module of some sections.
+/// Whether `lower` and `harden` count so of the module of some sections.
 fn is_counted(alloc: Global, sections: &[u8], line: &str, report: &str) -> Result<bool, NoMemory> {
-    let mut shelf = shelf_with(alloc, sections, "")?;
-    counts(alloc, &mut shelf, line, report)
+    let mut shelf = shelf_with(alloc, &[("m.wasm", sections)], "")?;
+    both_end(alloc, &mut shelf, (LOWER, HARDEN), 0, (line, report))
 }
 
 /// How many modules pass before the first that doesn't.
@@ -158,27 +152,8 @@ fn nops(alloc: Global, count: usize, section: u8, body: u8) -> Result<Vec<u8>, N
     Ok(bytes)
 }
 
-/// Whether a call on a module ends so, and an image is kept where the status is 0.
-fn is_told(
-    alloc: Global,
-    module: &[u8],
-    line: &str,
-    status: u8,
-    text: &str,
-) -> Result<bool, NoMemory> {
-    let mut shelf = shelf_of(alloc, &[("m.wasm", module), ("start", b"")])?;
-    let told = ends(alloc, &mut shelf, line, status, text)?;
-    Ok(told && stands(&shelf, "i.img") == (status == 0))
-}
-
-/// The number of nops and what `nops` asks for besides, the status and the text.
-static MANY: [(usize, u8, u8, u8, &str); 2] = [
-    (1_048_567, 0xFD, 0xF9, 0, "commands 1048576\n"),
-    (1_048_568, 0xFE, 0xFA, 8, "limit: commands 1048577\n"),
-];
-
-/// Whether the module of so many nops is told so where it is lowered.
-fn are_told(
+/// Whether the module of so many nops, and of what `nops` asks for besides, is told so where it is lowered.
+fn are_nops_told(
     alloc: Global,
     count: usize,
     section: u8,
@@ -190,26 +165,16 @@ fn are_told(
     is_told(alloc, &module, LOWER, status, text)
 }
 
-/// How many of those pass before the first that doesn't.
-fn many(alloc: Global) -> Result<u32, NoMemory> {
-    let mut passed = 0u32;
-    for (count, section, body, status, text) in &MANY {
-        if !are_told(alloc, *count, *section, *body, *status, *text)? {
-            break;
-        }
-        passed = passed.wrapping_add(1);
-    }
-    Ok(passed)
-}
-
 #[test]
 fn a_program_has_at_most_1048576_commands(rt: HostRuntime) -> Result<(), Fail> {
-    assert_eq!(rt; many(rt.alloc())?, 2);
+    let most = "commands 1048576\n";
+    assert!(rt; are_nops_told(rt.alloc(), 1_048_567, 0xFD, 0xF9, 0, most)?);
+    let more = "limit: commands 1048577\n";
+    assert!(rt; are_nops_told(rt.alloc(), 1_048_568, 0xFE, 0xFA, 8, more)?);
     Ok(())
 }
 
-/// A line, sections of the module, the status and the text.
-static REFUSED: [(&str, &[u8], u8, &str); 5] = [
+static REFUSED: [Told; 5] = [
     (LOWER, &UNTYPED, 6, "invalid: m function 0\n"),
     (
         LOWER,
@@ -237,33 +202,9 @@ static REFUSED: [(&str, &[u8], u8, &str); 5] = [
     ),
 ];
 
-/// Whether a call on the module of some sections ends so, and an image is kept where the status is 0.
-fn is_told_of(
-    alloc: Global,
-    sections: &[u8],
-    line: &str,
-    status: u8,
-    text: &str,
-) -> Result<bool, NoMemory> {
-    let module = module_of(alloc, sections)?;
-    is_told(alloc, &module, line, status, text)
-}
-
-/// How many of those pass before the first that doesn't.
-fn refused(alloc: Global) -> Result<u32, NoMemory> {
-    let mut passed = 0u32;
-    for (line, sections, status, text) in &REFUSED {
-        if !is_told_of(alloc, *sections, *line, *status, *text)? {
-            break;
-        }
-        passed = passed.wrapping_add(1);
-    }
-    Ok(passed)
-}
-
 #[test]
 fn lowering_is_refused_as_running_is(rt: HostRuntime) -> Result<(), Fail> {
-    assert_eq!(rt; refused(rt.alloc())?, 5);
+    assert_eq!(rt; told(rt.alloc(), &REFUSED)?, 5);
     assert!(rt; is_told(rt.alloc(), &ADD_ONE[..39], LOWER, 5, "malformed: m\n")?);
     Ok(())
 }

@@ -1,6 +1,5 @@
 use super::IMAGE;
-use super::calls::ends_on;
-use super::interp::{Case, passed};
+use super::calls::{Case, ends_on, passed};
 use bl_base::NoMemory;
 use std::alloc::Global;
 use std::test::Fail;
