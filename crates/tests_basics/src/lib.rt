@@ -1,5 +1,5 @@
-//! Tests of what stands on few other crates, by the public calls: lists and starts, shelves and sinks, numbers in LEB128, operators, start
-//! files, flows and residual networks.
+//! Tests of what stands on few other crates, by the public calls: lists and starts, shelves and sinks, numbers in LEB128, start files,
+//! flows and residual networks.
 #![tactic(auto)]
 
 #[cfg(test)]
@@ -12,8 +12,6 @@ mod leb;
 mod memory;
 #[cfg(test)]
 mod networks;
-#[cfg(test)]
-mod ops;
 #[cfg(test)]
 mod residual;
 #[cfg(test)]
