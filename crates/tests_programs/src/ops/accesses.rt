@@ -86,7 +86,7 @@ fn giving() -> u32 {
 }
 
 #[test]
-fn accesses(rt: HostRuntime) -> Result<(), Fail> {
+fn accesses_give_node_s_numbers(rt: HostRuntime) -> Result<(), Fail> {
     assert_eq!(rt; giving(), 19);
     Ok(())
 }

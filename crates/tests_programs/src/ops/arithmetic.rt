@@ -268,7 +268,7 @@ fn trapping() -> u32 {
 }
 
 #[test]
-fn traps(rt: HostRuntime) -> Result<(), Fail> {
+fn operators_trap_where_node_s_do(rt: HostRuntime) -> Result<(), Fail> {
     assert_eq!(rt; trapping(), 10);
     let all = count_traps(&CASES_32, &PAIRS_32).wrapping_add(count_traps(&CASES_64, &PAIRS_64));
     assert_eq!(rt; all, 10);
