@@ -6,7 +6,7 @@ use std::alloc::Global;
 use std::test::Fail;
 
 /// A line, and the status and the text.
-static CASES: [(&str, u8, &str); 7] = [
+static CASES: [(&str, u8, &str); 9] = [
     (
         "blade gen 0 1",
         0,
@@ -16,6 +16,16 @@ static CASES: [(&str, u8, &str); 7] = [
         "blade gen 5 100",
         0,
         "module 7629\nfunctions 100\ncommands 5202\nsites 3896\nprotects 800 weight 800\nconstant-time yes\n",
+    ),
+    (
+        "blade gen 5 1000",
+        0,
+        "module 76905\nfunctions 1000\ncommands 52002\nsites 38996\nprotects 8000 weight 8000\nconstant-time yes\n",
+    ),
+    (
+        "blade gen 5 10000",
+        0,
+        "module 769905\nfunctions 10000\ncommands 520002\nsites 389996\nprotects 80000 weight 80000\nconstant-time yes\n",
     ),
     (
         "blade gen -- 00000000000000000000 00001",
@@ -52,6 +62,6 @@ fn made(alloc: Global) -> Result<u32, NoMemory> {
 
 #[test]
 fn a_made_module_is_hardened_without_files(rt: HostRuntime) -> Result<(), Fail> {
-    assert_eq!(rt; made(rt.alloc())?, 7);
+    assert_eq!(rt; made(rt.alloc())?, 9);
     Ok(())
 }

@@ -405,12 +405,17 @@ fn are_many_functions(alloc: Global) -> Result<bool, NoMemory> {
     are_told_of(alloc, &indices)
 }
 
-/// Puts 257 blocks round a br_table of 1,025 targets behind the items, with their ends and that of the body.
-fn put_deep_items(items: &mut Vec<u8>) -> Result<(), NoMemory> {
-    put_times(items, &[0x02, 0x40], 257)?;
+/// Puts a br_table of 1,025 targets behind the items, and so many ends.
+fn put_targets(items: &mut Vec<u8>, ends: u32) -> Result<(), NoMemory> {
     items.extend_from_slice(&[0x0E, 0x81, 0x08])?;
     put_times(items, &[0x00], 1_026)?;
-    put_times(items, &[0x0B], 258)
+    put_times(items, &[0x0B], ends)
+}
+
+/// Puts 257 blocks round such a br_table behind the items, with their ends and that of the body.
+fn put_deep_items(items: &mut Vec<u8>) -> Result<(), NoMemory> {
+    put_times(items, &[0x02, 0x40], 257)?;
+    put_targets(items, 258)
 }
 
 /// Whether the blocks are told.
@@ -422,9 +427,19 @@ fn is_deep(alloc: Global) -> Result<bool, NoMemory> {
     exceeds(alloc, &sections, Quantity::Nesting, 257)
 }
 
+/// Whether a br_table of 1,025 targets is told.
+fn are_many_targets(alloc: Global) -> Result<bool, NoMemory> {
+    let mut items = Vec::new(alloc);
+    put_targets(&mut items, 1)?;
+    let code = [0x0A, 0x8A, 0x08, 0x01, 0x87, 0x08, 0x00];
+    let sections: [&[u8]; 4] = [&TYPE, &FUNCTION, &code, &items];
+    exceeds(alloc, &sections, Quantity::Targets, 1_025)
+}
+
 #[test]
 fn limits_are_tested_in_their_order(rt: HostRuntime) -> Result<(), Fail> {
     assert!(rt; are_many_functions(rt.alloc())?);
     assert!(rt; is_deep(rt.alloc())?);
+    assert!(rt; are_many_targets(rt.alloc())?);
     Ok(())
 }

@@ -19,13 +19,13 @@ macro_rules! of_one {
 /// The extensions by sign.
 pub(super) const I32_EXTEND8: [u8; 28] = of_one!(0x7F, 0xC0);
 
-const I32_EXTEND16: [u8; 28] = of_one!(0x7F, 0xC1);
+pub(super) const I32_EXTEND16: [u8; 28] = of_one!(0x7F, 0xC1);
 
-const I64_EXTEND8: [u8; 28] = of_one!(0x7E, 0xC2);
+pub(super) const I64_EXTEND8: [u8; 28] = of_one!(0x7E, 0xC2);
 
-const I64_EXTEND16: [u8; 28] = of_one!(0x7E, 0xC3);
+pub(super) const I64_EXTEND16: [u8; 28] = of_one!(0x7E, 0xC3);
 
-const I64_EXTEND32: [u8; 28] = of_one!(0x7E, 0xC4);
+pub(super) const I64_EXTEND32: [u8; 28] = of_one!(0x7E, 0xC4);
 
 /// A function that returns its two parameters in the other order.
 pub(super) const SWAP: [u8; 31] = [

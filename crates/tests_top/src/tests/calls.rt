@@ -258,7 +258,19 @@ pub(super) fn end_alike(
     Ok(answer == 0 && both)
 }
 
-/// Whether the module of some sections is lowered, and its image and the module itself end so.
+/// Whether a module is lowered and hardened, and each image and the module itself end so.
+fn images_end_alike(
+    alloc: Global,
+    shelf: &mut MemoryShelf,
+    status: u8,
+    text: &str,
+) -> Result<bool, NoMemory> {
+    let lowered = end_alike(alloc, shelf, [LOWER, RUN, INTERP], status, text)?;
+    let hardened = end_alike(alloc, shelf, [HARDEN, RUN, INTERP], status, text)?;
+    Ok(lowered && hardened)
+}
+
+/// Whether that holds for the module of some sections.
 fn runs_alike(
     alloc: Global,
     sections: &[u8],
@@ -267,7 +279,7 @@ fn runs_alike(
     text: &str,
 ) -> Result<bool, NoMemory> {
     let mut shelf = shelf_with(alloc, &[("m.wasm", sections)], start)?;
-    end_alike(alloc, &mut shelf, [LOWER, RUN, INTERP], status, text)
+    images_end_alike(alloc, &mut shelf, status, text)
 }
 
 /// Sections of a module, a start file, the status and the text.

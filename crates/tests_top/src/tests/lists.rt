@@ -273,6 +273,31 @@ fn modules_that_are_not_linked_are_named_with_the_reason(rt: HostRuntime) -> Res
     Ok(())
 }
 
+/// A memory that may grow without a maximum, which counts as 256 pages of the 1,024 that all may have.
+const UNBOUNDED: [u8; 5] = [0x05, 0x03, 0x01, 0x00, 0x00];
+
+/// Whether a list of modules with such a memory each is lowered to that text.
+fn are_unbounded(alloc: Global, line: &str, status: u8, text: &str) -> Result<bool, NoMemory> {
+    let modules: [(&str, &[u8]); 5] = [
+        ("a", &UNBOUNDED),
+        ("b", &UNBOUNDED),
+        ("c", &UNBOUNDED),
+        ("d", &UNBOUNDED),
+        ("e", &UNBOUNDED),
+    ];
+    let mut shelf = shelf_with(alloc, &modules, "")?;
+    ends(alloc, &mut shelf, line, status, text)
+}
+
+#[test]
+fn all_memories_may_grow_to_1024_pages_together(rt: HostRuntime) -> Result<(), Fail> {
+    let four = "blade lower i.img a b c d";
+    assert!(rt; are_unbounded(rt.alloc(), four, 0, "commands 7\n")?);
+    let five = "blade lower i.img a b c d e";
+    assert!(rt; are_unbounded(rt.alloc(), five, 8, "limit: reserve 1280\n")?);
+    Ok(())
+}
+
 /// Calls the function of the module `inc` twice.
 const TWICE: [u8; 44] = [
     0x01, 0x06, 0x01, 0x60, 0x01, 0x7F, 0x01, 0x7F, 0x02, 0x0B, 0x01, 0x03, 0x69, 0x6E, 0x63, 0x03,

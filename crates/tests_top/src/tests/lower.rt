@@ -1,5 +1,7 @@
 //! Modules that are lowered and hardened: what is printed of them and written, and that their images run as they do.
-use super::blocks::{I32_EXTEND8, LOOP_OF_A_TYPE, SWAP};
+use super::blocks::{
+    I32_EXTEND8, I32_EXTEND16, I64_EXTEND8, I64_EXTEND16, I64_EXTEND32, LOOP_OF_A_TYPE, SWAP,
+};
 use super::calls::{
     EMPTY, HARDEN, INTERP, LOWER, RUN, Run, Told, alike, both_end, ends, holds, is_told, module_of,
     say, shelf_failing, shelf_of, shelf_with, status_of, told,
@@ -11,7 +13,7 @@ use bl_outside::{MemoryShelf, MemorySink};
 use std::alloc::Global;
 use std::test::Fail;
 
-static RUNS: [Run; 9] = [
+static RUNS: [Run; 13] = [
     (
         &DIVISION,
         "arg 2147483648\narg 4294967295\n",
@@ -39,13 +41,27 @@ static RUNS: [Run; 9] = [
     ),
     (&UNREACHABLE, "", 16, "trapped unreachable\n"),
     (&I32_EXTEND8, "arg 200\n", 0, "returned i32 4294967240\n"),
+    (&I32_EXTEND16, "arg 32768\n", 0, "returned i32 4294934528\n"),
+    (&I64_EXTEND8, "arg 383\n", 0, "returned i64 127\n"),
+    (
+        &I64_EXTEND16,
+        "arg 65535\n",
+        0,
+        "returned i64 18446744073709551615\n",
+    ),
+    (
+        &I64_EXTEND32,
+        "arg 2147483648\n",
+        0,
+        "returned i64 18446744071562067968\n",
+    ),
     (&SWAP, "arg 3\narg 4\n", 0, "returned i32 4 i32 3\n"),
     (&LOOP_OF_A_TYPE, "arg 3\n", 0, "returned i32 0\n"),
 ];
 
 #[test]
 fn images_run_as_their_modules_do(rt: HostRuntime) -> Result<(), Fail> {
-    assert_eq!(rt; alike(rt.alloc(), &RUNS)?, 9);
+    assert_eq!(rt; alike(rt.alloc(), &RUNS)?, 13);
     Ok(())
 }
 
