@@ -5,7 +5,7 @@ use Rattle.bl_base.specs.Runs.{MemoryState, StepsTo, EndsAfter, last, goes, ends
 use Rattle.bl_base.proofs.RunLemmas.{comes_then, comes_to_end}
 use Rattle.bl_base.specs.declared.trap.Trap.{Trap as TrapKind}
 use Rattle.bl_base.specs.declared.trap.Trap.TheVariants as trap_kind
-use Rattle.bl_ops.specs.Integer.{truth, iand, from_bits, sum_below}
+use Rattle.bl_ops.specs.Integer.{truth, iand, from_bits}
 use Rattle.bl_ops.specs.Numerics.{meaning, traps}
 use Rattle.bl_ops.specs.Table.{row_of, row_operands}
 use Rattle.bl_ops.specs.declared.op.Op.{Op}
@@ -63,7 +63,7 @@ both u v = iand 32 (truth u % 2 ^ 32) (truth v % 2 ^ 32)
 
 undefined_is : (t u v : Bool) → let found = if t then Some trap_kind.DivideByZero else (if u && v then Some trap_kind.Overflow else None) in
     (zero_test (truth t) ≡ true → zero_test (both u v) ≡ true → found ≡ None) × (zero_test (truth t) ≡ true → zero_test (both u v) ≡ false → found ≡ Some trap_kind.Overflow) × (zero_test (truth t) ≡ false → found ≡ Some trap_kind.DivideByZero)
-unfolding iand from_bits sum_below
+unfolding iand from_bits
 undefined_is true u v = (λ e f. absurd (false_true e), λ e f. absurd (false_true e), λ e. refl)
 undefined_is false true true = (λ e f. absurd (false_true f), λ e f. refl, λ e. absurd (true_false e))
 undefined_is false true false = (λ e f. refl, λ e f. absurd (true_false f), λ e. absurd (true_false e))
