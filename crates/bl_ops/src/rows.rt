@@ -1,5 +1,5 @@
 //! The table of the operators, and the calls that it makes.
-ghost use Rattle.std.specs.Prelude.{◌≡◌, IfSome, ℕ};
+ghost use Rattle.std.specs.Prelude.{◌≡◌, IfSome};
 ghost use Rattle.bl_ops.specs.Numerics.{meaning, outside, select, traps};
 ghost use Rattle.bl_ops.specs.Table.{operator_code, image_code_of, row_of, row_operands, rows};
 ghost use Rattle.bl_ops.specs.declared.op.Op.{Op};

@@ -1,11 +1,10 @@
 //! Whether a body has a typing (WebAssembly 1.0, section 3.3; block types with parameters and several results, version
 //! 2.0, section 3.2.2).
-ghost use Rattle.std.specs.Prelude.{◌≡◌, ◌≢◌, ◌↔◌, ℕ, ◌≤◌, ◌^◌, List, [], ◌∷◌, IsTrue, IfOk, Option, Some, length, slice_get, replicate, option_map};
+ghost use Rattle.std.specs.Prelude.{◌≡◌, ◌≢◌, ◌↔◌, ◌≤◌, ◌^◌, List, [], ◌∷◌, IsTrue, IfOk, Some, length, slice_get, replicate, option_map};
 ghost use Rattle.std.specs.List.{All};
 ghost use Rattle.bl_wasm.specs.Instructions.{IsPlain};
 ghost use Rattle.bl_wasm.specs.Typing.{Context, IsTyping, integer as wasm_integer, expanded as expanded_type};
 ghost use Rattle.bl_wasm.specs.declared.instruction.Instr.TheVariants as Instr;
-ghost use Rattle.bl_wasm.specs.declared.types.FuncType.{FuncType};
 ghost use Rattle.bl_wasm.specs.declared.types.WasmType.{WasmType};
 ghost use Rattle.bl_wasm.specs.declared.types.WasmType.TheVariants as WasmType;
 ghost use Rattle.bl_ops.specs.Access.{width_of};
