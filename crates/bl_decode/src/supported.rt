@@ -4,8 +4,8 @@ ghost use Rattle.bl_wasm.specs.Validity.{IsInteger};
 ghost use Rattle.bl_decode.specs.Supported.{IsIntegerCode, IsIntegerFunction, IsIntegerImport, IsIntegerInstr, IsSupported};
 
 use bl_wasm::{
-    Code, DataSegment, DefinedGlobal, ElementSegment, FuncType, Import, ImportKind, Instr, LocalRun,
-    Module, WasmType,
+    Code, DataSegment, DefinedGlobal, ElementSegment, FuncType, Import, ImportKind, Instr,
+    LocalRun, Module, WasmType,
 };
 
 /// Whether the types are all types of integers.

@@ -41,11 +41,7 @@ fn types_of(alloc: Global, store: &Store, wasm: &Module) -> Result<List<u32>, No
     requires { HasNumbers store.now wasm.now }
     ensures { IfOk result (λ all. all ≡ range_with_len (length store.now.tree.types) (length wasm.now.types)) }
 {
-    with_defined(
-        List::new(alloc),
-        store.tree.types.len(),
-        wasm.types.len(),
-    )
+    with_defined(List::new(alloc), store.tree.types.len(), wasm.types.len())
 }
 
 /// The space of functions.

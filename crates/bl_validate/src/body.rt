@@ -220,13 +220,7 @@ impl<'m> Body<'m> {
     }
 
     /// Whether branches to all of the labels take those types, as one to the default label does.
-    fn all_take(
-        &self,
-        stacks: &Stacks,
-        wanted: &[u32],
-        default: u32,
-        types: &[WasmType],
-    ) -> bool
+    fn all_take(&self, stacks: &Stacks, wanted: &[u32], default: u32, types: &[WasmType]) -> bool
         requires { slice_get (labels_in self.now.results.now stacks.now) default ≡ Some types.now }
         ensures { IsTrue result ↔ All (λ l. slice_get (labels_in self.now.results.now stacks.now) l ≡ Some types.now) wanted.now }
     {
