@@ -5,7 +5,7 @@ use Rattle.std.proofs.lemmas.List.Elements.{All-cons, All-drop, All-head, All-ni
 use Rattle.bl_base.proofs.Lists.{all_get}
 use Rattle.bl_base.specs.Trap.{kinds}
 use Rattle.bl_base.specs.declared.trap.Trap.{Trap as TrapKind}
-use Rattle.bl_ops.specs.Table.{operand_count, row_of}
+use Rattle.bl_ops.specs.Table.{row_operands, row_of}
 use Rattle.bl_ops.specs.declared.op.Op.{Op}
 use Rattle.bl_ops.specs.declared.op.Op.TheVariants.{I32DivS, I64DivS}
 use Rattle.bl_ops.proofs.AccessLemmas.{width_small}
@@ -180,8 +180,8 @@ module _ (shapes : ℕ → Shape) (number : ℕ) (room : (shapes number).reserve
     | GlobalSet x ↦ λ is h lt. ((wide_top p.stack h, zero_fits, zero_fits), tt)
     | MemorySize ↦ λ is h lt. ((tt, zero_fits, zero_fits), tt)
     | Integer o ↦ λ is h lt.
-        let a = wide_left (operand_count (row_of o)) p.stack h in
-        let b = wide_right (operand_count (row_of o)) p.stack h in
+        let a = wide_left (row_operands (row_of o)) p.stack h in
+        let b = wide_right (row_operands (row_of o)) p.stack h in
         fine_append (checks (mark_of open_ones) (check_of o) p.position p.next _ _) _ (fine_checks (mark_of open_ones) (check_of o) p.position p.next _ _ (check_fits o) a b) ((a, b, zero_fits), tt)
     | Select ↦ λ is h lt.
         let one = All-drop HasWidth 1 p.stack h in
@@ -230,7 +230,7 @@ module _ (shapes : ℕ → Shape) (number : ℕ) (room : (shapes number).reserve
     | GlobalSet x ↦ All-drop HasWidth 1 p.stack h
     | Drop ↦ All-drop HasWidth 1 p.stack h
     | BrIf l ↦ All-drop HasWidth 1 p.stack h
-    | Integer o ↦ one_more _ (drop (operand_count (row_of o)) p.stack) tt (All-drop HasWidth (operand_count (row_of o)) p.stack h)
+    | Integer o ↦ one_more _ (drop (row_operands (row_of o)) p.stack) tt (All-drop HasWidth (row_operands (row_of o)) p.stack h)
     | Select ↦ one_more _ (drop 1 (drop 1 (drop 1 p.stack))) tt (All-drop HasWidth 1 (drop 1 (drop 1 p.stack)) (All-drop HasWidth 1 (drop 1 p.stack) (All-drop HasWidth 1 p.stack h)))
     | Load kind argument ↦ one_more _ (drop 1 p.stack) tt (All-drop HasWidth 1 p.stack h)
     | MemoryGrow ↦ one_more _ (drop 1 p.stack) tt (All-drop HasWidth 1 p.stack h)

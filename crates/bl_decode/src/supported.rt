@@ -1,11 +1,11 @@
 //! Whether a tree is supported: no floats, and no start function.
 ghost use Rattle.std.specs.Prelude.{◌↔◌, All, IsFalse, IsTrue};
-ghost use Rattle.bl_wasm.specs.Validity.{IsInteger, HasIntegerType};
+ghost use Rattle.bl_wasm.specs.Validity.{IsInteger};
 ghost use Rattle.bl_decode.specs.Supported.{IsIntegerCode, IsIntegerFunction, IsIntegerImport, IsIntegerInstr, IsSupported};
 
 use bl_wasm::{
-    BlockType, Code, DataSegment, DefinedGlobal, ElementSegment, FuncType, Import, ImportKind,
-    Instr, LocalRun, Module, WasmType,
+    Code, DataSegment, DefinedGlobal, ElementSegment, FuncType, Import, ImportKind, Instr,
+    LocalRun, Module, WasmType,
 };
 
 /// Whether the types are all types of integers.
@@ -47,24 +47,12 @@ fn are_integer_imports(imports: &[Import]) -> bool
     imports.iter().all(|entry| is_integer_import(entry.kind))
 }
 
-/// Whether a block's type is no float.
-fn is_integer_block(block_type: BlockType) -> bool
-    ensures { IsTrue result ↔ HasIntegerType block_type }
-{
-    match block_type {
-        BlockType::Value(kind) => kind.is_integer(),
-        BlockType::Empty | BlockType::Index(_) => true,
-    }
-}
-
 /// Whether the instruction is without floats.
 fn is_integer_instr(item: &Instr) -> bool
     ensures { IsTrue result ↔ IsIntegerInstr item.now }
 {
     match item {
-        Instr::Block(block_type) | Instr::Loop(block_type) | Instr::If(block_type) => {
-            is_integer_block(*block_type)
-        }
+        Instr::Block(kind) | Instr::Loop(kind) | Instr::If(kind) => kind.is_integer(),
         Instr::FloatAccess { .. } | Instr::F32Const(_) | Instr::F64Const(_) | Instr::Float(_) => {
             false
         }

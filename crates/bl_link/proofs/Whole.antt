@@ -15,7 +15,7 @@ use Rattle.bl_wasm.specs.declared.module.Import.{Import}
 use Rattle.bl_wasm.specs.declared.module.Module.{Module}
 use Rattle.bl_link.specs.Growing.{Grows}
 use Rattle.bl_base.specs.Quantity.{limit_of}
-use Rattle.bl_base.specs.declared.quantity.Quantity.TheVariants.{Reserve}
+use Rattle.bl_base.specs.declared.quantity.Quantity.TheVariants.{Modules, Reserve}
 use Rattle.bl_base.proofs.Lists.{all_get}
 use Rattle.bl_link.specs.Linkable.{AreParts, IsPart, IsSound, NoSolidus}
 use Rattle.bl_link.specs.Links.{data_fits, element_fits, initialised, links, nothing, reserves, with_given, with_next, with_part, within_reserve}
@@ -116,7 +116,7 @@ next_kept done store next part n is good sound fresh h =
 
 -- ---- the whole
 
-pub whole : (parts : List Part) (store : Store) (tree : Tree) → IsStore parts store → length parts ≤ 8 → (if nat_le (reserves store.tree) (limit_of Reserve) then Ok store.tree else Err (Limit Reserve (reserves store.tree))) ≡ Ok tree → IsLinked tree
+pub whole : (parts : List Part) (store : Store) (tree : Tree) → IsStore parts store → length parts ≤ limit_of Modules → (if nat_le (reserves store.tree) (limit_of Reserve) then Ok store.tree else Err (Limit Reserve (reserves store.tree))) ≡ Ok tree → IsLinked tree
 whole parts store tree is few h =
     let k = if_ok (nat_le (reserves store.tree) (limit_of Reserve)) (Ok store.tree) (Limit Reserve (reserves store.tree)) tree h in
     subst IsLinked (ok_same store.tree tree k.1) (record {

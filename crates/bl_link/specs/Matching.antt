@@ -18,7 +18,6 @@ use Rattle.bl_wasm.specs.declared.types.GlobalType.{GlobalType}
 use Rattle.bl_wasm.specs.declared.types.Limits.{Limits}
 use Rattle.bl_wasm.specs.declared.linked.Signature.{Signature}
 use Rattle.bl_wasm.specs.declared.linked.Global.{Global}
-use Rattle.bl_wasm.specs.declared.linked.Tree.{Tree}
 use Rattle.bl_link.specs.Named.{qualified, value_named}
 use Rattle.bl_link.specs.IndexSpaces.{External, LinkError, Unknown, Mismatch, Store, all_ok}
 

@@ -71,7 +71,7 @@ fn nothing(alloc: Global) -> Store
     }
 }
 
-/// The parts that are left are linked behind those before; at most 8 deep.
+/// The parts that are left are linked behind those before, as deep as their number, which has a limit.
 fn link_rest(
     alloc: Global,
     store: &mut Store,

@@ -1,7 +1,7 @@
 -- The pieces of a body keep the rules as far as they go themselves.
 use Rattle.std.proofs.Common.{◌≡◌, ℕ, suc, ◌+◌, ◌-◌, ◌*◌, ◌<◌, ◌≤◌, List, [], ◌∷◌, ◌++◌, length, drop, take, reverse, Option, Some, None, slice_get, refl, sym, ap, ◌∙◌, subst, arith, length-append, inl, inr}
 use Rattle.bl_base.specs.declared.trap.Trap.TheVariants as trap_kind
-use Rattle.bl_ops.specs.Table.{row_of, operand_count}
+use Rattle.bl_ops.specs.Table.{row_of, row_operands}
 use Rattle.bl_wasm.specs.Linked.{IsLinked, IsFunction, context}
 use Rattle.bl_wasm.specs.Typing.{Context}
 use Rattle.bl_wasm.specs.declared.instruction.Instr.{Instr}
@@ -184,7 +184,7 @@ module _ (tree : Tree) (linked : IsLinked tree) (number : ℕ) (B : ℕ → Type
   ranged_after (I64Const n) open_ones p low h = one_more 0 p.next p.stack low h
   ranged_after (LocalGet x) open_ones p low h = one_more 0 p.next p.stack low h
   ranged_after (GlobalGet x) open_ones p low h = one_more 0 p.next p.stack low h
-  ranged_after (Integer o) open_ones p low h = one_more (check_new (check_of o)) p.next (drop (operand_count (row_of o)) p.stack) low (ranged_tail (bottom Mine) (operand_count (row_of o)) p.next p.stack h)
+  ranged_after (Integer o) open_ones p low h = one_more (check_new (check_of o)) p.next (drop (row_operands (row_of o)) p.stack) low (ranged_tail (bottom Mine) (row_operands (row_of o)) p.next p.stack h)
   ranged_after Select open_ones p low h =
       one_more 0 p.next (drop 1 (drop 1 (drop 1 p.stack))) low (ranged_tail (bottom Mine) 1 p.next (drop 1 (drop 1 p.stack)) (ranged_tail (bottom Mine) 1 p.next (drop 1 p.stack) (ranged_tail (bottom Mine) 1 p.next p.stack h)))
   ranged_after (Load kind argument) open_ones p low h = one_more 1 p.next (drop 1 p.stack) low (ranged_tail (bottom Mine) 1 p.next p.stack h)

@@ -1,6 +1,6 @@
 -- Each piece of a body keeps the rules as far as it goes itself.
 use Rattle.std.proofs.Common.{◌≡◌, ℕ, suc, ◌+◌, ◌*◌, ◌<◌, ◌≤◌, List, [], ◌∷◌, ◌++◌, length, drop, reverse, Some, slice_get, refl, sym, ap, ◌∙◌, subst, arith, length-append, inl, inr}
-use Rattle.bl_ops.specs.Table.{row_of, operand_count}
+use Rattle.bl_ops.specs.Table.{row_of, row_operands}
 use Rattle.bl_ops.specs.declared.op.Op.{Op}
 use Rattle.bl_ops.specs.declared.op.Op.TheVariants as op
 use Rattle.bl_ops.specs.declared.op.OpRow.{OpRow}
@@ -56,8 +56,8 @@ module _ (tree : Tree) (linked : IsLinked tree) (number : ℕ) (B : ℕ → Type
   -- an operator, behind its tests
   operates : (o : Op) (row : OpRow) (depth : ℕ) (p : Point) → row_of o ≡ Some row → depth ≤ 6 → Ops p.next p.stack → bottom Mine ≤ p.next → suc (shift (check_new (check_of o)) p.next) ≤ Mine.limit
       → B (suc (shift (check_size (check_of o)) p.position))
-      → GoodAt p.position (checks depth (check_of o) p.position p.next (left (operand_count (row_of o)) p.stack) (right (operand_count (row_of o)) p.stack)
-      ++ set_command depth o (shift (check_new (check_of o)) p.next) (left (operand_count (row_of o)) p.stack) (right (operand_count (row_of o)) p.stack) ∷ [])
+      → GoodAt p.position (checks depth (check_of o) p.position p.next (left (row_operands (row_of o)) p.stack) (right (row_operands (row_of o)) p.stack)
+      ++ set_command depth o (shift (check_new (check_of o)) p.next) (left (row_operands (row_of o)) p.stack) (right (row_operands (row_of o)) p.stack) ∷ [])
   operates o row depth p e small ranged low room ends =
       simple_good tree linked number B p.position (cs ++ set_ ∷ []) (omega (arith, long))
       (each_both (Simple tree linked number B p.position n) p.position (p.position + k) cs (set_ ∷ []) (omega (arith, checks_long))
@@ -68,10 +68,10 @@ module _ (tree : Tree) (linked : IsLinked tree) (number : ℕ) (B : ℕ → Type
       ))
     where
       a : Operand
-      a = left (operand_count (row_of o)) p.stack
+      a = left (row_operands (row_of o)) p.stack
 
       b : Operand
-      b = right (operand_count (row_of o)) p.stack
+      b = right (row_operands (row_of o)) p.stack
 
       k : ℕ
       k = check_size (check_of o)
@@ -101,10 +101,10 @@ module _ (tree : Tree) (linked : IsLinked tree) (number : ℕ) (B : ℕ → Type
       goes = spans tree linked number B function exists is p.position n (let there : suc (shift k p.position) ≡ p.position + n = omega (arith, shift_is k p.position, long) in subst B there ends)
 
       ra : Readable tree linked number B a
-      ra = reads_stack p.next a (omega (arith, room, new_there)) (ranged_left (bottom Mine) (operand_count (row_of o)) p.next p.stack ranged)
+      ra = reads_stack p.next a (omega (arith, room, new_there)) (ranged_left (bottom Mine) (row_operands (row_of o)) p.next p.stack ranged)
 
       rb : Readable tree linked number B b
-      rb = reads_stack p.next b (omega (arith, room, new_there)) (ranged_right (bottom Mine) (operand_count (row_of o)) p.next p.stack ranged)
+      rb = reads_stack p.next b (omega (arith, room, new_there)) (ranged_right (bottom Mine) (row_operands (row_of o)) p.next p.stack ranged)
 
   abbrev Template : List Target → Instr → Point → List Command
   Template open_ones item p = template (shape tree) number open_ones item p

@@ -5,7 +5,7 @@ use Rattle.std.proofs.lemmas.List.{length-reverse, length-replicate, length-take
 use Rattle.std.proofs.lemmas.List.Elements.{All-head, All-tail}
 use Rattle.std.proofs.lemmas.Option.{none-some, same_Some}
 use Rattle.bl_ops.specs.Access.{access_type}
-use Rattle.bl_ops.specs.Table.{row_of, operand_count}
+use Rattle.bl_ops.specs.Table.{row_of, row_operands}
 use Rattle.bl_wasm.specs.Nesting.{of_block, of_loop, then_part, else_part}
 use Rattle.bl_wasm.specs.Typing.{Context, Open, opened, Types, Rule, HasType, labels, expanded, taken_by, integer}
 use Rattle.bl_wasm.specs.declared.instruction.Instr.{Instr}
@@ -213,10 +213,10 @@ module _ (program : Program) (bound number : ℕ) where
       stepped (Integer o) open_ones ones p k from os to ordinary rule opens_are neat long most =
           let row = rule.rule.0 in
           let a = arrow_lengths (replicate row.operands (integer row.from)) (integer row.to ∷ []) from to rule.rule.2 in
-          let count : operand_count (row_of o) ≡ row.operands = ap operand_count rule.rule.1 in
+          let count : row_operands (row_of o) ≡ row.operands = ap row_operands rule.rule.1 in
           let many : length (replicate row.operands (integer row.from)) ≡ row.operands = length-replicate {A = WasmType} row.operands (integer row.from) in
-          let x = left (operand_count (row_of o)) p.stack in
-          let y = right (operand_count (row_of o)) p.stack in
+          let x = left (row_operands (row_of o)) p.stack in
+          let y = right (row_operands (row_of o)) p.stack in
           let cs = checks (mark_of open_ones) (check_of o) p.position p.next x y in
           let command = set_command (mark_of open_ones) o (shift (check_new (check_of o)) p.next) x y in
           record {
@@ -231,7 +231,7 @@ module _ (program : Program) (bound number : ℕ) where
               le,
               laid,
             );
-            long = omega (arith, length-drop (operand_count (row_of o)) p.stack, long, a.before, a.behind, count, many);
+            long = omega (arith, length-drop (row_operands (row_of o)) p.stack, long, a.before, a.behind, count, many);
           }
       stepped Select open_ones ones p k from os to ordinary rule opens_are neat long most =
           let type = rule.rule.0 in
@@ -340,7 +340,7 @@ module _ (program : Program) (bound number : ℕ) where
       neat_after (I64Const n) open_ones p h = one_new 0 0 open_ones p.stack p.next h
       neat_after (LocalGet x) open_ones p h = one_new 0 0 open_ones p.stack p.next h
       neat_after (GlobalGet x) open_ones p h = one_new 0 0 open_ones p.stack p.next h
-      neat_after (Integer o) open_ones p h = one_new (check_new (check_of o)) (operand_count (row_of o)) open_ones p.stack p.next h
+      neat_after (Integer o) open_ones p h = one_new (check_new (check_of o)) (row_operands (row_of o)) open_ones p.stack p.next h
       neat_after Select open_ones p h =
           neat_new open_ones (drop 1 (drop 1 (drop 1 p.stack))) p.next (neat_tail open_ones 1 (drop 1 (drop 1 p.stack)) p.next (neat_tail open_ones 1 (drop 1 p.stack) p.next (neat_tail open_ones 1 p.stack p.next h)))
       neat_after (Load kind argument) open_ones p h = one_new 1 1 open_ones p.stack p.next h

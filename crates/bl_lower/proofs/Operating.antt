@@ -5,9 +5,9 @@ use Rattle.bl_base.specs.Runs.{MemoryState, StepsTo, EndsAfter, last, goes, ends
 use Rattle.bl_base.proofs.RunLemmas.{comes_then, comes_to_end}
 use Rattle.bl_base.specs.declared.trap.Trap.{Trap as TrapKind}
 use Rattle.bl_base.specs.declared.trap.Trap.TheVariants as trap_kind
-use Rattle.bl_ops.specs.Integer.{truth, iand, from_bits, sum_below}
+use Rattle.bl_ops.specs.Integer.{truth, iand, from_bits}
 use Rattle.bl_ops.specs.Numerics.{meaning, traps}
-use Rattle.bl_ops.specs.Table.{row_of, operand_count}
+use Rattle.bl_ops.specs.Table.{row_of, row_operands}
 use Rattle.bl_ops.specs.declared.op.Op.{Op}
 use Rattle.bl_ops.specs.declared.op.Op.TheVariants as op
 use Rattle.bl_wasm.specs.declared.linked.Tree.{Tree}
@@ -63,7 +63,7 @@ both u v = iand 32 (truth u % 2 ^ 32) (truth v % 2 ^ 32)
 
 undefined_is : (t u v : Bool) → let found = if t then Some trap_kind.DivideByZero else (if u && v then Some trap_kind.Overflow else None) in
     (zero_test (truth t) ≡ true → zero_test (both u v) ≡ true → found ≡ None) × (zero_test (truth t) ≡ true → zero_test (both u v) ≡ false → found ≡ Some trap_kind.Overflow) × (zero_test (truth t) ≡ false → found ≡ Some trap_kind.DivideByZero)
-unfolding iand from_bits sum_below
+unfolding iand from_bits
 undefined_is true u v = (λ e f. absurd (false_true e), λ e f. absurd (false_true e), λ e. refl)
 undefined_is false true true = (λ e f. absurd (false_true f), λ e f. refl, λ e. absurd (true_false e))
 undefined_is false true false = (λ e f. refl, λ e f. absurd (true_false f), λ e. absurd (true_false e))
@@ -314,12 +314,12 @@ module _ (tree : Tree) (program : Program) (bound : ℕ) (layout : Layout progra
 
     pub operate_reaches : (o : Op) (mark : ℕ) (stack : List Operand) (state : State) (s : Plain) → Here program bound open_ones stack next state s → Operates program bound state.frame.number mark o (point s.position stack next)
         → suc (shift (check_new (check_of o)) next) ≤ (program.shape state.frame.number).limit
-        → LaidOut tree program bound layout state open_ones (suc (shift (check_size (check_of o)) s.position)) (variable (shift (check_new (check_of o)) next) ∷ drop (operand_count (row_of o)) stack) (suc (shift (check_new (check_of o)) next))
+        → LaidOut tree program bound layout state open_ones (suc (shift (check_size (check_of o)) s.position)) (variable (shift (check_new (check_of o)) next) ∷ drop (row_operands (row_of o)) stack) (suc (shift (check_new (check_of o)) next))
         → Then tree program bound 0 (operate o state) s
     operate_reaches o mark stack state s h ops limit laid =
         knowing tree program bound 0 (row_of o) s (λ row. apply o (take row.operands state.frame.values) (with_values (drop row.operands state.frame.values) state)) (λ row got.
-        subst (λ n. Then tree program bound 0 (apply o (take n state.frame.values) (with_values (drop n state.frame.values) state)) s) (ap operand_count got)
-        (from (operand_count (row_of o)) stack state.frame.values h.frame_is.values ops.enough h ops.tests ops.command laid))
+        subst (λ n. Then tree program bound 0 (apply o (take n state.frame.values) (with_values (drop n state.frame.values) state)) s) (ap row_operands got)
+        (from (row_operands (row_of o)) stack state.frame.values h.frame_is.values ops.enough h ops.tests ops.command laid))
       where
         low : ℕ
         low = bottom (program.shape state.frame.number)

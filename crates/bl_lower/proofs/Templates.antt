@@ -6,7 +6,7 @@ use Rattle.std.proofs.lemmas.List.{length-map}
 use Rattle.std.proofs.lemmas.Option.{none-some, slice_get-map, slice_get_within}
 use Rattle.bl_base.proofs.Lists.{within_get}
 use Rattle.bl_ops.specs.Access.{is_load, width_of}
-use Rattle.bl_ops.specs.Table.{row_of, operand_count}
+use Rattle.bl_ops.specs.Table.{row_of, row_operands}
 use Rattle.bl_ops.specs.declared.access.AccessKind.{AccessKind}
 use Rattle.bl_ops.specs.declared.op.Op.{Op}
 use Rattle.bl_ops.specs.declared.op.Op.TheVariants as op
@@ -51,11 +51,11 @@ CheckFits (quotient eqz eq least ones) = arity eq ≡ 2
 pub check_fits : (o : Op) → CheckFits (check_of o)
 check_fits o = elim o as (λ o. CheckFits (check_of o)) [ op.I32DivS ↦ refl | op.I64DivS ↦ refl | _ ↦ tt ]
 
-pub row_padded : (o : Op) (row : OpRow) (stack : List Operand) → row_of o ≡ Some row → ArePadded o (right (operand_count (row_of o)) stack) (Const 0)
+pub row_padded : (o : Op) (row : OpRow) (stack : List Operand) → row_of o ≡ Some row → ArePadded o (right (row_operands (row_of o)) stack) (Const 0)
 row_padded o row stack e =
     let counted : arity o ≡ row.operands = ap (arity_by o) e in
-    let same : operand_count (row_of o) ≡ row.operands = ap operand_count e in
-    ((λ lt. right_one (operand_count (row_of o)) stack (omega (arith, lt, counted, same))), λ lt. refl)
+    let same : row_operands (row_of o) ≡ row.operands = ap row_operands e in
+    ((λ lt. right_one (row_operands (row_of o)) stack (omega (arith, lt, counted, same))), λ lt. refl)
 
 -- a variable below another isn't it
 not_new : (low next x : ℕ) (a : Operand) → next ≤ x → Ranged low next a → a ≢ variable x

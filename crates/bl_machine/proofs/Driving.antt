@@ -1,5 +1,5 @@
 -- Runs of the machine, from the steps that it follows.
-use Rattle.std.proofs.Common.{◌≡◌, ℕ, ◌+◌, ◌≤◌, true, false, List, [], ◌∷◌, length, Option, Some, None, refl, sym, ap, ◌∙◌, subst, arith}
+use Rattle.std.proofs.Common.{◌≡◌, ℕ, ◌+◌, ◌≤◌, true, false, List, [], length, Option, Some, None, refl, sym, ap, ◌∙◌, subst, arith}
 use Rattle.std.specs.Prelude.{IfOk, Result, Ok, Err}
 use Rattle.std.specs.List.{AllZip}
 use Rattle.std.proofs.lemmas.List.{length-map}
@@ -19,7 +19,7 @@ use Rattle.bl_reduce.specs.TypedConfigurations.{IsMemoryState, IsTyped, IsTypedE
 use Rattle.bl_base.proofs.Lists.{zip_length}
 use Rattle.bl_reduce.proofs.Soundness.{typed_opening, preservation}
 use Rattle.bl_machine.specs.Bodies.{prepared_of}
-use Rattle.bl_machine.specs.Interpreting.{Drives, TellsMemories, has_ended, memories_in, starting, told}
+use Rattle.bl_machine.specs.Interpreting.{Drives, TellsMemories, has_ended, starting, told}
 use Rattle.bl_machine.specs.Machines.{Stepped}
 use Rattle.bl_machine.specs.MatchStates.{match_states, MatchesNext}
 use Rattle.bl_machine.specs.Transitions.{advanced}
@@ -160,15 +160,6 @@ pub tells_memories : (tree : Tree) (function : ℕ) (start : Start) (steps : ℕ
     → Drives tree function start steps progress m → TellsMemories (length tree.memories) answer
 tells_memories tree function start steps progress m answer e d =
     run_counts (length tree.memories) answer (subst (Counts (length tree.memories)) (sym e) (told_counts tree function start steps progress m d))
-
-none_long : {A : Type 0} (xs : List A) → length xs ≡ 0 → xs ≡ []
-none_long [] e = refl
-none_long (x ∷ xs) e = absurd (omega (arith, e))
-
-pub tells_none : (tree : Tree) (answer : Run) → tree.memories ≡ [] → TellsMemories (length tree.memories) answer → memories_in answer ≡ []
-tells_none tree (run.Returned values memories) e h = none_long memories (h ∙ ap length e)
-tells_none tree (run.Trapped kind memories) e h = none_long memories (h ∙ ap length e)
-tells_none tree run.Spent e h = refl
 
 -- what holds of the outcome that a run tells, where it tells one
 pub told_is : (P : Run → Type 0) (result : Result Run NoMemory) (o : Option Outcome) → ((answer : Run) → outcome_of answer ≡ o → P answer)

@@ -1,6 +1,6 @@
 -- Every operator has one operand or two.
 use Rattle.std.proofs.Common.{◌≡◌, ℕ, ◌≤◌, ◌⊎◌, inl, inr, length, take, drop, Option, Some, None, refl, sym, subst, arith}
-use Rattle.bl_ops.specs.Table.{row_of, operand_count}
+use Rattle.bl_ops.specs.Table.{row_of, row_operands}
 use Rattle.bl_ops.specs.declared.op.Op.{Op}
 use Rattle.bl_ops.specs.declared.op.Op.TheVariants.{I32Eqz, I64Eqz, I32Clz, I32Ctz, I32Popcnt, I64Clz, I64Ctz, I64Popcnt, I32WrapI64, I64ExtendI32S, I64ExtendI32U, I32Extend8S, I32Extend16S, I64Extend8S, I64Extend16S, I64Extend32S, Move, Select, Outside}
 use Rattle.bl_ops.specs.declared.op.OpRow.{OpRow}
@@ -50,6 +50,6 @@ module _ (tree : Tree) (op : Op) (m : Machine) (state : State) (is : IsState tre
   operate_simulates enough = from (row_of op) refl (one_or_two op)
     where
       from : (o : Option OpRow) → row_of op ≡ o → OneOrTwo o
-          → Then tree (operated_on op (operand_count o) m) (known o (λ row. apply op (take row.operands state.frame.values) (with_values (drop row.operands state.frame.values) state)))
+          → Then tree (operated_on op (row_operands o) m) (known o (λ row. apply op (take row.operands state.frame.values) (with_values (drop row.operands state.frame.values) state)))
       from None e which has = absurd has
       from (Some row) e which has = by_count row.operands which (enough row e)

@@ -1,7 +1,6 @@
 -- What the interpreter answers.
-use Rattle.std.specs.Prelude.{◌≡◌, ℕ, ◌≤◌, Bool, true, false, List, [], length, map, Option, Some, None}
+use Rattle.std.specs.Prelude.{◌≡◌, ℕ, ◌≤◌, Bool, true, false, [], length, map, Option, Some, None}
 use Rattle.bl_base.specs.Runs.{Outcome, returned, trapped, StepsTo, EndsAfter}
-use Rattle.bl_base.specs.declared.run.Pages.{Pages}
 use Rattle.bl_base.specs.declared.run.Run.{Run}
 use Rattle.bl_base.specs.declared.run.Run.TheVariants as run
 use Rattle.bl_base.specs.declared.start.Start.{Start}
@@ -13,12 +12,6 @@ use Rattle.bl_memory.specs.Spaces.{patched_all}
 use Rattle.bl_machine.specs.declared.machine.Machine.{Machine}
 use Rattle.bl_machine.specs.declared.machine.Progress.{Progress}
 use Rattle.bl_machine.specs.declared.machine.Progress.TheVariants.{Running, Entering, Returned, Trapped}
-
--- the memories that an answer tells
-abbrev pub memories_in : Run → List Pages
-memories_in (run.Returned values memories) = memories
-memories_in (run.Trapped kind memories) = memories
-memories_in run.Spent = []
 
 -- an answer tells so many memories, where it tells an end
 abbrev pub TellsMemories : ℕ → Run → Type 0

@@ -1,12 +1,12 @@
 //! Runs of linked trees.
-ghost use Rattle.std.specs.Prelude.{◌≡◌, ℕ, [], IfOk, IsTrue, length, map};
+ghost use Rattle.std.specs.Prelude.{◌≡◌, IfOk, length, map};
 ghost use Rattle.std.specs.List.{All};
 ghost use Rattle.bl_base.specs.Fits.{PatchFits};
 ghost use Rattle.bl_base.specs.Runs.{Tells, memory_of, outcome_of};
 ghost use Rattle.bl_wasm.specs.Linked.{IsLinked};
 ghost use Rattle.bl_reduce.specs.Outcomes.{IsStart, first_store, source};
 ghost use Rattle.bl_machine.specs.Bodies.{prepared_of};
-ghost use Rattle.bl_machine.specs.Interpreting.{Drives, TellsMemories, has_ended, memories_in, starting, told};
+ghost use Rattle.bl_machine.specs.Interpreting.{Drives, TellsMemories, has_ended, starting, told};
 ghost use Rattle.bl_machine.specs.Machines.{Gives};
 ghost use Rattle.bl_machine.specs.Transitions.{advanced};
 
@@ -32,7 +32,6 @@ pub fn interp(
     requires start { IsStart tree.now function start.now }
     ensures answers { IfOk result (λ run. Tells (source tree.now function start.now) steps run) }
     ensures memories { IfOk result (λ run. TellsMemories (length tree.now.memories) run) }
-    ensures bare { IfOk result (λ run. tree.now.memories ≡ [] → memories_in run ≡ []) }
 {
     let tree = tree.tree();
     let prepared = prepare(alloc, tree)?;

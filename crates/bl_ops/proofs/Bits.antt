@@ -7,32 +7,16 @@ use Rattle.std.proofs.lemmas.Nat.Bits.{bit_at_and, bit_at_or, bit_at_xor}
 use Rattle.std.proofs.lemmas.Bool.{cases_lt}
 use Rattle.std.proofs.lemmas.Bool.Decides.{nat_tests}
 use Rattle.std.specs.Int.Count.{ones, count_leading_zeros, count_trailing_zeros, under}
-use Rattle.bl_ops.specs.Integer.{sum_below, from_bits, bit, truth, iand, ior, ixor, iclz, ictz, ipopcnt}
+use Rattle.bl_base.specs.Sums.{sum_below}
+use Rattle.bl_base.proofs.Sums.{sum_none, sum_same}
+use Rattle.bl_ops.specs.Integer.{from_bits, bit, truth, iand, ior, ixor, iclz, ictz, ipopcnt}
 
 -- ---- sums
 
-pub sum_below-zero : (f : ℕ → ℕ) → sum_below 0 f ≡ 0
-unfolding sum_below
-sum_below-zero f = refl
-
-pub sum_below-same : (n : ℕ) (f g : ℕ → ℕ) → ((k : ℕ) → k < n → f k ≡ g k) → sum_below n f ≡ sum_below n g
-unfolding sum_below
-sum_below-same zero f g h = refl
-sum_below-same (suc n) f g h =
-    let rest = sum_below-same n f g (λ k p. h k (omega arith)) in
-    let last = h n (omega arith) in
-    cc
-
-pub sum_below-none : (n : ℕ) (f : ℕ → ℕ) → ((k : ℕ) → k < n → f k ≡ 0) → sum_below n f ≡ 0
-unfolding sum_below
-sum_below-none zero f h = refl
-sum_below-none (suc n) f h = omega (arith, sum_below-none n f (λ k p. h k (omega arith)), h n (omega arith))
-
 -- the first term, and the sum of the others
-pub sum_below-first : (n : ℕ) (f : ℕ → ℕ) → sum_below (suc n) f ≡ f 0 + sum_below n (λ k. f (suc k))
-unfolding sum_below
-sum_below-first zero f = omega arith
-sum_below-first (suc n) f = omega (arith, sum_below-first n f)
+sum_first : (n : ℕ) (f : ℕ → ℕ) → sum_below (suc n) f ≡ f 0 + sum_below n (λ k. f (suc k))
+sum_first zero f = omega arith
+sum_first (suc n) f = omega (arith, sum_first n f)
 
 -- ---- a number is the sum of its bits
 
@@ -40,28 +24,28 @@ next_power : (m n : ℕ) → m % 2 ^ suc n ≡ (m / 2 ^ n % 2) * 2 ^ n + m % 2 ^
 next_power m n = ap (λ (x : ℕ). m % 2 ^ x) (omega arith) ∙ mod-pow-add m 1 n
 
 pub from_bits-bit : (n m : ℕ) → from_bits n (bit m) ≡ m % 2 ^ n
-unfolding sum_below from_bits
+unfolding from_bits
 from_bits-bit zero m = sym (mod-one m)
 from_bits-bit (suc n) m = omega (arith, from_bits-bit n m, next_power m n)
 
 pub iand_is : (n a b : ℕ) → a < 2 ^ n → b < 2 ^ n → iand n a b ≡ bit_and a b
 unfolding iand from_bits
 iand_is n a b p q =
-    sum_below-same n _ _ (λ k _. ap (λ (x : ℕ). x * 2 ^ k) (sym (bit_at_and a b k)))
+    sum_same n _ _ (λ k _. ap (λ (x : ℕ). x * 2 ^ k) (sym (bit_at_and a b k)))
     ∙ from_bits-bit n (bit_and a b)
     ∙ mod-eq_of_lt (omega (arith, and_le_l a b))
 
 pub ior_is : (n a b : ℕ) → a < 2 ^ n → b < 2 ^ n → ior n a b ≡ bit_or a b
 unfolding ior from_bits
 ior_is n a b p q =
-    sum_below-same n _ _ (λ k _. ap (λ (x : ℕ). x * 2 ^ k) (sym (bit_at_or a b k)))
+    sum_same n _ _ (λ k _. ap (λ (x : ℕ). x * 2 ^ k) (sym (bit_at_or a b k)))
     ∙ from_bits-bit n (bit_or a b)
     ∙ mod-eq_of_lt (or_lt n a b p q)
 
 pub ixor_is : (n a b : ℕ) → a < 2 ^ n → b < 2 ^ n → ixor n a b ≡ bit_xor a b
 unfolding ixor from_bits
 ixor_is n a b p q =
-    sum_below-same n _ _ (λ k _. ap (λ (x : ℕ). x * 2 ^ k) (sym (bit_at_xor a b k)))
+    sum_same n _ _ (λ k _. ap (λ (x : ℕ). x * 2 ^ k) (sym (bit_at_xor a b k)))
     ∙ from_bits-bit n (bit_xor a b)
     ∙ mod-eq_of_lt (xor_lt n a b p q)
 
@@ -76,7 +60,7 @@ one_bit (suc zero) h = refl
 one_bit (suc (suc x)) h = absurd (omega arith)
 
 ones_below : (n i : ℕ) → sum_below n (bit i) ≡ ones (i % 2 ^ n)
-unfolding sum_below ones
+unfolding ones
 ones_below zero i = sym (ap ones (mod-one i))
 ones_below (suc n) i =
     let split = ap ones (next_power i n) ∙ ones_cat n (i / 2 ^ n % 2) (i % 2 ^ n) (omega (arith, pow_pos n)) in
@@ -94,7 +78,6 @@ truth_positive x h = grind (arith, nat_tests)
 
 -- of a number of m bits, the places from m on
 zeros_from : (n m i : ℕ) → i < 2 ^ m → 2 ^ m ≤ 2 * i + 1 → sum_below n (λ k. truth (eqb (i / 2 ^ k) 0)) ≡ n - m
-unfolding sum_below
 zeros_from zero m i p q = omega arith
 zeros_from (suc n) m i p q = by_order (zeros_from n m i p q) (cases_lt n m)
   where
@@ -114,24 +97,24 @@ iclz_is n i h =
 
 pub ictz_is : (n i : ℕ) → ictz n i ≡ count_trailing_zeros n i
 unfolding ictz count_trailing_zeros
-ictz_is zero i = sum_below-zero _
+ictz_is zero i = refl
 ictz_is (suc n) i = by_bit (ictz_is n (i / 2)) (i % 2) refl (omega arith)
   where
     half : (k : ℕ) → i % 2 ^ (suc k + 1) ≡ (i / 2 % 2 ^ (k + 1)) * 2 + i % 2
     half k = ap (λ (x : ℕ). i % 2 ^ x) (omega arith) ∙ mod-pow-add i (k + 1) 1
 
     first : sum_below (suc n) (λ k. truth (eqb (i % 2 ^ (k + 1)) 0)) ≡ truth (eqb (i % 2 ^ (0 + 1)) 0) + sum_below n (λ k. truth (eqb (i % 2 ^ (suc k + 1)) 0))
-    first = sum_below-first n (λ k. truth (eqb (i % 2 ^ (k + 1)) 0))
+    first = sum_first n (λ k. truth (eqb (i % 2 ^ (k + 1)) 0))
 
     by_bit : sum_below n (λ k. truth (eqb (i / 2 % 2 ^ (k + 1)) 0)) ≡ count_trailing_zeros n (i / 2) → (d : ℕ) → i % 2 ≡ d → d < 2 → sum_below (suc n) (λ k. truth (eqb (i % 2 ^ (k + 1)) 0)) ≡ under d (count_trailing_zeros n (i / 2))
     by_bit rest_is zero e h =
-        let rest = sum_below-same n _ _ (λ k _. ap (λ (x : ℕ). truth (eqb x 0)) (half k) ∙ even (i / 2 % 2 ^ (k + 1)) (i % 2) e) in
+        let rest = sum_same n _ _ (λ k _. ap (λ (x : ℕ). truth (eqb x 0)) (half k) ∙ even (i / 2 % 2 ^ (k + 1)) (i % 2) e) in
         omega (arith, first, rest, truth_zero (i % 2 ^ (0 + 1)) e, rest_is)
       where
         even : (x d : ℕ) → d ≡ 0 → truth (eqb (x * 2 + d) 0) ≡ truth (eqb x 0)
         even x d e = grind (arith, nat_tests)
     by_bit rest_is (suc zero) e h =
-        let rest = sum_below-none n (λ k. truth (eqb (i % 2 ^ (suc k + 1)) 0)) (λ k _. truth_positive (i % 2 ^ (suc k + 1)) (omega (arith, half k))) in
+        let rest = sum_none n (λ k. truth (eqb (i % 2 ^ (suc k + 1)) 0)) (λ k _. truth_positive (i % 2 ^ (suc k + 1)) (omega (arith, half k))) in
         omega (arith, first, rest, truth_positive (i % 2 ^ (0 + 1)) (omega arith))
     by_bit rest_is (suc (suc d)) e h = absurd (omega arith)
 

@@ -1,10 +1,6 @@
 -- The integer operations of WebAssembly 1.0 (section 4.3.2), each once over numbers of n bits. An operand is below 2 ^ n.
-use Rattle.std.specs.Prelude.{ℕ, zero, suc, ◌+◌, ◌-◌, ◌*◌, ◌/◌, ◌%◌, ◌^◌, min, max, Bool, not, nat_lt, nat_le, ◌==◌, if◌then◌else◌, ℤ, pos, negsuc, ◌-ℤ◌, ◌*ℤ◌, int_lt, int_le, int_div}
-
--- f 0 + f 1 + .. + f (n - 1)
-unfoldable pub sum_below : ℕ → (ℕ → ℕ) → ℕ
-sum_below zero f = 0
-sum_below (suc n) f = sum_below n f + f n
+use Rattle.std.specs.Prelude.{ℕ, ◌+◌, ◌-◌, ◌*◌, ◌/◌, ◌%◌, ◌^◌, min, max, Bool, not, nat_lt, nat_le, ◌==◌, if◌then◌else◌, ℤ, pos, negsuc, ◌-ℤ◌, ◌*ℤ◌, int_lt, int_le, int_div}
+use Rattle.bl_base.specs.Sums.{sum_below}
 
 -- bool: 1 where the test holds, else 0
 abbrev pub truth : Bool → ℕ

@@ -14,10 +14,10 @@ unary code from to = Some (record { code = code; operands = 1; from = from; to =
 abbrev pub binary : ℕ → ValueType → ValueType → Option OpRow
 binary code from to = Some (record { code = code; operands = 2; from = from; to = to })
 
--- the number of an operator's operands by its row, 0 where it has none
-abbrev pub operand_count : Option OpRow → ℕ
-operand_count None = 0
-operand_count (Some row) = row.operands
+-- the number of operands that a row tells, 0 where there is none
+abbrev pub row_operands : Option OpRow → ℕ
+row_operands None = 0
+row_operands (Some row) = row.operands
 
 -- the row of an integer operator
 abbrev pub row_of : Op → Option OpRow

@@ -9,4 +9,4 @@ mod rows;
 
 pub use access::{AccessKind, extend, narrow};
 pub use op::{Op, OpRow, OpTable};
-pub use rows::{by_code, by_image_code, eval, image_code, operand_count, row, table, trap_of};
+pub use rows::{by_code, by_image_code, eval, image_code, row, row_operands, table, trap_of};

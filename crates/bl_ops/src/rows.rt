@@ -1,7 +1,7 @@
 //! The table of the operators, and the calls that it makes.
-ghost use Rattle.std.specs.Prelude.{◌≡◌, IfSome, ℕ};
+ghost use Rattle.std.specs.Prelude.{◌≡◌, IfSome};
 ghost use Rattle.bl_ops.specs.Numerics.{meaning, outside, select, traps};
-ghost use Rattle.bl_ops.specs.Table.{operator_code, image_code_of, operand_count, row_of, rows};
+ghost use Rattle.bl_ops.specs.Table.{operator_code, image_code_of, row_of, row_operands, rows};
 ghost use Rattle.bl_ops.specs.declared.op.Op.{Op};
 
 use crate::group::{
@@ -198,9 +198,9 @@ pub fn row(op: Op) -> Option<OpRow>
     by_row!(row(op))
 }
 
-/// The number of an operator's operands; 0 where it has no row.
-pub fn operand_count(op: Op) -> u8
-    ensures { result ≡ operand_count (row_of op) }
+/// The number of operands that an operator's row tells; 0 for Move, Select and Outside, which have no row.
+pub fn row_operands(op: Op) -> u8
+    ensures { result ≡ row_operands (row_of op) }
 {
     match row(op) {
         Some(row) => row.operands,

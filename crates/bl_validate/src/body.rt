@@ -1,11 +1,10 @@
 //! Whether a body has a typing (WebAssembly 1.0, section 3.3; block types with parameters and several results, version
 //! 2.0, section 3.2.2).
-ghost use Rattle.std.specs.Prelude.{◌≡◌, ◌≢◌, ◌↔◌, ℕ, ◌≤◌, ◌^◌, List, [], ◌∷◌, IsTrue, IfOk, Option, Some, length, slice_get, replicate, option_map};
+ghost use Rattle.std.specs.Prelude.{◌≡◌, ◌≢◌, ◌↔◌, ◌≤◌, ◌^◌, List, [], ◌∷◌, IsTrue, IfOk, Some, length, slice_get, replicate, option_map};
 ghost use Rattle.std.specs.List.{All};
 ghost use Rattle.bl_wasm.specs.Instructions.{IsPlain};
 ghost use Rattle.bl_wasm.specs.Typing.{Context, IsTyping, integer as wasm_integer, expanded as expanded_type};
 ghost use Rattle.bl_wasm.specs.declared.instruction.Instr.TheVariants as Instr;
-ghost use Rattle.bl_wasm.specs.declared.types.FuncType.{FuncType};
 ghost use Rattle.bl_wasm.specs.declared.types.WasmType.{WasmType};
 ghost use Rattle.bl_wasm.specs.declared.types.WasmType.TheVariants as WasmType;
 ghost use Rattle.bl_ops.specs.Access.{width_of};
@@ -210,7 +209,7 @@ impl<'m> Body<'m> {
         ensures { Means (seen self.now) (labels_in self.now.results.now stacks.now) (Instr.BrTable default wanted.now) result }
     {
         let types = stacks.target(default, self.results)?;
-        if !self.all_take(stacks, wanted, types) {
+        if !self.all_take(stacks, wanted, default, types) {
             return None;
         }
         Some(Effect {
@@ -220,17 +219,25 @@ impl<'m> Body<'m> {
         })
     }
 
-    /// Whether branches to all of the labels take those types.
-    fn all_take(&self, stacks: &Stacks, wanted: &[u32], types: &[WasmType]) -> bool
+    /// Whether branches to all of the labels take those types, as one to the default label does.
+    fn all_take(&self, stacks: &Stacks, wanted: &[u32], default: u32, types: &[WasmType]) -> bool
+        requires { slice_get (labels_in self.now.results.now stacks.now) default ≡ Some types.now }
         ensures { IsTrue result ↔ All (λ l. slice_get (labels_in self.now.results.now stacks.now) l ≡ Some types.now) wanted.now }
     {
-        wanted.iter().all(|label| self.takes(stacks, *label, types))
+        wanted
+            .iter()
+            .all(|label| self.takes(stacks, *label, default, types))
     }
 
-    /// Whether the label exists and a branch to it takes those types.
-    fn takes(&self, stacks: &Stacks, label: u32, types: &[WasmType]) -> bool
+    /// Whether the label exists and a branch to it takes those types, as one to the default label does. The default label's types
+    /// aren't compared with themselves.
+    fn takes(&self, stacks: &Stacks, label: u32, default: u32, types: &[WasmType]) -> bool
+        requires { slice_get (labels_in self.now.results.now stacks.now) default ≡ Some types.now }
         ensures { IsTrue result ↔ (slice_get (labels_in self.now.results.now stacks.now) label ≡ Some types.now) }
     {
+        if label == default {
+            return true;
+        }
         match stacks.target(label, self.results) {
             Some(taken) => are_same(taken, types),
             None => false,

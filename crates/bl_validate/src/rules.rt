@@ -1,15 +1,15 @@
 //! The rules on the parts of a module other than its bodies' typing (WebAssembly 1.0, section 3.4).
 ghost use Rattle.std.specs.Prelude.{◌≡◌, ◌<◌, ◌≤◌, ◌↔◌, length, vec_len, IsTrue, IfOk, slice_get, Some, false};
 ghost use Rattle.std.specs.List.{All};
-ghost use Rattle.bl_wasm.specs.Validity.{AreDistinct, HasIntegerType, HasIntegers, IsCode, IsInitial, IsFunctionType, IsInteger, IsLimits, IsMemory, IsOffset, IsValid};
+ghost use Rattle.bl_wasm.specs.Validity.{AreDistinct, HasIntegers, IsCode, IsInitial, IsFunctionType, IsLimits, IsMemory, IsOffset, IsValid};
 ghost use Rattle.bl_validate.specs.ModuleRules.{AreExports, AreFunctions, AreGlobals, AreParts, AreStores, IsDataAt, IsElementAt, space_in};
 ghost use Rattle.bl_validate.specs.Scopes.{IsScope};
 
 use crate::scope::Scope;
 use bl_base::NoMemory;
 use bl_wasm::{
-    BlockType, Code, DataSegment, DefinedGlobal, ElementSegment, Export, ExportKind, FuncType,
-    GlobalType, Instr, Limits, Module, WasmType,
+    Code, DataSegment, DefinedGlobal, ElementSegment, Export, ExportKind, FuncType, GlobalType,
+    Instr, Limits, Module, WasmType,
 };
 use std::alloc::Global;
 use std::collections::BTreeSet;
@@ -165,18 +165,8 @@ fn has_integers(item: &Instr) -> bool
     ensures { IsTrue result ↔ HasIntegers item.now }
 {
     match item {
-        Instr::Block(kind) | Instr::Loop(kind) | Instr::If(kind) => has_integer_type(*kind),
+        Instr::Block(kind) | Instr::Loop(kind) | Instr::If(kind) => kind.is_integer(),
         _ => true,
-    }
-}
-
-/// Whether the value type that a block type is, where it is one, is of integers.
-fn has_integer_type(kind: BlockType) -> bool
-    ensures { IsTrue result ↔ HasIntegerType kind }
-{
-    match kind {
-        BlockType::Value(kind) => kind.is_integer(),
-        BlockType::Empty | BlockType::Index(_) => true,
     }
 }
 

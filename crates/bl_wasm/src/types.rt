@@ -1,6 +1,6 @@
 //! Types (WebAssembly 1.0, section 2.3).
 ghost use Rattle.std.specs.Prelude.{◌↔◌, IsTrue};
-ghost use Rattle.bl_wasm.specs.Validity.{IsInteger};
+ghost use Rattle.bl_wasm.specs.Validity.{HasIntegerType, IsInteger};
 
 use bl_base::List;
 
@@ -36,6 +36,18 @@ pub enum BlockType {
     Value(WasmType),
     /// The parameters and results of that type.
     Index(u32),
+}
+
+impl BlockType {
+    /// Whether the type is one of integers, where it is one value type.
+    pub fn is_integer(self) -> bool
+        ensures { IsTrue result ↔ HasIntegerType self }
+    {
+        match self {
+            BlockType::Value(kind) => kind.is_integer(),
+            BlockType::Empty | BlockType::Index(_) => true,
+        }
+    }
 }
 
 /// The type of a function (section 2.3.3).

@@ -1,8 +1,8 @@
-use Rattle.std.proofs.Common.{◌≡◌, [], length, sym, subst}
+use Rattle.std.proofs.Common.{length, sym, subst}
 use Rattle.bl_base.specs.Runs.{IsWithin, Tells}
 use Rattle.bl_reduce.specs.Outcomes.{source}
-use Rattle.bl_machine.specs.Interpreting.{TellsMemories, memories_in, told}
-use Rattle.bl_machine.proofs.Driving.{answers, tells_memories, tells_none, told_is}
+use Rattle.bl_machine.specs.Interpreting.{TellsMemories, told}
+use Rattle.bl_machine.proofs.Driving.{answers, tells_memories, told_is}
 use Rattle.bl_machine.proofs.interpreter.interp.Goals as goal
 
 pub returns-clause-answers : goal.returns-clause-answers
@@ -18,12 +18,4 @@ returns-clause-memories c =
     let drives = rw c.tree-tree.ensures.same at c.in_ok-progress.ensures in
     told_is (TellsMemories (length c.args.tree.now.memories)) c.finish.result (told c.in_ok-progress.progress c.drive.new.machine)
     (λ run e. tells_memories c.args.tree.now c.args.function c.args.start.now c.args.steps c.in_ok-progress.progress c.drive.new.machine run e drives)
-    c.finish.ensures
-
-pub returns-clause-bare : goal.returns-clause-bare
-returns-clause-bare c =
-    let drives = rw c.tree-tree.ensures.same at c.in_ok-progress.ensures in
-    told_is (λ run. c.args.tree.now.memories ≡ [] → memories_in run ≡ []) c.finish.result (told c.in_ok-progress.progress c.drive.new.machine)
-    (λ run e none. tells_none c.args.tree.now run none
-    (tells_memories c.args.tree.now c.args.function c.args.start.now c.args.steps c.in_ok-progress.progress c.drive.new.machine run e drives))
     c.finish.ensures
