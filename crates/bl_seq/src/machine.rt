@@ -85,7 +85,7 @@ impl Machine {
 
     /// A step.
     #[inline(always)]
-    pub fn step(&mut self, alloc: Global, layout: &Layout) -> Result<Progress, NoMemory>
+    pub(crate) fn step(&mut self, alloc: Global, layout: &Layout) -> Result<Progress, NoMemory>
         requires { IsLayout layout.now }
         ensures { IfOk result (λ progress. plain_step layout.now.parts.now (shown self.old) ≡ next_of layout.now.parts.now progress (shown self.new)) }
     {
@@ -296,7 +296,7 @@ impl Machine {
     }
 
     /// Opens the page of a function's first variable at the running depth. Where memory is wanting, none is open.
-    pub fn open_page(&mut self, alloc: Global, layout: &Layout, function: u32)
+    pub(crate) fn open_page(&mut self, alloc: Global, layout: &Layout, function: u32)
         requires { IsLayout layout.now }
         ensures { shown self.new ≡ shown self.old }
     {
@@ -330,7 +330,7 @@ impl Machine {
     }
 
     /// So many steps, or fewer where the run ends before.
-    pub fn drive(
+    pub(crate) fn drive(
         &mut self,
         alloc: Global,
         layout: &Layout,

@@ -1,6 +1,6 @@
 //! Bytes of memories.
 ghost use Rattle.std.specs.Prelude.{◌≡◌, ◌+◌, ◌*◌, ◌%◌, ◌^◌, ◌<◌, ◌++◌, [], IfOk, IsTrue, OnOk, drop, length, replicate, set, slice_index, take};
-ghost use Rattle.bl_base.specs.Bytes.{bytes_of, number_of};
+ghost use Rattle.bl_base.specs.Bytes.{number_of};
 ghost use Rattle.bl_cmd.specs.Steps.{loaded, overlay, stored};
 ghost use Rattle.bl_ops.specs.Access.{is_load, width_of};
 
@@ -68,9 +68,10 @@ impl Space {
     pub fn push_zeros(&mut self, count: usize) -> Result<(), NoMemory>
         ensures { OnOk result (self.new ≡ self.old ++ replicate count 0) }
     {
-        for _ in 0..count {
-            self.bytes.push(0)?;
-        }
+        let Some(len) = self.bytes.len().checked_add(count) else {
+            return Err(NoMemory);
+        };
+        self.bytes.resize(len, 0)?;
         Ok(())
     }
 
