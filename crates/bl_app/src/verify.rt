@@ -48,8 +48,8 @@ pub fn verify_reads<'a>(alloc: Global, words: &VerifyWords<'a>) -> Result<Vec<Re
     Ok(reads)
 }
 
-/// Printing the verdicts on an image's program and a certificate; Refused exactly where their bytes are refused. Linear in the bytes, but
-/// for what the check of a program takes and the logarithm of the program's size.
+/// Printing the verdicts on an image's program and a certificate; Refused exactly where their bytes are refused. Linear in the bytes and
+/// in the number of the program's declared variables, but for what the check of a program takes and the logarithm of its size.
 pub fn verify<'a>(
     alloc: Global,
     words: &VerifyWords<'a>,

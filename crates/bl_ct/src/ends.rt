@@ -11,7 +11,8 @@ use bl_base::NoMemory;
 use bl_graph::{Use, variables};
 use std::alloc::Global;
 
-/// For each variable a position where it may not be secret, if there is one. Linear in the program.
+/// For each variable a position where it may not be secret, if there is one. Linear in the program and in the number of its
+/// declared variables.
 pub(crate) fn ends_of(
     alloc: Global,
     known: &Known,

@@ -51,7 +51,7 @@ pub(crate) struct Found {
     pub(crate) queue: Vec<Step>,
 }
 
-/// The secret variables of a program. Linear in the program.
+/// The secret variables of a program. Linear in the program and in the number of its declared variables.
 pub(crate) fn secret_variables(alloc: Global, known: &Known) -> Result<Found, NoMemory>
     requires { IsKnown known.now }
     ensures { IfOk result (λ found. Searched known.now.program.now found.marks.items found.queue.items) }

@@ -29,8 +29,8 @@ pub struct Choice {
 }
 
 /// The passing set of least weight whose transient variables are contained in those of every other one of that weight. Marks
-/// that stand in the program are ignored. Costs a maximum flow in a network that is linear in the program. Want of memory is
-/// the only error.
+/// that stand in the program are ignored. Costs a maximum flow in a network that is linear in the program and in the number of
+/// its declared variables. Want of memory is the only error.
 pub fn least_protects(alloc: Global, program: &WellFormed) -> Result<Choice, NoMemory>
     ensures least { IfOk result (λ choice. Least program.now (fin.contains choice.protects)) }
     ensures weight { IfOk result (λ choice. choice.weight ≡ weight_of program.now (fin.contains choice.protects)) }

@@ -27,8 +27,8 @@ pub enum Verdict {
 }
 
 /// The verdict on a program with its own marks. Where it is `Safe`, two runs from starts that agree in public are observed
-/// alike, whatever the directives and the size of the buffer. Linear in the program but for the logarithm of the number of
-/// protects. Want of memory is the only error.
+/// alike, whatever the directives and the size of the buffer. Linear in the program and in the number of its declared
+/// variables. Want of memory is the only error.
 pub fn assess(alloc: Global, program: &WellFormed) -> Result<Verdict, NoMemory>
     ensures { IfOk result (λ verdict. Assesses program.now verdict) }
 {
@@ -53,7 +53,7 @@ fn assess_labelled(alloc: Global, program: &WellFormed) -> Result<Verdict, NoMem
 }
 
 /// Whether a program's own marks pass the transient rules: the least flow typing, or the least position of a sink that reads a
-/// transient variable. Linear in the program but for the logarithm of the number of protects. Want of memory is the only error.
+/// transient variable. Linear in the program and in the number of its declared variables. Want of memory is the only error.
 pub fn stability(alloc: Global, program: &WellFormed) -> Result<FlowVerdict, NoMemory>
     ensures { IfOk result (λ verdict. Judges program.now (is_protected program.now) verdict) }
 {

@@ -25,8 +25,8 @@ pub enum FlowVerdict {
 }
 
 /// The least flow typing where the sites of the set are protected; where a sink reads a variable that is transient in it, so
-/// that no typing keeps the rules, the least position of such a sink. Linear in the program but for the logarithm of the set's
-/// size. Want of memory is the only error.
+/// that no typing keeps the rules, the least position of such a sink. Linear in the program and in the number of its declared
+/// variables. Want of memory is the only error.
 pub fn flows(
     alloc: Global,
     program: &WellFormed,
