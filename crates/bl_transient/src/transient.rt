@@ -34,9 +34,22 @@ pub fn flows(
 ) -> Result<FlowVerdict, NoMemory>
     ensures { IfOk result (λ verdict. Judges program.now (fin.contains protects.now) verdict) }
 {
-    ranges(program);
     let graph = graph(alloc, program)?;
-    let marks = transients(alloc, program, &graph, protects)?;
+    flows_of(alloc, program, &graph, protects)
+}
+
+/// The same by the program's graph, for callers that need the graph as well.
+pub fn flows_of(
+    alloc: Global,
+    program: &WellFormed,
+    graph: &Graph,
+    protects: &SiteSet,
+) -> Result<FlowVerdict, NoMemory>
+    requires { IsGraph program.now graph.now }
+    ensures { IfOk result (λ verdict. Judges program.now (fin.contains protects.now) verdict) }
+{
+    ranges(program);
+    let marks = transients(alloc, program, graph, protects)?;
     if let Some(position) = first_sink(&marks, graph.sinks.as_slice()) {
         return Ok(FlowVerdict::No(Pos(position)));
     }
