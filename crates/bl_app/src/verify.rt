@@ -4,6 +4,7 @@ ghost use Rattle.bl_app.specs.Jobs.{AreRead};
 ghost use Rattle.bl_app.specs.Verifying.{AreVerdicts, verify_job, verify_plan, verify_status};
 ghost use Rattle.bl_build.specs.Certifying.{certifying, verifying};
 ghost use Rattle.bl_build.specs.Working.{contents_in};
+ghost use Rattle.bl_graph.specs.Graphs.{IsGraph};
 ghost use Rattle.bl_app.specs.Working.{IsDoneBehind, IsVerifyTold, IsWork, certified_in, plan_in, read_in, verdicts_in};
 ghost use Rattle.bl_words.specs.Words.{verify_in};
 
@@ -13,11 +14,11 @@ use bl_base::{NoMemory, Quantity};
 use bl_build::{WorkError, read_certificate, read_image};
 use bl_cmd::WellFormed;
 use bl_ct::{CtVerdict, constant_time};
-use bl_graph::{Certificate, graph};
+use bl_graph::{Certificate, Graph, graph};
 use bl_report::verdicts_text;
-use bl_sct::stability;
+use bl_sct::stability_of;
 use bl_transient::FlowVerdict;
-use bl_witness::{CertVerdict, check_certificate};
+use bl_witness::{CertVerdict, check_certificate_of};
 use bl_words::VerifyWords;
 use std::alloc::Global;
 
@@ -48,8 +49,8 @@ pub fn verify_reads<'a>(alloc: Global, words: &VerifyWords<'a>) -> Result<Vec<Re
     Ok(reads)
 }
 
-/// Printing the verdicts on an image's program and a certificate; Refused exactly where their bytes are refused. Linear in the bytes, but
-/// for what the check of a program takes and the logarithm of the program's size.
+/// Printing the verdicts on an image's program and a certificate; Refused exactly where their bytes are refused. Linear in the bytes and
+/// in the number of the program's declared variables, but for what the check of a program takes and the logarithm of its size.
 pub fn verify<'a>(
     alloc: Global,
     words: &VerifyWords<'a>,
@@ -104,10 +105,23 @@ fn judge(
 ) -> Result<Verdicts, NoMemory>
     ensures { IfOk result (λ verdicts. AreVerdicts (certified_in program.now certificate.now) (verdicts_in verdicts)) }
 {
-    let rules = check_certificate(alloc, program, certificate)?;
-    let flow = stability(alloc, program)?;
-    let facts = graph(alloc, program)?;
-    let labels = constant_time(alloc, program, &facts)?;
+    let graph = graph(alloc, program)?;
+    judge_of(alloc, program, &graph, certificate)
+}
+
+/// The same by the program's graph.
+fn judge_of(
+    alloc: Global,
+    program: &WellFormed,
+    graph: &Graph,
+    certificate: &Certificate,
+) -> Result<Verdicts, NoMemory>
+    requires { IsGraph program.now graph.now }
+    ensures { IfOk result (λ verdicts. AreVerdicts (certified_in program.now certificate.now) (verdicts_in verdicts)) }
+{
+    let rules = check_certificate_of(alloc, program, graph, certificate)?;
+    let flow = stability_of(alloc, program, graph)?;
+    let labels = constant_time(alloc, program, graph)?;
     Ok(Verdicts {
         rules,
         flow,

@@ -16,7 +16,7 @@ use Rattle.bl_graph.specs.SecretChains.{Ends, sunk, stored, given}
 use Rattle.bl_ct.specs.Facts.{AreFacts}
 use Rattle.bl_ct.specs.declared.facts.Facts.{Facts}
 use Rattle.bl_graph.specs.Arcs.{is_in}
-use Rattle.bl_ct.specs.Finding.{end_at, IsNoted, AreEnds, Gives, KeptAt}
+use Rattle.bl_ct.specs.Finding.{entry_at, IsNoted, AreEnds, Gives, KeptAt}
 use Rattle.bl_graph.proofs.Members.{none_in}
 
 pub note_none : (ends : List (Option ℕ)) → IsNoted [] ends ends
@@ -31,34 +31,34 @@ note_none ends = record {
 pub note_more : (uses : List Use) (u : Use) (old new : List (Option ℕ)) → u.var.0 < length new → IsNoted uses old new → IsNoted (uses ++ u ∷ []) old (set new u.var.0 (Some u.at.0))
 note_more uses u old new within noted =
     let after : List (Option ℕ) = set new u.var.0 (Some u.at.0) in
-    let here : end_at after u.var.0 ≡ Some u.at.0 = get_or-set_same new u.var.0 (Some u.at.0) None within in
-    let apart_ : (x : ℕ) → (x ≡ u.var.0 → ⊥) → end_at after x ≡ end_at new x = λ x apart. get_or-set_other new u.var.0 x (Some u.at.0) None apart in
-    let still : (x : ℕ) → IsTrue (is_some (end_at new x)) → IsTrue (is_some (end_at after x)) = λ x h.
-    elim (cases_eq x u.var.0) as (λ _. IsTrue (is_some (end_at after x))) [
-      | inl e ↦ ap (λ y. is_some (end_at after y)) e ∙ ap is_some here
+    let here : entry_at after u.var.0 ≡ Some u.at.0 = get_or-set_same new u.var.0 (Some u.at.0) None within in
+    let apart_ : (x : ℕ) → (x ≡ u.var.0 → ⊥) → entry_at after x ≡ entry_at new x = λ x apart. get_or-set_other new u.var.0 x (Some u.at.0) None apart in
+    let still : (x : ℕ) → IsTrue (is_some (entry_at new x)) → IsTrue (is_some (entry_at after x)) = λ x h.
+    elim (cases_eq x u.var.0) as (λ _. IsTrue (is_some (entry_at after x))) [
+      | inl e ↦ ap (λ y. is_some (entry_at after y)) e ∙ ap is_some here
       | inr apart ↦ ap is_some (apart_ x apart) ∙ h
     ] in
     record {
       places = length-set new u.var.0 (Some u.at.0) ∙ noted.places;
-      sound = λ x e h. elim (cases_eq x u.var.0) as (λ _. (end_at old x ≡ Some e) ⊎ Contains (uses ++ u ∷ []) (use_of e x)) [
+      sound = λ x e h. elim (cases_eq x u.var.0) as (λ _. (entry_at old x ≡ Some e) ⊎ Contains (uses ++ u ∷ []) (use_of e x)) [
         | inl same ↦
-            let at_ : u.at.0 ≡ e = same_Some u.at.0 e (sym here ∙ ap (end_at after) (sym same) ∙ h) in
+            let at_ : u.at.0 ≡ e = same_Some u.at.0 e (sym here ∙ ap (entry_at after) (sym same) ∙ h) in
             inr (subst (λ a. Contains (uses ++ u ∷ []) (use_of a x)) at_ (subst (λ y. Contains (uses ++ u ∷ []) (use_of u.at.0 y)) (sym same) (Contains-push uses u)))
-        | inr apart ↦ elim (noted.sound x e (sym (apart_ x apart) ∙ h)) as (λ _. (end_at old x ≡ Some e) ⊎ Contains (uses ++ u ∷ []) (use_of e x)) [
+        | inr apart ↦ elim (noted.sound x e (sym (apart_ x apart) ∙ h)) as (λ _. (entry_at old x ≡ Some e) ⊎ Contains (uses ++ u ∷ []) (use_of e x)) [
           | inl was ↦ inl was
           | inr there ↦ inr (Contains-append_left uses (u ∷ []) (use_of e x) there)
         ]
       ];
       kept = λ x h. still x (noted.kept x h);
-      full = λ x e h. elim (Contains-push_cases uses u (use_of e x) h) as (λ _. IsTrue (is_some (end_at after x))) [
+      full = λ x e h. elim (Contains-push_cases uses u (use_of e x) h) as (λ _. IsTrue (is_some (entry_at after x))) [
         | inl there ↦ still x (noted.full x e there)
-        | inr same ↦ ap (λ y. is_some (end_at after y)) (sym (ap (λ (w : Use). w.var.0) same)) ∙ ap is_some here
+        | inr same ↦ ap (λ y. is_some (entry_at after y)) (sym (ap (λ (w : Use). w.var.0) same)) ∙ ap is_some here
       ];
     }
 
-no_end : (n x : ℕ) → end_at (replicate n None) x ≡ None
-no_end n x =
-    elim (cases_lt x n) as (λ _. end_at (replicate n None) x ≡ None) [
+pub no_entry : (n x : ℕ) → entry_at (replicate n None) x ≡ None
+no_entry n x =
+    elim (cases_lt x n) as (λ _. entry_at (replicate n None) x ≡ None) [
       | inl lt ↦ get_or-replicate n x None None lt
       | inr past ↦ get_or_past (replicate n None) x None (let e = length-replicate {A = Option ℕ} n None in omega arith)
     ]
@@ -77,7 +77,7 @@ module _ (program : Program) (graph : Graph) (is : IsGraph program graph) (facts
     sound = λ x e h. elim (reads.sound x e h) as (λ _. Ends program x e) [
       | inl before ↦ elim (stores.sound x e before) as (λ _. Ends program x e) [
         | inl first ↦ elim (sinks.sound x e first) as (λ _. Ends program x e) [
-          | inl begun ↦ absurd (is_none_some (end_at none x) e (ap (λ l. end_at l x) clear ∙ no_end (variables program) x) begun)
+          | inl begun ↦ absurd (is_none_some (entry_at none x) e (ap (λ l. entry_at l x) clear ∙ no_entry (variables program) x) begun)
           | inr there ↦ sunk ((is.sinks.each e x).0 there)
         ]
         | inr there ↦ stored ((are.stores (use_of e x)).0 there)
@@ -89,7 +89,7 @@ module _ (program : Program) (graph : Graph) (is : IsGraph program graph) (facts
     ];
     full = full_;
   } where
-    full_ : (x e : ℕ) → Ends program x e → IsTrue (is_some (end_at ends x))
+    full_ : (x e : ℕ) → Ends program x e → IsTrue (is_some (entry_at ends x))
     full_ x e (sunk h) = reads.kept x (stores.kept x (sinks.full x e ((is.sinks.each e x).1 h)))
     full_ x e (stored h) = reads.kept x (stores.full x e ((are.stores (use_of e x)).1 h))
     full_ x e (given y r w d) =

@@ -15,7 +15,7 @@ use Rattle.bl_ct.specs.declared.facts.Facts.{Facts}
 use Rattle.bl_graph.specs.Labels.{Secret, declared, loaded, moved}
 use Rattle.bl_graph.specs.SecretChains.{Ends, sunk, stored, given}
 use Rattle.bl_graph.specs.Arcs.{is_in}
-use Rattle.bl_ct.specs.Finding.{Has, IsJustifiedBy, Searched, AreEnds, IsLeak, end_at}
+use Rattle.bl_ct.specs.Finding.{Has, IsJustifiedBy, Searched, AreEnds, IsLeak, entry_at}
 use Rattle.bl_ct.specs.Leaks.{LeakOf, LeakFound}
 use Rattle.bl_ct.specs.Verdicts.{label_of, labelling_of, IsLeastLabelling}
 use Rattle.bl_ct.proofs.Visiting.{in_has, has_in}
@@ -34,7 +34,7 @@ module _ (program : Program) (is : AreSecretsInRange program) (marks demanded : 
     no_end : (x end : ℕ) → Ends program x end → IsTrue (is_in marks x) → ⊥
     no_end x end h t =
         let found = searched.back x t in
-        none_some (end_at ends x) (ap (end_at ends) (sym found.2) ∙ (none found.0 found.1).0) (table.full x end h)
+        none_some (entry_at ends x) (ap (entry_at ends) (sym found.2) ∙ (none found.0 found.1).0) (table.full x end h)
 
     -- a demanded variable, by how it was found
     by_cause : (step : Step) (place : ℕ) (cause : Cause) → Contains queue step → step.cause ≡ cause → IsJustifiedBy program queue place step.var cause → Demands program step.var → ⊥

@@ -27,7 +27,6 @@ use Rattle.bl_graph.proofs.Ranging.{in_range, param_small, operand_small}
 use Rattle.bl_ct.specs.Facts.{AreSecretsInRange, IsKnown}
 use Rattle.bl_ct.specs.declared.facts.Declared.{Declared}
 use Rattle.bl_ct.specs.declared.facts.Known.{Known}
-use Rattle.bl_ct.specs.declared.facts.SecretLoad.{SecretLoad}
 
 -- what stands there
 pub found : {A : Type 0} (o : Option A) (P : A → Type 0) → IsSomeAnd o P → (x : A) × (o ≡ Some x) × P x
@@ -170,6 +169,3 @@ module _ (known : Known) (is : IsKnown known) where
 
   pub declared_in : (one : Declared) → Contains known.facts.now.declared one → one.var < variables known.program.now
   declared_in one h = secret_range.declared one.var one.origin ((is.facts.declared one).0 h)
-
-  pub loads_in : (load : SecretLoad) → Contains known.facts.now.loads load → load.at < commands known.program.now
-  loads_in load h = secret_range.loads load.at load.memory ((is.facts.loads load).0 h)

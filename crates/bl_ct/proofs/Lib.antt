@@ -12,3 +12,4 @@ pub mod Nothing
 pub mod Reaching
 pub mod Rowing
 pub mod Visiting
+pub mod Writing

@@ -1,5 +1,5 @@
 -- A search with a queue of steps, one visit at a time.
-use Rattle.std.proofs.Common.{◌≡◌, ℕ, suc, zero, ◌+◌, ◌<◌, ◌≤◌, ◌-◌, Bool, true, false, List, [], ◌∷◌, ◌++◌, length, set, cond, refl, sym, ap, subst, ◌∙◌, arith, ◌⊎◌, inl, inr, not, Some, replicate, length-append, length-set}
+use Rattle.std.proofs.Common.{◌≡◌, ℕ, suc, zero, ◌+◌, ◌<◌, ◌≤◌, ◌-◌, Bool, true, false, List, [], ◌∷◌, ◌++◌, length, set, cond, refl, sym, ap, subst, ◌∙◌, arith, ◌⊎◌, inl, inr, not, Option, Some, replicate, length-append, length-set}
 use Rattle.std.specs.Prelude.{IsTrue, ◌↔◌}
 use Rattle.std.specs.List.{Contains, slice_get, slice_index_or}
 use Rattle.std.proofs.lemmas.Bool.{cases_lt, cases_eq, false≢true}
@@ -17,22 +17,26 @@ use Rattle.bl_graph.specs.Labels.{Secret, declared, loaded, moved}
 use Rattle.bl_graph.specs.Ranges.{variables}
 use Rattle.bl_ct.specs.Facts.{AreFacts}
 use Rattle.bl_ct.specs.declared.facts.Facts.{Facts}
-use Rattle.bl_graph.specs.Arcs.{is_in, unmarked, row_at}
-use Rattle.bl_ct.specs.Finding.{Visits, Some_fits, Some_asks, RowFits, RowAsks, Has, IsJustifiedBy, AreJustified, Searching, Searched}
+use Rattle.bl_graph.specs.Arcs.{is_in, unmarked}
+use Rattle.bl_ct.specs.Finding.{Visits, Some_fits, Some_asks, IsFoundBy, entry_at, Has, IsJustifiedBy, AreJustified, Searching, Searched}
 use Rattle.bl_graph.proofs.Members.{none_in}
 
-pub visits_none : {A : Type 0} (fits : A → Step → Type 0) (asks : A → ℕ → Type 0) (marks : List Bool) (queue : List Step) → Visits (Some_fits [] fits) (Some_asks [] asks) marks marks queue queue
-visits_none fits asks marks queue = record {
+-- where all that is asked for is marked, nothing is queued
+pub visits_all : (fits : Step → Type 0) (asks : ℕ → Type 0) (marks : List Bool) (queue : List Step) → ((v : ℕ) → asks v → IsTrue (is_in marks v)) → Visits fits asks marks marks queue queue
+visits_all fits asks marks queue there = record {
   added = [];
   front = sym (append-nil queue);
   places = refl;
   kept = λ v h. h;
-  taken = λ v h. absurd (none_in h.0 h.1);
+  taken = there;
   from = λ v h. inl h;
   marked = λ step h. absurd (none_in step h);
   causes = λ step h. absurd (none_in step h);
   counts = refl;
 }
+
+pub visits_none : {A : Type 0} (fits : A → Step → Type 0) (asks : A → ℕ → Type 0) (marks : List Bool) (queue : List Step) → Visits (Some_fits [] fits) (Some_asks [] asks) marks marks queue queue
+visits_none fits asks marks queue = visits_all (Some_fits [] fits) (Some_asks [] asks) marks queue (λ v h. absurd (none_in h.0 h.1))
 
 -- what one more element asks for is visited
 pub visits_push : {A : Type 0} (fits : A → Step → Type 0) (asks : A → ℕ → Type 0) (xs : List A) (x : A) (a b c : List Bool) (p q r : List Step)
@@ -60,16 +64,21 @@ visits_push fits asks xs x a b c p q r one two = record {
 
 -- a variable that is marked already
 pub visits_no : (step : Step) (marks : List Bool) (queue : List Step) → IsTrue (is_in marks step.var) → Visits (λ s. s ≡ step) (λ v. v ≡ step.var) marks marks queue queue
-visits_no step marks queue there = record {
-  added = [];
-  front = sym (append-nil queue);
-  places = refl;
-  kept = λ v h. h;
-  taken = λ v e. subst (λ w. IsTrue (is_in marks w)) (sym e) there;
-  from = λ v h. inl h;
-  marked = λ s h. absurd (none_in s h);
-  causes = λ s h. absurd (none_in s h);
-  counts = refl;
+visits_no step marks queue there = visits_all (λ s. s ≡ step) (λ v. v ≡ step.var) marks queue (λ v e. subst (λ w. IsTrue (is_in marks w)) (sym e) there)
+
+-- the variable that a site writes
+pub visits_written : (x : ℕ) (cause : Cause) (a b : List Bool) (p q : List Step) → Visits (λ s. s ≡ record { var = x; cause = cause }) (λ v. v ≡ x) a b p q
+    → Visits (IsFoundBy (Some x) cause) (λ v. Some x ≡ Some v) a b p q
+visits_written x cause a b p q visit = record {
+  added = visit.added;
+  front = visit.front;
+  places = visit.places;
+  kept = visit.kept;
+  taken = λ v e. visit.taken v (sym (same_Some x v e));
+  from = visit.from;
+  marked = visit.marked;
+  causes = λ step h. let e = visit.causes step h in (ap (λ (s : Step). Some s.var) (sym e), ap (λ (s : Step). s.cause) e);
+  counts = visit.counts;
 }
 
 -- 1 for what is not marked
@@ -152,7 +161,7 @@ stands_more program q a more front old new = subst (AreJustified program) (sym f
       | inr behind ↦ new place step behind.0 behind.1
     ])
 
-module _ (program : Program) (facts : Facts) (are : AreFacts program facts) (written : List (List ℕ)) (writes : (s x : ℕ) → Contains (row_at written s) x ↔ Writes program s x) where
+module _ (program : Program) (facts : Facts) (are : AreFacts program facts) (written : List (Option ℕ)) (writes : (s x : ℕ) → (entry_at written s ≡ Some x) ↔ Writes program s x) where
   -- all but causes, after a visit
   queued_more : (fits : Step → Type 0) (asks : ℕ → Type 0) (old new : List Bool) (q more : List Step) → Visits fits asks old new q more → ((step : Step) → Contains q step → IsTrue (is_in old step.var)) → (step : Step) → Contains more step → IsTrue (is_in new step.var)
   queued_more fits asks old new q more visit all step h =
@@ -171,14 +180,14 @@ module _ (program : Program) (facts : Facts) (are : AreFacts program facts) (wri
   declared_stands : (q : List Step) (place : ℕ) (step : Step) → Some_fits facts.declared (λ d s. s ≡ record { var = d.var; cause = Declared d.origin }) step → IsJustifiedBy program q place step.var step.cause
   declared_stands q place step f = subst (λ s. IsJustifiedBy program q place s.var s.cause) (sym f.2) ((are.declared f.0).0 f.1)
 
-  loaded_stands : (q : List Step) (place : ℕ) (step : Step) → Some_fits facts.loads (λ d. RowFits (row_at written d.at) (Loaded d.at d.memory)) step → IsJustifiedBy program q place step.var step.cause
+  loaded_stands : (q : List Step) (place : ℕ) (step : Step) → Some_fits facts.loads (λ d. IsFoundBy (entry_at written d.at) (Loaded d.at d.memory)) step → IsJustifiedBy program q place step.var step.cause
   loaded_stands q place step f =
-      let row = f.2 in
-      subst (λ s. IsJustifiedBy program q place s.var s.cause) (sym row.2) ((are.loads f.0).0 f.1, (writes f.0.at row.0).0 row.1)
+      let found = f.2 in
+      subst (IsJustifiedBy program q place step.var) (sym found.1) ((are.loads f.0).0 f.1, (writes f.0.at step.var).0 found.0)
 
   pub search_begins : (none one two : List Bool) (first second : List Step) → none ≡ replicate (variables program) false
       → Visits (Some_fits facts.declared (λ d step. step ≡ record { var = d.var; cause = Declared d.origin })) (Some_asks facts.declared (λ d v. v ≡ d.var)) none one [] first
-      → Visits (Some_fits facts.loads (λ d. RowFits (row_at written d.at) (Loaded d.at d.memory))) (Some_asks facts.loads (λ d. RowAsks (row_at written d.at))) one two first second
+      → Visits (Some_fits facts.loads (λ d. IsFoundBy (entry_at written d.at) (Loaded d.at d.memory))) (Some_asks facts.loads (λ d v. entry_at written d.at ≡ Some v)) one two first second
       → Searching program two second 0
   search_begins none one two first second clear by_declared by_loaded =
       let unmarked_ : (v : ℕ) → IsTrue (is_in none v) → ⊥ = λ v h. false≢true (sym (ap (λ l. is_in l v) clear ∙ replicate_or (variables program) v false) ∙ h) in
@@ -188,7 +197,7 @@ module _ (program : Program) (facts : Facts) (are : AreFacts program facts) (wri
         places = by_loaded.places ∙ (by_declared.places ∙ (ap length clear ∙ length-replicate {A = Bool} (variables program) false));
         in_order = omega arith;
         declared = λ x origin h. by_loaded.kept x (by_declared.taken x (record { var = x; origin = origin }, (are.declared (record { var = x; origin = origin })).1 h, refl));
-        loaded = λ s memory x h w. by_loaded.taken x (record { at = s; memory = memory }, (are.loads (record { at = s; memory = memory })).1 h, (x, (writes s x).1 w, refl));
+        loaded = λ s memory x h w. by_loaded.taken x (record { at = s; memory = memory }, (are.loads (record { at = s; memory = memory })).1 h, (writes s x).1 w);
         queued = queued_more _ _ one two first second by_loaded queued_;
         back = back_more _ _ one two first second by_loaded back_;
         done = λ place step lt. absurd (omega arith);
@@ -199,14 +208,14 @@ module _ (program : Program) (facts : Facts) (are : AreFacts program facts) (wri
 
   module _ (marks : List Bool) (queue : List Step) (next : ℕ) (state : Searching program marks queue next) where
     moved_stands : (a sites : List ℕ) (added : List Step) (step : Step) → Has queue next step → ((s : ℕ) → Contains sites s → Reads program s step.var) → (place : ℕ) (new : Step) → length queue ≤ place
-        → Some_fits sites (λ s. RowFits (row_at written s) (Moved s next)) new → IsJustifiedBy program (queue ++ added) place new.var new.cause
+        → Some_fits sites (λ s. IsFoundBy (entry_at written s) (Moved s next)) new → IsJustifiedBy program (queue ++ added) place new.var new.cause
     moved_stands a sites added step has reads place new le f =
-        let row = f.2 in
+        let found = f.2 in
         let lt = slice_get_within queue next step has in
-        subst (λ s. IsJustifiedBy program (queue ++ added) place s.var s.cause) (sym row.2) (omega arith, (step, has_left queue added next step has, reads f.0 f.1, (writes f.0 row.0).0 row.1))
+        subst (IsJustifiedBy program (queue ++ added) place new.var) (sym found.1) (omega arith, (step, has_left queue added next step has, reads f.0 f.1, (writes f.0 new.var).0 found.0))
 
     pub search_next : (new : List Bool) (more : List Step) (sites : List ℕ) (step : Step) → Has queue next step → ((s : ℕ) → Contains sites s ↔ Reads program s step.var)
-        → Visits (Some_fits sites (λ s. RowFits (row_at written s) (Moved s next))) (Some_asks sites (λ s. RowAsks (row_at written s))) marks new queue more
+        → Visits (Some_fits sites (λ s. IsFoundBy (entry_at written s) (Moved s next))) (Some_asks sites (λ s v. entry_at written s ≡ Some v)) marks new queue more
         → Searching program new more (next + 1)
     search_next new more sites step has reads visit =
         let lt = slice_get_within queue next step has in
@@ -226,7 +235,7 @@ module _ (program : Program) (facts : Facts) (are : AreFacts program facts) (wri
                       let e : place ≡ next = omega arith in
                       let both : Some other ≡ Some step = sym there ∙ ap (slice_get queue) e ∙ has in
                       let same : other ≡ step = same_Some other step both in
-                      visit.taken y (s, (reads s).1 (subst (λ t. Reads program s t.var) same r), (y, (writes s y).1 w, refl))
+                      visit.taken y (s, (reads s).1 (subst (λ t. Reads program s t.var) same r), (writes s y).1 w)
                 ]
                 | inr behind ↦ absurd (let le = behind.0 in omega arith)
               ];

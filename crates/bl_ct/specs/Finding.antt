@@ -15,12 +15,17 @@ use Rattle.bl_graph.specs.Secrets.{Declares, LoadsSecret, Demands}
 use Rattle.bl_graph.specs.Labels.{Secret}
 use Rattle.bl_graph.specs.SecretChains.{Ends, LeadsToEnd}
 
--- pairs as arcs
-abbrev pub from_site : Use → Arc
-from_site w = record { from = w.at.0; to = w.var.0 }
-
+-- a read as an arc, from the variable to the site
 abbrev pub from_var : Use → Arc
 from_var r = record { from = r.var.0; to = r.at.0 }
+
+-- an entry of a table, if there is one
+abbrev pub entry_at : List (Option ℕ) → ℕ → Option ℕ
+entry_at entries place = slice_index_or entries place None
+
+-- for each position the variable that the site there writes
+pub record AreWritten (writes : List Use) (written : List (Option ℕ)) : Type 0 where
+  pub each : (s x : ℕ) → (entry_at written s ≡ Some x) ↔ Contains writes (use_of s x)
 
 -- a queue has a step at a place
 abbrev pub Has : List Step → ℕ → Step → Type 0
@@ -43,12 +48,9 @@ Some_fits {A} xs fits step = (x : A) × Contains xs x × fits x step
 abbrev pub Some_asks : {A : Type 0} → List A → (A → ℕ → Type 0) → ℕ → Type 0
 Some_asks {A} xs asks v = (x : A) × Contains xs x × asks x v
 
--- the variables of a row, found by one cause
-abbrev pub RowFits : List ℕ → Cause → Step → Type 0
-RowFits row cause = Some_fits row (λ u step. step ≡ record { var = u; cause = cause })
-
-abbrev pub RowAsks : List ℕ → ℕ → Type 0
-RowAsks row = Some_asks row (λ u v. v ≡ u)
+-- a step of that variable, found by one cause
+abbrev pub IsFoundBy : Option ℕ → Cause → Step → Type 0
+IsFoundBy var cause step = (var ≡ Some step.var) × (step.cause ≡ cause)
 
 -- all variables that are asked for are marked, and those that were not are queued, each as it may be
 pub record Visits (fits : Step → Type 0) (asks : ℕ → Type 0) (old new : List Bool) (queue more : List Step) : Type 0 where
@@ -82,22 +84,18 @@ pub record Searched (program : Program) (marks : List Bool) (queue : List Step) 
   pub back : (v : ℕ) → IsTrue (is_in marks v) → (step : Step) × Contains queue step × (step.var ≡ v)
   pub sound : AreJustified program queue
 
--- an entry of a table, if there is one
-abbrev pub end_at : List (Option ℕ) → ℕ → Option ℕ
-end_at ends x = slice_index_or ends x None
-
 -- one of these uses is noted at each variable that has one
 pub record IsNoted (uses : List Use) (old new : List (Option ℕ)) : Type 0 where
   pub places : length new ≡ length old
-  pub sound : (x e : ℕ) → end_at new x ≡ Some e → (end_at old x ≡ Some e) ⊎ Contains uses (use_of e x)
-  pub kept : (x : ℕ) → IsTrue (is_some (end_at old x)) → IsTrue (is_some (end_at new x))
-  pub full : (x e : ℕ) → Contains uses (use_of e x) → IsTrue (is_some (end_at new x))
+  pub sound : (x e : ℕ) → entry_at new x ≡ Some e → (entry_at old x ≡ Some e) ⊎ Contains uses (use_of e x)
+  pub kept : (x : ℕ) → IsTrue (is_some (entry_at old x)) → IsTrue (is_some (entry_at new x))
+  pub full : (x e : ℕ) → Contains uses (use_of e x) → IsTrue (is_some (entry_at new x))
 
 -- for each variable an end, if it has one
 pub record AreEnds (program : Program) (ends : List (Option ℕ)) : Type 0 where
   pub places : length ends ≡ variables program
-  pub sound : (x e : ℕ) → end_at ends x ≡ Some e → Ends program x e
-  pub full : (x e : ℕ) → Ends program x e → IsTrue (is_some (end_at ends x))
+  pub sound : (x e : ℕ) → entry_at ends x ≡ Some e → Ends program x e
+  pub full : (x e : ℕ) → Ends program x e → IsTrue (is_some (entry_at ends x))
 
 -- a step whose variable may not be secret
 abbrev pub IsLeak : Program → Step → ℕ → Type 0

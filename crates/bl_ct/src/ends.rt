@@ -11,7 +11,8 @@ use bl_base::NoMemory;
 use bl_graph::{Use, variables};
 use std::alloc::Global;
 
-/// For each variable a position where it may not be secret, if there is one. Linear in the program.
+/// For each variable a position where it may not be secret, if there is one. Linear in the program and in the number of its
+/// declared variables.
 pub(crate) fn ends_of(
     alloc: Global,
     known: &Known,
@@ -25,7 +26,7 @@ pub(crate) fn ends_of(
     let count = command_count(known.program);
     let giving = giving_sites(alloc, count, known.graph.writes.as_slice(), demanded)?;
     let last_reads = uses_at(alloc, known.graph.reads.as_slice(), &giving)?;
-    let mut ends = no_ends(alloc, variables(known.program))?;
+    let mut ends = no_entries(alloc, variables(known.program))?;
     note(&mut ends, known.graph.sinks.as_slice());
     note(&mut ends, known.facts.stores.as_slice());
     note(&mut ends, &last_reads);
@@ -67,15 +68,15 @@ fn uses_at(alloc: Global, uses: &[Use], marks: &[bool]) -> Result<Vec<Use>, NoMe
     Ok(kept)
 }
 
-/// No ends for so many variables.
-fn no_ends(alloc: Global, count: u32) -> Result<Vec<Option<u32>>, NoMemory>
-    ensures { IfOk result (λ ends. ends.items ≡ replicate count None) }
+/// A table of so many places without an entry.
+pub(crate) fn no_entries(alloc: Global, count: u32) -> Result<Vec<Option<u32>>, NoMemory>
+    ensures { IfOk result (λ entries. entries.items ≡ replicate count None) }
 {
-    let mut ends = Vec::new(alloc);
+    let mut entries = Vec::new(alloc);
     for _ in 0..count {
-        ends.push(None)?;
+        entries.push(None)?;
     }
-    Ok(ends)
+    Ok(entries)
 }
 
 /// Notes the uses at their variables.

@@ -1,12 +1,14 @@
 //! The search for secret variables.
-ghost use Rattle.std.specs.Prelude.{◌≡◌, ◌<◌, ◌↔◌, ℕ, All, Contains, IfOk, OnOk, length, map};
+ghost use Rattle.std.specs.Prelude.{◌≡◌, ◌<◌, ◌↔◌, ℕ, All, Contains, IfOk, OnOk, Some, length, map};
 ghost use Rattle.bl_cmd.specs.Sites.{Reads, Writes};
-ghost use Rattle.bl_graph.specs.Ranges.{commands, variables};
+ghost use Rattle.bl_graph.specs.Graphs.{use_of};
+ghost use Rattle.bl_graph.specs.Ranges.{variables};
 ghost use Rattle.bl_ct.specs.Facts.{IsKnown};
 ghost use Rattle.bl_graph.specs.Arcs.{row_at, rows_in};
-ghost use Rattle.bl_ct.specs.Finding.{RowAsks, RowFits, Searched, Some_asks, Some_fits, Visits, from_site, from_var};
+ghost use Rattle.bl_ct.specs.Finding.{AreWritten, IsFoundBy, Searched, Some_asks, Some_fits, Visits, entry_at, from_var};
 ghost use Rattle.bl_ct.specs.declared.search.Cause.TheVariants as cause_;
 
+use crate::ends::no_entries;
 use crate::facts::{Declared, Known, SecretLoad, command_count};
 use bl_base::NoMemory;
 use bl_graph::{Arc, Origin, Use, rows_of, variables};
@@ -51,34 +53,29 @@ pub(crate) struct Found {
     pub(crate) queue: Vec<Step>,
 }
 
-/// The secret variables of a program. Linear in the program.
+/// The secret variables of a program. Linear in the program and in the number of its declared variables.
 pub(crate) fn secret_variables(alloc: Global, known: &Known) -> Result<Found, NoMemory>
     requires { IsKnown known.now }
     ensures { IfOk result (λ found. Searched known.now.program.now found.marks.items found.queue.items) }
 {
     let count = command_count(known.program);
-    let written = rows_of(
-        alloc,
-        &site_arcs(alloc, known.graph.writes.as_slice())?,
-        count,
-    )?;
+    let written = written_of(alloc, count, known.graph.writes.as_slice())?;
     let arcs = var_arcs(alloc, known.graph.reads.as_slice())?;
     let readers = rows_of(alloc, &arcs, variables(known.program))?;
     search(alloc, known, &readers, &written)
 }
 
-/// The search by rows: for each variable the sites that read it, and for each site the variables that it writes.
+/// The search by tables: for each variable the sites that read it, and for each position the variable that the site there writes.
 fn search(
     alloc: Global,
     known: &Known,
     readers: &[Vec<u32>],
-    written: &[Vec<u32>],
+    written: &[Option<u32>],
 ) -> Result<Found, NoMemory>
     requires is { IsKnown known.now }
     requires vars { length readers.now ≡ variables known.now.program.now }
-    requires sites { length written.now ≡ commands known.now.program.now }
     requires reads { (x s : ℕ) → Contains (row_at (rows_in readers.now) x) s ↔ Reads known.now.program.now s x }
-    requires writes { (s x : ℕ) → Contains (row_at (rows_in written.now) s) x ↔ Writes known.now.program.now s x }
+    requires writes { (s x : ℕ) → (entry_at written.now s ≡ Some x) ↔ Writes known.now.program.now s x }
     ensures { IfOk result (λ found. Searched known.now.program.now found.marks.items found.queue.items) }
 {
     let mut marks = vec![in alloc; false; readers.len()]?;
@@ -127,15 +124,14 @@ fn find_declared(
 /// Finds what Loads of secret memories write.
 fn find_loaded(
     loads: &[SecretLoad],
-    written: &[Vec<u32>],
+    written: &[Option<u32>],
     marks: &mut Vec<bool>,
     queue: &mut Vec<Step>,
 ) -> Result<(), NoMemory>
-    requires sites { All (λ l. l.at < length written.now) loads.now }
-    requires vars { (s x : ℕ) → Contains (row_at (rows_in written.now) s) x → x < length marks.old.items }
+    requires { (s x : ℕ) → entry_at written.now s ≡ Some x → x < length marks.old.items }
     ensures { OnOk result (Visits
-        (Some_fits loads.now (λ l. RowFits (row_at (rows_in written.now) l.at) (cause_.Loaded l.at l.memory)))
-        (Some_asks loads.now (λ l. RowAsks (row_at (rows_in written.now) l.at)))
+        (Some_fits loads.now (λ l. IsFoundBy (entry_at written.now l.at) (cause_.Loaded l.at l.memory)))
+        (Some_asks loads.now (λ l v. entry_at written.now l.at ≡ Some v))
         marks.old.items marks.new.items queue.old.items queue.new.items) }
 {
     for load in loads {
@@ -143,7 +139,7 @@ fn find_loaded(
             at: load.at,
             memory: load.memory,
         };
-        find_row(&written[load.at as usize], cause, marks, queue)?;
+        find_written(written_at(written, load.at), cause, marks, queue)?;
     }
     Ok(())
 }
@@ -151,37 +147,36 @@ fn find_loaded(
 /// Finds what the sites write that read a variable found before.
 fn find_moved(
     sites: &[u32],
-    written: &[Vec<u32>],
+    written: &[Option<u32>],
     before: usize,
     marks: &mut Vec<bool>,
     queue: &mut Vec<Step>,
 ) -> Result<(), NoMemory>
-    requires sites { All (λ s. s < length written.now) sites.now }
-    requires vars { (s x : ℕ) → Contains (row_at (rows_in written.now) s) x → x < length marks.old.items }
+    requires { (s x : ℕ) → entry_at written.now s ≡ Some x → x < length marks.old.items }
     ensures { OnOk result (Visits
-        (Some_fits sites.now (λ s. RowFits (row_at (rows_in written.now) s) (cause_.Moved s before)))
-        (Some_asks sites.now (λ s. RowAsks (row_at (rows_in written.now) s)))
+        (Some_fits sites.now (λ s. IsFoundBy (entry_at written.now s) (cause_.Moved s before)))
+        (Some_asks sites.now (λ s v. entry_at written.now s ≡ Some v))
         marks.old.items marks.new.items queue.old.items queue.new.items) }
 {
     for site in sites {
         let cause = Cause::Moved { at: *site, before };
-        find_row(&written[*site as usize], cause, marks, queue)?;
+        find_written(written_at(written, *site), cause, marks, queue)?;
     }
     Ok(())
 }
 
-/// Finds the variables of a row, by one cause.
-fn find_row(
-    row: &[u32],
+/// Finds what a site writes, where it writes a variable, by that cause.
+fn find_written(
+    var: Option<u32>,
     cause: Cause,
     marks: &mut Vec<bool>,
     queue: &mut Vec<Step>,
 ) -> Result<(), NoMemory>
-    requires { All (λ v. v < length marks.old.items) row.now }
-    ensures { OnOk result (Visits (RowFits row.now cause) (RowAsks row.now) marks.old.items marks.new.items queue.old.items queue.new.items) }
+    requires { (x : ℕ) → var ≡ Some x → x < length marks.old.items }
+    ensures { OnOk result (Visits (IsFoundBy var cause) (λ v. var ≡ Some v) marks.old.items marks.new.items queue.old.items queue.new.items) }
 {
-    for var in row {
-        find(Step { var: *var, cause }, marks, queue)?;
+    if let Some(var) = var {
+        find(Step { var, cause }, marks, queue)?;
     }
     Ok(())
 }
@@ -198,18 +193,27 @@ fn find(step: Step, marks: &mut Vec<bool>, queue: &mut Vec<Step>) -> Result<(), 
     Ok(())
 }
 
-/// From each site to what it writes.
-fn site_arcs(alloc: Global, writes: &[Use]) -> Result<Vec<Arc>, NoMemory>
-    ensures { IfOk result (λ arcs. arcs.items ≡ map from_site writes.now) }
+/// For each position the variable that the site there writes.
+fn written_of(alloc: Global, count: u32, writes: &[Use]) -> Result<Vec<Option<u32>>, NoMemory>
+    requires sites { All (λ w. w.at.0 < count) writes.now }
+    requires one { (s x y : ℕ) → Contains writes.now (use_of s x) → Contains writes.now (use_of s y) → x ≡ y }
+    ensures { IfOk result (λ written. AreWritten writes.now written.items) }
 {
-    let mut arcs = Vec::new(alloc);
+    let mut written = no_entries(alloc, count)?;
     for write in writes {
-        arcs.push(Arc {
-            from: write.at.0,
-            to: write.var.0,
-        })?;
+        written[write.at.0 as usize] = Some(write.var.0);
     }
-    Ok(arcs)
+    Ok(written)
+}
+
+/// The variable that the site at a position writes.
+fn written_at(written: &[Option<u32>], at: u32) -> Option<u32>
+    ensures { result ≡ entry_at written.now at }
+{
+    match written.get(at as usize) {
+        Some(var) => *var,
+        None => None,
+    }
 }
 
 /// From each variable to the sites that read it.

@@ -37,7 +37,7 @@ pub(crate) struct Leak {
 }
 
 /// The labelling with the fewest secret variables, where some labelling keeps the label rules; else a secret chain. Linear in
-/// the program. Want of memory is the only error.
+/// the program and in the number of its declared variables. Want of memory is the only error.
 pub fn constant_time(
     alloc: Global,
     program: &WellFormed,

@@ -1,5 +1,5 @@
 -- From the answer of the maximum flow to the choice.
-use Rattle.std.proofs.Common.{◌≡◌, ℕ, ◌+◌, ◌-◌, ◌^◌, ◌<◌, ◌≤◌, Bool, true, false, List, [], ◌∷◌, ◌++◌, length, unwrap_or, sym, ap, subst, ◌∙◌, arith, inl, inr, not, ◌&&◌, nat_lt, slice_index}
+use Rattle.std.proofs.Common.{◌≡◌, ℕ, ◌+◌, ◌-◌, ◌^◌, ◌<◌, ◌≤◌, Bool, true, false, List, [], ◌∷◌, ◌++◌, length, unwrap_or, sym, ap, subst, ◌∙◌, arith, inl, inr, min, not, ◌&&◌, nat_lt, slice_index}
 use Rattle.std.specs.Prelude.{map}
 use Rattle.std.specs.List.{All, Contains, slice_index_or}
 use Rattle.std.specs.FinSet as fin
@@ -77,8 +77,9 @@ module _ (program : Program) (is : AreInRange program) (r : FlowResult) (found :
     backs : paths ≡ map (path_of (commands program) sink_of) r.paths
     backs = back ∙ ap (λ m. map (path_of m sink_of) r.paths) e
 
-    pub flows_little : flow_of paths < 2 ^ 64
-    flows_little = let same = ap flow_of backs ∙ same_flow program is found.network found.is r found.flow sink_of knows in let little = carries_little in omega arith
+    -- the sum of what flows is below 2^63, so a sum of 64 bits that saturates is exact
+    sum_is : (w : ℕ) → w ≡ min (flow_of paths) (2 ^ 64 - 1) → w ≡ flow_of paths
+    sum_is w sum = let same = ap flow_of backs ∙ same_flow program is found.network found.is r found.flow sink_of knows in let little = carries_little in omega arith
 
     module _ (set : FinSet nat_cmp) (holds : (s : ℕ) → fin.contains set s ≡ (nat_lt s n && (at_place r.near_in s && not (at_place r.near_out s)))) where
       at_each : (s : ℕ) → cut_of r s ≡ fin.contains set s
@@ -101,11 +102,11 @@ module _ (program : Program) (is : AreInRange program) (r : FlowResult) (found :
           subst (λ s. CertifiesSet program s (record { paths = paths; weight = flow_of paths })) same_set
           (subst (λ ps. CertifiesSet program (cut_of r) (record { paths = ps; weight = flow_of ps })) (sym backs) (certified program is found.network found.is r found.flow sink_of knows))
 
-      pub answer_certificate : (ps : List FlowPath) (w : ℕ) → ps ≡ paths → w ≡ flow_of paths → Certifies (protected (fin.contains set) program) (record { paths = ps; weight = w })
-      answer_certificate ps w same_paths same_weight =
+      pub answer_certificate : (ps : List FlowPath) (w : ℕ) → ps ≡ paths → w ≡ min (flow_of paths) (2 ^ 64 - 1) → Certifies (protected (fin.contains set) program) (record { paths = ps; weight = w })
+      answer_certificate ps w same_paths sum =
           certifies_on (fin.contains set) program answer_least.sites (record { paths = ps; weight = w })
           (subst (λ c. CertifiesSet program (fin.contains set) (record { paths = c; weight = w })) (sym same_paths)
-          (subst (λ v. CertifiesSet program (fin.contains set) (record { paths = paths; weight = v })) (sym same_weight) certifies_set))
+          (subst (λ v. CertifiesSet program (fin.contains set) (record { paths = paths; weight = v })) (sym (sum_is w sum)) certifies_set))
 
-      pub answer_weight : (w : ℕ) → w ≡ flow_of paths → w ≡ weight_of program (fin.contains set)
-      answer_weight w same_weight = same_weight ∙ certifies_set.flow
+      pub answer_weight : (w : ℕ) → w ≡ min (flow_of paths) (2 ^ 64 - 1) → w ≡ weight_of program (fin.contains set)
+      answer_weight w sum = sum_is w sum ∙ certifies_set.flow

@@ -1,9 +1,9 @@
 //! The least choice of protects.
-ghost use Rattle.std.specs.Prelude.{◌≡◌, ◌<◌, ◌≤◌, ◌^◌, ◌&&◌, ℕ, IfOk, length, nat_lt, not};
+ghost use Rattle.std.specs.Prelude.{◌≡◌, ◌≤◌, ◌&&◌, ℕ, IfOk, length, nat_lt, not};
 ghost use Rattle.std.specs.FinSet as fin;
 ghost use Rattle.bl_cmd.specs.Sites.{weight_of};
 ghost use Rattle.bl_flow.specs.Cuts.{at_place};
-ghost use Rattle.bl_graph.specs.Certificates.{Certifies, flow_of};
+ghost use Rattle.bl_graph.specs.Certificates.{Certifies};
 ghost use Rattle.bl_graph.specs.Graphs.{IsGraph};
 ghost use Rattle.bl_cut.specs.Choices.{IsFlowOf};
 ghost use Rattle.bl_cut.specs.Least.{Least};
@@ -14,7 +14,7 @@ use crate::walks::{read_back, sinks_by_variable};
 use bl_base::{List, NoMemory, Pos, SiteSet};
 use bl_cmd::WellFormed;
 use bl_flow::{FlowResult, max_flow};
-use bl_graph::{Certificate, FlowPath, Graph, graph, ranges, variables};
+use bl_graph::{Certificate, Graph, flow_sum, graph, ranges, variables};
 use std::alloc::Global;
 
 /// A set of sites to protect, its weight, and a flow that shows that no set of less weight passes.
@@ -29,8 +29,8 @@ pub struct Choice {
 }
 
 /// The passing set of least weight whose transient variables are contained in those of every other one of that weight. Marks
-/// that stand in the program are ignored. Costs a maximum flow in a network that is linear in the program. Want of memory is
-/// the only error.
+/// that stand in the program are ignored. Costs a maximum flow in a network that is linear in the program and in the number of
+/// its declared variables. Want of memory is the only error.
 pub fn least_protects(alloc: Global, program: &WellFormed) -> Result<Choice, NoMemory>
     ensures least { IfOk result (λ choice. Least program.now (fin.contains choice.protects)) }
     ensures weight { IfOk result (λ choice. choice.weight ≡ weight_of program.now (fin.contains choice.protects)) }
@@ -73,7 +73,7 @@ fn choice_of(
     let commands = program.program().parts().commands.len() as u32;
     let sink_of = sinks_by_variable(alloc, variables(program), graph.sinks.as_slice())?;
     let paths = read_back(alloc, commands, &sink_of, flow.paths.as_slice())?;
-    let weight = total(&paths);
+    let weight = flow_sum(&paths);
     let protects = cut_sites(
         alloc,
         commands,
@@ -88,18 +88,6 @@ fn choice_of(
             weight,
         },
     })
-}
-
-/// How much flows.
-fn total(paths: &[FlowPath]) -> u64
-    requires { flow_of paths.now < 2 ^ 64 }
-    ensures { result ≡ flow_of paths.now }
-{
-    let mut sum = 0;
-    for path in paths {
-        sum += path.amount;
-    }
-    sum
 }
 
 /// The sites whose in part is near and whose out part isn't.

@@ -7,7 +7,7 @@ use bl_base::{List, Pos, SiteSet};
 use bl_cmd::{Command, Mark, Program, ProgramParts, WellFormed};
 
 /// The program in which exactly the sites of the set are protected; all else stays. What is no site is passed over. Linear in
-/// the commands but for the logarithm of the set's size; takes no memory.
+/// the commands; takes no memory.
 pub fn protect(program: WellFormed, protects: &SiteSet) -> WellFormed
     ensures { result ≡ protected (fin.contains protects.now) program }
 {

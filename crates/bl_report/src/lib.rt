@@ -9,6 +9,5 @@ mod sites;
 mod text;
 mod verdicts;
 
-pub use secrets::constant_time_line;
 pub use text::{report, summary};
 pub use verdicts::verdicts_text;

@@ -5,22 +5,13 @@ ghost use Rattle.bl_outcome.specs.Lines.{line};
 ghost use Rattle.bl_report.specs.Reports.{chain_text, constant_time_text, origin_text, through_text};
 
 use crate::lines::push_places;
-use bl_base::{NoMemory, Pos, Text};
+use bl_base::{NoMemory, Pos};
 use bl_ct::CtVerdict;
 use bl_graph::{Origin, SecretChain};
 use std::alloc::Global;
 
-/// The line on constant time of a verdict: `constant-time yes`, or `constant-time no` with where a secret comes from, the positions
-/// that it passes, and the one where it may not go. Linear in those positions. Want of memory is the only error.
-pub fn constant_time_line(alloc: Global, verdict: &CtVerdict) -> Result<Text, NoMemory>
-    ensures { IfOk result (λ text. text ≡ constant_time_text verdict.now) }
-{
-    let mut text = Vec::new(alloc);
-    push_constant_time(alloc, &mut text, verdict)?;
-    Ok(Text::of(text))
-}
-
-/// Puts the line on constant time behind a text.
+/// Puts the line on constant time behind a text: `constant-time yes`, or `constant-time no` with where a secret comes from, the
+/// positions that it passes, and the one where it may not go. Linear in those positions. Want of memory is the only error.
 pub(crate) fn push_constant_time(
     alloc: Global,
     text: &mut Vec<u8>,

@@ -2,7 +2,7 @@
 ghost use Rattle.std.specs.Prelude.{◌≡◌, IfOk};
 ghost use Rattle.bl_report.specs.Verdicts.{certificate_line, safe_line, stable_line, verdicts_text};
 
-use crate::secrets::constant_time_line;
+use crate::secrets::push_constant_time;
 use bl_base::{NoMemory, Text};
 use bl_ct::CtVerdict;
 use bl_transient::FlowVerdict;
@@ -23,8 +23,7 @@ pub fn verdicts_text(
     let mut text = certificate_line(alloc, rules)?;
     let stable = stable_line(alloc, flow)?;
     text.extend_from_slice(&stable)?;
-    let line = constant_time_line(alloc, labels)?;
-    text.extend_from_slice(line.as_slice())?;
+    push_constant_time(alloc, &mut text, labels)?;
     text.extend_from_slice(safe_line(flow, labels))?;
     Ok(Text::of(text))
 }

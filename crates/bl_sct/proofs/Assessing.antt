@@ -1,6 +1,5 @@
 -- From the two verdicts to the one on two runs.
 use Rattle.std.proofs.Common.{◌≡◌, ℕ, Bool, subst}
-use Rattle.std.proofs.Math.Path.{fun_ext}
 use Rattle.std.specs.Prelude.{IsTrue}
 use Rattle.bl_cmd.specs.Programs.{IsProgram}
 use Rattle.bl_cmd.specs.Rules.{IsWellFormed}
@@ -24,21 +23,16 @@ pub hot : (program : Program) (set typing : ℕ → Bool) → Assigns program ty
 hot program set typing a x (loaded s _ l w f) = a.loads s x l w f
 hot program set typing a x (moved s y _ r w f t) = a.moves s y x r w f (hot program set typing a y t)
 
-module _ (program : Program) (constant : ConstantTime program) (set : ℕ → Bool) (own : (s : ℕ) → set s ≡ is_protected program s) (verdict : FlowVerdict)
-    (judged : Judges program set verdict) where
-  -- the set that was judged is that of the program's marks
-  by_own : Judges program (is_protected program) verdict
-  by_own = subst (λ f. Judges program f verdict) (fun_ext own) judged
-
+module _ (program : Program) (constant : ConstantTime program) (verdict : FlowVerdict) (judged : Judges program (is_protected program) verdict) where
   pub safe : IsProgram program → IsWellFormed program → (flows : List Flow) → verdict ≡ Yes flows → Assesses program Safe
   safe facts rules flows is =
-      let least = subst (λ v. Judges program (is_protected program) v) is by_own in
+      let least = subst (λ v. Judges program (is_protected program) v) is judged in
       let passes : IsStable program = (typing_of flows, least.flows_hold) in
       (constant, passes, equal program facts rules constant passes)
 
   pub unstable : (position : Pos) → verdict ≡ No position → IsUnstable program position.0
   unstable position is =
-      let first = subst (λ v. Judges program (is_protected program) v) is by_own in
+      let first = subst (λ v. Judges program (is_protected program) v) is judged in
       record {
         constant_time = constant;
         passes_not = λ p. never_both (p.0 first.var) (hot program (is_protected program) p.0 p.1.assigns first.var first.hot) (p.1.sinks position.0 first.var first.sink);

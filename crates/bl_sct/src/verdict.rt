@@ -2,6 +2,7 @@
 ghost use Rattle.std.specs.Prelude.{◌≡◌, ℕ, IfOk, length};
 ghost use Rattle.std.specs.FinSet as fin;
 ghost use Rattle.bl_cmd.specs.Sites.{is_protected};
+ghost use Rattle.bl_graph.specs.Graphs.{IsGraph};
 ghost use Rattle.bl_graph.specs.Labels.{ConstantTime};
 ghost use Rattle.bl_sct.specs.Verdicts.{Assesses};
 ghost use Rattle.bl_transient.specs.Verdicts.{Judges};
@@ -9,8 +10,8 @@ ghost use Rattle.bl_transient.specs.Verdicts.{Judges};
 use bl_base::{NoMemory, Pos, SiteSet};
 use bl_cmd::{ProgramParts, WellFormed};
 use bl_ct::{CtVerdict, constant_time};
-use bl_graph::{SecretChain, graph};
-use bl_transient::{FlowVerdict, flows};
+use bl_graph::{Graph, SecretChain, graph};
+use bl_transient::{FlowVerdict, flows_of};
 use bl_witness::is_protected;
 use std::alloc::Global;
 
@@ -27,39 +28,54 @@ pub enum Verdict {
 }
 
 /// The verdict on a program with its own marks. Where it is `Safe`, two runs from starts that agree in public are observed
-/// alike, whatever the directives and the size of the buffer. Linear in the program but for the logarithm of the number of
-/// protects. Want of memory is the only error.
+/// alike, whatever the directives and the size of the buffer. Linear in the program and in the number of its declared
+/// variables. Want of memory is the only error.
 pub fn assess(alloc: Global, program: &WellFormed) -> Result<Verdict, NoMemory>
     ensures { IfOk result (λ verdict. Assesses program.now verdict) }
 {
-    let facts = graph(alloc, program)?;
-    match constant_time(alloc, program, &facts)? {
-        CtVerdict::Yes(_) => assess_labelled(alloc, program),
+    let graph = graph(alloc, program)?;
+    match constant_time(alloc, program, &graph)? {
+        CtVerdict::Yes(_) => assess_labelled(alloc, program, &graph),
         CtVerdict::No(chain) => Ok(Verdict::NotConstantTime(chain)),
     }
 }
 
 /// The verdict on a program for which some labelling keeps the label rules.
-fn assess_labelled(alloc: Global, program: &WellFormed) -> Result<Verdict, NoMemory>
-    requires { ConstantTime program.now }
+fn assess_labelled(alloc: Global, program: &WellFormed, graph: &Graph) -> Result<Verdict, NoMemory>
+    requires labelled { ConstantTime program.now }
+    requires graph { IsGraph program.now graph.now }
     ensures { IfOk result (λ verdict. Assesses program.now verdict) }
 {
-    let parts = program.program().parts();
-    let protects = own_protects(alloc, parts, parts.commands.len() as u32)?;
-    match flows(alloc, program, &protects)? {
+    // What is known of the program is read with it.
+    let _parts = program.program().parts();
+    let flow = stability_of(alloc, program, graph)?;
+    match flow {
         FlowVerdict::Yes(_) => Ok(Verdict::Safe),
         FlowVerdict::No(position) => Ok(Verdict::NotStable(position)),
     }
 }
 
 /// Whether a program's own marks pass the transient rules: the least flow typing, or the least position of a sink that reads a
-/// transient variable. Linear in the program but for the logarithm of the number of protects. Want of memory is the only error.
+/// transient variable. Linear in the program and in the number of its declared variables. Want of memory is the only error.
 pub fn stability(alloc: Global, program: &WellFormed) -> Result<FlowVerdict, NoMemory>
+    ensures { IfOk result (λ verdict. Judges program.now (is_protected program.now) verdict) }
+{
+    let graph = graph(alloc, program)?;
+    stability_of(alloc, program, &graph)
+}
+
+/// The same by the program's graph, for callers that need the graph as well.
+pub fn stability_of(
+    alloc: Global,
+    program: &WellFormed,
+    graph: &Graph,
+) -> Result<FlowVerdict, NoMemory>
+    requires { IsGraph program.now graph.now }
     ensures { IfOk result (λ verdict. Judges program.now (is_protected program.now) verdict) }
 {
     let parts = program.program().parts();
     let protects = own_protects(alloc, parts, parts.commands.len() as u32)?;
-    flows(alloc, program, &protects)
+    flows_of(alloc, program, graph, &protects)
 }
 
 /// The protected sites of a program of so many commands.

@@ -25,8 +25,8 @@ pub enum FlowVerdict {
 }
 
 /// The least flow typing where the sites of the set are protected; where a sink reads a variable that is transient in it, so
-/// that no typing keeps the rules, the least position of such a sink. Linear in the program but for the logarithm of the set's
-/// size. Want of memory is the only error.
+/// that no typing keeps the rules, the least position of such a sink. Linear in the program and in the number of its declared
+/// variables. Want of memory is the only error.
 pub fn flows(
     alloc: Global,
     program: &WellFormed,
@@ -34,9 +34,22 @@ pub fn flows(
 ) -> Result<FlowVerdict, NoMemory>
     ensures { IfOk result (λ verdict. Judges program.now (fin.contains protects.now) verdict) }
 {
-    ranges(program);
     let graph = graph(alloc, program)?;
-    let marks = transients(alloc, program, &graph, protects)?;
+    flows_of(alloc, program, &graph, protects)
+}
+
+/// The same by the program's graph, for callers that need the graph as well.
+pub fn flows_of(
+    alloc: Global,
+    program: &WellFormed,
+    graph: &Graph,
+    protects: &SiteSet,
+) -> Result<FlowVerdict, NoMemory>
+    requires { IsGraph program.now graph.now }
+    ensures { IfOk result (λ verdict. Judges program.now (fin.contains protects.now) verdict) }
+{
+    ranges(program);
+    let marks = transients(alloc, program, graph, protects)?;
     if let Some(position) = first_sink(&marks, graph.sinks.as_slice()) {
         return Ok(FlowVerdict::No(Pos(position)));
     }

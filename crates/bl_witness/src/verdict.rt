@@ -39,23 +39,39 @@ pub fn check_certificate(
     ensures rules { IfOk result (λ verdict. Checks program.now certificate.now verdict) }
     ensures least { IfOk result (λ verdict. Means program.now verdict) }
 {
+    let graph = graph(alloc, program)?;
+    check_certificate_of(alloc, program, &graph, certificate)
+}
+
+/// The same by the program's graph, for callers that need the graph as well.
+pub fn check_certificate_of(
+    alloc: Global,
+    program: &WellFormed,
+    graph: &Graph,
+    certificate: &Certificate,
+) -> Result<CertVerdict, NoMemory>
+    requires { IsGraph program.now graph.now }
+    ensures rules { IfOk result (λ verdict. Checks program.now certificate.now verdict) }
+    ensures least { IfOk result (λ verdict. Means program.now verdict) }
+{
     ranges(program);
-    checked(alloc, program, certificate)
+    checked(alloc, program, graph, certificate)
 }
 
 /// The verdict.
 fn checked(
     alloc: Global,
     program: &WellFormed,
+    graph: &Graph,
     certificate: &Certificate,
 ) -> Result<CertVerdict, NoMemory>
+    requires { IsGraph program.now graph.now }
     ensures { IfOk result (λ verdict. Checks program.now certificate.now verdict) }
 {
     ranges(program);
     let parts = program.program().parts();
     let paths = certificate.paths.as_slice();
-    let graph = graph(alloc, program)?;
-    if let Some((rule, index)) = first_broken(parts, &graph, paths) {
+    if let Some((rule, index)) = first_broken(parts, graph, paths) {
         return Ok(CertVerdict::No { rule, index });
     }
     let loads = flows_through(alloc, parts.commands.len(), paths)?;

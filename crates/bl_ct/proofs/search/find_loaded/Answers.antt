@@ -1,24 +1,17 @@
-use Rattle.std.proofs.Common.{◌≡◌, ◌<◌, ◌+◌, ◌++◌, ◌∷◌, [], ℕ, length, take, arith, sym, subst, ap, ◌∙◌}
-use Rattle.std.specs.List.{slice_index_or, Contains}
-use Rattle.std.proofs.lemmas.List.{take_more, take_all, get_or-map}
-use Rattle.std.proofs.lemmas.List.Elements.{Contains-get_or}
+use Rattle.std.proofs.Common.{◌≡◌, ◌+◌, ◌++◌, ◌∷◌, [], Some, take, arith, sym, subst, ◌∙◌}
+use Rattle.std.specs.List.{slice_index_or}
+use Rattle.std.proofs.lemmas.List.{take_more, take_all}
 use Rattle.bl_ct.specs.declared.search.Cause.TheVariants as cause_
-use Rattle.bl_graph.specs.Arcs.{rows_in, row_at}
-use Rattle.bl_ct.specs.Finding.{Visits, RowFits, RowAsks, Some_fits, Some_asks}
+use Rattle.bl_ct.specs.Finding.{Visits, IsFoundBy, Some_fits, Some_asks, entry_at}
 use Rattle.bl_ct.proofs.Visiting.{visits_push}
 use Rattle.bl_ct.specs.declared.facts.SecretLoad.{SecretLoad}
 use Rattle.bl_ct.proofs.search.find_loaded.Goals as goal
 
-pub find_row-requires : goal.find_row-requires
-find_row-requires c = λ k d within.
+pub find_written-requires : goal.find_written-requires
+find_written-requires c = λ x e.
     let loop = c.loop-load in
-    let lt = c.loop-load-test.true in
     let x0 : SecretLoad = slice_index_or c.args.loads.now loop.load-index (record { at = 0; memory = 0 }) in
-    let at0 : ℕ = x0.at in
-    let below : at0 < length c.args.written.now = c.requires.sites loop.load-index (record { at = 0; memory = 0 }) lt in
-    let row : c.deref.result.now ≡ row_at (rows_in c.args.written.now) at0 = c.deref.ensures.value ∙ ap (λ r. r.items) c.index-written-load.is ∙ sym (get_or-map (λ r. r.items) c.args.written.now at0 c.index-written-load.result [] below) in
-    let there : Contains (row_at (rows_in c.args.written.now) at0) (slice_index_or c.deref.result.now k d) = subst (λ r. Contains r (slice_index_or c.deref.result.now k d)) row (Contains-get_or c.deref.result.now k d within) in
-    let inside = c.requires.vars at0 (slice_index_or c.deref.result.now k d) there in
+    let inside = c.requires x0.at x (sym c.written_at.ensures ∙ e) in
     let places = loop.invariant.places in
     omega arith
 
@@ -27,14 +20,11 @@ loop-load-preserved c =
     let loop = c.loop-load in
     let lt = c.loop-load-test.true in
     let x0 : SecretLoad = slice_index_or c.args.loads.now loop.load-index (record { at = 0; memory = 0 }) in
-    let at0 : ℕ = x0.at in
-    let below : at0 < length c.args.written.now = c.requires.sites loop.load-index (record { at = 0; memory = 0 }) lt in
-    let row : c.deref.result.now ≡ row_at (rows_in c.args.written.now) at0 = c.deref.ensures.value ∙ ap (λ r. r.items) c.index-written-load.is ∙ sym (get_or-map (λ r. r.items) c.args.written.now at0 c.index-written-load.result [] below) in
     let more : take (loop.load-index + 1) c.args.loads.now ≡ take loop.load-index c.args.loads.now ++ x0 ∷ [] = take_more c.args.loads.now loop.load-index (record { at = 0; memory = 0 }) lt in
-    rw more (visits_push (λ d. RowFits (row_at (rows_in c.args.written.now) d.at) (cause_.Loaded d.at d.memory)) (λ d. RowAsks (row_at (rows_in c.args.written.now) d.at)) (take loop.load-index c.args.loads.now) x0 c.args.marks.now.items loop.marks.items c.find_row.new.marks.items c.args.queue.now.items loop.queue.items c.find_row.new.queue.items loop.invariant
-    (subst (λ r. Visits (RowFits r (cause_.Loaded x0.at x0.memory)) (RowAsks r) loop.marks.items c.find_row.new.marks.items loop.queue.items c.find_row.new.queue.items) row c.in_ok-find_row.ensures))
+    rw more (visits_push (λ d. IsFoundBy (entry_at c.args.written.now d.at) (cause_.Loaded d.at d.memory)) (λ d v. entry_at c.args.written.now d.at ≡ Some v) (take loop.load-index c.args.loads.now) x0 c.args.marks.now.items loop.marks.items c.find_written.new.marks.items c.args.queue.now.items loop.queue.items c.find_written.new.queue.items loop.invariant
+    (subst (λ o. Visits (IsFoundBy o (cause_.Loaded x0.at x0.memory)) (λ v. o ≡ Some v) loop.marks.items c.find_written.new.marks.items loop.queue.items c.find_written.new.queue.items) c.written_at.ensures c.in_ok-find_written.ensures))
 
 pub returns : goal.returns
 returns c =
     let past = c.loop-load-test.false in
-    subst (λ l. Visits (Some_fits l (λ d. RowFits (row_at (rows_in c.args.written.now) d.at) (cause_.Loaded d.at d.memory))) (Some_asks l (λ d. RowAsks (row_at (rows_in c.args.written.now) d.at))) c.args.marks.now.items c.loop-load.marks.items c.args.queue.now.items c.loop-load.queue.items) (take_all c.loop-load.load-index c.args.loads.now (omega arith)) c.loop-load.invariant
+    subst (λ l. Visits (Some_fits l (λ d. IsFoundBy (entry_at c.args.written.now d.at) (cause_.Loaded d.at d.memory))) (Some_asks l (λ d v. entry_at c.args.written.now d.at ≡ Some v)) c.args.marks.now.items c.loop-load.marks.items c.args.queue.now.items c.loop-load.queue.items) (take_all c.loop-load.load-index c.args.loads.now (omega arith)) c.loop-load.invariant
