@@ -30,7 +30,7 @@ pub fn harden<'a>(
     words: &HardenWords<'a>,
     contents: &[Vec<u8>],
 ) -> Result<Plan<'a>, WorkError<'a>>
-    requires few { length words.now.modules.items ≤ limit_of quantity.Modules }
+    requires few { length words.now.modules ≤ limit_of quantity.Modules }
     requires apart { AreNamedApart (harden_in words.now).modules }
     requires read { AreRead None (harden_job (harden_in words.now)).reads (contents_in contents.now) }
     ensures { IsWork (harden_job (harden_in words.now)) (contents_in contents.now) result }

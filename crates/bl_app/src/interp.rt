@@ -42,7 +42,7 @@ pub fn interpret<'a>(
     words: &InterpWords<'a>,
     contents: &[Vec<u8>],
 ) -> Result<Plan<'a>, WorkError<'a>>
-    requires few { length words.now.modules.items ≤ limit_of quantity.Modules }
+    requires few { length words.now.modules ≤ limit_of quantity.Modules }
     requires apart { AreNamedApart (interp_in words.now).modules }
     requires read { AreRead None (interp_job (interp_in words.now)).reads (contents_in contents.now) }
     ensures { IsWork (interp_job (interp_in words.now)) (contents_in contents.now) result }

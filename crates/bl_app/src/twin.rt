@@ -135,7 +135,7 @@ fn tell<'a>(
     Ok(Plan {
         status: twin_status(compared.comparison),
         keeps: Vec::new(alloc),
-        text: compared.text,
+        text: compared.text.into_vec(),
     })
 }
 

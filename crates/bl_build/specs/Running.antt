@@ -1,5 +1,5 @@
 -- The function of a linked tree that is run, and its start.
-use Rattle.std.specs.Prelude.{◌≡◌, ℕ, List, map, slice_get, Option, Some, None, Ok, Err}
+use Rattle.std.specs.Prelude.{◌≡◌, ℕ, List, map, Some, None, Ok, Err}
 use Rattle.bl_base.specs.declared.start.Start.{Start}
 use Rattle.bl_wasm.specs.Exports.{number_of}
 use Rattle.bl_wasm.specs.Linked.{type_of}

@@ -157,7 +157,7 @@ entered_in entry start = record { entry = entry; start = start }
 
 -- a program and its image
 abbrev pub built_in : BuiltMade → Built
-built_in built = record { program = built.program; image = built.image.items }
+built_in built = record { program = built.program; image = built.image }
 
 -- a program with its protects
 abbrev pub hardened_in : HardenedMade → Hardened
@@ -165,7 +165,7 @@ hardened_in hardened = record {
   program = hardened.program;
   certificate = hardened.certificate;
   verdict = hardened.verdict;
-  image = hardened.image.items;
+  image = hardened.image;
 }
 
 -- a function of a program, a start of it, and directives

@@ -9,7 +9,7 @@ ghost use Rattle.bl_build.specs.Working.{IsStaged, built_in, contents_in};
 
 use crate::loading::load;
 use crate::refusal::{Refusal, WorkError};
-use bl_base::Quantity;
+use bl_base::{Quantity, Text};
 use bl_cmd::WellFormed;
 use bl_image::encode;
 use bl_lower::{LowerError, lower};
@@ -22,15 +22,15 @@ pub struct Built {
     /// The program.
     pub program: WellFormed,
     /// The image's bytes, within their limit.
-    pub image: Vec<u8>,
+    pub image: Text,
 }
 
 impl Built {
     /// The image's bytes.
     pub fn into_image(self) -> Vec<u8>
-        ensures { result ≡ self.image }
+        ensures { result.items ≡ self.image }
     {
-        self.image
+        self.image.into_vec()
     }
 }
 
@@ -71,7 +71,10 @@ fn build<'a>(alloc: Global, linked: Linked) -> Result<Built, WorkError<'a>>
             value: length,
         }));
     }
-    Ok(Built { program, image })
+    Ok(Built {
+        program,
+        image: Text::of(image),
+    })
 }
 
 /// The program of a linked tree, which is freed; Refused exactly where the program has too many commands.

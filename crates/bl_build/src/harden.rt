@@ -10,7 +10,7 @@ ghost use Rattle.bl_build.specs.Working.{IsStaged, contents_in, hardened_in};
 use crate::build::lowered;
 use crate::loading::load;
 use crate::refusal::{Refusal, WorkError};
-use bl_base::{NoMemory, Quantity};
+use bl_base::{NoMemory, Quantity, Text};
 use bl_cmd::WellFormed;
 use bl_ct::{CtVerdict, constant_time};
 use bl_cut::{least_protects_of, protect};
@@ -29,15 +29,15 @@ pub struct Hardened {
     /// Whether it is constant-time.
     pub verdict: CtVerdict,
     /// The image's bytes.
-    pub image: Vec<u8>,
+    pub image: Text,
 }
 
 impl Hardened {
     /// The image's bytes.
     pub fn into_image(self) -> Vec<u8>
-        ensures { result ≡ self.image }
+        ensures { result.items ≡ self.image }
     {
-        self.image
+        self.image.into_vec()
     }
 }
 
@@ -98,6 +98,6 @@ fn protect_least(alloc: Global, bare: WellFormed) -> Result<Hardened, NoMemory>
         program,
         certificate,
         verdict,
-        image,
+        image: Text::of(image),
     })
 }

@@ -15,7 +15,7 @@ use Rattle.bl_twin.specs.declared.text.Compared.{Compared}
 module _ (program : Program) (function : ℕ) (one other : Start) (directives : List Directive) (agree : Bool) (first second : Seen) where
   pub side_by_side : {E : Type 0} (result : Result Compared E) → IsTrue agree ↔ Agree program function one other → seen_in first ≡ observed 64 program function one directives
       → seen_in second ≡ observed 64 program function other directives → IfOk result (λ compared. compared.comparison ≡ comparison (seen_in first) (seen_in second))
-      → IfOk result (λ compared. compared.text.items ≡ twin_text agree (seen_in first) (seen_in second)) → IfOk result (IsSideBySide program function one other directives)
+      → IfOk result (λ compared. compared.text ≡ twin_text agree (seen_in first) (seen_in second)) → IfOk result (IsSideBySide program function one other directives)
   side_by_side (Err e) agrees is these compares tells = tt
   side_by_side (Ok compared) agrees is these compares tells = record {
     agree = agree;

@@ -13,4 +13,4 @@ pub record IsSideBySide (program : Program) (function : ℕ) (one other : Start)
   pub agree : Bool
   pub agrees : IsTrue agree ↔ Agree program function one other
   pub compares : compared.comparison ≡ comparison (observed 64 program function one directives) (observed 64 program function other directives)
-  pub tells : compared.text.items ≡ twin_text agree (observed 64 program function one directives) (observed 64 program function other directives)
+  pub tells : compared.text ≡ twin_text agree (observed 64 program function one directives) (observed 64 program function other directives)

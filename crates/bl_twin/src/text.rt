@@ -6,7 +6,7 @@ ghost use Rattle.bl_trace.specs.Observations.{observation_text};
 ghost use Rattle.bl_twin.specs.Comparing.{agreement_text, comparison, compared, ending_text, numbered, shown_text, twin_text};
 
 use crate::comparison::{Comparison, Shown, common_front, compared, shown_behind};
-use bl_base::NoMemory;
+use bl_base::{NoMemory, Text};
 use bl_rob::{Observation, Seen};
 use bl_trace::print_observation;
 use std::alloc::Global;
@@ -17,7 +17,7 @@ pub struct Compared {
     /// How what is observed of the two runs compares.
     pub comparison: Comparison,
     /// The text.
-    pub text: Vec<u8>,
+    pub text: Text,
 }
 
 /// Compares what is observed of two runs, and tells it: a line on whether the starts agree in public, the lines of the observations
@@ -26,7 +26,7 @@ pub struct Compared {
 /// observations.
 pub fn compare(alloc: Global, agree: bool, one: &Seen, other: &Seen) -> Result<Compared, NoMemory>
     ensures comparison { IfOk result (λ compared. compared.comparison ≡ comparison (seen_in one.now) (seen_in other.now)) }
-    ensures text { IfOk result (λ compared. compared.text.items ≡ twin_text agree (seen_in one.now) (seen_in other.now)) }
+    ensures text { IfOk result (λ compared. compared.text ≡ twin_text agree (seen_in one.now) (seen_in other.now)) }
 {
     let made = one.made.as_slice();
     let count = common_front(made, other.made.as_slice());
@@ -37,7 +37,7 @@ pub fn compare(alloc: Global, agree: bool, one: &Seen, other: &Seen) -> Result<C
     push_ending(alloc, &mut text, count, first, second)?;
     Ok(Compared {
         comparison: compared(first, second),
-        text,
+        text: Text::of(text),
     })
 }
 

@@ -21,16 +21,16 @@ parts_in arguments values = record { arguments = map (λ word. word.now) argumen
 -- the request that borrowed words are
 abbrev pub harden_in : HardenWords → HardenRequest
 harden_in words =
-    record { image = words.image.now; certificate = words.certificate.now; modules = map (λ word. word.now) words.modules.items }
+    record { image = words.image.now; certificate = words.certificate.now; modules = map (λ word. word.now) words.modules }
 
 abbrev pub lower_in : LowerWords → LowerRequest
-lower_in words = record { image = words.image.now; modules = map (λ word. word.now) words.modules.items }
+lower_in words = record { image = words.image.now; modules = map (λ word. word.now) words.modules }
 
 abbrev pub interp_in : InterpWords → InterpRequest
 interp_in words = record {
   export = words.export.now;
   start = words.start.now;
-  modules = map (λ word. word.now) words.modules.items;
+  modules = map (λ word. word.now) words.modules;
   steps = words.steps;
 }
 

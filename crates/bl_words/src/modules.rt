@@ -5,14 +5,14 @@ ghost use Rattle.std.specs.List.{after_last};
 ghost use Rattle.clap.specs.Walk.{texts};
 ghost use Rattle.bl_words.specs.Requests.{AreNamedApart, modules_of, module_name as module_name_of, without_ending as name_without_ending};
 
-use bl_base::NoMemory;
+use bl_base::{List, NoMemory};
 use std::alloc::Global;
 use std::collections::BTreeSet;
 
 /// The modules of a request: at least one, and no two of one name; None where the words aren't that. Linear in the words, but
 /// for the logarithm of their number.
-pub fn modules_of<'a>(alloc: Global, words: &[&'a str]) -> Result<Option<Vec<&'a str>>, NoMemory>
-    ensures { IfOk result (λ found. option_map (λ modules. texts modules.items) found ≡ modules_of (texts words.now)) }
+pub fn modules_of<'a>(alloc: Global, words: &[&'a str]) -> Result<Option<List<&'a str>>, NoMemory>
+    ensures { IfOk result (λ found. option_map texts found ≡ modules_of (texts words.now)) }
 {
     if words.is_empty() {
         return Ok(None);
@@ -20,7 +20,7 @@ pub fn modules_of<'a>(alloc: Global, words: &[&'a str]) -> Result<Option<Vec<&'a
     if !are_named_apart(alloc, words)? {
         return Ok(None);
     }
-    Ok(Some(words.to_vec(alloc)?))
+    Ok(Some(List::of(words.to_vec(alloc)?)))
 }
 
 /// Whether no two modules have one name.

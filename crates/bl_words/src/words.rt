@@ -1,4 +1,5 @@
 //! What the words of a call ask for.
+use bl_base::List;
 
 /// What the words of a call ask for.
 #[derive(Drop)]
@@ -29,7 +30,7 @@ pub struct HardenWords<'a> {
     /// The file of the certificate, which is written; another word than the image's.
     pub certificate: &'a str,
     /// The files of the modules, which are read: at least one, and no two modules have one name.
-    pub modules: Vec<&'a str>,
+    pub modules: List<&'a str>,
 }
 
 /// The words of a `lower`.
@@ -38,7 +39,7 @@ pub struct LowerWords<'a> {
     /// The file of the image, which is written.
     pub image: &'a str,
     /// The files of the modules, which are read: at least one, and no two modules have one name.
-    pub modules: Vec<&'a str>,
+    pub modules: List<&'a str>,
 }
 
 /// The words of an `interp`.
@@ -49,7 +50,7 @@ pub struct InterpWords<'a> {
     /// The start file, which is read.
     pub start: &'a str,
     /// The files of the modules, which are read: at least one, and no two modules have one name.
-    pub modules: Vec<&'a str>,
+    pub modules: List<&'a str>,
     /// The most steps that are made, from 1 to 4,294,967,295.
     pub steps: u64,
 }

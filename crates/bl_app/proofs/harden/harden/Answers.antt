@@ -14,14 +14,14 @@ texts words = map (λ (word : Bor (List ℕ)). word.now) words
 pub compile_hardened-requires-clause-short : goal.compile_hardened-requires-clause-short
 compile_hardened-requires-clause-short c =
     let contents = contents_in c.args.contents.now in
-    subst (λ (words : List (Bor (List ℕ))). AreShort (texts words) contents) (sym c.as_slice.ensures.value)
-    (short_modules (texts c.args.words.now.modules.items) contents c.requires.read)
+    subst (λ (words : List (Bor (List ℕ))). AreShort (texts words) contents) (sym c.as_slice.ensures)
+    (short_modules (texts c.args.words.now.modules) contents c.requires.read)
 
 pub returns-in_ok-plan_of-in-Ok : goal.returns-in_ok-plan_of-in-Ok
 returns-in_ok-plan_of-in-Ok c =
     let contents = contents_in c.args.contents.now in
     let hardened = hardened_in c.in-Ok.hardened in
-    let passed = subst (λ (words : List (Bor (List ℕ))). hardening.Passes (parts_of (texts words) contents) hardened) c.as_slice.ensures.value c.in-Ok.ensures in
+    let passed = subst (λ (words : List (Bor (List ℕ))). hardening.Passes (parts_of (texts words) contents) hardened) c.as_slice.ensures c.in-Ok.ensures in
     record {
       built = passed.0;
       compiled = passed.1;
@@ -31,7 +31,7 @@ returns-in_ok-plan_of-in-Ok c =
 pub returns-in-Err : goal.returns-in-Err
 returns-in-Err c =
     let contents = contents_in c.args.contents.now in
-    not_compiled (harden_job (harden_in c.args.words.now)) (parts_of (texts c.args.words.now.modules.items) contents) contents
+    not_compiled (harden_job (harden_in c.args.words.now)) (parts_of (texts c.args.words.now.modules) contents) contents
     (λ refusal r. r) c.in-Err.error
     (subst (λ (words : List (Bor (List ℕ))). IsStaged hardening hardened_in (parts_of (texts words) contents) (Err c.in-Err.error))
-    c.as_slice.ensures.value c.in-Err.ensures)
+    c.as_slice.ensures c.in-Err.ensures)

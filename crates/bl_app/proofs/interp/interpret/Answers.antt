@@ -33,26 +33,26 @@ abbrev behind : Contents → List (List ℕ)
 behind contents = contents_in (take (length contents - 1) (drop 1 contents))
 
 pub load-requires-clause-few : goal.load-requires-clause-few
-load-requires-clause-few c = subst (λ (words : Words). length words ≤ limit_of quantity.Modules) (sym c.as_slice.ensures.value) c.requires.few
+load-requires-clause-few c = subst (λ (words : Words). length words ≤ limit_of quantity.Modules) (sym c.as_slice.ensures) c.requires.few
 
 pub load-requires-clause-apart : goal.load-requires-clause-apart
-load-requires-clause-apart c = subst (λ (words : Words). AreNamedApart (texts words)) (sym c.as_slice.ensures.value) c.requires.apart
+load-requires-clause-apart c = subst (λ (words : Words). AreNamedApart (texts words)) (sym c.as_slice.ensures) c.requires.apart
 
 pub load-requires-clause-short : goal.load-requires-clause-short
 load-requires-clause-short c =
     let shape = first_and_rest c.args.contents.now c.start-item.result c.in-len1-up.len_at_least c.start-item.is in
     let read = subst (λ (all : Contents). AreRead None (interp_job (interp_in c.args.words.now)).reads (contents_in all)) shape c.requires.read in
-    subst (λ (words : Words). AreShort (texts words) (behind c.args.contents.now)) (sym c.as_slice.ensures.value)
-    (short_modules (texts c.args.words.now.modules.items) (behind c.args.contents.now) read.1)
+    subst (λ (words : Words). AreShort (texts words) (behind c.args.contents.now)) (sym c.as_slice.ensures)
+    (short_modules (texts c.args.words.now.modules) (behind c.args.contents.now) read.1)
 
 pub returns-in-Err : goal.returns-in-Err
 returns-in-Err c =
     let request = interp_in c.args.words.now in
     let start = c.start-item.result.items in
-    let parts = parts_of (texts c.args.words.now.modules.items) (behind c.args.contents.now) in
+    let parts = parts_of (texts c.args.words.now.modules) (behind c.args.contents.now) in
     let shape = first_and_rest c.args.contents.now c.start-item.result c.in-len1-up.len_at_least c.start-item.is in
     let staged =
-    subst (λ (words : Words). IsStaged loading (λ (tree : Tree). tree) (parts_of (texts words) (behind c.args.contents.now)) (Err c.in-Err.error)) c.as_slice.ensures.value c.in-Err.ensures in
+    subst (λ (words : Words). IsStaged loading (λ (tree : Tree). tree) (parts_of (texts words) (behind c.args.contents.now)) (Err c.in-Err.error)) c.as_slice.ensures c.in-Err.ensures in
     subst (λ (all : Contents). IsWork (interp_job request) (contents_in all) (Err c.in-Err.error)) (sym shape)
     (interp_work request start (behind c.args.contents.now) (Err c.in-Err.error)
     (refused_first loading (invoking request.export start) (IsTold request.steps) parts (λ (tree : Tree). tree) c.in-Err.error staged))
@@ -61,9 +61,9 @@ pub returns : goal.returns
 returns c =
     let request = interp_in c.args.words.now in
     let start = c.start-item.result.items in
-    let parts = parts_of (texts c.args.words.now.modules.items) (behind c.args.contents.now) in
+    let parts = parts_of (texts c.args.words.now.modules) (behind c.args.contents.now) in
     let shape = first_and_rest c.args.contents.now c.start-item.result c.in-len1-up.len_at_least c.start-item.is in
-    let loaded = subst (λ (words : Words). loading.Passes (parts_of (texts words) (behind c.args.contents.now)) c.in-Ok.linked) c.as_slice.ensures.value c.in-Ok.ensures in
+    let loaded = subst (λ (words : Words). loading.Passes (parts_of (texts words) (behind c.args.contents.now)) c.in-Ok.linked) c.as_slice.ensures c.in-Ok.ensures in
     let run = subst (λ (start : List ℕ). IsDoneBehind (invoking request.export start) (IsTold request.steps) c.in-Ok.linked c.interpret_tree.result) c.deref.ensures.value c.interpret_tree.ensures in
     subst (λ (all : Contents). IsWork (interp_job request) (contents_in all) c.interpret_tree.result) (sym shape)
     (interp_work request start (behind c.args.contents.now) c.interpret_tree.result

@@ -13,5 +13,5 @@ returns c =
     record {
       agree = done.agree;
       agrees = done.agrees;
-      is_plan = λ i. record { status = (c.twin_status.ensures ∙ ap twin_status done.compares) i; keeps = map keep_in (c.new.ensures.items i); text = done.tells i };
+      is_plan = λ i. record { status = (c.twin_status.ensures ∙ ap twin_status done.compares) i; keeps = map keep_in (c.new.ensures.items i); text = (c.into_vec.ensures ∙ done.tells) i };
     }

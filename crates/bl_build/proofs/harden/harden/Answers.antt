@@ -11,7 +11,7 @@ pub returns-then-length-limit : goal.returns-then-length-limit
 returns-then-length-limit c =
     let made = c.in_ok-hardened.hardened in
     let value = c.len-length.result in
-    let same : value ≡ length made.image.items = omega (arith, c.len-length.ensures, made.image.ok.0) in
+    let same : value ≡ length made.image = c.len-length.ensures in
     let long : 134217728 < value = omega (arith, c.if-length-limit.true, c.limit.ensures) in
     let facts = subst IsProgram c.program.ensures.same c.parts-facts.ensures.facts in
     hardened_too_long c.args.linked c.in-Ok.program c.in-Ok.ensures.0 facts c.program.ensures.rules (hardened_in made) c.in_ok-hardened.ensures value same long
@@ -20,8 +20,8 @@ pub returns : goal.returns
 returns c =
     let made = c.in_ok-hardened.hardened in
     let value = c.len-length.result in
-    let same : value ≡ length made.image.items = omega (arith, c.len-length.ensures, made.image.ok.0) in
-    let short : length made.image.items ≤ 134217728 = omega (arith, same, c.if-length-limit.false, c.limit.ensures) in
+    let same : value ≡ length made.image = c.len-length.ensures in
+    let short : length made.image ≤ 134217728 = omega (arith, same, c.if-length-limit.false, c.limit.ensures) in
     let facts = subst IsProgram c.program.ensures.same c.parts-facts.ensures.facts in
     tree_hardens c.args.linked c.in-Ok.program c.in-Ok.ensures.0 facts c.program.ensures.rules (hardened_in made) c.in_ok-hardened.ensures short
 

@@ -10,5 +10,5 @@ returns-then-not-branch c = same_modules c.args.words.now (λ apart. false≢tru
 pub returns : goal.returns
 returns c =
     let words = c.args.words.now in
-    ap (λ (copy : List (Bor (List ℕ))). Some (texts copy)) (c.in_ok-to_vec.ensures.items_if_clones_equal (λ x y e. e))
+    ap (λ (copy : List (Bor (List ℕ))). Some (texts copy)) (c.of.ensures ∙ c.in_ok-to_vec.ensures.items_if_clones_equal (λ x y e. e))
     ∙ all_modules words (sym c.if-is_empty.false ∙ c.is_empty.ensures) (c.in_ok-are_named_apart.ensures.0 c.if-not-branch.false)
