@@ -10,7 +10,8 @@ use Rattle.bl_ops.specs.declared.op.Op.TheVariants as op
 use Rattle.bl_wasm.specs.declared.linked.Signature.{Signature}
 use Rattle.bl_wasm.specs.declared.linked.Tree.{Tree}
 use Rattle.bl_wasm.specs.Linked.{type_of}
-use Rattle.bl_reduce.specs.Calls.{is_same_type, call_at, call_through, call_indirect}
+use Rattle.bl_wasm.specs.TypeNumbers.{is_same_type}
+use Rattle.bl_reduce.specs.Calls.{call_at, call_through, call_indirect}
 use Rattle.bl_reduce.specs.Configurations.{State, trap, known, with_values}
 use Rattle.bl_access.specs.Templates.{jump_to, shift}
 use Rattle.bl_cmd.specs.Steps.{Registers, written, Plain, depth}

@@ -11,7 +11,7 @@ use Rattle.bl_ops.specs.declared.access.AccessKind.{AccessKind}
 use Rattle.bl_ops.specs.declared.op.Op.{Op}
 use Rattle.bl_ops.specs.declared.op.Op.TheVariants as op
 use Rattle.bl_ops.specs.declared.op.OpRow.{OpRow}
-use Rattle.bl_reduce.specs.Calls.{is_same_type}
+use Rattle.bl_wasm.specs.TypeNumbers.{is_same_type}
 use Rattle.bl_wasm.specs.Linked.{IsLinked, IsFunction, context, global_type, seen, type_of}
 use Rattle.bl_wasm.specs.Typing.{Context, integer}
 use Rattle.bl_wasm.specs.Validity.{locals_of}

@@ -2,7 +2,6 @@ pub mod Blocks
 pub mod Calling
 pub mod Counting
 pub mod Driving
-pub mod Finding
 pub mod Jumping
 pub mod Landing
 pub mod Leaving

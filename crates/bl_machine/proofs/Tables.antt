@@ -1,61 +1,24 @@
 -- The machine follows calls through tables.
-use Rattle.std.proofs.Common.{◌≡◌, ℕ, zero, suc, ◌==◌, ◌≤◌, Bool, true, false, List, [], ◌∷◌, length, Option, Some, None, slice_get, refl, sym, ap, ◌∙◌, subst}
-use Rattle.std.specs.Prelude.{◌&&◌, if◌then◌else◌, option_and_then, option_map, unwrap_or}
-use Rattle.std.specs.Cmp.Lexicographic.{pointwise}
-use Rattle.std.proofs.lemmas.Bool.{false≢true, eq-eqb, eqb-true}
+use Rattle.std.proofs.Common.{◌≡◌, ℕ, ◌==◌, ◌≤◌, Bool, true, false, List, ◌∷◌, length, Option, Some, None, slice_get, refl, sym, ap, ◌∙◌, subst}
+use Rattle.std.specs.Prelude.{if◌then◌else◌, option_and_then, option_map, unwrap_or}
 use Rattle.std.proofs.lemmas.Option.{slice_get-map, same_Some}
 use Rattle.bl_base.specs.Runs.{trapped as trapped_with}
-use Rattle.bl_base.specs.declared.names.ValueType.{ValueType}
-use Rattle.bl_base.specs.declared.names.ValueType.TheVariants.{I32, I64}
 use Rattle.bl_base.specs.declared.trap.Trap.TheVariants as trap_kind
 use Rattle.bl_wasm.specs.declared.linked.Function.{Function}
 use Rattle.bl_wasm.specs.declared.linked.Signature.{Signature}
 use Rattle.bl_wasm.specs.declared.linked.Tree.{Tree}
 use Rattle.bl_wasm.specs.Linked.{type_of}
-use Rattle.bl_reduce.specs.Calls.{is_same, is_same_type, call_at, call_through, call_indirect}
+use Rattle.bl_wasm.specs.TypeNumbers.{first_of, is_same_type}
+use Rattle.bl_wasm.proofs.EqualTypes.{numbers_tell, same_type}
+use Rattle.bl_reduce.specs.Calls.{call_at, call_through, call_indirect}
 use Rattle.bl_reduce.specs.Configurations.{State, trap, known, with_values}
-use Rattle.bl_reduce.proofs.CallItems.{same_type}
-use Rattle.bl_machine.specs.Bodies.{first_of, body_of, prepared_of}
+use Rattle.bl_machine.specs.Bodies.{body_of, prepared_of}
 use Rattle.bl_machine.specs.Machines.{trapped, top, popped}
 use Rattle.bl_machine.specs.MatchStates.{IsState}
 use Rattle.bl_machine.specs.Transitions.{call_of, slot_in, is_of_kind, called_through}
 use Rattle.bl_machine.specs.declared.machine.Machine.{Machine}
 use Rattle.bl_machine.proofs.Calling.{bodies, body_got, call_simulates}
 use Rattle.bl_machine.proofs.Values.{Then, popping, knowing}
-
--- ---- kinds of types
-
-all_same : (types : List ValueType) → pointwise is_same types types ≡ true
-all_same [] = refl
-all_same (I32 ∷ types) = all_same types
-all_same (I64 ∷ types) = all_same types
-
-pub same_as_itself : (type : Signature) → is_same_type type type ≡ true
-same_as_itself type = ap (λ b. b && pointwise is_same type.results type.results) (all_same type.params) ∙ all_same type.results
-
--- the first type that is equal to one of them is found
-pub first_found : (types : List Signature) (type : Signature) (i : ℕ) → slice_get types i ≡ Some type → slice_get types (first_of types type) ≡ Some type
-first_found [] type i e = cc
-first_found (other ∷ types) type i e = from (first_found types type) (is_same_type other type) refl i e
-  where
-    from : ((i : ℕ) → slice_get types i ≡ Some type → slice_get types (first_of types type) ≡ Some type) → (b : Bool) → is_same_type other type ≡ b
-        → (i : ℕ) → slice_get (other ∷ types) i ≡ Some type → slice_get (other ∷ types) (if b then 0 else suc (first_of types type)) ≡ Some type
-    from later true same i e = ap Some (same_type other type same)
-    from later false other_one zero e = absurd (false≢true (sym other_one ∙ ap (λ t. is_same_type other t) (sym (same_Some other type e)) ∙ same_as_itself other))
-    from later false other_one (suc i) e = later i e
-
-pub kinds_tell : (types : List Signature) (a b : Signature) (i j : ℕ) → slice_get types i ≡ Some a → slice_get types j ≡ Some b
-    → (first_of types a == first_of types b) ≡ is_same_type a b
-kinds_tell types a b i j e f = from (is_same_type a b) refl (first_of types a == first_of types b) refl
-  where
-    from : (same : Bool) → is_same_type a b ≡ same → (equal : Bool) → (first_of types a == first_of types b) ≡ equal → equal ≡ same
-    from true same true equal = refl
-    from false same false equal = refl
-    from true same false equal =
-        absurd (false≢true (sym equal ∙ eq-eqb (first_of types a) (first_of types b) (ap (first_of types) (same_type a b same))))
-    from false same true equal =
-        let one : Some a ≡ Some b = sym (first_found types a i e) ∙ ap (slice_get types) (eqb-true (first_of types a) (first_of types b) equal) ∙ first_found types b j f in
-        absurd (false≢true (sym same ∙ ap (is_same_type a) (sym (same_Some a b one)) ∙ same_as_itself a))
 
 -- ---- calls
 
@@ -81,7 +44,7 @@ module _ (tree : Tree) (index : ℕ) where
           from (Some function) e typed =
               ap (λ o. is_of_kind o kind) (body_got tree number function e) ∙ ap (is_of_kind (Some (body_of tree function))) kind_is
               ∙ ap (λ o. unwrap_or o (length tree.types) == first_of tree.types wanted)
-              (slice_get-map (first_of tree.types) tree.types function.type_index ∙ ap (option_map (first_of tree.types)) typed) ∙ kinds_tell tree.types type wanted function.type_index index typed got
+              (slice_get-map (first_of tree.types) tree.types function.type_index ∙ ap (option_map (first_of tree.types)) typed) ∙ numbers_tell tree.types type wanted function.type_index index typed got
 
       by_test : (type : Signature) → type_of tree number ≡ Some type → (b : Bool) → is_same_type type wanted ≡ b
           → Then tree (if b then call_of (slice_get (bodies tree) number) number m else trapped trap_kind.TypeMismatch m)

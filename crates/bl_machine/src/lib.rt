@@ -5,7 +5,6 @@ mod body;
 mod interpreter;
 mod items;
 mod jumps;
-mod kinds;
 mod machine;
 mod stack;
 

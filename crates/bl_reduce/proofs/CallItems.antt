@@ -1,20 +1,17 @@
 -- Steps of calls, and of entering a function, keep types.
-use Rattle.std.proofs.Common.{◌≡◌, ℕ, ◌<◌, ◌≤◌, Bool, true, false, cond, ltb, ◌&&◌, List, [], ◌∷◌, ◌++◌, length, map, replicate, reverse, take, drop, Option, Some, None, slice_get, refl, sym, ap, ◌∙◌, subst, arith}
+use Rattle.std.proofs.Common.{◌≡◌, ℕ, ◌<◌, ◌≤◌, Bool, true, false, cond, ltb, List, [], ◌∷◌, ◌++◌, length, map, replicate, reverse, take, drop, Option, Some, None, slice_get, refl, sym, ap, ◌∙◌, subst, arith}
 use Rattle.std.specs.Prelude.{IfSome, option_and_then}
-use Rattle.std.specs.Bool.{Decides}
-use Rattle.std.specs.Cmp.Lexicographic.{pointwise}
 use Rattle.std.specs.List.{All, AllZip}
-use Rattle.std.proofs.lemmas.Bool.{ltb-true, false≢true}
+use Rattle.std.proofs.lemmas.Bool.{ltb-true}
 use Rattle.std.proofs.lemmas.List.{length-map, length-reverse}
 use Rattle.std.proofs.lemmas.Option.{none-some, same_Some}
-use Rattle.std.proofs.lemmas.Slice.Eq.{slice_eq-Decides}
 use Rattle.bl_base.specs.Fits.{ArgumentFits}
 use Rattle.bl_base.specs.Quantity.{most_calls}
 use Rattle.bl_base.specs.Runs.{Next, goes}
 use Rattle.bl_base.specs.declared.names.ValueType.{ValueType}
-use Rattle.bl_base.specs.declared.names.ValueType.TheVariants as value
 use Rattle.bl_base.specs.declared.trap.Trap.TheVariants.{UndefinedElement, UninitializedElement, TypeMismatch, StackExhausted}
 use Rattle.bl_wasm.specs.Linked.{IsLinked, IsFunction, IsSlot, context, function_type, seen, type_of}
+use Rattle.bl_wasm.specs.TypeNumbers.{is_same_type}
 use Rattle.bl_wasm.specs.Typing.{Context, Open, Arrow, HasType, IsTyping, Types, integer}
 use Rattle.bl_wasm.specs.Validity.{locals_of}
 use Rattle.bl_wasm.specs.declared.instruction.Instr.{Instr}
@@ -24,28 +21,13 @@ use Rattle.bl_wasm.specs.declared.types.WasmType.TheVariants.{I32}
 use Rattle.bl_wasm.specs.declared.linked.Function.{Function}
 use Rattle.bl_wasm.specs.declared.linked.Signature.{Signature}
 use Rattle.bl_wasm.specs.declared.linked.Tree.{Tree}
-use Rattle.bl_reduce.specs.Calls.{depth, enter, entered, call_at, call, is_same, is_same_type, call_through, call_indirect}
+use Rattle.bl_wasm.proofs.EqualTypes.{same_type}
+use Rattle.bl_reduce.specs.Calls.{depth, enter, entered, call_at, call, call_through, call_indirect}
 use Rattle.bl_reduce.specs.Configurations.{Store, Frame, State, Config, entering, go, trap, known, with_values}
 use Rattle.bl_reduce.specs.TypedConfigurations.{IsValue, BeginsWith, IsEntering, IsRunning, IsTypedStep}
 use Rattle.bl_reduce.proofs.ControlItems.{topmost, above}
 use Rattle.bl_reduce.proofs.Ready.{Ready, taken, popping, trapping, knowing, integer_value, integer_argument, zero_value}
 use Rattle.bl_base.proofs.Lists.{zip_append, zip_back, zip_map, zip_unmap, zip_unreverse, zip_replicate, mapped_get, all_get, within_get}
-use Rattle.bl_base.proofs.BoolLemmas.{each_true}
-
--- ---- types of functions
-
-one_same : (a b : ValueType) → Decides (is_same a b) (a ≡ b)
-one_same value.I32 value.I32 = (λ e. refl, λ e. refl)
-one_same value.I64 value.I64 = (λ e. refl, λ e. refl)
-one_same value.I32 value.I64 = (λ e. absurd (false≢true e), λ e. absurd (false≢true (subst (λ t. is_same value.I32 t ≡ true) e refl)))
-one_same value.I64 value.I32 = (λ e. absurd (false≢true e), λ e. absurd (false≢true (subst (λ t. is_same value.I64 t ≡ true) e refl)))
-
-pub same_type : (a b : Signature) → is_same_type a b ≡ true → a ≡ b
-same_type a b e =
-    let both = each_true (pointwise is_same a.params b.params) (pointwise is_same a.results b.results) e in
-    let params : a.params ≡ b.params = (slice_eq-Decides one_same a.params b.params (pointwise is_same a.params b.params) refl).0 both.0 in
-    let outcomes : a.results ≡ b.results = (slice_eq-Decides one_same a.results b.results (pointwise is_same a.results b.results) refl).0 both.1 in
-    ap (λ ps. record { params = ps; results = a.results }) params ∙ ap (λ rs. record { params = b.params; results = rs }) outcomes
 
 -- a typing of a body begins without operands
 first_place : (c : Context) (body : List Instr) (places : List (List WasmType)) → IsTyping c body places → (later : List (List WasmType)) × Types c [] body ([] ∷ later)

@@ -1,12 +1,10 @@
 -- Calls (WebAssembly 1.0, sections 4.4.5 and 4.4.7).
-use Rattle.std.specs.Prelude.{ℕ, ◌+◌, nat_lt, ◌&&◌, if◌then◌else◌, Bool, true, false, List, [], ◌∷◌, ◌++◌, length, take, drop, reverse, replicate, slice_get, Option, Some, None, option_and_then}
-use Rattle.std.specs.Cmp.Lexicographic.{pointwise}
+use Rattle.std.specs.Prelude.{ℕ, ◌+◌, nat_lt, if◌then◌else◌, List, [], ◌∷◌, ◌++◌, length, take, drop, reverse, replicate, slice_get, Option, Some, None, option_and_then}
 use Rattle.bl_base.specs.Quantity.{most_calls}
 use Rattle.bl_base.specs.Runs.{Next, goes}
-use Rattle.bl_base.specs.declared.names.ValueType.{ValueType}
-use Rattle.bl_base.specs.declared.names.ValueType.TheVariants.{I32, I64}
 use Rattle.bl_base.specs.declared.trap.Trap.TheVariants.{UndefinedElement, UninitializedElement, TypeMismatch, StackExhausted}
 use Rattle.bl_wasm.specs.Linked.{type_of}
+use Rattle.bl_wasm.specs.TypeNumbers.{is_same_type}
 use Rattle.bl_wasm.specs.Validity.{locals_of}
 use Rattle.bl_wasm.specs.declared.linked.Signature.{Signature}
 use Rattle.bl_wasm.specs.declared.linked.Function.{Function}
@@ -57,15 +55,6 @@ call_at type number state =
 -- call
 abbrev pub call : Tree → ℕ → State → Next Config
 call tree number state = known (type_of tree number) (λ type. call_at type number state)
-
--- whether two value types are one, and two types of functions
-abbrev pub is_same : ValueType → ValueType → Bool
-is_same I32 I32 = true
-is_same I64 I64 = true
-is_same a b = false
-
-abbrev pub is_same_type : Signature → Signature → Bool
-is_same_type a b = pointwise is_same a.params b.params && pointwise is_same a.results b.results
 
 -- through what stands in a slot of a table, at the type that is wanted
 abbrev pub call_through : Tree → Signature → Option (Option ℕ) → State → Next Config

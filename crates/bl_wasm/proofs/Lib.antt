@@ -1,3 +1,4 @@
+pub mod EqualTypes
 pub mod ExportLemmas
 pub mod LeadingLemmas
 pub mod LimitLemmas

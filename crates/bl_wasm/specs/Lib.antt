@@ -9,6 +9,7 @@ pub mod Reached
 pub mod Renaming
 pub mod Sections
 pub mod Sequences
+pub mod TypeNumbers
 pub mod TypedPlaces
 pub mod Types
 pub mod Typing

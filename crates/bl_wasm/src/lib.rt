@@ -8,6 +8,7 @@ pub mod laws;
 mod linked;
 mod module;
 mod targets;
+mod type_numbers;
 mod types;
 
 pub use exports::Exports;
@@ -19,4 +20,5 @@ pub use module::{
     ImportKind, LocalRun, Module,
 };
 pub use targets::Targets;
+pub use type_numbers::number_types;
 pub use types::{BlockType, FuncType, GlobalType, Limits, WasmType};

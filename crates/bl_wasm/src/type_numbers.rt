@@ -1,10 +1,10 @@
-//! Kinds of types: equal types are of one kind.
+//! Numbers of types: equal types have one number.
 ghost use Rattle.std.specs.Prelude.{◌≡◌, [], ◌∷◌, ◌++◌, IfOk, None, OnOk, map, unwrap_or};
 ghost use Rattle.bl_wasm.specs.Exports.{number_of};
-ghost use Rattle.bl_machine.specs.Bodies.{kinds_of, letter, spelled, with_number};
+ghost use Rattle.bl_wasm.specs.TypeNumbers.{letter, spelled, type_numbers, with_number};
 
+use crate::linked::Signature;
 use bl_base::{List, NoMemory, ValueType};
-use bl_wasm::Signature;
 use indexmap::IndexMap;
 use std::alloc::Global;
 use std::marker::Model;
@@ -23,7 +23,7 @@ impl Model for Known {
     ghost view = { λ known. pairs_of known.map.entries };
 }
 
-#[tactic(auto, using(crate::proofs::Finding::known_rules))]
+#[tactic(auto, using(crate::proofs::EqualTypes::known_rules))]
 impl Known {
     fn new(alloc: Global) -> Known
         ensures { result ≡ [] }
@@ -60,18 +60,18 @@ impl Known {
     }
 }
 
-/// For each type the number of the first one that is equal to it. Linear in the types.
-pub fn kinds(alloc: Global, types: &[Signature]) -> Result<List<usize>, NoMemory>
-    ensures { IfOk result (λ kinds. kinds ≡ kinds_of types.now) }
+/// For each type the number of the first one that is equal to it (`type_numbers`). Linear in the types.
+pub fn number_types(alloc: Global, types: &[Signature]) -> Result<List<usize>, NoMemory>
+    ensures { IfOk result (λ numbers. numbers ≡ type_numbers types.now) }
 {
     let mut known = Known::new(alloc);
-    let mut kinds = Vec::new(alloc);
+    let mut numbers = Vec::new(alloc);
     for (i, kind) in types.iter().enumerate() {
         let text = text_of(alloc, kind)?;
         let number = known.number(text, i)?;
-        kinds.push(number)?;
+        numbers.push(number)?;
     }
-    Ok(List::of(kinds))
+    Ok(List::of(numbers))
 }
 
 /// A type as a text.

@@ -1,22 +1,45 @@
--- Kinds that are found by the texts of types.
-use Rattle.std.proofs.Common.{◌≡◌, ℕ, zero, suc, ◌+◌, ◌<◌, ◌≤◌, Bool, true, false, List, [], ◌∷◌, ◌++◌, length, map, take, drop, Option, Some, None, slice_get, refl, sym, ap, ◌∙◌, subst, arith}
-use Rattle.std.specs.Prelude.{nat_lt, if◌then◌else◌, unwrap_or}
+-- Types of functions that are equal, and their numbers, which are found by texts.
+use Rattle.std.proofs.Common.{◌≡◌, ℕ, zero, suc, ◌+◌, ◌==◌, ◌<◌, ◌≤◌, Bool, true, false, List, [], ◌∷◌, ◌++◌, length, map, take, drop, Option, Some, None, slice_get, refl, sym, ap, ◌∙◌, subst, arith}
+use Rattle.std.specs.Prelude.{nat_lt, ◌&&◌, if◌then◌else◌, unwrap_or}
+use Rattle.std.specs.Bool.{Decides}
+use Rattle.std.specs.Cmp.Lexicographic.{pointwise}
 use Rattle.std.specs.Str.{bytes_eq}
-use Rattle.std.proofs.lemmas.Bool.{false≢true, lt-ltb, le-ltb, ltb-true, ltb-false}
-use Rattle.std.proofs.lemmas.Slice.Eq.{bytes_eq-Decides}
+use Rattle.std.proofs.lemmas.Bool.{false≢true, eq-eqb, eqb-true, lt-ltb, le-ltb, ltb-true, ltb-false}
+use Rattle.std.proofs.lemmas.Slice.Eq.{bytes_eq-Decides, slice_eq-Decides}
 use Rattle.std.proofs.lemmas.Option.{same_Some}
 use Rattle.bl_base.specs.declared.names.ValueType.{ValueType}
 use Rattle.bl_base.specs.declared.names.ValueType.TheVariants.{I32, I64}
+use Rattle.bl_base.proofs.BoolLemmas.{each_true}
 use Rattle.bl_base.proofs.Lists.{first_same}
 use Rattle.bl_wasm.specs.Exports.{Pairs, number_of}
+use Rattle.bl_wasm.specs.TypeNumbers.{first_of, is_same, is_same_type, letter, spelled, with_number}
 use Rattle.bl_wasm.specs.declared.linked.Signature.{Signature}
 use Rattle.bl_wasm.proofs.ExportLemmas.{number-pairs}
-use Rattle.bl_reduce.specs.Calls.{is_same_type}
-use Rattle.bl_reduce.proofs.CallItems.{same_type}
-use Rattle.bl_machine.specs.Bodies.{first_of, letter, spelled, with_number}
-use Rattle.bl_machine.proofs.Tables.{same_as_itself}
 
 pub ruleset known_rules = (number-pairs)
+
+-- ---- equal types
+
+one_same : (a b : ValueType) → Decides (is_same a b) (a ≡ b)
+one_same I32 I32 = (λ e. refl, λ e. refl)
+one_same I64 I64 = (λ e. refl, λ e. refl)
+one_same I32 I64 = (λ e. absurd (false≢true e), λ e. absurd (false≢true (subst (λ t. is_same I32 t ≡ true) e refl)))
+one_same I64 I32 = (λ e. absurd (false≢true e), λ e. absurd (false≢true (subst (λ t. is_same I64 t ≡ true) e refl)))
+
+pub same_type : (a b : Signature) → is_same_type a b ≡ true → a ≡ b
+same_type a b e =
+    let both = each_true (pointwise is_same a.params b.params) (pointwise is_same a.results b.results) e in
+    let params : a.params ≡ b.params = (slice_eq-Decides one_same a.params b.params (pointwise is_same a.params b.params) refl).0 both.0 in
+    let outcomes : a.results ≡ b.results = (slice_eq-Decides one_same a.results b.results (pointwise is_same a.results b.results) refl).0 both.1 in
+    ap (λ ps. record { params = ps; results = a.results }) params ∙ ap (λ rs. record { params = b.params; results = rs }) outcomes
+
+all_same : (types : List ValueType) → pointwise is_same types types ≡ true
+all_same [] = refl
+all_same (I32 ∷ types) = all_same types
+all_same (I64 ∷ types) = all_same types
+
+pub same_as_itself : (type : Signature) → is_same_type type type ≡ true
+same_as_itself type = ap (λ b. b && pointwise is_same type.results type.results) (all_same type.params) ∙ all_same type.results
 
 -- ---- texts of types
 
@@ -78,6 +101,24 @@ inside : (types : List Signature) (i : ℕ) (type : Signature) → slice_get typ
 inside [] i type e = cc
 inside (other ∷ types) zero type e = omega arith
 inside (other ∷ types) (suc i) type e = omega (arith, inside types i type e)
+
+-- the first type that is equal to one of them is found
+pub first_found : (types : List Signature) (type : Signature) (i : ℕ) → slice_get types i ≡ Some type → slice_get types (first_of types type) ≡ Some type
+first_found types type i e = first_there types type (omega (arith, first_at types type i e, inside types i type e))
+
+-- two of the types are equal exactly where their numbers are
+pub numbers_tell : (types : List Signature) (a b : Signature) (i j : ℕ) → slice_get types i ≡ Some a → slice_get types j ≡ Some b
+    → (first_of types a == first_of types b) ≡ is_same_type a b
+numbers_tell types a b i j e f = from (is_same_type a b) refl (first_of types a == first_of types b) refl
+  where
+    from : (same : Bool) → is_same_type a b ≡ same → (equal : Bool) → (first_of types a == first_of types b) ≡ equal → equal ≡ same
+    from true same true equal = refl
+    from false same false equal = refl
+    from true same false equal =
+        absurd (false≢true (sym equal ∙ eq-eqb (first_of types a) (first_of types b) (ap (first_of types) (same_type a b same))))
+    from false same true equal =
+        let one : Some a ≡ Some b = sym (first_found types a i e) ∙ ap (slice_get types) (eqb-true (first_of types a) (first_of types b) equal) ∙ first_found types b j f in
+        absurd (false≢true (sym same ∙ ap (is_same_type a) (sym (same_Some a b one)) ∙ same_as_itself a))
 
 -- ---- a number, where it is below another
 
