@@ -3,6 +3,7 @@ ghost use Rattle.std.specs.Prelude.{◌≡◌, ◌≤◌, ◌∷◌, [], None, I
 ghost use Rattle.bl_base.specs.Quantity.{limit_of};
 ghost use Rattle.bl_base.specs.declared.quantity.Quantity.TheVariants as quantity;
 ghost use Rattle.bl_graph.specs.Certificates.{Certifies};
+ghost use Rattle.bl_report.specs.Reports.{report_text};
 ghost use Rattle.bl_witness.specs.Texts.{certificate_text};
 ghost use Rattle.bl_ct.specs.Verdicts.{Judges};
 ghost use Rattle.bl_app.specs.Hardening.{harden_job, harden_plan};
@@ -14,7 +15,7 @@ ghost use Rattle.bl_build.specs.Working.{contents_in, hardened_in};
 
 use crate::job::{Keep, Plan, one_kept};
 use crate::status::Status;
-use bl_base::NoMemory;
+use bl_base::{NoMemory, Text};
 use bl_build::{Hardened, WorkError, compile_hardened};
 use bl_graph::Certificate;
 use bl_report::report;
@@ -51,18 +52,27 @@ fn plan_of<'a>(
     requires judged { Judges hardened.program hardened.verdict }
     ensures { IfOk result (λ plan. plan_in plan ≡ harden_plan (harden_in words.now) (hardened_in hardened)) }
 {
-    let text = report(
-        alloc,
-        &hardened.program,
-        &hardened.certificate,
-        &hardened.verdict,
-    )?;
+    let text = report_of(alloc, &hardened);
     let keeps = keeps_of(alloc, words, hardened)?;
     Ok(Plan {
         status: Status::Done,
         keeps,
-        text: text.into_vec(),
+        text: text?.into_vec(),
     })
+}
+
+/// The report, which is printed.
+fn report_of(alloc: Global, hardened: &Hardened) -> Result<Text, NoMemory>
+    requires certified { Certifies hardened.now.program hardened.now.certificate }
+    requires judged { Judges hardened.now.program hardened.now.verdict }
+    ensures { IfOk result (λ text. text ≡ report_text hardened.now.program hardened.now.certificate hardened.now.verdict) }
+{
+    report(
+        alloc,
+        &hardened.program,
+        &hardened.certificate,
+        &hardened.verdict,
+    )
 }
 
 /// The certificate and then the image, which are kept.
@@ -73,10 +83,12 @@ fn keeps_of<'a>(
 ) -> Result<Vec<Keep<'a>>, NoMemory>
     ensures { IfOk result (λ keeps. map keep_in keeps.items ≡ (harden_plan (harden_in words.now) (hardened_in hardened)).keeps) }
 {
-    let mut keeps = certificate_kept(alloc, words, &hardened.certificate)?;
+    let certificate = certificate_kept(alloc, words, &hardened.certificate);
+    let bytes = hardened.into_image();
+    let mut keeps = certificate?;
     keeps.push(Keep {
         name: words.image,
-        bytes: hardened.into_image(),
+        bytes,
     })?;
     Ok(keeps)
 }

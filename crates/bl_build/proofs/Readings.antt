@@ -44,31 +44,22 @@ module _ {X : Type 0} (value : X → List Named) (name : Bor (List ℕ)) where
     pub decodes : (tree : Module) → Answers bytes (Ok tree) → Decodes part (record { name = name.now; tree = tree })
     decodes tree is = record { same_name = refl; spelled = is.0; supported = is.1; within = is.2 }
 
-  module _ (tree : Module) where
-    abbrev named : Named
-    named = record { name = name.now; tree = tree }
+-- a module that isn't valid
+module _ {X : Type 0} (value : X → Named) (name : Bor (List ℕ)) (tree : Module) where
+  pub not_valid : (reason : Invalid) → IsReason tree reason → IsStaged validation value (record { name = name.now; tree = tree }) (Err (validation_error name reason))
+  not_valid (invalid.Function index) why = record { reason = invalid.Function index; is_reason = why; is_refusal = refl }
+  not_valid invalid.Module why = record { reason = invalid.Module; is_reason = why; is_refusal = refl }
+  not_valid invalid.Memory why = tt
 
-    -- a module that isn't valid, behind those that are
-    pub validated : (whole rest : List Named) (done : List Named) → Goes validation whole done (named ∷ rest) → (reason : Invalid) → IsReason tree reason → IsStaged (each validation) value whole (Err (validation_error name reason))
-    validated whole rest done g (invalid.Function index) why =
-        goes_refused validation whole rest done named _ g (record { reason = invalid.Function index; is_reason = why; is_refusal = refl })
-    validated whole rest done g invalid.Module why = goes_refused validation whole rest done named _ g (record { reason = invalid.Module; is_reason = why; is_refusal = refl })
-    validated whole rest done g invalid.Memory why = tt
-
--- a module whose labels break a rule, behind those whose don't
-module _ {X : Type 0} (value : X → List LabelledModule) (name : Bor (List ℕ)) (tree : Module) (whole rest : List Named) (done : List LabelledModule) (g : Goes labelling whole done (record { name = name.now; tree = tree } ∷ rest)) where
-  pub not_labelled_yet : (error : LabelError) → AreTold tree (Err error) → IsStaged (each labelling) value whole (Err (labels_error name error))
-  not_labelled_yet label.Malformed why =
-      goes_refused labelling whole rest done (record { name = name.now; tree = tree }) _ g (record { error = label.Malformed; wrong = fault.Malformed; told = why; is_fault = refl; is_refusal = refl })
-  not_labelled_yet label.Twice why =
-      goes_refused labelling whole rest done (record { name = name.now; tree = tree }) _ g (record { error = label.Twice; wrong = fault.Twice; told = why; is_fault = refl; is_refusal = refl })
-  not_labelled_yet label.OutOfRange why =
-      goes_refused labelling whole rest done (record { name = name.now; tree = tree }) _ g (record { error = label.OutOfRange; wrong = fault.OutOfRange; told = why; is_fault = refl; is_refusal = refl })
-  not_labelled_yet label.OnImport why =
-      goes_refused labelling whole rest done (record { name = name.now; tree = tree }) _ g (record { error = label.OnImport; wrong = fault.OnImport; told = why; is_fault = refl; is_refusal = refl })
-  not_labelled_yet label.Both why =
-      goes_refused labelling whole rest done (record { name = name.now; tree = tree }) _ g (record { error = label.Both; wrong = fault.Both; told = why; is_fault = refl; is_refusal = refl })
-  not_labelled_yet label.Memory why = tt
+-- a module whose labels break a rule
+module _ {X : Type 0} (value : X → LabelledModule) (name : Bor (List ℕ)) (tree : Module) where
+  pub not_labelled : (error : LabelError) → AreTold tree (Err error) → IsStaged labelling value (record { name = name.now; tree = tree }) (Err (labels_error name error))
+  not_labelled label.Malformed why = record { error = label.Malformed; wrong = fault.Malformed; told = why; is_fault = refl; is_refusal = refl }
+  not_labelled label.Twice why = record { error = label.Twice; wrong = fault.Twice; told = why; is_fault = refl; is_refusal = refl }
+  not_labelled label.OutOfRange why = record { error = label.OutOfRange; wrong = fault.OutOfRange; told = why; is_fault = refl; is_refusal = refl }
+  not_labelled label.OnImport why = record { error = label.OnImport; wrong = fault.OnImport; told = why; is_fault = refl; is_refusal = refl }
+  not_labelled label.Both why = record { error = label.Both; wrong = fault.Both; told = why; is_fault = refl; is_refusal = refl }
+  not_labelled label.Memory why = tt
 
 -- the name of a module by its number
 named_by : (ready : List Ready) (place : ℕ) (name : Bor (List ℕ)) → slice_get (map (λ (one : Ready). one.name) ready) place ≡ Some name → (one : LabelledModule) × (slice_get (map ready_in ready) place ≡ Some one) × (one.name ≡ name.now)

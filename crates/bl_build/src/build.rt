@@ -81,7 +81,16 @@ fn build<'a>(alloc: Global, linked: Linked) -> Result<Built, WorkError<'a>>
 pub(crate) fn lowered<'a>(alloc: Global, linked: Linked) -> Result<WellFormed, WorkError<'a>>
     ensures { IsStaged lowering (λ program. program) linked result }
 {
-    match lower(alloc, &linked) {
+    let program = program_of(alloc, &linked);
+    drop(linked);
+    program
+}
+
+/// The program of a linked tree; Refused exactly where it has too many commands.
+fn program_of<'a>(alloc: Global, linked: &Linked) -> Result<WellFormed, WorkError<'a>>
+    ensures { IsStaged lowering (λ program. program) linked.now result }
+{
+    match lower(alloc, linked) {
         Ok(program) => {
             // What is known of the program is read with it.
             let _rules = program.program();

@@ -8,6 +8,7 @@ ghost use Rattle.bl_wasm.specs.Validity.{functions_of};
 ghost use Rattle.bl_labels.specs.Faults.{IsConsistent};
 ghost use Rattle.bl_link.specs.Faults.{NamesPart};
 ghost use Rattle.bl_link.specs.Linkable.{AreParts};
+ghost use Rattle.bl_link.specs.Links.{part_of};
 ghost use Rattle.bl_build.specs.Loading.{AreShort, decoding, labelling, linked_parts, linking, loading, parts_of, validation};
 ghost use Rattle.bl_words.specs.Requests.{AreNamedApart};
 ghost use Rattle.bl_build.specs.Stages.{each};
@@ -122,13 +123,27 @@ fn validate_all<'a>(
     let mut all = Vec::new(alloc);
     let mut rest = spelled.into_iter();
     while let Some(one) = rest.next() {
-        let name = one.name;
-        match validate(alloc, one.tree) {
-            Ok(wasm) => all.push(Checked { name, wasm })?,
-            Err((_, reason)) => return Err(of_validation(name, reason)),
+        match validated(alloc, one) {
+            Ok(checked) => all.push(checked)?,
+            Err(error) => return Err(error),
         }
     }
     Ok(all)
+}
+
+/// The module, where it is valid.
+fn validated<'a>(alloc: Global, one: Spelled<'a>) -> Result<Checked<'a>, WorkError<'a>>
+    requires { length (functions_of one.tree) < 2 ^ 32 }
+    ensures { IsStaged validation checked_in (spelled_in one.entry) result }
+{
+    let name = one.name;
+    match validate(alloc, one.tree) {
+        Ok(wasm) => Ok(Checked { name, wasm }),
+        Err((wasm, reason)) => {
+            drop(wasm);
+            Err(of_validation(name, reason))
+        }
+    }
 }
 
 /// Why a module of that name is refused that isn't valid.
@@ -150,17 +165,31 @@ fn label_all<'a>(alloc: Global, checked: Vec<Checked<'a>>) -> Result<Vec<Ready<'
     let mut all = Vec::new(alloc);
     let mut rest = checked.into_iter();
     while let Some(one) = rest.next() {
-        let name = one.name;
-        match labels_of(alloc, one.wasm.module()) {
-            Ok(labels) => all.push(Ready {
-                name,
-                wasm: one.wasm,
-                labels,
-            })?,
-            Err(error) => return Err(of_labels(name, error)),
+        match labelled(alloc, one) {
+            Ok(ready) => all.push(ready)?,
+            Err(error) => return Err(error),
         }
     }
     Ok(all)
+}
+
+/// The module with its labels, where these break no rule.
+fn labelled<'a>(alloc: Global, one: Checked<'a>) -> Result<Ready<'a>, WorkError<'a>>
+    ensures staged { IsStaged labelling ready_in (checked_in one.entry) result }
+    ensures consistent { IfOk result (λ ready. IsConsistent ready.labels) }
+{
+    let name = one.name;
+    match labels_of(alloc, one.wasm.module()) {
+        Ok(labels) => Ok(Ready {
+            name,
+            wasm: one.wasm,
+            labels,
+        }),
+        Err(error) => {
+            drop(one);
+            Err(of_labels(name, error))
+        }
+    }
 }
 
 /// Why a module of that name is refused whose labels aren't read.
@@ -209,13 +238,26 @@ fn parts_of(alloc: Global, ready: Vec<Ready<'_>>) -> Result<List<Part>, NoMemory
     let mut parts = List::new(alloc);
     let mut rest = ready.into_iter();
     while let Some(one) = rest.next() {
-        parts.push(Part {
-            name: Text::copy_of(alloc, one.name.as_bytes())?,
-            wasm: one.wasm,
-            labels: one.labels,
-        })?;
+        parts.push(part_of(alloc, one)?)?;
     }
     Ok(parts)
+}
+
+/// The module as a part to be linked.
+fn part_of(alloc: Global, one: Ready<'_>) -> Result<Part, NoMemory>
+    ensures { IfOk result (λ part. part ≡ part_of one.entry.name.now one.entry.wasm one.entry.labels) }
+{
+    match Text::copy_of(alloc, one.name.as_bytes()) {
+        Ok(name) => Ok(Part {
+            name,
+            wasm: one.wasm,
+            labels: one.labels,
+        }),
+        Err(NoMemory) => {
+            drop(one);
+            Err(NoMemory)
+        }
+    }
 }
 
 /// Why modules of those names aren't linked.

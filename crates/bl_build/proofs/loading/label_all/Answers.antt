@@ -1,16 +1,15 @@
 use Rattle.std.proofs.Common.{◌≡◌, [], ap, arith, map, subst, sym}
-use Rattle.std.specs.Prelude.{Err, Ok, Vec}
+use Rattle.std.specs.Prelude.{Vec}
 use Rattle.std.specs.declared.alloc.Global.{Global}
 use Rattle.std.proofs.lemmas.Grind.{common_steps}
 use Rattle.std.specs.List.{All}
 use Rattle.std.specs.Vec.Iter.{into_iter_items}
 use Rattle.std.proofs.lemmas.List.Elements.{All-push}
 use Rattle.bl_labels.specs.Faults.{IsConsistent}
-use Rattle.bl_wasm.specs.declared.module.Module.{Module}
-use Rattle.bl_build.specs.Loading.{AreTold, labelling}
+use Rattle.bl_build.specs.Loading.{labelling}
 use Rattle.bl_build.specs.Working.{checked_in, ready_in}
 use Rattle.bl_build.specs.declared.loading.Ready.{Ready}
-use Rattle.bl_build.proofs.LoadSteps.{next_labelled, not_labelled}
+use Rattle.bl_build.proofs.LoadSteps.{next_passed, next_refused}
 use Rattle.bl_build.proofs.StageLemmas.{goes_ends}
 use Rattle.bl_build.proofs.loading.label_all.Goals as goal
 
@@ -19,20 +18,17 @@ IsSane one = IsConsistent one.labels
 
 pub loop-one-preserved : goal.loop-one-preserved
 loop-one-preserved c =
-    let value : Ready = record { name = c.in-Some.one.name; wasm = c.in-Some.one.wasm; labels = c.in-Ok.labels } in
     let grown = c.in_ok-push-in-Ok.ensures.items in
     record {
-      goes = next_labelled (map checked_in c.args.checked.items) (into_iter_items c.loop-one.rest) (into_iter_items c.next.new.self) c.loop-one.all.items c.in-Some.one
-          c.in-Some.ensures.cases.0 c.loop-one.invariant.goes c.in-Ok.labels c.push.new.self.items grown
-          (subst (λ (tree : Module). AreTold tree (Ok c.in-Ok.labels)) c.module.ensures.same c.in-Ok.ensures.told);
-      sane = subst (All IsSane) (sym grown) (All-push IsSane c.loop-one.all.items value c.loop-one.invariant.sane c.in-Ok.ensures.consistent);
+      goes = next_passed labelling checked_in ready_in (map checked_in c.args.checked.items) (into_iter_items c.loop-one.rest) (into_iter_items c.next.new.self) c.loop-one.all.items c.in-Some.one
+          c.in-Some.ensures.cases.0 c.loop-one.invariant.goes c.in-Ok.ready c.push.new.self.items grown c.in-Ok.ensures.staged;
+      sane = subst (All IsSane) (sym grown) (All-push IsSane c.loop-one.all.items c.in-Ok.ready c.loop-one.invariant.sane c.in-Ok.ensures.consistent);
     }
 
 pub returns-in-Err : goal.returns-in-Err
 returns-in-Err c = record {
-  staged = not_labelled (map checked_in c.args.checked.items) (into_iter_items c.loop-one.rest) (into_iter_items c.next.new.self) c.loop-one.all.items c.in-Some.one
-      c.in-Some.ensures.cases.0 c.loop-one.invariant.goes (λ (all : Vec Ready Global). map ready_in all.items) c.in-Err.error c.of_labels.result c.of_labels.ensures
-      (subst (λ (tree : Module). AreTold tree (Err c.in-Err.error)) c.module.ensures.same c.in-Err.ensures.told);
+  staged = next_refused labelling checked_in ready_in (map checked_in c.args.checked.items) (into_iter_items c.loop-one.rest) (into_iter_items c.next.new.self) c.loop-one.all.items c.in-Some.one
+      c.in-Some.ensures.cases.0 c.loop-one.invariant.goes ready_in (λ (all : Vec Ready Global). map ready_in all.items) c.in-Err.error c.in-Err.ensures.staged;
   consistent = tt;
 }
 

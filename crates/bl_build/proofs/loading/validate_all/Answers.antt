@@ -10,7 +10,7 @@ use Rattle.bl_build.specs.Loading.{validation}
 use Rattle.bl_build.specs.Working.{checked_in, spelled_in}
 use Rattle.bl_build.specs.declared.loading.Checked.{Checked}
 use Rattle.bl_build.specs.declared.loading.Spelled.{Spelled}
-use Rattle.bl_build.proofs.LoadSteps.{next_valid, not_valid}
+use Rattle.bl_build.proofs.LoadSteps.{next_passed, next_refused}
 use Rattle.bl_build.proofs.StageLemmas.{goes_ends}
 use Rattle.bl_build.proofs.loading.validate_all.Goals as goal
 
@@ -23,15 +23,15 @@ loop-one-preserved c =
     let left = into_iter_items c.next.new.self in
     let first = c.in-Some.ensures.cases.0 in
     record {
-      goes = next_valid whole (into_iter_items c.loop-one.rest) left c.loop-one.all.items c.in-Some.one first c.loop-one.invariant.goes c.in-Ok.wasm c.push.new.self.items c.in_ok-push-in-Ok.ensures.items
-          c.in-Ok.ensures.valid.0 c.in-Ok.ensures.valid.1;
+      goes = next_passed validation spelled_in checked_in whole (into_iter_items c.loop-one.rest) left c.loop-one.all.items c.in-Some.one first c.loop-one.invariant.goes c.in-Ok.checked c.push.new.self.items
+          c.in_ok-push-in-Ok.ensures.items c.in-Ok.ensures;
       few = All-tail IsFew c.in-Some.one left (subst (All IsFew) first c.loop-one.invariant.few);
     }
 
 pub returns-in-Err : goal.returns-in-Err
 returns-in-Err c =
-    not_valid (map spelled_in c.args.spelled.items) (into_iter_items c.loop-one.rest) (into_iter_items c.next.new.self) c.loop-one.all.items c.in-Some.one c.in-Some.ensures.cases.0 c.loop-one.invariant.goes
-    (λ (all : Vec Checked Global). map checked_in all.items) c.in-Err.reason c.of_validation.result c.of_validation.ensures c.in-Err.ensures.reason
+    next_refused validation spelled_in checked_in (map spelled_in c.args.spelled.items) (into_iter_items c.loop-one.rest) (into_iter_items c.next.new.self) c.loop-one.all.items c.in-Some.one
+    c.in-Some.ensures.cases.0 c.loop-one.invariant.goes checked_in (λ (all : Vec Checked Global). map checked_in all.items) c.in-Err.error c.in-Err.ensures
 
 pub returns : goal.returns
 returns c =
