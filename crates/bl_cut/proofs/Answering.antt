@@ -66,13 +66,6 @@ module _ (program : Program) (is : AreInRange program) (r : FlowResult) (found :
       let all = total program is n found.is in
       omega arith
 
-  pub near_places : (n : ℕ) → n ≡ commands program → (n ≤ length r.near_in) × (n ≤ length r.near_out)
-  near_places n e =
-      let size_is = found.is.size_is in
-      let ins = found.flow.near.in_places in
-      let outs = found.flow.near.out_places in
-      (omega arith, omega arith)
-
   module _ (n : ℕ) (e : n ≡ commands program) (sink_of : List ℕ) (knows : KnowsSinks program sink_of) (paths : List FlowPath) (back : paths ≡ map (path_of n sink_of) r.paths) where
     backs : paths ≡ map (path_of (commands program) sink_of) r.paths
     backs = back ∙ ap (λ m. map (path_of m sink_of) r.paths) e

@@ -9,7 +9,7 @@ use Rattle.bl_graph.specs.Ranges.{commands}
 use Rattle.bl_graph.specs.declared.certificate.FlowPath.{FlowPath}
 use Rattle.bl_graph.proofs.Ranging.{in_range}
 use Rattle.bl_cut.specs.Choices.{EndsAtVar, KnowsIn, KnowsSinks, path_of}
-use Rattle.bl_cut.proofs.Answering.{knows_sinks, all_end_at_vars, near_places, answer_least, answer_weight, answer_certificate}
+use Rattle.bl_cut.proofs.Answering.{knows_sinks, all_end_at_vars, answer_least, answer_weight, answer_certificate}
 use Rattle.bl_cut.proofs.Networks.{sink_vars}
 use Rattle.bl_cut.proofs.choice.choice_of.Goals as goal
 
