@@ -19,7 +19,7 @@ use Rattle.bl_cmd.specs.declared.definitions.GlobalDef.{GlobalDef}
 use Rattle.bl_cmd.specs.declared.definitions.ProgramParts.{ProgramParts as Program}
 use Rattle.bl_cmd.proofs.Layouts.{first_below, first_above, next_first, number_is, own_apart, result_own}
 use Rattle.bl_graph.specs.Ranges.{commands, variables, AreInRange}
-use Rattle.bl_graph.specs.Secrets.{IsSecretParam, IsSecretGlobal, Declares, LoadsSecret, Stores, GivesPublic, TakesSecret, demanded_by}
+use Rattle.bl_graph.specs.Secrets.{IsSecretParam, IsSecretGlobal, Declares, Stores, GivesPublic, demanded_by}
 use Rattle.bl_graph.specs.declared.facts.Use.{Use}
 use Rattle.bl_graph.specs.declared.secret.Origin.{Origin}
 use Rattle.bl_graph.specs.declared.secret.Origin.TheVariants.{Parameter, Global, Memory}
@@ -82,11 +82,6 @@ module _ (program : Program) (facts : IsProgram program) (rules : IsWellFormed p
       let stands = found (command_at program position) (λ command. GivesPublic program command x) h in
       operand_small program facts rules position stands.0 x stands.1 (given_among stands.0 x stands.2)
 
-  loads_low : (s memory : ℕ) → LoadsSecret program s memory → s < commands program
-  loads_low s memory h =
-      let stands = found (command_at program s) (λ command. TakesSecret program command memory) h in
-      slice_get_within program.commands s stands.0 stands.1
-
   -- a result that is demanded is one of its function's
   demand_own : (function index : ℕ) → index < results_of program function → IsOwn program function (result program function index)
   demand_own function index low = result_own program function (result program function index) rules.rule2 (omega arith, omega arith)
@@ -140,7 +135,6 @@ module _ (program : Program) (facts : IsProgram program) (rules : IsWellFormed p
   pub secrets_in_range : AreSecretsInRange program
   secrets_in_range = record {
     declared = declared_small;
-    loads = loads_low;
     stores = stored_small;
     demanded = λ x h. subst (λ y. y < variables program) h.2 (demand_small h.0 (is_demand h.0 h.1));
     apart = λ x origin h d. one_apart origin d.0 x h (is_demand d.0 d.1) d.2;

@@ -10,7 +10,7 @@ use Rattle.bl_cmd.specs.declared.definitions.GlobalDef.{GlobalDef}
 use Rattle.bl_cmd.specs.declared.definitions.ParamDef.{ParamDef}
 use Rattle.bl_cmd.specs.declared.definitions.ProgramParts.{ProgramParts as Program}
 use Rattle.bl_graph.specs.Graphs.{IsGraph}
-use Rattle.bl_graph.specs.Ranges.{commands, variables}
+use Rattle.bl_graph.specs.Ranges.{variables}
 use Rattle.bl_graph.specs.Secrets.{Declares, LoadsSecret, Stores, Demands, TakesSecret, GivesPublic}
 use Rattle.bl_graph.specs.declared.facts.Use.{Use}
 use Rattle.bl_graph.specs.declared.secret.Origin.{Origin}
@@ -86,7 +86,6 @@ pub record IsKnown (known : Known) : Type 0 where
 -- what is declared lies in its ranges, and nothing that is declared secret is demanded to be public
 pub record AreSecretsInRange (program : Program) : Type 0 where
   pub declared : (x : ℕ) (origin : Origin) → Declares program x origin → x < variables program
-  pub loads : (s memory : ℕ) → LoadsSecret program s memory → s < commands program
   pub stores : (position x : ℕ) → Stores program position x → x < variables program
   pub demanded : (x : ℕ) → Demands program x → x < variables program
   pub apart : (x : ℕ) (origin : Origin) → Declares program x origin → Demands program x → ⊥

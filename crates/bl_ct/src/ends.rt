@@ -1,6 +1,6 @@
 //! Where variables may not be secret.
 ghost use Rattle.std.specs.Prelude.{◌≡◌, ◌<◌, ◌↔◌, ℕ, All, Contains, IsTrue, IfOk, None, length, replicate};
-ghost use Rattle.bl_graph.specs.Ranges.{commands, variables};
+ghost use Rattle.bl_graph.specs.Ranges.{variables};
 ghost use Rattle.bl_graph.specs.Secrets.{Demands};
 ghost use Rattle.bl_ct.specs.Facts.{IsKnown};
 ghost use Rattle.bl_graph.specs.Arcs.{is_in};

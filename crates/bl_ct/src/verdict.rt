@@ -1,5 +1,5 @@
 //! Whether a program is constant time.
-ghost use Rattle.std.specs.Prelude.{◌≡◌, ◌<◌, ℕ, All, IfOk, length, map, replicate};
+ghost use Rattle.std.specs.Prelude.{◌≡◌, ◌<◌, All, IfOk, length, map, replicate};
 ghost use Rattle.bl_base.specs.declared.names.Label.TheVariants as label;
 ghost use Rattle.bl_graph.specs.Graphs.{IsGraph};
 ghost use Rattle.bl_graph.specs.SecretChains.{IsSecretChain};

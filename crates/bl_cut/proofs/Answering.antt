@@ -1,7 +1,7 @@
 -- From the answer of the maximum flow to the choice.
 use Rattle.std.proofs.Common.{◌≡◌, ℕ, ◌+◌, ◌-◌, ◌^◌, ◌<◌, ◌≤◌, Bool, true, false, List, [], ◌∷◌, ◌++◌, length, unwrap_or, sym, ap, subst, ◌∙◌, arith, inl, inr, min, not, ◌&&◌, nat_lt, slice_index}
 use Rattle.std.specs.Prelude.{map}
-use Rattle.std.specs.List.{All, Contains, slice_index_or}
+use Rattle.std.specs.List.{All, slice_index_or}
 use Rattle.std.specs.FinSet as fin
 use Rattle.std.specs.FinSet.{FinSet}
 use Rattle.std.specs.Ordering.{nat_cmp}
@@ -20,7 +20,7 @@ use Rattle.bl_graph.specs.Ranges.{commands, variables, AreInRange}
 use Rattle.bl_graph.specs.declared.certificate.FlowPath.{FlowPath}
 use Rattle.bl_graph.specs.declared.facts.Graph.{Graph}
 use Rattle.bl_graph.proofs.Counting.{amount_if}
-use Rattle.bl_cut.specs.Choices.{IsMaxFlow, IsFlowOf, KnowsSinks, KnowsIn, path_of, EndsAtVar}
+use Rattle.bl_cut.specs.Choices.{IsFlowOf, KnowsSinks, KnowsIn, path_of, EndsAtVar}
 use Rattle.bl_cut.specs.Least.{Least}
 use Rattle.bl_cut.specs.Marks.{protected}
 use Rattle.bl_cut.specs.Network.{IsNetwork}

@@ -7,7 +7,7 @@ use bl_base::{List, Pos, SiteSet};
 use bl_cmd::{Command, Mark, Program, ProgramParts, WellFormed};
 
 /// The program in which exactly the sites of the set are protected; all else stays. What is no site is passed over. Linear in
-/// the commands; takes no memory.
+/// the commands, but for the logarithm of how many positions from 1,048,576 on the set has; takes no memory.
 pub fn protect(program: WellFormed, protects: &SiteSet) -> WellFormed
     ensures { result ≡ protected (fin.contains protects.now) program }
 {

@@ -56,15 +56,8 @@ fn assess_labelled(alloc: Global, program: &WellFormed, graph: &Graph) -> Result
 }
 
 /// Whether a program's own marks pass the transient rules: the least flow typing, or the least position of a sink that reads a
-/// transient variable. Linear in the program and in the number of its declared variables. Want of memory is the only error.
-pub fn stability(alloc: Global, program: &WellFormed) -> Result<FlowVerdict, NoMemory>
-    ensures { IfOk result (λ verdict. Judges program.now (is_protected program.now) verdict) }
-{
-    let graph = graph(alloc, program)?;
-    stability_of(alloc, program, &graph)
-}
-
-/// The same by the program's graph, for callers that need the graph as well.
+/// transient variable. It takes the program's graph, which callers need as well. Linear in the program and in the number of its declared
+/// variables. Want of memory is the only error.
 pub fn stability_of(
     alloc: Global,
     program: &WellFormed,

@@ -1,5 +1,5 @@
 //! Which variables are transient, where a set of sites is protected.
-ghost use Rattle.std.specs.Prelude.{◌≡◌, ◌<◌, ◌↔◌, ℕ, All, IsTrue, IfOk, length, map, option_map};
+ghost use Rattle.std.specs.Prelude.{◌≡◌, ◌<◌, ◌↔◌, ℕ, All, IsTrue, IfOk, length, map};
 ghost use Rattle.std.specs.FinSet as fin;
 ghost use Rattle.bl_graph.specs.Graphs.{IsGraph};
 ghost use Rattle.bl_graph.specs.Ranges.{variables};
@@ -26,7 +26,7 @@ pub enum FlowVerdict {
 
 /// The least flow typing where the sites of the set are protected; where a sink reads a variable that is transient in it, so
 /// that no typing keeps the rules, the least position of such a sink. Linear in the program and in the number of its declared
-/// variables. Want of memory is the only error.
+/// variables, but for the logarithm of how many positions from 1,048,576 on the set has. Want of memory is the only error.
 pub fn flows(
     alloc: Global,
     program: &WellFormed,

@@ -1,5 +1,5 @@
 //! The check of certificates.
-ghost use Rattle.std.specs.Prelude.{◌≡◌, IfOk, count_by, map, option_map};
+ghost use Rattle.std.specs.Prelude.{◌≡◌, IfOk, count_by};
 ghost use Rattle.bl_cmd.specs.Sites.{is_protected};
 ghost use Rattle.bl_graph.specs.Graphs.{IsGraph};
 ghost use Rattle.bl_witness.specs.Lookups.{JudgesPath, JudgesPaths};

@@ -63,7 +63,8 @@ fn a_made_module_is_hardened_without_files(rt: HostRuntime) -> Result<(), Fail> 
 
 #[test]
 fn a_made_module_of_10000_functions_is_hardened(rt: HostRuntime) -> Result<(), Fail> {
-    let text = "module 769905\nfunctions 10000\ncommands 520002\nsites 389996\nprotects 80000 weight 80000\nconstant-time yes\n";
+    let text =
+        "module 769905\nfunctions 10000\ncommands 520002\nsites 389996\nprotects 80000 weight 80000\nconstant-time yes\n";
     assert!(rt; ends_without_files(rt.alloc(), "blade gen 5 10000", 0, text)?);
     Ok(())
 }

@@ -1,10 +1,9 @@
-use Rattle.std.proofs.Common.{◌≡◌, ◌<◌, ◌∙◌, ◌&&◌, ℕ, Bool, List, ap, sym, subst, length, map, not, nat_lt}
+use Rattle.std.proofs.Common.{◌≡◌, ◌<◌, ◌∙◌, ◌&&◌, ℕ, List, ap, sym, subst, length, map, not, nat_lt}
 use Rattle.std.specs.FinSet as fin
 use Rattle.std.specs.List.{All}
 use Rattle.bl_cmd.specs.Programs.{IsProgram}
 use Rattle.bl_cmd.specs.declared.definitions.ProgramParts.{ProgramParts}
 use Rattle.bl_flow.specs.Cuts.{at_place}
-use Rattle.bl_flow.specs.declared.network.NodePath.{NodePath}
 use Rattle.bl_graph.specs.Ranges.{commands}
 use Rattle.bl_graph.specs.declared.certificate.FlowPath.{FlowPath}
 use Rattle.bl_graph.proofs.Ranging.{in_range}

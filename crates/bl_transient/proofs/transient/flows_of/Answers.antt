@@ -1,4 +1,4 @@
-use Rattle.std.proofs.Common.{◌≡◌, ◌<◌, ◌∙◌, ℕ, Bool, Some, None, ap, sym, subst, length}
+use Rattle.std.proofs.Common.{◌<◌, ◌∙◌, Some, None, ap, sym, subst, length}
 use Rattle.std.specs.FinSet as fin
 use Rattle.std.specs.List.{All}
 use Rattle.bl_transient.specs.Reaching.{FirstSink, flow_type}
