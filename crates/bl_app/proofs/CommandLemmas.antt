@@ -1,38 +1,91 @@
--- The jobs of all commands keep the laws; no status answers all calls.
-use Rattle.std.proofs.Common.{◌≡◌, ℕ, List, Some, None, refl, inl, inr, arith, ◌⊎◌}
+-- All commands keep the laws, and say what they say where they are done; no status answers all calls.
+use Rattle.std.proofs.Common.{◌≡◌, ℕ, List, Option, Some, None, refl, arith, subst, sym, ◌∙◌, ◌≤◌, length}
+use Rattle.std.specs.List.{AllByRecursion}
+use Rattle.bl_base.specs.Quantity.{limit_of}
+use Rattle.bl_base.specs.declared.quantity.Quantity.TheVariants as quantity
 use Rattle.bl_outside.specs.Shelf.{Files}
-use Rattle.bl_app.specs.Causes.{Causes, NoneRose}
+use Rattle.bl_job.specs.Causes.{Causes, IsDone}
 use Rattle.bl_words.proofs.WordsLemmas.{gen_in_range}
-use Rattle.bl_app.specs.Commands.{IsSized, job_of, work_of}
-use Rattle.bl_app.specs.Jobs.{AreRead, FirstRefusal, IsLawful, Plan}
-use Rattle.bl_build.specs.Refusals.{Refusal}
+use Rattle.bl_app.specs.Commands.{HasOnePlan, IsSized, Row, command, job_of, row_of, work_of}
+use Rattle.bl_job.specs.Jobs.{AreRead, FirstRefusal, IsLawful, IsSmall, IsTotal, Plan}
+use Rattle.bl_job.specs.Refusals.{Refusal}
 use Rattle.bl_words.specs.Requests.{Request, gen, harden, interp, lower, modules_in, request_of, run, spec, twin, verify}
-use Rattle.bl_app.specs.Worlds.{World}
-use Rattle.bl_app.specs.Status.{status_number, kind_of, of_deed, of_refusal}
-use Rattle.bl_app.specs.declared.status.Status.{Status}
-use Rattle.bl_app.specs.declared.status.Status.TheVariants as status
-use Rattle.bl_app.proofs.CountLemmas.{with_modules_lawful}
-use Rattle.bl_app.proofs.GenLemmas.{gen_lawful}
-use Rattle.bl_app.proofs.HardenLemmas.{harden_lawful, lower_lawful}
-use Rattle.bl_app.proofs.InterpLemmas.{interp_lawful}
-use Rattle.bl_app.proofs.JobLemmas.{done_not_refused, one_first}
-use Rattle.bl_app.proofs.RunLemmas.{run_lawful}
-use Rattle.bl_app.proofs.SpecLemmas.{spec_lawful}
-use Rattle.bl_app.proofs.TwinLemmas.{twin_lawful}
-use Rattle.bl_app.proofs.VerifyLemmas.{verify_lawful}
+use Rattle.bl_job.specs.Worlds.{World}
+use Rattle.bl_job.specs.Status.{status_number, kind_of, of_deed}
+use Rattle.bl_job.specs.declared.status.Status.{Status}
+use Rattle.bl_job.specs.declared.status.Status.TheVariants as status
+use Rattle.bl_job.proofs.CountLemmas.{with_modules_lawful, work_done}
+use Rattle.bl_app.proofs.GenLemmas.{gen_staged_is}
+use Rattle.bl_app.proofs.HardenLemmas.{harden_staged_is, lower_staged_is}
+use Rattle.bl_app.proofs.InterpLemmas.{interp_staged_is, one_interp_plan}
+use Rattle.bl_job.proofs.TotalJobs.{with_modules_total}
+use Rattle.bl_job.proofs.JobLemmas.{done_not_refused, one_first}
+use Rattle.bl_app.proofs.RunLemmas.{one_run_plan, run_staged_is}
+use Rattle.bl_app.proofs.SpecLemmas.{spec_staged_is}
+use Rattle.bl_job.proofs.Staging.{IsStagedCommand, did, one_done, staged_lawful, staged_total}
+use Rattle.bl_app.specs.Executing.{run_staged}
+use Rattle.bl_app.specs.Generating.{gen_staged}
+use Rattle.bl_app.specs.Hardening.{harden_staged}
+use Rattle.bl_app.specs.Interpreting.{interp_staged}
+use Rattle.bl_app.specs.Lowering.{lower_staged}
+use Rattle.bl_app.specs.Speculating.{spec_staged}
+use Rattle.bl_job.specs.Staged.{Did, Staged, WasDone}
+use Rattle.bl_app.specs.Twinning.{twin_staged}
+use Rattle.bl_app.specs.Verifying.{verify_staged}
+use Rattle.bl_app.proofs.TwinLemmas.{one_twin_plan, twin_staged_is}
+use Rattle.bl_app.proofs.VerifyLemmas.{verify_staged_is}
 
-work_lawful : (request : Request) → IsLawful (work_of request)
-work_lawful (harden request) = harden_lawful request
-work_lawful (lower request) = lower_lawful request
-work_lawful (interp request) = interp_lawful request
-work_lawful (run request) = run_lawful request
-work_lawful (spec request) = spec_lawful request
-work_lawful (twin request) = twin_lawful request
-work_lawful (verify request) = verify_lawful request
-work_lawful (gen request) = gen_lawful request
+-- a shelf may be asked for the files of a command; it keeps the laws, answers all contents that are there, says what it says where its job was done,
+-- and does one thing alone where that is said, for a request that words ask for
+record IsCommand (request : Request) (row : Row) : Type 0 where
+  small : AllByRecursion IsSmall row.job.reads
+  lawful : IsLawful row.job
+  total : length (modules_in request) ≤ limit_of quantity.Modules → row.Given → IsTotal row.job
+  says : (old new : World) (status : Status) → WasDone row.job old new status → Did row.staged old new status
+  one : HasOnePlan request → (contents : List (List ℕ)) (p q : Plan) → row.job.Does contents p → row.job.Does contents q → p ≡ q
+
+staged : {request : Request} {B Given These : Type 0} (staged : Staged B) → IsStagedCommand These staged → (length (modules_in request) ≤ limit_of quantity.Modules → Given → These)
+    → (HasOnePlan request → (made : B) (p q : Plan) → staged.Plans made p → staged.Plans made q → p ≡ q) → IsCommand request (command Given staged)
+staged row laws these one = record {
+  small = laws.small;
+  lawful = staged_lawful row laws;
+  total = λ few given. staged_total row laws (these few given);
+  says = did row laws;
+  one = λ has. one_done row laws (one has);
+}
+
+commands : (request : Request) → IsCommand request (row_of request)
+commands (harden request) = staged (harden_staged request) (harden_staged_is request) (λ few given. record { few = few; apart = given.0; texts = given.1 }) (λ has. absurd has)
+commands (lower request) =
+    staged (lower_staged request) (lower_staged_is request) (λ few given. record { few = few; apart = given.0; texts = given.1 }) (λ has made p q h k. h ∙ sym k)
+commands (interp request) = staged (interp_staged request) (interp_staged_is request) (λ few given. record { few = few; apart = given }) (λ has. one_interp_plan request.steps)
+commands (run request) = staged (run_staged request) (run_staged_is request) (λ few given. tt) (λ has. one_run_plan request.steps)
+commands (spec request) = staged (spec_staged request) (spec_staged_is request) (λ few given. tt) (λ has made p q h k. h ∙ sym k)
+commands (twin request) = staged (twin_staged request) (twin_staged_is request) (λ few given. tt) (λ has. one_twin_plan)
+commands (verify request) = staged (verify_staged request) (verify_staged_is request) (λ few given. tt) (λ has. absurd has)
+commands (gen request) = staged (gen_staged request) (gen_staged_is request) (λ few given. given) (λ has. absurd has)
+
+pub small_of : (request : Request) → AllByRecursion IsSmall (work_of request).reads
+small_of request = (commands request).small
 
 pub laws_of : (request : Request) → IsLawful (job_of request)
-laws_of request = with_modules_lawful (modules_in request) (work_of request) (work_lawful request)
+laws_of request = with_modules_lawful (modules_in request) (work_of request) (commands request).lawful
+
+pub total_of : (request : Request) → (row_of request).Given → IsTotal (job_of request)
+total_of request given = with_modules_total (modules_in request) (work_of request) (λ few. (commands request).total few given)
+
+-- what is said where a job was done
+pub said_of : (asked : Option Request) (request : Request) (old new : World) (status : Status) → asked ≡ Some request → IsDone job_of asked old new status
+    → Did (row_of request).staged old new status
+said_of asked request old new status is d =
+    let same : d.request ≡ request = let theirs = d.is_request in cc in
+    let work = work_done (modules_in request) (work_of request) old.files d.contents d.plan
+    (subst (λ r. AreRead old.files (job_of r).reads d.contents) same d.read) (subst (λ r. (job_of r).Does d.contents d.plan) same d.does) in
+    (commands request).says old new status
+    (record { contents = d.contents; plan = d.plan; read = work.0; does = work.1; meant = d.meant; kept = d.kept; printed = d.printed })
+
+pub one_plan : (request : Request) → HasOnePlan request → (contents : List (List ℕ)) (p q : Plan) → (work_of request).Does contents p → (work_of request).Does contents q → p ≡ q
+one_plan request = (commands request).one
 
 pub one_refusal : (files : Files) (request : Request) (a b : Refusal) → FirstRefusal (job_of request) (Some files) a → FirstRefusal (job_of request) (Some files) b → a ≡ b
 one_refusal files request = one_first files (job_of request) (laws_of request)
@@ -45,50 +98,9 @@ not_refused files request = done_not_refused files (job_of request) (laws_of req
 
 -- the number and the size of a module that is made are in range
 pub sized_by : (words : List (List ℕ)) (request : Request) → request_of words ≡ Some request → IsSized request
-sized_by words (gen request) e = gen_in_range words request e
-sized_by words (harden request) e = tt
-sized_by words (lower request) e = tt
-sized_by words (interp request) e = tt
-sized_by words (run request) e = tt
-sized_by words (spec request) e = tt
-sized_by words (twin request) e = tt
-sized_by words (verify request) e = tt
+sized_by words request = elim request as (λ r. request_of words ≡ Some r → IsSized r) [ gen request ↦ gen_in_range words request | _ ↦ λ e. tt ]
 
--- ---- words that are no request
-
-no_request : {request : Request} → None ≡ Some request → ⊥
-no_request e = cc
-
-module _ (old new : World) (none_rose : NoneRose old new) where
-  not_refused_words : (s : Status) → Causes job_of None old new s → kind_of s ≡ of_refusal → ⊥
-  not_refused_words s c e = no_request (c.refused_only e).is_request
-
-  not_done_words : (s : Status) → Causes job_of None old new s → kind_of s ≡ of_deed → ⊥
-  not_done_words s c e = no_request (c.done_only e).is_request
-
-  not_written : (s : Status) → Causes job_of None old new s → s ≡ status.WriteFault → ⊥
-  not_written s c e = elim (c.write_fault e) [ inl rose ↦ none_rose.sink rose | inr fault ↦ no_request fault.is_request ]
-
-  pub without_request : (s : Status) → Causes job_of None old new s → (s ≡ status.Usage) ⊎ (s ≡ status.Memory)
-  without_request status.Done c = absurd (not_done_words status.Done c refl)
-  without_request status.No c = absurd (not_done_words status.No c refl)
-  without_request status.Usage c = inl refl
-  without_request status.ReadFault c = absurd (no_request (c.read_fault refl).is_request)
-  without_request status.WriteFault c = absurd (not_written status.WriteFault c refl)
-  without_request status.Malformed c = absurd (not_refused_words status.Malformed c refl)
-  without_request status.Invalid c = absurd (not_refused_words status.Invalid c refl)
-  without_request status.Unsupported c = absurd (not_refused_words status.Unsupported c refl)
-  without_request status.Limit c = absurd (not_refused_words status.Limit c refl)
-  without_request status.Link c = absurd (not_refused_words status.Link c refl)
-  without_request status.Labels c = absurd (not_refused_words status.Labels c refl)
-  without_request status.Memory c = inr refl
-  without_request status.Image c = absurd (not_refused_words status.Image c refl)
-  without_request status.Certificate c = absurd (not_refused_words status.Certificate c refl)
-  without_request status.Trace c = absurd (not_refused_words status.Trace c refl)
-  without_request status.Start c = absurd (not_refused_words status.Start c refl)
-  without_request status.Trapped c = absurd (not_done_words status.Trapped c refl)
-  without_request status.Spent c = absurd (not_done_words status.Spent c refl)
-  without_request status.Stuck c = absurd (not_done_words status.Stuck c refl)
+-- ---- statuses
 
 pub with_request : (request : Request) (old new : World) → Causes job_of (Some request) old new status.Usage → ⊥
 with_request request old new c = let none = c.usage_only refl in cc
@@ -96,4 +108,4 @@ with_request request old new c = let none = c.usage_only refl in cc
 -- the number 0 says that the work was done
 pub done_by_zero : (s : Status) → status_number s ≡ 0 → kind_of s ≡ of_deed
 done_by_zero s =
-    elim s as (λ t. status_number t ≡ 0 → kind_of t ≡ of_deed) [ status.Done ↦ λ e. refl | status.No ↦ λ e. refl | status.Trapped ↦ λ e. refl | status.Spent ↦ λ e. refl | _ ↦ λ e. absurd (omega (arith, e)) ]
+    elim s as (λ t. status_number t ≡ 0 → kind_of t ≡ of_deed) [ status.Done ↦ λ e. refl | _ ↦ λ e. absurd (omega (arith, e)) ]

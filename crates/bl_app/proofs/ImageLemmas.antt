@@ -21,17 +21,16 @@ use Rattle.bl_outcome.specs.Outcomes.{outcome_text}
 use Rattle.bl_build.specs.Building.{AreCompiled, Built}
 use Rattle.bl_build.specs.Entering.{Entered, entering, function_named, kinds_of, pages_of}
 use Rattle.bl_app.specs.Executing.{HasPlainOutcome, RunDoes, plain_text}
-use Rattle.bl_app.specs.Interpreting.{HasOutcome, HasRun, printed_of}
-use Rattle.bl_app.specs.Jobs.{Plan, saying}
+use Rattle.bl_app.specs.Interpreting.{HasOutcome, InterpDoes, printed_of}
+use Rattle.bl_job.specs.Jobs.{Plan, saying}
 use Rattle.bl_build.specs.Loading.{parts_of}
 use Rattle.bl_app.specs.Outcomes.{outcome_status}
 use Rattle.bl_words.specs.Requests.{InterpRequest, RunRequest}
 use Rattle.bl_wasm.specs.Linked.{type_of}
 use Rattle.bl_build.specs.Running.{Invoked, Invokes, sizes_of}
-use Rattle.bl_app.specs.declared.status.Status.TheVariants.{Spent}
+use Rattle.bl_job.specs.declared.status.Status.TheVariants.{Spent}
 use Rattle.bl_build.proofs.LoadingLemmas.{loading_lawful}
 use Rattle.bl_build.proofs.EnteringLemmas.{entering_lawful}
-use Rattle.bl_app.proofs.RunLemmas.{passes_here}
 
 -- ---- exports
 
@@ -91,20 +90,19 @@ module _ (request : InterpRequest) (image_name start_name start : List ℕ) (con
       let source_run = subst (λ t. source t invoked.function invoked.start within.0 outcome) o.same_tree within.1 in
       let f = compiled.same_outcomes.follows invoked.function invoked.start outcome within.0 source_run in
       record {
-        image = built.image;
-        start = start;
-        are = refl;
-        entered = entered invoked o;
-        prepared = passes invoked o;
-        outcome = Some outcome;
-        within = (f.0, subst (λ p. plain p invoked.function invoked.start f.0 outcome) compiled.builds.is_program f.1, within_bound f.0 within.0 f.3 within.2);
-        is_plan = is_plan ∙ same_plan invoked o outcome (step_bound tree * request.steps) request.steps;
+        made = entered invoked o;
+        passes = passes invoked o;
+        plans = record {
+          outcome = Some outcome;
+          within = (f.0, subst (λ p. plain p invoked.function invoked.start f.0 outcome) compiled.builds.is_program f.1, within_bound f.0 within.0 f.3 within.2);
+          is_plan = is_plan ∙ same_plan invoked o outcome (step_bound tree * request.steps) request.steps;
+        };
       }
 
-  pub forward : (plan : Plan) → HasRun request start contents plan → (plan.status ≡ Spent → ⊥) → RunDoes (run_of (step_bound tree * request.steps)) (built.image ∷ start ∷ []) plan
+  pub forward : (plan : Plan) → InterpDoes request (start ∷ contents) plan → (plan.status ≡ Spent → ⊥) → RunDoes (run_of (step_bound tree * request.steps)) (built.image ∷ start ∷ []) plan
   forward plan h ended =
-      let same = loading_lawful.one_result (parts_of request.modules contents) h.prepared.0 tree h.prepared.1 compiled.loaded in
-      ran_as plan h.invoked (subst (λ t. Invokes request.export start t h.invoked) same h.prepared.2) h.outcome h.within h.is_plan ended
+      let same = loading_lawful.one_result (parts_of request.modules contents) h.passes.0 tree h.passes.1 compiled.loaded in
+      ran_as plan h.made (subst (λ t. Invokes request.export start t h.made) same h.passes.2) h.plans.outcome h.plans.within h.plans.is_plan ended
 
   -- what is entered of the image was invoked of the tree
   is_invoked : (found : Entered) → (entering request.export start).Passes built.image found → (type : Signature) × Invokes request.export start tree (record { tree = tree; function = found.entry.function; type = type; start = found.start })
@@ -128,23 +126,24 @@ module _ (request : InterpRequest) (image_name start_name start : List ℕ) (con
 
   -- `run` told an end
   told_as : (plan : Plan) (found : Entered) (invoked : Invoked) (o : Invokes request.export start tree invoked) → found ≡ entered invoked o → (outcome : Option Outcome) → HasPlainOutcome found request.steps outcome
-      → plan ≡ saying (outcome_status outcome) (plain_text found request.steps outcome) → (plan.status ≡ Spent → ⊥) → HasRun request start contents plan
+      → plan ≡ saying (outcome_status outcome) (plain_text found request.steps outcome) → (plan.status ≡ Spent → ⊥) → InterpDoes request (start ∷ contents) plan
   told_as plan found invoked o same None within is_plan ended = absurd (ended (ap (λ p. p.status) is_plan))
   told_as plan found invoked o same (Some outcome) within is_plan ended =
       let here = subst (λ e. plain e.entry.program e.entry.function e.start within.0 outcome) same within.1 in
       let f = compiled.same_outcomes.comes_from invoked.function invoked.start outcome within.0 (subst (λ p. plain p invoked.function invoked.start within.0 outcome) (sym compiled.builds.is_program) here) in
       record {
-        invoked = invoked;
-        prepared = (tree, compiled.loaded, o);
-        outcome = Some outcome;
-        within = (f.0, subst (λ t. source t invoked.function invoked.start f.0 outcome) (sym o.same_tree) f.1, omega (arith, f.2, within.2));
-        is_plan = is_plan ∙ ap (λ e. saying (outcome_status (Some outcome)) (plain_text e request.steps (Some outcome))) same ∙ sym (same_plan invoked o outcome request.steps request.steps);
+        made = invoked;
+        passes = (tree, compiled.loaded, o);
+        plans = record {
+          outcome = Some outcome;
+          within = (f.0, subst (λ t. source t invoked.function invoked.start f.0 outcome) (sym o.same_tree) f.1, omega (arith, f.2, within.2));
+          is_plan = is_plan ∙ ap (λ e. saying (outcome_status (Some outcome)) (plain_text e request.steps (Some outcome))) same ∙ sym (same_plan invoked o outcome request.steps request.steps);
+        };
       }
 
-  pub backward : (plan : Plan) → RunDoes (run_of request.steps) (built.image ∷ start ∷ []) plan → (plan.status ≡ Spent → ⊥) → HasRun request start contents plan
+  pub backward : (plan : Plan) → RunDoes (run_of request.steps) (built.image ∷ start ∷ []) plan → (plan.status ≡ Spent → ⊥) → InterpDoes request (start ∷ contents) plan
   backward plan h ended =
-      let there = passes_here (run_of request.steps) (built.image ∷ start ∷ []) built.image start plan refl h in
-      let is = is_invoked h.entered there in
-      let invoked : Invoked = record { tree = tree; function = h.entered.entry.function; type = is.0; start = h.entered.start } in
-      let same = (entering_lawful request.export start).one_result built.image h.entered (entered invoked is.1) there (passes invoked is.1) in
-      told_as plan h.entered invoked is.1 same h.outcome h.within h.is_plan ended
+      let is = is_invoked h.made h.passes in
+      let invoked : Invoked = record { tree = tree; function = h.made.entry.function; type = is.0; start = h.made.start } in
+      let same = (entering_lawful request.export start).one_result built.image h.made (entered invoked is.1) h.passes (passes invoked is.1) in
+      told_as plan h.made invoked is.1 same h.plans.outcome h.plans.within h.plans.is_plan ended

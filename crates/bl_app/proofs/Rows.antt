@@ -2,7 +2,8 @@
 use Rattle.std.proofs.Common.{◌≡◌, [], ◌∷◌, ◌++◌, refl, codes, Some, None}
 use Rattle.std.specs.Fmt.{digits}
 use Rattle.bl_lower.specs.Trees.{low_tree}
-use Rattle.bl_words.specs.Requests.{harden, lower, module_name, request_of}
+use Rattle.bl_text.specs.Names.{module_name}
+use Rattle.bl_words.specs.Requests.{harden, lower, request_of}
 use Rattle.bl_app.specs.Texts.{commands_text}
 use Rattle.bl_build.proofs.Rows.{tree}
 

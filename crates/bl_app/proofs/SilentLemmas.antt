@@ -17,11 +17,10 @@ use Rattle.bl_outcome.specs.Outcomes.{outcome_text}
 use Rattle.bl_build.specs.Entering.{Entered, IsImaged, function_named, kinds_of, pages_of}
 use Rattle.bl_app.specs.Executing.{RunDoes, plain_text}
 use Rattle.bl_build.specs.Hardening.{Hardened, IsHardened}
-use Rattle.bl_app.specs.Jobs.{Plan, saying}
+use Rattle.bl_job.specs.Jobs.{Plan, saying}
 use Rattle.bl_app.specs.Outcomes.{outcome_status}
 use Rattle.bl_words.specs.Requests.{RunRequest}
 use Rattle.bl_build.proofs.FewestLemmas.{well_formed}
-use Rattle.bl_app.proofs.RunLemmas.{passes_here}
 
 -- the same outcome within so many steps
 within_on : (F G : ℕ → Outcome → Type 0) → ((n : ℕ) (o : Outcome) → F n o ↔ G n o) → (steps : ℕ) (outcome : Option Outcome) → IsWithin F steps outcome → IsWithin G steps outcome
@@ -35,22 +34,19 @@ module _ (p q : Program) (functions : q.functions ≡ p.functions) (exports : q.
   -- what is told of the one's image is told of the other's
   told_too : RunDoes request (own ∷ start ∷ []) plan → RunDoes request (other ∷ start ∷ []) plan
   told_too d =
-      let there = passes_here request (own ∷ start ∷ []) own start plan refl d in
+      let there = d.passes in
       let program : there.0 ≡ p = one_program there.0 p own there.1.image is in
-      let number = d.entered.entry.function in
-      let defined = d.entered.entry.defined in
+      let number = d.made.entry.function in
+      let defined = d.made.entry.defined in
       let entry = there.2.2.same_entry in
-      let entered : Entered = record { entry = record { program = q; function = number; defined = defined }; start = d.entered.start } in
-      let same : d.entered.entry.program ≡ p = ap (λ e. e.program) entry ∙ there.2.1.same_program ∙ program in
+      let entered : Entered = record { entry = record { program = q; function = number; defined = defined }; start = d.made.start } in
+      let same : d.made.entry.program ≡ p = ap (λ e. e.program) entry ∙ there.2.1.same_program ∙ program in
       let pages : pages_of q ≡ pages_of there.2.0.program = ap (map (λ (memory : MemoryDef). memory.pages)) memories ∙ ap pages_of (sym (there.2.1.same_program ∙ program)) in
-      let texts : (steps : ℕ) (outcome : Option Outcome) → plain_text d.entered steps outcome ≡ plain_text entered steps outcome = λ steps outcome.
-      ap (λ r. outcome_text defined.results (fold patched (map first_memory r) d.entered.start.patches) steps outcome) (ap (λ r. r.memories) same ∙ sym memories) in
+      let texts : (steps : ℕ) (outcome : Option Outcome) → plain_text d.made steps outcome ≡ plain_text entered steps outcome = λ steps outcome.
+      ap (λ r. outcome_text defined.results (fold patched (map first_memory r) d.made.start.patches) steps outcome) (ap (λ r. r.memories) same ∙ sym memories) in
       record {
-        image = other;
-        start = start;
-        are = refl;
-        entered = entered;
-        prepared = (
+        made = entered;
+        passes = (
           q,
           imaged,
           (
@@ -64,10 +60,12 @@ module _ (p q : Program) (functions : q.functions ≡ p.functions) (exports : q.
             record { same_entry = refl; read = (λ i. answer_of (kinds_of (entry i).defined) (pages i) start) ∙ there.2.2.read },
           ),
         );
-        outcome = d.outcome;
-        within = within_on (plain p number d.entered.start) (plain q number d.entered.start) (runs number d.entered.start) request.steps d.outcome
-            (subst (λ r. IsWithin (plain r number d.entered.start) request.steps d.outcome) same d.within);
-        is_plan = d.is_plan ∙ ap (saying (outcome_status d.outcome)) (texts request.steps d.outcome);
+        plans = record {
+          outcome = d.plans.outcome;
+          within = within_on (plain p number d.made.start) (plain q number d.made.start) (runs number d.made.start) request.steps d.plans.outcome
+              (subst (λ r. IsWithin (plain r number d.made.start) request.steps d.plans.outcome) same d.plans.within);
+          is_plan = d.plans.is_plan ∙ ap (saying (outcome_status d.plans.outcome)) (texts request.steps d.plans.outcome);
+        };
       }
 
 module _ (request : RunRequest) (bare : Program) (rules : IsWellFormed bare) (own start : List ℕ) (is : Image bare own) (hardened : Hardened) (h : IsHardened bare hardened) (plan : Plan) where

@@ -1,35 +1,27 @@
--- The job of `twin` keeps the laws; what is said where it is done.
-use Rattle.std.proofs.Common.{◌≡◌, ℕ, List, [], ◌∷◌, Option, Some, refl, ap, sym, ◌∙◌, subst, map, arith, Bool, IsTrue, ◌↔◌}
+-- The command `twin` keeps the laws and answers all contents that are there.
+use Rattle.std.proofs.Common.{◌≡◌, ℕ, Bool, true, false, List, refl, ap, sym, ◌∙◌, subst, arith, inl, inr, IsTrue, ◌↔◌}
+use Rattle.std.proofs.lemmas.Bool.{false≢true}
 use Rattle.bl_cmd.specs.Programs.{IsProgram}
 use Rattle.bl_cmd.specs.Rules.{IsWellFormed}
-use Rattle.bl_cmd.specs.declared.definitions.ProgramParts.{ProgramParts as Program}
 use Rattle.bl_graph.specs.Labels.{ConstantTime}
 use Rattle.bl_sct.specs.Verdicts.{IsStable}
 use Rattle.bl_sct.proofs.Whole.{equal}
-use Rattle.bl_twin.specs.Comparing.{Tells}
+use Rattle.bl_twin.specs.Comparing.{twin_text}
 use Rattle.bl_twin.proofs.Comparisons.{never, told}
 use Rattle.bl_twin.specs.declared.comparison.Comparison.{Comparison}
 use Rattle.bl_twin.specs.declared.comparison.Comparison.TheVariants as compared
-use Rattle.bl_words.specs.Requests.{Request, TwinRequest, twin}
-use Rattle.bl_app.specs.Causes.{IsDone}
-use Rattle.bl_app.specs.Commands.{job_of}
+use Rattle.bl_words.specs.Requests.{TwinRequest}
 use Rattle.bl_build.specs.Entering.{Entry, Finds, IsImaged}
-use Rattle.bl_app.specs.Jobs.{AreRead, IsLawful, Plan}
-use Rattle.bl_build.specs.Refusals.{Refusal}
 use Rattle.bl_build.specs.Tracing.{Speculated, StartsTraced, Traces, Twinned, entry_of, twinning}
-use Rattle.bl_app.specs.Speculating.{seen_of}
-use Rattle.bl_app.specs.Status.{kind_of, of_deed}
-use Rattle.bl_app.specs.Twinning.{StartsAgree, TwinDoes, TwinRefuses, Twins, comparison_of, other_seen, twin_job, twin_status}
-use Rattle.bl_app.specs.Worlds.{World, took, with_files}
-use Rattle.bl_app.specs.declared.status.Status.{Status}
-use Rattle.bl_app.specs.declared.status.Status.TheVariants.{No}
+use Rattle.bl_build.proofs.Classical.{either}
+use Rattle.bl_build.proofs.ImagesTotal.{twinning_total}
 use Rattle.bl_build.proofs.TracingLemmas.{twinning_lawful}
-
--- ---- the job
-
--- contents are those of one image, one trace file and two start files
-same_four : (a b c d e f g h : List ℕ) → a ∷ b ∷ c ∷ d ∷ [] ≡ e ∷ f ∷ g ∷ h ∷ [] → (a ≡ e) × (b ≡ f) × (c ≡ g) × (d ≡ h)
-same_four a b c d e f g h same = (cc, cc, cc, cc)
+use Rattle.bl_job.specs.Jobs.{Plan, saying}
+use Rattle.bl_app.specs.Speculating.{seen_of}
+use Rattle.bl_job.specs.Status.{kind_of, of_deed}
+use Rattle.bl_app.specs.Twinning.{StartsAgree, TwinPlans, comparison_of, other_seen, twin_staged, twin_status}
+use Rattle.bl_job.specs.declared.status.Status.TheVariants.{No}
+use Rattle.bl_job.proofs.Staging.{IsStagedCommand}
 
 deed_of_twin : (comparison : Comparison) → kind_of (twin_status comparison) ≡ of_deed
 deed_of_twin compared.Equal = refl
@@ -42,95 +34,58 @@ no_differs compared.Equal e = absurd cc
 no_differs compared.Stuck e = absurd cc
 no_differs compared.Differ e = refl
 
--- what two runs of one function show
-they_tell : (t : Twinned) → Tells (seen_of t.speculated) (other_seen t)
-they_tell t = told 64 (entry_of t).program (entry_of t).function t.speculated.directives t.speculated.entered.start t.other
-
 -- the function's program is that of an image, and it is well-formed
-module _ (export trace start other image : List ℕ) (t : Twinned) (prepared : (twinning export trace start other).Passes image t) where
-  abbrev program : Program
-  program = prepared.0
+pub record IsOfImage (t : Twinned) : Type 0 where
+  pub facts : IsProgram (entry_of t).program
+  pub rules : IsWellFormed (entry_of t).program
 
-  same_program : program ≡ (entry_of t).program
-  same_program =
-      let behind = prepared.2.1 in
-      let found : Finds export program behind.0 = behind.1 in
-      let traces : Traces trace behind.0 behind.2.0 = behind.2.1 in
-      let starts : StartsTraced start behind.2.0 prepared.2.0 = behind.2.2 in
-      sym (ap (λ (s : Speculated). s.entered.entry.program) prepared.2.2.same ∙ ap (λ (e : Entry). e.program) (starts.starts.same_entry ∙ traces.same_entry) ∙ found.same_program)
+of_image : (export trace start other image : List ℕ) (t : Twinned) → (twinning export trace start other).Passes image t → IsOfImage t
+of_image export trace start other image t prepared =
+    let program = prepared.0 in
+    let imaged : IsImaged image program = prepared.1 in
+    let behind = prepared.2.1 in
+    let found : Finds export program behind.0 = behind.1 in
+    let traces : Traces trace behind.0 behind.2.0 = behind.2.1 in
+    let starts : StartsTraced start behind.2.0 prepared.2.0 = behind.2.2 in
+    let same : program ≡ (entry_of t).program
+    = sym (ap (λ (s : Speculated). s.entered.entry.program) prepared.2.2.same ∙ ap (λ (e : Entry). e.program) (starts.starts.same_entry ∙ traces.same_entry) ∙ found.same_program) in
+    record { facts = subst IsProgram same imaged.image.is_program; rules = subst IsWellFormed same imaged.rules }
 
-  safe_alike : (agree : Bool) → (IsTrue agree ↔ StartsAgree t) → ConstantTime (entry_of t).program → IsStable (entry_of t).program → IsTrue agree
-      → comparison_of t ≡ compared.Differ → ⊥
-  safe_alike agree agrees constant stable says differ =
-      let imaged : IsImaged image program = prepared.1 in
-      let alike = equal (entry_of t).program (subst IsProgram same_program imaged.image.is_program) (subst IsWellFormed same_program imaged.rules) constant stable in
-      never (entry_of t).program alike 64 (omega arith) (omega arith) (entry_of t).function t.speculated.directives t.speculated.entered.start t.other
-      (agrees.0 says) differ
+safe_alike : (t : Twinned) → IsOfImage t → ConstantTime (entry_of t).program → IsStable (entry_of t).program → StartsAgree t → comparison_of t ≡ compared.Differ → ⊥
+safe_alike t of constant stable agree differ =
+    never (entry_of t).program (equal (entry_of t).program of.facts of.rules constant stable) 64 (omega arith) (omega arith) (entry_of t).function t.speculated.directives
+    t.speculated.entered.start t.other agree differ
 
-module _ (request : TwinRequest) where
-  module _ (contents : List (List ℕ)) (image trace start other : List ℕ) (are : contents ≡ image ∷ trace ∷ start ∷ other ∷ []) where
-    -- what stands on the contents of other files stands on those that are the same
-    here : (P : List ℕ → List ℕ → List ℕ → List ℕ → Type 0) (i t s o : List ℕ) → contents ≡ i ∷ t ∷ s ∷ o ∷ [] → P i t s o → P image trace start other
-    here P i t s o these p =
-        let same = same_four i t s o image trace start other (sym these ∙ are) in
-        subst (λ o. P image trace start o) same.3
-        (subst (λ s. P image trace s o) same.2 (subst (λ t. P image t s o) same.1 (subst (λ i. P i t s o) same.0 p)))
+-- two answers to one question are one
+one_bool : (P : Type 0) (a b : Bool) → (IsTrue a ↔ P) → (IsTrue b ↔ P) → a ≡ b
+one_bool P true true s t = refl
+one_bool P true false s t = let clash : false ≡ true = t.1 (s.0 refl) in cc
+one_bool P false true s t = let clash : false ≡ true = s.1 (t.0 refl) in cc
+one_bool P false false s t = refl
 
-    refuses_here : (refusal : Refusal) → TwinRefuses request contents refusal → (twinning request.export trace start other).Refuses image refusal
-    refuses_here refusal h = here (λ i t s o. (twinning request.export t s o).Refuses i refusal) h.image h.trace h.start h.other h.are h.refuses
+pub one_twin_plan : (t : Twinned) (p q : Plan) → TwinPlans t p → TwinPlans t q → p ≡ q
+one_twin_plan t p q h k =
+    let agree = one_bool (StartsAgree t) h.agree k.agree h.agrees k.agrees in
+    h.is_plan ∙ ap (λ a. saying (twin_status (comparison_of t)) (twin_text a (seen_of t.speculated) (other_seen t))) agree ∙ sym k.is_plan
 
-    pub passes_here : (plan : Plan) → (h : TwinDoes request contents plan) → (twinning request.export trace start other).Passes image h.twinned
-    passes_here plan h = here (λ i t s o. (twinning request.export t s o).Passes i h.twinned) h.image h.trace h.start h.other h.are h.prepared
+some_twin_plan : (t : Twinned) → ((plan : Plan) → TwinPlans t plan → ⊥) → ⊥
+some_twin_plan t none =
+    either (StartsAgree t) (λ cases. elim cases as (λ _. ⊥) [
+      | inl alike ↦ none _ (record { agree = true; agrees = (λ e. alike, λ _. refl); is_plan = refl })
+      | inr differ ↦ none _ (record { agree = false; agrees = (λ e. absurd (false≢true e), λ alike. absurd (differ alike)); is_plan = refl })
+    ])
 
-  module _ (contents : List (List ℕ)) where
-    twin_refusal : (a b : Refusal) → TwinRefuses request contents a → TwinRefuses request contents b → a ≡ b
-    twin_refusal a b h k =
-        (twinning_lawful request.export k.trace k.start k.other).one_refusal k.image a b (refuses_here contents k.image k.trace k.start k.other k.are a h) k.refuses
-
-    none_beside : (refusal : Refusal) (plan : Plan) → TwinRefuses request contents refusal → TwinDoes request contents plan → ⊥
-    none_beside refusal plan h k =
-        (twinning_lawful request.export k.trace k.start k.other).not_both k.image k.twinned refusal k.prepared
-        (refuses_here contents k.image k.trace k.start k.other k.are refusal h)
-
-    one_status : (p q : Plan) → TwinDoes request contents p → TwinDoes request contents q → p.status ≡ q.status
-    one_status p q h k =
-        let same = (twinning_lawful request.export k.trace k.start k.other).one_result k.image h.twinned k.twinned
-        (passes_here contents k.image k.trace k.start k.other k.are p h) k.prepared in
-        ap (λ plan. plan.status) h.is_plan ∙ ap (λ t. twin_status (comparison_of t)) same ∙ sym (ap (λ plan. plan.status) k.is_plan)
-
-  pub twin_lawful : IsLawful (twin_job request)
-  twin_lawful = record {
-    one_refusal = twin_refusal;
-    none_beside_a_deed = none_beside;
-    one_status = one_status;
-    status_of_deed = λ contents plan h. ap (λ p. kind_of p.status) h.is_plan ∙ deed_of_twin (comparison_of h.twinned);
-    keeps_named = λ contents plan h. ap (λ p. map (λ keep. keep.0) p.keeps) h.is_plan;
-  }
-
-  -- what is said where the job was done
-  compared_so : (old new : World) (status : Status) (contents : List (List ℕ)) (plan : Plan) → AreRead old.files (twin_job request).reads contents → TwinDoes request contents plan
-      → status ≡ plan.status → new.files ≡ with_files old.files plan.keeps → new.sink.taken ≡ took old.sink.taken plan.text → Twins request old new status
-  compared_so old new status contents plan read h meant kept printed =
-      let stands = meant ∙ ap (λ p. p.status) h.is_plan in
-      record {
-        image = h.image;
-        trace = h.trace;
-        start = h.start;
-        other = h.other;
-        read = subst (AreRead old.files (twin_job request).reads) h.are read;
-        twinned = h.twinned;
-        prepared = h.prepared;
-        agree = h.agree;
-        agrees = h.agrees;
-        meant = stands;
-        tells = they_tell h.twinned;
-        safe = λ constant stable says no. safe_alike request.export h.trace h.start h.other h.image h.twinned h.prepared h.agree h.agrees constant stable says (no_differs (comparison_of h.twinned) (sym stands ∙ no));
-        printed = printed ∙ ap (λ p. took old.sink.taken p.text) h.is_plan;
-        unchanged = kept ∙ ap (λ p. with_files old.files p.keeps) h.is_plan;
-      }
-
-  pub twins : (asked : Option Request) (old new : World) (status : Status) → asked ≡ Some (twin request) → IsDone job_of asked old new status → Twins request old new status
-  twins asked old new status is d =
-      let same : d.request ≡ twin request = let theirs = d.is_request in cc in
-      compared_so old new status d.contents d.plan (subst (λ r. AreRead old.files (job_of r).reads d.contents) same d.read) (subst (λ r. (job_of r).Does d.contents d.plan) same d.does)
-      d.meant d.kept d.printed
+pub twin_staged_is : (request : TwinRequest) → IsStagedCommand (Unit {0}) (twin_staged request)
+twin_staged_is request = record {
+  small = (omega arith, (omega arith, (omega arith, (omega arith, tt))));
+  lawful = λ image trace start other. twinning_lawful request.export trace start other;
+  total = λ given image trace start other. (twinning_total request.export trace start other).always image tt;
+  one_status = λ t p q h k. ap (λ plan. plan.status) (one_twin_plan t p q h k);
+  status_of_deed = λ t plan h. ap (λ p. kind_of p.status) h.is_plan ∙ deed_of_twin (comparison_of t);
+  keeps_named = λ t plan h. inr (ap (λ p. p.keeps) h.is_plan);
+  means = λ image trace start other t prepared plan h. record {
+    tells = told 64 (entry_of t).program (entry_of t).function t.speculated.directives t.speculated.entered.start t.other;
+    safe = λ constant stable agree says. safe_alike t (of_image request.export trace start other image t prepared) constant stable agree (no_differs (comparison_of t) (sym (ap (λ p. p.status) h.is_plan) ∙ says));
+  };
+  planned = λ image trace start other t prepared. some_twin_plan t;
+}

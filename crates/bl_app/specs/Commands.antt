@@ -1,37 +1,55 @@
 -- The jobs of all commands.
-use Rattle.bl_app.specs.Counting.{with_modules}
-use Rattle.bl_app.specs.Executing.{run_job}
-use Rattle.bl_app.specs.Generating.{gen_job}
-use Rattle.bl_app.specs.Hardening.{harden_job}
-use Rattle.bl_app.specs.Interpreting.{interp_job}
-use Rattle.bl_app.specs.Jobs.{Job}
-use Rattle.bl_app.specs.Lowering.{lower_job}
+use Rattle.bl_app.specs.Compiling.{AreTexts}
+use Rattle.bl_job.specs.Counting.{with_modules}
+use Rattle.bl_app.specs.Executing.{run_staged}
+use Rattle.bl_app.specs.Generating.{gen_staged}
+use Rattle.bl_app.specs.Hardening.{harden_staged}
+use Rattle.bl_app.specs.Interpreting.{interp_staged}
+use Rattle.bl_job.specs.Jobs.{Job}
+use Rattle.bl_app.specs.Lowering.{lower_staged}
+use Rattle.bl_text.specs.Names.{AreNamedApart}
 use Rattle.bl_words.specs.Requests.{IsGenInRange, Request, gen, harden, interp, lower, modules_in, run, spec, twin, verify}
-use Rattle.bl_app.specs.Speculating.{spec_job}
-use Rattle.bl_app.specs.Twinning.{twin_job}
-use Rattle.bl_app.specs.Verifying.{verify_job}
+use Rattle.bl_app.specs.Speculating.{spec_staged}
+use Rattle.bl_job.specs.Staged.{Staged, staged_job}
+use Rattle.bl_app.specs.Twinning.{twin_staged}
+use Rattle.bl_app.specs.Verifying.{verify_staged}
 
--- the job of a request whose modules are few enough
+-- a command of a request: what is made on the way, what is given where it is said that its job answers all contents that are there, and the job
+pub record Row : Type 1 where
+  pub Made : Type 0
+  pub Given : Type 0
+  pub staged : Staged Made
+  pub job : Job
+
+abbrev pub command : {B : Type 0} → Type 0 → Staged B → Row
+command {B = B} Given staged = record { Made = B; Given = Given; staged = staged; job = staged_job staged }
+
+-- the command of each request, for modules that are few enough. The status of a deed is 0, and of `interp` and `run` also 16 or 17, of `spec` also 18,
+-- of `twin` also 1 or 18, of `verify` also 1
+abbrev pub row_of : Request → Row
+row_of (harden request) = command (AreNamedApart request.modules × AreTexts request.modules) (harden_staged request)
+row_of (lower request) = command (AreNamedApart request.modules × AreTexts request.modules) (lower_staged request)
+row_of (interp request) = command (AreNamedApart request.modules) (interp_staged request)
+row_of (run request) = command (Unit {0}) (run_staged request)
+row_of (spec request) = command (Unit {0}) (spec_staged request)
+row_of (twin request) = command (Unit {0}) (twin_staged request)
+row_of (verify request) = command (Unit {0}) (verify_staged request)
+row_of (gen request) = command (IsGenInRange request) (gen_staged request)
+
 abbrev pub work_of : Request → Job
-work_of (harden request) = harden_job request
-work_of (lower request) = lower_job request
-work_of (interp request) = interp_job request
-work_of (run request) = run_job request
-work_of (spec request) = spec_job request
-work_of (twin request) = twin_job request
-work_of (verify request) = verify_job request
-work_of (gen request) = gen_job request
+work_of request = (row_of request).job
 
 abbrev pub job_of : Request → Job
 job_of request = with_modules (modules_in request) (work_of request)
 
+-- one thing alone may be done with contents: of `harden`, of `gen` and of `verify` it may be one of several
+abbrev pub HasOnePlan : Request → Type 0
+HasOnePlan (harden request) = ⊥
+HasOnePlan (gen request) = ⊥
+HasOnePlan (verify request) = ⊥
+HasOnePlan request = Unit {0}
+
 -- the number and the size of a module that is made are in range
 abbrev pub IsSized : Request → Type 0
 IsSized (gen request) = IsGenInRange request
-IsSized (harden request) = Unit {0}
-IsSized (lower request) = Unit {0}
-IsSized (interp request) = Unit {0}
-IsSized (run request) = Unit {0}
-IsSized (spec request) = Unit {0}
-IsSized (twin request) = Unit {0}
-IsSized (verify request) = Unit {0}
+IsSized request = Unit {0}

@@ -6,12 +6,10 @@ use Rattle.bl_cmd.specs.Outcomes.{first_memories, plain}
 use Rattle.bl_outcome.specs.Outcomes.{outcome_text}
 use Rattle.bl_build.specs.Entering.{Entered, entering}
 use Rattle.bl_app.specs.Interpreting.{start_read}
-use Rattle.bl_app.specs.Jobs.{AreRead, Job, Plan, Read, saying}
+use Rattle.bl_job.specs.Jobs.{Job, Plan, Read, saying}
 use Rattle.bl_app.specs.Outcomes.{outcome_status}
-use Rattle.bl_build.specs.Refusals.{Refusal}
 use Rattle.bl_words.specs.Requests.{RunRequest}
-use Rattle.bl_app.specs.Worlds.{World, took}
-use Rattle.bl_app.specs.declared.status.Status.{Status}
+use Rattle.bl_job.specs.Staged.{Makes, Staged, all_read, contents_stage, file, staged_job}
 
 -- an image that is read
 abbrev pub image_read : List ℕ → Read
@@ -26,43 +24,25 @@ abbrev pub plain_text : Entered → ℕ → Option Outcome → List ℕ
 plain_text entered steps outcome =
     outcome_text entered.entry.defined.results (first_memories entered.entry.program entered.start) steps outcome
 
--- the contents are those of an image and of a start file, which are refused
-pub record RunRefuses (request : RunRequest) (contents : List (List ℕ)) (refusal : Refusal) : Type 0 where
-  pub image : List ℕ
-  pub start : List ℕ
-  pub are : contents ≡ image ∷ start ∷ []
-  pub refuses : (entering request.export start).Refuses image refusal
-
--- the contents are those of an image and of a start file, nothing is refused, and the plan is to print the outcome of the plain
--- run within the steps
-pub record RunDoes (request : RunRequest) (contents : List (List ℕ)) (plan : Plan) : Type 0 where
-  pub image : List ℕ
-  pub start : List ℕ
-  pub are : contents ≡ image ∷ start ∷ []
-  pub entered : Entered
-  pub prepared : (entering request.export start).Passes image entered
+-- printing the outcome of the plain run within so many steps
+pub record RunPlans (steps : ℕ) (entered : Entered) (plan : Plan) : Type 0 where
   pub outcome : Option Outcome
-  pub within : HasPlainOutcome entered request.steps outcome
-  pub is_plan : plan ≡ saying (outcome_status outcome) (plain_text entered request.steps outcome)
+  pub within : HasPlainOutcome entered steps outcome
+  pub is_plan : plan ≡ saying (outcome_status outcome) (plain_text entered steps outcome)
 
-abbrev pub run_job : RunRequest → Job
-run_job request = record {
+-- an image and a start file are read, and the outcome of the plain run within the steps is printed
+abbrev pub run_staged : RunRequest → Staged Entered
+run_staged request = record {
   reads = image_read request.image ∷ start_read request.start ∷ [];
   keeps = [];
-  Against = RunRefuses request;
-  Does = RunDoes request;
+  reading = file (λ image. file (λ start. all_read (entering request.export start) image));
+  Plans = RunPlans request.steps;
+  Means = λ contents entered plan. Unit {0};
 }
 
--- the image's bytes and the start file's can be run; the text of the plain run's outcome within the steps is printed, and the status
--- says which it is; no file is changed
-pub record Runs (request : RunRequest) (old new : World) (status : Status) : Type 0 where
-  pub image : List ℕ
-  pub start : List ℕ
-  pub read : AreRead old.files (run_job request).reads (image ∷ start ∷ [])
-  pub entered : Entered
-  pub prepared : (entering request.export start).Passes image entered
-  pub outcome : Option Outcome
-  pub within : HasPlainOutcome entered request.steps outcome
-  pub meant : status ≡ outcome_status outcome
-  pub printed : new.sink.taken ≡ took old.sink.taken (plain_text entered request.steps outcome)
-  pub unchanged : new.files ≡ old.files
+abbrev pub run_job : RunRequest → Job
+run_job request = staged_job (run_staged request)
+
+-- what is done, by the contents of both files
+abbrev pub RunDoes : RunRequest → List (List ℕ) → Plan → Type 0
+RunDoes request = Makes (contents_stage (run_staged request).reading) (RunPlans request.steps)

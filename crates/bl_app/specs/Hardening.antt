@@ -4,14 +4,16 @@ use Rattle.bl_base.specs.Quantity.{limit_of}
 use Rattle.bl_base.specs.declared.quantity.Quantity.TheVariants as quantity
 use Rattle.bl_outside.specs.Shelf.{with_file}
 use Rattle.bl_witness.specs.Texts.{certificate_text}
+use Rattle.bl_wasm.specs.declared.linked.Tree.{Tree}
 use Rattle.bl_report.specs.Reports.{report_text}
 use Rattle.bl_build.specs.Building.{AreCompiled, Built}
-use Rattle.bl_app.specs.Compiling.{compiling_job}
-use Rattle.bl_app.specs.Jobs.{AreRead, FileIs, Job, Plan}
+use Rattle.bl_app.specs.Compiling.{compiling_staged}
+use Rattle.bl_job.specs.Jobs.{AreRead, FileIs, Job, Plan}
 use Rattle.bl_build.specs.Meaning.{SameOutcomes}
 use Rattle.bl_words.specs.Requests.{HardenRequest}
-use Rattle.bl_app.specs.Worlds.{World, took}
-use Rattle.bl_app.specs.declared.status.Status.TheVariants.{Done}
+use Rattle.bl_job.specs.Staged.{Makes, Staged, contents_stage, staged_job}
+use Rattle.bl_job.specs.Worlds.{World, took}
+use Rattle.bl_job.specs.declared.status.Status.TheVariants.{Done}
 use Rattle.bl_build.specs.Hardening.{Hardened, IsHardened, AreFewest, IsJudged}
 
 -- keeping the text of the certificate and then the image, and printing the report
@@ -28,9 +30,26 @@ pub record HardenPlans (request : HardenRequest) (built : Built) (plan : Plan) :
   pub is_hardened : IsHardened built.program hardened
   pub is_plan : plan ≡ harden_plan request hardened
 
+-- a hardened program ends exactly as the linked tree does, its protects are the fewest, and its verdict is judged
+pub record HardenedMeans (tree : Tree) (hardened : Hardened) : Type 0 where
+  pub same_outcomes : SameOutcomes tree hardened.program
+  pub fewest : AreFewest hardened
+  pub constant_time : IsJudged hardened
+  pub short : length hardened.image ≤ limit_of quantity.Image
+
+pub record HardenMeans (request : HardenRequest) (contents : List (List ℕ)) (built : Built) (plan : Plan) : Type 0 where
+  pub compiled : AreCompiled request.modules contents built
+  pub each : (hardened : Hardened) → IsHardened built.program hardened → HardenedMeans compiled.tree hardened
+
+abbrev pub harden_staged : HardenRequest → Staged Built
+harden_staged request = compiling_staged request.modules (request.certificate ∷ request.image ∷ []) (HardenPlans request) (HardenMeans request)
+
 abbrev pub harden_job : HardenRequest → Job
-harden_job request =
-    compiling_job request.modules (request.certificate ∷ request.image ∷ []) (HardenPlans request)
+harden_job request = staged_job (harden_staged request)
+
+-- what is done, by the contents of the modules
+abbrev pub HardenDoes : HardenRequest → List (List ℕ) → Plan → Type 0
+HardenDoes request = Makes (contents_stage (harden_staged request).reading) (HardenPlans request)
 
 -- ---- what is said
 

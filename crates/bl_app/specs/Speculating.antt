@@ -8,23 +8,23 @@ use Rattle.bl_cmd.specs.Outcomes.{plain}
 use Rattle.bl_rob.specs.CallResults.{outcome_in}
 use Rattle.bl_rob.specs.Machines.{State}
 use Rattle.bl_rob.specs.Observed.{Observed, observed, reached}
+use Rattle.bl_rob.specs.declared.directive.Observation.{Observation}
 use Rattle.bl_trace.specs.Observations.{observation_text}
 use Rattle.bl_outcome.specs.Lines.{line}
 use Rattle.bl_build.specs.Entering.{Entered}
 use Rattle.bl_app.specs.Executing.{image_read, plain_text}
 use Rattle.bl_app.specs.Interpreting.{start_read}
-use Rattle.bl_app.specs.Jobs.{AreRead, Job, Plan, Read, saying}
-use Rattle.bl_build.specs.Refusals.{Refusal}
+use Rattle.bl_job.specs.Jobs.{Job, Plan, Read, saying}
 use Rattle.bl_words.specs.Requests.{SpecRequest}
-use Rattle.bl_app.specs.Worlds.{World, took}
-use Rattle.bl_app.specs.declared.status.Status.{Status}
-use Rattle.bl_app.specs.declared.status.Status.TheVariants.{Done, Stuck}
+use Rattle.bl_job.specs.Staged.{Staged, all_read, file, staged_job}
+use Rattle.bl_job.specs.declared.status.Status.{Status}
+use Rattle.bl_job.specs.declared.status.Status.TheVariants.{Done, Stuck}
 use Rattle.bl_build.specs.Tracing.{Speculated, speculating}
 
 -- ---- what is observed
 
 -- what is observed of the directives, where the buffer has room for 64 entries
-abbrev pub seen_of : Speculated → Observed
+abbrev pub seen_of : Speculated → Observed Observation
 seen_of speculated =
     let entered = speculated.entered in
     observed 64 entered.entry.program entered.entry.function entered.start speculated.directives
@@ -68,46 +68,25 @@ spec_plan speculated = saying (spec_status (seen_of speculated).refused) (spec_t
 abbrev pub trace_read : List ℕ → Read
 trace_read word = record { name = word; quantity = quantity.Trace }
 
--- the contents are those of an image, of a trace file and of a start file, which are refused
-pub record SpecRefuses (request : SpecRequest) (contents : List (List ℕ)) (refusal : Refusal) : Type 0 where
-  pub image : List ℕ
-  pub trace : List ℕ
-  pub start : List ℕ
-  pub are : contents ≡ image ∷ trace ∷ start ∷ []
-  pub refuses : (speculating request.export trace start).Refuses image refusal
+-- where the machine has ended, its outcome is that of the plain run after as many commands as entries were retired
+abbrev pub SpecMeans : Speculated → Type 0
+SpecMeans speculated =
+    (outcome : Outcome) → ended_of speculated ≡ Some outcome
+    → plain speculated.entered.entry.program speculated.entered.entry.function speculated.entered.start (state_of speculated).retired outcome
 
--- the contents are those of an image, of a trace file and of a start file, nothing is refused, and the plan is to print what is
--- observed of the directives
-pub record SpecDoes (request : SpecRequest) (contents : List (List ℕ)) (plan : Plan) : Type 0 where
-  pub image : List ℕ
-  pub trace : List ℕ
-  pub start : List ℕ
-  pub are : contents ≡ image ∷ trace ∷ start ∷ []
-  pub speculated : Speculated
-  pub prepared : (speculating request.export trace start).Passes image speculated
-  pub is_plan : plan ≡ spec_plan speculated
+-- printing what is observed of the directives
+abbrev pub SpecPlans : Speculated → Plan → Type 0
+SpecPlans speculated plan = plan ≡ spec_plan speculated
 
-abbrev pub spec_job : SpecRequest → Job
-spec_job request = record {
+-- an image, a trace file and a start file are read, and what is observed of the directives is printed
+abbrev pub spec_staged : SpecRequest → Staged Speculated
+spec_staged request = record {
   reads = image_read request.image ∷ trace_read request.trace ∷ start_read request.start ∷ [];
   keeps = [];
-  Against = SpecRefuses request;
-  Does = SpecDoes request;
+  reading = file (λ image. file (λ trace. file (λ start. all_read (speculating request.export trace start) image)));
+  Plans = SpecPlans;
+  Means = λ contents speculated plan. SpecMeans speculated;
 }
 
--- the files' bytes give an image's function, directives and a start; the lines of what is observed of the directives are printed, and
--- what is said last; the status says whether each of them is enabled. Where the machine has ended, its outcome is that of the plain
--- run after as many commands as entries were retired. No file is changed
-pub record Speculates (request : SpecRequest) (old new : World) (status : Status) : Type 0 where
-  pub image : List ℕ
-  pub trace : List ℕ
-  pub start : List ℕ
-  pub read : AreRead old.files (spec_job request).reads (image ∷ trace ∷ start ∷ [])
-  pub speculated : Speculated
-  pub prepared : (speculating request.export trace start).Passes image speculated
-  pub meant : status ≡ spec_status (seen_of speculated).refused
-  pub printed : new.sink.taken ≡ took old.sink.taken (spec_text speculated)
-  pub outcome : (outcome : Outcome) → ended_of speculated ≡ Some outcome
-      → plain speculated.entered.entry.program speculated.entered.entry.function speculated.entered.start
-      (state_of speculated).retired outcome
-  pub unchanged : new.files ≡ old.files
+abbrev pub spec_job : SpecRequest → Job
+spec_job request = staged_job (spec_staged request)

@@ -1,8 +1,10 @@
 -- `twin`: its job, and what is said where it is done.
-use Rattle.std.specs.Prelude.{◌≡◌, ◌↔◌, ℕ, Bool, IsTrue, List, [], ◌∷◌}
+use Rattle.std.specs.Prelude.{◌≡◌, ◌↔◌, Bool, IsTrue, [], ◌∷◌}
+use Rattle.bl_base.specs.declared.start.Start.{Start}
 use Rattle.bl_cmd.specs.Outcomes.{Agree}
 use Rattle.bl_graph.specs.Labels.{ConstantTime}
 use Rattle.bl_rob.specs.Observed.{Observed, observed}
+use Rattle.bl_rob.specs.declared.directive.Observation.{Observation}
 use Rattle.bl_sct.specs.Verdicts.{IsStable}
 use Rattle.bl_twin.specs.Comparing.{Tells, comparison, twin_text}
 use Rattle.bl_twin.specs.declared.comparison.Comparison.{Comparison}
@@ -10,18 +12,21 @@ use Rattle.bl_twin.specs.declared.comparison.Comparison.TheVariants as compared
 use Rattle.bl_words.specs.Requests.{TwinRequest}
 use Rattle.bl_app.specs.Executing.{image_read}
 use Rattle.bl_app.specs.Interpreting.{start_read}
-use Rattle.bl_app.specs.Jobs.{AreRead, Job, Plan, saying}
-use Rattle.bl_build.specs.Refusals.{Refusal}
+use Rattle.bl_job.specs.Jobs.{Job, Plan, saying}
 use Rattle.bl_app.specs.Speculating.{seen_of, trace_read}
-use Rattle.bl_app.specs.Worlds.{World, took}
-use Rattle.bl_app.specs.declared.status.Status.{Status}
-use Rattle.bl_app.specs.declared.status.Status.TheVariants.{Done, No, Stuck}
-use Rattle.bl_build.specs.Tracing.{Twinned, entry_of, twinning}
+use Rattle.bl_job.specs.Staged.{Staged, all_read, file, staged_job}
+use Rattle.bl_job.specs.declared.status.Status.{Status}
+use Rattle.bl_job.specs.declared.status.Status.TheVariants.{Done, No, Stuck}
+use Rattle.bl_build.specs.Tracing.{Speculated, Twinned, entry_of, twinning}
+
+-- a function of a program, a start of it, directives, and another start
+abbrev pub twinned_in : Speculated → Start → Twinned
+twinned_in speculated other = record { speculated = speculated; other = other }
 
 -- ---- what is observed
 
 -- what is observed of the directives from the other start, where the buffer has room for 64 entries
-abbrev pub other_seen : Twinned → Observed
+abbrev pub other_seen : Twinned → Observed Observation
 other_seen twinned =
     observed 64 (entry_of twinned).program (entry_of twinned).function twinned.other twinned.speculated.directives
 
@@ -39,60 +44,29 @@ twin_status compared.Equal = Done
 twin_status compared.Stuck = Stuck
 twin_status compared.Differ = No
 
--- printing whether the starts agree, the common observations, and how the runs go on
-abbrev pub twin_plan : Bool → Twinned → Plan
-twin_plan agree twinned =
-    saying (twin_status (comparison_of twinned)) (twin_text agree (seen_of twinned.speculated) (other_seen twinned))
+-- ---- the command
 
--- ---- the job
-
--- the contents are those of an image, of a trace file and of two start files, which are refused
-pub record TwinRefuses (request : TwinRequest) (contents : List (List ℕ)) (refusal : Refusal) : Type 0 where
-  pub image : List ℕ
-  pub trace : List ℕ
-  pub start : List ℕ
-  pub other : List ℕ
-  pub are : contents ≡ image ∷ trace ∷ start ∷ other ∷ []
-  pub refuses : (twinning request.export trace start other).Refuses image refusal
-
--- the contents are those of an image, of a trace file and of two start files, nothing is refused, and the plan is to print how the runs
--- compare
-pub record TwinDoes (request : TwinRequest) (contents : List (List ℕ)) (plan : Plan) : Type 0 where
-  pub image : List ℕ
-  pub trace : List ℕ
-  pub start : List ℕ
-  pub other : List ℕ
-  pub are : contents ≡ image ∷ trace ∷ start ∷ other ∷ []
-  pub twinned : Twinned
-  pub prepared : (twinning request.export trace start other).Passes image twinned
+-- printing whether the starts agree in public, the common observations, and how the runs go on
+pub record TwinPlans (twinned : Twinned) (plan : Plan) : Type 0 where
   pub agree : Bool
   pub agrees : IsTrue agree ↔ StartsAgree twinned
-  pub is_plan : plan ≡ twin_plan agree twinned
+  pub is_plan : plan ≡ saying (twin_status (comparison_of twinned)) (twin_text agree (seen_of twinned.speculated) (other_seen twinned))
 
-abbrev pub twin_job : TwinRequest → Job
-twin_job request = record {
+-- the text says what is observed of the two runs, each from its own start, and where they differ. Where the program is constant-time and its
+-- own protects pass, so that it is safe, and the starts agree in public, the runs don't differ
+pub record TwinMeans (twinned : Twinned) (plan : Plan) : Type 0 where
+  pub tells : Tells (seen_of twinned.speculated) (other_seen twinned)
+  pub safe : ConstantTime (entry_of twinned).program → IsStable (entry_of twinned).program → StartsAgree twinned → plan.status ≡ No → ⊥
+
+-- an image, a trace file and two start files are read, and how the runs compare is printed
+abbrev pub twin_staged : TwinRequest → Staged Twinned
+twin_staged request = record {
   reads = image_read request.image ∷ trace_read request.trace ∷ start_read request.start ∷ start_read request.other_start ∷ [];
   keeps = [];
-  Against = TwinRefuses request;
-  Does = TwinDoes request;
+  reading = file (λ image. file (λ trace. file (λ start. file (λ other. all_read (twinning request.export trace start other) image))));
+  Plans = TwinPlans;
+  Means = λ contents. TwinMeans;
 }
 
--- the files' bytes give an image's function, directives and two starts; the first line says whether the starts agree in public, the rest
--- what is observed of the two runs, each from its own start, and where they differ; the status says whether they do. Where the
--- program is constant-time and its own protects pass, so that it is safe, and the starts agree in public, the runs don't differ. No file
--- is changed
-pub record Twins (request : TwinRequest) (old new : World) (status : Status) : Type 0 where
-  pub image : List ℕ
-  pub trace : List ℕ
-  pub start : List ℕ
-  pub other : List ℕ
-  pub read : AreRead old.files (twin_job request).reads (image ∷ trace ∷ start ∷ other ∷ [])
-  pub twinned : Twinned
-  pub prepared : (twinning request.export trace start other).Passes image twinned
-  pub agree : Bool
-  pub agrees : IsTrue agree ↔ StartsAgree twinned
-  pub meant : status ≡ twin_status (comparison_of twinned)
-  pub tells : Tells (seen_of twinned.speculated) (other_seen twinned)
-  pub safe : ConstantTime (entry_of twinned).program → IsStable (entry_of twinned).program → IsTrue agree → status ≡ No → ⊥
-  pub printed : new.sink.taken ≡ took old.sink.taken (twin_text agree (seen_of twinned.speculated) (other_seen twinned))
-  pub unchanged : new.files ≡ old.files
+abbrev pub twin_job : TwinRequest → Job
+twin_job request = staged_job (twin_staged request)

@@ -2,10 +2,12 @@
 use Rattle.std.specs.Prelude.{◌≡◌, ◌↔◌, ℕ, List, [], ◌∷◌}
 use Rattle.bl_base.specs.declared.quantity.Quantity.TheVariants as quantity
 use Rattle.bl_cmd.specs.Sites.{is_protected}
+use Rattle.bl_cmd.specs.declared.definitions.ProgramParts.{ProgramParts as Program}
 use Rattle.bl_ct.specs.Verdicts.{Judges as JudgesLabels}
 use Rattle.bl_ct.specs.declared.verdict.CtVerdict.{CtVerdict}
 use Rattle.bl_graph.specs.Certificates.{Certifies}
 use Rattle.bl_graph.specs.Labels.{ConstantTime}
+use Rattle.bl_graph.specs.declared.certificate.Certificate.{Certificate}
 use Rattle.bl_report.specs.Verdicts.{verdicts_text}
 use Rattle.bl_rob.specs.Observed.{HasEqualObservations}
 use Rattle.bl_sct.specs.Verdicts.{Assesses, IsStable}
@@ -20,12 +22,12 @@ use Rattle.bl_witness.specs.declared.verdict.CertVerdict.TheVariants as rules
 use Rattle.bl_words.specs.Requests.{VerifyRequest}
 use Rattle.bl_app.specs.Executing.{image_read}
 use Rattle.bl_build.specs.Hardening.{IsYes}
-use Rattle.bl_app.specs.Jobs.{AreRead, Job, Plan, Read, saying}
-use Rattle.bl_build.specs.Refusals.{Refusal}
-use Rattle.bl_app.specs.Worlds.{World, took}
-use Rattle.bl_app.specs.declared.status.Status.{Status}
-use Rattle.bl_app.specs.declared.status.Status.TheVariants.{Done, No}
-use Rattle.bl_build.specs.Certifying.{Certified, verifying}
+use Rattle.bl_job.specs.Jobs.{Job, Plan, Read, saying}
+use Rattle.bl_job.specs.Staged.{Makes, Reading, Staged, all_read, contents_stage, file, staged_job}
+use Rattle.bl_app.specs.declared.verify.Verdicts.{Verdicts as VerdictsFound}
+use Rattle.bl_job.specs.declared.status.Status.{Status}
+use Rattle.bl_job.specs.declared.status.Status.TheVariants.{Done, No}
+use Rattle.bl_build.specs.Certifying.{Certain, Certified, Stable, verifying}
 
 -- ---- verdicts
 
@@ -34,6 +36,14 @@ pub record Verdicts : Type 0 where
   pub rules : CertVerdict
   pub flow : FlowVerdict
   pub labels : CtVerdict
+
+-- a program and a certificate
+abbrev pub certified_in : Program → Certificate → Certified
+certified_in program certificate = record { program = program; certificate = certificate }
+
+-- the verdicts on them
+abbrev pub verdicts_in : VerdictsFound → Verdicts
+verdicts_in found = record { rules = found.rules; flow = found.flow; labels = found.labels }
 
 -- the verdicts are these of the program with its own protects
 pub record AreVerdicts (certified : Certified) (verdicts : Verdicts) : Type 0 where
@@ -52,47 +62,11 @@ verify_status verdict other = No
 abbrev pub verify_plan : Verdicts → Plan
 verify_plan verdicts = saying (verify_status verdicts.rules verdicts.flow) (verify_text verdicts)
 
--- ---- the job
-
 -- a certificate that is read
 abbrev pub certificate_read : List ℕ → Read
 certificate_read word = record { name = word; quantity = quantity.Certificate }
 
--- the contents are those of an image and of a certificate, which are refused
-pub record VerifyRefuses (contents : List (List ℕ)) (refusal : Refusal) : Type 0 where
-  pub image : List ℕ
-  pub certificate : List ℕ
-  pub are : contents ≡ image ∷ certificate ∷ []
-  pub refuses : (verifying certificate).Refuses image refusal
-
--- the contents are those of an image and of a certificate, nothing is refused, and the plan is to print verdicts on them
-pub record VerifyDoes (contents : List (List ℕ)) (plan : Plan) : Type 0 where
-  pub image : List ℕ
-  pub certificate : List ℕ
-  pub are : contents ≡ image ∷ certificate ∷ []
-  pub certified : Certified
-  pub prepared : (verifying certificate).Passes image certified
-  pub verdicts : Verdicts
-  pub are_verdicts : AreVerdicts certified verdicts
-  pub is_plan : plan ≡ verify_plan verdicts
-
-abbrev pub verify_job : VerifyRequest → Job
-verify_job request = record {
-  reads = image_read request.image ∷ certificate_read request.certificate ∷ [];
-  keeps = [];
-  Against = VerifyRefuses;
-  Does = VerifyDoes;
-}
-
 -- ---- what is said
-
-abbrev pub Certain : CertVerdict → Type 0
-Certain rules.Yes = Unit {0}
-Certain (rules.No rule index) = ⊥
-
-abbrev pub Stable : FlowVerdict → Type 0
-Stable (flow.Yes typing) = Unit {0}
-Stable (flow.No position) = ⊥
 
 -- what the verdicts say of a program and a certificate: each yes stands exactly where its rules are kept. Where the certificate keeps its
 -- rules, no passing set of sites weighs less than the program's protects; where the program is stable and constant-time, two runs from
@@ -106,17 +80,31 @@ pub record Say (certified : Certified) (verdicts : Verdicts) : Type 0 where
   pub safe : Stable verdicts.flow → IsYes verdicts.labels → HasEqualObservations certified.program
   pub assessed : (verdict : Verdict) → Assesses certified.program verdict → verdict ≡ Safe ↔ Stable verdicts.flow × IsYes verdicts.labels
 
--- the files' bytes give an image's program and a certificate; the verdicts on them are printed, and the status says whether the rules of
--- certificates and the transient rules are kept; no file is changed
-pub record Verifies (request : VerifyRequest) (old new : World) (status : Status) : Type 0 where
-  pub image : List ℕ
-  pub certificate : List ℕ
-  pub read : AreRead old.files (verify_job request).reads (image ∷ certificate ∷ [])
-  pub certified : Certified
-  pub prepared : (verifying certificate).Passes image certified
+-- ---- the command
+
+-- printing verdicts on a program and a certificate
+pub record VerifyPlans (certified : Certified) (plan : Plan) : Type 0 where
   pub verdicts : Verdicts
   pub are_verdicts : AreVerdicts certified verdicts
-  pub say : Say certified verdicts
-  pub meant : status ≡ verify_status verdicts.rules verdicts.flow
-  pub printed : new.sink.taken ≡ took old.sink.taken (verify_text verdicts)
-  pub unchanged : new.files ≡ old.files
+  pub is_plan : plan ≡ verify_plan verdicts
+
+-- an image, and then a certificate
+abbrev pub verify_reading : Reading Certified
+verify_reading = file (λ image. file (λ certificate. all_read (verifying certificate) image))
+
+-- an image and a certificate are read, and verdicts on them are printed
+abbrev pub verify_staged : VerifyRequest → Staged Certified
+verify_staged request = record {
+  reads = image_read request.image ∷ certificate_read request.certificate ∷ [];
+  keeps = [];
+  reading = verify_reading;
+  Plans = VerifyPlans;
+  Means = λ contents certified plan. (verdicts : Verdicts) → AreVerdicts certified verdicts → Say certified verdicts;
+}
+
+abbrev pub verify_job : VerifyRequest → Job
+verify_job request = staged_job (verify_staged request)
+
+-- what is done, by the contents of both files
+abbrev pub VerifyDoes : List (List ℕ) → Plan → Type 0
+VerifyDoes = Makes (contents_stage verify_reading) VerifyPlans

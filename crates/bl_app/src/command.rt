@@ -3,16 +3,15 @@ ghost use Rattle.std.specs.Prelude.{◌≡◌, ◌≤◌, IfOk, None, length, ma
 ghost use Rattle.bl_base.specs.Quantity.{limit_of};
 ghost use Rattle.bl_base.specs.declared.quantity.Quantity.TheVariants as quantity;
 ghost use Rattle.bl_app.specs.Commands.{IsSized, work_of};
-ghost use Rattle.bl_app.specs.Jobs.{AreRead};
-ghost use Rattle.bl_words.specs.Requests.{AreNamedApart, modules_in};
+ghost use Rattle.bl_job.specs.Jobs.{AreRead};
+ghost use Rattle.bl_text.specs.Names.{AreNamedApart};
+ghost use Rattle.bl_words.specs.Requests.{modules_in};
 ghost use Rattle.bl_words.specs.Words.{request_in};
-ghost use Rattle.bl_app.specs.Working.{IsWork, read_in};
-ghost use Rattle.bl_build.specs.Working.{contents_in};
+ghost use Rattle.bl_job.specs.Working.{IsWork, read_in, contents_in};
 
 use crate::generate::generate;
 use crate::harden::harden;
 use crate::interp::{interp_reads, interpret};
-use crate::job::{Plan, Read};
 use crate::lower::lower;
 use crate::module::module_reads;
 use crate::run::{execute, run_reads};
@@ -20,7 +19,7 @@ use crate::spec::{spec_reads, speculate};
 use crate::twin::{twin, twin_reads};
 use crate::verify::{verify, verify_reads};
 use bl_base::NoMemory;
-use bl_build::WorkError;
+use bl_job::{Plan, Read, WorkError};
 use bl_words::Request;
 use std::alloc::Global;
 

@@ -3,21 +3,20 @@ ghost use Rattle.std.specs.Prelude.{◌≡◌, ◌≤◌, [], ◌∷◌, IfOk, c
 ghost use Rattle.bl_base.specs.Quantity.{limit_of};
 ghost use Rattle.bl_base.specs.declared.quantity.Quantity.TheVariants as quantity;
 ghost use Rattle.bl_app.specs.Generating.{gen_job, summary_of};
-ghost use Rattle.bl_app.specs.Jobs.{saying};
-ghost use Rattle.bl_app.specs.declared.status.Status.TheVariants.{Done};
-ghost use Rattle.bl_app.specs.Working.{IsWork, plan_in};
+ghost use Rattle.bl_job.specs.Jobs.{saying};
+ghost use Rattle.bl_job.specs.declared.status.Status.TheVariants.{Done};
+ghost use Rattle.bl_job.specs.Working.{IsWork, plan_in, IsStaged};
 ghost use Rattle.bl_build.specs.Hardening.{hardening};
 ghost use Rattle.bl_build.specs.Loading.{parts_of};
-ghost use Rattle.bl_build.specs.Working.{IsStaged, hardened_in};
+ghost use Rattle.bl_build.specs.Working.{hardened_in};
 ghost use Rattle.bl_graph.specs.Certificates.{Certifies};
 ghost use Rattle.bl_ct.specs.Verdicts.{Judges};
 ghost use Rattle.bl_words.specs.Words.{gen_in};
 
-use crate::job::Plan;
-use crate::status::Status;
 use bl_base::NoMemory;
-use bl_build::{Hardened, WorkError, compile_hardened};
+use bl_build::{Hardened, compile_hardened};
 use bl_gen::make;
+use bl_job::{Plan, Status, WorkError};
 use bl_report::summary;
 use bl_words::GenWords;
 use std::alloc::Global;

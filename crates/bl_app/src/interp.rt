@@ -3,19 +3,19 @@ ghost use Rattle.std.specs.Prelude.{◌≡◌, ◌≤◌, None, IfOk, length, ma
 ghost use Rattle.bl_base.specs.Quantity.{limit_of};
 ghost use Rattle.bl_base.specs.declared.quantity.Quantity.TheVariants as quantity;
 ghost use Rattle.bl_reduce.specs.Outcomes.{IsStart};
-ghost use Rattle.bl_app.specs.Interpreting.{interp_job};
-ghost use Rattle.bl_app.specs.Jobs.{AreRead};
-ghost use Rattle.bl_words.specs.Requests.{AreNamedApart};
+ghost use Rattle.bl_app.specs.Interpreting.{InterpPlans, interp_job};
+ghost use Rattle.bl_job.specs.Jobs.{AreRead};
+ghost use Rattle.bl_text.specs.Names.{AreNamedApart};
 ghost use Rattle.bl_words.specs.Words.{interp_in};
-ghost use Rattle.bl_app.specs.Working.{IsDoneBehind, IsTold, IsWork, read_in};
+ghost use Rattle.bl_job.specs.Working.{IsDoneBehind, IsWork, plan_in, read_in, contents_in};
 ghost use Rattle.bl_build.specs.Running.{invoking};
-ghost use Rattle.bl_build.specs.Working.{contents_in, invoked_in};
+ghost use Rattle.bl_build.specs.Working.{invoked_in};
 
-use crate::job::{Plan, Read};
 use crate::module::read_modules;
 use crate::outcome::outcome_status;
 use bl_base::{NoMemory, Quantity};
-use bl_build::{Invocation, WorkError, load, prepare};
+use bl_build::{Invocation, load, prepare};
+use bl_job::{Plan, Read, WorkError, first_file};
 use bl_machine::{first_memories, interp};
 use bl_outcome::outcome_text;
 use bl_wasm::Linked;
@@ -47,9 +47,7 @@ pub fn interpret<'a>(
     requires read { AreRead None (interp_job (interp_in words.now)).reads (contents_in contents.now) }
     ensures { IsWork (interp_job (interp_in words.now)) (contents_in contents.now) result }
 {
-    let [start, modules @ ..] = contents else {
-        unreachable!()
-    };
+    let (start, modules) = first_file(contents);
     let linked = match load(alloc, words.modules.as_slice(), modules) {
         Ok(linked) => linked,
         Err(error) => return Err(error),
@@ -64,16 +62,13 @@ fn interpret_tree<'a>(
     start: &[u8],
     linked: &Linked,
 ) -> Result<Plan<'a>, WorkError<'a>>
-    ensures { IsDoneBehind (invoking (interp_in words.now).export start.now) (IsTold words.now.steps) linked.now result }
+    ensures { IsDoneBehind (invoking (interp_in words.now).export start.now) (InterpPlans words.now.steps) linked.now result }
 {
     let invocation = match prepare(alloc, linked.tree(), words.export, start) {
         Ok(invocation) => invocation,
         Err(error) => return Err(error),
     };
-    match tell(alloc, linked, &invocation, words.steps) {
-        Ok(plan) => Ok(plan),
-        Err(NoMemory) => Err(WorkError::Memory),
-    }
+    Ok(tell(alloc, linked, &invocation, words.steps)?)
 }
 
 /// Runs a function from its start: printing the outcome within so many steps. Linear in the tree, the bytes of its memories and in
@@ -85,7 +80,7 @@ fn tell<'a>(
     steps: u64,
 ) -> Result<Plan<'a>, NoMemory>
     requires start { IsStart linked.now invocation.now.function invocation.now.start }
-    ensures { IfOk result (IsTold steps (invoked_in linked.now invocation.now)) }
+    ensures { IfOk result (λ plan. InterpPlans steps (invoked_in linked.now invocation.now) (plan_in plan)) }
 {
     let run = interp(alloc, linked, invocation.function, &invocation.start, steps)?;
     let memories = first_memories(alloc, linked, &invocation.start)?;

@@ -6,26 +6,22 @@ ghost use Rattle.bl_wasm.specs.declared.linked.Tree.{Tree};
 ghost use Rattle.bl_lower.specs.Trees.{step_bound};
 ghost use Rattle.bl_report.specs.Verdicts.{safe_line};
 ghost use Rattle.bl_build.specs.Building.{AreCompiled, Builds, Built};
-ghost use Rattle.bl_app.specs.Compiling.{AreTexts, Makes};
-ghost use Rattle.bl_app.specs.Causes.{Causes, NoneRose};
-ghost use Rattle.bl_app.specs.Commands.{job_of};
+ghost use Rattle.bl_job.specs.Causes.{Causes, NoneRose};
+ghost use Rattle.bl_app.specs.Commands.{HasOnePlan, job_of, row_of, work_of};
 ghost use Rattle.bl_app.specs.Executing.{RunDoes};
-ghost use Rattle.bl_app.specs.Hardening.{HardenPlans, harden_job};
+ghost use Rattle.bl_app.specs.Hardening.{HardenDoes, harden_job};
 ghost use Rattle.bl_build.specs.Hardening.{Hardened, IsHardened, IsYes};
 ghost use Rattle.bl_app.specs.Interpreting.{InterpDoes};
-ghost use Rattle.bl_app.specs.Jobs.{AreRead, FirstRefusal, IsLawful, IsTotal, Plan};
-ghost use Rattle.bl_app.specs.Lowering.{lower_job};
-ghost use Rattle.bl_build.specs.Refusals.{Refusal};
-ghost use Rattle.bl_words.specs.Requests.{AreNamedApart, GenRequest, HardenRequest, InterpRequest, IsGenInRange, LowerRequest, Request, RunRequest, SpecRequest, TwinRequest, VerifyRequest, gen, harden, interp, lower, run as run_image, spec, twin, verify};
-ghost use Rattle.bl_app.specs.Speculating.{SpecDoes};
-ghost use Rattle.bl_app.specs.Twinning.{TwinDoes};
+ghost use Rattle.bl_job.specs.Jobs.{AreRead, FirstRefusal, IsLawful, IsTotal, Plan};
+ghost use Rattle.bl_job.specs.Refusals.{Refusal};
+ghost use Rattle.bl_words.specs.Requests.{HardenRequest, InterpRequest, Request, RunRequest};
 ghost use Rattle.bl_app.specs.Verifying.{VerifyDoes};
-ghost use Rattle.bl_app.specs.Worlds.{World};
-ghost use Rattle.bl_app.specs.declared.status.Status.{Status};
-ghost use Rattle.bl_app.specs.declared.status.Status.TheVariants as status;
+ghost use Rattle.bl_job.specs.Worlds.{World};
+ghost use Rattle.bl_job.specs.declared.status.Status.{Status};
+ghost use Rattle.bl_job.specs.declared.status.Status.TheVariants as status;
 
 /// The job of each request: its contents have at most one refusal, and nothing is done where one stands; all that may be done has
-/// one status, and keeps the files that are named.
+/// one status, and keeps the files that are named, or none.
 pub fn jobs_are_lawful()
     ensures { (request : Request) → IsLawful (job_of request) }
 {}
@@ -34,14 +30,7 @@ pub fn jobs_are_lawful()
 /// Of a request with modules this is said where they are named apart, as they are in each that words ask for; of those whose program
 /// is written to an image where the words are texts, as the words of each call are; and of a module that is made where its size is in range.
 pub fn jobs_are_total()
-    ensures interp { (request : InterpRequest) → AreNamedApart request.modules → IsTotal (job_of (interp request)) }
-    ensures run { (request : RunRequest) → IsTotal (job_of (run_image request)) }
-    ensures spec { (request : SpecRequest) → IsTotal (job_of (spec request)) }
-    ensures twin { (request : TwinRequest) → IsTotal (job_of (twin request)) }
-    ensures verify { (request : VerifyRequest) → IsTotal (job_of (verify request)) }
-    ensures lower { (request : LowerRequest) → AreNamedApart request.modules → AreTexts request.modules → IsTotal (job_of (lower request)) }
-    ensures harden { (request : HardenRequest) → AreNamedApart request.modules → AreTexts request.modules → IsTotal (job_of (harden request)) }
-    ensures made { (request : GenRequest) → IsGenInRange request → IsTotal (job_of (gen request)) }
+    ensures { (request : Request) → (row_of request).Given → IsTotal (job_of request) }
 {}
 
 /// At most one refusal of a request is the first.
@@ -55,13 +44,9 @@ pub fn what_can_be_done_is_not_refused()
         → AreRead (Some files) (job_of request).reads contents → (job_of request).Does contents plan → FirstRefusal (job_of request) (Some files) refusal → ⊥ }
 {}
 
-/// What `lower` keeps and prints is one, and a run has one text and one status.
+/// What is kept and printed is one thing, with one status, for each request that has one plan.
 pub fn one_run()
-    ensures lower { (request : LowerRequest) (contents : Listed (Listed ℕ)) (p q : Plan) → (lower_job request).Does contents p → (lower_job request).Does contents q → p ≡ q }
-    ensures twin { (request : TwinRequest) (contents : Listed (Listed ℕ)) (p q : Plan) → TwinDoes request contents p → TwinDoes request contents q → p ≡ q }
-    ensures interp { (request : InterpRequest) (contents : Listed (Listed ℕ)) (p q : Plan) → InterpDoes request contents p → InterpDoes request contents q → p ≡ q }
-    ensures run { (request : RunRequest) (contents : Listed (Listed ℕ)) (p q : Plan) → RunDoes request contents p → RunDoes request contents q → p ≡ q }
-    ensures spec { (request : SpecRequest) (contents : Listed (Listed ℕ)) (p q : Plan) → SpecDoes request contents p → SpecDoes request contents q → p ≡ q }
+    ensures { (request : Request) → HasOnePlan request → (contents : Listed (Listed ℕ)) (p q : Plan) → (work_of request).Does contents p → (work_of request).Does contents q → p ≡ q }
 {}
 
 /// Two plans of `verify` on the same contents have one status, and one verdict by the rules of certificates and by the transient
@@ -69,29 +54,29 @@ pub fn one_run()
 /// can differ.
 pub fn one_verification()
     ensures status { (contents : Listed (Listed ℕ)) (p q : Plan) → VerifyDoes contents p → VerifyDoes contents q → p.status ≡ q.status }
-    ensures rules { (contents : Listed (Listed ℕ)) (p q : Plan) (h : VerifyDoes contents p) (k : VerifyDoes contents q) → h.verdicts.rules ≡ k.verdicts.rules }
-    ensures flow { (contents : Listed (Listed ℕ)) (p q : Plan) (h : VerifyDoes contents p) (k : VerifyDoes contents q) → h.verdicts.flow ≡ k.verdicts.flow }
+    ensures rules { (contents : Listed (Listed ℕ)) (p q : Plan) (h : VerifyDoes contents p) (k : VerifyDoes contents q) → h.plans.verdicts.rules ≡ k.plans.verdicts.rules }
+    ensures flow { (contents : Listed (Listed ℕ)) (p q : Plan) (h : VerifyDoes contents p) (k : VerifyDoes contents q) → h.plans.verdicts.flow ≡ k.plans.verdicts.flow }
     ensures labels { (contents : Listed (Listed ℕ)) (p q : Plan) (h : VerifyDoes contents p) (k : VerifyDoes contents q)
-        → IsYes h.verdicts.labels ↔ IsYes k.verdicts.labels }
+        → IsYes h.plans.verdicts.labels ↔ IsYes k.plans.verdicts.labels }
     ensures safe { (contents : Listed (Listed ℕ)) (p q : Plan) (h : VerifyDoes contents p) (k : VerifyDoes contents q)
-        → safe_line h.verdicts.flow h.verdicts.labels ≡ safe_line k.verdicts.flow k.verdicts.labels }
-    ensures whole { (contents : Listed (Listed ℕ)) (p q : Plan) (h : VerifyDoes contents p) → VerifyDoes contents q → IsYes h.verdicts.labels → p ≡ q }
+        → safe_line h.plans.verdicts.flow h.plans.verdicts.labels ≡ safe_line k.plans.verdicts.flow k.plans.verdicts.labels }
+    ensures whole { (contents : Listed (Listed ℕ)) (p q : Plan) (h : VerifyDoes contents p) → VerifyDoes contents q → IsYes h.plans.verdicts.labels → p ≡ q }
 {}
 
 /// Two plans of `harden` on the same contents have one program, whose counts they tell, and one image, which is the second file that
 /// they keep; both have a yes by the label rules or both a no. With one certificate and a yes they are one: only certificates and
 /// secret chains can differ.
 pub fn one_image()
-    ensures program { (request : HardenRequest) (contents : Listed (Listed ℕ)) (p q : Plan) (h : Makes request.modules (HardenPlans request) contents p)
-        (k : Makes request.modules (HardenPlans request) contents q) → h.plans.hardened.program ≡ k.plans.hardened.program }
-    ensures image { (request : HardenRequest) (contents : Listed (Listed ℕ)) (p q : Plan) (h : Makes request.modules (HardenPlans request) contents p)
-        (k : Makes request.modules (HardenPlans request) contents q) → h.plans.hardened.image ≡ k.plans.hardened.image }
-    ensures verdict { (request : HardenRequest) (contents : Listed (Listed ℕ)) (p q : Plan) (h : Makes request.modules (HardenPlans request) contents p)
-        (k : Makes request.modules (HardenPlans request) contents q) → IsYes h.plans.hardened.verdict ↔ IsYes k.plans.hardened.verdict }
+    ensures program { (request : HardenRequest) (contents : Listed (Listed ℕ)) (p q : Plan) (h : HardenDoes request contents p)
+        (k : HardenDoes request contents q) → h.plans.hardened.program ≡ k.plans.hardened.program }
+    ensures image { (request : HardenRequest) (contents : Listed (Listed ℕ)) (p q : Plan) (h : HardenDoes request contents p)
+        (k : HardenDoes request contents q) → h.plans.hardened.image ≡ k.plans.hardened.image }
+    ensures verdict { (request : HardenRequest) (contents : Listed (Listed ℕ)) (p q : Plan) (h : HardenDoes request contents p)
+        (k : HardenDoes request contents q) → IsYes h.plans.hardened.verdict ↔ IsYes k.plans.hardened.verdict }
     ensures kept { (request : HardenRequest) (contents : Listed (Listed ℕ)) (p q : Plan) → (harden_job request).Does contents p → (harden_job request).Does contents q
         → slice_get p.keeps 1 ≡ slice_get q.keeps 1 }
-    ensures whole { (request : HardenRequest) (contents : Listed (Listed ℕ)) (p q : Plan) (h : Makes request.modules (HardenPlans request) contents p)
-        (k : Makes request.modules (HardenPlans request) contents q) → h.plans.hardened.certificate ≡ k.plans.hardened.certificate → IsYes h.plans.hardened.verdict → p ≡ q }
+    ensures whole { (request : HardenRequest) (contents : Listed (Listed ℕ)) (p q : Plan) (h : HardenDoes request contents p)
+        (k : HardenDoes request contents q) → h.plans.hardened.certificate ≡ k.plans.hardened.certificate → IsYes h.plans.hardened.verdict → p ≡ q }
 {}
 
 /// An image runs as the modules do that it was made of: where `interp` tells a return or a trap within its steps, `run` tells

@@ -1,10 +1,10 @@
 //! The files of a request's modules.
 ghost use Rattle.std.specs.Prelude.{◌≡◌, ◌++◌, IfOk, map};
 ghost use Rattle.bl_app.specs.Compiling.{module_read};
-ghost use Rattle.bl_app.specs.Working.{read_in};
+ghost use Rattle.bl_job.specs.Working.{read_in};
 
-use crate::job::Read;
 use bl_base::{NoMemory, Quantity};
+use bl_job::Read;
 use std::alloc::Global;
 
 /// The files of modules, in order.

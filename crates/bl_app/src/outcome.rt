@@ -6,10 +6,10 @@ ghost use Rattle.bl_app.specs.Executing.{plain_text};
 ghost use Rattle.bl_app.specs.Outcomes.{outcome_status};
 ghost use Rattle.bl_build.specs.Working.{entered_in, entry_in};
 
-use crate::status::Status;
 use bl_base::{NoMemory, Run, Start};
 use bl_build::Entry;
 use bl_cmd::WellFormed;
+use bl_job::Status;
 use bl_outcome::outcome_text;
 use bl_seq::first_memories;
 use std::alloc::Global;

@@ -1,18 +1,18 @@
 //! `run`: from an image's bytes and a start file's to the text of the outcome of a plain run.
 ghost use Rattle.std.specs.Prelude.{◌≡◌, None, IfOk, map};
 ghost use Rattle.bl_cmd.specs.Outcomes.{IsStart};
-ghost use Rattle.bl_app.specs.Executing.{run_job};
-ghost use Rattle.bl_app.specs.Jobs.{AreRead};
+ghost use Rattle.bl_app.specs.Executing.{RunPlans, run_job};
+ghost use Rattle.bl_job.specs.Jobs.{AreRead};
 ghost use Rattle.bl_words.specs.Words.{run_in};
-ghost use Rattle.bl_build.specs.Entering.{entering, program_entering};
-ghost use Rattle.bl_app.specs.Working.{IsDoneBehind, IsPlainTold, IsWork, read_in};
-ghost use Rattle.bl_build.specs.Working.{contents_in, entered_in, entry_in};
+ghost use Rattle.bl_build.specs.Entering.{program_entering};
+ghost use Rattle.bl_job.specs.Working.{IsDoneBehind, IsWork, plan_in, read_in, contents_in};
+ghost use Rattle.bl_build.specs.Working.{entered_in, entry_in};
 
-use crate::job::{Plan, Read};
 use crate::outcome::{outcome_status, plain_text};
 use bl_base::{NoMemory, Quantity, Start};
-use bl_build::{Entry, Refusal, WorkError, find_entry, read_entry_start, read_image};
+use bl_build::{Entry, find_entry, read_entry_start, read_image};
 use bl_cmd::WellFormed;
+use bl_job::{Plan, Read, Refusal, WorkError, list_reads, two_files};
 use bl_seq::run;
 use bl_words::RunWords;
 use std::alloc::Global;
@@ -21,16 +21,13 @@ use std::alloc::Global;
 pub fn run_reads<'a>(alloc: Global, words: &RunWords<'a>) -> Result<Vec<Read<'a>>, NoMemory>
     ensures { IfOk result (λ reads. map read_in reads.items ≡ (run_job (run_in words.now)).reads) }
 {
-    let mut reads = Vec::new(alloc);
-    reads.push(Read {
-        name: words.image,
-        quantity: Quantity::Image,
-    })?;
-    reads.push(Read {
-        name: words.start,
-        quantity: Quantity::Start,
-    })?;
-    Ok(reads)
+    list_reads(
+        alloc,
+        &[
+            (words.image, Quantity::Image),
+            (words.start, Quantity::Start),
+        ],
+    )
 }
 
 /// Printing the outcome of an exported function of an image's program from a start file's bytes; Refused exactly where these are
@@ -43,21 +40,7 @@ pub fn execute<'a>(
     requires { AreRead None (run_job (run_in words.now)).reads (contents_in contents.now) }
     ensures { IsWork (run_job (run_in words.now)) (contents_in contents.now) result }
 {
-    let [image, start] = contents else {
-        unreachable!()
-    };
-    execute_image(alloc, words, image, start)
-}
-
-/// The same, by the bytes of the image and those of the start file.
-fn execute_image<'a>(
-    alloc: Global,
-    words: &RunWords<'a>,
-    image: &[u8],
-    start: &[u8],
-) -> Result<Plan<'a>, WorkError<'a>>
-    ensures { IsDoneBehind (entering (run_in words.now).export start.now) (IsPlainTold words.now.steps) image.now result }
-{
+    let (image, start) = two_files(contents);
     match read_image(alloc, image) {
         Ok(program) => execute_program(alloc, words, &program, start),
         Err(error) => Err(error),
@@ -71,7 +54,7 @@ fn execute_program<'a>(
     program: &WellFormed,
     start: &[u8],
 ) -> Result<Plan<'a>, WorkError<'a>>
-    ensures { IsDoneBehind (program_entering (run_in words.now).export start.now) (IsPlainTold words.now.steps) program.now result }
+    ensures { IsDoneBehind (program_entering (run_in words.now).export start.now) (RunPlans words.now.steps) program.now result }
 {
     let Some(entry) = find_entry(program, words.export) else {
         return Err(WorkError::Refused(Refusal::NoExport));
@@ -80,10 +63,7 @@ fn execute_program<'a>(
         Ok(start) => start,
         Err(error) => return Err(error),
     };
-    match tell(alloc, program, &entry, &start, words.steps) {
-        Ok(plan) => Ok(plan),
-        Err(NoMemory) => Err(WorkError::Memory),
-    }
+    Ok(tell(alloc, program, &entry, &start, words.steps)?)
 }
 
 /// Runs a function from its start: printing the outcome within so many steps. Linear in the program and in the steps.
@@ -95,7 +75,7 @@ fn tell<'a>(
     steps: u64,
 ) -> Result<Plan<'a>, NoMemory>
     requires { IsStart program.now entry.now.function start.now }
-    ensures { IfOk result (IsPlainTold steps (entered_in (entry_in program.now entry.now) start.now)) }
+    ensures { IfOk result (λ plan. RunPlans steps (entered_in (entry_in program.now entry.now) start.now) (plan_in plan)) }
 {
     let run = run(alloc, program, entry.function, start, steps)?;
     let text = plain_text(alloc, program, entry, start, steps, &run)?;

@@ -7,19 +7,18 @@ ghost use Rattle.bl_outcome.specs.Lines.{line};
 ghost use Rattle.bl_rob.specs.CallResults.{outcome_in, shown};
 ghost use Rattle.bl_rob.specs.Machines.{opening};
 ghost use Rattle.bl_trace.specs.Observations.{observation_text};
-ghost use Rattle.bl_app.specs.Jobs.{AreRead};
-ghost use Rattle.bl_app.specs.Speculating.{last_text, spec_job, spec_status};
+ghost use Rattle.bl_job.specs.Jobs.{AreRead};
+ghost use Rattle.bl_app.specs.Speculating.{SpecPlans, last_text, spec_job, spec_status};
 ghost use Rattle.bl_words.specs.Words.{spec_in};
-ghost use Rattle.bl_build.specs.Tracing.{speculating, program_speculating};
-ghost use Rattle.bl_build.specs.Working.{contents_in, entered_in, entry_in, speculated_in};
-ghost use Rattle.bl_app.specs.Working.{IsDoneBehind, IsSpecTold, IsWork, read_in};
+ghost use Rattle.bl_build.specs.Tracing.{program_speculating};
+ghost use Rattle.bl_job.specs.Working.{contents_in, IsDoneBehind, IsWork, plan_in, read_in};
+ghost use Rattle.bl_build.specs.Working.{entered_in, entry_in, speculated_in};
 
-use crate::job::{Plan, Read};
 use crate::outcome::plain_text;
-use crate::status::Status;
 use bl_base::{NoMemory, Quantity, Start};
-use bl_build::{Entry, Speculation, WorkError, prepare_speculation, read_image};
+use bl_build::{Entry, Speculation, prepare_speculation, read_image};
 use bl_cmd::WellFormed;
+use bl_job::{Plan, Read, Status, WorkError, list_reads, three_files};
 use bl_rob::{Observation, Rob, Seen};
 use bl_trace::print_observation;
 use bl_words::SpecWords;
@@ -29,20 +28,14 @@ use std::alloc::Global;
 pub fn spec_reads<'a>(alloc: Global, words: &SpecWords<'a>) -> Result<Vec<Read<'a>>, NoMemory>
     ensures { IfOk result (λ reads. map read_in reads.items ≡ (spec_job (spec_in words.now)).reads) }
 {
-    let mut reads = Vec::new(alloc);
-    reads.push(Read {
-        name: words.image,
-        quantity: Quantity::Image,
-    })?;
-    reads.push(Read {
-        name: words.trace,
-        quantity: Quantity::Trace,
-    })?;
-    reads.push(Read {
-        name: words.start,
-        quantity: Quantity::Start,
-    })?;
-    Ok(reads)
+    list_reads(
+        alloc,
+        &[
+            (words.image, Quantity::Image),
+            (words.trace, Quantity::Trace),
+            (words.start, Quantity::Start),
+        ],
+    )
 }
 
 /// Printing what is observed of a trace file's directives on an exported function of an image's program, from a start file's bytes;
@@ -56,22 +49,7 @@ pub fn speculate<'a>(
     requires { AreRead None (spec_job (spec_in words.now)).reads (contents_in contents.now) }
     ensures { IsWork (spec_job (spec_in words.now)) (contents_in contents.now) result }
 {
-    let [image, trace, start] = contents else {
-        unreachable!()
-    };
-    speculate_image(alloc, words, image, trace, start)
-}
-
-/// The same, by the bytes of the image, those of the trace file and those of the start file.
-fn speculate_image<'a>(
-    alloc: Global,
-    words: &SpecWords<'a>,
-    image: &[u8],
-    trace: &[u8],
-    start: &[u8],
-) -> Result<Plan<'a>, WorkError<'a>>
-    ensures { IsDoneBehind (speculating (spec_in words.now).export trace.now start.now) IsSpecTold image.now result }
-{
+    let (image, trace, start) = three_files(contents);
     match read_image(alloc, image) {
         Ok(program) => speculate_program(alloc, words, &program, trace, start),
         Err(error) => Err(error),
@@ -86,16 +64,13 @@ fn speculate_program<'a>(
     trace: &[u8],
     start: &[u8],
 ) -> Result<Plan<'a>, WorkError<'a>>
-    ensures { IsDoneBehind (program_speculating (spec_in words.now).export trace.now start.now) IsSpecTold program.now result }
+    ensures { IsDoneBehind (program_speculating (spec_in words.now).export trace.now start.now) SpecPlans program.now result }
 {
     let speculation = match prepare_speculation(alloc, program, words.export, trace, start) {
         Ok(speculation) => speculation,
         Err(error) => return Err(error),
     };
-    match observe(alloc, program, &speculation) {
-        Ok(plan) => Ok(plan),
-        Err(NoMemory) => Err(WorkError::Memory),
-    }
+    Ok(observe(alloc, program, &speculation)?)
 }
 
 /// Takes directives on a function from its start: printing what is observed of them.
@@ -105,7 +80,7 @@ fn observe<'a>(
     speculation: &Speculation<'_>,
 ) -> Result<Plan<'a>, NoMemory>
     requires { IsStart program.now speculation.now.entry.function speculation.now.start }
-    ensures { IfOk result (IsSpecTold (speculated_in program.now speculation.now)) }
+    ensures { IfOk result (λ plan. SpecPlans (speculated_in program.now speculation.now) (plan_in plan)) }
 {
     let function = speculation.entry.function;
     let mut rob: Rob<'_, 64> = Rob::begin(alloc, program, function, &speculation.start)?;
@@ -122,7 +97,7 @@ fn observe_on<'a>(
     requires start { IsStart program.now speculation.now.entry.function speculation.now.start }
     requires program { rob.old.program ≡ program.now }
     requires opening { shown rob.old.machine ≡ opening program.now speculation.now.entry.function speculation.now.start }
-    ensures { IfOk result (IsSpecTold (speculated_in program.now speculation.now)) }
+    ensures { IfOk result (λ plan. SpecPlans (speculated_in program.now speculation.now) (plan_in plan)) }
 {
     let seen = rob.observe(alloc, speculation.directives.as_slice())?;
     let text = seen_text(

@@ -2,29 +2,22 @@
 ghost use Rattle.std.specs.Prelude.{◌≡◌, ◌≤◌, Some, length, map, string_bytes};
 ghost use Rattle.bl_base.specs.Quantity.{limit_of};
 ghost use Rattle.bl_base.specs.declared.quantity.Quantity.TheVariants as quantity;
-ghost use Rattle.bl_app.specs.Causes.{Causes};
-ghost use Rattle.bl_app.specs.Commands.{IsSized, job_of};
-ghost use Rattle.bl_app.specs.Ends.{Ends};
-ghost use Rattle.bl_app.specs.Executing.{Runs};
-ghost use Rattle.bl_app.specs.Generating.{Generates};
+ghost use Rattle.bl_job.specs.Causes.{Causes};
+ghost use Rattle.bl_app.specs.Commands.{IsSized, job_of, row_of};
+ghost use Rattle.bl_job.specs.Ends.{Ends};
+ghost use Rattle.bl_job.specs.Leaving.{Leaves};
 ghost use Rattle.bl_app.specs.Hardening.{Hardens};
-ghost use Rattle.bl_app.specs.Interpreting.{Interprets};
-ghost use Rattle.bl_app.specs.Lowering.{Lowers};
-ghost use Rattle.bl_words.specs.Requests.{AreNamedApart, GenRequest, HardenRequest, InterpRequest, LowerRequest, RunRequest, SpecRequest, TwinRequest, VerifyRequest, gen, harden, interp, lower, modules_in, request_of, run as run_image, spec, twin, verify};
-ghost use Rattle.bl_app.specs.Speculating.{Speculates};
-ghost use Rattle.bl_app.specs.Status.{IsStatus, kind_of, of_deed};
-ghost use Rattle.bl_app.specs.Twinning.{Twins};
-ghost use Rattle.bl_app.specs.Verifying.{Verifies};
+ghost use Rattle.bl_app.specs.Leaving.{HardenLeaves};
+ghost use Rattle.bl_text.specs.Names.{AreNamedApart};
+ghost use Rattle.bl_words.specs.Requests.{HardenRequest, Request as Asked, harden, modules_in, request_of};
+ghost use Rattle.bl_job.specs.Staged.{Did};
+ghost use Rattle.bl_job.specs.Status.{IsStatus, kind_of, of_deed};
 ghost use Rattle.bl_words.specs.Words.{request_in};
-ghost use Rattle.bl_app.specs.Worlds.{world};
+ghost use Rattle.bl_job.specs.Worlds.{world};
 
 use crate::command::{modules_of, reads_of, work};
-use crate::deliver::deliver;
-use crate::fetch::fetch_all;
-use crate::output::{refuse, say_line};
-use crate::status::Status;
 use bl_base::{NoMemory, Quantity};
-use bl_build::{Refusal, WorkError};
+use bl_job::{Refusal, Status, WorkError, deliver, fetch_all, refuse, say_line};
 use bl_outside::{Shelf, Sink};
 use bl_words::{Request, read_words};
 use std::alloc::Global;
@@ -45,36 +38,20 @@ pub fn blade<F: Shelf, O: Sink>(alloc: Global, words: &[String], files: &mut F, 
     ensures causes { IsStatus result (Causes job_of (request_of (map string_bytes words.now))
         (world F.files F.faults O.taken O.faults files.old out.old) (world F.files F.faults O.taken O.faults files.new out.new)) }
 
+    // What stands after the call, whatever its status is.
+    ensures leaves { Leaves job_of (request_of (map string_bytes words.now))
+        (world F.files F.faults O.taken O.faults files.old out.old) (world F.files F.faults O.taken O.faults files.new out.new) }
+
+    // The same of `harden`: the first of its certificate and its image, each whole, and a prefix of one text.
+    ensures harden_leaves { (request : HardenRequest) → request_of (map string_bytes words.now) ≡ Some (harden request) → HardenLeaves request
+        (world F.files F.faults O.taken O.faults files.old out.old) (world F.files F.faults O.taken O.faults files.new out.new) }
+
     // What status 0 says of `harden`: the image means what the modules mean.
     ensures hardens { (request : HardenRequest) → request_of (map string_bytes words.now) ≡ Some (harden request) → result ≡ 0 → Hardens request
         (world F.files F.faults O.taken O.faults files.old out.old) (world F.files F.faults O.taken O.faults files.new out.new) }
 
-    // What status 0 says of `lower`: the same of its image.
-    ensures lowers { (request : LowerRequest) → request_of (map string_bytes words.now) ≡ Some (lower request) → result ≡ 0 → Lowers request
-        (world F.files F.faults O.taken O.faults files.old out.old) (world F.files F.faults O.taken O.faults files.new out.new) }
-
-    // What statuses 0, 16 and 17 say of `interp`: the text is that of the modules' outcome within the steps.
-    ensures interprets { (request : InterpRequest) → request_of (map string_bytes words.now) ≡ Some (interp request) → IsStatus result (λ status. kind_of status ≡ of_deed → Interprets request
-        (world F.files F.faults O.taken O.faults files.old out.old) (world F.files F.faults O.taken O.faults files.new out.new) status) }
-
-    // What statuses 0, 16 and 17 say of `run`: the text is that of the outcome of the image's program within the steps.
-    ensures runs { (request : RunRequest) → request_of (map string_bytes words.now) ≡ Some (run_image request) → IsStatus result (λ status. kind_of status ≡ of_deed → Runs request
-        (world F.files F.faults O.taken O.faults files.old out.old) (world F.files F.faults O.taken O.faults files.new out.new) status) }
-
-    // What statuses 0, 1 and 18 say of `twin`: whether the starts agree in public, and what is observed of the two runs.
-    ensures twins { (request : TwinRequest) → request_of (map string_bytes words.now) ≡ Some (twin request) → IsStatus result (λ status. kind_of status ≡ of_deed → Twins request
-        (world F.files F.faults O.taken O.faults files.old out.old) (world F.files F.faults O.taken O.faults files.new out.new) status) }
-
-    // What statuses 0 and 1 say of `verify`: the lines are the verdicts on the image and the certificate.
-    ensures verifies { (request : VerifyRequest) → request_of (map string_bytes words.now) ≡ Some (verify request) → IsStatus result (λ status. kind_of status ≡ of_deed → Verifies request
-        (world F.files F.faults O.taken O.faults files.old out.old) (world F.files F.faults O.taken O.faults files.new out.new) status) }
-
-    // What status 0 says of `gen`: the summary of the module that is made.
-    ensures generates { (request : GenRequest) → request_of (map string_bytes words.now) ≡ Some (gen request) → result ≡ 0 → Generates request
-        (world F.files F.faults O.taken O.faults files.old out.old) (world F.files F.faults O.taken O.faults files.new out.new) }
-
-    // What statuses 0 and 18 say of `spec`: the lines are those of what is observed of the directives.
-    ensures speculates { (request : SpecRequest) → request_of (map string_bytes words.now) ≡ Some (spec request) → IsStatus result (λ status. kind_of status ≡ of_deed → Speculates request
+    // What the status of a deed says: what the command of the request says where it is done.
+    ensures says { (request : Asked) → request_of (map string_bytes words.now) ≡ Some request → IsStatus result (λ status. kind_of status ≡ of_deed → Did (row_of request).staged
         (world F.files F.faults O.taken O.faults files.old out.old) (world F.files F.faults O.taken O.faults files.new out.new) status) }
 {
     run(alloc, words, files, out).code()

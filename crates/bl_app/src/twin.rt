@@ -1,18 +1,17 @@
 //! `twin`: from the bytes of an image, a trace file and two start files to how the two runs are observed, side by side.
-ghost use Rattle.std.specs.Prelude.{◌≡◌, None, Some, IfOk, map, slice_get};
+ghost use Rattle.std.specs.Prelude.{◌≡◌, None, IfOk, map};
 ghost use Rattle.bl_cmd.specs.Outcomes.{IsStart};
-ghost use Rattle.bl_app.specs.Jobs.{AreRead};
-ghost use Rattle.bl_app.specs.Twinning.{twin_job, twin_status};
-ghost use Rattle.bl_app.specs.Working.{IsDoneBehind, IsTwinTold, IsWork, read_in, twinned_in};
-ghost use Rattle.bl_build.specs.Tracing.{starting_other, twinning, program_twinning};
-ghost use Rattle.bl_build.specs.Working.{contents_in, speculated_in};
+ghost use Rattle.bl_job.specs.Jobs.{AreRead};
+ghost use Rattle.bl_app.specs.Twinning.{TwinPlans, twin_job, twin_status, twinned_in};
+ghost use Rattle.bl_job.specs.Working.{IsDoneBehind, IsWork, plan_in, read_in, contents_in};
+ghost use Rattle.bl_build.specs.Tracing.{program_twinning};
+ghost use Rattle.bl_build.specs.Working.{speculated_in};
 ghost use Rattle.bl_words.specs.Words.{twin_in};
 
-use crate::job::{Plan, Read};
-use crate::status::Status;
 use bl_base::{NoMemory, Quantity, Start};
-use bl_build::{Speculation, WorkError, prepare_speculation, read_entry_start, read_image};
+use bl_build::{Speculation, prepare_speculation, read_entry_start, read_image};
 use bl_cmd::WellFormed;
+use bl_job::{Plan, Read, Status, WorkError, four_files, list_reads};
 use bl_twin::{Comparison, compare_runs};
 use bl_words::TwinWords;
 use std::alloc::Global;
@@ -21,24 +20,15 @@ use std::alloc::Global;
 pub fn twin_reads<'a>(alloc: Global, words: &TwinWords<'a>) -> Result<Vec<Read<'a>>, NoMemory>
     ensures { IfOk result (λ reads. map read_in reads.items ≡ (twin_job (twin_in words.now)).reads) }
 {
-    let mut reads = Vec::new(alloc);
-    reads.push(Read {
-        name: words.image,
-        quantity: Quantity::Image,
-    })?;
-    reads.push(Read {
-        name: words.trace,
-        quantity: Quantity::Trace,
-    })?;
-    reads.push(Read {
-        name: words.start,
-        quantity: Quantity::Start,
-    })?;
-    reads.push(Read {
-        name: words.other_start,
-        quantity: Quantity::Start,
-    })?;
-    Ok(reads)
+    list_reads(
+        alloc,
+        &[
+            (words.image, Quantity::Image),
+            (words.trace, Quantity::Trace),
+            (words.start, Quantity::Start),
+            (words.other_start, Quantity::Start),
+        ],
+    )
 }
 
 /// Printing how two runs of an exported function of an image's program are observed, side by side, from the bytes of a trace file and two
@@ -52,23 +42,7 @@ pub fn twin<'a>(
     requires { AreRead None (twin_job (twin_in words.now)).reads (contents_in contents.now) }
     ensures { IsWork (twin_job (twin_in words.now)) (contents_in contents.now) result }
 {
-    let [image, trace, start, other] = contents else {
-        unreachable!()
-    };
-    twin_image(alloc, words, image, trace, start, other)
-}
-
-/// The same, by the bytes of the image, those of the trace file and those of the two start files.
-fn twin_image<'a>(
-    alloc: Global,
-    words: &TwinWords<'a>,
-    image: &[u8],
-    trace: &[u8],
-    start: &[u8],
-    other: &[u8],
-) -> Result<Plan<'a>, WorkError<'a>>
-    ensures { IsDoneBehind (twinning (twin_in words.now).export trace.now start.now other.now) IsTwinTold image.now result }
-{
+    let (image, trace, start, other) = four_files(contents);
     match read_image(alloc, image) {
         Ok(program) => twin_program(alloc, words, &program, trace, start, other),
         Err(error) => Err(error),
@@ -84,33 +58,17 @@ fn twin_program<'a>(
     start: &[u8],
     other: &[u8],
 ) -> Result<Plan<'a>, WorkError<'a>>
-    ensures { IsDoneBehind (program_twinning (twin_in words.now).export trace.now start.now other.now) IsTwinTold program.now result }
+    ensures { IsDoneBehind (program_twinning (twin_in words.now).export trace.now start.now other.now) TwinPlans program.now result }
 {
-    match prepare_speculation(alloc, program, words.export, trace, start) {
-        Ok(speculation) => twin_speculation(alloc, program, &speculation, other),
-        Err(error) => Err(error),
-    }
-}
-
-/// The same, by the function, the directives and the first start.
-fn twin_speculation<'a>(
-    alloc: Global,
-    program: &WellFormed,
-    speculation: &Speculation<'_>,
-    other: &[u8],
-) -> Result<Plan<'a>, WorkError<'a>>
-    requires exists { slice_get program.now.functions speculation.now.entry.function ≡ Some speculation.now.entry.defined.now }
-    requires fits { IsStart program.now speculation.now.entry.function speculation.now.start }
-    ensures { IsDoneBehind (starting_other other.now) IsTwinTold (speculated_in program.now speculation.now) result }
-{
+    let speculation = match prepare_speculation(alloc, program, words.export, trace, start) {
+        Ok(speculation) => speculation,
+        Err(error) => return Err(error),
+    };
     let other = match read_entry_start(alloc, program, &speculation.entry, other) {
         Ok(other) => other,
         Err(error) => return Err(error),
     };
-    match tell(alloc, program, speculation, &other) {
-        Ok(plan) => Ok(plan),
-        Err(NoMemory) => Err(WorkError::Memory),
-    }
+    Ok(tell(alloc, program, &speculation, &other)?)
 }
 
 /// Takes directives on a function from each of two starts: printing how the runs compare.
@@ -122,7 +80,7 @@ fn tell<'a>(
 ) -> Result<Plan<'a>, NoMemory>
     requires start { IsStart program.now speculation.now.entry.function speculation.now.start }
     requires other { IsStart program.now speculation.now.entry.function other.now }
-    ensures { IfOk result (IsTwinTold (twinned_in (speculated_in program.now speculation.now) other.now)) }
+    ensures { IfOk result (λ plan. TwinPlans (twinned_in (speculated_in program.now speculation.now) other.now) (plan_in plan)) }
 {
     let compared = compare_runs(
         alloc,

@@ -1,20 +1,18 @@
 //! `verify`: from the bytes of an image and of a certificate to the verdicts on them.
 ghost use Rattle.std.specs.Prelude.{◌≡◌, None, IfOk, map};
-ghost use Rattle.bl_app.specs.Jobs.{AreRead};
-ghost use Rattle.bl_app.specs.Verifying.{AreVerdicts, verify_job, verify_plan, verify_status};
-ghost use Rattle.bl_build.specs.Certifying.{certifying, verifying};
-ghost use Rattle.bl_build.specs.Working.{contents_in};
+ghost use Rattle.bl_job.specs.Jobs.{AreRead};
+ghost use Rattle.bl_app.specs.Verifying.{AreVerdicts, VerifyPlans, certified_in, verdicts_in, verify_job, verify_plan, verify_status};
+ghost use Rattle.bl_build.specs.Certifying.{certifying};
+ghost use Rattle.bl_job.specs.Working.{contents_in, IsDoneBehind, IsWork, plan_in, read_in};
 ghost use Rattle.bl_graph.specs.Graphs.{IsGraph};
-ghost use Rattle.bl_app.specs.Working.{IsDoneBehind, IsVerifyTold, IsWork, certified_in, plan_in, read_in, verdicts_in};
 ghost use Rattle.bl_words.specs.Words.{verify_in};
 
-use crate::job::{Plan, Read};
-use crate::status::Status;
 use bl_base::{NoMemory, Quantity};
-use bl_build::{WorkError, read_certificate, read_image};
+use bl_build::{read_certificate, read_image};
 use bl_cmd::WellFormed;
 use bl_ct::{CtVerdict, constant_time};
 use bl_graph::{Certificate, Graph, graph};
+use bl_job::{Plan, Read, Status, WorkError, list_reads, two_files};
 use bl_report::verdicts_text;
 use bl_sct::stability_of;
 use bl_transient::FlowVerdict;
@@ -37,16 +35,13 @@ pub struct Verdicts {
 pub fn verify_reads<'a>(alloc: Global, words: &VerifyWords<'a>) -> Result<Vec<Read<'a>>, NoMemory>
     ensures { IfOk result (λ reads. map read_in reads.items ≡ (verify_job (verify_in words.now)).reads) }
 {
-    let mut reads = Vec::new(alloc);
-    reads.push(Read {
-        name: words.image,
-        quantity: Quantity::Image,
-    })?;
-    reads.push(Read {
-        name: words.certificate,
-        quantity: Quantity::Certificate,
-    })?;
-    Ok(reads)
+    list_reads(
+        alloc,
+        &[
+            (words.image, Quantity::Image),
+            (words.certificate, Quantity::Certificate),
+        ],
+    )
 }
 
 /// Printing the verdicts on an image's program and a certificate; Refused exactly where their bytes are refused. Linear in the bytes and
@@ -59,20 +54,7 @@ pub fn verify<'a>(
     requires { AreRead None (verify_job (verify_in words.now)).reads (contents_in contents.now) }
     ensures { IsWork (verify_job (verify_in words.now)) (contents_in contents.now) result }
 {
-    let [image, certificate] = contents else {
-        unreachable!()
-    };
-    verify_image(alloc, image, certificate)
-}
-
-/// The same, by the bytes of the image and those of the certificate.
-fn verify_image<'a>(
-    alloc: Global,
-    image: &[u8],
-    certificate: &[u8],
-) -> Result<Plan<'a>, WorkError<'a>>
-    ensures { IsDoneBehind (verifying certificate.now) IsVerifyTold image.now result }
-{
+    let (image, certificate) = two_files(contents);
     match read_image(alloc, image) {
         Ok(program) => verify_program(alloc, &program, certificate),
         Err(error) => Err(error),
@@ -85,7 +67,7 @@ fn verify_program<'a>(
     program: &WellFormed,
     certificate: &[u8],
 ) -> Result<Plan<'a>, WorkError<'a>>
-    ensures { IsDoneBehind (certifying certificate.now) IsVerifyTold program.now result }
+    ensures { IsDoneBehind (certifying certificate.now) VerifyPlans program.now result }
 {
     let certificate = match read_certificate(alloc, certificate) {
         Ok(certificate) => certificate,

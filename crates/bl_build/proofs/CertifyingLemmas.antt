@@ -3,11 +3,11 @@ use Rattle.std.proofs.Common.{◌≡◌, ℕ, List, Some, None, refl, ap, sym, �
 use Rattle.bl_cmd.specs.declared.definitions.ProgramParts.{ProgramParts as Program}
 use Rattle.bl_witness.specs.Shapes.{certificate_of, Reads}
 use Rattle.bl_build.specs.Entering.{imaging}
-use Rattle.bl_build.specs.Refusals.{Refusal}
-use Rattle.bl_build.specs.Stages.{IsLawfulStage}
+use Rattle.bl_job.specs.Refusals.{Refusal}
+use Rattle.bl_job.specs.Stages.{IsLawfulStage}
 use Rattle.bl_build.specs.Certifying.{Certified, IsRead, ReadingRefuses, certifying, is_not_json, is_other_shape, verifying}
 use Rattle.bl_build.proofs.EnteringLemmas.{imaging_lawful}
-use Rattle.bl_build.proofs.StageLemmas.{chain_lawful}
+use Rattle.bl_job.proofs.StageLemmas.{chain_lawful}
 use Rattle.std.specs.Prelude.{Err}
 use Rattle.std.proofs.lemmas.Option.{same_Some}
 use Rattle.bl_witness.specs.declared.error.CertError.{CertError}

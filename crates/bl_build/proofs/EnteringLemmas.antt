@@ -8,9 +8,9 @@ use Rattle.bl_cmd.proofs.Faults.{unbroken}
 use Rattle.bl_image.proofs.Prefixes.{one_program}
 use Rattle.bl_trace.specs.declared.error.StartError.TheVariants.{Line, Count}
 use Rattle.bl_build.specs.Entering.{Entered, Entry, Finds, FindingRefuses, ImagingRefuses, IsImaged, Starts, StartingRefuses, entering, finding, ill_formed, imaging, line_is_bad, no_image, starting, too_few, kinds_of, pages_of}
-use Rattle.bl_build.specs.Refusals.{Refusal, bad_line, broken_rule, few_arguments}
-use Rattle.bl_build.specs.Stages.{IsLawfulStage, chain}
-use Rattle.bl_build.proofs.StageLemmas.{chain_lawful}
+use Rattle.bl_job.specs.Refusals.{Refusal, bad_line, broken_rule, few_arguments}
+use Rattle.bl_job.specs.Stages.{IsLawfulStage, chain}
+use Rattle.bl_job.proofs.StageLemmas.{chain_lawful}
 use Rattle.bl_base.specs.declared.names.ValueType.{ValueType}
 use Rattle.bl_base.specs.declared.start.Start.{Start}
 use Rattle.bl_image.specs.Reading.{IsReason}
@@ -19,7 +19,8 @@ use Rattle.bl_image.specs.declared.error.ImageError.TheVariants as image_reason
 use Rattle.bl_trace.specs.StartFiles.{IsAnswer, answer_of}
 use Rattle.bl_trace.specs.declared.error.StartError.{StartError}
 use Rattle.bl_trace.specs.declared.error.StartError.TheVariants as start_reason
-use Rattle.bl_build.specs.Working.{IsStaged, entered_in, image_error, start_error}
+use Rattle.bl_job.specs.Working.{IsStaged}
+use Rattle.bl_build.specs.Working.{entered_in, image_error, start_error}
 
 -- ---- images
 

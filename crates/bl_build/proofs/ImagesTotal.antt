@@ -21,8 +21,8 @@ use Rattle.bl_witness.specs.Shapes.{certificate_of}
 use Rattle.bl_build.specs.Certifying.{certifying, is_not_json, is_other_shape, verifying}
 use Rattle.bl_build.specs.Entering.{Entry, FindingRefuses, Finds, entering, finding, function_named, ill_formed, imaging, kinds_of, line_is_bad, no_image, pages_of, starting, too_few}
 use Rattle.bl_build.specs.Tracing.{Traced, Traces, TracingRefuses, no_directive, speculating, program_speculating, starting_other, starting_traced, too_many, tracing, twinning, program_twinning}
-use Rattle.bl_build.specs.Refusals.{Refusal, bad_directive, bad_line, broken_rule, few_arguments, limit, no_export, not_an_image, not_json, other_shape}
-use Rattle.bl_build.specs.Stages.{Anything, IsTotalStage, chain}
+use Rattle.bl_job.specs.Refusals.{Refusal, bad_directive, bad_line, broken_rule, few_arguments, limit, no_export, not_an_image, not_json, other_shape}
+use Rattle.bl_job.specs.Stages.{Anything, IsTotalStage, chain}
 use Rattle.bl_build.proofs.Classical.{NotFalse, all_of, some_first}
 use Rattle.bl_build.proofs.EntryLemmas.{named_exists}
 use Rattle.bl_build.proofs.ModulesTotal.{chain_total}

@@ -11,10 +11,10 @@ use Rattle.bl_trace.specs.declared.error.StartError.TheVariants.{Line, Count, Me
 use Rattle.bl_wasm.specs.Linked.{type_of}
 use Rattle.bl_build.specs.Running.{preparing, Invoked, Invokes, InvokingRefuses, invoking, line_is_bad, not_exported, sizes_of, too_few}
 use Rattle.bl_build.specs.Loading.{loading}
-use Rattle.bl_build.specs.Refusals.{Refusal, bad_line, few_arguments}
-use Rattle.bl_build.specs.Stages.{IsLawfulStage}
+use Rattle.bl_job.specs.Refusals.{Refusal, bad_line, few_arguments}
+use Rattle.bl_job.specs.Stages.{IsLawfulStage}
 use Rattle.bl_build.proofs.LoadingLemmas.{loading_lawful}
-use Rattle.bl_build.proofs.StageLemmas.{chain_lawful}
+use Rattle.bl_job.proofs.StageLemmas.{chain_lawful}
 use Rattle.std.specs.List.{All}
 use Rattle.std.specs.Str.{bytes_eq}
 use Rattle.std.proofs.lemmas.List.Elements.{All-head, All-tail}
@@ -22,7 +22,8 @@ use Rattle.std.proofs.lemmas.Option.{same_Some}
 use Rattle.bl_base.specs.Fits.{Fits}
 use Rattle.bl_wasm.specs.declared.linked.Function.{Function}
 use Rattle.bl_reduce.specs.Outcomes.{IsStart}
-use Rattle.bl_build.specs.Working.{IsStaged, start_error}
+use Rattle.bl_job.specs.Working.{IsStaged}
+use Rattle.bl_build.specs.Working.{start_error}
 
 module _ (export bytes : List ℕ) (tree : Tree) where
   -- an exported name has one type

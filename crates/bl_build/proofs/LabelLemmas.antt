@@ -10,7 +10,7 @@ use Rattle.bl_labels.specs.declared.error.LabelError.{LabelError}
 use Rattle.bl_labels.specs.declared.error.LabelError.TheVariants as label
 use Rattle.bl_labels.specs.declared.labels.Labels.{Labels}
 use Rattle.bl_build.specs.Loading.{AreTold, fault_of}
-use Rattle.bl_build.specs.declared.refusal.LabelFault.{LabelFault}
+use Rattle.bl_job.specs.declared.refusal.LabelFault.{LabelFault}
 
 -- an answer that isn't want of memory
 abbrev IsTold : Result Labels LabelError → Type 0

@@ -9,6 +9,7 @@ pub mod HardeningExists
 pub mod ImagesExist
 pub mod ImagesTotal
 pub mod InvokingLemmas
+pub mod JudgedCertificates
 pub mod JudgedPrograms
 pub mod LabelLemmas
 pub mod LinkLemmas
@@ -22,7 +23,6 @@ pub mod OneVerdict
 pub mod Readings
 pub mod Rows
 pub mod SpeculationLemmas
-pub mod StageLemmas
 pub mod TracingLemmas
 pub mod VerdictsTotal
 pub mod WidthsLemmas

@@ -10,15 +10,16 @@ use Rattle.bl_decode.specs.Decoding.{Answers}
 use Rattle.bl_decode.specs.declared.error.DecodeError.{DecodeError}
 use Rattle.bl_labels.specs.Faults.{IsConsistent}
 use Rattle.bl_build.specs.Loading.{LabelledModule, Named, Part, decoding, parts_of}
-use Rattle.bl_words.specs.Requests.{module_name}
-use Rattle.bl_build.specs.Stages.{Stage, at_first, at_second, chain, each}
-use Rattle.bl_build.specs.Working.{IsStaged, contents_in, decoding_error, ready_in, refusal_in, spelled_in}
+use Rattle.bl_text.specs.Names.{module_name}
+use Rattle.bl_job.specs.Stages.{Stage, at_first, at_second, chain, each}
+use Rattle.bl_job.specs.Working.{IsStaged, contents_in, refusal_in}
+use Rattle.bl_build.specs.Working.{decoding_error, ready_in, spelled_in}
 use Rattle.bl_build.specs.declared.loading.Ready.{Ready}
 use Rattle.bl_build.specs.declared.loading.Spelled.{Spelled}
-use Rattle.bl_build.specs.declared.refusal.WorkError.{WorkError}
-use Rattle.bl_build.specs.declared.refusal.WorkError.TheVariants as error
+use Rattle.bl_job.specs.declared.refusal.WorkError.{WorkError}
+use Rattle.bl_job.specs.declared.refusal.WorkError.TheVariants as error
 use Rattle.bl_build.proofs.Readings.{decoded}
-use Rattle.bl_build.proofs.StageLemmas.{Goes, goes_on, goes_refused}
+use Rattle.bl_job.proofs.StageLemmas.{Goes, goes_on, goes_refused}
 
 -- the words
 abbrev pub words_in : List (Bor (List ℕ)) → List (List ℕ)

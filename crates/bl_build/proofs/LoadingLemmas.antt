@@ -19,10 +19,10 @@ use Rattle.bl_link.specs.Links.{links}
 use Rattle.bl_link.specs.declared.error.LinkError.{LinkError}
 use Rattle.bl_link.specs.declared.error.LinkError.TheVariants.{Unknown, Mismatch, ElementRange, DataRange, Limit, Memory}
 use Rattle.bl_build.specs.Loading.{Accepted, AreTold, Decodes, DecodingRefuses, IsPassed, IsRefusalOf, LabelledModule, Named, Part, Links, LinkingRefuses, ReadsLabels, decoding, excess, labelling, linked_parts, linking, loading, no_module, not_supported, validation, unknown, mismatched, element, segment, too_large}
-use Rattle.bl_build.specs.Refusals.{Refusal, bad_labels, data_range, element_range, invalid_function, limit, mismatched_import, unknown_import}
-use Rattle.bl_build.specs.Stages.{AllPass, IsLawfulStage, chain, each}
+use Rattle.bl_job.specs.Refusals.{Refusal, bad_labels, data_range, element_range, invalid_function, limit, mismatched_import, unknown_import}
+use Rattle.bl_job.specs.Stages.{AllPass, IsLawfulStage, chain, each}
 use Rattle.bl_build.proofs.LabelLemmas.{labels_or_fault, one_fault, one_labels}
-use Rattle.bl_build.proofs.StageLemmas.{chain_lawful, each_lawful}
+use Rattle.bl_job.proofs.StageLemmas.{chain_lawful, each_lawful}
 
 -- ---- decoding
 

@@ -5,7 +5,7 @@ use Rattle.std.specs.List.{All, AllZip}
 use Rattle.std.proofs.lemmas.Bool.{false≢true}
 use Rattle.std.proofs.lemmas.List.{length-map}
 use Rattle.std.proofs.lemmas.List.Elements.{All-cons, All-head, All-nil, All-tail}
-use Rattle.bl_base.proofs.Lists.{all_get, within_get, zip_get}
+use Rattle.bl_base.proofs.Lists.{all_get, within_get, zip_get, mapped_get}
 use Rattle.bl_base.specs.Fits.{AreBytes}
 use Rattle.bl_base.specs.Quantity.{limit_of}
 use Rattle.bl_base.specs.declared.quantity.Quantity.TheVariants as quantity
@@ -27,11 +27,10 @@ use Rattle.bl_link.specs.declared.part.Part.{Part as LinkPart}
 use Rattle.bl_link.proofs.FaultLemmas.{faults_name_parts, memory_is_no_fault}
 use Rattle.bl_link.proofs.SpelledParts.{labelled_part}
 use Rattle.bl_link.proofs.Whole.{linked}
-use Rattle.bl_base.proofs.Lists.{mapped_get}
 use Rattle.bl_build.specs.Loading.{AreLoadable, IsLoadable, LabelledModule, LinkingRefuses, Links, Named, Part, decoding, element, labelling, linked_parts, linking, loading, mismatched, segment, too_large, unknown, validation}
-use Rattle.bl_build.specs.Refusals.{Refusal, bad_line, data_range, element_range, few_arguments, limit, mismatched_import, no_export, unknown_import}
+use Rattle.bl_job.specs.Refusals.{Refusal, bad_line, data_range, element_range, few_arguments, limit, mismatched_import, no_export, unknown_import}
 use Rattle.bl_build.specs.Running.{Invoked, Invokes, InvokingRefuses, invoking, line_is_bad, not_exported, preparing, sizes_of, too_few}
-use Rattle.bl_build.specs.Stages.{AllPass, Anything, IsTotalStage, Stage, chain, each}
+use Rattle.bl_job.specs.Stages.{AllPass, Anything, IsTotalStage, Stage, chain, each}
 use Rattle.bl_build.proofs.ImagesTotal.{answered}
 use Rattle.bl_build.proofs.LoadingLemmas.{IsAccepted, all_accepted}
 use Rattle.bl_build.proofs.ModulesTotal.{chain_total, decoding_total, each_total, labelling_total, validation_total}

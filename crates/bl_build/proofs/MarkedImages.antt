@@ -78,10 +78,6 @@ module _ (set : ℕ → Bool) (program : Program) where
       let other = image_alike bytes h.spelled in
       sym other.2 ∙ ap length (one_image program other.0 own (record { is_program = k.is_program; spelled = other.1 }) k)
 
-  -- the program's own, where there is one with those protects; it has as many bytes
-  pub own_image : IsProgram program → (bytes : List ℕ) → Image (protected set program) bytes → (own : List ℕ) × Image program own × (length own ≡ length bytes)
-  own_image facts bytes h = let other = image_alike bytes h.spelled in (other.0, record { is_program = facts; spelled = other.1 }, other.2)
-
 -- ---- the other way
 
 mark_on : (b : Bool) (m : Mark) (bytes : List ℕ) → mark m bytes → Alike (mark (guarded b m)) bytes

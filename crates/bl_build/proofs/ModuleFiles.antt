@@ -10,13 +10,13 @@ use Rattle.bl_base.specs.declared.quantity.Quantity.TheVariants as quantity
 use Rattle.bl_cmd.specs.Rules.{IsWellFormed}
 use Rattle.bl_image.specs.Image.{Image}
 use Rattle.bl_lower.proofs.WellFormed.{rules}
-use Rattle.bl_words.proofs.ModuleNames.{no_solidus}
-use Rattle.bl_words.specs.Requests.{AreNamedApart, module_name}
+use Rattle.bl_text.proofs.ModuleNames.{no_solidus}
+use Rattle.bl_text.specs.Names.{AreNamedApart, module_name}
 use Rattle.bl_build.specs.Building.{AreCompilable, Built, compiling}
 use Rattle.bl_build.specs.Hardening.{Hardened, IsHardened}
 use Rattle.bl_build.specs.Loading.{AreLoadable, AreShort, IsLoadable, Part, parts_of}
-use Rattle.bl_build.specs.Refusals.{Refusal}
-use Rattle.bl_build.proofs.BuildLemmas.{compiling_total}
+use Rattle.bl_job.specs.Refusals.{Refusal}
+use Rattle.bl_build.proofs.BuildLemmas.{builds_of, compiling_total}
 use Rattle.bl_build.proofs.HardeningExists.{some_hardened}
 
 -- ---- modules in files can be loaded
@@ -97,7 +97,7 @@ pub hardening_total : (parts : List Part) → AreCompilable parts → ((refusal 
     → ((built : Built) (hardened : Hardened) → compiling.Passes parts built → IsHardened built.program hardened → ⊥) → ⊥
 hardening_total parts given refused made =
     compiling_total.always parts given (λ built compiled.
-    let builds = compiled.2 in
+    let builds = builds_of compiled.0 built compiled.2 in
     let own = subst (λ p. Image p built.image) (sym builds.is_program) builds.image in
     let wells = subst IsWellFormed (sym builds.is_program) (rules compiled.0 compiled.1.2.2.2.can_run builds.few) in
     some_hardened built.program built.image wells own (λ hardened is. made built hardened compiled is)) refused

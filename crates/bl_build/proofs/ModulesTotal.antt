@@ -17,10 +17,10 @@ use Rattle.bl_labels.specs.declared.error.LabelError.TheVariants as label_error
 use Rattle.bl_labels.specs.declared.labels.Labels.{Labels}
 use Rattle.bl_validate.specs.declared.verdict.Invalid.TheVariants as reason
 use Rattle.bl_build.specs.Loading.{DecodingRefuses, Decodes, Named, Part, decoding, excess, fault_of, labelling, no_module, not_supported, validation}
-use Rattle.bl_build.specs.Refusals.{Refusal, bad_labels, invalid_function, invalid_module, limit, malformed, unsupported}
-use Rattle.bl_build.specs.Stages.{AllPass, Anything, FirstRefused, IsTotalStage, Stage, at_first, at_second, chain, each}
-use Rattle.bl_build.specs.declared.refusal.LabelFault.{LabelFault}
-use Rattle.bl_build.specs.declared.refusal.LabelFault.TheVariants as label_fault
+use Rattle.bl_job.specs.Refusals.{Refusal, bad_labels, invalid_function, invalid_module, limit, malformed, unsupported}
+use Rattle.bl_job.specs.Stages.{AllPass, Anything, FirstRefused, IsTotalStage, Stage, at_first, at_second, chain, each}
+use Rattle.bl_job.specs.declared.refusal.LabelFault.{LabelFault}
+use Rattle.bl_job.specs.declared.refusal.LabelFault.TheVariants as label_fault
 use Rattle.bl_build.proofs.Classical.{all_or_first}
 use Rattle.bl_labels.proofs.FaultLemmas.{never_memory}
 

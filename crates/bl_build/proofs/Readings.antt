@@ -21,13 +21,14 @@ use Rattle.bl_labels.specs.declared.error.LabelError.TheVariants as label
 use Rattle.bl_link.specs.declared.error.LinkError.{LinkError}
 use Rattle.bl_link.specs.declared.error.LinkError.TheVariants as link
 use Rattle.bl_build.specs.Loading.{AreTold, Decodes, LabelledModule, Named, Part, decoding, excess, labelling, linked_parts, linking, no_module, not_supported, validation, unknown, mismatched, element, segment, too_large}
-use Rattle.bl_build.specs.Refusals.{data_range, element_range, mismatched_import, unknown_import}
-use Rattle.bl_build.specs.Stages.{each}
-use Rattle.bl_build.specs.Working.{IsLinkingError, IsStaged, decoding_error, labels_error, ready_in, validation_error}
+use Rattle.bl_job.specs.Refusals.{data_range, element_range, mismatched_import, unknown_import}
+use Rattle.bl_job.specs.Stages.{each}
+use Rattle.bl_job.specs.Working.{IsStaged}
+use Rattle.bl_build.specs.Working.{IsLinkingError, decoding_error, labels_error, ready_in, validation_error}
 use Rattle.bl_build.specs.declared.loading.Ready.{Ready}
-use Rattle.bl_build.specs.declared.refusal.LabelFault.TheVariants as fault
-use Rattle.bl_build.specs.declared.refusal.WorkError.{WorkError}
-use Rattle.bl_build.proofs.StageLemmas.{Goes, goes_refused}
+use Rattle.bl_job.specs.declared.refusal.LabelFault.TheVariants as fault
+use Rattle.bl_job.specs.declared.refusal.WorkError.{WorkError}
+use Rattle.bl_job.proofs.StageLemmas.{Goes, goes_refused}
 
 module _ {X : Type 0} (value : X → List Named) (name : Bor (List ℕ)) where
   module _ (bytes : List ℕ) where

@@ -5,12 +5,13 @@ use Rattle.bl_base.specs.declared.start.Start.{Start}
 use Rattle.bl_cmd.specs.declared.definitions.ProgramParts.{ProgramParts as Program}
 use Rattle.bl_rob.specs.declared.directive.Directive.{Directive}
 use Rattle.bl_build.specs.Entering.{Entry, Finds, Starts, function_named, starting}
-use Rattle.bl_build.specs.Stages.{at_first, at_second}
+use Rattle.bl_job.specs.Stages.{at_first, at_second}
 use Rattle.bl_build.specs.Tracing.{Speculated, program_speculating}
-use Rattle.bl_build.specs.Working.{IsStaged, IsTraced, entered_in}
-use Rattle.bl_build.specs.declared.refusal.Refusal.TheVariants as told
-use Rattle.bl_build.specs.declared.refusal.WorkError.{WorkError}
-use Rattle.bl_build.specs.declared.refusal.WorkError.TheVariants as error
+use Rattle.bl_job.specs.Working.{IsStaged}
+use Rattle.bl_build.specs.Working.{IsTraced, entered_in}
+use Rattle.bl_job.specs.declared.refusal.Refusal.TheVariants as told
+use Rattle.bl_job.specs.declared.refusal.WorkError.{WorkError}
+use Rattle.bl_job.specs.declared.refusal.WorkError.TheVariants as error
 
 module _ {X : Type 0} (value : X → Speculated) (export trace start : List ℕ) (program : Program) where
   -- an export that is absent

@@ -5,11 +5,11 @@ use Rattle.bl_base.specs.Fits.{Fits}
 use Rattle.bl_cmd.specs.Outcomes.{IsStart}
 use Rattle.bl_trace.proofs.Fitting.{answered_fits}
 use Rattle.bl_build.specs.Entering.{Entry, Finds, finding, imaging, kinds_of, pages_of}
-use Rattle.bl_build.specs.Refusals.{Refusal, bad_directive}
+use Rattle.bl_job.specs.Refusals.{Refusal, bad_directive}
 use Rattle.bl_build.specs.Tracing.{Speculated, StartsTraced, Traced, Traces, TracingRefuses, no_directive, speculating, program_speculating, starting_traced, too_many, tracing, StartsOther, Twinned, starting_other, twinning, program_twinning}
-use Rattle.bl_build.specs.Stages.{IsLawfulStage, chain}
+use Rattle.bl_job.specs.Stages.{IsLawfulStage, chain}
 use Rattle.bl_build.proofs.EnteringLemmas.{finding_lawful, imaging_lawful, starting_lawful}
-use Rattle.bl_build.proofs.StageLemmas.{chain_lawful}
+use Rattle.bl_job.proofs.StageLemmas.{chain_lawful}
 use Rattle.bl_base.specs.Quantity.{limit_of}
 use Rattle.bl_base.specs.declared.quantity.Quantity.TheVariants as quantity
 use Rattle.bl_trace.specs.Lines.{lines_of}

@@ -10,8 +10,8 @@ use Rattle.bl_image.specs.Image.{Image}
 use Rattle.bl_lower.specs.Trees.{low_tree}
 use Rattle.bl_build.specs.Loading.{AreLoadable, Part, loading, parts_of}
 use Rattle.bl_build.specs.Meaning.{SameOutcomes}
-use Rattle.bl_build.specs.Refusals.{Refusal, limit}
-use Rattle.bl_build.specs.Stages.{Stage, chain}
+use Rattle.bl_job.specs.Refusals.{Refusal, limit}
+use Rattle.bl_job.specs.Stages.{Stage, chain}
 
 -- a program and its image
 pub record Built : Type 0 where
@@ -29,30 +29,38 @@ pub record Builds (tree : Tree) (built : Built) : Type 0 where
   pub image : Image (low_tree tree) built.image
   pub short : length built.image ≤ limit_of quantity.Image
 
-pub data BuildingRefuses (tree : Tree) (refusal : Refusal) : Type 0 where
-  -- the program has too many commands; their number is told, or the greatest of 64 bits where it is greater
-  many_commands : limit_of quantity.Commands < command_count tree
-      → refusal ≡ limit quantity.Commands (min (command_count tree) (2 ^ 64 - 1))
-      → BuildingRefuses tree refusal
-  -- it has few enough, and its image has too many bytes; their number is told
-  long_image : (image : List ℕ) → command_count tree ≤ limit_of quantity.Commands → Image (low_tree tree) image
-      → limit_of quantity.Image < length image → refusal ≡ limit quantity.Image (length image) → BuildingRefuses tree refusal
-
 -- the program has too many commands; their number is told, or the greatest of 64 bits where it is greater
 pub record HasManyCommands (tree : Tree) (refusal : Refusal) : Type 0 where
   pub many : limit_of quantity.Commands < command_count tree
   pub told : refusal ≡ limit quantity.Commands (min (command_count tree) (2 ^ 64 - 1))
 
--- the program of a linked tree alone
+-- the program of a linked tree
 abbrev pub lowering : Stage Tree Program
 lowering = record {
   Passes = λ tree program. (program ≡ low_tree tree) × (command_count tree ≤ limit_of quantity.Commands);
   Refuses = HasManyCommands;
 }
 
+-- the image is the program's, and has few enough bytes
+pub record IsSized (program : Program) (built : Built) : Type 0 where
+  pub is_program : built.program ≡ program
+  pub image : Image program built.image
+  pub short : length built.image ≤ limit_of quantity.Image
+
+-- the program's image has too many bytes; their number is told
+pub record HasLongImage (program : Program) (refusal : Refusal) : Type 0 where
+  pub bytes : List ℕ
+  pub image : Image program bytes
+  pub long : limit_of quantity.Image < length bytes
+  pub told : refusal ≡ limit quantity.Image (length bytes)
+
+-- a program with its image
+abbrev pub sizing : Stage Program Built
+sizing = record { Passes = IsSized; Refuses = HasLongImage }
+
 -- the program of a linked tree, with its image
 abbrev pub building : Stage Tree Built
-building = record { Passes = Builds; Refuses = BuildingRefuses }
+building = chain lowering sizing
 
 -- that of modules
 abbrev pub compiling : Stage (List Part) Built

@@ -1,12 +1,16 @@
--- From the bytes of an image to its program, with the certificate that the bytes of another file are.
+-- From the bytes of an image to its program, with the certificate that the bytes of another file are; what verdicts on them say.
 use Rattle.std.specs.Prelude.{◌≡◌, ℕ, List, Ok, Err}
 use Rattle.bl_cmd.specs.declared.definitions.ProgramParts.{ProgramParts as Program}
 use Rattle.bl_graph.specs.declared.certificate.Certificate.{Certificate}
+use Rattle.bl_transient.specs.declared.transient.FlowVerdict.{FlowVerdict}
+use Rattle.bl_transient.specs.declared.transient.FlowVerdict.TheVariants as flow
 use Rattle.bl_witness.specs.Shapes.{Reads}
+use Rattle.bl_witness.specs.declared.verdict.CertVerdict.{CertVerdict}
+use Rattle.bl_witness.specs.declared.verdict.CertVerdict.TheVariants as rules
 use Rattle.bl_witness.specs.declared.error.CertError.TheVariants.{NotJson, Shape}
 use Rattle.bl_build.specs.Entering.{imaging}
-use Rattle.bl_build.specs.Refusals.{Refusal, not_json, other_shape}
-use Rattle.bl_build.specs.Stages.{Stage, chain}
+use Rattle.bl_job.specs.Refusals.{Refusal, not_json, other_shape}
+use Rattle.bl_job.specs.Stages.{Stage, chain}
 
 -- a program, and a certificate that is given for it
 pub record Certified : Type 0 where
@@ -30,3 +34,15 @@ certifying bytes = record { Passes = IsRead bytes; Refuses = λ program. Reading
 -- from the bytes of an image to its program, with the certificate that the bytes of another file are
 abbrev pub verifying : List ℕ → Stage (List ℕ) Certified
 verifying certificate = chain imaging (certifying certificate)
+
+-- ---- verdicts
+
+-- the verdict by the rules of certificates says that they are kept
+abbrev pub Certain : CertVerdict → Type 0
+Certain rules.Yes = Unit {0}
+Certain (rules.No rule index) = ⊥
+
+-- the verdict by the transient rules says that they are kept
+abbrev pub Stable : FlowVerdict → Type 0
+Stable (flow.Yes typing) = Unit {0}
+Stable (flow.No position) = ⊥

@@ -11,8 +11,8 @@ use Rattle.bl_image.specs.Image.{Image}
 use Rattle.bl_trace.specs.StartFiles.{answer_of}
 use Rattle.bl_trace.specs.declared.error.StartError.{StartError}
 use Rattle.bl_trace.specs.declared.error.StartError.TheVariants.{Line, Count}
-use Rattle.bl_build.specs.Refusals.{Refusal, not_an_image, broken_rule, no_export, bad_line, few_arguments}
-use Rattle.bl_build.specs.Stages.{Stage, chain}
+use Rattle.bl_job.specs.Refusals.{Refusal, not_an_image, broken_rule, no_export, bad_line, few_arguments}
+use Rattle.bl_job.specs.Stages.{Stage, chain}
 
 -- ---- programs
 

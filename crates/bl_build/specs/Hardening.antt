@@ -17,10 +17,9 @@ use Rattle.bl_graph.specs.SecretChains.{IsSecretChain}
 use Rattle.bl_graph.specs.declared.secret.SecretChain.{SecretChain}
 use Rattle.bl_rob.specs.Observed.{HasEqualObservations}
 use Rattle.bl_report.specs.Reports.{HasReason}
-use Rattle.bl_wasm.specs.declared.linked.Tree.{Tree}
-use Rattle.bl_build.specs.Building.{Built, Builds, BuildingRefuses, compiling}
+use Rattle.bl_build.specs.Building.{Built, compiling}
 use Rattle.bl_build.specs.Loading.{Part}
-use Rattle.bl_build.specs.Stages.{Stage}
+use Rattle.bl_job.specs.Stages.{Stage}
 
 -- a program with protects, a certificate, whether it is constant-time, and the program's image
 pub record Hardened : Type 0 where
@@ -40,14 +39,7 @@ pub record IsHardened (bare : Program) (hardened : Hardened) : Type 0 where
   pub judged : Judges hardened.program hardened.verdict
   pub image : Image hardened.program hardened.image
 
--- hardening the program of a linked tree, which has an image of few enough bytes; what is refused of building it is refused, and no more
-abbrev pub tree_hardening : Stage Tree Hardened
-tree_hardening = record {
-  Passes = λ tree hardened. (built : Built) × Builds tree built × IsHardened built.program hardened;
-  Refuses = BuildingRefuses;
-}
-
--- that of modules
+-- hardening the program of modules, whose image has few enough bytes; what is refused of compiling them is refused, and no more
 abbrev pub hardening : Stage (List Part) Hardened
 hardening = record {
   Passes = λ parts hardened. (built : Built) × compiling.Passes parts built × IsHardened built.program hardened;

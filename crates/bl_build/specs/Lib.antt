@@ -4,9 +4,6 @@ pub mod Entering
 pub mod Hardening
 pub mod Loading
 pub mod Meaning
-pub mod Refusals
 pub mod Running
-pub mod Stages
-pub mod Texts
 pub mod Tracing
 pub mod Working

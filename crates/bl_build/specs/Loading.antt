@@ -25,11 +25,11 @@ use Rattle.bl_link.specs.Linkable.{NoSolidus}
 use Rattle.bl_link.specs.Links.{links, part_of}
 use Rattle.bl_link.specs.declared.part.Part.{Part as LinkPart}
 use Rattle.bl_link.specs.declared.error.LinkError.TheVariants.{Unknown, Mismatch, ElementRange, DataRange, Limit}
-use Rattle.bl_build.specs.Refusals.{Refusal, malformed, invalid_function, invalid_module, unsupported, limit, unknown_import, mismatched_import, element_range, data_range, bad_labels}
-use Rattle.bl_build.specs.declared.refusal.LabelFault.{LabelFault}
-use Rattle.bl_build.specs.declared.refusal.LabelFault.TheVariants as fault
-use Rattle.bl_words.specs.Requests.{module_name}
-use Rattle.bl_build.specs.Stages.{Stage, chain, each}
+use Rattle.bl_job.specs.Refusals.{Refusal, malformed, invalid_function, invalid_module, unsupported, limit, unknown_import, mismatched_import, element_range, data_range, bad_labels}
+use Rattle.bl_job.specs.declared.refusal.LabelFault.{LabelFault}
+use Rattle.bl_job.specs.declared.refusal.LabelFault.TheVariants as fault
+use Rattle.bl_text.specs.Names.{module_name}
+use Rattle.bl_job.specs.Stages.{Stage, chain, each}
 
 -- a module's name and its bytes
 pub record Part : Type 0 where

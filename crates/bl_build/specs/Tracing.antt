@@ -7,8 +7,8 @@ use Rattle.bl_rob.specs.declared.directive.Directive.{Directive}
 use Rattle.bl_trace.specs.Lines.{lines_of}
 use Rattle.bl_trace.specs.Traces.{trace_of}
 use Rattle.bl_build.specs.Entering.{Entered, Entry, Starts, StartingRefuses, finding, imaging}
-use Rattle.bl_build.specs.Refusals.{Refusal, bad_directive, limit}
-use Rattle.bl_build.specs.Stages.{Stage, chain}
+use Rattle.bl_job.specs.Refusals.{Refusal, bad_directive, limit}
+use Rattle.bl_job.specs.Stages.{Stage, chain}
 use Rattle.bl_base.specs.declared.start.Start.{Start}
 
 -- ---- trace files

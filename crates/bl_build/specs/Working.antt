@@ -28,7 +28,7 @@ use Rattle.bl_build.specs.Building.{Built}
 use Rattle.bl_build.specs.Entering.{Entered, Entry}
 use Rattle.bl_build.specs.Hardening.{Hardened}
 use Rattle.bl_build.specs.Loading.{LabelledModule, Named}
-use Rattle.bl_build.specs.Refusals.{Refusal, malformed, invalid_function, invalid_module, unsupported, limit, unknown_import, mismatched_import, element_range, data_range, bad_labels, not_an_image, broken_rule, no_export, not_json, other_shape, bad_directive, bad_line, few_arguments}
+use Rattle.bl_job.specs.Refusals.{Refusal, malformed, invalid_function, invalid_module, unsupported, limit, unknown_import, mismatched_import, element_range, data_range, bad_labels, not_an_image, broken_rule, no_export, not_json, other_shape, bad_directive, bad_line, few_arguments}
 use Rattle.bl_build.specs.Running.{Invoked}
 use Rattle.bl_build.specs.Tracing.{Speculated, TracingRefuses}
 use Rattle.bl_build.specs.Certifying.{ReadingRefuses}
@@ -36,7 +36,7 @@ use Rattle.bl_graph.specs.declared.certificate.Certificate.{Certificate}
 use Rattle.bl_witness.specs.Shapes.{Reads}
 use Rattle.bl_witness.specs.declared.error.CertError.{CertError}
 use Rattle.bl_witness.specs.declared.error.CertError.TheVariants as cert
-use Rattle.bl_build.specs.Stages.{Stage}
+use Rattle.bl_job.specs.Working.{Tells}
 use Rattle.bl_build.specs.declared.build.Built.{Built as BuiltMade}
 use Rattle.bl_build.specs.declared.entry.Entry.{Entry as EntryFound}
 use Rattle.bl_build.specs.declared.harden.Hardened.{Hardened as HardenedMade}
@@ -44,41 +44,12 @@ use Rattle.bl_build.specs.declared.invocation.Invocation.{Invocation}
 use Rattle.bl_build.specs.declared.loading.Checked.{Checked}
 use Rattle.bl_build.specs.declared.loading.Ready.{Ready}
 use Rattle.bl_build.specs.declared.loading.Spelled.{Spelled}
-use Rattle.bl_build.specs.declared.refusal.LabelFault.TheVariants as fault
-use Rattle.bl_build.specs.declared.refusal.Refusal.{Refusal as RefusalTold}
-use Rattle.bl_build.specs.declared.refusal.Refusal.TheVariants as told
-use Rattle.bl_build.specs.declared.refusal.WorkError.{WorkError}
-use Rattle.bl_build.specs.declared.refusal.WorkError.TheVariants as error
+use Rattle.bl_job.specs.declared.refusal.LabelFault.TheVariants as fault
+use Rattle.bl_job.specs.declared.refusal.Refusal.{Refusal as RefusalTold}
+use Rattle.bl_job.specs.declared.refusal.Refusal.TheVariants as told
+use Rattle.bl_job.specs.declared.refusal.WorkError.{WorkError}
+use Rattle.bl_job.specs.declared.refusal.WorkError.TheVariants as error
 use Rattle.bl_build.specs.declared.speculation.Speculation.{Speculation}
-
-abbrev pub contents_in : List (Vec ℕ Global) → List (List ℕ)
-contents_in contents = map (λ bytes. bytes.items) contents
-
-abbrev pub refusal_in : RefusalTold → Refusal
-refusal_in (told.Malformed name) = malformed name.now
-refusal_in (told.InvalidFunction name index) = invalid_function name.now index
-refusal_in (told.InvalidModule name) = invalid_module name.now
-refusal_in (told.Unsupported name) = unsupported name.now
-refusal_in (told.Limit which value) = limit which value
-refusal_in (told.UnknownImport name import) = unknown_import name.now import
-refusal_in (told.MismatchedImport name import) = mismatched_import name.now import
-refusal_in (told.ElementRange name) = element_range name.now
-refusal_in (told.DataRange name) = data_range name.now
-refusal_in (told.BadLabels name wrong) = bad_labels name.now wrong
-refusal_in told.NotAnImage = not_an_image
-refusal_in (told.BrokenRule rule position) = broken_rule rule position
-refusal_in told.NoExport = no_export
-refusal_in told.NotJson = not_json
-refusal_in told.OtherShape = other_shape
-refusal_in (told.BadDirective number) = bad_directive number
-refusal_in (told.BadLine number) = bad_line number
-refusal_in (told.FewArguments count) = few_arguments count
-
--- what a stage gives, or the refusal; nothing is said where there was no memory
-abbrev pub IsStaged : {A B X : Type 0} → Stage A B → (X → B) → A → Result X WorkError → Type 0
-IsStaged stage value a (Ok x) = stage.Passes a (value x)
-IsStaged stage value a (Err (error.Refused refusal)) = stage.Refuses a (refusal_in refusal)
-IsStaged stage value a (Err error.Memory) = Unit {0}
 
 -- modules under their names
 abbrev pub spelled_in : Spelled → Named
@@ -175,17 +146,15 @@ speculated_in program speculation = record {
   directives = speculation.directives;
 }
 
--- the directives of a trace file's bytes, or the refusal; nothing is said where there was no memory
+-- the directives of a trace file's bytes, or why they are refused
 abbrev pub IsTraced : List ℕ → Result (List Directive) WorkError → Type 0
 IsTraced bytes (Ok directives) = (length (lines_of bytes) ≤ limit_of quantity.Directives) × (trace_of bytes ≡ Ok directives)
-IsTraced bytes (Err (error.Refused refusal)) = TracingRefuses bytes (refusal_in refusal)
-IsTraced bytes (Err error.Memory) = Unit {0}
+IsTraced bytes (Err e) = Tells (TracingRefuses bytes) e
 
--- the certificate that bytes are, or the refusal; nothing is said where there was no memory
+-- the certificate that bytes are, or why they are refused
 abbrev pub IsCertificateOf : List ℕ → Result Certificate WorkError → Type 0
 IsCertificateOf bytes (Ok certificate) = Reads bytes (Ok certificate)
-IsCertificateOf bytes (Err (error.Refused refusal)) = ReadingRefuses bytes (refusal_in refusal)
-IsCertificateOf bytes (Err error.Memory) = Unit {0}
+IsCertificateOf bytes (Err e) = Tells (ReadingRefuses bytes) e
 
 -- an error of reading a certificate
 abbrev pub cert_error : CertError → WorkError

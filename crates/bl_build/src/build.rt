@@ -2,16 +2,17 @@
 ghost use Rattle.std.specs.Prelude.{◌≡◌, ◌≤◌, length, map};
 ghost use Rattle.bl_base.specs.Quantity.{limit_of};
 ghost use Rattle.bl_base.specs.declared.quantity.Quantity.TheVariants as quantity;
-ghost use Rattle.bl_build.specs.Building.{building, compiling, lowering};
+ghost use Rattle.bl_build.specs.Building.{building, compiling, lowering, sizing};
 ghost use Rattle.bl_build.specs.Loading.{AreShort, parts_of};
-ghost use Rattle.bl_words.specs.Requests.{AreNamedApart};
-ghost use Rattle.bl_build.specs.Working.{IsStaged, built_in, contents_in};
+ghost use Rattle.bl_text.specs.Names.{AreNamedApart};
+ghost use Rattle.bl_job.specs.Working.{IsStaged, contents_in};
+ghost use Rattle.bl_build.specs.Working.{built_in};
 
 use crate::loading::load;
-use crate::refusal::{Refusal, WorkError};
 use bl_base::{Quantity, Text};
 use bl_cmd::WellFormed;
 use bl_image::encode;
+use bl_job::{Refusal, WorkError};
 use bl_lower::{LowerError, lower};
 use bl_wasm::Linked;
 use std::alloc::Global;
@@ -26,6 +27,13 @@ pub struct Built {
 }
 
 impl Built {
+    /// The program alone.
+    pub fn into_program(self) -> WellFormed
+        ensures { result ≡ self.program }
+    {
+        self.program
+    }
+
     /// The image's bytes.
     pub fn into_image(self) -> Vec<u8>
         ensures { result.items ≡ self.image }
@@ -57,28 +65,14 @@ pub fn compile<'a>(
 fn build<'a>(alloc: Global, linked: Linked) -> Result<Built, WorkError<'a>>
     ensures { IsStaged building built_in linked result }
 {
-    let program = match lowered(alloc, linked) {
-        Ok(program) => program,
-        Err(error) => return Err(error),
-    };
-    // What is known of the program is read with it.
-    let _rules = program.program();
-    let image = encode(alloc, &program)?;
-    let length = image.len() as u64;
-    if length > Quantity::Image.limit() {
-        return Err(WorkError::Refused(Refusal::Limit {
-            which: Quantity::Image,
-            value: length,
-        }));
+    match lowered(alloc, linked) {
+        Ok(program) => sized(alloc, program),
+        Err(error) => Err(error),
     }
-    Ok(Built {
-        program,
-        image: Text::of(image),
-    })
 }
 
 /// The program of a linked tree, which is freed; Refused exactly where the program has too many commands.
-pub(crate) fn lowered<'a>(alloc: Global, linked: Linked) -> Result<WellFormed, WorkError<'a>>
+fn lowered<'a>(alloc: Global, linked: Linked) -> Result<WellFormed, WorkError<'a>>
     ensures { IsStaged lowering (λ program. program) linked result }
 {
     let program = program_of(alloc, &linked);
@@ -92,7 +86,7 @@ fn program_of<'a>(alloc: Global, linked: &Linked) -> Result<WellFormed, WorkErro
 {
     match lower(alloc, linked) {
         Ok(program) => {
-            // What is known of the program is read with it.
+            // Its commands are within their limit by its rules.
             let _rules = program.program();
             Ok(program)
         }
@@ -102,4 +96,22 @@ fn program_of<'a>(alloc: Global, linked: &Linked) -> Result<WellFormed, WorkErro
         })),
         Err(LowerError::Memory) => Err(WorkError::Memory),
     }
+}
+
+/// A program with its image; Refused exactly where the image has too many bytes.
+fn sized<'a>(alloc: Global, program: WellFormed) -> Result<Built, WorkError<'a>>
+    ensures { IsStaged sizing built_in program result }
+{
+    let image = encode(alloc, &program)?;
+    let length = image.len() as u64;
+    if length > Quantity::Image.limit() {
+        return Err(WorkError::Refused(Refusal::Limit {
+            which: Quantity::Image,
+            value: length,
+        }));
+    }
+    Ok(Built {
+        program,
+        image: Text::of(image),
+    })
 }

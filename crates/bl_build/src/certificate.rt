@@ -2,8 +2,8 @@
 ghost use Rattle.std.specs.Prelude.{◌≡◌};
 ghost use Rattle.bl_build.specs.Working.{IsCertificateOf, cert_error};
 
-use crate::refusal::{Refusal, WorkError};
 use bl_graph::Certificate;
+use bl_job::{Refusal, WorkError};
 use bl_witness::{CertError, from_json};
 use std::alloc::Global;
 

@@ -2,8 +2,8 @@
 ghost use Rattle.std.specs.Prelude.{◌≡◌};
 ghost use Rattle.bl_build.specs.Working.{IsTraced, trace_error};
 
-use crate::refusal::{Refusal, WorkError};
 use bl_base::{List, Quantity};
+use bl_job::{Refusal, WorkError};
 use bl_rob::Directive;
 use bl_trace::{TraceError, count_lines, read_trace};
 use std::alloc::Global;

@@ -2,13 +2,14 @@
 ghost use Rattle.std.specs.Prelude.{◌≡◌, IfOk, MatchOption, None, Some, slice_get};
 ghost use Rattle.bl_cmd.specs.Outcomes.{IsStart};
 ghost use Rattle.bl_build.specs.Entering.{Finds, function_named, imaging, kinds_of, pages_of, starting};
-ghost use Rattle.bl_build.specs.Working.{IsStaged, entered_in, entry_in, image_error};
+ghost use Rattle.bl_job.specs.Working.{IsStaged};
+ghost use Rattle.bl_build.specs.Working.{entered_in, entry_in, image_error};
 
-use crate::refusal::{Refusal, WorkError};
 use crate::start::of_start;
 use bl_base::{NoMemory, Start, ValueType};
 use bl_cmd::{ExportDef, FunctionDef, MemoryDef, ProgramParts, WellFormed};
 use bl_image::{ImageError, decode_image};
+use bl_job::{Refusal, WorkError};
 use bl_trace::read_start;
 use std::alloc::Global;
 

@@ -3,11 +3,12 @@ ghost use Rattle.std.specs.Prelude.{◌≡◌, ◌<◌, IfOk, Some, length};
 ghost use Rattle.bl_wasm.specs.Linked.{IsLinked, type_of};
 ghost use Rattle.bl_reduce.specs.Outcomes.{IsStart};
 ghost use Rattle.bl_build.specs.Running.{invoking, sizes_of};
-ghost use Rattle.bl_build.specs.Working.{IsStaged, invoked_in};
+ghost use Rattle.bl_job.specs.Working.{IsStaged};
+ghost use Rattle.bl_build.specs.Working.{invoked_in};
 
-use crate::refusal::{Refusal, WorkError};
 use crate::start::of_start;
 use bl_base::{NoMemory, Start};
+use bl_job::{Refusal, WorkError};
 use bl_trace::read_start;
 use bl_wasm::{Signature, Tree};
 use std::alloc::Global;

@@ -17,7 +17,7 @@ ghost use Rattle.bl_build.specs.Entering.{entering};
 ghost use Rattle.bl_build.specs.Hardening.{Hardened, IsHardened};
 ghost use Rattle.bl_build.specs.Loading.{AreLoadable, loading};
 ghost use Rattle.bl_build.specs.Running.{preparing};
-ghost use Rattle.bl_build.specs.Stages.{Anything, IsLawfulStage, IsTotalStage};
+ghost use Rattle.bl_job.specs.Stages.{Anything, IsLawfulStage, IsTotalStage};
 ghost use Rattle.bl_build.specs.Tracing.{speculating, twinning};
 
 /// Each stage of work on contents makes one thing of them, or refuses them for one reason, and never both.

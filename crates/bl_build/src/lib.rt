@@ -10,7 +10,6 @@ mod harden;
 mod invocation;
 pub mod laws;
 mod loading;
-mod refusal;
 mod speculation;
 mod start;
 
@@ -20,5 +19,4 @@ pub use entry::{Entry, find_entry, read_entry_start, read_image};
 pub use harden::{Hardened, compile_hardened};
 pub use invocation::{Invocation, prepare};
 pub use loading::load;
-pub use refusal::{LabelFault, Refusal, WorkError};
 pub use speculation::{Speculation, prepare_speculation};

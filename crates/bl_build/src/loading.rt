@@ -10,18 +10,19 @@ ghost use Rattle.bl_link.specs.Faults.{NamesPart};
 ghost use Rattle.bl_link.specs.Linkable.{AreParts};
 ghost use Rattle.bl_link.specs.Links.{part_of};
 ghost use Rattle.bl_build.specs.Loading.{AreShort, decoding, labelling, linked_parts, linking, loading, parts_of, validation};
-ghost use Rattle.bl_words.specs.Requests.{AreNamedApart};
-ghost use Rattle.bl_build.specs.Stages.{each};
-ghost use Rattle.bl_build.specs.Working.{IsLinkingError, IsStaged, checked_in, contents_in, decoding_error, labels_error, ready_in, spelled_in, validation_error};
+ghost use Rattle.bl_text.specs.Names.{AreNamedApart};
+ghost use Rattle.bl_job.specs.Stages.{each};
+ghost use Rattle.bl_job.specs.Working.{IsStaged, contents_in};
+ghost use Rattle.bl_build.specs.Working.{IsLinkingError, checked_in, decoding_error, labels_error, ready_in, spelled_in, validation_error};
 
-use crate::refusal::{LabelFault, Refusal, WorkError};
 use bl_base::{List, NoMemory, Text};
 use bl_decode::{DecodeError, decode};
+use bl_job::{LabelFault, Refusal, WorkError};
 use bl_labels::{LabelError, Labels, labels_of};
 use bl_link::{LinkError, Part, link};
+use bl_text::module_name;
 use bl_validate::{Invalid, ValidModule, validate};
 use bl_wasm::{Linked, Module};
-use bl_words::module_name;
 use std::alloc::Global;
 
 /// A module that was decoded, under its name.

@@ -2,13 +2,14 @@
 ghost use Rattle.std.specs.Prelude.{◌≡◌, IfOk, Some, slice_get};
 ghost use Rattle.bl_cmd.specs.Outcomes.{IsStart};
 ghost use Rattle.bl_build.specs.Tracing.{program_speculating};
-ghost use Rattle.bl_build.specs.Working.{IsStaged, speculated_in};
+ghost use Rattle.bl_job.specs.Working.{IsStaged};
+ghost use Rattle.bl_build.specs.Working.{speculated_in};
 
 use crate::directives::read_directives;
 use crate::entry::{Entry, find_entry, read_entry_start};
-use crate::refusal::{Refusal, WorkError};
 use bl_base::{List, Start};
 use bl_cmd::WellFormed;
+use bl_job::{Refusal, WorkError};
 use bl_rob::Directive;
 use std::alloc::Global;
 

@@ -2,7 +2,7 @@
 ghost use Rattle.std.specs.Prelude.{◌≡◌};
 ghost use Rattle.bl_build.specs.Working.{start_error};
 
-use crate::refusal::{Refusal, WorkError};
+use bl_job::{Refusal, WorkError};
 use bl_trace::StartError;
 
 /// Why a function isn't run whose start file gives no start.

@@ -36,7 +36,7 @@ named entry = (string_bytes entry.0, entry.1.items)
 abbrev pub NextFails : Shelved → Type 0
 NextFails shelf = Contains shelf.failing (one_more shelf.calls)
 
--- the shelf after a fetch: one call more, and a read fault where it failed
+-- the shelf after a fetch or a part: one call more, and a read fault where it failed
 abbrev pub after_fetch : {X : Type 0} → Result X ShelfError → Shelved → List ℕ → Shelved
 after_fetch result shelf name = record shelf { calls = one_more shelf.calls; faults = faults_after_fetch result shelf.faults name }
 

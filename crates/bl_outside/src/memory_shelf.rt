@@ -1,8 +1,8 @@
 //! A shelf in memory, whose calls fail by their numbers.
-ghost use Rattle.std.specs.Prelude.{◌≡◌, ◌+◌, ◌≤◌, ◌⊎◌, ◌↔◌, [], None, Some, IsErr, IsTrue, IfOk, OnOk, OnErr, length, take};
+ghost use Rattle.std.specs.Prelude.{◌≡◌, ◌+◌, ◌≤◌, ◌⊎◌, ◌↔◌, [], None, Some, IsErr, IsTrue, IfOk, OnOk, OnErr, length, take, drop};
 ghost use Rattle.std.specs.FinMap as fin;
 ghost use Rattle.std.specs.Option.{option_map};
-ghost use Rattle.bl_outside.specs.Shelf.{FetchFaults, KeepFaults, ReadFails, WriteFails, Gives, with_file};
+ghost use Rattle.bl_outside.specs.Shelf.{FetchFaults, KeepFaults, ReadFails, WriteFails, Gives, GivesPart, most_asked, with_file};
 ghost use Rattle.bl_outside.specs.Faults.{one_more};
 ghost use Rattle.bl_outside.specs.MemoryShelf.{NextFails, after_fetch, after_keep};
 
@@ -12,7 +12,7 @@ use std::alloc::Global;
 use std::collections::BTreeMap;
 use std::marker::Model;
 
-/// Files in an ordered map. The calls of `fetch` and `keep` are numbered together from 1, and those
+/// Files in an ordered map. The calls of `fetch`, `part` and `keep` are numbered together from 1, and those
 /// whose numbers are in a list fail. The number of a call stays at 2^64 - 1 once it is there.
 #[derive(Drop)]
 pub struct MemoryShelf {
@@ -109,18 +109,16 @@ impl MemoryShelf {
     }
 }
 
-/// A copy of the first bytes, at most so many and one more.
-fn front_of(alloc: Global, bytes: &[u8], most: u64) -> Result<Vec<u8>, ShelfError>
-    ensures ok { IfOk result (λ front. front.items ≡ take (most + 1) bytes.now) }
+/// A copy of the bytes from a place on, at most so many; none where they end there or before.
+fn piece_of(alloc: Global, bytes: &[u8], from: u64, most: u64) -> Result<Vec<u8>, ShelfError>
+    ensures ok { IfOk result (λ piece. piece.items ≡ take most (drop from bytes.now)) }
     ensures err { OnErr result (result ≡ Err ShelfError.Memory) }
 {
-    let count = if most < bytes.len() as u64 {
-        most as usize + 1
-    } else {
-        bytes.len()
-    };
-    match bytes[..count].to_vec(alloc) {
-        Ok(front) => Ok(front),
+    let from = from.min(bytes.len() as u64) as usize;
+    let rest = &bytes[from..];
+    let count = most.min(rest.len() as u64) as usize;
+    match rest[..count].to_vec(alloc) {
+        Ok(piece) => Ok(piece),
         Err(_) => Err(ShelfError::Memory),
     }
 }
@@ -131,6 +129,7 @@ impl Shelf for MemoryShelf {
     ghost faults = { λ s. s.faults };
 
     fn fetch(&mut self, name: &str, most: u64) -> Result<Vec<u8>, ShelfError>
+        requires asked { most ≤ most_asked }
         ensures bound { IfOk result (λ bytes. length bytes.items ≤ most + 1) }
         ensures found { IfOk result (λ bytes. Gives (Some self.old.files) name.now most bytes.items) }
         ensures files { Some self.new.files ≡ Some self.old.files }
@@ -145,7 +144,29 @@ impl Shelf for MemoryShelf {
         let noted = Text::copy_of(self.alloc, name.as_bytes())?;
         if !fails {
             if let Some(bytes) = self.entry(name) {
-                return front_of(self.alloc, bytes, most);
+                return piece_of(self.alloc, bytes, 0, most + 1);
+            }
+        }
+        self.count_read_fault(noted);
+        Err(ShelfError::Failed)
+    }
+
+    fn part(&mut self, name: &str, from: u64, most: u64) -> Result<Vec<u8>, ShelfError>
+        ensures bound { IfOk result (λ bytes. length bytes.items ≤ most) }
+        ensures found { IfOk result (λ bytes. GivesPart (Some self.old.files) name.now from most bytes.items) }
+        ensures files { Some self.new.files ≡ Some self.old.files }
+        ensures faults { FetchFaults result self.old.faults self.new.faults name.now }
+
+        // The whole shelf after the call, and when it fails.
+        ensures shelf { self.new ≡ after_fetch result self.old name.now }
+        ensures failed { result ≡ Err ShelfError.Failed → NextFails self.old ⊎ (fin.get self.old.files name.now ≡ None) }
+        ensures fails { NextFails self.old → IsErr result }
+    {
+        let fails = self.next_call();
+        let noted = Text::copy_of(self.alloc, name.as_bytes())?;
+        if !fails {
+            if let Some(bytes) = self.entry(name) {
+                return piece_of(self.alloc, bytes, from, most);
             }
         }
         self.count_read_fault(noted);

@@ -10,11 +10,13 @@ use std::alloc::Global;
 use std::marker::Model;
 
 /// The bytes that were pushed. A push takes as many bytes of its piece as both the limit and the
-/// reserved room leave, and is a fault where they leave none of a piece that isn't empty.
+/// reserved room leave, and is a fault where they leave none of a piece that isn't empty. A narrow sink
+/// takes no more than so many bytes at a push.
 #[derive(Drop)]
 pub struct MemorySink {
     taken: Vec<u8>,
     limit: Option<u64>,
+    most: Option<u64>,
     room: u64,
     faults: u64,
 }
@@ -25,7 +27,7 @@ impl Model for MemorySink {
 
     ghost Value = { Held };
 
-    ghost view = { λ s. record { taken = s.taken.items; limit = s.limit; room = s.room; faults = s.faults } };
+    ghost view = { λ s. record { taken = s.taken.items; limit = s.limit; most = s.most; room = s.room; faults = s.faults } };
 
     ghost invariant = { λ s. length s.taken.items + s.room ≤ vec_capacity s.taken };
 }
@@ -34,11 +36,26 @@ impl MemorySink {
     /// A sink that has taken nothing and has no room, which takes at most that many bytes in all; None
     /// sets no limit. Takes no memory.
     pub fn new(alloc: Global, limit: Option<u64>) -> MemorySink
-        ensures { result ≡ record { taken = []; limit = limit; room = 0; faults = 0 } }
+        ensures { result ≡ record { taken = []; limit = limit; most = None; room = 0; faults = 0 } }
     {
         MemorySink {
             taken: Vec::new(alloc),
             limit,
+            most: None,
+            room: 0,
+            faults: 0,
+        }
+    }
+
+    /// The same, but a push takes at most `most` bytes. Takes no memory.
+    pub fn narrow(alloc: Global, most: u64, limit: Option<u64>) -> MemorySink
+        requires { 0 < most }
+        ensures { result ≡ record { taken = []; limit = limit; most = Some most; room = 0; faults = 0 } }
+    {
+        MemorySink {
+            taken: Vec::new(alloc),
+            limit,
+            most: Some(most),
             room: 0,
             faults: 0,
         }
@@ -66,9 +83,13 @@ impl MemorySink {
         ensures { result ≡ accepted self.now count }
     {
         let room = self.room.min(count as u64);
-        let count = match self.limit {
-            Some(limit) => room.min(limit.saturating_sub(self.taken.len() as u64)),
+        let most = match self.most {
+            Some(most) => room.min(most),
             None => room,
+        };
+        let count = match self.limit {
+            Some(limit) => most.min(limit.saturating_sub(self.taken.len() as u64)),
+            None => most,
         };
         count as usize
     }

@@ -1,6 +1,6 @@
 //! Named files.
-ghost use Rattle.std.specs.Prelude.{◌≡◌, ◌+◌, ◌≤◌, Option, length, IfOk, OnOk, OnErr};
-ghost use Rattle.bl_outside.specs.Shelf.{Files, Faults, FetchFaults, KeepFaults, Gives, with_file};
+ghost use Rattle.std.specs.Prelude.{◌≡◌, ◌+◌, ◌<◌, ◌≤◌, Option, length, IfOk, OnOk, OnErr};
+ghost use Rattle.bl_outside.specs.Shelf.{Files, Faults, FetchFaults, KeepFaults, Gives, GivesPart, most_asked, with_file};
 ghost use Rattle.bl_outside.specs.declared.shelf.ShelfError.TheVariants.{Memory};
 
 use bl_base::NoMemory;
@@ -38,8 +38,19 @@ pub trait Shelf {
     /// whether the entry is longer than `most`. Failed comes only with a read fault, as at a name that
     /// is absent; Memory may always come. No entry changes, whatever the answer.
     fn fetch(&mut self, name: &str, most: u64) -> Result<Vec<u8>, ShelfError>
+        requires asked { most ≤ most_asked }
         ensures bound { IfOk result (λ bytes. length bytes.items ≤ most + 1) }
         ensures found { IfOk result (λ bytes. Gives (files self.old) name.now most bytes.items) }
+        ensures files { files self.new ≡ files self.old }
+        ensures faults { FetchFaults result (faults self.old) (faults self.new) name.now };
+
+    /// The bytes of the entry of that name from place `from` on, at most `most`; none where the entry ends there or before. Failed
+    /// comes only with a read fault, as at a name that is absent; Memory may always come. No entry changes, whatever the answer.
+    fn part(&mut self, name: &str, from: u64, most: u64) -> Result<Vec<u8>, ShelfError>
+        requires some { 0 < most }
+        requires asked { from + most ≤ most_asked }
+        ensures bound { IfOk result (λ bytes. length bytes.items ≤ most) }
+        ensures found { IfOk result (λ bytes. GivesPart (files self.old) name.now from most bytes.items) }
         ensures files { files self.new ≡ files self.old }
         ensures faults { FetchFaults result (faults self.old) (faults self.new) name.now };
 

@@ -10,43 +10,55 @@ use Rattle.bl_cmd.specs.Rules.{IsWellFormed}
 use Rattle.bl_cmd.specs.declared.definitions.ProgramParts.{ProgramParts as Program}
 use Rattle.bl_seq.specs.Endings.{IsWhole, memories_at, memories_of}
 use Rattle.bl_seq.proofs.Ending.{ends_whole}
-use Rattle.bl_rob.specs.CallResults.{Executes, Steps}
-use Rattle.bl_rob.specs.Machines.{State, end_in, opening, outcome_by}
-use Rattle.bl_rob.specs.Observed.{HasEnded, IsConsistent_by}
-use Rattle.bl_rob.specs.Reached.{IsReached, DirectivesLead, more, stays}
+use Rattle.bl_rob.specs.CallResults.{Comes_by}
+use Rattle.bl_rob.specs.Machines.{State, directive_step, end_in, opening, outcome_by}
+use Rattle.bl_rob.specs.Observed.{Rules, HasEnded, IsConsistent_by}
+use Rattle.bl_rob.specs.Reached.{IsReachedBy, DirectivesLead, more, stays}
 use Rattle.bl_rob.specs.declared.directive.Directive.{Directive}
 use Rattle.bl_rob.specs.declared.directive.End.{End}
 use Rattle.bl_rob.specs.declared.directive.End.TheVariants as ending
-use Rattle.bl_rob.specs.declared.directive.Observation.{Observation}
 use Rattle.bl_rob.specs.declared.directive.StepError.{StepError}
 use Rattle.bl_rob.specs.declared.directive.StepError.TheVariants.{NotEnabled, Memory}
 use Rattle.bl_rob.proofs.Keeps.{Holds, Kept, kept_consistent, opening_kept, step_ok}
 
-module _ (most : ℕ) (program : Program) where
+module _ {O : Type 0} (rules : Rules O) (program : Program) where
   -- the opening is reached
-  pub opened : (function : ℕ) (start : Start) (s : State) → IsStart program function start → s ≡ opening program function start → IsReached most program s
+  pub opened : (function : ℕ) (start : Start) (s : State) → IsStart program function start → s ≡ opening program function start → IsReachedBy rules program s
   opened function start s fits is =
-      record { function = function; start = start; fits = fits; leads = subst (DirectivesLead most program (opening program function start)) (sym is) stays }
+      record { function = function; start = start; fits = fits; leads = subst (DirectivesLead rules (opening program function start)) (sym is) stays }
 
   -- what a step leaves is reached
-  pub steps_reach : (old new : State) (d : Directive) (result : Result Observation StepError) → IsReached most program old → Steps most program d old result new → IsReached most program new
-  steps_reach old new d (Ok observation) r h = record { function = r.function; start = r.start; fits = r.fits; leads = more old new d observation r.leads h }
-  steps_reach old new d (Err NotEnabled) r h = subst (IsReached most program) (sym h.1) r
-  steps_reach old new d (Err Memory) r h = subst (IsReached most program) (sym h.1) r
+  pub steps_reach : (old new : State) (d : Directive) (needs : Type 0) (result : Result O StepError) → IsReachedBy rules program old
+      → Comes_by (rules old d) needs old result new → IsReachedBy rules program new
+  steps_reach old new d needs (Ok observation) r h = record { function = r.function; start = r.start; fits = r.fits; leads = more old new d observation r.leads h }
+  steps_reach old new d needs (Err NotEnabled) r h = subst (IsReachedBy rules program) (sym h.1) r
+  steps_reach old new d needs (Err Memory) r h = subst (IsReachedBy rules program) (sym h.1) r
 
-  module _ (function : ℕ) (start : Start) where
-    kept : (s : State) → DirectivesLead most program (opening program function start) s → Kept program (plain_opening program function start) s
-    kept _ stays = opening_kept program function start
-    kept _ (more s t d observation leads is) = subst (Holds (Kept program (plain_opening program function start))) is (step_ok program (plain_opening program function start) most s d (kept s leads))
+  -- each directive keeps the buffer along the plain run of a start that fits
+  abbrev pub KeepAll : Type 0
+  KeepAll = (function : ℕ) (start : Start) → IsStart program function start → (s : State) (d : Directive)
+      → Kept program (plain_opening program function start) s → Holds (Kept program (plain_opening program function start)) (rules s d)
 
-  -- the memories of an outcome
-  same_memories : (s : State) (end : End) → All IsWhole (memories_at (outcome_by program s end)) → All IsWhole (memories_of program s.registers s.space)
-  same_memories s ending.Returned whole = whole
-  same_memories s (ending.Trapped kind) whole = whole
+  module _ (keeps : KeepAll) where
+    kept : (function : ℕ) (start : Start) → IsStart program function start → (s : State) → DirectivesLead rules (opening program function start) s
+        → Kept program (plain_opening program function start) s
+    kept function start fits _ stays = opening_kept program function start
+    kept function start fits _ (more s t d observation leads is) =
+        subst (Holds (Kept program (plain_opening program function start))) is (keeps function start fits s d (kept function start fits s leads))
 
-  -- where a machine has ended, each memory has all its bytes
-  pub whole_memories : IsProgram program → IsWellFormed program → (s : State) → IsReached most program s → (end : End) → end_in s ≡ Some end → All IsWhole (memories_of program s.registers s.space)
-  whole_memories facts rules s r end is =
-      let from = plain_opening program r.function r.start in
-      let ended : HasEnded program from s end s.retired = subst (IsConsistent_by program from s) is (kept_consistent program from s (kept r.function r.start s r.leads)) in
-      same_memories s end (ends_whole program facts rules r.function r.start r.fits s.retired (ends (outcome_by program s end)) (s.retired, ended.outcome, omega arith))
+    -- the memories of an outcome
+    same_memories : (s : State) (end : End) → All IsWhole (memories_at (outcome_by program s end)) → All IsWhole (memories_of program s.registers s.space)
+    same_memories s ending.Returned whole = whole
+    same_memories s (ending.Trapped kind) whole = whole
+
+    -- where a machine has ended, each memory has all its bytes
+    pub whole_memories : IsProgram program → IsWellFormed program → (s : State) → IsReachedBy rules program s → (end : End) → end_in s ≡ Some end
+        → All IsWhole (memories_of program s.registers s.space)
+    whole_memories facts well s r end is =
+        let from = plain_opening program r.function r.start in
+        let ended : HasEnded program from s end s.retired = subst (IsConsistent_by program from s) is (kept_consistent program from s (kept r.function r.start r.fits s r.leads)) in
+        same_memories s end (ends_whole program facts well r.function r.start r.fits s.retired (ends (outcome_by program s end)) (s.retired, ended.outcome, omega arith))
+
+-- those of the buffer machine do
+pub steps_keep : (most : ℕ) (program : Program) → KeepAll (directive_step most program) program
+steps_keep most program function start fits s d = step_ok program (plain_opening program function start) most s d

@@ -5,7 +5,7 @@ use Rattle.std.specs.Option.{ok_or}
 use Rattle.std.proofs.lemmas.Bool.{ltb-true}
 use Rattle.std.proofs.lemmas.List.{length-append}
 use Rattle.bl_cmd.specs.declared.definitions.ProgramParts.{ProgramParts as Program}
-use Rattle.bl_rob.specs.CallResults.{Steps, Executes}
+use Rattle.bl_rob.specs.CallResults.{Comes_by, NeedsMemory, Steps, Executes}
 use Rattle.bl_rob.specs.Machines.{State, Fetched, Straight, Branch, Nowhere, before, fetch, guess, predict, act, turned, acted, exec_entry, retire_work, retire, has_room, directive_step}
 use Rattle.bl_rob.specs.declared.directive.Directive.{Directive}
 use Rattle.bl_rob.specs.declared.directive.Directive.TheVariants.{Fetch, Predict, Exec, Retire}
@@ -46,7 +46,7 @@ module _ (most : ℕ) where
   predict_fits s true predicted h Nowhere = tt
   predict_fits s false predicted h what = tt
 
-  within : (entries : List Entry) (n : ℕ) (entry : Entry) → slice_get entries n ≡ Some entry → n < length entries
+  pub within : (entries : List Entry) (n : ℕ) (entry : Entry) → slice_get entries n ≡ Some entry → n < length entries
   within [] n entry h = cc
   within (x ∷ entries) zero entry h = omega arith
   within (x ∷ entries) (suc n) entry h = let lt = within entries n entry h in omega arith
@@ -73,7 +73,7 @@ module _ (most : ℕ) where
       let le = cut_off s.buffer n (record { position = position; work = Nop }) lt in omega arith
   turned_fits s n position (Fail kind) lt fits = fits
 
-  acted_fits : (s : State) (n : ℕ) (entry : Entry) (a : Act) → n < length s.buffer → Fits s → Holds Fits (acted n s entry a)
+  pub acted_fits : (s : State) (n : ℕ) (entry : Entry) (a : Act) → n < length s.buffer → Fits s → Holds Fits (acted n s entry a)
   acted_fits s n entry Idle lt fits = tt
   acted_fits s n entry (Becomes work observation) lt fits =
       let same = replaced s.buffer n (record { position = entry.position; work = work }) lt in omega arith
@@ -102,17 +102,21 @@ module _ (most : ℕ) where
       by (Guard cond predicted other chain) = tt
       by (Fail kind) = omega arith
 
-  step_fits : (program : Program) (s : State) (d : Directive) → Fits s → Holds Fits (directive_step most program s d)
+  pub step_fits : (program : Program) (s : State) (d : Directive) → Fits s → Holds Fits (directive_step most program s d)
   step_fits program s Fetch fits = fetch_fits s (has_room most s) refl (before program s.front)
   step_fits program s (Predict predicted) fits = predict_fits s (has_room most s) predicted refl (before program s.front)
   step_fits program s (Exec n) fits = exec_fits program s n (slice_get s.buffer n) refl fits
   step_fits program s Retire fits = retire_fits program s s.buffer fits
 
   -- what a step leaves is within the room
+  pub comes_fit : {O : Type 0} (step : Option (State × O)) (needs : Type 0) (old new : State) (result : Result O StepError) → Fits old → Holds Fits step
+      → Comes_by step needs old result new → Fits new
+  comes_fit step needs old new (Ok observation) fits holds h = subst (Holds Fits) h holds
+  comes_fit step needs old new (Err NotEnabled) fits holds h = subst Fits (sym h.1) fits
+  comes_fit step needs old new (Err Memory) fits holds h = subst Fits (sym h.1) fits
+
   pub steps_fit : (program : Program) (old new : State) (d : Directive) (result : Result Observation StepError) → Fits old → Steps most program d old result new → Fits new
-  steps_fit program old new d (Ok observation) fits h = subst (Holds Fits) h (step_fits program old d fits)
-  steps_fit program old new d (Err NotEnabled) fits h = subst Fits (sym h.1) fits
-  steps_fit program old new d (Err Memory) fits h = subst Fits (sym h.1) fits
+  steps_fit program old new d result fits = comes_fit (directive_step most program old d) (NeedsMemory d) old new result fits (step_fits program old d fits)
 
   -- what executing has come to, as a step
   pub executes : (program : Program) (old new : State) (n : ℕ) (result : Option Observation) (answer : Result Observation StepError) → Executes program n old result new

@@ -24,7 +24,7 @@ use Rattle.bl_rob.specs.declared.entry.Work.{Work}
 use Rattle.bl_rob.specs.declared.entry.Work.TheVariants.{Nop, Assign, Load, Held, Done, Store, Ready, Guard, Fail}
 use Rattle.bl_rob.specs.declared.front.Front.{Front}
 use Rattle.bl_rob.specs.declared.machine.Machine.{Machine}
-use Rattle.bl_rob.specs.declared.observe.Seen.{Seen}
+use Rattle.bl_rob.specs.declared.observe.Observed.{Observed as Collected}
 
 -- the state that a machine stands for
 abbrev pub shown : Machine → State
@@ -37,7 +37,7 @@ shown machine = record {
 }
 
 -- what is observed of directives
-abbrev pub seen_in : Seen → Observed
+abbrev pub seen_in : {O : Type 0} → Collected O → Observed O
 seen_in seen = record { made = seen.made; refused = seen.refused }
 
 -- ---- steps
@@ -50,7 +50,7 @@ NeedsMemory (Predict predicted) = Unit {0}
 NeedsMemory (Exec n) = ⊥
 NeedsMemory Retire = Unit {0}
 
-abbrev pub Comes_by : Option (State × Observation) → Type 0 → State → Result Observation StepError → State → Type 0
+abbrev pub Comes_by : {O : Type 0} → Option (State × O) → Type 0 → State → Result O StepError → State → Type 0
 Comes_by step needs old (Ok observation) new = step ≡ Some (new, observation)
 Comes_by step needs old (Err NotEnabled) new = (step ≡ None) × (new ≡ old)
 Comes_by step needs old (Err Memory) new = needs × (new ≡ old)

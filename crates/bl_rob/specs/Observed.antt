@@ -15,33 +15,43 @@ use Rattle.bl_rob.specs.declared.directive.Observation.{Observation}
 
 -- ---- lists of directives
 
+-- the rules of a machine over these states: the state that a directive leads to and what is observed, where it is enabled
+abbrev pub Rules : Type 0 → Type 0
+Rules O = State → Directive → Option (State × O)
+
+-- what is observed, and the place of the first directive that isn't enabled, if there is one
+pub record Observed (O : Type 0) : Type 0 where
+  pub made : List O
+  pub refused : Option ℕ
+
 -- the state behind a step, or else the one before it
-abbrev pub go_on : (State → State) → State → Option (State × Observation) → State
+abbrev pub go_on : {O : Type 0} → (State → State) → State → Option (State × O) → State
 go_on rest s None = s
 go_on rest s (Some step) = rest step.0
 
--- the state behind these directives, up to the first one that isn't enabled
-abbrev pub after : ℕ → Program → List Directive → State → State
-after most program [] s = s
-after most program (d ∷ directives) s = go_on (after most program directives) s (directive_step most program s d)
-
--- what is observed, and the place of the first directive that isn't enabled, if there is one
-pub record Observed : Type 0 where
-  pub made : List Observation
-  pub refused : Option ℕ
-
-abbrev pub see : (State → Observed) → ℕ → Option (State × Observation) → Observed
+abbrev pub see : {O : Type 0} → (State → Observed O) → ℕ → Option (State × O) → Observed O
 see rest place None = record { made = []; refused = Some place }
 see rest place (Some step) = record { made = step.1 ∷ (rest step.0).made; refused = (rest step.0).refused }
 
--- of these directives, where the first one has that place
-abbrev pub observed_from : ℕ → Program → ℕ → List Directive → State → Observed
-observed_from most program place [] s = record { made = []; refused = None }
-observed_from most program place (d ∷ directives) s =
-    see (observed_from most program (suc place) directives) place (directive_step most program s d)
+-- the state behind these directives, up to the first one that isn't enabled
+abbrev pub after_by : {O : Type 0} → Rules O → List Directive → State → State
+after_by rules [] s = s
+after_by rules (d ∷ directives) s = go_on (after_by rules directives) s (rules s d)
+
+-- what is observed of these directives, where the first one has that place
+abbrev pub observed_by : {O : Type 0} → Rules O → ℕ → List Directive → State → Observed O
+observed_by rules place [] s = record { made = []; refused = None }
+observed_by rules place (d ∷ directives) s = see (observed_by rules (suc place) directives) place (rules s d)
+
+-- the same of the buffer machine, with a buffer of at most so many entries
+abbrev pub after : ℕ → Program → List Directive → State → State
+after most program = after_by (directive_step most program)
+
+abbrev pub observed_from : ℕ → Program → ℕ → List Directive → State → Observed Observation
+observed_from most program = observed_by (directive_step most program)
 
 -- of these directives from the opening of a function's run; the first one has place 1
-abbrev pub observed : ℕ → Program → ℕ → Start → List Directive → Observed
+abbrev pub observed : ℕ → Program → ℕ → Start → List Directive → Observed Observation
 observed most program function start directives = observed_from most program 1 directives (opening program function start)
 
 -- the state behind these directives from the opening
@@ -93,20 +103,29 @@ MeetWhereEnded program function one other (Some a) (Some b) = MeetDemands progra
 MeetWhereEnded program function one other (Some a) None = Unit {0}
 MeetWhereEnded program function one other None b = Unit {0}
 
--- the two runs are observed alike, and meet the demands where both have ended
-pub record AreAlike (most : ℕ) (program : Program) (function : ℕ) (directives : List Directive) (a b : Start) : Type 0 where
-  pub observed : observed most program function a directives ≡ observed most program function b directives
-  pub demands : MeetWhereEnded program function (reached most program function a directives) (reached most program function b directives)
-      (end_in (reached most program function a directives)) (end_in (reached most program function b directives))
+-- the two runs by these rules are observed alike, and meet the demands where both have ended
+pub record AreAlikeBy {O : Type 0} (rules : Rules O) (program : Program) (function : ℕ) (directives : List Directive) (a b : Start) : Type 0 where
+  pub observed : observed_by rules 1 directives (opening program function a) ≡ observed_by rules 1 directives (opening program function b)
+  pub demands : MeetWhereEnded program function (after_by rules directives (opening program function a)) (after_by rules directives (opening program function b))
+      (end_in (after_by rules directives (opening program function a))) (end_in (after_by rules directives (opening program function b)))
+
+abbrev pub AreAlike : ℕ → Program → ℕ → List Directive → Start → Start → Type 0
+AreAlike most program = AreAlikeBy (directive_step most program) program
 
 -- runs of one function from starts that agree in public are observed alike, whatever the directives and the size of the buffer
-abbrev pub HasEqualObservations : Program → Type 0
-HasEqualObservations program = (most : ℕ) → 1 ≤ most → most ≤ 64
+abbrev pub HasEqualObservationsBy : {O : Type 0} → (ℕ → Program → Rules O) → Program → Type 0
+HasEqualObservationsBy rules program = (most : ℕ) → 1 ≤ most → most ≤ 64
     → (function : ℕ) (directives : List Directive) (a b : Start) → Agree program function a b
-    → AreAlike most program function directives a b
+    → AreAlikeBy (rules most program) program function directives a b
 
--- what is observed of directives from a state on, and the state that they lead to
-pub record Observes (most : ℕ) (program : Program) (directives : List Directive) (old : State) (seen : Observed)
-    (new : State) : Type 0 where
-  pub observed : seen ≡ observed_from most program 1 directives old
-  pub leads : new ≡ after most program directives old
+abbrev pub HasEqualObservations : Program → Type 0
+HasEqualObservations = HasEqualObservationsBy directive_step
+
+-- what is observed of directives by these rules from a state on, and the state that they lead to
+pub record ObservesBy {O : Type 0} (rules : Rules O) (directives : List Directive) (old : State) (seen : Observed O) (new : State) : Type 0 where
+  pub observed : seen ≡ observed_by rules 1 directives old
+  pub leads : new ≡ after_by rules directives old
+
+-- the same of the buffer machine, with a buffer of at most so many entries
+abbrev pub Observes : ℕ → Program → List Directive → State → Observed Observation → State → Type 0
+Observes most program = ObservesBy (directive_step most program)

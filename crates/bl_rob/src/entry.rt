@@ -1,12 +1,12 @@
 //! Entries of the buffer.
-ghost use Rattle.std.specs.Prelude.{◌≡◌, ◌<◌, ◌^◌, IsTrue};
+ghost use Rattle.std.specs.Prelude.{◌≡◌, ◌<◌, ◌*◌, ◌^◌, IsTrue};
 ghost use Rattle.bl_cmd.specs.Steps.{loaded};
-ghost use Rattle.bl_ops.specs.Access.{is_load};
+ghost use Rattle.bl_ops.specs.Access.{extended, is_load, width_of};
 
 use crate::chain::Chain;
 use crate::directive::Observation;
 use bl_base::Trap;
-use bl_ops::{AccessKind, Op};
+use bl_ops::{AccessKind, Op, extend};
 use bl_seq::Space;
 use std::marker::Model;
 
@@ -54,6 +54,21 @@ impl LoadKind {
         ensures { result ≡ kind }
     {
         LoadKind { kind }
+    }
+
+    /// How many bytes it reads: 1, 2, 4 or 8.
+    pub fn width(&self) -> u8
+        ensures { result ≡ width_of self.now }
+    {
+        self.kind.width()
+    }
+
+    /// What it makes of the number that its bytes are.
+    pub fn extend(&self, bytes: u64) -> u64
+        requires { bytes < 2 ^ (8 * width_of self.now) }
+        ensures { result ≡ extended self.now bytes }
+    {
+        extend(self.kind, bytes)
     }
 
     /// What it loads from a place on.

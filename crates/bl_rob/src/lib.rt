@@ -12,8 +12,12 @@ mod machine;
 mod observe;
 mod rob;
 mod steps;
+mod told;
 mod visible;
 
 pub use directive::{Directive, End, Kind, Observation, StepError};
-pub use observe::Seen;
+pub use entry::{Entry, LoadKind, Register, Source, Work};
+pub use machine::{Machine, effective, valued};
+pub use observe::{Observed, Seen};
 pub use rob::Rob;
+pub use visible::{guards, visible_of};

@@ -1,17 +1,22 @@
 //! The machine between two steps, and what executing an entry of it comes to.
-ghost use Rattle.std.specs.Prelude.{◌≡◌, ◌≤◌, ◌<◌, ◌^◌, length};
+ghost use Rattle.std.specs.Prelude.{◌≡◌, ◌≤◌, ◌<◌, ◌^◌, IfOk, length};
+ghost use Rattle.bl_cmd.specs.Outcomes.{IsStart};
 ghost use Rattle.bl_cmd.specs.Sites.{is_division};
 ghost use Rattle.bl_cmd.specs.Steps.{effective};
 ghost use Rattle.bl_seq.specs.Layouts.{IsLayout};
 ghost use Rattle.bl_rob.specs.CallResults.{act_at, shown};
-ghost use Rattle.bl_rob.specs.Machines.{act, assigns, frees, guards, has_guard, has_store, judges, loads, stores, valued, visible_of};
+ghost use Rattle.bl_rob.specs.Machines.{act, assigns, frees, guards, has_guard, has_store, judges, loads, opening, stores, valued, visible_of};
 
+use crate::chain::Chain;
 use crate::directive::Observation;
 use crate::entry::{Act, Entry, LoadKind, Register, Source, Work};
+use crate::fetch::entry_of;
 use crate::front::Front;
 use crate::visible::{guards, has_guard, has_store, visible_of};
+use bl_base::{NoMemory, Start};
 use bl_ops::{AccessKind, Op, eval};
-use bl_seq::{Layout, Registers, Space};
+use bl_seq::{Layout, Registers, Space, begin};
+use std::alloc::Global;
 
 /// The machine between two steps.
 #[derive(Debug, Drop)]
@@ -56,7 +61,7 @@ fn is_division(op: Op) -> bool
 }
 
 /// A value that is held where it is protected.
-fn valued(protect: bool, to: Register, value: u64) -> Work
+pub fn valued(protect: bool, to: Register, value: u64) -> Work
     ensures { result ≡ valued protect to value }
 {
     if protect {
@@ -92,6 +97,32 @@ fn judges(predicted: bool, cond: Option<u64>) -> Act
 }
 
 impl Machine {
+    /// The machine before its first step, at a function's entry. Linear in the program and the start.
+    pub fn begin(
+        alloc: Global,
+        layout: &Layout,
+        function: u32,
+        start: &Start,
+    ) -> Result<Machine, NoMemory>
+        requires layout { IsLayout layout.now }
+        requires start { IsStart layout.now.parts.now function start.now }
+        ensures { IfOk result (λ machine. shown machine ≡ opening layout.now.parts.now function start.now) }
+    {
+        let first = begin(alloc, layout, function, start)?;
+        let front = Front {
+            position: entry_of(layout, function),
+            chain: Chain::new(alloc),
+            end: None,
+        };
+        Ok(Machine {
+            entries: Vec::new(alloc),
+            front,
+            registers: first.registers,
+            space: first.space,
+            retired: 0,
+        })
+    }
+
     /// What the entry of that index comes to; Idle where there is none.
     pub fn act(&self, layout: &Layout, n: usize) -> Act
         requires layout { IsLayout layout.now }

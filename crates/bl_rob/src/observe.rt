@@ -10,16 +10,23 @@ use std::alloc::Global;
 
 /// What is observed of a list of directives.
 #[derive(Debug, Drop)]
-pub struct Seen {
+pub struct Observed<O> {
     /// What is observed of each one, up to the first that isn't enabled.
-    pub made: List<Observation>,
+    pub made: List<O>,
     /// The place of that one, from 1; None where each is enabled.
     pub refused: Option<u64>,
 }
 
+/// What the buffer machine shows of a list of directives.
+pub type Seen = Observed<Observation>;
+
 impl<'p, const W: usize> Rob<'p, W> {
     /// Takes directives in order, up to the first one that isn't enabled.
-    pub fn observe(&mut self, alloc: Global, directives: &[Directive]) -> Result<Seen, NoMemory>
+    pub fn observe(
+        &mut self,
+        alloc: Global,
+        directives: &[Directive],
+    ) -> Result<Observed<Observation>, NoMemory>
         ensures same { self.new.program ≡ self.old.program }
         ensures seen { IfOk result (λ seen. Observes W self.old.program directives.now (shown self.old.machine) (seen_in seen) (shown self.new.machine)) }
     {
@@ -28,7 +35,7 @@ impl<'p, const W: usize> Rob<'p, W> {
             match self.step(alloc, *directive) {
                 Ok(observation) => made.push(observation)?,
                 Err(StepError::NotEnabled) => {
-                    return Ok(Seen {
+                    return Ok(Observed {
                         made,
                         refused: Some(i as u64 + 1),
                     });
@@ -36,7 +43,7 @@ impl<'p, const W: usize> Rob<'p, W> {
                 Err(StepError::Memory) => return Err(NoMemory),
             }
         }
-        Ok(Seen {
+        Ok(Observed {
             made,
             refused: None,
         })

@@ -1,19 +1,15 @@
 //! The buffer machine as its callers see it.
 ghost use Rattle.std.specs.Prelude.{◌≡◌, ◌≤◌, IfOk, slice_get, slice_index, option_map};
 ghost use Rattle.bl_cmd.specs.Outcomes.{IsStart};
-ghost use Rattle.bl_rob.specs.CallResults.{IsTold, Steps, Told, is_enabled, kind_of, outcome_in, position_of, shown};
+ghost use Rattle.bl_rob.specs.CallResults.{IsTold, Steps, Told, is_enabled, outcome_in, position_of, shown};
 ghost use Rattle.bl_rob.specs.Machines.{end_in, opening};
 ghost use Rattle.bl_rob.specs.declared.directive.Directive.TheVariants.{Exec, Fetch, Predict, Retire};
 
-use crate::chain::Chain;
 use crate::directive::{Directive, End, Kind, Observation, StepError};
-use crate::entry::{Act, Work};
-use crate::fetch::entry_of;
-use crate::front::Front;
 use crate::machine::Machine;
 use bl_base::{NoMemory, Pos, Run, Start, Var};
-use bl_cmd::{Command, WellFormed};
-use bl_seq::{Layout, begin, memories, results};
+use bl_cmd::WellFormed;
+use bl_seq::Layout;
 use std::alloc::Global;
 use std::marker::Model;
 
@@ -52,22 +48,8 @@ impl<'p, const W: usize> Rob<'p, W> {
         ensures { IfOk result (λ rob. (rob.program ≡ program.now) × (shown rob.machine ≡ opening program.now function start.now)) }
     {
         let layout = Layout::of(alloc, program.program().parts())?;
-        let first = begin(alloc, &layout, function, start)?;
-        let front = Front {
-            position: entry_of(&layout, function),
-            chain: Chain::new(alloc),
-            end: None,
-        };
-        Ok(Rob {
-            layout,
-            machine: Machine {
-                entries: Vec::new(alloc),
-                front,
-                registers: first.registers,
-                space: first.space,
-                retired: 0,
-            },
-        })
+        let machine = Machine::begin(alloc, &layout, function, start)?;
+        Ok(Rob { layout, machine })
     }
 
     /// One directive. NotEnabled comes exactly where the rules don't enable it; after either refusal the machine is as it was,
@@ -118,58 +100,35 @@ impl<'p, const W: usize> Rob<'p, W> {
     pub fn finished(&self) -> Option<End>
         ensures { result ≡ end_in (shown self.now.machine) }
     {
-        if self.machine.entries.is_empty() {
-            self.machine.front.end
-        } else {
-            None
-        }
+        self.machine.finished()
     }
 
     /// How many entries were retired.
     pub fn retired(&self) -> u64
         ensures { result ≡ (shown self.now.machine).retired }
     {
-        self.machine.retired
+        self.machine.retired()
     }
 
     /// What a variable holds at a depth.
     pub fn register(&self, depth: u32, var: Var) -> u64
         ensures { result ≡ (shown self.now.machine).registers depth var.0 }
     {
-        self.machine.registers.at(depth as usize, var.0 as usize)
+        self.machine.register(depth, var)
     }
 
     /// The byte at a place of the space of all memories; 0 past its end.
     pub fn byte(&self, address: u64) -> u8
         ensures { result ≡ slice_index (shown self.now.machine).space address }
     {
-        match self.machine.space.as_slice().get(address as usize) {
-            Some(byte) => *byte,
-            None => 0,
-        }
+        self.machine.byte(address)
     }
 
     /// The outcome; None exactly where the machine hasn't ended.
     pub fn outcome(&self, alloc: Global) -> Result<Option<Run>, NoMemory>
         ensures { IfOk result (Told (outcome_in self.now.program (shown self.now.machine))) }
     {
-        let machine = &self.machine;
-        let Some(end) = self.finished() else {
-            return Ok(None);
-        };
-        let memories = memories(alloc, &self.layout, &machine.registers, &machine.space)?;
-        Ok(Some(match end {
-            End::Returned => Run::Returned {
-                values: results(
-                    alloc,
-                    &self.layout,
-                    &machine.registers,
-                    machine.front.position as usize,
-                )?,
-                memories,
-            },
-            End::Trapped(kind) => Run::Trapped { kind, memories },
-        }))
+        self.machine.outcome(alloc, &self.layout)
     }
 
     /// Whether a directive is enabled; takes no memory.
@@ -179,7 +138,7 @@ impl<'p, const W: usize> Rob<'p, W> {
         match d {
             Directive::Fetch => self.machine.may_fetch(&self.layout, W),
             Directive::Predict(_) => self.machine.may_predict(&self.layout, W),
-            Directive::Exec(n) => !matches!(self.machine.act(&self.layout, n as usize), Act::Idle),
+            Directive::Exec(n) => self.machine.may_exec(&self.layout, n as usize),
             Directive::Retire => self.machine.may_retire(),
         }
     }
@@ -188,38 +147,13 @@ impl<'p, const W: usize> Rob<'p, W> {
     pub fn front(&self) -> Option<Pos>
         ensures { option_map (λ position. position.0) result ≡ position_of (shown self.now.machine).front }
     {
-        match self.machine.front.end {
-            Some(_) => None,
-            None => Some(Pos(self.machine.front.position)),
-        }
+        self.machine.position()
     }
 
     /// The position and the kind of an entry; None exactly where the buffer has none of that index. Takes no memory.
     pub fn entry(&self, n: u32) -> Option<(Pos, Kind)>
         ensures { IsTold (slice_get (shown self.now.machine).buffer n) result }
     {
-        match self.machine.entries.get(n as usize) {
-            Some(entry) => Some((Pos(entry.position), entry.work.kind())),
-            None => None,
-        }
-    }
-}
-
-impl Work {
-    /// What the entry is.
-    fn kind(&self) -> Kind
-        ensures { result ≡ kind_of self.now }
-    {
-        match self {
-            Work::Nop => Kind::Nop,
-            Work::Assign { .. } => Kind::Assign,
-            Work::Load { .. } => Kind::Load,
-            Work::Held { .. } => Kind::Held,
-            Work::Done { .. } => Kind::Done,
-            Work::Store { .. } => Kind::Store,
-            Work::Ready { .. } => Kind::Ready,
-            Work::Guard { predicted, .. } => Kind::Guard(*predicted),
-            Work::Fail(_) => Kind::Fail,
-        }
+        self.machine.entry(n)
     }
 }

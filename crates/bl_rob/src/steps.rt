@@ -6,7 +6,7 @@ ghost use Rattle.bl_seq.specs.Layouts.{IsLayout};
 ghost use Rattle.bl_rob.specs.CallResults.{Executes, Steps, is_enabled, shown, turned_at};
 ghost use Rattle.bl_rob.specs.Effects.{effect_of, first_effect};
 ghost use Rattle.bl_rob.specs.Machines.{at_position, become, ended_at, is_guard, without};
-ghost use Rattle.bl_rob.specs.declared.directive.Directive.TheVariants.{Retire};
+ghost use Rattle.bl_rob.specs.declared.directive.Directive.TheVariants.{Exec, Retire};
 ghost use Rattle.bl_rob.specs.declared.directive.End.TheVariants as ending;
 ghost use Rattle.bl_rob.specs.declared.entry.Entry.{Entry};
 
@@ -91,8 +91,18 @@ impl Machine {
         }
     }
 
+    /// Whether the entry of that index can be executed. Takes no memory.
+    pub fn may_exec(&self, layout: &Layout, n: usize) -> bool
+        requires layout { IsLayout layout.now }
+        requires few { length self.now.entries.items ≤ 64 }
+        requires n { n < 2 ^ 32 }
+        ensures { (most : ℕ) → result ≡ is_enabled most layout.now.parts.now (shown self.now) (Exec n) }
+    {
+        !matches!(self.act(layout, n), Act::Idle)
+    }
+
     /// Lets an entry do something else from then on.
-    fn replace(&mut self, n: usize, work: Work)
+    pub fn replace(&mut self, n: usize, work: Work)
         requires { n < length self.old.entries.items }
         ensures { (entry : Entry) → slice_get self.old.entries.items n ≡ Some entry → shown self.new ≡ become n entry.position work (shown self.old) }
     {

@@ -7,7 +7,6 @@ use Rattle.std.proofs.lemmas.Option.{slice_get_within, get_or_from_slice_get}
 use Rattle.std.specs.List.{AllZip}
 use Rattle.std.specs.Char.{digit_value, is_digit}
 use Rattle.std.specs.Str.{bytes_eq}
-use Rattle.std.specs.Str.Parse.{digits_value}
 use Rattle.bl_base.specs.declared.names.ValueType.{ValueType}
 use Rattle.bl_base.specs.declared.names.ValueType.TheVariants.{I32, I64}
 use Rattle.bl_base.specs.declared.start.Patch.{Patch}
@@ -17,7 +16,9 @@ use Rattle.bl_trace.specs.declared.entry.Entry.{Entry}
 use Rattle.bl_trace.specs.declared.entry.Entry.TheVariants.{Argument, Contents}
 use Rattle.bl_trace.specs.declared.error.StartError.{StartError}
 use Rattle.bl_trace.specs.declared.error.StartError.TheVariants.{Count}
-use Rattle.bl_trace.specs.Digits.{is_decimal, decimal_below, byte_of, byte_and, bytes_of_hex}
+use Rattle.bl_text.specs.Digits.{decimal_below}
+use Rattle.bl_text.proofs.Decimals.{below_limit}
+use Rattle.bl_trace.specs.Digits.{byte_of, byte_and, bytes_of_hex}
 use Rattle.bl_trace.specs.Lines.{lines_of, words_of, limit_of, argument_of, lies_in, patch_by, patch_of, entry_by, entry_of}
 use Rattle.bl_trace.specs.StartFiles.{answer_by, answer_of, arguments_in, said_before, said}
 
@@ -25,14 +26,6 @@ use Rattle.bl_trace.specs.StartFiles.{answer_by, answer_of, arguments_in, said_b
 abbrev EntryFits : Option ValueType → List ℕ → Entry → Type 0
 EntryFits kind sizes (Argument value) = MatchOption kind ⊥ (λ k. ArgumentFits k value)
 EntryFits kind sizes (Contents patch) = PatchFits sizes patch
-
--- a number read is below its limit
-pub below_limit : (limit : ℕ) (word : List ℕ) → IfSome (decimal_below limit word) (λ value. value < limit)
-below_limit limit word =
-    cond_both (is_decimal word && nat_lt (digits_value 10 word) limit) (Some (digits_value 10 word)) None
-    (λ (o : Option ℕ). IfSome o (λ value. value < limit))
-    (λ e. ltb-true _ _ (and_parts (is_decimal word) (nat_lt (digits_value 10 word) limit) e).1)
-    (λ e. tt)
 
 -- a number below a type's limit is one of the type
 of_kind : (kind : ValueType) (value : ℕ) → value < limit_of kind → ArgumentFits kind value

@@ -1,4 +1,3 @@
-pub mod Decimals
 pub mod Fitting
 pub mod HexBytes
 pub mod Operands
@@ -6,4 +5,4 @@ pub mod LineSplits
 pub mod Pieces
 pub mod Saying
 pub mod Telling
-pub mod Tracing
+pub mod ItemLemmas

@@ -1,5 +1,6 @@
 pub mod StartFiles
 pub mod Digits
+pub mod Items
 pub mod Lines
 pub mod Observations
 pub mod Reading

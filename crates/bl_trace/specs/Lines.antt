@@ -5,7 +5,8 @@ use Rattle.std.specs.Str.{bytes_eq}
 use Rattle.bl_base.specs.declared.names.ValueType.{ValueType}
 use Rattle.bl_base.specs.declared.names.ValueType.TheVariants.{I32, I64}
 use Rattle.bl_base.specs.declared.start.Patch.{Patch}
-use Rattle.bl_trace.specs.Digits.{decimal_below, bytes_of_hex}
+use Rattle.bl_text.specs.Digits.{decimal_below}
+use Rattle.bl_trace.specs.Digits.{bytes_of_hex}
 use Rattle.bl_trace.specs.declared.entry.Entry.{Entry}
 use Rattle.bl_trace.specs.declared.entry.Entry.TheVariants.{Argument, Contents}
 

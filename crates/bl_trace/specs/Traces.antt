@@ -1,9 +1,10 @@
 -- The directives of a trace file.
-use Rattle.std.specs.Prelude.{◌≡◌, ℕ, ◌+◌, ◌^◌, true, false, ◌++◌, if◌then◌else◌, List, [], ◌∷◌, length, map, take, drop, Option, Some, None, option_map, Result, Ok, Err, codes}
+use Rattle.std.specs.Prelude.{◌≡◌, ℕ, ◌^◌, true, false, if◌then◌else◌, List, take, drop, Option, Some, None, option_map, Result, Ok, Err, codes}
 use Rattle.std.specs.Str.{bytes_eq}
 use Rattle.bl_rob.specs.declared.directive.Directive.{Directive}
 use Rattle.bl_rob.specs.declared.directive.Directive.TheVariants.{Fetch, Predict, Exec, Retire}
-use Rattle.bl_trace.specs.Digits.{decimal_below}
+use Rattle.bl_text.specs.Digits.{decimal_below}
+use Rattle.bl_trace.specs.Items.{items_of}
 use Rattle.bl_trace.specs.Lines.{lines_of}
 use Rattle.bl_trace.specs.declared.error.TraceError.{TraceError}
 use Rattle.bl_trace.specs.declared.error.TraceError.TheVariants.{Line, Memory}
@@ -21,33 +22,12 @@ directive_of line =
     else if bytes_eq line (codes "retire") then Some Retire
     else option_map Exec (executed line)
 
--- a directive before those of other lines; a bad line's number counts its line too
-abbrev pub directive_before : Directive → Result (List Directive) ℕ → Result (List Directive) ℕ
-directive_before directive (Ok directives) = Ok (directive ∷ directives)
-directive_before directive (Err number) = Err (number + 1)
-
--- the directives of lines; else the number of the first one that says none, from 1
-abbrev pub directives_of : List (List ℕ) → Result (List Directive) ℕ
-directives_of [] = Ok []
-directives_of (line ∷ lines) =
-    elim (directive_of line) [
-      | Some directive ↦ directive_before directive (directives_of lines)
-      | None ↦ Err 1
-    ]
-
 -- the directives of a file
 abbrev pub trace_of : List ℕ → Result (List Directive) ℕ
-trace_of bytes = directives_of (lines_of bytes)
+trace_of bytes = items_of directive_of (lines_of bytes)
 
 -- an answer is the one of the file, or memory ran out, which no clause rules out
 abbrev pub IsTrace : Result (List Directive) ℕ → Result (List Directive) TraceError → Type 0
 IsTrace asked (Ok directives) = asked ≡ Ok directives
 IsTrace asked (Err (Line number)) = asked ≡ Err number
 IsTrace asked (Err Memory) = Unit {0}
-
--- what lines tell: each is a directive; or those before one are, and that one is none
-pub data TellsTrace (lines : List (List ℕ)) : Result (List Directive) ℕ → Type 0 where
-  trace : (directives : List Directive) → map directive_of lines ≡ map Some directives → TellsTrace lines (Ok directives)
-  bad_line : (before : List (List ℕ)) (line : List ℕ) (behind : List (List ℕ)) (directives : List Directive)
-      → lines ≡ before ++ line ∷ behind →
-      map directive_of before ≡ map Some directives → directive_of line ≡ None → TellsTrace lines (Err (length before + 1))

@@ -6,9 +6,10 @@ ghost use Rattle.bl_base.specs.declared.start.Start.{Start};
 ghost use Rattle.bl_rob.specs.declared.directive.Directive.{Directive};
 ghost use Rattle.bl_trace.specs.declared.error.StartError.{StartError};
 ghost use Rattle.bl_trace.specs.StartFiles.{answer_of};
+ghost use Rattle.bl_trace.specs.Items.{TellItems};
 ghost use Rattle.bl_trace.specs.Lines.{lines_of};
 ghost use Rattle.bl_trace.specs.Told.{Tells};
-ghost use Rattle.bl_trace.specs.Traces.{TellsTrace, trace_of};
+ghost use Rattle.bl_trace.specs.Traces.{directive_of, trace_of};
 
 /// A start that a file asks for fits the function.
 pub fn what_is_asked_for_fits()
@@ -24,5 +25,5 @@ pub fn what_lines_tell()
 
 /// A trace file has the directives of its lines, where each line says one; else the number of the first one that says none.
 pub fn what_traces_tell()
-    ensures { (bytes : Listed ℕ) (answer : Either (Listed Directive) ℕ) → trace_of bytes ≡ answer ↔ TellsTrace (lines_of bytes) answer }
+    ensures { (bytes : Listed ℕ) (answer : Either (Listed Directive) ℕ) → trace_of bytes ≡ answer ↔ TellItems directive_of (lines_of bytes) answer }
 {}

@@ -11,8 +11,8 @@ mod observation;
 mod read;
 mod trace;
 
-pub use digits::read_decimal;
 pub use error::{StartError, TraceError};
+pub use line::place_of;
 pub use observation::print_observation;
 pub use read::read_start;
 pub use trace::{count_lines, read_trace};

@@ -1,12 +1,13 @@
 //! What a line of a start file says.
 ghost use Rattle.std.specs.Prelude.{◌≡◌, ◌+◌, ◌^◌, ◌≤◌, ◌==◌, IfOk, MatchOption, [], ◌∷◌, length};
 ghost use Rattle.std.specs.List.{position_or_len};
-ghost use Rattle.bl_trace.specs.Digits.{decimal_below};
+ghost use Rattle.bl_text.specs.Digits.{decimal_below};
 ghost use Rattle.bl_trace.specs.Lines.{words_of, limit_of, argument_of, lies_in, patch_by, patch_of, entry_by};
 
-use crate::digits::{read_decimal, read_hex};
+use crate::digits::read_hex;
 use crate::entry::Entry;
 use bl_base::{NoMemory, Patch, Text, ValueType};
+use bl_text::read_decimal;
 use std::alloc::Global;
 
 /// The place of the first such byte; the length where there is none.

@@ -3,11 +3,11 @@ ghost use Rattle.std.specs.Prelude.{◌≡◌, length};
 ghost use Rattle.bl_trace.specs.Lines.{lines_of};
 ghost use Rattle.bl_trace.specs.Traces.{IsTrace, directive_of, executed, trace_of};
 
-use crate::digits::read_decimal;
 use crate::error::TraceError;
 use crate::line::place_of;
 use bl_base::List;
 use bl_rob::Directive;
+use bl_text::read_decimal;
 use std::alloc::Global;
 
 /// The number of lines of a file: each ends with LF, which the last one may lack. Takes no memory.

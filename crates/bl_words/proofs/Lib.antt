@@ -1,5 +1,4 @@
 pub mod Contents
-pub mod ModuleNames
 pub mod ModuleWords
 pub mod Tops
 pub mod Walks

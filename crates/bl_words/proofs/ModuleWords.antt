@@ -1,14 +1,15 @@
 -- Modules of names of their own, as they are tested.
-use Rattle.std.proofs.Common.{◌≡◌, ◌∙◌, ap, sym, ℕ, zero, suc, true, false, not, List, [], ◌∷◌, map, length, ◌==◌, Some, None, slice_get, refl, Bor, arith}
+use Rattle.std.proofs.Common.{◌≡◌, ◌∙◌, ap, sym, ℕ, zero, suc, true, false, not, List, [], ◌∷◌, map, length, ◌==◌, Some, slice_get, refl, Bor, arith}
 use Rattle.std.specs.List.{list_any}
 use Rattle.std.specs.Option.{option_map}
 use Rattle.std.specs.Str.{bytes_eq}
-use Rattle.std.proofs.lemmas.Bool.{and_parts, cond-true, cond-false, eqb-true, false≢true, false_from_ne_true, not-true}
+use Rattle.std.proofs.lemmas.Bool.{and_parts, false≢true, false_from_ne_true, not-true}
 use Rattle.std.proofs.lemmas.List.Folds.{Any-from_list_any}
 use Rattle.std.proofs.lemmas.Map.Keys.{any_passes_from_place}
-use Rattle.std.proofs.lemmas.Option.{none-some, slice_get_read, same_Some}
+use Rattle.std.proofs.lemmas.Option.{none-some, slice_get_read}
 use Rattle.std.proofs.lemmas.Slice.Eq.{bytes_eq-Decides}
-use Rattle.bl_words.specs.Requests.{AreNamedApart, are_distinct, module_name, modules_of}
+use Rattle.bl_text.specs.Names.{AreNamedApart, module_name}
+use Rattle.bl_words.specs.Requests.{are_distinct, modules_of}
 use Rattle.bl_base.proofs.NameSets.{AreApart}
 use Rattle.bl_base.proofs.Lists.{mapped_get}
 
@@ -93,18 +94,14 @@ named_apart_of words apart = record {
       apart i j x.0 y.0 x.1 y.1 (ap module_name x.2 ∙ (same ∙ ap module_name (sym y.2)));
 }
 
--- no words are no modules
-pub no_modules : (words : List (Bor (List ℕ))) → true ≡ (length words == 0) → None ≡ modules_of (words_in words)
-no_modules [] none = refl
-no_modules (word ∷ words) none = absurd (omega (arith, eqb-true _ _ (sym none)))
+-- words are modules
+pub all_modules : (words : List (Bor (List ℕ))) → false ≡ (length words == 0) → Some (words_in words) ≡ modules_of (words_in words)
+all_modules [] some = absurd (false≢true some)
+all_modules (word ∷ words) some = refl
 
--- words of one name are none either
-pub same_modules : (words : List (Bor (List ℕ))) → (AreNamedApart (words_in words) → ⊥) → None ≡ modules_of (words_in words)
-same_modules [] twice = refl
-same_modules (word ∷ words) twice =
-    sym (cond-false _ _ _ (false_from_ne_true (are_distinct (map module_name (words_in (word ∷ words)))) (λ apart. twice (named_apart (words_in (word ∷ words)) apart))))
+-- the tests of a request's modules
+pub is_apart : (words : List (List ℕ)) → AreNamedApart words → are_distinct (map module_name words) ≡ true
+is_apart words apart = distinct_of words apart
 
--- others are
-pub all_modules : (words : List (Bor (List ℕ))) → false ≡ (length words == 0) → AreNamedApart (words_in words) → Some (words_in words) ≡ modules_of (words_in words)
-all_modules [] some apart = absurd (false≢true some)
-all_modules (word ∷ words) some apart = sym (cond-true _ _ _ (distinct_of (words_in (word ∷ words)) apart))
+pub is_twice : (words : List (List ℕ)) → (AreNamedApart words → ⊥) → are_distinct (map module_name words) ≡ false
+is_twice words twice = false_from_ne_true (are_distinct (map module_name words)) (λ apart. twice (named_apart words apart))

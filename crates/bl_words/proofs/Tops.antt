@@ -1,5 +1,5 @@
 -- All words of a call: which are refused, and which request the matches of the others are.
-use Rattle.std.proofs.Common.{◌≡◌, ◌∙◌, ◌⊎◌, ap, sym, refl, subst, ℕ, Bool, ◌||◌, ◌&&◌, true, false, cond, List, [], ◌∷◌, ◌++◌, append_assoc, append-nil, length, true≢false, ap₂, Option, Some, None, codes, ⊎_elim, is_some}
+use Rattle.std.proofs.Common.{◌≡◌, ◌∙◌, ◌⊎◌, ap, sym, refl, subst, ℕ, Bool, ◌||◌, ◌&&◌, true, false, cond, List, [], ◌∷◌, ◌++◌, append_assoc, append-nil, length, true≢false, Option, Some, None, codes, ⊎_elim, is_some}
 use Rattle.std.proofs.lemmas.Str.{IsUtf8-string_bytes}
 use Rattle.std.specs.Prelude.{⊤, String, string_bytes, map, option_and_then, option_map, fold, find}
 use Rattle.std.specs.Str.{IsUtf8, bytes_eq}
@@ -12,12 +12,11 @@ use Rattle.clap.specs.Kinds.{Kinds, or_else, IsAmong as IsAmongKinds}
 use Rattle.clap.specs.Faults.{is_simple_and_free, bundle_step_fault, check_fault, default_fault, given_default_fault, settle_fault, defaults_fault, entered_fault, fault_of, flags_fault, level_fault, turn_fault, walk_fault}
 use Rattle.clap.specs.declared.error.kind.ErrorKind.TheVariants.{OutOfMemory, UnknownArgument, InvalidSubcommand}
 use Rattle.clap.specs.declared.error.kind.ErrorKind.{ErrorKind}
-use Rattle.bl_words.specs.Requests.{Parts, Request, command_named, command_of, gen_of, harden_of, interp_of, lower_of, modules_of, parts_of, request_by, request_of, run_of, spec_of, steps_of, twin_of, verify_of}
-use Rattle.bl_words.specs.declared.command.Command.{Command}
-use Rattle.bl_words.specs.declared.command.Command.TheVariants.{Gen, Harden, Interp, Lower, Run, Spec, Twin, Verify}
-use Rattle.bl_words.specs.CommandLine.{content, blade_app, commands, argument_rule, steps_rule}
-use Rattle.bl_words.proofs.WordKinds.{Kind, kind, plain, end, steps, value, long, short}
-use Rattle.bl_words.proofs.Walks.{first_letter, AllText, Answers, IsFaulty, Takes, all_faults, built_shape, dashed, ends_at, faulty, first_none, past, rules, taken_apart}
+use Rattle.bl_words.specs.Requests.{Steps, Command, Parts, Request, arguments_alone, asked_among, command_of, commands, kept, parts_of, request_of, value_of}
+use Rattle.bl_words.specs.CommandLine.{blade_app, argument_rule, option_rule}
+use Rattle.bl_words.proofs.WordKinds.{Kind, kind, plain, end, asking, giving, long, short}
+use Rattle.bl_words.proofs.Contents.{parts_of_rows}
+use Rattle.bl_words.proofs.Walks.{first_letter, AllText, Answers, IsFaulty, Takes, all_faults, built_shape, ends_at, first_none, past, rules, taken_apart}
 
 abbrev top : Shape
 top = (built blade_app).top
@@ -39,7 +38,7 @@ abbrev argument_built : Rule
 argument_built = with_index 1 (filled argument_rule)
 
 abbrev steps_built : Rule
-steps_built = with_index 2 (filled steps_rule)
+steps_built = with_index 2 (filled (option_rule (codes "steps")))
 
 no_defaults : (rows : List Row) → defaults_fault rows rules ≡ []
 unfolding defaults_fault
@@ -49,8 +48,14 @@ same_rows : (b : Bool) (rows : List Row) → cond b rows rows ≡ rows
 same_rows true rows = refl
 same_rows false rows = refl
 
+argument_stays : (rows : List Row) → with_default rows argument_built ≡ rows
+argument_stays rows = same_rows _ rows
+
+steps_stay : (rows : List Row) → with_default rows steps_built ≡ rows
+steps_stay rows = same_rows _ rows
+
 rows_stay : (rows : List Row) → fold with_default rows rules ≡ rows
-rows_stay rows = same_rows _ _ ∙ same_rows _ rows
+rows_stay rows = ap (λ r. with_default r steps_built) (argument_stays rows) ∙ steps_stay rows
 
 abbrev sub_fault : Text → List Text → Kinds
 sub_fault name words = level_fault (built_shape name) [] nothing_held words false []
@@ -173,8 +178,8 @@ other_refused program _ (plain word p) words text other =
     let stray : turn_fault top names start word ≡ UnknownArgument ∷ InvalidSubcommand ∷ [] = rw (other, p.end, p.long, p.short) refl in
     cc)
 other_refused program _ end words text other = end_refused program words
-other_refused program _ steps words text other = first_refused program (codes "--steps") words (λ e. cc)
-other_refused program _ (value v) words text other = first_refused program (codes "--steps=" ++ v) words (λ e. cc)
+other_refused program _ (asking Steps) words text other = first_refused program (codes "--steps") words (λ e. cc)
+other_refused program _ (giving Steps v) words text other = first_refused program (codes "--steps=" ++ v) words (λ e. cc)
 other_refused program _ (long word name v is unlike strange) words text other =
     first_refused program word words (λ e.
     let unknown : turn_fault top names start word ≡ UnknownArgument ∷ [] = rw (other, strange.end, is) refl in
@@ -185,27 +190,12 @@ other_refused program _ (short x xs unlike strange) words text other =
 
 -- ---- requests
 
--- the parts that rows hold
-abbrev pub parts_of_rows : List Row → Parts
-parts_of_rows rows = record { arguments = content (codes "argument") rows; steps_values = content (codes "steps") rows }
-
 -- what the matches of a call ask for
 abbrev pub chosen : Option (Text × List Row) → Option Request
 chosen = option_and_then (λ p. command_of p.0 (parts_of_rows p.1))
 
 abbrev asked : Text → Option Parts → Option Request
 asked name = option_and_then (command_of name)
-
--- a request is that of the command that the first word names
-by_command : (named : Option Command) (found : Option Parts) → option_and_then (λ command. option_and_then (request_by command) found) named
-    ≡ option_and_then (λ parts. option_and_then (λ command. request_by command parts) named) found
-by_command None None = refl
-by_command None (Some parts) = refl
-by_command (Some command) None = refl
-by_command (Some command) (Some parts) = refl
-
-asked_is : (program word : Text) (words : List Text) → request_of (program ∷ word ∷ words) ≡ asked word (parts_of words)
-asked_is program word words = by_command (command_named word) (parts_of words)
 
 -- the word is none of these names
 abbrev IsUnlike : Text → List Text → Type 0
@@ -241,84 +231,22 @@ module _ (word : Text) where
 -- the word names a command of the call, or no command
 data Which (word : Text) : Type 0 where
   command : IsCommand word → Which word
-  other : find (answers_to word) names ≡ None → command_named word ≡ None → Which word
+  other : find (answers_to word) names ≡ None → ((arguments : List Text) (steps : Option Text) → asked_among commands word arguments steps ≡ None) → Which word
 
-by_name : (word : Text) → IsAmong word commands → Which word
+abbrev names_in : List Command → List Text
+names_in = map (λ one. one.name)
+
+-- a word that is none of these commands' names asks for nothing among them
+asks_nothing : (word : Text) (all : List Command) → IsUnlike word (names_in all) → (arguments : List Text) (steps : Option Text) → asked_among all word arguments steps ≡ None
+asks_nothing word [] u arguments steps = refl
+asks_nothing word (one ∷ all) u arguments steps = cond-false _ _ _ u.0 ∙ asks_nothing word all u.1 arguments steps
+
+by_name : (word : Text) → IsAmong word (names_in commands) → Which word
 by_name word (is_one label sub) = command (record { label = label; sub = sub })
-by_name word (is_no_one label u) =
-    other label
-    (cond-false _ _ _ u.0 ∙ cond-false _ _ _ u.1.0 ∙ cond-false _ _ _ u.1.1.0 ∙ cond-false _ _ _ u.1.1.1.0 ∙ cond-false _ _ _ u.1.1.1.1.0
-    ∙ cond-false _ _ _ u.1.1.1.1.1.0 ∙ cond-false _ _ _ u.1.1.1.1.1.1.0 ∙ cond-false _ _ _ u.1.1.1.1.1.1.1.0)
+by_name word (is_no_one label unlikes) = other label (asks_nothing word commands unlikes)
 
 which : (word : Text) → Which word
-which word = by_name word (among word commands)
-
--- `-` is no number of steps, and where it is a value there is no request
-steps_dash : (before after : List Text) → steps_of (before ++ codes "-" ∷ after) ≡ None
-steps_dash [] [] = refl
-steps_dash [] (v ∷ after) = refl
-steps_dash (v ∷ []) after = refl
-steps_dash (v ∷ w ∷ before) after = refl
-
-harden_dash : (arguments before after : List Text) → harden_of arguments (before ++ codes "-" ∷ after) ≡ None
-harden_dash (_ ∷ _ ∷ _) [] after = refl
-harden_dash (_ ∷ _ ∷ _) (v ∷ before) after = refl
-harden_dash _ before after = refl
-
-lower_dash : (arguments before after : List Text) → lower_of arguments (before ++ codes "-" ∷ after) ≡ None
-lower_dash (_ ∷ _) [] after = refl
-lower_dash (_ ∷ _) (v ∷ before) after = refl
-lower_dash _ before after = refl
-
-no_steps : (found : Option (List Text)) (made : List Text → ℕ → Request) (number : Option ℕ) → number ≡ None → option_and_then (λ modules. option_map (made modules) number) found ≡ None
-no_steps None made number e = refl
-no_steps (Some modules) made number e = ap (option_map (made modules)) e
-
-interp_dash : (arguments before after : List Text) → interp_of arguments (before ++ codes "-" ∷ after) ≡ None
-interp_dash (_ ∷ _ ∷ words) before after = no_steps (modules_of words) _ _ (steps_dash before after)
-interp_dash _ before after = refl
-
-run_dash : (arguments before after : List Text) → run_of arguments (before ++ codes "-" ∷ after) ≡ None
-run_dash (_ ∷ _ ∷ _ ∷ []) before after = ap (option_map _) (steps_dash before after)
-run_dash _ before after = refl
-
-spec_dash : (arguments before after : List Text) → spec_of arguments (before ++ codes "-" ∷ after) ≡ None
-spec_dash (_ ∷ _ ∷ _ ∷ _ ∷ []) [] after = refl
-spec_dash (_ ∷ _ ∷ _ ∷ _ ∷ []) (v ∷ before) after = refl
-spec_dash _ before after = refl
-
-verify_dash : (arguments before after : List Text) → verify_of arguments (before ++ codes "-" ∷ after) ≡ None
-verify_dash (_ ∷ _ ∷ []) [] after = refl
-verify_dash (_ ∷ _ ∷ []) (v ∷ before) after = refl
-verify_dash _ before after = refl
-
-twin_dash : (arguments before after : List Text) → twin_of arguments (before ++ codes "-" ∷ after) ≡ None
-twin_dash (_ ∷ _ ∷ _ ∷ _ ∷ _ ∷ []) [] after = refl
-twin_dash (_ ∷ _ ∷ _ ∷ _ ∷ _ ∷ []) (v ∷ before) after = refl
-twin_dash _ before after = refl
-
-gen_dash : (arguments before after : List Text) → gen_of arguments (before ++ codes "-" ∷ after) ≡ None
-gen_dash (_ ∷ _ ∷ []) [] after = refl
-gen_dash (_ ∷ _ ∷ []) (v ∷ before) after = refl
-gen_dash _ before after = refl
-
-by_dash : (command : Command) (arguments before after : List Text) → request_by command (record { arguments = arguments; steps_values = before ++ codes "-" ∷ after }) ≡ None
-by_dash Harden arguments before after = harden_dash arguments before after
-by_dash Lower arguments before after = lower_dash arguments before after
-by_dash Interp arguments before after = interp_dash arguments before after
-by_dash Run arguments before after = run_dash arguments before after
-by_dash Spec arguments before after = spec_dash arguments before after
-by_dash Verify arguments before after = verify_dash arguments before after
-by_dash Twin arguments before after = twin_dash arguments before after
-by_dash Gen arguments before after = gen_dash arguments before after
-
-named_dash : (named : Option Command) (arguments before after : List Text)
-    → option_and_then (λ known. request_by known (record { arguments = arguments; steps_values = before ++ codes "-" ∷ after })) named ≡ None
-named_dash None arguments before after = refl
-named_dash (Some known) arguments before after = by_dash known arguments before after
-
-dash_none : (name : Text) (arguments before after : List Text) → command_of name (record { arguments = arguments; steps_values = before ++ codes "-" ∷ after }) ≡ None
-dash_none name arguments before after = named_dash (command_named name) arguments before after
+which word = by_name word (among word (names_in commands))
 
 -- what `clap` asks of the command that its clauses may be used
 pub blade_is_free : is_simple_and_free blade_app ≡ true
@@ -335,23 +263,25 @@ module _ (name : Text) (words : List Text) where
   abbrev matched : Option Request
   matched = chosen (Some (name, rows_after rules [] words))
 
-  matched_is : (arguments values : List Text) → Takes name start words arguments values → matched ≡ command_of name (record { arguments = arguments; steps_values = values })
-  matched_is arguments values t =
-      ap (λ rows. command_of name (parts_of_rows rows)) (rows_are name words)
-      ∙ ap₂ (λ arguments values. command_of name (record { arguments = arguments; steps_values = values })) t.arguments_are t.values_are
+  matched_is : (parts : Parts) → Takes name start words parts → matched ≡ command_of name parts
+  matched_is parts t = ap (λ rows. command_of name (parts_of_rows rows)) (rows_are name words) ∙ ap (command_of name) t.parts_are
 
-  taken_is : (found : Option Parts) → Answers name start words [] [] found → all_faults name start words ≡ [] → asked name found ≡ matched
-  taken_is (Some parts) t none = sym (matched_is parts.arguments parts.steps_values t)
-  taken_is None (faulty h) none = absurd (h none)
-  taken_is None (dashed arguments before after t) none = sym (matched_is arguments _ t ∙ dash_none name arguments before after)
+  taken_is : (found : Option Parts) → Answers name start words (arguments_alone []) found → all_faults name start words ≡ [] → asked name found ≡ matched
+  taken_is (Some parts) t none = sym (matched_is parts t)
+  taken_is None h none = absurd (h none)
 
-  refused_is : (found : Option Parts) → Answers name start words [] [] found → IsFaulty (all_faults name start words) → asked name found ≡ None
+  refused_is : (found : Option Parts) → Answers name start words (arguments_alone []) found → IsFaulty (all_faults name start words) → asked name found ≡ None
   refused_is None h fault = refl
   refused_is (Some parts) t fault = absurd (fault t.none)
 
-asked_none : (name : Text) (found : Option Parts) → command_named name ≡ None → asked name found ≡ None
-asked_none name None e = refl
-asked_none name (Some parts) e = ap (option_and_then (λ known. request_by known parts)) e
+-- words of no command ask for nothing
+asked_none : (name : Text) (found : Option Parts) → ((arguments : List Text) (steps : Option Text) → asked_among commands name arguments steps ≡ None) → asked name found ≡ None
+asked_none name None none = refl
+asked_none name (Some parts) none = go (value_of parts.steps_values)
+  where
+    go : (value : Option (Option Text)) → option_and_then (λ steps. option_and_then kept (asked_among commands name parts.arguments steps)) value ≡ None
+    go None = refl
+    go (Some steps) = ap (option_and_then kept) (none parts.arguments steps)
 
 when_named_taken : (program name : Text) (words : List Text) → AllText words → IsCommand name → fault_of blade_app (program ∷ name ∷ words) ≡ []
     → asked name (parts_of words) ≡ chosen (subcommand_of blade_app (program ∷ name ∷ words))
@@ -367,7 +297,7 @@ when_taken (program ∷ []) text none = absurd (missing [] [] none)
 when_taken (program ∷ word ∷ words) text none = go (which word)
   where
     go : Which word → request_of (program ∷ word ∷ words) ≡ chosen (subcommand_of blade_app (program ∷ word ∷ words))
-    go (command is) = asked_is program word words ∙ when_named_taken program word words text.1.1 is none
+    go (command is) = when_named_taken program word words text.1.1 is none
     go (other no_label no_command) = absurd (other_refused program word (kind word) words text.1.0 no_label none)
 
 -- where it refuses them, there is no request
@@ -378,10 +308,9 @@ when_refused (program ∷ word ∷ words) text fault = go (which word)
   where
     go : Which word → request_of (program ∷ word ∷ words) ≡ None
     go (command is) =
-        asked_is program word words
-        ∙ refused_is word words (parts_of words) (taken_apart word words text.1.1)
+        refused_is word words (parts_of words) (taken_apart word words text.1.1)
         (λ none. fault (fault_is word is program words ∙ sub_fault_is word words ∙ none))
-    go (other no_label no_command) = asked_is program word words ∙ asked_none word (parts_of words) no_command
+    go (other no_label no_command) = asked_none word (parts_of words) no_command
 
 pub all_text : {Z : Type 0} (words : List (String Z)) → AllText (map string_bytes words)
 all_text [] = tt

@@ -1,5 +1,5 @@
 -- The words of a call as the code keeps them.
-use Rattle.std.specs.Prelude.{List, ℕ, map}
+use Rattle.std.specs.Prelude.{List, ℕ, map, Option, option_map}
 use Rattle.std.specs.Borrow.{Bor}
 use Rattle.bl_words.specs.Requests.{Request, GenRequest, HardenRequest, InterpRequest, LowerRequest, RunRequest, SpecRequest, TwinRequest, VerifyRequest}
 use Rattle.bl_words.specs.Requests.{Parts, gen, harden, interp, lower, run, spec, twin, verify}
@@ -15,13 +15,19 @@ use Rattle.bl_words.specs.declared.words.Request.{Request as RequestWords}
 use Rattle.bl_words.specs.declared.words.Request.TheVariants.{Gen, Harden, Interp, Lower, Run, Spec, Twin, Verify}
 
 -- the parts that borrowed words are
-abbrev pub parts_in : List (Bor (List ℕ)) → List (Bor (List ℕ)) → Parts
-parts_in arguments values = record { arguments = map (λ word. word.now) arguments; steps_values = map (λ word. word.now) values }
+abbrev pub parts_in : (arguments steps : List (Bor (List ℕ))) → Parts
+parts_in arguments steps = record {
+  arguments = map (λ word. word.now) arguments;
+  steps_values = map (λ word. word.now) steps;
+}
+
+-- the text that a borrowed word is, where there is one
+abbrev pub text_in : Option (Bor (List ℕ)) → Option (List ℕ)
+text_in = option_map (λ word. word.now)
 
 -- the request that borrowed words are
 abbrev pub harden_in : HardenWords → HardenRequest
-harden_in words =
-    record { image = words.image.now; certificate = words.certificate.now; modules = map (λ word. word.now) words.modules }
+harden_in words = record { image = words.image.now; certificate = words.certificate.now; modules = map (λ word. word.now) words.modules }
 
 abbrev pub lower_in : LowerWords → LowerRequest
 lower_in words = record { image = words.image.now; modules = map (λ word. word.now) words.modules }

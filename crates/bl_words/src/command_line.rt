@@ -3,7 +3,7 @@ ghost use Rattle.std.specs.Prelude.{◌≡◌, IfOk, IfErr, map, string_bytes, [
 ghost use Rattle.clap.specs.Walk.{texts};
 ghost use Rattle.clap.specs.Words.{app_of, fault_of, kind_of, rule_of, subcommand_of, subcommand_rows_of};
 ghost use Rattle.clap.specs.declared.builder.command.Command.TheViews.{out-Command as fields_of};
-ghost use Rattle.bl_words.specs.CommandLine.{argument_rule, bare_app, blade_app, command_shape, steps_rule, with_commands as commands_in};
+ghost use Rattle.bl_words.specs.CommandLine.{argument_rule, bare_app, blade_app, command_shape, option_rule, with_commands as commands_in};
 
 use clap::error::ErrorKind;
 use clap::{Arg, ArgAction, ArgMatches, Command, Error};
@@ -90,7 +90,7 @@ fn subcommand<'a>(alloc: Global, name: &'a str) -> Result<Command<'a>, AllocErro
     ensures local { IfOk result (λ c. (fields_of c).has_globals ≡ false) }
 {
     let command = Command::new(alloc, name).arg(argument(alloc))?;
-    command.arg(steps(alloc))
+    command.arg(option(alloc, "steps"))
 }
 
 /// The arguments of a command, in order.
@@ -101,12 +101,10 @@ fn argument<'a>(alloc: Global) -> Arg<'a>
     Arg::new(alloc, "argument").action(ArgAction::Append)
 }
 
-/// `--steps`, each time that it stands.
-fn steps<'a>(alloc: Global) -> Arg<'a>
-    ensures rule { rule_of result ≡ steps_rule }
+/// An option, each time that it stands.
+fn option<'a>(alloc: Global, name: &'a str) -> Arg<'a>
+    ensures rule { rule_of result ≡ option_rule name.now }
     ensures local { result.global ≡ false }
 {
-    Arg::new(alloc, "steps")
-        .long("steps")
-        .action(ArgAction::Append)
+    Arg::new(alloc, name).long(name).action(ArgAction::Append)
 }

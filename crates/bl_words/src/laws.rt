@@ -1,11 +1,11 @@
 //! Laws of the definitions. Each function is its contract alone.
 ghost use Rattle.std.specs.Prelude.{◌≡◌, ◌↔◌, ℕ, List as Listed, Some};
-ghost use Rattle.bl_words.specs.Requests.{AreNamedApart, GenRequest, IsGenInRange, IsTakenApart, Request, gen, modules_in, parts_of, request_of};
+ghost use Rattle.bl_text.specs.Names.{AreNamedApart};
+ghost use Rattle.bl_words.specs.Requests.{GenRequest, IsGenInRange, IsTakenApart, Parts, Request, gen, modules_in, parts_of, request_of};
 
 /// The words behind a command have those parts exactly where the rules take them apart so.
 pub fn words_are_taken_apart()
-    ensures { (words arguments values : Listed (Listed ℕ))
-        → (parts_of words ≡ Some (record { arguments = arguments; steps_values = values })) ↔ IsTakenApart words arguments values }
+    ensures { (words : Listed (Listed ℕ)) (parts : Parts) → (parts_of words ≡ Some parts) ↔ IsTakenApart words parts }
 {}
 
 /// The seed of a `gen` is below 2^64, and its size is from 1 to the most functions of a module.

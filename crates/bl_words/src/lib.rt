@@ -2,16 +2,15 @@
 //! the rules of words, which stand apart from the code in `specs/`.
 #![tactic(auto)]
 
-mod command;
 mod command_line;
 pub mod laws;
 mod modules;
 mod numbers;
+mod options;
 mod read;
 mod steps;
 mod words;
 
-pub use modules::module_name;
 pub use read::read_words;
 pub use words::{
     GenWords, HardenWords, InterpWords, LowerWords, Request, RunWords, SpecWords, TwinWords,

@@ -3,7 +3,7 @@ ghost use Rattle.std.specs.Prelude.{◌≡◌};
 ghost use Rattle.bl_words.specs.Requests.{seed_of, size_of};
 
 use bl_base::Quantity;
-use bl_trace::read_decimal;
+use bl_text::read_decimal;
 
 /// A number below 2^64 in one to twenty decimal digits, without a sign.
 pub fn read_seed(word: &str) -> Option<u64>

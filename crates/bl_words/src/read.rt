@@ -2,13 +2,13 @@
 ghost use Rattle.std.specs.Prelude.{◌≡◌, IfOk, map, string_bytes};
 ghost use Rattle.std.specs.Option.{option_map};
 ghost use Rattle.clap.specs.Walk.{texts};
-ghost use Rattle.bl_words.specs.Requests.{command_of, gen_of, harden_of, interp_of, lower_of, request_by, request_of, run_of, spec_of, twin_of, verify_of};
-ghost use Rattle.bl_words.specs.Words.{parts_in, request_in};
+ghost use Rattle.bl_words.specs.Requests.{are_distinct, asked_among, command_of, commands, files_in, gen, gen_of, harden, harden_of, interp, interp_of, kept, lower, lower_of, modules_in, request_of, run, run_of, spec, spec_of, twin, twin_of, verify, verify_of};
+ghost use Rattle.bl_words.specs.Words.{parts_in, request_in, text_in};
 
-use crate::command::{Command, command_named};
 use crate::command_line::{Unmatched, matches_of};
-use crate::modules::modules_of;
+use crate::modules::{are_named_apart, modules_of};
 use crate::numbers::{read_seed, read_size};
+use crate::options::value_of;
 use crate::steps::most_steps;
 use crate::words::{
     GenWords, HardenWords, InterpWords, LowerWords, Request, RunWords, SpecWords, TwinWords,
@@ -31,8 +31,8 @@ pub fn read_words<'a>(alloc: Global, words: &'a [String]) -> Result<Option<Reque
         return Ok(None);
     };
     let arguments = inner.get_raw("argument").unwrap_or(&[]);
-    let values = inner.get_raw("steps").unwrap_or(&[]);
-    command_words(alloc, name, arguments, values)
+    let steps = inner.get_raw("steps").unwrap_or(&[]);
+    command_words(alloc, name, arguments, steps)
 }
 
 /// What a command asks for, by its name, its arguments and the values that `--steps` is given.
@@ -40,51 +40,88 @@ fn command_words<'a>(
     alloc: Global,
     name: &str,
     arguments: &[&'a str],
-    values: &[&'a str],
+    steps: &[&'a str],
 ) -> Result<Option<Request<'a>>, NoMemory>
-    ensures { IfOk result (λ request. option_map request_in request ≡ command_of name.now (parts_in arguments.now values.now)) }
+    ensures { IfOk result (λ request. option_map request_in request ≡ command_of name.now (parts_in arguments.now steps.now)) }
 {
-    match command_named(name) {
-        Some(command) => request_by(alloc, command, arguments, values),
+    let Some(steps) = value_of(steps) else {
+        return Ok(None);
+    };
+    match asked_by(alloc, name, arguments, steps)? {
+        Some(request) => kept(alloc, request),
         None => Ok(None),
     }
 }
 
-/// What a command asks for with these parts.
-fn request_by<'a>(
-    alloc: Global,
-    command: Command,
-    arguments: &[&'a str],
-    values: &[&'a str],
-) -> Result<Option<Request<'a>>, NoMemory>
-    ensures { IfOk result (λ request. option_map request_in request ≡ request_by command (parts_in arguments.now values.now)) }
+/// The request, where no two of its files that must differ are one, and no two of its modules have one name.
+fn kept<'a>(alloc: Global, request: Request<'a>) -> Result<Option<Request<'a>>, NoMemory>
+    ensures { IfOk result (λ found. option_map request_in found ≡ kept (request_in request.entry)) }
 {
-    match command {
-        Command::Harden => harden_words(alloc, arguments, values),
-        Command::Lower => lower_words(alloc, arguments, values),
-        Command::Interp => interp_words(alloc, arguments, values),
-        Command::Run => Ok(run_words(arguments, values)),
-        Command::Spec => Ok(spec_words(arguments, values)),
-        Command::Verify => Ok(verify_words(arguments, values)),
-        Command::Twin => Ok(twin_words(arguments, values)),
-        Command::Gen => Ok(gen_words(arguments, values)),
+    if !are_files_unlike(&request) {
+        return Ok(None);
+    }
+    if !are_named_apart(alloc, modules_in(&request))? {
+        return Ok(None);
+    }
+    Ok(Some(request))
+}
+
+/// Whether no two files of a request that must differ are one.
+fn are_files_unlike(request: &Request) -> bool
+    ensures { result ≡ are_distinct (files_in (request_in request.now)) }
+{
+    match request {
+        Request::Harden(words) => words.image != words.certificate,
+        Request::Verify(words) => words.image != words.certificate,
+        _ => true,
     }
 }
 
-/// What `harden` asks for with these parts: two arguments, which are not the same, then modules, and no `--steps`.
+/// The modules that a request reads.
+fn modules_in<'r, 'a>(request: &'r Request<'a>) -> &'r [&'a str]
+    ensures { texts result.now ≡ modules_in (request_in request.now) }
+{
+    match request {
+        Request::Harden(words) => words.modules.as_slice(),
+        Request::Lower(words) => words.modules.as_slice(),
+        Request::Interp(words) => words.modules.as_slice(),
+        _ => &[],
+    }
+}
+
+/// What the command of a name asks for with its arguments and the value of `--steps`; None where no command has the name.
+fn asked_by<'a>(
+    alloc: Global,
+    name: &str,
+    arguments: &[&'a str],
+    steps: Option<&'a str>,
+) -> Result<Option<Request<'a>>, NoMemory>
+    ensures { IfOk result (λ request. option_map request_in request ≡ asked_among commands name.now (texts arguments.now) (text_in steps.entry)) }
+{
+    match name {
+        "harden" => harden_words(alloc, arguments, steps),
+        "lower" => lower_words(alloc, arguments, steps),
+        "interp" => interp_words(alloc, arguments, steps),
+        "run" => Ok(run_words(arguments, steps)),
+        "spec" => Ok(spec_words(arguments, steps)),
+        "verify" => Ok(verify_words(arguments, steps)),
+        "twin" => Ok(twin_words(arguments, steps)),
+        "gen" => Ok(gen_words(arguments, steps)),
+        _ => Ok(None),
+    }
+}
+
+/// What `harden` asks for with these parts: two arguments, then modules, and no option.
 fn harden_words<'a>(
     alloc: Global,
     arguments: &[&'a str],
-    values: &[&'a str],
+    steps: Option<&'a str>,
 ) -> Result<Option<Request<'a>>, NoMemory>
-    ensures { IfOk result (λ request. option_map request_in request ≡ harden_of (texts arguments.now) (texts values.now)) }
+    ensures { IfOk result (λ request. option_map request_in request ≡ option_map harden (harden_of (texts arguments.now) (text_in steps.entry))) }
 {
-    let ([image, certificate, words @ ..], []) = (arguments, values) else {
+    let ([image, certificate, words @ ..], None) = (arguments, steps) else {
         return Ok(None);
     };
-    if image == certificate {
-        return Ok(None);
-    }
     match modules_of(alloc, words)? {
         Some(modules) => Ok(Some(Request::Harden(HardenWords {
             image: *image,
@@ -95,15 +132,15 @@ fn harden_words<'a>(
     }
 }
 
-/// What `lower` asks for with these parts: an argument, then modules, and no `--steps`.
+/// What `lower` asks for with these parts: an argument, then modules, and no option.
 fn lower_words<'a>(
     alloc: Global,
     arguments: &[&'a str],
-    values: &[&'a str],
+    steps: Option<&'a str>,
 ) -> Result<Option<Request<'a>>, NoMemory>
-    ensures { IfOk result (λ request. option_map request_in request ≡ lower_of (texts arguments.now) (texts values.now)) }
+    ensures { IfOk result (λ request. option_map request_in request ≡ option_map lower (lower_of (texts arguments.now) (text_in steps.entry))) }
 {
-    let ([image, words @ ..], []) = (arguments, values) else {
+    let ([image, words @ ..], None) = (arguments, steps) else {
         return Ok(None);
     };
     match modules_of(alloc, words)? {
@@ -119,9 +156,9 @@ fn lower_words<'a>(
 fn interp_words<'a>(
     alloc: Global,
     arguments: &[&'a str],
-    values: &[&'a str],
+    steps: Option<&'a str>,
 ) -> Result<Option<Request<'a>>, NoMemory>
-    ensures { IfOk result (λ request. option_map request_in request ≡ interp_of (texts arguments.now) (texts values.now)) }
+    ensures { IfOk result (λ request. option_map request_in request ≡ option_map interp (interp_of (texts arguments.now) (text_in steps.entry))) }
 {
     let [export, start, words @ ..] = arguments else {
         return Ok(None);
@@ -129,7 +166,7 @@ fn interp_words<'a>(
     let Some(modules) = modules_of(alloc, words)? else {
         return Ok(None);
     };
-    match most_steps(values) {
+    match most_steps(steps) {
         Some(steps) => Ok(Some(Request::Interp(InterpWords {
             export: *export,
             start: *start,
@@ -141,13 +178,13 @@ fn interp_words<'a>(
 }
 
 /// What `run` asks for with these parts: three arguments, and at most one `--steps`.
-fn run_words<'a>(arguments: &[&'a str], values: &[&'a str]) -> Option<Request<'a>>
-    ensures { option_map request_in result ≡ run_of (texts arguments.now) (texts values.now) }
+fn run_words<'a>(arguments: &[&'a str], steps: Option<&'a str>) -> Option<Request<'a>>
+    ensures { option_map request_in result ≡ option_map run (run_of (texts arguments.now) (text_in steps.entry)) }
 {
     let [image, export, start] = arguments else {
         return None;
     };
-    let steps = most_steps(values)?;
+    let steps = most_steps(steps)?;
     Some(Request::Run(RunWords {
         image: *image,
         export: *export,
@@ -156,12 +193,12 @@ fn run_words<'a>(arguments: &[&'a str], values: &[&'a str]) -> Option<Request<'a
     }))
 }
 
-/// What `spec` asks for with these parts: four arguments, and no `--steps`.
-fn spec_words<'a>(arguments: &[&'a str], values: &[&'a str]) -> Option<Request<'a>>
-    ensures { option_map request_in result ≡ spec_of (texts arguments.now) (texts values.now) }
+/// What `spec` asks for with these parts: four arguments, and no option.
+fn spec_words<'a>(arguments: &[&'a str], steps: Option<&'a str>) -> Option<Request<'a>>
+    ensures { option_map request_in result ≡ option_map spec (spec_of (texts arguments.now) (text_in steps.entry)) }
 {
-    match (arguments, values) {
-        ([image, export, trace, start], []) => Some(Request::Spec(SpecWords {
+    match (arguments, steps) {
+        ([image, export, trace, start], None) => Some(Request::Spec(SpecWords {
             image: *image,
             export: *export,
             trace: *trace,
@@ -171,28 +208,25 @@ fn spec_words<'a>(arguments: &[&'a str], values: &[&'a str]) -> Option<Request<'
     }
 }
 
-/// What `verify` asks for with these parts: two arguments, which are not the same, and no `--steps`.
-fn verify_words<'a>(arguments: &[&'a str], values: &[&'a str]) -> Option<Request<'a>>
-    ensures { option_map request_in result ≡ verify_of (texts arguments.now) (texts values.now) }
+/// What `verify` asks for with these parts: two arguments, and no option.
+fn verify_words<'a>(arguments: &[&'a str], steps: Option<&'a str>) -> Option<Request<'a>>
+    ensures { option_map request_in result ≡ option_map verify (verify_of (texts arguments.now) (text_in steps.entry)) }
 {
-    let ([image, certificate], []) = (arguments, values) else {
-        return None;
-    };
-    if image != certificate {
-        return Some(Request::Verify(VerifyWords {
+    match (arguments, steps) {
+        ([image, certificate], None) => Some(Request::Verify(VerifyWords {
             image: *image,
             certificate: *certificate,
-        }));
+        })),
+        _ => None,
     }
-    None
 }
 
-/// What `twin` asks for with these parts: five arguments, and no `--steps`.
-fn twin_words<'a>(arguments: &[&'a str], values: &[&'a str]) -> Option<Request<'a>>
-    ensures { option_map request_in result ≡ twin_of (texts arguments.now) (texts values.now) }
+/// What `twin` asks for with these parts: five arguments, and no option.
+fn twin_words<'a>(arguments: &[&'a str], steps: Option<&'a str>) -> Option<Request<'a>>
+    ensures { option_map request_in result ≡ option_map twin (twin_of (texts arguments.now) (text_in steps.entry)) }
 {
-    match (arguments, values) {
-        ([image, export, trace, start, other_start], []) => Some(Request::Twin(TwinWords {
+    match (arguments, steps) {
+        ([image, export, trace, start, other_start], None) => Some(Request::Twin(TwinWords {
             image: *image,
             export: *export,
             trace: *trace,
@@ -203,11 +237,11 @@ fn twin_words<'a>(arguments: &[&'a str], values: &[&'a str]) -> Option<Request<'
     }
 }
 
-/// What `gen` asks for with these parts: two arguments, which are a seed and a size, and no `--steps`.
-fn gen_words<'a>(arguments: &[&'a str], values: &[&'a str]) -> Option<Request<'a>>
-    ensures { option_map request_in result ≡ gen_of (texts arguments.now) (texts values.now) }
+/// What `gen` asks for with these parts: two arguments, which are a seed and a size, and no option.
+fn gen_words<'a>(arguments: &[&'a str], steps: Option<&'a str>) -> Option<Request<'a>>
+    ensures { option_map request_in result ≡ option_map gen (gen_of (texts arguments.now) (text_in steps.entry)) }
 {
-    let ([seed, size], []) = (arguments, values) else {
+    let ([seed, size], None) = (arguments, steps) else {
         return None;
     };
     let seed = read_seed(*seed)?;

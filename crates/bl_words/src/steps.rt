@@ -1,9 +1,9 @@
 //! The most steps of a run, as words say them.
 ghost use Rattle.std.specs.Prelude.{◌≡◌};
-ghost use Rattle.clap.specs.Walk.{texts};
 ghost use Rattle.bl_words.specs.Requests.{number_of_steps, steps_of};
+ghost use Rattle.bl_words.specs.Words.{text_in};
 
-use bl_trace::read_decimal;
+use bl_text::read_decimal;
 
 /// The most steps of an `interp` or a `run` that doesn't say them.
 const DEFAULT_STEPS: u64 = 1_000_000;
@@ -11,14 +11,13 @@ const DEFAULT_STEPS: u64 = 1_000_000;
 /// The greatest number of steps that may be asked for.
 const GREATEST_STEPS: u64 = 4_294_967_295;
 
-/// The most steps, by the values that `--steps` is given: at most one may stand.
-pub fn most_steps(values: &[&str]) -> Option<u64>
-    ensures { result ≡ steps_of (texts values.now) }
+/// The most steps, by the value of `--steps`.
+pub fn most_steps(value: Option<&str>) -> Option<u64>
+    ensures { result ≡ steps_of (text_in value.entry) }
 {
-    match values {
-        [] => Some(DEFAULT_STEPS),
-        [value] => read_steps(*value),
-        _ => None,
+    match value {
+        None => Some(DEFAULT_STEPS),
+        Some(value) => read_steps(value),
     }
 }
 

@@ -2,6 +2,12 @@
 use bl_base::List;
 
 /// What the words of a call ask for.
+///
+/// One more command is one more variant here, with its words; its name in `command_line`; its arm in `asked_by` of `read`, with
+/// the function behind it that tests the command's parts. In the definitions: a record of the request, a variant of `Request`,
+/// what it asks for and its row in `commands` (Requests.antt), and `request_in` (Words.antt). In the lemmas: a field of
+/// `rows_keep` (WordsLemmas.antt). One with modules, or with files that must differ, stands in `modules_in` or
+/// `are_files_unlike` of `read` too, and in `modules_in` or `files_in`.
 #[derive(Drop)]
 pub enum Request<'a> {
     /// To write the image and the certificate of modules.

@@ -1,5 +1,5 @@
 //! The shelf in memory.
-use crate::shelves::{fails, gives};
+use crate::shelves::{fails, gives, reads, stops};
 use bl_base::{List, NoMemory};
 use bl_outside::{MemoryShelf, Shelf};
 use std::alloc::Global;
@@ -57,5 +57,56 @@ fn is_told(alloc: Global) -> Result<bool, NoMemory> {
 #[test]
 fn a_memory_shelf_fails_at_the_listed_calls(rt: HostRuntime) -> Result<(), Fail> {
     assert!(rt; is_told(rt.alloc())?);
+    Ok(())
+}
+
+/// Whether an entry is read from its beginning, from its middle and at its end, and one that is absent fails.
+fn is_read_in_pieces(shelf: &mut MemoryShelf) -> bool {
+    reads(shelf, "a", 0, 3, b"byt")
+        && reads(shelf, "a", 3, 3, b"es")
+        && reads(shelf, "a", 1, 1, b"y")
+        && reads(shelf, "a", 4, 100, b"s")
+        && reads(shelf, "a", 5, 3, b"")
+        && reads(shelf, "a", 9, 3, b"")
+        && stops(shelf, "c", 0, 3)
+        && stops(shelf, "c", 9, 3)
+}
+
+/// Whether that holds of a shelf with those entries, whose entries stay as they are.
+fn are_pieces_told(alloc: Global) -> Result<bool, NoMemory> {
+    let mut shelf = MemoryShelf::new(alloc, List::new(alloc));
+    Ok(
+        filled(&mut shelf, &ENTRIES)
+            && is_read_in_pieces(&mut shelf)
+            && holds(&shelf, "a", b"bytes")
+            && holds(&shelf, "b", b"other")
+            && shelf.entry("c").is_none(),
+    )
+}
+
+#[test]
+fn a_memory_shelf_is_read_in_pieces(rt: HostRuntime) -> Result<(), Fail> {
+    assert!(rt; are_pieces_told(rt.alloc())?);
+    Ok(())
+}
+
+/// Whether the third call fails, be it the first or the second of an entry's pieces, and the next one doesn't.
+fn is_numbered_together(shelf: &mut MemoryShelf) -> bool {
+    reads(shelf, "a", 0, 2, b"by")
+        && shelf.keep("b", b"new").is_ok()
+        && stops(shelf, "a", 2, 2)
+        && reads(shelf, "a", 2, 2, b"te")
+        && gives(shelf, "b", 2, b"new")
+}
+
+/// Whether that holds of a shelf with those entries.
+fn are_numbered_together(alloc: Global) -> Result<bool, NoMemory> {
+    let mut shelf = failing(alloc)?;
+    Ok(filled(&mut shelf, &ENTRIES) && is_numbered_together(&mut shelf))
+}
+
+#[test]
+fn the_calls_of_a_memory_shelf_are_numbered_together(rt: HostRuntime) -> Result<(), Fail> {
+    assert!(rt; are_numbered_together(rt.alloc())?);
     Ok(())
 }

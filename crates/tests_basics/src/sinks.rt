@@ -24,6 +24,27 @@ fn a_memory_sink_takes_what_limit_and_room_leave(rt: HostRuntime) -> Result<(), 
     Ok(())
 }
 
+/// Whether a sink takes at most three bytes at a push, and no more than its limit in all.
+fn takes_little(alloc: Global) -> Result<bool, NoMemory> {
+    let mut sink = MemorySink::narrow(alloc, 3, Some(5));
+    let without_room = sink.push(b"a") == Err(SinkFault);
+    sink.reserve(100)?;
+    Ok(
+        without_room
+            && sink.push(b"twelve bytes") == Ok(3)
+            && sink.push(b"") == Ok(0)
+            && sink.push(b"lve bytes") == Ok(2)
+            && sink.push(b"e bytes") == Err(SinkFault)
+            && sink.bytes() == b"twelv".as_slice(),
+    )
+}
+
+#[test]
+fn a_narrow_sink_takes_little_at_a_push(rt: HostRuntime) -> Result<(), Fail> {
+    assert!(rt; takes_little(rt.alloc())?);
+    Ok(())
+}
+
 #[test]
 fn a_standard_sink_takes_a_short_piece(rt: HostRuntime) -> Result<(), Fail> {
     let mut sink = StdSink::new(&rt);

@@ -1,5 +1,5 @@
 //! Tests of what programs give away: least protects and certificates, the check of constant time and the verdict on two runs, each from an
-//! image's bytes on; agreement of starts, comparisons of two runs, and the buffer machine with room for one entry.
+//! image's bytes on; agreement of starts, comparisons of two runs, and the buffer machine with room for one entry; weights by counted runs.
 #![tactic(auto)]
 
 #[cfg(test)]
@@ -12,6 +12,8 @@ mod certificates;
 mod chains;
 #[cfg(test)]
 mod comparisons;
+#[cfg(test)]
+mod counts;
 #[cfg(test)]
 mod drawn;
 #[cfg(test)]

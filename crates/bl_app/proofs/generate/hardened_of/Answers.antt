@@ -3,7 +3,8 @@ use Rattle.std.specs.Prelude.{Vec}
 use Rattle.std.specs.declared.alloc.Global.{Global}
 use Rattle.bl_build.specs.Hardening.{hardening}
 use Rattle.bl_build.specs.Loading.{AreShort, parts_of}
-use Rattle.bl_build.specs.Working.{IsStaged, contents_in, hardened_in}
+use Rattle.bl_job.specs.Working.{IsStaged, contents_in}
+use Rattle.bl_build.specs.Working.{hardened_in}
 use Rattle.bl_app.proofs.generate.hardened_of.Goals as goal
 
 pub compile_hardened-requires-clause-short : goal.compile_hardened-requires-clause-short

@@ -1,10 +1,10 @@
-use Rattle.std.proofs.Common.{Bor, Err, List, map, subst, sym, ℕ}
+use Rattle.std.proofs.Common.{Bor, List, map, subst, sym, ℕ}
 use Rattle.bl_build.specs.Hardening.{hardening}
-use Rattle.bl_app.specs.Hardening.{harden_job}
 use Rattle.bl_build.specs.Loading.{parts_of, AreShort}
 use Rattle.bl_words.specs.Words.{harden_in}
-use Rattle.bl_build.specs.Working.{IsStaged, contents_in, hardened_in}
-use Rattle.bl_app.proofs.HardenLemmas.{not_compiled, short_modules}
+use Rattle.bl_job.specs.Working.{Tells, contents_in}
+use Rattle.bl_build.specs.Working.{hardened_in}
+use Rattle.bl_app.proofs.HardenLemmas.{short_modules}
 use Rattle.bl_app.proofs.harden.harden.Goals as goal
 
 -- the words
@@ -23,15 +23,10 @@ returns-in_ok-plan_of-in-Ok c =
     let hardened = hardened_in c.in-Ok.hardened in
     let passed = subst (λ (words : List (Bor (List ℕ))). hardening.Passes (parts_of (texts words) contents) hardened) c.as_slice.ensures c.in-Ok.ensures in
     record {
-      built = passed.0;
-      compiled = passed.1;
+      made = passed.0;
+      passes = passed.1;
       plans = record { hardened = hardened; is_hardened = passed.2; is_plan = c.in_ok-plan_of-in-Ok.ensures };
     }
 
 pub returns-in-Err : goal.returns-in-Err
-returns-in-Err c =
-    let contents = contents_in c.args.contents.now in
-    not_compiled (harden_job (harden_in c.args.words.now)) (parts_of (texts c.args.words.now.modules) contents) contents
-    (λ refusal r. r) c.in-Err.error
-    (subst (λ (words : List (Bor (List ℕ))). IsStaged hardening hardened_in (parts_of (texts words) contents) (Err c.in-Err.error))
-    c.as_slice.ensures c.in-Err.ensures)
+returns-in-Err c = subst (λ (words : List (Bor (List ℕ))). Tells (hardening.Refuses (parts_of (texts words) (contents_in c.args.contents.now))) c.in-Err.error) c.as_slice.ensures c.in-Err.ensures

@@ -1,15 +1,23 @@
-use Rattle.std.proofs.Common.{◌≡◌, [], ◌∷◌, ◌∙◌, ap, subst, sym}
-use Rattle.bl_app.specs.Executing.{run_job}
+use Rattle.std.proofs.Common.{Err, None}
+use Rattle.bl_build.specs.Entering.{imaging, program_entering}
 use Rattle.bl_words.specs.Words.{run_in}
-use Rattle.bl_app.specs.Working.{IsWork}
-use Rattle.bl_build.specs.Working.{contents_in}
-use Rattle.bl_app.proofs.RunWork.{run_work}
-use Rattle.bl_app.proofs.WorkLemmas.{two_contents}
+use Rattle.bl_app.specs.Executing.{RunPlans, run_job, run_staged}
+use Rattle.bl_job.proofs.StagedWork.{done_behind, refused_first}
+use Rattle.bl_job.proofs.Staging.{staged_work}
+use Rattle.bl_job.proofs.WorkLemmas.{as_many}
 use Rattle.bl_app.proofs.run.execute.Goals as goal
 
-pub returns : goal.returns
-returns c =
-    let shape = two_contents c.args.contents.now c.image-item.result c.start-item.result c.in-len2.len_at_least c.in-len2.len_below c.image-item.is c.start-item.is in
-    let contents : c.deref.result.now ∷ c.deref-2.result.now ∷ [] ≡ contents_in c.args.contents.now = (λ i. c.deref.ensures.value i ∷ (c.deref-2.ensures.value i ∷ [])) ∙ sym (ap contents_in shape) in
-    subst (λ l. IsWork (run_job (run_in c.args.words.now)) l c.execute_image.result) contents
-    (run_work (run_in c.args.words.now) c.deref.result.now c.deref-2.result.now c.execute_image.result c.execute_image.ensures)
+pub two_files-requires : goal.two_files-requires
+two_files-requires c = as_many None (run_job (run_in c.args.words.now)).reads c.args.contents.now c.requires
+
+pub returns-in-Ok : goal.returns-in-Ok
+returns-in-Ok c =
+    let request = run_in c.args.words.now in
+    staged_work (run_staged request) _ _ c.two_files.ensures c.execute_program.result
+    (done_behind imaging (program_entering request.export c.two_files.result.1.now) (RunPlans request.steps) c.two_files.result.0.now c.in-Ok.program c.execute_program.result c.in-Ok.ensures c.execute_program.ensures)
+
+pub returns-in-Err : goal.returns-in-Err
+returns-in-Err c =
+    let request = run_in c.args.words.now in
+    staged_work (run_staged request) _ _ c.two_files.ensures (Err c.in-Err.error)
+    (refused_first imaging (program_entering request.export c.two_files.result.1.now) (RunPlans request.steps) c.two_files.result.0.now c.in-Err.error c.in-Err.ensures)

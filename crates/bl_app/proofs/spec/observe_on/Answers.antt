@@ -1,11 +1,12 @@
 use Rattle.std.proofs.Common.{◌≡◌, ◌++◌, ◌∙◌, List, ap, map, flat_map}
 use Rattle.bl_rob.specs.CallResults.{outcome_in, seen_in, shown}
 use Rattle.bl_rob.specs.Observed.{Observed}
+use Rattle.bl_rob.specs.declared.directive.Observation.{Observation}
 use Rattle.bl_rob.specs.declared.directive.Directive.{Directive}
 use Rattle.bl_trace.specs.Observations.{observation_text}
 use Rattle.bl_app.specs.Speculating.{last_text, spec_plan, spec_status}
 use Rattle.bl_build.specs.Working.{entered_in, entry_in}
-use Rattle.bl_app.specs.Working.{keep_in, plan_in}
+use Rattle.bl_job.specs.Working.{keep_in, plan_in}
 use Rattle.bl_rob.proofs.Observing.{observed_so}
 use Rattle.bl_app.proofs.spec.observe_on.Goals as goal
 
@@ -16,7 +17,7 @@ returns c =
     let both = observed_so 64 c.args.program.now c.args.rob.now.program c.args.speculation.now.entry.function c.args.speculation.now.start c.as_slice.result.now (shown c.args.rob.now.machine)
     (shown new.machine) (seen_in c.in_ok-seen.seen) c.requires.program c.requires.opening c.in_ok-seen.ensures.seen in
     let same : new.program ≡ c.args.program.now = c.in_ok-seen.ensures.same ∙ c.requires.program in
-    let refused = ap (λ (o : Observed). o.refused) both.0 in
+    let refused = ap (λ (o : Observed Observation). o.refused) both.0 in
     let text = c.in_ok-text.ensures ∙ (λ i. flat_map observation_text (both.0 i).made ++ last_text entered (outcome_in (same i) (both.1 i)) (refused i)) in
     let plan : plan_in (record { status = c.spec_status.result; keeps = c.new.result; text = c.in_ok-text.text }) ≡ spec_plan (record { entered = entered; directives = c.as_slice.result.now })
     = λ i. record { status = (c.spec_status.ensures ∙ ap spec_status refused) i; keeps = map keep_in (c.new.ensures.items i); text = text i } in

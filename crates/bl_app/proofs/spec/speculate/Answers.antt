@@ -1,16 +1,24 @@
-use Rattle.std.proofs.Common.{◌≡◌, [], ◌∷◌, ◌∙◌, ap, subst, sym}
-use Rattle.bl_app.specs.Speculating.{spec_job}
+use Rattle.std.proofs.Common.{Err, None}
+use Rattle.bl_build.specs.Entering.{imaging}
+use Rattle.bl_build.specs.Tracing.{program_speculating}
 use Rattle.bl_words.specs.Words.{spec_in}
-use Rattle.bl_app.specs.Working.{IsWork}
-use Rattle.bl_build.specs.Working.{contents_in}
-use Rattle.bl_app.proofs.SpecWork.{spec_work, three_contents}
+use Rattle.bl_app.specs.Speculating.{SpecPlans, spec_job, spec_staged}
+use Rattle.bl_job.proofs.StagedWork.{done_behind, refused_first}
+use Rattle.bl_job.proofs.Staging.{staged_work}
+use Rattle.bl_job.proofs.WorkLemmas.{as_many}
 use Rattle.bl_app.proofs.spec.speculate.Goals as goal
 
-pub returns : goal.returns
-returns c =
-    let shape = three_contents c.args.contents.now c.image-item.result c.trace-item.result c.start-item.result c.in-len3.len_at_least c.in-len3.len_below
-    c.image-item.is c.trace-item.is c.start-item.is in
-    let contents : c.deref.result.now ∷ c.deref-2.result.now ∷ c.deref-3.result.now ∷ [] ≡ contents_in c.args.contents.now
-    = (λ i. c.deref.ensures.value i ∷ (c.deref-2.ensures.value i ∷ (c.deref-3.ensures.value i ∷ []))) ∙ sym (ap contents_in shape) in
-    subst (λ l. IsWork (spec_job (spec_in c.args.words.now)) l c.speculate_image.result) contents
-    (spec_work (spec_in c.args.words.now) c.deref.result.now c.deref-2.result.now c.deref-3.result.now c.speculate_image.result c.speculate_image.ensures)
+pub three_files-requires : goal.three_files-requires
+three_files-requires c = as_many None (spec_job (spec_in c.args.words.now)).reads c.args.contents.now c.requires
+
+pub returns-in-Ok : goal.returns-in-Ok
+returns-in-Ok c =
+    let request = spec_in c.args.words.now in
+    staged_work (spec_staged request) _ _ c.three_files.ensures c.speculate_program.result
+    (done_behind imaging (program_speculating request.export c.three_files.result.1.now c.three_files.result.2.now) SpecPlans c.three_files.result.0.now c.in-Ok.program c.speculate_program.result c.in-Ok.ensures c.speculate_program.ensures)
+
+pub returns-in-Err : goal.returns-in-Err
+returns-in-Err c =
+    let request = spec_in c.args.words.now in
+    staged_work (spec_staged request) _ _ c.three_files.ensures (Err c.in-Err.error)
+    (refused_first imaging (program_speculating request.export c.three_files.result.1.now c.three_files.result.2.now) SpecPlans c.three_files.result.0.now c.in-Err.error c.in-Err.ensures)

@@ -3,11 +3,11 @@ use Rattle.std.proofs.lemmas.List.{length-map}
 use Rattle.bl_base.specs.Quantity.{limit_of}
 use Rattle.bl_base.specs.declared.quantity.Quantity.TheVariants as quantity
 use Rattle.bl_app.specs.Commands.{job_of, work_of}
-use Rattle.bl_build.specs.Refusals.{limit}
+use Rattle.bl_job.specs.Refusals.{limit}
 use Rattle.bl_words.specs.Requests.{modules_in}
 use Rattle.bl_words.specs.Words.{request_in}
-use Rattle.bl_app.proofs.CarryLemmas.{refused_ends}
-use Rattle.bl_app.proofs.CountLemmas.{too_many_first}
+use Rattle.bl_job.proofs.CarryLemmas.{refused_ends}
+use Rattle.bl_job.proofs.CountLemmas.{too_many_first}
 use Rattle.bl_app.proofs.top.carry_out.Goals as goal
 
 pub returns-then-count-limit : goal.returns-then-count-limit

@@ -1,13 +1,17 @@
 use Rattle.std.proofs.Common.{◌∙◌, None, Err, ap, map, refl, subst, sym}
 use Rattle.bl_app.specs.Commands.{job_of, work_of}
-use Rattle.bl_app.specs.Jobs.{AreRead}
+use Rattle.bl_job.specs.Jobs.{AreRead}
 use Rattle.bl_words.specs.Requests.{modules_in}
 use Rattle.bl_words.specs.Words.{request_in}
-use Rattle.bl_app.specs.Working.{IsWork, plan_in, read_in}
-use Rattle.bl_build.specs.Working.{contents_in, refusal_in}
-use Rattle.bl_app.proofs.CarryLemmas.{against_ends, contents_fit, done_ends, unfetched_ends}
-use Rattle.bl_app.proofs.CountLemmas.{against_with, does_with, reads_with}
+use Rattle.bl_job.specs.Working.{IsWork, plan_in, read_in, contents_in, refusal_in}
+use Rattle.bl_job.proofs.CarryLemmas.{against_ends, contents_fit, done_ends, unfetched_ends}
+use Rattle.bl_app.proofs.CommandLemmas.{small_of}
+use Rattle.bl_job.proofs.CountLemmas.{against_with, does_with, reads_with}
+use Rattle.bl_job.proofs.FetchLemmas.{small_reads}
 use Rattle.bl_app.proofs.top.do_job.Goals as goal
+
+pub fetch_all-requires : goal.fetch_all-requires
+fetch_all-requires g c = small_reads c.as_slice.result.now _ (ap (map read_in) c.as_slice.ensures.value ∙ c.in-Ok.ensures) (small_of (request_in c.args.request.now))
 
 pub work-requires-clause-read : goal.work-requires-clause-read
 work-requires-clause-read g c =

@@ -2,11 +2,11 @@ use Rattle.std.proofs.Common.{map, refl, string_bytes, sym}
 use Rattle.bl_words.proofs.WordsLemmas.{names_apart}
 use Rattle.bl_words.specs.Words.{request_in}
 use Rattle.bl_app.specs.Commands.{job_of}
-use Rattle.bl_app.specs.Ends.{all_kept, as_planned, usage}
-use Rattle.bl_app.specs.Jobs.{saying}
-use Rattle.bl_app.specs.Texts.{usage_text}
-use Rattle.bl_app.specs.declared.status.Status.TheVariants.{Usage}
-use Rattle.bl_app.proofs.CarryLemmas.{ends_asked}
+use Rattle.bl_job.specs.Ends.{all_kept, as_planned, usage}
+use Rattle.bl_job.specs.Jobs.{saying}
+use Rattle.bl_job.specs.Texts.{usage_text}
+use Rattle.bl_job.specs.declared.status.Status.TheVariants.{Usage}
+use Rattle.bl_job.proofs.CarryLemmas.{ends_asked}
 use Rattle.bl_app.proofs.CommandLemmas.{sized_by}
 use Rattle.bl_app.proofs.top.run.Goals as goal
 

@@ -1,16 +1,24 @@
-use Rattle.std.proofs.Common.{◌≡◌, [], ◌∷◌, ◌∙◌, ap, subst, sym}
-use Rattle.bl_app.specs.Twinning.{twin_job}
+use Rattle.std.proofs.Common.{Err, None}
+use Rattle.bl_build.specs.Entering.{imaging}
+use Rattle.bl_build.specs.Tracing.{program_twinning}
 use Rattle.bl_words.specs.Words.{twin_in}
-use Rattle.bl_app.specs.Working.{IsWork}
-use Rattle.bl_build.specs.Working.{contents_in}
-use Rattle.bl_app.proofs.TwinWork.{four_contents, twin_work}
+use Rattle.bl_app.specs.Twinning.{TwinPlans, twin_job, twin_staged}
+use Rattle.bl_job.proofs.StagedWork.{done_behind, refused_first}
+use Rattle.bl_job.proofs.Staging.{staged_work}
+use Rattle.bl_job.proofs.WorkLemmas.{as_many}
 use Rattle.bl_app.proofs.twin.twin.Goals as goal
 
-pub returns : goal.returns
-returns c =
-    let shape = four_contents c.args.contents.now c.image-item.result c.trace-item.result c.start-item.result c.other-item.result c.in-len4.len_at_least c.in-len4.len_below
-    c.image-item.is c.trace-item.is c.start-item.is c.other-item.is in
-    let contents : c.deref.result.now ∷ c.deref-2.result.now ∷ c.deref-3.result.now ∷ c.deref-4.result.now ∷ [] ≡ contents_in c.args.contents.now
-    = (λ i. c.deref.ensures.value i ∷ (c.deref-2.ensures.value i ∷ (c.deref-3.ensures.value i ∷ (c.deref-4.ensures.value i ∷ [])))) ∙ sym (ap contents_in shape) in
-    subst (λ l. IsWork (twin_job (twin_in c.args.words.now)) l c.twin_image.result) contents
-    (twin_work (twin_in c.args.words.now) c.deref.result.now c.deref-2.result.now c.deref-3.result.now c.deref-4.result.now c.twin_image.result c.twin_image.ensures)
+pub four_files-requires : goal.four_files-requires
+four_files-requires c = as_many None (twin_job (twin_in c.args.words.now)).reads c.args.contents.now c.requires
+
+pub returns-in-Ok : goal.returns-in-Ok
+returns-in-Ok c =
+    let request = twin_in c.args.words.now in
+    staged_work (twin_staged request) _ _ c.four_files.ensures c.twin_program.result
+    (done_behind imaging (program_twinning request.export c.four_files.result.1.now c.four_files.result.2.now c.four_files.result.3.now) TwinPlans c.four_files.result.0.now c.in-Ok.program c.twin_program.result c.in-Ok.ensures c.twin_program.ensures)
+
+pub returns-in-Err : goal.returns-in-Err
+returns-in-Err c =
+    let request = twin_in c.args.words.now in
+    staged_work (twin_staged request) _ _ c.four_files.ensures (Err c.in-Err.error)
+    (refused_first imaging (program_twinning request.export c.four_files.result.1.now c.four_files.result.2.now c.four_files.result.3.now) TwinPlans c.four_files.result.0.now c.in-Err.error c.in-Err.ensures)

@@ -1,15 +1,24 @@
-use Rattle.std.proofs.Common.{◌≡◌, [], ◌∷◌, ◌∙◌, ap, subst, sym}
-use Rattle.bl_app.specs.Verifying.{verify_job}
+use Rattle.std.proofs.Common.{Err, None}
+use Rattle.bl_build.specs.Entering.{imaging}
+use Rattle.bl_build.specs.Certifying.{certifying}
 use Rattle.bl_words.specs.Words.{verify_in}
-use Rattle.bl_app.specs.Working.{IsWork}
-use Rattle.bl_build.specs.Working.{contents_in}
-use Rattle.bl_app.proofs.VerifyWork.{verify_work}
-use Rattle.bl_app.proofs.WorkLemmas.{two_contents}
+use Rattle.bl_app.specs.Verifying.{VerifyPlans, verify_job, verify_staged}
+use Rattle.bl_job.proofs.StagedWork.{done_behind, refused_first}
+use Rattle.bl_job.proofs.Staging.{staged_work}
+use Rattle.bl_job.proofs.WorkLemmas.{as_many}
 use Rattle.bl_app.proofs.verify.verify.Goals as goal
 
-pub returns : goal.returns
-returns c =
-    let shape = two_contents c.args.contents.now c.image-item.result c.certificate-item.result c.in-len2.len_at_least c.in-len2.len_below c.image-item.is c.certificate-item.is in
-    let contents : c.deref.result.now ∷ c.deref-2.result.now ∷ [] ≡ contents_in c.args.contents.now = (λ i. c.deref.ensures.value i ∷ (c.deref-2.ensures.value i ∷ [])) ∙ sym (ap contents_in shape) in
-    subst (λ l. IsWork (verify_job (verify_in c.args.words.now)) l c.verify_image.result) contents
-    (verify_work (verify_in c.args.words.now) c.deref.result.now c.deref-2.result.now c.verify_image.result c.verify_image.ensures)
+pub two_files-requires : goal.two_files-requires
+two_files-requires c = as_many None (verify_job (verify_in c.args.words.now)).reads c.args.contents.now c.requires
+
+pub returns-in-Ok : goal.returns-in-Ok
+returns-in-Ok c =
+    let request = verify_in c.args.words.now in
+    staged_work (verify_staged request) _ _ c.two_files.ensures c.verify_program.result
+    (done_behind imaging (certifying c.two_files.result.1.now) VerifyPlans c.two_files.result.0.now c.in-Ok.program c.verify_program.result c.in-Ok.ensures c.verify_program.ensures)
+
+pub returns-in-Err : goal.returns-in-Err
+returns-in-Err c =
+    let request = verify_in c.args.words.now in
+    staged_work (verify_staged request) _ _ c.two_files.ensures (Err c.in-Err.error)
+    (refused_first imaging (certifying c.two_files.result.1.now) VerifyPlans c.two_files.result.0.now c.in-Err.error c.in-Err.ensures)

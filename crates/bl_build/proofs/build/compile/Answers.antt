@@ -1,12 +1,12 @@
-use Rattle.bl_build.specs.Building.{compiling}
+use Rattle.bl_build.specs.Building.{building, compiling}
 use Rattle.bl_build.specs.Loading.{loading}
-use Rattle.bl_build.specs.Stages.{at_first}
+use Rattle.bl_job.specs.Stages.{at_first}
 use Rattle.bl_build.specs.Working.{built_in}
-use Rattle.bl_build.proofs.BuildLemmas.{linked_builds, still_refused}
+use Rattle.bl_build.proofs.BuildLemmas.{staged_behind, still_refused}
 use Rattle.bl_build.proofs.build.compile.Goals as goal
 
 pub returns-in-Ok : goal.returns-in-Ok
-returns-in-Ok c = linked_builds _ c.in-Ok.linked c.build.result c.in-Ok.ensures c.build.ensures
+returns-in-Ok c = staged_behind loading building built_in _ c.in-Ok.linked c.build.result c.in-Ok.ensures c.build.ensures
 
 pub returns-in-Err : goal.returns-in-Err
 returns-in-Err c = still_refused loading compiling (λ tree. tree) built_in _ (λ refusal r. at_first r) c.in-Err.error c.in-Err.ensures

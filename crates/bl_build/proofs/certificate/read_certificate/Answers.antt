@@ -1,7 +1,7 @@
 use Rattle.std.proofs.Common.{subst, sym}
 use Rattle.std.specs.Prelude.{Err}
 use Rattle.bl_build.specs.Working.{IsCertificateOf}
-use Rattle.bl_build.specs.declared.refusal.WorkError.{WorkError}
+use Rattle.bl_job.specs.declared.refusal.WorkError.{WorkError}
 use Rattle.bl_build.proofs.CertifyingLemmas.{not_read}
 use Rattle.bl_build.proofs.certificate.read_certificate.Goals as goal
 

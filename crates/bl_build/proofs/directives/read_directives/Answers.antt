@@ -3,10 +3,10 @@ use Rattle.std.specs.Prelude.{Err}
 use Rattle.bl_base.specs.Quantity.{limit_of}
 use Rattle.bl_base.specs.declared.quantity.Quantity.TheVariants as quantity
 use Rattle.bl_trace.specs.Lines.{lines_of}
-use Rattle.bl_build.specs.Refusals.{limit}
+use Rattle.bl_job.specs.Refusals.{limit}
 use Rattle.bl_build.specs.Tracing.{too_many}
 use Rattle.bl_build.specs.Working.{IsTraced}
-use Rattle.bl_build.specs.declared.refusal.WorkError.{WorkError}
+use Rattle.bl_job.specs.declared.refusal.WorkError.{WorkError}
 use Rattle.bl_build.proofs.TracingLemmas.{not_traced}
 use Rattle.bl_build.proofs.directives.read_directives.Goals as goal
 

@@ -1,7 +1,8 @@
 use Rattle.std.proofs.Common.{◌≡◌, ◌∙◌, ap, subst, sym}
 use Rattle.std.specs.Prelude.{Err}
 use Rattle.bl_build.specs.Entering.{pages_of, starting}
-use Rattle.bl_build.specs.Working.{IsStaged, entered_in, entry_in}
+use Rattle.bl_job.specs.Working.{IsStaged}
+use Rattle.bl_build.specs.Working.{entered_in, entry_in}
 use Rattle.bl_build.proofs.EnteringLemmas.{not_started}
 use Rattle.bl_build.proofs.entry.read_entry_start.Goals as goal
 

@@ -2,7 +2,7 @@ use Rattle.std.proofs.Common.{subst, sym}
 use Rattle.std.specs.Prelude.{Err}
 use Rattle.bl_cmd.specs.declared.definitions.ProgramParts.{ProgramParts as Program}
 use Rattle.bl_build.specs.Entering.{imaging}
-use Rattle.bl_build.specs.Working.{IsStaged}
+use Rattle.bl_job.specs.Working.{IsStaged}
 use Rattle.bl_build.proofs.EnteringLemmas.{not_imaged}
 use Rattle.bl_build.proofs.entry.read_image.Goals as goal
 

@@ -3,7 +3,8 @@ use Rattle.std.specs.Prelude.{Err}
 use Rattle.bl_base.specs.Fits.{Fits}
 use Rattle.bl_trace.specs.StartFiles.{answer_of, IsAnswer}
 use Rattle.bl_build.specs.Running.{invoking}
-use Rattle.bl_build.specs.Working.{IsStaged, invoked_in}
+use Rattle.bl_job.specs.Working.{IsStaged}
+use Rattle.bl_build.specs.Working.{invoked_in}
 use Rattle.bl_build.proofs.InvokingLemmas.{exported_exists, start_of_type, start_refused}
 use Rattle.bl_build.proofs.invocation.prepare.Goals as goal
 

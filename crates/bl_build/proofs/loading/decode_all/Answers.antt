@@ -10,10 +10,11 @@ use Rattle.bl_wasm.specs.Validity.{functions_of}
 use Rattle.bl_wasm.proofs.LimitLemmas.{few_functions}
 use Rattle.bl_decode.specs.Decoding.{Answers}
 use Rattle.bl_build.specs.Loading.{decoding, parts_of}
-use Rattle.bl_build.specs.Working.{contents_in, spelled_in}
+use Rattle.bl_job.specs.Working.{contents_in}
+use Rattle.bl_build.specs.Working.{spelled_in}
 use Rattle.bl_build.specs.declared.loading.Spelled.{Spelled}
 use Rattle.bl_build.proofs.LoadSteps.{next_decoded, not_decoded, words_in}
-use Rattle.bl_build.proofs.StageLemmas.{goes_ends}
+use Rattle.bl_job.proofs.StageLemmas.{goes_ends}
 use Rattle.bl_build.proofs.loading.decode_all.Goals as goal
 
 abbrev IsFew : Spelled → Type 0

@@ -4,8 +4,9 @@ use Rattle.std.specs.Iterator.Adapters.{zip_first, zip_second}
 use Rattle.std.specs.Slice.Iter.{iter_rest}
 use Rattle.bl_wasm.specs.Validity.{functions_of}
 use Rattle.bl_build.specs.Loading.{decoding, parts_of}
-use Rattle.bl_build.specs.Working.{contents_in, spelled_in}
-use Rattle.bl_build.proofs.StageLemmas.{Goes}
+use Rattle.bl_job.specs.Working.{contents_in}
+use Rattle.bl_build.specs.Working.{spelled_in}
+use Rattle.bl_job.proofs.StageLemmas.{Goes}
 use Rattle.bl_build.proofs.loading.decode_all.Given as goal
 
 abbrev pub invariant-loop-word : goal.invariant-loop-word

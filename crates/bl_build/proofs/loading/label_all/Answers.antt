@@ -10,7 +10,7 @@ use Rattle.bl_build.specs.Loading.{labelling}
 use Rattle.bl_build.specs.Working.{checked_in, ready_in}
 use Rattle.bl_build.specs.declared.loading.Ready.{Ready}
 use Rattle.bl_build.proofs.LoadSteps.{next_passed, next_refused}
-use Rattle.bl_build.proofs.StageLemmas.{goes_ends}
+use Rattle.bl_job.proofs.StageLemmas.{goes_ends}
 use Rattle.bl_build.proofs.loading.label_all.Goals as goal
 
 abbrev IsSane : Ready → Type 0

@@ -2,7 +2,8 @@ use Rattle.std.proofs.Common.{refl, subst, sym}
 use Rattle.std.specs.Prelude.{Err, Ok}
 use Rattle.bl_wasm.specs.declared.module.Module.{Module}
 use Rattle.bl_build.specs.Loading.{AreTold, labelling}
-use Rattle.bl_build.specs.Working.{IsStaged, checked_in, ready_in}
+use Rattle.bl_job.specs.Working.{IsStaged}
+use Rattle.bl_build.specs.Working.{checked_in, ready_in}
 use Rattle.bl_build.proofs.Readings.{not_labelled}
 use Rattle.bl_build.proofs.loading.labelled.Goals as goal
 

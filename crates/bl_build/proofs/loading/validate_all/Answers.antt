@@ -11,7 +11,7 @@ use Rattle.bl_build.specs.Working.{checked_in, spelled_in}
 use Rattle.bl_build.specs.declared.loading.Checked.{Checked}
 use Rattle.bl_build.specs.declared.loading.Spelled.{Spelled}
 use Rattle.bl_build.proofs.LoadSteps.{next_passed, next_refused}
-use Rattle.bl_build.proofs.StageLemmas.{goes_ends}
+use Rattle.bl_job.proofs.StageLemmas.{goes_ends}
 use Rattle.bl_build.proofs.loading.validate_all.Goals as goal
 
 abbrev IsFew : Spelled → Type 0

@@ -4,7 +4,7 @@ use Rattle.std.specs.Vec.Iter.{into_iter_items}
 use Rattle.bl_wasm.specs.Validity.{functions_of}
 use Rattle.bl_build.specs.Loading.{validation}
 use Rattle.bl_build.specs.Working.{checked_in, spelled_in}
-use Rattle.bl_build.proofs.StageLemmas.{Goes}
+use Rattle.bl_job.proofs.StageLemmas.{Goes}
 use Rattle.bl_build.proofs.loading.validate_all.Given as goal
 
 abbrev pub invariant-loop-one : goal.invariant-loop-one

@@ -1,7 +1,8 @@
 use Rattle.std.proofs.Common.{subst, sym}
 use Rattle.std.specs.Prelude.{Err}
 use Rattle.bl_build.specs.Loading.{validation}
-use Rattle.bl_build.specs.Working.{IsStaged, checked_in, spelled_in}
+use Rattle.bl_job.specs.Working.{IsStaged}
+use Rattle.bl_build.specs.Working.{checked_in, spelled_in}
 use Rattle.bl_build.proofs.Readings.{not_valid}
 use Rattle.bl_build.proofs.loading.validated.Goals as goal
 

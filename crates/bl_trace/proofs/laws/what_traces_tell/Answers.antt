@@ -1,5 +1,7 @@
-use Rattle.bl_trace.proofs.Tracing.{trace_tells}
+use Rattle.bl_trace.specs.Lines.{lines_of}
+use Rattle.bl_trace.specs.Traces.{directive_of}
+use Rattle.bl_trace.proofs.ItemLemmas.{items_tell}
 use Rattle.bl_trace.proofs.laws.what_traces_tell.Goals as goal
 
 pub returns : goal.returns
-returns c = trace_tells
+returns c = λ bytes. items_tell directive_of (lines_of bytes)

@@ -1,5 +1,5 @@
 use Rattle.std.proofs.Common.{sym, ◌∙◌, ap}
-use Rattle.bl_trace.specs.Digits.{decimal_below}
+use Rattle.bl_text.specs.Digits.{decimal_below}
 use Rattle.bl_trace.specs.Lines.{argument_of, words_of}
 use Rattle.bl_trace.proofs.Operands.{argument_of_rest}
 use Rattle.bl_trace.proofs.line.read_argument.Goals as goal

@@ -1,5 +1,6 @@
 use Rattle.std.proofs.Common.{◌≡◌, ◌∷◌, ◌^◌, Some, None, rules, sym, ◌∙◌}
-use Rattle.bl_trace.specs.Digits.{decimal_below, bytes_of_hex}
+use Rattle.bl_text.specs.Digits.{decimal_below}
+use Rattle.bl_trace.specs.Digits.{bytes_of_hex}
 use Rattle.bl_trace.specs.Lines.{words_of}
 use Rattle.bl_trace.proofs.Operands.{patch_of_rest}
 use Rattle.bl_trace.proofs.line.read_patch.Goals as goal

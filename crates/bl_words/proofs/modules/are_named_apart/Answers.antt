@@ -1,7 +1,7 @@
 use Rattle.std.proofs.Common.{◌≡◌, sym, ◌∙◌, refl, subst, Bor, List, [], ◌∷◌, ℕ, zero, suc, ◌<◌, length, get_or, arith}
 use Rattle.std.proofs.lemmas.Bool.{false≢true}
 use Rattle.std.proofs.lemmas.List.{take_all}
-use Rattle.bl_words.specs.Requests.{module_name}
+use Rattle.bl_text.specs.Names.{module_name}
 use Rattle.bl_base.proofs.NameSets.{AreApart, collects_none, collects_more, collects_twice}
 use Rattle.bl_words.proofs.ModuleWords.{apart_of, named_apart_of}
 use Rattle.bl_words.proofs.modules.are_named_apart.Goals as goal

@@ -1,5 +1,5 @@
 use Rattle.std.proofs.Common.{take, Bor, List, ℕ}
-use Rattle.bl_words.specs.Requests.{module_name}
+use Rattle.bl_text.specs.Names.{module_name}
 use Rattle.bl_base.proofs.NameSets.{Collects}
 use Rattle.bl_words.proofs.modules.are_named_apart.Given as goal
 

@@ -1,4 +1,4 @@
-use Rattle.std.proofs.Common.{◌≡◌, ◌∙◌, ap, ap₂, sym, refl, map, string_bytes, [], false, List, Option, Some, None, codes}
+use Rattle.std.proofs.Common.{◌≡◌, ◌∙◌, ap, sym, refl, map, string_bytes, [], false, List, Option, Some, None, codes}
 use Rattle.std.specs.Prelude.{is_some, option_map, unwrap_or, Box}
 use Rattle.std.specs.Box.{box_value}
 use Rattle.std.specs.Borrow.{Bor}
@@ -12,6 +12,7 @@ use Rattle.clap.proofs.WalkLemmas.{raw_values-rows}
 use Rattle.bl_words.specs.Requests.{command_of, request_of}
 use Rattle.bl_words.specs.CommandLine.{content}
 use Rattle.bl_words.specs.Words.{parts_in}
+use Rattle.bl_words.proofs.Contents.{parts_equal}
 use Rattle.bl_words.proofs.Tops.{all_text, chosen, when_refused, when_taken}
 use Rattle.bl_words.proofs.read.read_words.Goals as goal
 
@@ -51,7 +52,7 @@ returns c =
     let f = found_of c.in-Some.inner.now in
     let entered : subcommand_rows_of c.in-Ok.found ≡ Some (c.in-Some.name.now, rows_of f) = met _ _ _ c.in-Some.ensures.name c.in-Some.ensures.rows in
     let arguments = content_is f (codes "argument") c.get_raw.result c.unwrap_or-arguments.result _ c.get_raw.ensures c.unwrap_or-arguments.ensures refl in
-    let values = content_is f (codes "steps") c.get_raw-2.result c.unwrap_or-values.result _ c.get_raw-2.ensures c.unwrap_or-values.ensures refl in
-    let whole : command_of c.in-Some.name.now (parts_in c.unwrap_or-arguments.result.now c.unwrap_or-values.result.now) ≡ request_of (map string_bytes c.args.words.now) =
-    ap₂ (λ a v. command_of c.in-Some.name.now (record { arguments = a; steps_values = v })) arguments values ∙ ap chosen (sym (sym taken.1 ∙ entered)) ∙ sym (when_taken _ (all_text c.args.words.now) taken.0) in
+    let steps = content_is f (codes "steps") c.get_raw-2.result c.unwrap_or-steps.result _ c.get_raw-2.ensures c.unwrap_or-steps.ensures refl in
+    let whole : command_of c.in-Some.name.now (parts_in c.unwrap_or-arguments.result.now c.unwrap_or-steps.result.now) ≡ request_of (map string_bytes c.args.words.now) =
+    ap (command_of c.in-Some.name.now) (parts_equal arguments steps) ∙ ap chosen (sym (sym taken.1 ∙ entered)) ∙ sym (when_taken _ (all_text c.args.words.now) taken.0) in
     IfOk-weaker c.command_words.result _ _ (λ request e. e ∙ whole) c.command_words.ensures

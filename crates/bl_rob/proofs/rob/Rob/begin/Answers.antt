@@ -1,7 +1,8 @@
-use Rattle.std.proofs.Common.{◌≡◌, ◌≤◌, ◌∙◌, length, refl, subst, sym, arith}
+use Rattle.std.proofs.Common.{◌≡◌, ◌∙◌, ap, subst, sym}
 use Rattle.bl_cmd.specs.Outcomes.{IsStart}
-use Rattle.bl_seq.specs.Machines.{shown as shown_plain}
-use Rattle.bl_rob.proofs.Beginning.{begun}
+use Rattle.bl_rob.specs.CallResults.{shown}
+use Rattle.bl_rob.specs.Machines.{directive_step, opening}
+use Rattle.bl_rob.proofs.Beginning.{begun_fits}
 use Rattle.bl_rob.proofs.Reaching.{opened}
 use Rattle.bl_rob.proofs.rob.Rob.begin.Goals as goal
 
@@ -9,20 +10,16 @@ pub invariant_of-result : goal.invariant_of-result
 invariant_of-result g c =
     let parts = c.in_ok-layout.layout.parts.now in
     let same : parts ≡ c.args.program.now = c.in_ok-layout.ensures.0 ∙ c.parts.ensures.same ∙ c.program.ensures.same in
-    let fits = subst (λ p. IsStart p c.args.function c.args.start.now) (sym same) c.requires.start in (
+    let fits = subst (λ p. IsStart p c.args.function c.args.start.now) (sym same) c.requires.start in
+    let machine = shown c.in_ok-machine.machine in (
       c.in_ok-layout.ensures.1,
-      subst (λ l. length l ≤ g.row.W) (sym c.new-2.ensures.items) (omega arith),
+      begun_fits parts c.args.function c.args.start.now g.row.W machine c.in_ok-machine.ensures,
       c.requires.room.1,
-      opened g.row.W parts c.args.function c.args.start.now _ fits
-          (begun parts parts c.args.function c.args.start.now (shown_plain c.in_ok-first.first) c.entry_of.result c.new.result c.new-2.result.items refl
-          c.in_ok-first.ensures c.entry_of.ensures c.new.ensures c.new-2.ensures.items),
+      opened (directive_step g.row.W parts) parts c.args.function c.args.start.now machine fits c.in_ok-machine.ensures,
     )
 
 pub returns : goal.returns
 returns g c =
     let parts = c.in_ok-layout.layout.parts.now in
-    let same : parts ≡ c.args.program.now = c.in_ok-layout.ensures.0 ∙ c.parts.ensures.same ∙ c.program.ensures.same in (
-      same,
-      begun parts c.args.program.now c.args.function c.args.start.now (shown_plain c.in_ok-first.first) c.entry_of.result c.new.result c.new-2.result.items same
-          c.in_ok-first.ensures c.entry_of.ensures c.new.ensures c.new-2.ensures.items,
-    )
+    let same : parts ≡ c.args.program.now = c.in_ok-layout.ensures.0 ∙ c.parts.ensures.same ∙ c.program.ensures.same in
+    (same, c.in_ok-machine.ensures ∙ ap (λ p. opening p c.args.function c.args.start.now) same)

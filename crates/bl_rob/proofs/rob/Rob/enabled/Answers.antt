@@ -1,8 +1,14 @@
 use Rattle.std.proofs.Common.{◌∙◌, ap, sym}
 use Rattle.bl_rob.specs.CallResults.{is_enabled, shown}
 use Rattle.bl_rob.specs.Robs.{RobView}
-use Rattle.bl_rob.specs.declared.directive.Directive.TheVariants.{Retire}
+use Rattle.bl_rob.specs.declared.directive.Directive.TheVariants.{Exec, Retire}
 use Rattle.bl_rob.proofs.rob.Rob.enabled.Goals as goal
+
+pub returns-in-Exec : goal.returns-in-Exec
+returns-in-Exec g c =
+    c.may_exec.ensures g.row.W
+    ∙ ap (λ (v : RobView). is_enabled g.row.W v.program (shown v.machine) (Exec c.in-Exec.n)) c.self.view_is
+    ∙ ap (λ d. is_enabled g.row.W c.args.self.now.program (shown c.args.self.now.machine) d) (sym c.in-Exec.is)
 
 pub returns-in-Retire : goal.returns-in-Retire
 returns-in-Retire g c =

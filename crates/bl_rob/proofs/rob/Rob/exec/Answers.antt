@@ -1,5 +1,6 @@
 use Rattle.std.proofs.Common.{subst}
-use Rattle.bl_rob.specs.CallResults.{Executes, shown}
+use Rattle.bl_rob.specs.CallResults.{Executes, NeedsMemory, shown}
+use Rattle.bl_rob.specs.Machines.{directive_step}
 use Rattle.bl_rob.specs.Robs.{RobView}
 use Rattle.bl_rob.specs.declared.directive.Directive.TheVariants.{Exec}
 use Rattle.bl_rob.proofs.Reaching.{steps_reach}
@@ -15,7 +16,7 @@ invariant_of-self g c =
       c.self.invariant.0,
       steps_fit g.row.W parts old new (Exec c.args.n) c.ok_or.result c.self.invariant.1 steps,
       c.self.invariant.2,
-      steps_reach g.row.W parts old new (Exec c.args.n) c.ok_or.result c.self.invariant.3 steps,
+      steps_reach (directive_step g.row.W parts) parts old new (Exec c.args.n) (NeedsMemory (Exec c.args.n)) c.ok_or.result c.self.invariant.3 steps,
     )
 
 pub returns-clause-step : goal.returns-clause-step

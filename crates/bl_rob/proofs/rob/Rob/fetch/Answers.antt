@@ -1,4 +1,5 @@
-use Rattle.bl_rob.specs.CallResults.{shown}
+use Rattle.bl_rob.specs.CallResults.{NeedsMemory, shown}
+use Rattle.bl_rob.specs.Machines.{directive_step}
 use Rattle.bl_rob.specs.declared.directive.Directive.TheVariants.{Fetch}
 use Rattle.bl_rob.proofs.Reaching.{steps_reach}
 use Rattle.bl_rob.proofs.Rooms.{steps_fit}
@@ -12,5 +13,5 @@ invariant_of-self g c =
       c.self.invariant.0,
       steps_fit g.row.W parts old new Fetch c.fetch.result c.self.invariant.1 c.fetch.ensures,
       c.self.invariant.2,
-      steps_reach g.row.W parts old new Fetch c.fetch.result c.self.invariant.3 c.fetch.ensures,
+      steps_reach (directive_step g.row.W parts) parts old new Fetch (NeedsMemory Fetch) c.fetch.result c.self.invariant.3 c.fetch.ensures,
     )

@@ -20,8 +20,8 @@ loop-i-preserved g c =
     let step = subst (λ (p : ProgramParts). directive_step g.row.W p s (get_or directives i Fetch) ≡ Some (new, c.in-Ok.observation)) c.loop-i.invariant.same c.in-Ok.ensures.step in
     record {
       same = c.in-Ok.ensures.same ∙ c.loop-i.invariant.same;
-      so_far = subst (λ made. SoFar g.row.W program directives old (i + 1) made new) (sym c.in_ok-push-in-Ok.ensures.ok)
-          (one_more g.row.W program directives old i (get_or directives i Fetch) Fetch c.loop-i-test.true refl c.loop-i.made s c.loop-i.invariant.so_far new c.in-Ok.observation step);
+      so_far = subst (λ made. SoFar (directive_step g.row.W program) directives old (i + 1) made new) (sym c.in_ok-push-in-Ok.ensures.ok)
+          (one_more (directive_step g.row.W program) directives old i (get_or directives i Fetch) Fetch c.loop-i-test.true refl c.loop-i.made s c.loop-i.invariant.so_far new c.in-Ok.observation step);
     }
 
 pub returns-in-Err-NotEnabled : goal.returns-in-Err-NotEnabled
@@ -38,12 +38,12 @@ returns-in-Err-NotEnabled g c =
     record {
       same = c.in-Err-NotEnabled.ensures.same ∙ c.loop-i.invariant.same;
       seen = subst (Observes g.row.W program directives old (record { made = c.loop-i.made; refused = Some (i + 1) })) (sym refused.1)
-          (refused_here g.row.W program directives old i (get_or directives i Fetch) Fetch c.loop-i-test.true refl c.loop-i.made s c.loop-i.invariant.so_far step);
+          (refused_here (directive_step g.row.W program) directives old i (get_or directives i Fetch) Fetch c.loop-i-test.true refl c.loop-i.made s c.loop-i.invariant.so_far step);
     }
 
 pub returns : goal.returns
 returns g c = record {
   same = c.loop-i.invariant.same;
-  seen = whole g.row.W c.args.self.now.program c.args.directives.now (shown c.args.self.now.machine) c.loop-i.i c.loop-i.made (shown c.loop-i.self.machine) c.loop-i-test.false
+  seen = whole (directive_step g.row.W c.args.self.now.program) c.args.directives.now (shown c.args.self.now.machine) c.loop-i.i c.loop-i.made (shown c.loop-i.self.machine) c.loop-i-test.false
       c.loop-i.invariant.so_far;
 }

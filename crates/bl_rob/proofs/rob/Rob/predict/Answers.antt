@@ -1,4 +1,5 @@
-use Rattle.bl_rob.specs.CallResults.{shown}
+use Rattle.bl_rob.specs.CallResults.{NeedsMemory, shown}
+use Rattle.bl_rob.specs.Machines.{directive_step}
 use Rattle.bl_rob.specs.declared.directive.Directive.TheVariants.{Predict}
 use Rattle.bl_rob.proofs.Reaching.{steps_reach}
 use Rattle.bl_rob.proofs.Rooms.{steps_fit}
@@ -12,5 +13,5 @@ invariant_of-self g c =
       c.self.invariant.0,
       steps_fit g.row.W parts old new (Predict c.args.predicted) c.predict.result c.self.invariant.1 c.predict.ensures,
       c.self.invariant.2,
-      steps_reach g.row.W parts old new (Predict c.args.predicted) c.predict.result c.self.invariant.3 c.predict.ensures,
+      steps_reach (directive_step g.row.W parts) parts old new (Predict c.args.predicted) (NeedsMemory (Predict c.args.predicted)) c.predict.result c.self.invariant.3 c.predict.ensures,
     )

@@ -1,5 +1,6 @@
 use Rattle.std.proofs.Common.{subst}
-use Rattle.bl_rob.specs.CallResults.{Steps, shown}
+use Rattle.bl_rob.specs.CallResults.{NeedsMemory, Steps, shown}
+use Rattle.bl_rob.specs.Machines.{directive_step}
 use Rattle.bl_rob.specs.Robs.{RobView}
 use Rattle.bl_rob.specs.declared.directive.Directive.TheVariants.{Retire}
 use Rattle.bl_rob.proofs.Reaching.{steps_reach}
@@ -14,7 +15,7 @@ invariant_of-self g c =
       c.self.invariant.0,
       steps_fit g.row.W parts old new Retire c.retire.result c.self.invariant.1 (c.retire.ensures g.row.W),
       c.self.invariant.2,
-      steps_reach g.row.W parts old new Retire c.retire.result c.self.invariant.3 (c.retire.ensures g.row.W),
+      steps_reach (directive_step g.row.W parts) parts old new Retire (NeedsMemory Retire) c.retire.result c.self.invariant.3 (c.retire.ensures g.row.W),
     )
 
 pub returns-clause-step : goal.returns-clause-step

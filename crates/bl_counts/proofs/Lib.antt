@@ -1,0 +1,5 @@
+mod CountLines
+pub mod Fewest
+pub mod Merging
+pub mod Tallying
+pub mod Weights

@@ -1,0 +1,4 @@
+pub mod Answers
+pub mod CountFiles
+pub mod Counting
+pub mod Tallies

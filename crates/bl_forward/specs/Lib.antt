@@ -1,0 +1,4 @@
+pub mod Calls
+pub mod Forwarding
+pub mod LastStores
+pub mod Verdicts

@@ -1,0 +1,160 @@
+//! The machine that forwards stores, as its callers see it.
+ghost use Rattle.std.specs.Prelude.{◌≡◌, ◌≤◌, IfOk, slice_get, slice_index, option_map};
+ghost use Rattle.bl_cmd.specs.Outcomes.{IsStart};
+ghost use Rattle.bl_rob.specs.CallResults.{IsTold, Told, outcome_in, position_of, shown};
+ghost use Rattle.bl_rob.specs.Machines.{end_in, opening};
+ghost use Rattle.bl_rob.specs.declared.directive.Directive.TheVariants.{Exec, Fetch, Predict, Retire};
+ghost use Rattle.bl_forward.specs.Calls.{ForwardSteps, is_enabled};
+
+use crate::load::{as_plain, exec, may_exec};
+use crate::seen::Seen;
+use bl_base::{NoMemory, Pos, Run, Start, Var};
+use bl_cmd::WellFormed;
+use bl_rob::{Directive, End, Kind, Machine, StepError};
+use bl_seq::Layout;
+use std::alloc::Global;
+use std::marker::Model;
+
+/// The machine that forwards stores, of a well-formed program, with a buffer of at most W entries; W is from 1 to 64.
+#[derive(Debug, Drop)]
+pub struct Fwd<'p, const W: usize> {
+    layout: Layout<'p>,
+    machine: Machine,
+}
+
+impl<'p, const W: usize> Model for Fwd<'p, W> {
+    ghost use Rattle.std.specs.Prelude.{◌≤◌, length};
+    ghost use Rattle.bl_seq.specs.Layouts.{IsLayout};
+    ghost use Rattle.bl_rob.specs.CallResults.{shown};
+    ghost use Rattle.bl_rob.specs.Reached.{IsReachedBy};
+    ghost use Rattle.bl_rob.specs.Robs.{RobView};
+    ghost use Rattle.bl_forward.specs.Forwarding.{forward_step};
+
+    ghost Value = { RobView };
+
+    ghost view = { λ fwd. record { program = fwd.layout.parts.now; machine = fwd.machine } };
+
+    ghost invariant = { λ fwd. IsLayout fwd.layout × (length fwd.machine.entries.items ≤ W) × (W ≤ 64)
+        × IsReachedBy (forward_step W fwd.layout.parts.now) fwd.layout.parts.now (shown fwd.machine) };
+}
+
+impl<'p, const W: usize> Fwd<'p, W> {
+    /// The machine before its first step, at a function's entry. Linear in the program and the start.
+    pub fn begin(
+        alloc: Global,
+        program: &'p WellFormed,
+        function: u32,
+        start: &Start,
+    ) -> Result<Fwd<'p, W>, NoMemory>
+        requires room { (1 ≤ W) × (W ≤ 64) }
+        requires start { IsStart program.now function start.now }
+        ensures { IfOk result (λ fwd. (fwd.program ≡ program.now) × (shown fwd.machine ≡ opening program.now function start.now)) }
+    {
+        let layout = Layout::of(alloc, program.program().parts())?;
+        let machine = Machine::begin(alloc, &layout, function, start)?;
+        Ok(Fwd { layout, machine })
+    }
+
+    /// One directive. NotEnabled comes exactly where the rules don't enable it; after either refusal the machine is as it was,
+    /// and an Exec takes no memory.
+    pub fn step(&mut self, alloc: Global, d: Directive) -> Result<Seen, StepError>
+        ensures same { self.new.program ≡ self.old.program }
+        ensures step { ForwardSteps W self.old.program d (shown self.old.machine) result (shown self.new.machine) }
+    {
+        match d {
+            Directive::Fetch => self.fetch(),
+            Directive::Predict(predicted) => self.predict(alloc, predicted),
+            Directive::Exec(n) => self.exec(n),
+            Directive::Retire => self.retire(alloc),
+        }
+    }
+
+    fn fetch(&mut self) -> Result<Seen, StepError>
+        ensures same { self.new.program ≡ self.old.program }
+        ensures step { ForwardSteps W self.old.program Fetch (shown self.old.machine) result (shown self.new.machine) }
+    {
+        as_plain(self.machine.fetch(&self.layout, W))
+    }
+
+    fn predict(&mut self, alloc: Global, predicted: bool) -> Result<Seen, StepError>
+        ensures same { self.new.program ≡ self.old.program }
+        ensures step { ForwardSteps W self.old.program (Predict predicted) (shown self.old.machine) result (shown self.new.machine) }
+    {
+        as_plain(self.machine.predict(alloc, &self.layout, W, predicted))
+    }
+
+    fn exec(&mut self, n: u32) -> Result<Seen, StepError>
+        ensures same { self.new.program ≡ self.old.program }
+        ensures step { ForwardSteps W self.old.program (Exec n) (shown self.old.machine) result (shown self.new.machine) }
+    {
+        exec(&mut self.machine, &self.layout, n as usize)
+    }
+
+    fn retire(&mut self, alloc: Global) -> Result<Seen, StepError>
+        ensures same { self.new.program ≡ self.old.program }
+        ensures step { ForwardSteps W self.old.program Retire (shown self.old.machine) result (shown self.new.machine) }
+    {
+        as_plain(self.machine.retire(alloc, &self.layout))
+    }
+
+    /// How the machine has ended; None where it hasn't. Takes no memory.
+    pub fn finished(&self) -> Option<End>
+        ensures { result ≡ end_in (shown self.now.machine) }
+    {
+        self.machine.finished()
+    }
+
+    /// How many entries were retired. Takes no memory.
+    pub fn retired(&self) -> u64
+        ensures { result ≡ (shown self.now.machine).retired }
+    {
+        self.machine.retired()
+    }
+
+    /// What a variable holds at a depth. Takes no memory.
+    pub fn register(&self, depth: u32, var: Var) -> u64
+        ensures { result ≡ (shown self.now.machine).registers depth var.0 }
+    {
+        self.machine.register(depth, var)
+    }
+
+    /// The byte at a place of the space of all memories; 0 past its end. Takes no memory.
+    pub fn byte(&self, address: u64) -> u8
+        ensures { result ≡ slice_index (shown self.now.machine).space address }
+    {
+        self.machine.byte(address)
+    }
+
+    /// The outcome; None exactly where the machine hasn't ended.
+    pub fn outcome(&self, alloc: Global) -> Result<Option<Run>, NoMemory>
+        ensures { IfOk result (Told (outcome_in self.now.program (shown self.now.machine))) }
+    {
+        self.machine.outcome(alloc, &self.layout)
+    }
+
+    /// Whether a directive is enabled; takes no memory.
+    pub fn enabled(&self, d: Directive) -> bool
+        ensures { result ≡ is_enabled W self.now.program (shown self.now.machine) d }
+    {
+        match d {
+            Directive::Fetch => self.machine.may_fetch(&self.layout, W),
+            Directive::Predict(_) => self.machine.may_predict(&self.layout, W),
+            Directive::Exec(n) => may_exec(&self.machine, &self.layout, n as usize),
+            Directive::Retire => self.machine.may_retire(),
+        }
+    }
+
+    /// The front end's position; None exactly where it has ended. Takes no memory.
+    pub fn front(&self) -> Option<Pos>
+        ensures { option_map (λ position. position.0) result ≡ position_of (shown self.now.machine).front }
+    {
+        self.machine.position()
+    }
+
+    /// The position and the kind of an entry; None exactly where the buffer has none of that index. Takes no memory.
+    pub fn entry(&self, n: u32) -> Option<(Pos, Kind)>
+        ensures { IsTold (slice_get (shown self.now.machine).buffer n) result }
+    {
+        self.machine.entry(n)
+    }
+}

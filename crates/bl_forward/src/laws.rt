@@ -1,0 +1,41 @@
+//! Laws of the machine that forwards stores. Each function is its contract alone.
+ghost use Rattle.std.specs.Prelude.{◌≡◌, ◌↔◌, ℕ, List};
+ghost use Rattle.bl_base.specs.declared.start.Start.{Start};
+ghost use Rattle.bl_cmd.specs.Outcomes.{IsStart, opening as plain_opening};
+ghost use Rattle.bl_cmd.specs.Programs.{IsProgram};
+ghost use Rattle.bl_cmd.specs.Rules.{IsWellFormed};
+ghost use Rattle.bl_cmd.specs.Sites.{is_protected};
+ghost use Rattle.bl_cmd.specs.declared.definitions.ProgramParts.{ProgramParts};
+ghost use Rattle.bl_graph.specs.Labels.{ConstantTime};
+ghost use Rattle.bl_rob.specs.Machines.{opening};
+ghost use Rattle.bl_rob.specs.Observed.{IsConsistent, after_by};
+ghost use Rattle.bl_rob.specs.declared.directive.Directive.{Directive};
+ghost use Rattle.bl_rob.specs.declared.entry.Entry.{Entry};
+ghost use Rattle.bl_transient.specs.Transient.{Passes};
+ghost use Rattle.bl_forward.specs.Forwarding.{HasEqualForwarding, found_in, forward_step};
+ghost use Rattle.bl_forward.specs.LastStores.{Finds};
+ghost use Rattle.bl_forward.specs.declared.find.Found.{Found};
+
+/// Where a load of so many bytes from a place on finds them behind entries: in memory, where no ready store among them meets its range; in
+/// the last one that does, where that has the same range; else nowhere.
+pub fn what_is_found()
+    ensures { (program : ProgramParts) (from width : ℕ) (entries : List Entry) (found : Found)
+        → found_in program from width entries ≡ found ↔ Finds program from width entries found }
+{}
+
+/// Consistency: whatever the directives, where r entries were retired, registers and memories are those of the plain run after
+/// r commands; and a machine that has ended has the plain run's outcome after exactly so many commands. Past the space of all
+/// memories the machine would forward what the plain run doesn't load; a well-formed program has no access there.
+pub fn consistency()
+    ensures { (program : ProgramParts) → IsProgram program → IsWellFormed program
+        → (function : ℕ) (start : Start) → IsStart program function start → (most : ℕ) (directives : List Directive)
+        → IsConsistent program (plain_opening program function start) (after_by (forward_step most program) directives (opening program function start)) }
+{}
+
+/// Equal observations: where a program has a labelling and its own marks pass the transient rules, two runs from starts that
+/// agree in public are observed alike, whatever the directives and the size of the buffer; where both have ended, what is
+/// demanded to be public is equal.
+pub fn equal_observations()
+    ensures { (program : ProgramParts) → IsProgram program → IsWellFormed program → ConstantTime program
+        → Passes program (is_protected program) → HasEqualForwarding program }
+{}

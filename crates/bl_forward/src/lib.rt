@@ -1,0 +1,14 @@
+//! The buffer machine with forwarding: a load behind ready stores takes the value of the last one whose bytes it meets.
+#![tactic(auto)]
+
+mod find;
+mod fwd;
+pub mod laws;
+mod load;
+mod observe;
+mod seen;
+mod verdict;
+
+pub use fwd::Fwd;
+pub use seen::Seen;
+pub use verdict::{ForwardVerdict, forward_safe};

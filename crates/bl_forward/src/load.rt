@@ -1,0 +1,150 @@
+//! What executing an entry comes to, where it is a pending load.
+ghost use Rattle.std.specs.Prelude.{◌≡◌, ◌≤◌, ◌<◌, ◌^◌, length, ℕ};
+ghost use Rattle.bl_seq.specs.Layouts.{IsLayout};
+ghost use Rattle.bl_rob.specs.CallResults.{shown};
+ghost use Rattle.bl_rob.specs.declared.directive.Directive.TheVariants.{Exec};
+ghost use Rattle.bl_forward.specs.Calls.{ForwardSteps, as_plain, is_enabled, turned_at, turned_from};
+
+use crate::find::{Found, found_behind};
+use crate::seen::Seen;
+use bl_rob::{
+    Entry, LoadKind, Machine, Observation, Register, StepError, Work, effective, guards, valued,
+    visible_of,
+};
+use bl_seq::{Layout, Space};
+
+/// What executing an entry comes to.
+#[derive(Debug, Drop)]
+pub enum Turn {
+    /// What it comes to in the buffer machine.
+    Plain,
+    /// It is a load that can't be executed yet.
+    Waits,
+    /// It is a load, does that instead from then on, and that is observed.
+    Fills(Work, Seen),
+}
+
+/// What the entry of that index comes to.
+pub fn turn_at(machine: &Machine, layout: &Layout, n: usize) -> Turn
+    requires layout { IsLayout layout.now }
+    requires few { length machine.now.entries.items ≤ 64 }
+    ensures { result ≡ turned_at layout.now.parts.now (shown machine.now) n }
+{
+    let Some(entry) = machine.entries.get(n) else {
+        return Turn::Plain;
+    };
+    match &entry.work {
+        Work::Load {
+            protect,
+            kind,
+            memory,
+            to,
+            offset,
+            address,
+        } => {
+            let before = &machine.entries[..n];
+            let address = visible_of(&machine.registers, before, *address);
+            turn_from(
+                layout,
+                &machine.space,
+                before,
+                *protect,
+                kind,
+                *memory,
+                *to,
+                *offset,
+                address,
+            )
+        }
+        Work::Nop
+        | Work::Assign { .. }
+        | Work::Held { .. }
+        | Work::Done { .. }
+        | Work::Store { .. }
+        | Work::Ready { .. }
+        | Work::Guard { .. }
+        | Work::Fail(_) => Turn::Plain,
+    }
+}
+
+/// What a load behind those entries comes to, where its address is visible or isn't.
+fn turn_from(
+    layout: &Layout,
+    space: &Space,
+    before: &[Entry],
+    protect: bool,
+    kind: &LoadKind,
+    memory: u32,
+    to: Register,
+    offset: u32,
+    address: Option<u64>,
+) -> Turn
+    requires layout { IsLayout layout.now }
+    requires few { length before.now ≤ 64 }
+    ensures { result ≡ turned_from layout.now.parts.now space.now before.now protect kind.now memory to offset address }
+{
+    let Some(address) = address else {
+        return Turn::Waits;
+    };
+    let from = effective(layout, memory, offset, address);
+    match found_behind(layout, before, from, kind.width() as usize) {
+        Some(Found::Memory) => {
+            let value = kind.load(space, from);
+            let observation = Observation::Read {
+                address: from as u64,
+                guards: guards(before),
+            };
+            Turn::Fills(valued(protect, to, value), Seen::Plain(observation))
+        }
+        Some(Found::Stored(number)) => {
+            let value = kind.extend(number);
+            let seen = Seen::Forward {
+                address: from as u64,
+                guards: guards(before),
+            };
+            Turn::Fills(valued(protect, to, value), seen)
+        }
+        Some(Found::Blocked) | None => Turn::Waits,
+    }
+}
+
+/// What a step of the buffer machine shows.
+pub fn as_plain(answer: Result<Observation, StepError>) -> Result<Seen, StepError>
+    ensures { result ≡ as_plain answer }
+{
+    match answer {
+        Ok(observation) => Ok(Seen::Plain(observation)),
+        Err(e) => Err(e),
+    }
+}
+
+/// Executes the entry of that index. Takes no memory.
+pub fn exec(machine: &mut Machine, layout: &Layout, n: usize) -> Result<Seen, StepError>
+    requires layout { IsLayout layout.now }
+    requires few { length machine.old.entries.items ≤ 64 }
+    requires n { n < 2 ^ 32 }
+    ensures { (most : ℕ) → ForwardSteps most layout.now.parts.now (Exec n) (shown machine.old) result (shown machine.new) }
+{
+    match turn_at(machine, layout, n) {
+        Turn::Plain => as_plain(machine.exec(layout, n).ok_or(StepError::NotEnabled)),
+        Turn::Waits => Err(StepError::NotEnabled),
+        Turn::Fills(work, seen) => {
+            machine.replace(n, work);
+            Ok(seen)
+        }
+    }
+}
+
+/// Whether the entry of that index can be executed. Takes no memory.
+pub fn may_exec(machine: &Machine, layout: &Layout, n: usize) -> bool
+    requires layout { IsLayout layout.now }
+    requires few { length machine.now.entries.items ≤ 64 }
+    requires n { n < 2 ^ 32 }
+    ensures { (most : ℕ) → result ≡ is_enabled most layout.now.parts.now (shown machine.now) (Exec n) }
+{
+    match turn_at(machine, layout, n) {
+        Turn::Plain => machine.may_exec(layout, n),
+        Turn::Waits => false,
+        Turn::Fills(_, _) => true,
+    }
+}

@@ -1,0 +1,12 @@
+pub mod Causes
+pub mod Counting
+pub mod Ends
+pub mod Jobs
+pub mod Leaving
+pub mod Refusals
+pub mod Staged
+pub mod Stages
+pub mod Status
+pub mod Texts
+pub mod Working
+pub mod Worlds

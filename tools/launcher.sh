@@ -1,0 +1,80 @@
+# shellcheck shell=bash
+# shellcheck disable=SC2154  # the launchers set here and name
+# What ./blade and ./blade-unproved share: they source it. Standard output and the status are the program's; what is said here goes to
+# standard error.
+
+# Prints what the program may not: its one line on standard output is fixed.
+print_help() {
+    cat >&2 << COMMANDS
+blade $(cat "$here/VERSION"): hardens WebAssembly modules against speculative leaks, and says whether the result is constant-time
+  blade harden IMAGE CERT MODULE...                 writes the hardened image and its certificate, and prints the report
+  blade lower IMAGE MODULE...                       writes the image without protects
+  blade interp EXPORT START MODULE... [--steps N]   runs a function of the modules
+  blade run IMAGE EXPORT START [--steps N]          runs a function of an image
+  blade spec IMAGE EXPORT TRACE START               takes a trace's directives on the machine that speculates
+  blade twin IMAGE EXPORT TRACE START START2        does so from two start files, and says whether they are observed alike
+  blade verify IMAGE CERT                           checks a certificate against an image, and the image's protects and labels
+  blade gen SEED SIZE                               makes a module by a number, and hardens it
+Words, files, texts and exit statuses: $here/docs/CLI.md
+COMMANDS
+}
+
+# Answers no words, help, --help and --version; whether it did.
+answer() {
+    local word
+    case $#${1-} in
+        0 | 1help) print_help; return ;;
+        1--version) echo "blade $(cat "$here/VERSION")" >&2; return ;;
+    esac
+    for word in "$@"; do
+        case $word in
+            --) return 1 ;;
+            --help | -h) print_help; return ;;
+        esac
+    done
+    return 1
+}
+
+# Warns where a file that harden or lower writes is another of its files: the program compares names as words, and the last one written
+# stays. Links and other paths of one file count.
+warn() {
+    local written=1 kinds=('' IMAGE CERT) files=() paths=() i j
+    case ${1-} in
+        harden) written=2 ;;
+        lower) kinds=('' IMAGE) ;;
+        *) return 0 ;;
+    esac
+    shift
+    while [ $# -gt 0 ] && [ "$1" != -- ]; do files+=("$1"); shift; done
+    files+=("${@:2}")
+    [ ${#files[@]} -gt "$written" ] || return 0
+    mapfile -d '' -t paths < <(realpath -mz -- "${files[@]}" 2> /dev/null)
+    for ((i = 0; i < written; i++)); do
+        for ((j = i + 1; j < ${#files[@]}; j++)); do
+            if [ "${paths[i]-}" = "${paths[j]-}" ] || [ "${files[i]}" -ef "${files[j]}" ]; then
+                echo "blade: warning: ${kinds[i + 1]} ${files[i]} and ${kinds[j + 1]-MODULE} ${files[j]} are one file" >&2
+            fi
+        done
+    done
+}
+
+# Whether a program isn't there, or is older than a file or folder that it may be made from.
+is_old() {
+    [ ! -x "$1" ] || [ "$here/crates.txt" -nt "$1" ] || [ -n "$(find "$here/crates" -mindepth 2 -name out -prune -o -path '*/crates/tests_*' -prune -o \
+        \( -name '*.rt' -o -name '*.antt' -o -type d \) -newer "$1" -print -quit)" ]
+}
+
+# Builds the program where it is old, then runs the words given, which begin with what is to run.
+build_and_run() {
+    local kind=$1
+    shift
+    if ! command -v rt > /dev/null; then
+        echo "$name: it isn't built here, and the Rattle kit that builds it is missing (there is no rt): $here/README.md says where either comes from" >&2
+        exit 125
+    fi
+    if ! command -v python3 > /dev/null; then
+        echo "$name: it isn't built here, and python3, which the Rattle kit needs, is missing" >&2
+        exit 125
+    fi
+    exec "$here/tools/build" "$kind" "$@"
+}
