@@ -115,6 +115,23 @@ fn a_file_shelf_reads_on_where_name_and_place_fit(rt: HostRuntime) -> Result<(),
     Ok(())
 }
 
+/// Whether a file is opened anew where another one stands open at that place, and where it was kept since.
+fn are_told_apart<R: Files>(alloc: Global, rt: &R, name: &str, other: &str) -> bool {
+    let mut shelf = FileShelf::new(alloc, rt);
+    let kept = shelf.keep(name, b"ab12").is_ok() && shelf.keep(other, b"cd34").is_ok();
+    let apart = reads(&mut shelf, name, 0, 2, b"ab") && reads(&mut shelf, other, 2, 2, b"34");
+    let begun = reads(&mut shelf, name, 0, 2, b"ab");
+    let anew = shelf.keep(name, b"wxyz").is_ok() && reads(&mut shelf, name, 2, 2, b"yz");
+    let removed = remove_file(rt, name).is_ok() && remove_file(rt, other).is_ok();
+    kept && apart && begun && anew && removed
+}
+
+#[test]
+fn a_file_shelf_reads_on_in_one_file_alone(rt: HostRuntime) -> Result<(), Fail> {
+    assert!(rt; are_told_apart(rt.alloc(), &rt, "tests_basics_one", "tests_basics_other"));
+    Ok(())
+}
+
 /// Whether a file of that name has those bytes.
 fn has<R: Files>(alloc: Global, rt: &R, name: &str, bytes: &[u8]) -> bool {
     gives(&mut FileShelf::new(alloc, rt), name, 100, bytes)
