@@ -7,14 +7,16 @@
 print_help() {
     cat >&2 << COMMANDS
 blade $(cat "$here/VERSION"): hardens WebAssembly modules against speculative leaks, and says whether the result is constant-time
-  blade harden IMAGE CERT MODULE...                 writes the hardened image and its certificate, and prints the report
-  blade lower IMAGE MODULE...                       writes the image without protects
-  blade interp EXPORT START MODULE... [--steps N]   runs a function of the modules
-  blade run IMAGE EXPORT START [--steps N]          runs a function of an image
-  blade spec IMAGE EXPORT TRACE START               takes a trace's directives on the machine that speculates
-  blade twin IMAGE EXPORT TRACE START START2        does so from two start files, and says whether they are observed alike
-  blade verify IMAGE CERT                           checks a certificate against an image, and the image's protects and labels
-  blade gen SEED SIZE                               makes a module by a number, and hardens it
+  blade harden IMAGE CERT MODULE... [--counts FILE]          writes the hardened image and its certificate, and prints the report
+  blade lower IMAGE MODULE...                                writes the image without protects
+  blade interp EXPORT START MODULE... [--steps N]            runs a function of the modules
+  blade run IMAGE EXPORT START [--steps N] [--counts FILE]   runs a function of an image, and writes how often its sites were executed
+  blade spec IMAGE EXPORT TRACE START                        takes a trace's directives on the machine that speculates
+  blade twin IMAGE EXPORT TRACE START START2                 does so from two start files, and says whether they are observed alike
+  blade forward IMAGE EXPORT TRACE START START2              does so where loads take values of stores, and says whether the program is safe there
+  blade predict IMAGE EXPORT TRACE START [--steps N]         drives the machine by a predictor and a cache, and writes the trace that it chose
+  blade verify IMAGE CERT                                    checks a certificate against an image, and the image's protects and labels
+  blade gen SEED SIZE                                        makes a module by a number, and hardens it
 Words, files, texts and exit statuses: $here/docs/CLI.md
 COMMANDS
 }
@@ -35,24 +37,43 @@ answer() {
     return 1
 }
 
-# Warns where a file that harden or lower writes is another of its files: the program compares names as words, and the last one written
+# Warns where a file that harden, lower, predict or run writes is another of its files: the program compares names as words, and the last one written
 # stays. Links and other paths of one file count.
 warn() {
-    local written=1 kinds=('' IMAGE CERT) files=() paths=() i j
-    case ${1-} in
-        harden) written=2 ;;
-        lower) kinds=('' IMAGE) ;;
-        *) return 0 ;;
+    local command=${1-} written=1 words=() counts=() files=() kinds=() paths=() file i j
+    case $command in harden | lower | predict | run) shift ;; *) return 0 ;; esac
+    while [ $# -gt 0 ] && [ "$1" != -- ]; do
+        case $1 in
+            --counts=*) counts=("${1#*=}") ;;
+            --counts) counts=("${@:2:1}"); shift $(($# > 1)) ;;
+            --steps) shift $(($# > 1)) ;;
+            --steps=*) ;;
+            *) words+=("$1") ;;
+        esac
+        shift
+    done
+    words+=("${@:2}")
+    case $command in
+        harden) written=2 kinds=(IMAGE CERT) ;;
+        lower) kinds=(IMAGE) ;;
+        predict)
+            [ ${#words[@]} -ge 4 ] || return 0
+            files=("${words[2]}") kinds=(TRACE IMAGE START) words=("${words[0]}" "${words[3]}")
+            ;;
+        run)
+            [ ${#counts[@]} -gt 0 ] || return 0
+            files=("${counts[@]}") kinds=(FILE IMAGE START) words=("${words[@]:0:1}" "${words[@]:2:1}") counts=()
+            ;;
     esac
-    shift
-    while [ $# -gt 0 ] && [ "$1" != -- ]; do files+=("$1"); shift; done
-    files+=("${@:2}")
+    files+=("${words[@]}")
     [ ${#files[@]} -gt "$written" ] || return 0
-    mapfile -d '' -t paths < <(realpath -mz -- "${files[@]}" 2> /dev/null)
+    while [ ${#kinds[@]} -lt ${#files[@]} ]; do kinds+=(MODULE); done
+    files+=("${counts[@]}") kinds+=(FILE)
+    for file in "${files[@]}"; do paths+=("$(realpath -m -- "$file" 2> /dev/null)"); done
     for ((i = 0; i < written; i++)); do
         for ((j = i + 1; j < ${#files[@]}; j++)); do
             if [ "${paths[i]-}" = "${paths[j]-}" ] || [ "${files[i]}" -ef "${files[j]}" ]; then
-                echo "blade: warning: ${kinds[i + 1]} ${files[i]} and ${kinds[j + 1]-MODULE} ${files[j]} are one file" >&2
+                echo "blade: warning: ${kinds[i]} ${files[i]} and ${kinds[j]} ${files[j]} are one file" >&2
             fi
         done
     done
@@ -69,7 +90,7 @@ build_and_run() {
     local kind=$1
     shift
     if ! command -v rt > /dev/null; then
-        echo "$name: it isn't built here, and the Rattle kit that builds it is missing (there is no rt): $here/README.md says where either comes from" >&2
+        echo "$name: it isn't built here, and the Rattle kit that builds it is missing (there is no rt); $here/README.md says which kit" >&2
         exit 125
     fi
     if ! command -v python3 > /dev/null; then

@@ -1,33 +1,38 @@
 -- All commands keep the laws, and say what they say where they are done; no status answers all calls.
-use Rattle.std.proofs.Common.{◌≡◌, ℕ, List, Option, Some, None, refl, arith, subst, sym, ◌∙◌, ◌≤◌, length}
+use Rattle.std.proofs.Common.{◌≡◌, ℕ, List, Option, Some, refl, arith, subst, sym, ◌∙◌, ◌≤◌, length}
 use Rattle.std.specs.List.{AllByRecursion}
 use Rattle.bl_base.specs.Quantity.{limit_of}
 use Rattle.bl_base.specs.declared.quantity.Quantity.TheVariants as quantity
 use Rattle.bl_outside.specs.Shelf.{Files}
 use Rattle.bl_job.specs.Causes.{Causes, IsDone}
-use Rattle.bl_words.proofs.WordsLemmas.{gen_in_range}
+use Rattle.bl_words.proofs.WordsLemmas.{gen_in_range, run_in_range}
 use Rattle.bl_app.specs.Commands.{HasOnePlan, IsSized, Row, command, job_of, row_of, work_of}
 use Rattle.bl_job.specs.Jobs.{AreRead, FirstRefusal, IsLawful, IsSmall, IsTotal, Plan}
 use Rattle.bl_job.specs.Refusals.{Refusal}
-use Rattle.bl_words.specs.Requests.{Request, gen, harden, interp, lower, modules_in, request_of, run, spec, twin, verify}
+use Rattle.bl_words.specs.Requests.{Request, forward, gen, harden, interp, lower, modules_in, predict, request_of, run, spec, twin, verify}
 use Rattle.bl_job.specs.Worlds.{World}
-use Rattle.bl_job.specs.Status.{status_number, kind_of, of_deed}
+use Rattle.bl_job.specs.Status.{reason_number, status_number, kind_of, of_deed}
+use Rattle.bl_job.specs.declared.status.Reason.{Reason}
+use Rattle.bl_job.specs.declared.status.Reason.TheVariants as reason
 use Rattle.bl_job.specs.declared.status.Status.{Status}
 use Rattle.bl_job.specs.declared.status.Status.TheVariants as status
-use Rattle.bl_job.proofs.CountLemmas.{with_modules_lawful, work_done}
+use Rattle.bl_job.proofs.CountLemmas.{with_modules_lawful, with_modules_total, work_done}
+use Rattle.bl_app.proofs.ForwardLemmas.{forward_staged_is, one_forward_plan}
 use Rattle.bl_app.proofs.GenLemmas.{gen_staged_is}
 use Rattle.bl_app.proofs.HardenLemmas.{harden_staged_is, lower_staged_is}
 use Rattle.bl_app.proofs.InterpLemmas.{interp_staged_is, one_interp_plan}
-use Rattle.bl_job.proofs.TotalJobs.{with_modules_total}
 use Rattle.bl_job.proofs.JobLemmas.{done_not_refused, one_first}
+use Rattle.bl_app.proofs.PredictLemmas.{one_predict_plan, predict_staged_is}
 use Rattle.bl_app.proofs.RunLemmas.{one_run_plan, run_staged_is}
 use Rattle.bl_app.proofs.SpecLemmas.{spec_staged_is}
 use Rattle.bl_job.proofs.Staging.{IsStagedCommand, did, one_done, staged_lawful, staged_total}
 use Rattle.bl_app.specs.Executing.{run_staged}
+use Rattle.bl_app.specs.Forwarding.{forward_staged}
 use Rattle.bl_app.specs.Generating.{gen_staged}
 use Rattle.bl_app.specs.Hardening.{harden_staged}
 use Rattle.bl_app.specs.Interpreting.{interp_staged}
 use Rattle.bl_app.specs.Lowering.{lower_staged}
+use Rattle.bl_app.specs.Predicting.{predict_staged}
 use Rattle.bl_app.specs.Speculating.{spec_staged}
 use Rattle.bl_job.specs.Staged.{Did, Staged, WasDone}
 use Rattle.bl_app.specs.Twinning.{twin_staged}
@@ -59,9 +64,11 @@ commands (harden request) = staged (harden_staged request) (harden_staged_is req
 commands (lower request) =
     staged (lower_staged request) (lower_staged_is request) (λ few given. record { few = few; apart = given.0; texts = given.1 }) (λ has made p q h k. h ∙ sym k)
 commands (interp request) = staged (interp_staged request) (interp_staged_is request) (λ few given. record { few = few; apart = given }) (λ has. one_interp_plan request.steps)
-commands (run request) = staged (run_staged request) (run_staged_is request) (λ few given. tt) (λ has. one_run_plan request.steps)
+commands (run request) = staged (run_staged request) (run_staged_is request) (λ few given. tt) (λ has. one_run_plan request.steps request.counts)
 commands (spec request) = staged (spec_staged request) (spec_staged_is request) (λ few given. tt) (λ has made p q h k. h ∙ sym k)
 commands (twin request) = staged (twin_staged request) (twin_staged_is request) (λ few given. tt) (λ has. one_twin_plan)
+commands (forward request) = staged (forward_staged request) (forward_staged_is request) (λ few given. tt) (λ has. one_forward_plan)
+commands (predict request) = staged (predict_staged request) (predict_staged_is request) (λ few given. tt) (λ has. one_predict_plan request.steps request.trace)
 commands (verify request) = staged (verify_staged request) (verify_staged_is request) (λ few given. tt) (λ has. absurd has)
 commands (gen request) = staged (gen_staged request) (gen_staged_is request) (λ few given. given) (λ has. absurd has)
 
@@ -96,16 +103,19 @@ not_refused files request = done_not_refused files (job_of request) (laws_of req
 
 -- ---- what is known of a request
 
--- the number and the size of a module that is made are in range
+-- the number and the size of a module that is made are in range, and the steps of a run
 pub sized_by : (words : List (List ℕ)) (request : Request) → request_of words ≡ Some request → IsSized request
-sized_by words request = elim request as (λ r. request_of words ≡ Some r → IsSized r) [ gen request ↦ gen_in_range words request | _ ↦ λ e. tt ]
+sized_by words request = elim request as (λ r. request_of words ≡ Some r → IsSized r) [ gen request ↦ gen_in_range words request | run request ↦ run_in_range words request | _ ↦ λ e. tt ]
 
 -- ---- statuses
 
 pub with_request : (request : Request) (old new : World) → Causes job_of (Some request) old new status.Usage → ⊥
 with_request request old new c = let none = c.usage_only refl in cc
 
+never_zero : (why : Reason) → reason_number why ≡ 0 → ⊥
+never_zero why = elim why as (λ r. reason_number r ≡ 0 → ⊥) [ reason.Malformed ↦ λ e. omega (arith, e) | _ ↦ λ e. omega (arith, e) ]
+
 -- the number 0 says that the work was done
 pub done_by_zero : (s : Status) → status_number s ≡ 0 → kind_of s ≡ of_deed
 done_by_zero s =
-    elim s as (λ t. status_number t ≡ 0 → kind_of t ≡ of_deed) [ status.Done ↦ λ e. refl | _ ↦ λ e. absurd (omega (arith, e)) ]
+    elim s as (λ t. status_number t ≡ 0 → kind_of t ≡ of_deed) [ status.Done ↦ λ e. refl | status.Refused why ↦ λ e. absurd (never_zero why e) | _ ↦ λ e. absurd (omega (arith, e)) ]

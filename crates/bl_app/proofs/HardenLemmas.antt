@@ -1,20 +1,29 @@
 -- The commands `harden` and `lower` keep the laws; what is said of `harden`.
-use Rattle.std.proofs.Common.{◌≡◌, ℕ, List, [], ◌∷◌, Some, None, refl, ap, sym, ◌∙◌, subst, map, arith, inl, length, ◌≤◌}
+use Rattle.std.proofs.Common.{◌≡◌, ℕ, List, [], ◌∷◌, ◌++◌, append-nil, Option, Some, None, Result, Ok, Err, refl, ap, sym, ◌∙◌, subst, map, arith, inl, length, slice_get, take, ◌≤◌}
+use Rattle.std.proofs.lemmas.List.{length-append}
+use Rattle.std.proofs.lemmas.List.Elements.{All-take}
+use Rattle.bl_base.specs.Fits.{AreBytes}
 use Rattle.std.specs.List.{AllByRecursion}
 use Rattle.bl_base.specs.Quantity.{limit_of}
 use Rattle.bl_base.specs.declared.quantity.Quantity.TheVariants as quantity
 use Rattle.bl_cmd.specs.Rules.{IsWellFormed}
 use Rattle.bl_image.specs.Image.{Image}
 use Rattle.bl_lower.proofs.WellFormed.{rules}
-use Rattle.bl_build.specs.Building.{AreCompiled, Built, compiling}
+use Rattle.bl_build.specs.Building.{AreCompilable, AreCompiled, Built, compiling}
+use Rattle.bl_build.specs.Hardening.{hardening}
+use Rattle.bl_build.specs.Weighing.{compiling_by, counted_sources, hardening_by}
+use Rattle.bl_build.specs.Working.{hardened_in}
+use Rattle.bl_build.specs.declared.harden.Hardened.{Hardened as HardenedMade}
+use Rattle.bl_job.specs.Working.{IsStaged}
+use Rattle.bl_job.specs.declared.refusal.WorkError.{WorkError}
 use Rattle.bl_build.specs.Loading.{AreShort, Part, parts_of}
 use Rattle.bl_app.specs.Compiling.{AreTexts, compiling_staged, module_read}
-use Rattle.bl_app.specs.Hardening.{HardenMeans, HardenPlans, Hardens, harden_staged}
-use Rattle.bl_job.specs.Jobs.{AreRead, IsSmall, Plan}
+use Rattle.bl_app.specs.Hardening.{HardenMeans, HardenPlans, Hardens, counts_among, counts_in, counts_read, harden_staged, sources_in}
+use Rattle.bl_job.specs.Jobs.{AreRead, IsSmall, Plan, Read}
 use Rattle.bl_app.specs.Lowering.{LowerPlans, lower_staged}
 use Rattle.bl_build.specs.Meaning.{SameOutcomes}
-use Rattle.bl_text.specs.Names.{AreNamedApart}
-use Rattle.bl_words.specs.Requests.{HardenRequest, LowerRequest, harden, request_of}
+use Rattle.bl_text.specs.Names.{AreNamedApart, module_name}
+use Rattle.bl_words.specs.Requests.{HardenRequest, LowerRequest, file_named, harden, request_of}
 use Rattle.bl_job.specs.Staged.{Did, Stand}
 use Rattle.bl_job.specs.Status.{kind_of}
 use Rattle.bl_job.specs.Worlds.{World, took, with_files}
@@ -24,6 +33,7 @@ use Rattle.bl_build.proofs.BuildLemmas.{are_compiled, builds_of, compiling_lawfu
 use Rattle.bl_job.proofs.Staging.{IsStagedCommand}
 use Rattle.bl_build.proofs.HardeningExists.{some_hardened}
 use Rattle.bl_build.proofs.ModuleFiles.{are_compilable}
+use Rattle.bl_build.proofs.WeighingLemmas.{are_built, are_well_formed, compiling_by_lawful, compiling_by_total}
 use Rattle.bl_build.proofs.FewestLemmas.{are_fewest, ends_alike}
 use Rattle.bl_build.proofs.MarkedImages.{as_long}
 use Rattle.bl_build.proofs.JudgedPrograms.{is_judged}
@@ -42,6 +52,83 @@ short_modules (word ∷ words) (bytes ∷ contents) read = (read.0.short, short_
 pub small_modules : (words : List (List ℕ)) → AllByRecursion IsSmall (map module_read words)
 small_modules [] = tt
 small_modules (word ∷ words) = (omega arith, small_modules words)
+
+-- the count file is read behind them
+small_with : (words : List (List ℕ)) (counts : Option (List ℕ)) → AllByRecursion IsSmall (map module_read words ++ map counts_read (file_named counts))
+small_with [] None = tt
+small_with [] (Some word) = (omega arith, tt)
+small_with (word ∷ words) counts = (omega arith, small_with words counts)
+
+short_front : (words : List (List ℕ)) (more : List Read) (contents : List (List ℕ)) → AreRead None (map module_read words ++ more) contents → AreShort words (take (length words) contents)
+short_front [] more contents read = tt
+short_front (word ∷ words) more [] read = absurd read
+short_front (word ∷ words) more (bytes ∷ contents) read = (read.0.short, short_front words more contents read.1)
+
+parts_front : (words contents : List (List ℕ)) → parts_of words (take (length words) contents) ≡ parts_of words contents
+parts_front [] contents = refl
+parts_front (word ∷ words) [] = refl
+parts_front (word ∷ words) (bytes ∷ contents) = ap (λ parts. record { name = module_name word; bytes = bytes } ∷ parts) (parts_front words contents)
+
+-- where none is read, all are modules
+pub short_alone : (words : List (List ℕ)) (counts : Option (List ℕ)) (contents : List (List ℕ)) → counts ≡ None → AreRead None (map module_read words ++ map counts_read (file_named counts)) contents
+    → AreShort words contents
+short_alone words counts contents none read =
+    let alone = subst (λ (o : Option (List ℕ)). AreRead None (map module_read words ++ map counts_read (file_named o)) contents) none read in
+    short_modules words contents (subst (λ reads. AreRead None reads contents) (append-nil (map module_read words)) alone)
+
+-- where one is, those before it
+pub short_before : (words : List (List ℕ)) (last : Read) (front : List (List ℕ)) (bytes : List ℕ) → AreRead None (map module_read words ++ last ∷ []) (front ++ bytes ∷ []) → AreShort words front
+short_before [] last [] bytes read = tt
+short_before [] last (one ∷ []) bytes read = absurd read.1
+short_before [] last (one ∷ other ∷ front) bytes read = absurd read.1
+short_before (word ∷ []) last [] bytes read = absurd read.1
+short_before (word ∷ next ∷ words) last [] bytes read = absurd read.1
+short_before (word ∷ words) last (one ∷ front) bytes read = (read.0.short, short_before words last front bytes read.1)
+
+pub short_behind : (words : List (List ℕ)) (counts : Option (List ℕ)) (word : List ℕ) (contents front : List (List ℕ)) (bytes : List ℕ) → counts ≡ Some word → contents ≡ front ++ bytes ∷ []
+    → AreRead None (map module_read words ++ map counts_read (file_named counts)) contents → AreShort words front
+short_behind words counts word contents front bytes some are read =
+    short_before words (counts_read word) front bytes
+    (subst (λ (o : Option (List ℕ)). AreRead None (map module_read words ++ map counts_read (file_named o)) (front ++ bytes ∷ [])) some
+    (subst (AreRead None (map module_read words ++ map counts_read (file_named counts))) are read))
+
+-- there is a last one
+pub some_last : (words : List (List ℕ)) (counts : Option (List ℕ)) (word : List ℕ) → counts ≡ Some word → 1 ≤ length (map module_read words ++ map counts_read (file_named counts))
+some_last words counts word some =
+    let long = length-append (map module_read words) (counts_read word ∷ []) in
+    subst (λ (o : Option (List ℕ)). 1 ≤ length (map module_read words ++ map counts_read (file_named o))) (sym some) (omega (arith, long))
+
+parts_before : (words front : List (List ℕ)) (bytes : List ℕ) → AreShort words front → parts_of words front ≡ parts_of words (front ++ bytes ∷ [])
+parts_before [] [] bytes short = refl
+parts_before [] (one ∷ front) bytes short = refl
+parts_before (word ∷ words) [] bytes short = absurd short
+parts_before (word ∷ words) (one ∷ front) bytes short = ap (λ parts. record { name = module_name word; bytes = one } ∷ parts) (parts_before words front bytes short.1)
+
+counts_behind : (words front : List (List ℕ)) (bytes : List ℕ) → AreShort words front → Some bytes ≡ slice_get (front ++ bytes ∷ []) (length words)
+counts_behind [] [] bytes short = refl
+counts_behind [] (one ∷ front) bytes short = absurd short
+counts_behind (word ∷ words) [] bytes short = absurd short
+counts_behind (word ∷ words) (one ∷ front) bytes short = counts_behind words front bytes short.1
+
+pub sources_behind : (words : List (List ℕ)) (counts : Option (List ℕ)) (word : List ℕ) (contents front : List (List ℕ)) (bytes : List ℕ) → counts ≡ Some word → contents ≡ front ++ bytes ∷ []
+    → AreShort words front → counted_sources words front bytes ≡ record { parts = parts_of words contents; counts = counts_among (length words) counts contents }
+sources_behind words counts word contents front bytes some are short =
+    let parts = parts_before words front bytes short in
+    let behind = counts_behind words front bytes short in
+    let whole : counted_sources words front bytes ≡ record { parts = parts_of words (front ++ bytes ∷ []); counts = counts_among (length words) (Some word) (front ++ bytes ∷ []) } =
+    λ i. record { parts = parts i; counts = behind i } in
+    whole ∙ (λ i. record { parts = parts_of words (sym are i); counts = counts_among (length words) (sym some i) (sym are i) })
+
+-- without one, hardening is that of the modules
+pub hardened_alone : (words contents : List (List ℕ)) (counts : Option (List ℕ)) → counts ≡ None → (result : Result HardenedMade WorkError) → IsStaged hardening hardened_in (parts_of words contents) result
+    → IsStaged hardening_by hardened_in (record { parts = parts_of words contents; counts = counts_among (length words) counts contents }) result
+hardened_alone words contents counts none result h =
+    subst (λ (o : Option (List ℕ)). IsStaged hardening_by hardened_in (record { parts = parts_of words contents; counts = counts_among (length words) o contents }) result) (sym none) (same result h)
+  where
+    same : (result : Result HardenedMade WorkError) → IsStaged hardening hardened_in (parts_of words contents) result
+        → IsStaged hardening_by hardened_in (record { parts = parts_of words contents; counts = None }) result
+    same (Ok x) h = h
+    same (Err e) h = h
 
 -- ---- the laws
 
@@ -79,34 +166,41 @@ compiled_is words keeps Plans Means done named means planned = record {
   planned = planned;
 }
 
-harden_means : (request : HardenRequest) (contents : List (List ℕ)) (built : Built) → compiling.Passes (parts_of request.modules contents) built → (plan : Plan) → HardenMeans request contents built plan
+harden_means : (request : HardenRequest) (contents : List (List ℕ)) (built : Built) → compiling_by.Passes (sources_in request contents) built → (plan : Plan) → HardenMeans request contents built plan
 harden_means request contents built passes plan =
-    let parts = parts_of request.modules contents in
-    let compiled = are_compiled request.modules contents built passes in
-    let own = own_of parts built passes in
-    let wells = wells_of parts built passes in
+    let is = are_built request.modules contents (counts_in request contents) built passes in
+    let wells = are_well_formed request.modules contents (counts_in request contents) built is in
     record {
-      compiled = compiled;
+      compiled = is;
       each = λ hardened h.
-          let long = as_long h.set built.program hardened.image built.image (subst (λ p. Image p hardened.image) h.is_program h.image) own in
-          let short = compiled.builds.short in
+          let long = as_long h.set built.program hardened.image built.image (subst (λ p. Image p hardened.image) h.is_program h.image) is.image in
+          let short = is.short in
           record {
-            same_outcomes = subst (SameOutcomes compiled.tree) (sym h.is_program) (ends_alike compiled.tree built.program h.set compiled.same_outcomes);
-            fewest = are_fewest built.program own.is_program wells hardened h;
-            constant_time = is_judged built.program own.is_program wells hardened h;
+            same_outcomes = subst (SameOutcomes is.tree) (sym h.is_program) (ends_alike is.tree built.program h.set is.same_outcomes);
+            fewest = are_fewest built.program is.image.is_program wells hardened h;
+            constant_time = is_judged built.program is.image.is_program wells hardened h;
             short = omega (arith, long, short);
           };
     }
 
 pub harden_staged_is : (request : HardenRequest) → IsStagedCommand (AreModules request.modules) (harden_staged request)
-harden_staged_is request =
-    compiled_is request.modules (request.certificate ∷ request.image ∷ []) (HardenPlans request) (HardenMeans request)
-    (λ built plan p. ap (λ q. q.status) p.is_plan) (λ built plan p. ap (λ q. map (λ keep. keep.0) q.keeps) p.is_plan)
-    (λ contents built compiled plan p. harden_means request contents built compiled plan)
-    (λ contents built compiled none.
-    let parts = parts_of request.modules contents in
-    some_hardened built.program built.image (wells_of parts built compiled) (own_of parts built compiled)
-    (λ hardened is. none _ (record { hardened = hardened; is_hardened = is; is_plan = refl })))
+harden_staged_is request = record {
+  small = small_with request.modules request.counts;
+  lawful = compiling_by_lawful;
+  total = λ given contents there.
+      compiling_by_total.always (sources_in request contents)
+      (subst AreCompilable (parts_front request.modules contents)
+      (are_compilable request.modules (take (length request.modules) contents) given.few given.apart given.texts
+      (short_front request.modules (map counts_read (file_named request.counts)) contents there.read) (All-take AreBytes (length request.modules) contents there.bytes)));
+  one_status = λ built p q d e. ap (λ plan. plan.status) d.is_plan ∙ sym (ap (λ plan. plan.status) e.is_plan);
+  status_of_deed = λ built plan d. ap (λ q. kind_of q.status) d.is_plan;
+  keeps_named = λ built plan d. inl (ap (λ q. map (λ keep. keep.0) q.keeps) d.is_plan);
+  means = λ contents built passes plan d. harden_means request contents built passes plan;
+  planned = λ contents built passes none.
+      let is = are_built request.modules contents (counts_in request contents) built passes in
+      some_hardened built.program built.image (are_well_formed request.modules contents (counts_in request contents) built is) is.image
+      (λ hardened h. none _ (record { hardened = hardened; is_hardened = h; is_plan = refl }));
+}
 
 pub lower_staged_is : (request : LowerRequest) → IsStagedCommand (AreModules request.modules) (lower_staged request)
 lower_staged_is request =

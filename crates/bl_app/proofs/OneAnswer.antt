@@ -1,10 +1,7 @@
 -- Two plans on the same contents: where they are one, and what they have in common where they may differ.
 use Rattle.std.proofs.Common.{◌≡◌, ℕ, List, [], ◌∷◌, ◌++◌, Some, refl, ap, sym, ◌∙◌, subst, ◌↔◌, slice_get, flat_map}
-use Rattle.bl_cmd.specs.Rules.{IsWellFormed}
 use Rattle.bl_cmd.specs.Sites.{is_protected}
 use Rattle.bl_cmd.specs.declared.definitions.ProgramParts.{ProgramParts as Program}
-use Rattle.bl_image.specs.Image.{Image}
-use Rattle.bl_lower.proofs.WellFormed.{rules as rules_of}
 use Rattle.bl_graph.specs.Ranges.{AreInRange}
 use Rattle.bl_graph.specs.declared.certificate.Certificate.{Certificate}
 use Rattle.bl_graph.proofs.Ranging.{in_range}
@@ -16,13 +13,12 @@ use Rattle.bl_witness.specs.Texts.{certificate_text}
 use Rattle.bl_report.specs.Reports.{constant_time_text, counts_text, protect_text, protects}
 use Rattle.bl_report.specs.Verdicts.{certificate_line, safe_line, stable_line}
 use Rattle.bl_words.specs.Requests.{HardenRequest}
-use Rattle.bl_app.specs.Hardening.{HardenDoes}
+use Rattle.bl_app.specs.Hardening.{HardenDoes, counts_in, sources_in}
 use Rattle.bl_build.specs.Hardening.{IsHardened, IsYes}
 use Rattle.bl_job.specs.Jobs.{Plan, saying}
-use Rattle.bl_build.specs.Loading.{parts_of}
 use Rattle.bl_app.specs.Verifying.{AreVerdicts, VerifyDoes, verify_status}
 use Rattle.bl_job.specs.declared.status.Status.TheVariants.{Done}
-use Rattle.bl_build.proofs.BuildLemmas.{are_compiled, compiling_lawful}
+use Rattle.bl_build.proofs.WeighingLemmas.{are_built, are_well_formed, compiling_by_lawful}
 use Rattle.bl_app.proofs.VerifyLemmas.{one_certified}
 use Rattle.bl_build.proofs.OneVerdict.{one_rules, one_flow, one_yes, one_program, one_bytes, one_answer}
 
@@ -72,14 +68,12 @@ module _ (request : HardenRequest) (contents : List (List ℕ)) (p q : Plan) (h 
   here : IsHardened k.made.program h.plans.hardened
   here =
       subst (λ built. IsHardened built.program h.plans.hardened)
-      (compiling_lawful.one_result (parts_of request.modules contents) h.made k.made h.passes k.passes) h.plans.is_hardened
+      (compiling_by_lawful.one_result (sources_in request contents) h.made k.made h.passes k.passes) h.plans.is_hardened
 
   ranges : AreInRange k.made.program
   ranges =
-      let compiled = are_compiled request.modules contents k.made k.passes in
-      let own = subst (λ p. Image p k.made.image) (sym compiled.builds.is_program) compiled.builds.image in
-      let wells = subst IsWellFormed (sym compiled.builds.is_program) (rules_of compiled.tree compiled.linked compiled.builds.few) in
-      in_range k.made.program own.is_program wells
+      let is = are_built request.modules contents (counts_in request contents) k.made k.passes in
+      in_range k.made.program is.image.is_program (are_well_formed request.modules contents (counts_in request contents) k.made is)
 
   pub harden_program : h.plans.hardened.program ≡ k.plans.hardened.program
   harden_program = one_program k.made.program ranges h.plans.hardened k.plans.hardened here k.plans.is_hardened

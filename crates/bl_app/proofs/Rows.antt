@@ -17,7 +17,7 @@ part = refl
 bare_part : module_name (codes "wasm") ≡ codes "wasm"
 bare_part = refl
 
-words : request_of (codes "blade" ∷ codes "harden" ∷ codes "a" ∷ codes "b" ∷ codes "c" ∷ []) ≡ Some (harden (record { image = codes "a"; certificate = codes "b"; modules = codes "c" ∷ [] }))
+words : request_of (codes "blade" ∷ codes "harden" ∷ codes "a" ∷ codes "b" ∷ codes "c" ∷ []) ≡ Some (harden (record { image = codes "a"; certificate = codes "b"; modules = codes "c" ∷ []; counts = None }))
 words = refl
 
 same_words : request_of (codes "blade" ∷ codes "harden" ∷ codes "a" ∷ codes "a" ∷ codes "c" ∷ []) ≡ None

@@ -11,11 +11,14 @@ use Rattle.bl_twin.proofs.Comparisons.{never, told}
 use Rattle.bl_twin.specs.declared.comparison.Comparison.{Comparison}
 use Rattle.bl_twin.specs.declared.comparison.Comparison.TheVariants as compared
 use Rattle.bl_words.specs.Requests.{TwinRequest}
-use Rattle.bl_build.specs.Entering.{Entry, Finds, IsImaged}
-use Rattle.bl_build.specs.Tracing.{Speculated, StartsTraced, Traces, Twinned, entry_of, twinning}
+use Rattle.bl_build.specs.Entering.{Entry, Finds, IsImaged, Starts, starting}
+use Rattle.bl_build.specs.Tracing.{Speculated, Traces, Twinned, entry_of, program_speculating, program_twinning, starting_other, twinning}
 use Rattle.bl_build.proofs.Classical.{either}
-use Rattle.bl_build.proofs.ImagesTotal.{twinning_total}
-use Rattle.bl_build.proofs.TracingLemmas.{twinning_lawful}
+use Rattle.bl_build.proofs.EnteringLemmas.{imaged_lawful, starting_lawful}
+use Rattle.bl_build.proofs.ImagesTotal.{imaged_total, program_speculating_total, starting_total}
+use Rattle.bl_build.proofs.TracingLemmas.{program_speculating_lawful}
+use Rattle.bl_job.specs.Stages.{Anything, IsLawfulStage, IsTotalStage}
+use Rattle.bl_job.proofs.StageLemmas.{beside_lawful, beside_total, chain_lawful, chain_total}
 use Rattle.bl_job.specs.Jobs.{Plan, saying}
 use Rattle.bl_app.specs.Speculating.{seen_of}
 use Rattle.bl_job.specs.Status.{kind_of, of_deed}
@@ -23,13 +26,13 @@ use Rattle.bl_app.specs.Twinning.{StartsAgree, TwinPlans, comparison_of, other_s
 use Rattle.bl_job.specs.declared.status.Status.TheVariants.{No}
 use Rattle.bl_job.proofs.Staging.{IsStagedCommand}
 
-deed_of_twin : (comparison : Comparison) → kind_of (twin_status comparison) ≡ of_deed
+pub deed_of_twin : (comparison : Comparison) → kind_of (twin_status comparison) ≡ of_deed
 deed_of_twin compared.Equal = refl
 deed_of_twin compared.Stuck = refl
 deed_of_twin compared.Differ = refl
 
 -- no is said where the runs differ alone
-no_differs : (comparison : Comparison) → twin_status comparison ≡ No → comparison ≡ compared.Differ
+pub no_differs : (comparison : Comparison) → twin_status comparison ≡ No → comparison ≡ compared.Differ
 no_differs compared.Equal e = absurd cc
 no_differs compared.Stuck e = absurd cc
 no_differs compared.Differ e = refl
@@ -39,16 +42,16 @@ pub record IsOfImage (t : Twinned) : Type 0 where
   pub facts : IsProgram (entry_of t).program
   pub rules : IsWellFormed (entry_of t).program
 
-of_image : (export trace start other image : List ℕ) (t : Twinned) → (twinning export trace start other).Passes image t → IsOfImage t
+pub of_image : (export trace start other image : List ℕ) (t : Twinned) → (twinning export trace start other).Passes image t → IsOfImage t
 of_image export trace start other image t prepared =
     let program = prepared.0 in
     let imaged : IsImaged image program = prepared.1 in
     let behind = prepared.2.1 in
     let found : Finds export program behind.0 = behind.1 in
     let traces : Traces trace behind.0 behind.2.0 = behind.2.1 in
-    let starts : StartsTraced start behind.2.0 prepared.2.0 = behind.2.2 in
+    let starts : Starts start behind.2.0.entry behind.2.2.0 = behind.2.2.1 in
     let same : program ≡ (entry_of t).program
-    = sym (ap (λ (s : Speculated). s.entered.entry.program) prepared.2.2.same ∙ ap (λ (e : Entry). e.program) (starts.starts.same_entry ∙ traces.same_entry) ∙ found.same_program) in
+    = sym (ap (λ (t : Twinned). (entry_of t).program) prepared.2.2.2 ∙ ap (λ (s : Speculated). s.entered.entry.program) behind.2.2.2 ∙ ap (λ (e : Entry). e.program) (starts.same_entry ∙ traces.same_entry) ∙ found.same_program) in
     record { facts = subst IsProgram same imaged.image.is_program; rules = subst IsWellFormed same imaged.rules }
 
 safe_alike : (t : Twinned) → IsOfImage t → ConstantTime (entry_of t).program → IsStable (entry_of t).program → StartsAgree t → comparison_of t ≡ compared.Differ → ⊥
@@ -57,7 +60,7 @@ safe_alike t of constant stable agree differ =
     t.speculated.entered.start t.other agree differ
 
 -- two answers to one question are one
-one_bool : (P : Type 0) (a b : Bool) → (IsTrue a ↔ P) → (IsTrue b ↔ P) → a ≡ b
+pub one_bool : (P : Type 0) (a b : Bool) → (IsTrue a ↔ P) → (IsTrue b ↔ P) → a ≡ b
 one_bool P true true s t = refl
 one_bool P true false s t = let clash : false ≡ true = t.1 (s.0 refl) in cc
 one_bool P false true s t = let clash : false ≡ true = s.1 (t.0 refl) in cc
@@ -74,6 +77,18 @@ some_twin_plan t none =
       | inl alike ↦ none _ (record { agree = true; agrees = (λ e. alike, λ _. refl); is_plan = refl })
       | inr differ ↦ none _ (record { agree = false; agrees = (λ e. absurd (false≢true e), λ alike. absurd (differ alike)); is_plan = refl })
     ])
+
+module _ (export trace start other : List ℕ) where
+  pub twinning_lawful : IsLawfulStage (twinning export trace start other)
+  twinning_lawful =
+      imaged_lawful (program_twinning export trace start other)
+      (chain_lawful (program_speculating export trace start) (starting_other other) (program_speculating_lawful export trace start) (beside_lawful _ (starting other) _ (starting_lawful other)))
+
+  pub twinning_total : IsTotalStage Anything (twinning export trace start other)
+  twinning_total =
+      imaged_total (program_twinning export trace start other)
+      (chain_total IsWellFormed Anything (program_speculating export trace start) (starting_other other) (program_speculating_total export trace start)
+      (beside_total _ (starting other) _ Anything (starting_total other)) (λ program speculated rules passes. tt))
 
 pub twin_staged_is : (request : TwinRequest) → IsStagedCommand (Unit {0}) (twin_staged request)
 twin_staged_is request = record {

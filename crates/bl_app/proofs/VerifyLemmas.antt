@@ -14,12 +14,14 @@ use Rattle.bl_words.specs.Requests.{VerifyRequest}
 use Rattle.bl_job.specs.Jobs.{Plan}
 use Rattle.bl_job.specs.Status.{kind_of, of_deed}
 use Rattle.bl_app.specs.Verifying.{AreVerdicts, Say, Verdicts, VerifyDoes, VerifyPlans, verify_reading, verify_staged, verify_status}
-use Rattle.bl_build.specs.Certifying.{Certified, verifying}
+use Rattle.bl_build.specs.Certifying.{Certified, certifying, verifying}
 use Rattle.bl_build.proofs.JudgedCertificates.{assessed_so, certain_back, certain_in, none_is_lighter, stable_back, stable_in}
 use Rattle.bl_build.proofs.JudgedPrograms.{labelled_yes, yes_labelled}
 use Rattle.bl_job.proofs.Staging.{IsStagedCommand, read_result}
-use Rattle.bl_build.proofs.CertifyingLemmas.{verifying_lawful}
-use Rattle.bl_build.proofs.ImagesTotal.{verifying_total}
+use Rattle.bl_build.proofs.CertifyingLemmas.{certifying_lawful}
+use Rattle.bl_build.proofs.EnteringLemmas.{imaged_lawful}
+use Rattle.bl_build.proofs.ImagesTotal.{certifying_total, imaged_total}
+use Rattle.bl_job.specs.Stages.{IsLawfulStage}
 use Rattle.bl_build.proofs.OneVerdict.{one_flow, one_rules}
 use Rattle.bl_build.proofs.VerdictsTotal.{some_check, some_flow_verdict, some_label_verdict}
 
@@ -75,11 +77,14 @@ one_verify_status : (certified : Certified) (p q : Plan) → VerifyPlans certifi
 one_verify_status certified p q h k =
     ap (λ plan. plan.status) h.is_plan ∙ one_status_of certified h.verdicts k.verdicts h.are_verdicts k.are_verdicts ∙ sym (ap (λ plan. plan.status) k.is_plan)
 
+verifying_lawful : (certificate : List ℕ) → IsLawfulStage (verifying certificate)
+verifying_lawful certificate = imaged_lawful (certifying certificate) (certifying_lawful certificate)
+
 pub verify_staged_is : (request : VerifyRequest) → IsStagedCommand (Unit {0}) (verify_staged request)
 verify_staged_is request = record {
   small = (omega arith, (omega arith, tt));
   lawful = λ image certificate. verifying_lawful certificate;
-  total = λ given image certificate. (verifying_total certificate).always image tt;
+  total = λ given image certificate. (imaged_total (certifying certificate) (certifying_total certificate)).always image tt;
   one_status = one_verify_status;
   status_of_deed = λ c plan h. ap (λ p. kind_of p.status) h.is_plan ∙ deed_of_verify h.verdicts.rules h.verdicts.flow;
   keeps_named = λ c plan h. inr (ap (λ p. p.keeps) h.is_plan);

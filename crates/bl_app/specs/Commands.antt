@@ -2,13 +2,15 @@
 use Rattle.bl_app.specs.Compiling.{AreTexts}
 use Rattle.bl_job.specs.Counting.{with_modules}
 use Rattle.bl_app.specs.Executing.{run_staged}
+use Rattle.bl_app.specs.Forwarding.{forward_staged}
 use Rattle.bl_app.specs.Generating.{gen_staged}
 use Rattle.bl_app.specs.Hardening.{harden_staged}
 use Rattle.bl_app.specs.Interpreting.{interp_staged}
 use Rattle.bl_job.specs.Jobs.{Job}
 use Rattle.bl_app.specs.Lowering.{lower_staged}
 use Rattle.bl_text.specs.Names.{AreNamedApart}
-use Rattle.bl_words.specs.Requests.{IsGenInRange, Request, gen, harden, interp, lower, modules_in, run, spec, twin, verify}
+use Rattle.bl_words.specs.Requests.{AreInRange, IsGenInRange, Request, forward, gen, harden, interp, lower, modules_in, predict, run, spec, twin, verify}
+use Rattle.bl_app.specs.Predicting.{predict_staged}
 use Rattle.bl_app.specs.Speculating.{spec_staged}
 use Rattle.bl_job.specs.Staged.{Staged, staged_job}
 use Rattle.bl_app.specs.Twinning.{twin_staged}
@@ -24,8 +26,8 @@ pub record Row : Type 1 where
 abbrev pub command : {B : Type 0} → Type 0 → Staged B → Row
 command {B = B} Given staged = record { Made = B; Given = Given; staged = staged; job = staged_job staged }
 
--- the command of each request, for modules that are few enough. The status of a deed is 0, and of `interp` and `run` also 16 or 17, of `spec` also 18,
--- of `twin` also 1 or 18, of `verify` also 1
+-- the command of each request, for modules that are few enough. The status of a deed is 0, and of `interp`, `run` and `predict` also 16 or 17, of `spec` also 18,
+-- of `twin` and `forward` also 1 or 18, of `verify` also 1
 abbrev pub row_of : Request → Row
 row_of (harden request) = command (AreNamedApart request.modules × AreTexts request.modules) (harden_staged request)
 row_of (lower request) = command (AreNamedApart request.modules × AreTexts request.modules) (lower_staged request)
@@ -33,6 +35,8 @@ row_of (interp request) = command (AreNamedApart request.modules) (interp_staged
 row_of (run request) = command (Unit {0}) (run_staged request)
 row_of (spec request) = command (Unit {0}) (spec_staged request)
 row_of (twin request) = command (Unit {0}) (twin_staged request)
+row_of (forward request) = command (Unit {0}) (forward_staged request)
+row_of (predict request) = command (Unit {0}) (predict_staged request)
 row_of (verify request) = command (Unit {0}) (verify_staged request)
 row_of (gen request) = command (IsGenInRange request) (gen_staged request)
 
@@ -49,7 +53,8 @@ HasOnePlan (gen request) = ⊥
 HasOnePlan (verify request) = ⊥
 HasOnePlan request = Unit {0}
 
--- the number and the size of a module that is made are in range
+-- the number and the size of a module that is made are in range, and the steps of a run
 abbrev pub IsSized : Request → Type 0
 IsSized (gen request) = IsGenInRange request
+IsSized (run request) = AreInRange request.steps
 IsSized request = Unit {0}

@@ -1,12 +1,14 @@
 pub mod Commands
 pub mod Compiling
 pub mod Executing
+pub mod Forwarding
 pub mod Generating
 pub mod Hardening
 pub mod Interpreting
 pub mod Leaving
 pub mod Lowering
 pub mod Outcomes
+pub mod Predicting
 pub mod Speculating
 pub mod Texts
 pub mod Twinning

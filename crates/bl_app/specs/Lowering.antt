@@ -1,5 +1,5 @@
 -- `lower`: its job, and what is said where it is done.
-use Rattle.std.specs.Prelude.{◌≡◌, ℕ, List, [], ◌∷◌}
+use Rattle.std.specs.Prelude.{◌≡◌, [], ◌∷◌}
 use Rattle.bl_build.specs.Building.{AreCompiled, Built}
 use Rattle.bl_app.specs.Compiling.{compiling_staged}
 use Rattle.bl_job.specs.Jobs.{Job, Plan}

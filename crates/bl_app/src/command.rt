@@ -9,45 +9,35 @@ ghost use Rattle.bl_words.specs.Requests.{modules_in};
 ghost use Rattle.bl_words.specs.Words.{request_in};
 ghost use Rattle.bl_job.specs.Working.{IsWork, read_in, contents_in};
 
+use crate::forward::forward;
 use crate::generate::generate;
-use crate::harden::harden;
+use crate::harden::{harden, harden_reads};
 use crate::interp::{interp_reads, interpret};
 use crate::lower::lower;
 use crate::module::module_reads;
+use crate::predict::{predict, predict_reads};
 use crate::run::{execute, run_reads};
 use crate::spec::{spec_reads, speculate};
 use crate::twin::{twin, twin_reads};
 use crate::verify::{verify, verify_reads};
 use bl_base::NoMemory;
-use bl_job::{Plan, Read, WorkError};
+use bl_job::{Content, Plan, Read, WorkError};
 use bl_words::Request;
 use std::alloc::Global;
-
-/// The modules that a request reads, by their words; of an image there are none.
-pub fn modules_of<'a, 'r>(request: &'r Request<'a>) -> &'r [&'a str]
-    ensures { map (λ word. word.now) result.now ≡ modules_in (request_in request.now) }
-{
-    match request {
-        Request::Harden(words) => words.modules.as_slice(),
-        Request::Lower(words) => words.modules.as_slice(),
-        Request::Interp(words) => words.modules.as_slice(),
-        Request::Run(_) | Request::Spec(_) | Request::Twin(_) => &[],
-        Request::Verify(_) | Request::Gen(_) => &[],
-    }
-}
 
 /// The files that a request reads, in the order of its words.
 pub fn reads_of<'a>(alloc: Global, request: &Request<'a>) -> Result<Vec<Read<'a>>, NoMemory>
     ensures { IfOk result (λ reads. map read_in reads.items ≡ (work_of (request_in request.now)).reads) }
 {
     match request {
-        Request::Harden(words) => module_reads(alloc, words.modules.as_slice()),
+        Request::Harden(words) => harden_reads(alloc, words),
         Request::Lower(words) => module_reads(alloc, words.modules.as_slice()),
         Request::Interp(words) => interp_reads(alloc, words),
         Request::Run(words) => run_reads(alloc, words),
         Request::Spec(words) => spec_reads(alloc, words),
-        Request::Twin(words) => twin_reads(alloc, words),
+        Request::Twin(words) | Request::Forward(words) => twin_reads(alloc, words),
         Request::Verify(words) => verify_reads(alloc, words),
+        Request::Predict(words) => predict_reads(alloc, words),
         Request::Gen(_) => Ok(Vec::new(alloc)),
     }
 }
@@ -56,22 +46,24 @@ pub fn reads_of<'a>(alloc: Global, request: &Request<'a>) -> Result<Vec<Read<'a>
 pub fn work<'a>(
     alloc: Global,
     request: &Request<'a>,
-    contents: &[Vec<u8>],
-) -> Result<Plan<'a>, WorkError<'a>>
+    contents: Vec<Content>,
+) -> Result<Plan<'a>, WorkError>
     requires few { length (modules_in (request_in request.now)) ≤ limit_of quantity.Modules }
     requires apart { AreNamedApart (modules_in (request_in request.now)) }
     requires sized { IsSized (request_in request.now) }
-    requires read { AreRead None (work_of (request_in request.now)).reads (contents_in contents.now) }
-    ensures { IsWork (work_of (request_in request.now)) (contents_in contents.now) result }
+    requires read { AreRead None (work_of (request_in request.now)).reads (contents_in contents.items) }
+    ensures { IsWork (work_of (request_in request.now)) (contents_in contents.items) result }
 {
     match request {
         Request::Harden(words) => harden(alloc, words, contents),
         Request::Lower(words) => lower(alloc, words, contents),
         Request::Interp(words) => interpret(alloc, words, contents),
-        Request::Run(words) => execute(alloc, words, contents),
-        Request::Spec(words) => speculate(alloc, words, contents),
-        Request::Twin(words) => twin(alloc, words, contents),
-        Request::Verify(words) => verify(alloc, words, contents),
+        Request::Run(words) => execute(alloc, words, contents.as_slice()),
+        Request::Spec(words) => speculate(alloc, words, contents.as_slice()),
+        Request::Twin(words) => twin(alloc, words, contents.as_slice()),
+        Request::Forward(words) => forward(alloc, words, contents.as_slice()),
+        Request::Verify(words) => verify(alloc, words, contents.as_slice()),
+        Request::Predict(words) => predict(alloc, words, contents.as_slice()),
         Request::Gen(words) => generate(alloc, words),
     }
 }

@@ -16,14 +16,14 @@ ghost use Rattle.bl_words.specs.Words.{gen_in};
 use bl_base::NoMemory;
 use bl_build::{Hardened, compile_hardened};
 use bl_gen::make;
-use bl_job::{Plan, Status, WorkError};
+use bl_job::{Content, Plan, Status, WorkError};
 use bl_report::summary;
 use bl_words::GenWords;
 use std::alloc::Global;
 
 /// Printing the summary of a module that is made of a number and a size, compiled and hardened. Costs a maximum flow in a network that
 /// is linear in the program, also where the image is too long.
-pub fn generate<'a>(alloc: Global, words: &GenWords) -> Result<Plan<'a>, WorkError<'a>>
+pub fn generate<'a>(alloc: Global, words: &GenWords) -> Result<Plan<'a>, WorkError>
     requires { (1 ≤ words.now.size) × (words.now.size ≤ limit_of quantity.Functions) }
     ensures { IsWork (gen_job (gen_in words.now)) [] result }
 {
@@ -36,14 +36,16 @@ pub fn generate<'a>(alloc: Global, words: &GenWords) -> Result<Plan<'a>, WorkErr
 }
 
 /// A module compiled and hardened by itself.
-fn hardened_of<'a>(alloc: Global, bytes: Vec<u8>) -> Result<Hardened, WorkError<'a>>
+fn hardened_of(alloc: Global, bytes: Vec<u8>) -> Result<Hardened, WorkError>
     requires { length bytes.items ≤ limit_of quantity.Module }
     ensures { IsStaged hardening hardened_in (parts_of (codes "gen" ∷ []) (bytes.items ∷ [])) result }
 {
+    let content = Content::of_module(alloc, &bytes)?;
+    drop(bytes);
     let mut contents = Vec::new(alloc);
-    contents.push(bytes)?;
-    let names: [&'a str; 1] = ["gen"];
-    compile_hardened(alloc, &names, contents.as_slice())
+    contents.push(content)?;
+    let names: [&'static str; 1] = ["gen"];
+    compile_hardened(alloc, &names, contents)
 }
 
 /// The plan of a program with its protects, which is that of a module of so many bytes.

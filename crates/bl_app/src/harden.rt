@@ -6,39 +6,76 @@ ghost use Rattle.bl_graph.specs.Certificates.{Certifies};
 ghost use Rattle.bl_report.specs.Reports.{report_text};
 ghost use Rattle.bl_witness.specs.Texts.{certificate_text};
 ghost use Rattle.bl_ct.specs.Verdicts.{Judges};
-ghost use Rattle.bl_app.specs.Hardening.{harden_job, harden_plan};
+ghost use Rattle.bl_app.specs.Hardening.{harden_job, harden_plan, sources_in};
+ghost use Rattle.bl_build.specs.Weighing.{hardening_by};
 ghost use Rattle.bl_job.specs.Jobs.{AreRead};
 ghost use Rattle.bl_text.specs.Names.{AreNamedApart};
 ghost use Rattle.bl_words.specs.Words.{harden_in};
-ghost use Rattle.bl_job.specs.Working.{IsWork, keep_in, plan_in, contents_in};
+ghost use Rattle.bl_job.specs.Working.{IsStaged, IsWork, keep_in, plan_in, read_in, contents_in};
 ghost use Rattle.bl_build.specs.Working.{hardened_in};
 
-use bl_base::{NoMemory, Text};
-use bl_build::{Hardened, compile_hardened};
+use crate::module::module_reads;
+use bl_base::{NoMemory, Quantity, Text};
+use bl_build::{Hardened, compile_hardened, compile_hardened_by};
 use bl_graph::Certificate;
-use bl_job::{Keep, Plan, Status, WorkError, one_kept};
+use bl_job::{Content, Keep, Plan, Read, Status, WorkError, last_file, one_kept};
 use bl_report::report;
 use bl_witness::to_json;
 use bl_words::HardenWords;
 use std::alloc::Global;
 
-/// Keeping a certificate and then the image of the modules' program with the least protects, and printing the report; Refused
-/// exactly where the bytes are refused. Costs a maximum flow in a network that is linear in the program, also where the image is too
+/// Keeping a certificate and then the image of the modules' program with the least protects, by the counts of the count file where one is
+/// named, and printing the report; Refused exactly where the bytes are refused. Costs a maximum flow in a network that is linear in the program, also where the image is too
 /// long.
 pub fn harden<'a>(
     alloc: Global,
     words: &HardenWords<'a>,
-    contents: &[Vec<u8>],
-) -> Result<Plan<'a>, WorkError<'a>>
+    contents: Vec<Content>,
+) -> Result<Plan<'a>, WorkError>
     requires few { length words.now.modules ≤ limit_of quantity.Modules }
     requires apart { AreNamedApart (harden_in words.now).modules }
-    requires read { AreRead None (harden_job (harden_in words.now)).reads (contents_in contents.now) }
-    ensures { IsWork (harden_job (harden_in words.now)) (contents_in contents.now) result }
+    requires read { AreRead None (harden_job (harden_in words.now)).reads (contents_in contents.items) }
+    ensures { IsWork (harden_job (harden_in words.now)) (contents_in contents.items) result }
 {
-    match compile_hardened(alloc, words.modules.as_slice(), contents) {
+    match hardened_of(alloc, words, contents) {
         Ok(hardened) => Ok(plan_of(alloc, words, hardened)?),
         Err(error) => Err(error),
     }
+}
+
+/// The modules' program with the least protects, by the counts of the count file where one is named.
+fn hardened_of<'a>(
+    alloc: Global,
+    words: &HardenWords<'a>,
+    contents: Vec<Content>,
+) -> Result<Hardened, WorkError>
+    requires few { length words.now.modules ≤ limit_of quantity.Modules }
+    requires apart { AreNamedApart (harden_in words.now).modules }
+    requires read { AreRead None (harden_job (harden_in words.now)).reads (contents_in contents.items) }
+    ensures { IsStaged hardening_by hardened_in (sources_in (harden_in words.now) (contents_in contents.items)) result }
+{
+    let modules = words.modules.as_slice();
+    match words.counts {
+        None => compile_hardened(alloc, modules, contents),
+        Some(_) => {
+            let (contents, counts) = last_file(contents);
+            compile_hardened_by(alloc, modules, contents, counts.bytes())
+        }
+    }
+}
+
+/// The files that `harden` reads: the modules, and then the count file where one is named.
+pub fn harden_reads<'a>(alloc: Global, words: &HardenWords<'a>) -> Result<Vec<Read<'a>>, NoMemory>
+    ensures { IfOk result (λ reads. map read_in reads.items ≡ (harden_job (harden_in words.now)).reads) }
+{
+    let mut reads = module_reads(alloc, words.modules.as_slice())?;
+    if let Some(name) = words.counts {
+        reads.push(Read {
+            name,
+            quantity: Quantity::Counts,
+        })?;
+    }
+    Ok(reads)
 }
 
 /// The plan of a program with its protects.

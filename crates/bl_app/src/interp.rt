@@ -15,7 +15,7 @@ use crate::module::read_modules;
 use crate::outcome::outcome_status;
 use bl_base::{NoMemory, Quantity};
 use bl_build::{Invocation, load, prepare};
-use bl_job::{Plan, Read, WorkError, first_file};
+use bl_job::{Content, Plan, Read, WorkError, first_file};
 use bl_machine::{first_memories, interp};
 use bl_outcome::outcome_text;
 use bl_wasm::Linked;
@@ -40,19 +40,19 @@ pub fn interp_reads<'a>(alloc: Global, words: &InterpWords<'a>) -> Result<Vec<Re
 pub fn interpret<'a>(
     alloc: Global,
     words: &InterpWords<'a>,
-    contents: &[Vec<u8>],
-) -> Result<Plan<'a>, WorkError<'a>>
+    contents: Vec<Content>,
+) -> Result<Plan<'a>, WorkError>
     requires few { length words.now.modules ≤ limit_of quantity.Modules }
     requires apart { AreNamedApart (interp_in words.now).modules }
-    requires read { AreRead None (interp_job (interp_in words.now)).reads (contents_in contents.now) }
-    ensures { IsWork (interp_job (interp_in words.now)) (contents_in contents.now) result }
+    requires read { AreRead None (interp_job (interp_in words.now)).reads (contents_in contents.items) }
+    ensures { IsWork (interp_job (interp_in words.now)) (contents_in contents.items) result }
 {
     let (start, modules) = first_file(contents);
     let linked = match load(alloc, words.modules.as_slice(), modules) {
         Ok(linked) => linked,
         Err(error) => return Err(error),
     };
-    interpret_tree(alloc, words, start, &linked)
+    interpret_tree(alloc, words, start.bytes(), &linked)
 }
 
 /// The same, by the bytes of the start file and the linked tree of the modules.
@@ -61,7 +61,7 @@ fn interpret_tree<'a>(
     words: &InterpWords<'a>,
     start: &[u8],
     linked: &Linked,
-) -> Result<Plan<'a>, WorkError<'a>>
+) -> Result<Plan<'a>, WorkError>
     ensures { IsDoneBehind (invoking (interp_in words.now).export start.now) (InterpPlans words.now.steps) linked.now result }
 {
     let invocation = match prepare(alloc, linked.tree(), words.export, start) {

@@ -1,11 +1,20 @@
 //! Laws of the definitions. Each function is its contract alone.
-ghost use Rattle.std.specs.Prelude.{◌≡◌, ◌↔◌, ◌⊎◌, ℕ, ◌*◌, List as Listed, [], ◌∷◌, None, Some, slice_get};
+ghost use Rattle.std.specs.Prelude.{◌≡◌, ◌≤◌, ◌↔◌, ◌⊎◌, ℕ, ◌*◌, Bool, List as Listed, [], ◌∷◌, Option, None, Some, slice_get};
+ghost use Rattle.bl_base.specs.Quantity.{limit_of};
+ghost use Rattle.bl_base.specs.declared.quantity.Quantity.TheVariants as quantity;
+ghost use Rattle.bl_base.specs.declared.start.Start.{Start};
 ghost use Rattle.bl_outside.specs.Shelf.{Files};
 ghost use Rattle.bl_wasm.specs.Linked.{IsLinked};
 ghost use Rattle.bl_wasm.specs.declared.linked.Tree.{Tree};
-ghost use Rattle.bl_lower.specs.Trees.{step_bound};
+ghost use Rattle.bl_lower.specs.Trees.{low_tree, step_bound};
+ghost use Rattle.bl_cmd.specs.declared.definitions.ProgramParts.{ProgramParts as Program};
+ghost use Rattle.bl_graph.specs.Ranges.{AreSites};
+ghost use Rattle.bl_transient.specs.Transient.{Passes};
+ghost use Rattle.bl_image.specs.Image.{Image};
+ghost use Rattle.bl_counts.specs.Counting.{IsFewer, bare, counts_of, executed};
 ghost use Rattle.bl_report.specs.Verdicts.{safe_line};
-ghost use Rattle.bl_build.specs.Building.{AreCompiled, Builds, Built};
+ghost use Rattle.bl_build.specs.Building.{AreCompiled, Built, command_count};
+ghost use Rattle.bl_build.specs.Weighing.{AreBuilt, IsWeighed, IsWeighedBy};
 ghost use Rattle.bl_job.specs.Causes.{Causes, NoneRose};
 ghost use Rattle.bl_app.specs.Commands.{HasOnePlan, job_of, row_of, work_of};
 ghost use Rattle.bl_app.specs.Executing.{RunDoes};
@@ -14,7 +23,8 @@ ghost use Rattle.bl_build.specs.Hardening.{Hardened, IsHardened, IsYes};
 ghost use Rattle.bl_app.specs.Interpreting.{InterpDoes};
 ghost use Rattle.bl_job.specs.Jobs.{AreRead, FirstRefusal, IsLawful, IsTotal, Plan};
 ghost use Rattle.bl_job.specs.Refusals.{Refusal};
-ghost use Rattle.bl_words.specs.Requests.{HardenRequest, InterpRequest, Request, RunRequest};
+ghost use Rattle.bl_app.specs.Predicting.{IsFollowed, predict_job};
+ghost use Rattle.bl_words.specs.Requests.{AreTurnsInRange, HardenRequest, InterpRequest, PredictRequest, Request, RunRequest};
 ghost use Rattle.bl_app.specs.Verifying.{VerifyDoes};
 ghost use Rattle.bl_job.specs.Worlds.{World};
 ghost use Rattle.bl_job.specs.declared.status.Status.{Status};
@@ -22,6 +32,7 @@ ghost use Rattle.bl_job.specs.declared.status.Status.TheVariants as status;
 
 /// The job of each request: its contents have at most one refusal, and nothing is done where one stands; all that may be done has
 /// one status, and keeps the files that are named, or none.
+#[tactic(auto, using(crate::proofs::CommandLemmas::laws_of))]
 pub fn jobs_are_lawful()
     ensures { (request : Request) → IsLawful (job_of request) }
 {}
@@ -29,6 +40,7 @@ pub fn jobs_are_lawful()
 /// The job of each request: of contents that are there something is refused, or something may be done. It can't be that neither is so.
 /// Of a request with modules this is said where they are named apart, as they are in each that words ask for; of those whose program
 /// is written to an image where the words are texts, as the words of each call are; and of a module that is made where its size is in range.
+#[tactic(auto, using(crate::proofs::CommandLemmas::total_of))]
 pub fn jobs_are_total()
     ensures { (request : Request) → (row_of request).Given → IsTotal (job_of request) }
 {}
@@ -45,6 +57,7 @@ pub fn what_can_be_done_is_not_refused()
 {}
 
 /// What is kept and printed is one thing, with one status, for each request that has one plan.
+#[tactic(auto, using(crate::proofs::CommandLemmas::one_plan))]
 pub fn one_run()
     ensures { (request : Request) → HasOnePlan request → (contents : Listed (Listed ℕ)) (p q : Plan) → (work_of request).Does contents p → (work_of request).Does contents q → p ≡ q }
 {}
@@ -81,22 +94,42 @@ pub fn one_image()
 
 /// An image runs as the modules do that it was made of: where `interp` tells a return or a trap within its steps, `run` tells
 /// the same of the image within k times as many, k being the most commands of one source step; and where `run` does, `interp`
-/// does within the same number of steps.
+/// does within the same number of steps. Weights by a count file don't show.
 pub fn images_run_as_their_modules()
-    ensures forward { (request : InterpRequest) (image_name start_name start : Listed ℕ) (contents : Listed (Listed ℕ)) (built : Built) (plan : Plan)
-        → (compiled : AreCompiled request.modules contents built) → InterpDoes request (start ∷ contents) plan → (plan.status ≡ status.Spent → ⊥)
-        → RunDoes (record { image = image_name; export = request.export; start = start_name; steps = step_bound compiled.tree * request.steps }) (built.image ∷ start ∷ []) plan }
-    ensures backward { (request : InterpRequest) (image_name start_name start : Listed ℕ) (contents : Listed (Listed ℕ)) (built : Built) (plan : Plan)
-        → AreCompiled request.modules contents built
-        → RunDoes (record { image = image_name; export = request.export; start = start_name; steps = request.steps }) (built.image ∷ start ∷ []) plan → (plan.status ≡ status.Spent → ⊥)
+    ensures forward { (request : InterpRequest) (image_name start_name start : Listed ℕ) (contents : Listed (Listed ℕ)) (counts : Option (Listed ℕ)) (built : Built) (plan : Plan)
+        → (compiled : AreBuilt request.modules contents counts built) → InterpDoes request (start ∷ contents) plan → (plan.status ≡ status.Spent → ⊥)
+        → RunDoes (record { image = image_name; export = request.export; start = start_name; steps = step_bound compiled.tree * request.steps; counts = None }) (built.image ∷ start ∷ []) plan }
+    ensures backward { (request : InterpRequest) (image_name start_name start : Listed ℕ) (contents : Listed (Listed ℕ)) (counts : Option (Listed ℕ)) (built : Built) (plan : Plan)
+        → AreBuilt request.modules contents counts built
+        → RunDoes (record { image = image_name; export = request.export; start = start_name; steps = request.steps; counts = None }) (built.image ∷ start ∷ []) plan → (plan.status ≡ status.Spent → ⊥)
         → InterpDoes request (start ∷ contents) plan }
 {}
 
-/// Protects don't show in a run: `run` tells the same of a program's image and of the image of the program with its protects.
+/// What is compiled of modules is what is built of them without a count file.
+pub fn what_is_compiled_is_built()
+    ensures { (words contents : Listed (Listed ℕ)) (built : Built) → AreCompiled words contents built ↔ AreBuilt words contents None built }
+{}
+
+/// Protects don't show in a run: `run` tells and counts the same of a program's image and of the image of the program with its protects. The
+/// program is that of a linked tree, with the weights by a count file where there is one.
 pub fn protects_do_not_show()
-    ensures { (request : RunRequest) (tree : Tree) (built : Built) (hardened : Hardened) (start : Listed ℕ) (plan : Plan)
-        → IsLinked tree → Builds tree built → IsHardened built.program hardened
+    ensures { (request : RunRequest) (tree : Tree) (counts : Option (Listed ℕ)) (built : Built) (hardened : Hardened) (start : Listed ℕ) (plan : Plan)
+        → IsLinked tree → command_count tree ≤ limit_of quantity.Commands → IsWeighedBy counts (low_tree tree) built.program → Image built.program built.image
+        → IsHardened built.program hardened
         → RunDoes request (built.image ∷ start ∷ []) plan ↔ RunDoes request (hardened.image ∷ start ∷ []) plan }
+{}
+
+/// Where the count file that modules are hardened by has the counts of a run of a program that is theirs but for marks and weights, the protects pass the
+/// transient rules, and no other passing set of sites was executed less in that run, or as little and has fewer sites.
+pub fn protects_by_counts_are_executed_least()
+    ensures passes { (tree : Tree) (bytes : Listed ℕ) (program other : Program) (hardened : Hardened) (function : ℕ) (start : Start) (steps : ℕ)
+        → bare other ≡ bare (low_tree tree) → (weighed : IsWeighed bytes (low_tree tree) program) → weighed.counts ≡ counts_of other function start steps
+        → (h : IsHardened program hardened) → Passes (low_tree tree) h.set }
+    ensures fewest { (tree : Tree) (bytes : Listed ℕ) (program other : Program) (hardened : Hardened) (function : ℕ) (start : Start) (steps : ℕ)
+        → IsLinked tree → command_count tree ≤ limit_of quantity.Commands
+        → bare other ≡ bare (low_tree tree) → (weighed : IsWeighed bytes (low_tree tree) program) → weighed.counts ≡ counts_of other function start steps
+        → (h : IsHardened program hardened) → (rival : ℕ → Bool) → AreSites (low_tree tree) rival → Passes (low_tree tree) rival
+        → IsFewer (low_tree tree) (executed other function start steps) h.set rival }
 {}
 
 /// No status but that of want of memory can be the answer to all calls: where no count of faults rises, words that are no
@@ -104,4 +137,12 @@ pub fn protects_do_not_show()
 pub fn no_status_answers_all()
     ensures without_request { (old new : World) (answer : Status) → Causes job_of None old new answer → NoneRose old new → (answer ≡ status.Usage) ⊎ (answer ≡ status.Memory) }
     ensures with_request { (request : Request) (old new : World) → Causes job_of (Some request) old new status.Usage → ⊥ }
+{}
+
+/// The trace file that `predict` keeps is no longer than is read, and `spec` of the same image, export and start file takes it to its end: each
+/// directive is enabled, and it tells the same outcome, or that the machine hasn't ended where `predict` told that its turns were spent.
+#[tactic(auto, using(crate::proofs::PredictLemmas::followed))]
+pub fn kept_traces_run()
+    ensures { (request : PredictRequest) → AreTurnsInRange request.steps → (image start : Listed ℕ) (plan : Plan)
+        → (predict_job request).Does (image ∷ start ∷ []) plan → IsFollowed request image start plan }
 {}

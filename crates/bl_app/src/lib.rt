@@ -2,6 +2,7 @@
 #![tactic(auto)]
 
 mod command;
+mod forward;
 mod generate;
 mod harden;
 mod interp;
@@ -9,6 +10,7 @@ pub mod laws;
 mod lower;
 mod module;
 mod outcome;
+mod predict;
 mod run;
 mod spec;
 mod top;

@@ -1,18 +1,20 @@
 //! `run`: from an image's bytes and a start file's to the text of the outcome of a plain run.
-ghost use Rattle.std.specs.Prelude.{◌≡◌, None, IfOk, map};
+ghost use Rattle.std.specs.Prelude.{◌≡◌, None, Some, IfOk, map};
 ghost use Rattle.bl_cmd.specs.Outcomes.{IsStart};
 ghost use Rattle.bl_app.specs.Executing.{RunPlans, run_job};
 ghost use Rattle.bl_job.specs.Jobs.{AreRead};
-ghost use Rattle.bl_words.specs.Words.{run_in};
+ghost use Rattle.bl_words.specs.Requests.{AreInRange};
+ghost use Rattle.bl_words.specs.Words.{run_in, text_in};
 ghost use Rattle.bl_build.specs.Entering.{program_entering};
 ghost use Rattle.bl_job.specs.Working.{IsDoneBehind, IsWork, plan_in, read_in, contents_in};
 ghost use Rattle.bl_build.specs.Working.{entered_in, entry_in};
 
 use crate::outcome::{outcome_status, plain_text};
 use bl_base::{NoMemory, Quantity, Start};
-use bl_build::{Entry, find_entry, read_entry_start, read_image};
+use bl_build::{Entry, find_entry, no_export, read_entry_start, read_image};
 use bl_cmd::WellFormed;
-use bl_job::{Plan, Read, Refusal, WorkError, list_reads, two_files};
+use bl_counts::{count_run, counts_text};
+use bl_job::{Content, Plan, Read, WorkError, list_reads, one_kept, two_files};
 use bl_seq::run;
 use bl_words::RunWords;
 use std::alloc::Global;
@@ -30,14 +32,15 @@ pub fn run_reads<'a>(alloc: Global, words: &RunWords<'a>) -> Result<Vec<Read<'a>
     )
 }
 
-/// Printing the outcome of an exported function of an image's program from a start file's bytes; Refused exactly where these are
-/// refused. Linear in the bytes, those of the memories and in the steps, but for what the check of a program takes.
+/// Keeping the count file, if one is asked for, and printing the outcome of an exported function of an image's program from a start file's
+/// bytes; Refused exactly where these are refused. Linear in the bytes, those of the memories and in the steps, but for what the check of a program takes.
 pub fn execute<'a>(
     alloc: Global,
     words: &RunWords<'a>,
-    contents: &[Vec<u8>],
-) -> Result<Plan<'a>, WorkError<'a>>
-    requires { AreRead None (run_job (run_in words.now)).reads (contents_in contents.now) }
+    contents: &[Content],
+) -> Result<Plan<'a>, WorkError>
+    requires sized { AreInRange words.now.steps }
+    requires read { AreRead None (run_job (run_in words.now)).reads (contents_in contents.now) }
     ensures { IsWork (run_job (run_in words.now)) (contents_in contents.now) result }
 {
     let (image, start) = two_files(contents);
@@ -53,17 +56,21 @@ fn execute_program<'a>(
     words: &RunWords<'a>,
     program: &WellFormed,
     start: &[u8],
-) -> Result<Plan<'a>, WorkError<'a>>
-    ensures { IsDoneBehind (program_entering (run_in words.now).export start.now) (RunPlans words.now.steps) program.now result }
+) -> Result<Plan<'a>, WorkError>
+    requires { AreInRange words.now.steps }
+    ensures { IsDoneBehind (program_entering (run_in words.now).export start.now) (RunPlans words.now.steps (text_in words.now.counts)) program.now result }
 {
     let Some(entry) = find_entry(program, words.export) else {
-        return Err(WorkError::Refused(Refusal::NoExport));
+        return Err(no_export(alloc));
     };
     let start = match read_entry_start(alloc, program, &entry, start) {
         Ok(start) => start,
         Err(error) => return Err(error),
     };
-    Ok(tell(alloc, program, &entry, &start, words.steps)?)
+    match words.counts {
+        None => Ok(tell(alloc, program, &entry, &start, words.steps)?),
+        Some(file) => Ok(tell_counted(alloc, program, &entry, &start, words.steps, file)?),
+    }
 }
 
 /// Runs a function from its start: printing the outcome within so many steps. Linear in the program and in the steps.
@@ -75,7 +82,7 @@ fn tell<'a>(
     steps: u64,
 ) -> Result<Plan<'a>, NoMemory>
     requires { IsStart program.now entry.now.function start.now }
-    ensures { IfOk result (λ plan. RunPlans steps (entered_in (entry_in program.now entry.now) start.now) (plan_in plan)) }
+    ensures { IfOk result (λ plan. RunPlans steps None (entered_in (entry_in program.now entry.now) start.now) (plan_in plan)) }
 {
     let run = run(alloc, program, entry.function, start, steps)?;
     let text = plain_text(alloc, program, entry, start, steps, &run)?;
@@ -83,6 +90,32 @@ fn tell<'a>(
     Ok(Plan {
         status,
         keeps: Vec::new(alloc),
+        text,
+    })
+}
+
+/// The same, and keeping the count file of the run, whatever its outcome is. Linear in the program and in the steps.
+fn tell_counted<'a>(
+    alloc: Global,
+    program: &WellFormed,
+    entry: &Entry<'_>,
+    start: &Start,
+    steps: u64,
+    file: &'a str,
+) -> Result<Plan<'a>, NoMemory>
+    requires start { IsStart program.now entry.now.function start.now }
+    requires steps { AreInRange steps }
+    ensures { IfOk result (λ plan. RunPlans steps (Some file.now) (entered_in (entry_in program.now entry.now) start.now) (plan_in plan)) }
+{
+    let counted = count_run(alloc, program, entry.function, start, steps)?;
+    let text = plain_text(alloc, program, entry, start, steps, &counted.run)?;
+    let status = outcome_status(&counted.run);
+    let commands = program.program().parts().commands.len() as u64;
+    let counts = counts_text(alloc, commands, counted.counts.as_slice())?;
+    let keeps = one_kept(alloc, file, counts)?;
+    Ok(Plan {
+        status,
+        keeps,
         text,
     })
 }

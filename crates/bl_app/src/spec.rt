@@ -18,7 +18,7 @@ use crate::outcome::plain_text;
 use bl_base::{NoMemory, Quantity, Start};
 use bl_build::{Entry, Speculation, prepare_speculation, read_image};
 use bl_cmd::WellFormed;
-use bl_job::{Plan, Read, Status, WorkError, list_reads, three_files};
+use bl_job::{Content, Plan, Read, Status, WorkError, list_reads, three_files};
 use bl_rob::{Observation, Rob, Seen};
 use bl_trace::print_observation;
 use bl_words::SpecWords;
@@ -44,8 +44,8 @@ pub fn spec_reads<'a>(alloc: Global, words: &SpecWords<'a>) -> Result<Vec<Read<'
 pub fn speculate<'a>(
     alloc: Global,
     words: &SpecWords<'a>,
-    contents: &[Vec<u8>],
-) -> Result<Plan<'a>, WorkError<'a>>
+    contents: &[Content],
+) -> Result<Plan<'a>, WorkError>
     requires { AreRead None (spec_job (spec_in words.now)).reads (contents_in contents.now) }
     ensures { IsWork (spec_job (spec_in words.now)) (contents_in contents.now) result }
 {
@@ -63,7 +63,7 @@ fn speculate_program<'a>(
     program: &WellFormed,
     trace: &[u8],
     start: &[u8],
-) -> Result<Plan<'a>, WorkError<'a>>
+) -> Result<Plan<'a>, WorkError>
     ensures { IsDoneBehind (program_speculating (spec_in words.now).export trace.now start.now) SpecPlans program.now result }
 {
     let speculation = match prepare_speculation(alloc, program, words.export, trace, start) {

@@ -15,11 +15,11 @@ ghost use Rattle.bl_job.specs.Status.{IsStatus, kind_of, of_deed};
 ghost use Rattle.bl_words.specs.Words.{request_in};
 ghost use Rattle.bl_job.specs.Worlds.{world};
 
-use crate::command::{modules_of, reads_of, work};
+use crate::command::{reads_of, work};
 use bl_base::{NoMemory, Quantity};
-use bl_job::{Refusal, Status, WorkError, deliver, fetch_all, refuse, say_line};
+use bl_job::{Status, deliver, fetch_all, limit, refuse, say_line};
 use bl_outside::{Shelf, Sink};
-use bl_words::{Request, read_words};
+use bl_words::{Request, modules_in, read_words};
 use std::alloc::Global;
 
 /// Runs the program on its words, the program's own name first, and answers its exit status: 0 done; 1 the rules of a certificate or the
@@ -28,7 +28,7 @@ use std::alloc::Global;
 /// exceeds its number; 9 an import of a module has no match or a segment is out of range; 10 the labels of a module break a rule; 11
 /// memory ran out; 12 the bytes are no image or the image isn't well-formed; 13 the bytes are no certificate; 14 a line of the trace file
 /// is no directive; 15 the export is absent, a line of the start file is bad, or there are too few arguments; 16 the run trapped; 17 its
-/// steps were spent; 18 a directive isn't enabled. All text goes to the sink.
+/// steps were spent; 18 a directive isn't enabled; 19 a count file has a bad line or doesn't fit the program. All text goes to the sink.
 pub fn blade<F: Shelf, O: Sink>(alloc: Global, words: &[String], files: &mut F, out: &mut O) -> u8
     // How the call ends, whatever fails.
     ensures ends { IsStatus result (Ends job_of (request_of (map string_bytes words.now))
@@ -81,13 +81,9 @@ fn carry_out<F: Shelf, O: Sink>(
     ensures { Ends job_of (Some (request_in request.now))
         (world F.files F.faults O.taken O.faults files.old out.old) (world F.files F.faults O.taken O.faults files.new out.new) result }
 {
-    let count = modules_of(request).len() as u64;
+    let count = modules_in(request).len() as u64;
     if count > Quantity::Modules.limit() {
-        let refusal = Refusal::Limit {
-            which: Quantity::Modules,
-            value: count,
-        };
-        return refuse(alloc, refusal, out);
+        return refuse(limit(alloc, Quantity::Modules, count), out);
     }
     do_job(alloc, request, files, out)
 }
@@ -112,9 +108,8 @@ fn do_job<F: Shelf, O: Sink>(
         Ok(contents) => contents,
         Err(status) => return status,
     };
-    match work(alloc, request, contents.as_slice()) {
+    match work(alloc, request, contents) {
         Ok(plan) => deliver(&plan, files, out),
-        Err(WorkError::Refused(refusal)) => refuse(alloc, refusal, out),
-        Err(WorkError::Memory) => Status::Memory,
+        Err(error) => refuse(error, out),
     }
 }

@@ -11,7 +11,7 @@ ghost use Rattle.bl_words.specs.Words.{twin_in};
 use bl_base::{NoMemory, Quantity, Start};
 use bl_build::{Speculation, prepare_speculation, read_entry_start, read_image};
 use bl_cmd::WellFormed;
-use bl_job::{Plan, Read, Status, WorkError, four_files, list_reads};
+use bl_job::{Content, Plan, Read, Status, WorkError, four_files, list_reads};
 use bl_twin::{Comparison, compare_runs};
 use bl_words::TwinWords;
 use std::alloc::Global;
@@ -37,8 +37,8 @@ pub fn twin_reads<'a>(alloc: Global, words: &TwinWords<'a>) -> Result<Vec<Read<'
 pub fn twin<'a>(
     alloc: Global,
     words: &TwinWords<'a>,
-    contents: &[Vec<u8>],
-) -> Result<Plan<'a>, WorkError<'a>>
+    contents: &[Content],
+) -> Result<Plan<'a>, WorkError>
     requires { AreRead None (twin_job (twin_in words.now)).reads (contents_in contents.now) }
     ensures { IsWork (twin_job (twin_in words.now)) (contents_in contents.now) result }
 {
@@ -57,7 +57,7 @@ fn twin_program<'a>(
     trace: &[u8],
     start: &[u8],
     other: &[u8],
-) -> Result<Plan<'a>, WorkError<'a>>
+) -> Result<Plan<'a>, WorkError>
     ensures { IsDoneBehind (program_twinning (twin_in words.now).export trace.now start.now other.now) TwinPlans program.now result }
 {
     let speculation = match prepare_speculation(alloc, program, words.export, trace, start) {
@@ -98,7 +98,7 @@ fn tell<'a>(
 }
 
 /// The exit status, by how two runs compare.
-fn twin_status(comparison: Comparison) -> Status
+pub fn twin_status(comparison: Comparison) -> Status
     ensures { result ≡ twin_status comparison }
 {
     match comparison {

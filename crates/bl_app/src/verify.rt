@@ -12,7 +12,7 @@ use bl_build::{read_certificate, read_image};
 use bl_cmd::WellFormed;
 use bl_ct::{CtVerdict, constant_time};
 use bl_graph::{Certificate, Graph, graph};
-use bl_job::{Plan, Read, Status, WorkError, list_reads, two_files};
+use bl_job::{Content, Plan, Read, Status, WorkError, list_reads, two_files};
 use bl_report::verdicts_text;
 use bl_sct::stability_of;
 use bl_transient::FlowVerdict;
@@ -49,8 +49,8 @@ pub fn verify_reads<'a>(alloc: Global, words: &VerifyWords<'a>) -> Result<Vec<Re
 pub fn verify<'a>(
     alloc: Global,
     words: &VerifyWords<'a>,
-    contents: &[Vec<u8>],
-) -> Result<Plan<'a>, WorkError<'a>>
+    contents: &[Content],
+) -> Result<Plan<'a>, WorkError>
     requires { AreRead None (verify_job (verify_in words.now)).reads (contents_in contents.now) }
     ensures { IsWork (verify_job (verify_in words.now)) (contents_in contents.now) result }
 {
@@ -66,7 +66,7 @@ fn verify_program<'a>(
     alloc: Global,
     program: &WellFormed,
     certificate: &[u8],
-) -> Result<Plan<'a>, WorkError<'a>>
+) -> Result<Plan<'a>, WorkError>
     ensures { IsDoneBehind (certifying certificate.now) VerifyPlans program.now result }
 {
     let certificate = match read_certificate(alloc, certificate) {

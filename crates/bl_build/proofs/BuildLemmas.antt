@@ -22,20 +22,16 @@ use Rattle.bl_build.specs.Meaning.{SameOutcomes}
 use Rattle.bl_job.specs.Refusals.{Refusal, limit}
 use Rattle.bl_job.specs.Stages.{IsLawfulStage, IsTotalStage, Stage, at_second, chain}
 use Rattle.bl_job.specs.Working.{IsStaged, refusal_in}
-use Rattle.bl_build.specs.Working.{built_in, hardened_in}
-use Rattle.bl_build.specs.declared.build.Built.{Built as BuiltMade}
-use Rattle.bl_build.specs.declared.harden.Hardened.{Hardened as HardenedMade}
 use Rattle.bl_job.specs.declared.refusal.WorkError.{WorkError}
 use Rattle.bl_job.specs.declared.refusal.WorkError.TheVariants as error
 use Rattle.bl_build.proofs.ImagesExist.{IsOfParts, has_image, of_parts}
 use Rattle.bl_build.proofs.LoadingLemmas.{loading_lawful}
 use Rattle.bl_build.proofs.LoadingTotal.{loading_total}
-use Rattle.bl_build.proofs.ModulesTotal.{chain_total}
-use Rattle.bl_job.proofs.StageLemmas.{chain_lawful}
+use Rattle.bl_job.proofs.StageLemmas.{chain_lawful, chain_total}
 
 -- ---- the stages
 
-lowering_lawful : IsLawfulStage lowering
+pub lowering_lawful : IsLawfulStage lowering
 lowering_lawful = record {
   one_result = λ tree a b p q. p.0 ∙ sym q.0;
   one_refusal = λ tree r s h k. h.told ∙ sym k.told;
@@ -59,11 +55,11 @@ module _ (program : Program) where
       let long = h.long in
       omega (arith, same, long, short)
 
-sizing_lawful : IsLawfulStage sizing
+pub sizing_lawful : IsLawfulStage sizing
 sizing_lawful = record { one_result = one_sized; one_refusal = one_long; not_both = sized_not_both }
 
 -- each linked tree is lowered, or refused
-lowering_total : IsTotalStage IsOfParts lowering
+pub lowering_total : IsTotalStage IsOfParts lowering
 lowering_total = record {
   always = λ tree given made refused.
       elim (cases_lt (limit_of quantity.Commands) (command_count tree)) as (λ _. ⊥) [
@@ -73,10 +69,10 @@ lowering_total = record {
 }
 
 -- a program that has an image is sized, or refused
-abbrev HasImage : Program → Type 0
+abbrev pub HasImage : Program → Type 0
 HasImage program = (bytes : List ℕ) × Image program bytes
 
-sizing_total : IsTotalStage HasImage sizing
+pub sizing_total : IsTotalStage HasImage sizing
 sizing_total = record {
   always = λ program own made refused.
       elim (cases_lt (limit_of quantity.Image) (length own.0)) as (λ _. ⊥) [
@@ -85,11 +81,11 @@ sizing_total = record {
       ];
 }
 
-building_lawful : IsLawfulStage building
+pub building_lawful : IsLawfulStage building
 building_lawful = chain_lawful lowering sizing lowering_lawful sizing_lawful
 
 -- a tree that is linked of few parts is built, or refused
-building_total : IsTotalStage IsOfParts building
+pub building_total : IsTotalStage IsOfParts building
 building_total = chain_total IsOfParts HasImage lowering sizing lowering_total sizing_total (λ tree program given lowered. subst HasImage (sym lowered.0) (has_image tree given lowered.1))
 
 pub compiling_lawful : IsLawfulStage compiling
@@ -127,7 +123,7 @@ module _ {A B C X : Type 0} (first : Stage A B) (second : Stage B C) (f : X → 
 -- ---- what it means
 
 -- a linked tree and its program end alike
-same_outcomes : (tree : Tree) → IsLinked tree → SameOutcomes tree (low_tree tree)
+pub same_outcomes : (tree : Tree) → IsLinked tree → SameOutcomes tree (low_tree tree)
 same_outcomes tree linked = record {
   follows = λ function start o n h. ends_after tree linked function start h.start_fits n o h;
   comes_from = λ function start o m h. plain_ended tree linked function start m o h;

@@ -2,17 +2,17 @@
 use Rattle.std.proofs.Common.{◌≡◌, ℕ, List, Some, None, refl, ap, sym, ◌∙◌}
 use Rattle.bl_cmd.specs.declared.definitions.ProgramParts.{ProgramParts as Program}
 use Rattle.bl_witness.specs.Shapes.{certificate_of, Reads}
-use Rattle.bl_build.specs.Entering.{imaging}
 use Rattle.bl_job.specs.Refusals.{Refusal}
 use Rattle.bl_job.specs.Stages.{IsLawfulStage}
-use Rattle.bl_build.specs.Certifying.{Certified, IsRead, ReadingRefuses, certifying, is_not_json, is_other_shape, verifying}
-use Rattle.bl_build.proofs.EnteringLemmas.{imaging_lawful}
-use Rattle.bl_job.proofs.StageLemmas.{chain_lawful}
+use Rattle.bl_build.specs.Certifying.{Certified, IsRead, ReadingRefuses, certifying, is_not_json, is_other_shape}
 use Rattle.std.specs.Prelude.{Err}
 use Rattle.std.proofs.lemmas.Option.{same_Some}
 use Rattle.bl_witness.specs.declared.error.CertError.{CertError}
 use Rattle.bl_witness.specs.declared.error.CertError.TheVariants as cert
-use Rattle.bl_build.specs.Working.{IsCertificateOf, cert_error}
+use Rattle.bl_build.specs.Working.{IsCertificateOf, cert_told}
+use Rattle.bl_job.specs.Working.{IsTold}
+use Rattle.bl_job.specs.declared.refusal.WorkError.{WorkError}
+use Rattle.bl_job.proofs.StageLemmas.{told_as, told_memory}
 
 -- ---- certificates
 
@@ -35,14 +35,11 @@ module _ (bytes : List ℕ) where
   reading_not_both program a r p (is_other_shape there e) =
       let clash : None ≡ Some a.certificate = sym there.2 ∙ ap certificate_of (same_Some there.0 p.read.0 (sym there.1.value ∙ p.read.1.value)) ∙ p.read.2 in cc
 
-  certifying_lawful : IsLawfulStage (certifying bytes)
+  pub certifying_lawful : IsLawfulStage (certifying bytes)
   certifying_lawful = record { one_result = one_read; one_refusal = λ program. reading_refusal; not_both = reading_not_both }
 
-  pub verifying_lawful : IsLawfulStage (verifying bytes)
-  verifying_lawful = chain_lawful imaging (certifying bytes) imaging_lawful certifying_lawful
-
 -- an error of reading a certificate is why it is refused
-pub not_read : (bytes : List ℕ) (e : CertError) → Reads bytes (Err e) → IsCertificateOf bytes (Err (cert_error e))
-not_read bytes cert.NotJson r = is_not_json r refl
-not_read bytes cert.Shape r = is_other_shape r refl
-not_read bytes cert.Memory r = tt
+pub not_read : (bytes : List ℕ) (e : CertError) → Reads bytes (Err e) → (w : WorkError) → IsTold (cert_told e) w → IsCertificateOf bytes (Err w)
+not_read bytes cert.NotJson r = told_as _ (ReadingRefuses bytes) (is_not_json r refl)
+not_read bytes cert.Shape r = told_as _ (ReadingRefuses bytes) (is_other_shape r refl)
+not_read bytes cert.Memory r = told_memory (ReadingRefuses bytes)

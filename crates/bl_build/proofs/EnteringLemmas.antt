@@ -7,10 +7,10 @@ use Rattle.bl_cmd.specs.declared.definitions.ProgramParts.{ProgramParts as Progr
 use Rattle.bl_cmd.proofs.Faults.{unbroken}
 use Rattle.bl_image.proofs.Prefixes.{one_program}
 use Rattle.bl_trace.specs.declared.error.StartError.TheVariants.{Line, Count}
-use Rattle.bl_build.specs.Entering.{Entered, Entry, Finds, FindingRefuses, ImagingRefuses, IsImaged, Starts, StartingRefuses, entering, finding, ill_formed, imaging, line_is_bad, no_image, starting, too_few, kinds_of, pages_of}
-use Rattle.bl_job.specs.Refusals.{Refusal, bad_line, broken_rule, few_arguments}
-use Rattle.bl_job.specs.Stages.{IsLawfulStage, chain}
-use Rattle.bl_job.proofs.StageLemmas.{chain_lawful}
+use Rattle.bl_build.specs.Entering.{Entered, Entry, Finds, FindingRefuses, ImagingRefuses, IsImaged, Starts, StartingRefuses, bad_line, broken_rule, few_arguments, finding, ill_formed, imaging, line_is_bad, no_image, starting, too_few, kinds_of, pages_of}
+use Rattle.bl_job.specs.Refusals.{Refusal}
+use Rattle.bl_job.specs.Stages.{IsLawfulStage, Stage, chain}
+use Rattle.bl_job.proofs.StageLemmas.{chain_lawful, told_as, told_memory}
 use Rattle.bl_base.specs.declared.names.ValueType.{ValueType}
 use Rattle.bl_base.specs.declared.start.Start.{Start}
 use Rattle.bl_image.specs.Reading.{IsReason}
@@ -19,8 +19,9 @@ use Rattle.bl_image.specs.declared.error.ImageError.TheVariants as image_reason
 use Rattle.bl_trace.specs.StartFiles.{IsAnswer, answer_of}
 use Rattle.bl_trace.specs.declared.error.StartError.{StartError}
 use Rattle.bl_trace.specs.declared.error.StartError.TheVariants as start_reason
-use Rattle.bl_job.specs.Working.{IsStaged}
-use Rattle.bl_build.specs.Working.{entered_in, image_error, start_error}
+use Rattle.bl_job.specs.Working.{IsStaged, IsTold}
+use Rattle.bl_job.specs.declared.refusal.WorkError.{WorkError}
+use Rattle.bl_build.specs.Working.{entered_in, image_told, start_told}
 
 -- ---- images
 
@@ -106,9 +107,9 @@ module _ (bytes : List ℕ) (entry : Entry) where
 pub starting_lawful : (bytes : List ℕ) → IsLawfulStage (starting bytes)
 starting_lawful bytes = record { one_result = one_start bytes; one_refusal = start_refusal bytes; not_both = start_not_both bytes }
 
-pub entering_lawful : (export start : List ℕ) → IsLawfulStage (entering export start)
-entering_lawful export start =
-    chain_lawful imaging (chain (finding export) (starting start)) imaging_lawful (chain_lawful (finding export) (starting start) (finding_lawful export) (starting_lawful start))
+-- a stage on the program of an image
+pub imaged_lawful : {B : Type 0} (stage : Stage Program B) → IsLawfulStage stage → IsLawfulStage (chain imaging stage)
+imaged_lawful stage s = chain_lawful imaging stage imaging_lawful s
 
 -- the answer of a start file, by the types of the parameters and the first pages
 asked : (entry : Entry) (bytes : List ℕ) (kinds : List ValueType) (pages : List ℕ) (answer : Result Start StartError) → kinds ≡ kinds_of entry.defined → pages ≡ pages_of entry.program
@@ -116,14 +117,16 @@ asked : (entry : Entry) (bytes : List ℕ) (kinds : List ValueType) (pages : Lis
 asked entry bytes kinds pages answer are sizes e = (λ i. answer_of (sym are i) (sym sizes i) bytes) ∙ sym e
 
 -- why there is no program is why the bytes are refused
-pub not_imaged : (bytes : List ℕ) (e : ImageError) → IsReason bytes e → IsStaged imaging (λ (p : Program). p) bytes (Err (image_error e))
-not_imaged bytes image_reason.NotAnImage none = no_image none refl
-not_imaged bytes (image_reason.IllFormed rule position) broken = ill_formed broken.0 rule position.0 broken.1 broken.2 refl
-not_imaged bytes image_reason.Memory none = tt
+pub not_imaged : (bytes : List ℕ) (e : ImageError) → IsReason bytes e → (w : WorkError) → IsTold (image_told e) w → IsStaged imaging (λ (p : Program). p) bytes (Err w)
+not_imaged bytes image_reason.NotAnImage none = told_as _ (ImagingRefuses bytes) (no_image none refl)
+not_imaged bytes (image_reason.IllFormed rule position) broken = told_as _ (ImagingRefuses bytes) (ill_formed broken.0 rule position.0 broken.1 broken.2 refl)
+not_imaged bytes image_reason.Memory none = told_memory (ImagingRefuses bytes)
 
 -- an error of reading a start file is why it is refused
 pub not_started : (entry : Entry) (bytes : List ℕ) (kinds : List ValueType) (pages : List ℕ) (e : StartError) → kinds ≡ kinds_of entry.defined → pages ≡ pages_of entry.program
-    → IsAnswer (answer_of kinds pages bytes) (Err e) → IsStaged (starting bytes) (entered_in entry) entry (Err (start_error e))
-not_started entry bytes kinds pages (start_reason.Line number) are sizes answer = line_is_bad number (asked entry bytes kinds pages (Err (start_reason.Line number)) are sizes answer) refl
-not_started entry bytes kinds pages (start_reason.Count count) are sizes answer = too_few count (asked entry bytes kinds pages (Err (start_reason.Count count)) are sizes answer) refl
-not_started entry bytes kinds pages start_reason.Memory are sizes answer = tt
+    → IsAnswer (answer_of kinds pages bytes) (Err e) → (w : WorkError) → IsTold (start_told e) w → IsStaged (starting bytes) (entered_in entry) entry (Err w)
+not_started entry bytes kinds pages (start_reason.Line number) are sizes answer =
+    told_as _ (StartingRefuses bytes entry) (line_is_bad number (asked entry bytes kinds pages (Err (start_reason.Line number)) are sizes answer) refl)
+not_started entry bytes kinds pages (start_reason.Count count) are sizes answer =
+    told_as _ (StartingRefuses bytes entry) (too_few count (asked entry bytes kinds pages (Err (start_reason.Count count)) are sizes answer) refl)
+not_started entry bytes kinds pages start_reason.Memory are sizes answer = told_memory (StartingRefuses bytes entry)

@@ -53,7 +53,7 @@ pub record IsOfParts (tree : Tree) : Type 0 where
   pub exports : AreFew parts tree.exports
 
 module _ (tree : Tree) (is : IsOfParts tree) (few : command_count tree ≤ limit_of quantity.Commands) where
-  widths : HasWidths (low_tree tree)
+  pub widths : HasWidths (low_tree tree)
   widths = record {
     constants = constants tree is.linked (omega (arith, few));
     rows = All-map (λ (memory : MemoryDef). All IsWhole memory.rows) memory_def tree.memories (λ k d lt. memory_rows (slice_index_or tree.memories k d));

@@ -18,14 +18,14 @@ use Rattle.bl_trace.specs.Traces.{trace_of}
 use Rattle.bl_trace.specs.declared.error.StartError.{StartError}
 use Rattle.bl_trace.specs.declared.error.StartError.TheVariants.{Line, Count, Memory}
 use Rattle.bl_witness.specs.Shapes.{certificate_of}
-use Rattle.bl_build.specs.Certifying.{certifying, is_not_json, is_other_shape, verifying}
-use Rattle.bl_build.specs.Entering.{Entry, FindingRefuses, Finds, entering, finding, function_named, ill_formed, imaging, kinds_of, line_is_bad, no_image, pages_of, starting, too_few}
-use Rattle.bl_build.specs.Tracing.{Traced, Traces, TracingRefuses, no_directive, speculating, program_speculating, starting_other, starting_traced, too_many, tracing, twinning, program_twinning}
-use Rattle.bl_job.specs.Refusals.{Refusal, bad_directive, bad_line, broken_rule, few_arguments, limit, no_export, not_an_image, not_json, other_shape}
-use Rattle.bl_job.specs.Stages.{Anything, IsTotalStage, chain}
+use Rattle.bl_build.specs.Certifying.{certifying, is_not_json, is_other_shape, not_json, other_shape}
+use Rattle.bl_build.specs.Entering.{Entry, FindingRefuses, Finds, bad_line, broken_rule, few_arguments, no_export, not_an_image, finding, function_named, ill_formed, imaging, kinds_of, line_is_bad, no_image, pages_of, starting, too_few}
+use Rattle.bl_build.specs.Tracing.{Traced, Traces, TracingRefuses, bad_directive, no_directive, program_speculating, starting_traced, too_many, tracing}
+use Rattle.bl_job.specs.Refusals.{Refusal, limit}
+use Rattle.bl_job.specs.Stages.{Anything, IsTotalStage, Stage, chain}
 use Rattle.bl_build.proofs.Classical.{NotFalse, all_of, some_first}
 use Rattle.bl_build.proofs.EntryLemmas.{named_exists}
-use Rattle.bl_build.proofs.ModulesTotal.{chain_total}
+use Rattle.bl_job.proofs.StageLemmas.{beside_total, chain_total}
 
 module _ (program : Program) (fine : (rule position : ℕ) → Breaks rule position program → ⊥) where
   -- what can't be false at a position can't be false at all of them
@@ -69,6 +69,10 @@ imaging_total = record {
       (λ rule position first. refused (broken_rule rule position) (ill_formed program rule position image first refl))) refl);
 }
 
+-- a stage on the program of an image
+pub imaged_total : {B : Type 0} (stage : Stage Program B) → IsTotalStage IsWellFormed stage → IsTotalStage Anything (chain imaging stage)
+imaged_total stage s = chain_total Anything IsWellFormed imaging stage imaging_total s (λ bytes program given imaged. imaged.rules)
+
 -- ---- exported functions
 
 module _ (export : List ℕ) (program : Program) (rules : IsWellFormed program) (made : (entry : Entry) → Finds export program entry → ⊥)
@@ -79,7 +83,7 @@ module _ (export : List ℕ) (program : Program) (rules : IsWellFormed program) 
       let defined = within_get program.functions function (named_exists (length program.functions) export program.exports function rules.rule3.exist e) in
       made (record { program = program; function = function; defined = defined.0 }) (record { same_program = refl; exported = e; defined = defined.1 })
 
-finding_total : (export : List ℕ) → IsTotalStage IsWellFormed (finding export)
+pub finding_total : (export : List ℕ) → IsTotalStage IsWellFormed (finding export)
 finding_total export = record { always = λ program rules made refused. of_name export program rules made refused (function_named export program.exports) refl }
 
 -- ---- starts
@@ -104,17 +108,12 @@ module _ (params : List ValueType) (sizes bytes : List ℕ) where
       of_answer (Err (Count number)) e = count number e
       of_answer (Err Memory) e = not_memory params (said params sizes 0 (lines_of bytes)) e
 
-starting_total : (bytes : List ℕ) → IsTotalStage Anything (starting bytes)
+pub starting_total : (bytes : List ℕ) → IsTotalStage Anything (starting bytes)
 starting_total bytes = record {
   always = λ entry given made refused.
       answered (kinds_of entry.defined) (pages_of entry.program) bytes (λ start e. made (record { entry = entry; start = start }) (record { same_entry = refl; read = e }))
       (λ line e. refused (bad_line line) (line_is_bad line e refl)) (λ count e. refused (few_arguments count) (too_few count e refl));
 }
-
-pub entering_total : (export start : List ℕ) → IsTotalStage Anything (entering export start)
-entering_total export start =
-    chain_total Anything IsWellFormed imaging (chain (finding export) (starting start)) imaging_total
-    (chain_total IsWellFormed Anything (finding export) (starting start) (finding_total export) (starting_total start) (λ program entry rules found. tt)) (λ bytes program given imaged. imaged.rules)
 
 -- ---- trace files
 
@@ -129,43 +128,18 @@ module _ (bytes : List ℕ) (entry : Entry) (made : (traced : Traced) → Traces
     | inr few ↦ of_trace few (trace_of bytes) refl
   ]
 
-module _ (export trace start : List ℕ) where
-  tracing_total : IsTotalStage Anything (tracing trace)
-  tracing_total = record { always = λ entry given made refused. is_traced trace entry made refused }
+pub tracing_total : (trace : List ℕ) → IsTotalStage Anything (tracing trace)
+tracing_total trace = record { always = λ entry given made refused. is_traced trace entry made refused }
 
-  traced_total : IsTotalStage Anything (starting_traced start)
-  traced_total = record {
-    always = λ traced given made refused. (starting_total start).always traced.entry tt
-        (λ entered starts. made (record { entered = entered; directives = traced.directives }) (record { same_directives = refl; starts = starts })) refused;
-  }
-
-  program_total : IsTotalStage IsWellFormed (program_speculating export trace start)
-  program_total =
-      chain_total IsWellFormed Anything (finding export) (chain (tracing trace) (starting_traced start)) (finding_total export)
-      (chain_total Anything Anything (tracing trace) (starting_traced start) tracing_total traced_total (λ entry traced given traces. tt)) (λ program entry rules found. tt)
-
-  pub speculating_total : IsTotalStage Anything (speculating export trace start)
-  speculating_total =
-      chain_total Anything IsWellFormed imaging (program_speculating export trace start) imaging_total program_total (λ bytes program given imaged. imaged.rules)
-
-other_total : (bytes : List ℕ) → IsTotalStage Anything (starting_other bytes)
-other_total bytes = record {
-  always = λ speculated given made refused.
-      let entry = speculated.entered.entry in
-      answered (kinds_of entry.defined) (pages_of entry.program) bytes
-      (λ start e. made (record { speculated = speculated; other = start }) (record { same = refl; starts = record { same_entry = refl; read = e } }))
-      (λ line e. refused (bad_line line) (line_is_bad line e refl)) (λ count e. refused (few_arguments count) (too_few count e refl));
-}
-
-pub twinning_total : (export trace start other : List ℕ) → IsTotalStage Anything (twinning export trace start other)
-twinning_total export trace start other =
-    chain_total Anything IsWellFormed imaging (program_twinning export trace start other) imaging_total
-    (chain_total IsWellFormed Anything (program_speculating export trace start) (starting_other other) (program_total export trace start) (other_total other) (λ program speculated rules passes. tt))
-    (λ bytes program given imaged. imaged.rules)
+pub program_speculating_total : (export trace start : List ℕ) → IsTotalStage IsWellFormed (program_speculating export trace start)
+program_speculating_total export trace start =
+    chain_total IsWellFormed Anything (finding export) (chain (tracing trace) (starting_traced start)) (finding_total export)
+    (chain_total Anything Anything (tracing trace) (starting_traced start) (tracing_total trace) (beside_total _ (starting start) _ Anything (starting_total start)) (λ entry traced given traces. tt))
+    (λ program entry rules found. tt)
 
 -- ---- certificates
 
-certifying_total : (bytes : List ℕ) → IsTotalStage IsWellFormed (certifying bytes)
+pub certifying_total : (bytes : List ℕ) → IsTotalStage IsWellFormed (certifying bytes)
 certifying_total bytes = record {
   always = λ program rules made refused.
       refused not_json (is_not_json (λ data_ json. elim (certificate_of data_) as (λ found. certificate_of data_ ≡ found → ⊥) [
@@ -173,7 +147,3 @@ certifying_total bytes = record {
         | Some certificate ↦ λ e. made (record { program = program; certificate = certificate }) (record { same_program = refl; read = (data_, json, e) })
       ] refl) refl);
 }
-
-pub verifying_total : (certificate : List ℕ) → IsTotalStage Anything (verifying certificate)
-verifying_total certificate =
-    chain_total Anything IsWellFormed imaging (certifying certificate) imaging_total (certifying_total certificate) (λ bytes program given imaged. imaged.rules)

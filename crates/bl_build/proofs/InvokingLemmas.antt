@@ -11,10 +11,11 @@ use Rattle.bl_trace.specs.declared.error.StartError.TheVariants.{Line, Count, Me
 use Rattle.bl_wasm.specs.Linked.{type_of}
 use Rattle.bl_build.specs.Running.{preparing, Invoked, Invokes, InvokingRefuses, invoking, line_is_bad, not_exported, sizes_of, too_few}
 use Rattle.bl_build.specs.Loading.{loading}
-use Rattle.bl_job.specs.Refusals.{Refusal, bad_line, few_arguments}
+use Rattle.bl_job.specs.Refusals.{Refusal}
+use Rattle.bl_build.specs.Entering.{bad_line, few_arguments}
 use Rattle.bl_job.specs.Stages.{IsLawfulStage}
 use Rattle.bl_build.proofs.LoadingLemmas.{loading_lawful}
-use Rattle.bl_job.proofs.StageLemmas.{chain_lawful}
+use Rattle.bl_job.proofs.StageLemmas.{chain_lawful, told_as, told_memory}
 use Rattle.std.specs.List.{All}
 use Rattle.std.specs.Str.{bytes_eq}
 use Rattle.std.proofs.lemmas.List.Elements.{All-head, All-tail}
@@ -22,8 +23,9 @@ use Rattle.std.proofs.lemmas.Option.{same_Some}
 use Rattle.bl_base.specs.Fits.{Fits}
 use Rattle.bl_wasm.specs.declared.linked.Function.{Function}
 use Rattle.bl_reduce.specs.Outcomes.{IsStart}
-use Rattle.bl_job.specs.Working.{IsStaged}
-use Rattle.bl_build.specs.Working.{start_error}
+use Rattle.bl_job.specs.Working.{IsStaged, IsTold}
+use Rattle.bl_job.specs.declared.refusal.WorkError.{WorkError}
+use Rattle.bl_build.specs.Working.{start_told}
 
 module _ (export bytes : List ℕ) (tree : Tree) where
   -- an exported name has one type
@@ -73,7 +75,7 @@ module _ (export bytes : List ℕ) (tree : Tree) where
       let number : count ≡ other = cc in
       e ∙ (ap few_arguments number ∙ sym e')
 
-invoking_lawful : (export bytes : List ℕ) → IsLawfulStage (invoking export bytes)
+pub invoking_lawful : (export bytes : List ℕ) → IsLawfulStage (invoking export bytes)
 invoking_lawful export bytes = record {
   one_result = one_invoked export bytes;
   one_refusal = start_one export bytes;
@@ -97,10 +99,10 @@ exported_exists count name (pair ∷ pairs) function all e =
 
 -- an error of reading a start file is why it is refused
 pub start_refused : {X : Type 0} (value : X → Invoked) (tree : Tree) (export bytes : List ℕ) (function : ℕ) (type : Signature) (error : StartError) → number_of export tree.exports ≡ Some function → type_of tree function ≡ Some type
-    → IsAnswer (answer_of type.params (sizes_of tree) bytes) (Err error) → IsStaged (invoking export bytes) value tree (Err (start_error error))
-start_refused value tree export bytes function type (Line number) is typed answer = line_is_bad function number type is typed (sym answer) refl
-start_refused value tree export bytes function type (Count count) is typed answer = too_few function count type is typed (sym answer) refl
-start_refused value tree export bytes function type Memory is typed answer = tt
+    → IsAnswer (answer_of type.params (sizes_of tree) bytes) (Err error) → (w : WorkError) → IsTold (start_told error) w → IsStaged (invoking export bytes) value tree (Err w)
+start_refused value tree export bytes function type (Line number) is typed answer = told_as _ (InvokingRefuses export bytes tree) (line_is_bad function number type is typed (sym answer) refl)
+start_refused value tree export bytes function type (Count count) is typed answer = told_as _ (InvokingRefuses export bytes tree) (too_few function count type is typed (sym answer) refl)
+start_refused value tree export bytes function type Memory is typed answer = told_memory (InvokingRefuses export bytes tree)
 
 -- a start that fits a function's type is a start of the function
 pub start_of_type : (tree : Tree) (function : ℕ) (type : Signature) (start : Start) → type_of tree function ≡ Some type → Fits type.params (sizes_of tree) start → IsStart tree function start

@@ -10,7 +10,6 @@ use Rattle.bl_labels.specs.declared.error.LabelError.{LabelError}
 use Rattle.bl_labels.specs.declared.error.LabelError.TheVariants as label
 use Rattle.bl_labels.specs.declared.labels.Labels.{Labels}
 use Rattle.bl_build.specs.Loading.{AreTold, fault_of}
-use Rattle.bl_job.specs.declared.refusal.LabelFault.{LabelFault}
 
 -- an answer that isn't want of memory
 abbrev IsTold : Result Labels LabelError → Type 0
@@ -48,7 +47,7 @@ pub one_labels : (tree : Module) (a b : Labels) → AreTold tree (Ok a) → AreT
 one_labels tree a b h k = let same = one_told tree (Ok a) (Ok b) tt tt h k in cc
 
 -- a fault that is told isn't want of memory
-told_fault : (error : LabelError) (wrong : LabelFault) → fault_of error ≡ Some wrong → IsTold (Err error)
+told_fault : (error : LabelError) (wrong : List ℕ) → fault_of error ≡ Some wrong → IsTold (Err error)
 told_fault label.Malformed wrong is = tt
 told_fault label.Twice wrong is = tt
 told_fault label.OutOfRange wrong is = tt
@@ -56,12 +55,12 @@ told_fault label.OnImport wrong is = tt
 told_fault label.Both wrong is = tt
 told_fault label.Memory wrong is = absurd cc
 
-pub one_fault : (tree : Module) (a b : LabelError) (wrong other : LabelFault) → AreTold tree (Err a) → AreTold tree (Err b) → fault_of a ≡ Some wrong → fault_of b ≡ Some other → wrong ≡ other
+pub one_fault : (tree : Module) (a b : LabelError) (wrong other : List ℕ) → AreTold tree (Err a) → AreTold tree (Err b) → fault_of a ≡ Some wrong → fault_of b ≡ Some other → wrong ≡ other
 one_fault tree a b wrong other h k is these =
     let same = one_told tree (Err a) (Err b) (told_fault a wrong is) (told_fault b other these) h k in
     let errors : a ≡ b = cc in
     let found : Some wrong ≡ Some other = sym is ∙ ap fault_of errors ∙ these in
     cc
 
-pub labels_or_fault : (tree : Module) (labels : Labels) (error : LabelError) (wrong : LabelFault) → AreTold tree (Ok labels) → AreTold tree (Err error) → fault_of error ≡ Some wrong → ⊥
+pub labels_or_fault : (tree : Module) (labels : Labels) (error : LabelError) (wrong : List ℕ) → AreTold tree (Ok labels) → AreTold tree (Err error) → fault_of error ≡ Some wrong → ⊥
 labels_or_fault tree labels error wrong h k is = let same = one_told tree (Ok labels) (Err error) tt (told_fault error wrong is) h k in cc

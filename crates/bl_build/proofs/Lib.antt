@@ -25,4 +25,5 @@ pub mod Rows
 pub mod SpeculationLemmas
 pub mod TracingLemmas
 pub mod VerdictsTotal
+pub mod WeighingLemmas
 pub mod WidthsLemmas

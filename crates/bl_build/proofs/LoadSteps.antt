@@ -1,24 +1,20 @@
 -- One module more is decoded, or passes a stage.
-use Rattle.std.proofs.Common.{◌≡◌, ℕ, List, [], ◌∷◌, ◌++◌, map, Bor, refl, ap, sym, ◌∙◌, subst}
-use Rattle.std.specs.Prelude.{Result, Ok, Err, Vec}
-use Rattle.std.specs.declared.alloc.Global.{Global}
+use Rattle.std.proofs.Common.{◌≡◌, ℕ, ◌+◌, ◌<◌, ◌≤◌, List, [], ◌∷◌, ◌++◌, length, get_or, drop, map, Bor, refl, ap, sym, ◌∙◌, subst, add-one, drop-cons}
+use Rattle.std.specs.Prelude.{Result, Ok, Err}
 use Rattle.std.specs.List.{All}
-use Rattle.std.proofs.lemmas.List.{map-append}
+use Rattle.std.proofs.lemmas.List.{drop_all, map-append}
 use Rattle.std.proofs.lemmas.List.Elements.{All-cons, All-head, All-nil, All-tail}
-use Rattle.bl_wasm.specs.declared.module.Module.{Module}
-use Rattle.bl_decode.specs.Decoding.{Answers}
-use Rattle.bl_decode.specs.declared.error.DecodeError.{DecodeError}
 use Rattle.bl_labels.specs.Faults.{IsConsistent}
-use Rattle.bl_build.specs.Loading.{LabelledModule, Named, Part, decoding, parts_of}
+use Rattle.bl_build.specs.Loading.{Decodes, LabelledModule, Named, Part, decoding, parts_of}
 use Rattle.bl_text.specs.Names.{module_name}
 use Rattle.bl_job.specs.Stages.{Stage, at_first, at_second, chain, each}
-use Rattle.bl_job.specs.Working.{IsStaged, contents_in, refusal_in}
-use Rattle.bl_build.specs.Working.{decoding_error, ready_in, spelled_in}
+use Rattle.bl_job.specs.Working.{IsStaged, content_in, contents_in, refusal_in}
+use Rattle.bl_build.specs.Working.{ready_in, spelled_in}
 use Rattle.bl_build.specs.declared.loading.Ready.{Ready}
 use Rattle.bl_build.specs.declared.loading.Spelled.{Spelled}
+use Rattle.bl_job.specs.declared.content.Content.{Content}
 use Rattle.bl_job.specs.declared.refusal.WorkError.{WorkError}
 use Rattle.bl_job.specs.declared.refusal.WorkError.TheVariants as error
-use Rattle.bl_build.proofs.Readings.{decoded}
 use Rattle.bl_job.proofs.StageLemmas.{Goes, goes_on, goes_refused}
 
 -- the words
@@ -39,27 +35,47 @@ module _ {A B C Y : Type 0} (first : Stage A B) (second : Stage B C) (given : Y 
 
 -- ---- decoding
 
-module _ (whole : List Part) (words left : List (Bor (List ℕ))) (contents after : List (Vec ℕ Global)) (done : List Spelled) (word name : Bor (List ℕ)) (bytes : Vec ℕ Global)
-    (first : words ≡ word ∷ left) (second : contents ≡ bytes ∷ after) (same : name.now ≡ module_name word.now)
-    (goes : Goes decoding whole (map spelled_in done) (parts_of (words_in words) (contents_in contents))) where
+-- the next word, and those behind it
+pub next_word : (words : List (Bor (List ℕ))) (i : ℕ) (d : Bor (List ℕ)) → i < length words → drop i words ≡ get_or words i d ∷ drop (i + 1) words
+next_word words i d within = drop-cons words i d within ∙ ap (λ n. get_or words i d ∷ drop n words) (sym (add-one i))
+
+-- where no content is left, no part is
+none_left : (words : List (Bor (List ℕ))) (contents : List Content) → contents ≡ [] → parts_of (words_in words) (contents_in contents) ≡ []
+none_left [] contents none = refl
+none_left (word ∷ words) [] none = refl
+none_left (word ∷ words) (content ∷ contents) none = absurd cc
+
+pub none_decoded : (whole : List Part) (done : List Named) (words left : List (Bor (List ℕ))) (contents after : List Content) → contents ≡ [] → after ≡ []
+    → Goes decoding whole done (parts_of (words_in words) (contents_in contents)) → Goes decoding whole done (parts_of (words_in left) (contents_in after))
+none_decoded whole done words left contents after none nothing goes =
+    subst (Goes decoding whole done) (none_left words contents none ∙ sym (none_left left after nothing)) goes
+
+-- where no word is left, no part is
+pub all_decoded : (words : List (Bor (List ℕ))) (i : ℕ) (contents : List Content) → length words ≤ i → parts_of (words_in (drop i words)) (contents_in contents) ≡ []
+all_decoded words i contents past = ap (λ (left : List (Bor (List ℕ))). parts_of (words_in left) (contents_in contents)) (drop_all i words past)
+
+module _ (whole : List Part) (words left : List (Bor (List ℕ))) (contents after : List Content) (done : List Spelled) (word : Bor (List ℕ)) (content : Content)
+    (first : words ≡ word ∷ left) (second : contents ≡ content ∷ after) (goes : Goes decoding whole (map spelled_in done) (parts_of (words_in words) (contents_in contents))) where
+  abbrev part : Part
+  part = record { name = module_name word.now; bytes = content_in content }
+
   abbrev rest : List Part
   rest = parts_of (words_in left) (contents_in after)
 
-  -- what is to come, with the name that is found
-  ahead : Goes decoding whole (map spelled_in done) (record { name = name.now; bytes = bytes.items } ∷ rest)
+  -- what is to come
+  ahead : Goes decoding whole (map spelled_in done) (part ∷ rest)
   ahead =
-      subst (λ (n : List ℕ). Goes decoding whole (map spelled_in done) (record { name = n; bytes = bytes.items } ∷ rest)) (sym same)
-      (subst (λ (cs : List (Vec ℕ Global)). Goes decoding whole (map spelled_in done) (parts_of (words_in (word ∷ left)) (contents_in cs))) second
-      (subst (λ (ws : List (Bor (List ℕ))). Goes decoding whole (map spelled_in done) (parts_of (words_in ws) (contents_in contents))) first goes))
+      subst (λ (cs : List Content). Goes decoding whole (map spelled_in done) (parts_of (words_in (word ∷ left)) (contents_in cs))) second
+      (subst (λ (ws : List (Bor (List ℕ))). Goes decoding whole (map spelled_in done) (parts_of (words_in ws) (contents_in contents))) first goes)
 
-  pub next_decoded : (tree : Module) (next : List Spelled) → next ≡ done ++ record { name = name; tree = tree } ∷ [] → Answers bytes.items (Ok tree) → Goes decoding whole (map spelled_in next) rest
-  next_decoded tree next e is =
-      subst (λ (all : List Named). Goes decoding whole all rest) (sym (ap (map spelled_in) e ∙ map-append spelled_in done (record { name = name; tree = tree } ∷ [])))
-      (goes_on decoding whole rest (map spelled_in done) (record { name = name.now; bytes = bytes.items }) (record { name = name.now; tree = tree }) ahead
-      (record { same_name = refl; spelled = is.0; supported = is.1; within = is.2 }))
+  pub next_decoded : (one : Spelled) (next : List Spelled) → next ≡ done ++ one ∷ [] → Decodes part (spelled_in one) → Goes decoding whole (map spelled_in next) rest
+  next_decoded one next e passed =
+      subst (λ (all : List Named). Goes decoding whole all rest) (sym (ap (map spelled_in) e ∙ map-append spelled_in done (one ∷ [])))
+      (goes_on decoding whole rest (map spelled_in done) part (spelled_in one) ahead passed)
 
-  pub not_decoded : {X : Type 0} (value : X → List Named) (fault : DecodeError) (e : WorkError) → e ≡ decoding_error name fault → Answers bytes.items (Err fault) → IsStaged (each decoding) value whole (Err e)
-  not_decoded value fault e is why = subst (λ (e : WorkError). IsStaged (each decoding) value whole (Err e)) (sym is) (decoded value name bytes.items whole rest (map spelled_in done) ahead fault why)
+  pub not_decoded : {X : Type 0} (value : X → List Named) (e : WorkError) → IsStaged decoding spelled_in part (Err e) → IsStaged (each decoding) value whole (Err e)
+  not_decoded value (error.Refused refusal) refused = goes_refused decoding whole rest (map spelled_in done) part (refusal_in refusal) ahead refused
+  not_decoded value error.Memory refused = tt
 
 -- ---- a stage on modules that the code keeps, one after another
 

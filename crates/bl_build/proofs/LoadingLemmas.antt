@@ -18,8 +18,8 @@ use Rattle.bl_validate.proofs.Reasons.{one_reason}
 use Rattle.bl_link.specs.Links.{links}
 use Rattle.bl_link.specs.declared.error.LinkError.{LinkError}
 use Rattle.bl_link.specs.declared.error.LinkError.TheVariants.{Unknown, Mismatch, ElementRange, DataRange, Limit, Memory}
-use Rattle.bl_build.specs.Loading.{Accepted, AreTold, Decodes, DecodingRefuses, IsPassed, IsRefusalOf, LabelledModule, Named, Part, Links, LinkingRefuses, ReadsLabels, decoding, excess, labelling, linked_parts, linking, loading, no_module, not_supported, validation, unknown, mismatched, element, segment, too_large}
-use Rattle.bl_job.specs.Refusals.{Refusal, bad_labels, data_range, element_range, invalid_function, limit, mismatched_import, unknown_import}
+use Rattle.bl_build.specs.Loading.{Accepted, AreTold, Decodes, DecodingRefuses, IsPassed, IsRefusalOf, LabelledModule, Named, Part, Links, LinkingRefuses, ReadsLabels, bad_labels, data_range, element_range, invalid_function, mismatched_import, unknown_import, decoding, excess, labelling, linked_parts, linking, loading, no_module, not_supported, validation, unknown, mismatched, element, segment, too_large}
+use Rattle.bl_job.specs.Refusals.{Refusal, limit}
 use Rattle.bl_job.specs.Stages.{AllPass, IsLawfulStage, chain, each}
 use Rattle.bl_build.proofs.LabelLemmas.{labels_or_fault, one_fault, one_labels}
 use Rattle.bl_job.proofs.StageLemmas.{chain_lawful, each_lawful}
@@ -60,7 +60,7 @@ module _ (part : Part) where
   decoding_not_both a r p (excess tree which value s is found e) =
       let within = same_module (λ tree. first_excess tree ≡ None) a.tree tree p.spelled s p.within in cc
 
-decoding_lawful : IsLawfulStage decoding
+pub decoding_lawful : IsLawfulStage decoding
 decoding_lawful = record { one_result = one_decoded; one_refusal = decoding_refusal; not_both = decoding_not_both }
 
 -- ---- validation
@@ -91,7 +91,7 @@ reason_valid name tree reason.Memory refusal r typed e = e
 one_passed : (Holds : Module → Type 0) (old a b : Named) → IsPassed Holds old a → IsPassed Holds old b → a ≡ b
 one_passed Holds old a b p q = p.same ∙ sym q.same
 
-validation_lawful : IsLawfulStage validation
+pub validation_lawful : IsLawfulStage validation
 validation_lawful = record {
   one_result = one_passed Typed;
   one_refusal = λ named a b r s. same_reason named.name named.tree r.reason s.reason a b r.is_reason s.is_reason r.is_refusal s.is_refusal;
@@ -101,7 +101,7 @@ validation_lawful = record {
 -- ---- all stages
 
 -- reading labels answers one thing
-labelling_lawful : IsLawfulStage labelling
+pub labelling_lawful : IsLawfulStage labelling
 labelling_lawful = record {
   one_result = λ named a b p q.
       let names = p.same_name ∙ sym q.same_name in
@@ -166,7 +166,7 @@ module _ (labelled : List LabelledModule) where
       let errors : second.0 ≡ first.0 = cc in
       one_telling first.0 a b first.2 (subst (λ error. Tells error b) errors second.2)
 
-linking_lawful : IsLawfulStage linking
+pub linking_lawful : IsLawfulStage linking
 linking_lawful = record { one_result = one_tree; one_refusal = linking_refusal; not_both = linked_against }
 
 pub loading_lawful : IsLawfulStage loading

@@ -27,13 +27,15 @@ use Rattle.bl_link.specs.declared.part.Part.{Part as LinkPart}
 use Rattle.bl_link.proofs.FaultLemmas.{faults_name_parts, memory_is_no_fault}
 use Rattle.bl_link.proofs.SpelledParts.{labelled_part}
 use Rattle.bl_link.proofs.Whole.{linked}
-use Rattle.bl_build.specs.Loading.{AreLoadable, IsLoadable, LabelledModule, LinkingRefuses, Links, Named, Part, decoding, element, labelling, linked_parts, linking, loading, mismatched, segment, too_large, unknown, validation}
-use Rattle.bl_job.specs.Refusals.{Refusal, bad_line, data_range, element_range, few_arguments, limit, mismatched_import, no_export, unknown_import}
+use Rattle.bl_build.specs.Loading.{AreLoadable, IsLoadable, LabelledModule, LinkingRefuses, Links, Named, Part, data_range, element_range, mismatched_import, unknown_import, decoding, element, labelling, linked_parts, linking, loading, mismatched, segment, too_large, unknown, validation}
+use Rattle.bl_job.specs.Refusals.{Refusal, limit}
+use Rattle.bl_build.specs.Entering.{bad_line, few_arguments, no_export}
 use Rattle.bl_build.specs.Running.{Invoked, Invokes, InvokingRefuses, invoking, line_is_bad, not_exported, preparing, sizes_of, too_few}
 use Rattle.bl_job.specs.Stages.{AllPass, Anything, IsTotalStage, Stage, chain, each}
 use Rattle.bl_build.proofs.ImagesTotal.{answered}
 use Rattle.bl_build.proofs.LoadingLemmas.{IsAccepted, all_accepted}
-use Rattle.bl_build.proofs.ModulesTotal.{chain_total, decoding_total, each_total, labelling_total, validation_total}
+use Rattle.bl_build.proofs.ModulesTotal.{decoding_total, labelling_total, validation_total}
+use Rattle.bl_job.proofs.StageLemmas.{chain_total, each_total}
 use Rattle.bl_build.proofs.InvokingLemmas.{exported_exists}
 use Rattle.bl_build.proofs.WidthsLemmas.{has_widths}
 
@@ -172,8 +174,8 @@ module _ (export start : List ℕ) where
         (λ begins read. made (record { tree = tree; function = number; type = known.type; start = begins }) (record { same_tree = refl; exported = e; typed = type; read = read }))
         (λ line read. refused (bad_line line) (line_is_bad number line known.type e type read refl)) (λ count read. refused (few_arguments count) (too_few number count known.type e type read refl))
 
+  pub invoking_total : IsTotalStage IsLinked (invoking export start)
+  invoking_total = record { always = λ tree is made refused. of_number tree is made refused (number_of export tree.exports) refl }
+
   pub preparing_total : IsTotalStage AreLoadable (preparing export start)
-  preparing_total =
-      chain_total AreLoadable IsLinked loading (invoking export start) loading_total
-      (record { always = λ tree is made refused. of_number tree is made refused (number_of export tree.exports) refl })
-      (λ parts tree given loaded. loaded.2.2.2.can_run)
+  preparing_total = chain_total AreLoadable IsLinked loading (invoking export start) loading_total invoking_total (λ parts tree given loaded. loaded.2.2.2.can_run)

@@ -1,5 +1,5 @@
--- Modules in files can be loaded, compiled and hardened, or something is refused.
-use Rattle.std.proofs.Common.{◌≡◌, ℕ, zero, suc, ◌-◌, ◌^◌, ◌<◌, ◌≤◌, Bool, true, false, cond, List, [], ◌∷◌, length, length-drop, length-take, take, drop, nat_eq, Some, codes, refl, ap, sym, ◌∙◌, subst, arith, slice_get}
+-- Modules in files can be loaded, and compiled where their names are texts.
+use Rattle.std.proofs.Common.{◌≡◌, ℕ, zero, suc, ◌-◌, ◌^◌, ◌<◌, ◌≤◌, Bool, true, false, cond, List, [], ◌∷◌, length, length-drop, length-take, take, drop, nat_eq, Some, codes, refl, ap, sym, ◌∙◌, arith, slice_get}
 use Rattle.std.specs.List.{All, after_last}
 use Rattle.std.specs.Str.{bytes_eq}
 use Rattle.std.proofs.lemmas.List.Elements.{All-cons, All-head, All-nil, All-tail}
@@ -7,17 +7,10 @@ use Rattle.std.proofs.lemmas.Option.{none-some, same_Some}
 use Rattle.bl_base.specs.Fits.{AreBytes}
 use Rattle.bl_base.specs.Quantity.{limit_of}
 use Rattle.bl_base.specs.declared.quantity.Quantity.TheVariants as quantity
-use Rattle.bl_cmd.specs.Rules.{IsWellFormed}
-use Rattle.bl_image.specs.Image.{Image}
-use Rattle.bl_lower.proofs.WellFormed.{rules}
 use Rattle.bl_text.proofs.ModuleNames.{no_solidus}
 use Rattle.bl_text.specs.Names.{AreNamedApart, module_name}
-use Rattle.bl_build.specs.Building.{AreCompilable, Built, compiling}
-use Rattle.bl_build.specs.Hardening.{Hardened, IsHardened}
+use Rattle.bl_build.specs.Building.{AreCompilable}
 use Rattle.bl_build.specs.Loading.{AreLoadable, AreShort, IsLoadable, Part, parts_of}
-use Rattle.bl_job.specs.Refusals.{Refusal}
-use Rattle.bl_build.proofs.BuildLemmas.{builds_of, compiling_total}
-use Rattle.bl_build.proofs.HardeningExists.{some_hardened}
 
 -- ---- modules in files can be loaded
 
@@ -91,13 +84,3 @@ names_short (word ∷ words) (one ∷ contents) texts =
 pub are_compilable : (words contents : List (List ℕ)) → length words ≤ limit_of quantity.Modules → AreNamedApart words → All (λ word. length word < 2 ^ 63) words → AreShort words contents → All AreBytes contents
     → AreCompilable (parts_of words contents)
 are_compilable words contents few apart texts short bytes = record { loadable = are_loadable words contents few apart short bytes; names = names_short words contents texts }
-
--- modules are refused, or compiled and hardened
-pub hardening_total : (parts : List Part) → AreCompilable parts → ((refusal : Refusal) → compiling.Refuses parts refusal → ⊥)
-    → ((built : Built) (hardened : Hardened) → compiling.Passes parts built → IsHardened built.program hardened → ⊥) → ⊥
-hardening_total parts given refused made =
-    compiling_total.always parts given (λ built compiled.
-    let builds = builds_of compiled.0 built compiled.2 in
-    let own = subst (λ p. Image p built.image) (sym builds.is_program) builds.image in
-    let wells = subst IsWellFormed (sym builds.is_program) (rules compiled.0 compiled.1.2.2.2.can_run builds.few) in
-    some_hardened built.program built.image wells own (λ hardened is. made built hardened compiled is)) refused

@@ -1,8 +1,6 @@
--- Stages always answer: one after another, on each of a list, and those of one module.
+-- The stages of one module always answer.
 use Rattle.std.proofs.Common.{◌≡◌, ℕ, ◌+◌, List, [], ◌∷◌, length, Option, Some, None, refl, inl, inr, ap, sym, ◌∙◌}
-use Rattle.std.specs.Prelude.{Result, Ok, Err}
-use Rattle.std.specs.List.{All}
-use Rattle.std.proofs.lemmas.List.Elements.{All-head, All-tail}
+use Rattle.std.specs.Prelude.{Result, Ok, Err, codes}
 use Rattle.bl_wasm.specs.Limits.{Excess, first_excess}
 use Rattle.bl_wasm.specs.Modules.{Spells}
 use Rattle.bl_wasm.specs.Validity.{HasTyping, imported, function_of}
@@ -16,32 +14,11 @@ use Rattle.bl_labels.specs.declared.error.LabelError.{LabelError}
 use Rattle.bl_labels.specs.declared.error.LabelError.TheVariants as label_error
 use Rattle.bl_labels.specs.declared.labels.Labels.{Labels}
 use Rattle.bl_validate.specs.declared.verdict.Invalid.TheVariants as reason
-use Rattle.bl_build.specs.Loading.{DecodingRefuses, Decodes, Named, Part, decoding, excess, fault_of, labelling, no_module, not_supported, validation}
-use Rattle.bl_job.specs.Refusals.{Refusal, bad_labels, invalid_function, invalid_module, limit, malformed, unsupported}
-use Rattle.bl_job.specs.Stages.{AllPass, Anything, FirstRefused, IsTotalStage, Stage, at_first, at_second, chain, each}
-use Rattle.bl_job.specs.declared.refusal.LabelFault.{LabelFault}
-use Rattle.bl_job.specs.declared.refusal.LabelFault.TheVariants as label_fault
+use Rattle.bl_build.specs.Loading.{DecodingRefuses, Decodes, Named, Part, bad_labels, invalid_function, invalid_module, malformed, unsupported, decoding, excess, fault_of, labelling, no_module, not_supported, validation}
+use Rattle.bl_job.specs.Refusals.{Refusal, limit}
+use Rattle.bl_job.specs.Stages.{Anything, IsTotalStage}
 use Rattle.bl_build.proofs.Classical.{all_or_first}
 use Rattle.bl_labels.proofs.FaultLemmas.{never_memory}
-
--- ---- stages together
-
-module _ {A B C : Type 0} (Given : A → Type 0) (Known : B → Type 0) (first : Stage A B) (second : Stage B C) where
-  pub chain_total : IsTotalStage Given first → IsTotalStage Known second → ((a : A) (b : B) → Given a → first.Passes a b → Known b) → IsTotalStage Given (chain first second)
-  chain_total f s known = record {
-    always = λ a given made refused.
-        f.always a given (λ b p. s.always b (known a b given p) (λ c q. made c (b, p, q)) (λ r q. refused r (at_second b p q))) (λ r p. refused r (at_first p));
-  }
-
-module _ {A B : Type 0} (Given : A → Type 0) (stage : Stage A B) (s : IsTotalStage Given stage) where
-  each_always : (xs : List A) → All Given xs → ((ys : List B) → AllPass stage xs ys → ⊥) → ((r : Refusal) → FirstRefused stage xs r → ⊥) → ⊥
-  each_always [] given made refused = made [] tt
-  each_always (x ∷ xs) given made refused =
-      s.always x (All-head Given x xs given)
-      (λ y p. each_always xs (All-tail Given x xs given) (λ ys q. made (y ∷ ys) (p, q)) (λ r q. refused r (inr (y, p, q)))) (λ r p. refused r (inl p))
-
-  pub each_total : IsTotalStage (All Given) (each stage)
-  each_total = record { always = each_always }
 
 -- ---- decoding and validation
 
@@ -75,12 +52,12 @@ validation_total = record {
 -- ---- labels
 
 -- an error that isn't want of memory is something wrong
-wrong_of : (error : LabelError) → (error ≡ label_error.Memory → ⊥) → (wrong : LabelFault) × (fault_of error ≡ Some wrong)
-wrong_of label_error.Malformed other = (label_fault.Malformed, refl)
-wrong_of label_error.Twice other = (label_fault.Twice, refl)
-wrong_of label_error.OutOfRange other = (label_fault.OutOfRange, refl)
-wrong_of label_error.OnImport other = (label_fault.OnImport, refl)
-wrong_of label_error.Both other = (label_fault.Both, refl)
+wrong_of : (error : LabelError) → (error ≡ label_error.Memory → ⊥) → (wrong : List ℕ) × (fault_of error ≡ Some wrong)
+wrong_of label_error.Malformed other = (codes " malformed", refl)
+wrong_of label_error.Twice other = (codes " twice", refl)
+wrong_of label_error.OutOfRange other = (codes " out of range", refl)
+wrong_of label_error.OnImport other = (codes " on import", refl)
+wrong_of label_error.Both other = (codes " both", refl)
 wrong_of label_error.Memory other = absurd (other refl)
 
 in_section : (tree : Module) (bytes : List ℕ) (error : LabelError) → Answers tree bytes (Err error) → InSection tree bytes (Err error)
@@ -92,16 +69,16 @@ in_section tree bytes label_error.Both h = h
 in_section tree bytes label_error.Memory h = tt
 
 module _ (tree : Module) where
-  tells : (sections : List (List ℕ)) → ((labels : Labels) → Tells tree sections (Ok labels) → ⊥) → ((error : LabelError) (wrong : LabelFault) → Tells tree sections (Err error) → fault_of error ≡ Some wrong → ⊥) → ⊥
+  tells : (sections : List (List ℕ)) → ((labels : Labels) → Tells tree sections (Ok labels) → ⊥) → ((error : LabelError) (wrong : List ℕ) → Tells tree sections (Err error) → fault_of error ≡ Some wrong → ⊥) → ⊥
   tells [] made wrong = made unlabelled refl
-  tells (bytes ∷ []) made wrong = wrong label_error.Malformed label_fault.Malformed (inr (refl, λ entries s. of_answer entries s (judged tree entries) refl)) refl
+  tells (bytes ∷ []) made wrong = wrong label_error.Malformed (codes " malformed") (inr (refl, λ entries s. of_answer entries s (judged tree entries) refl)) refl
     where
       of_answer : (entries : List _) → section entries bytes → (answer : Result Labels LabelError) → judged tree entries ≡ answer → ⊥
       of_answer entries s (Ok labels) e = made labels (inl (entries, s, sym e))
       of_answer entries s (Err error) e =
           let known = wrong_of error (λ same. never_memory tree entries (e ∙ ap (λ (f : LabelError). Err f) same)) in
           wrong error known.0 (in_section tree bytes error (inl (entries, s, sym e))) known.1
-  tells (first ∷ second ∷ more) made wrong = wrong label_error.Twice label_fault.Twice refl refl
+  tells (first ∷ second ∷ more) made wrong = wrong label_error.Twice (codes " twice") refl refl
 
 pub labelling_total : IsTotalStage Anything labelling
 labelling_total = record {

@@ -1,5 +1,5 @@
 -- What the stages of modules answer, one module after another.
-use Rattle.std.proofs.Common.{◌≡◌, ℕ, zero, suc, List, [], ◌∷◌, length, map, Some, slice_get, refl, ap, sym, ◌∙◌, subst, Bor}
+use Rattle.std.proofs.Common.{◌≡◌, ℕ, zero, suc, List, [], ◌∷◌, length, map, option_map, Option, Some, None, slice_get, refl, ap, sym, ◌∙◌, subst, Bor}
 use Rattle.std.proofs.lemmas.List.{length-map}
 use Rattle.std.proofs.lemmas.Option.{none-some, same_Some}
 use Rattle.std.specs.Prelude.{Ok, Err}
@@ -17,50 +17,53 @@ use Rattle.bl_link.specs.Links.{links, part_of}
 use Rattle.bl_link.specs.declared.part.Part.{Part as LinkPart}
 use Rattle.bl_link.proofs.FaultLemmas.{faults_name_parts}
 use Rattle.bl_labels.specs.declared.error.LabelError.{LabelError}
-use Rattle.bl_labels.specs.declared.error.LabelError.TheVariants as label
 use Rattle.bl_link.specs.declared.error.LinkError.{LinkError}
 use Rattle.bl_link.specs.declared.error.LinkError.TheVariants as link
-use Rattle.bl_build.specs.Loading.{AreTold, Decodes, LabelledModule, Named, Part, decoding, excess, labelling, linked_parts, linking, no_module, not_supported, validation, unknown, mismatched, element, segment, too_large}
-use Rattle.bl_job.specs.Refusals.{data_range, element_range, mismatched_import, unknown_import}
-use Rattle.bl_job.specs.Stages.{each}
-use Rattle.bl_job.specs.Working.{IsStaged}
-use Rattle.bl_build.specs.Working.{IsLinkingError, decoding_error, labels_error, ready_in, validation_error}
+use Rattle.bl_build.specs.Loading.{AreTold, Decodes, LabelledModule, LabelsRefuse, LinkingRefuses, ValidationRefuses, bad_labels, data_range, element_range, fault_of, mismatched_import, unknown_import, Named, Part, decoding, excess, labelling, linked_parts, linking, no_module, not_supported, validation, unknown, mismatched, element, segment, too_large}
+use Rattle.bl_job.specs.Refusals.{Refusal}
+use Rattle.bl_job.specs.Working.{IsStaged, IsTold, Tells}
+use Rattle.bl_build.specs.Working.{IsLinkingError, decoding_told, labels_told, ready_in, validation_told}
 use Rattle.bl_build.specs.declared.loading.Ready.{Ready}
-use Rattle.bl_job.specs.declared.refusal.LabelFault.TheVariants as fault
 use Rattle.bl_job.specs.declared.refusal.WorkError.{WorkError}
-use Rattle.bl_job.proofs.StageLemmas.{Goes, goes_refused}
+use Rattle.bl_job.proofs.StageLemmas.{told_as, told_memory}
 
-module _ {X : Type 0} (value : X → List Named) (name : Bor (List ℕ)) where
+module _ {X : Type 0} (value : X → Named) (name : Bor (List ℕ)) where
   module _ (bytes : List ℕ) where
     abbrev part : Part
     part = record { name = name.now; bytes = bytes }
 
-    -- bytes that aren't decoded, behind those that are
-    pub decoded : (whole rest : List Part) (done : List Named) → Goes decoding whole done (part ∷ rest) → (e : DecodeError) → Answers bytes (Err e) → IsStaged (each decoding) value whole (Err (decoding_error name e))
-    decoded whole rest done g decode.Malformed none = goes_refused decoding whole rest done part _ g (no_module none refl)
-    decoded whole rest done g decode.Unsupported is = goes_refused decoding whole rest done part _ g (not_supported is.0 is.1 is.2 refl)
-    decoded whole rest done g (decode.Limit which value) is = goes_refused decoding whole rest done part _ g (excess is.0 which value is.1 is.2 is.3 refl)
-    decoded whole rest done g decode.Memory is = tt
+    -- bytes that aren't decoded
+    pub not_spelled : (e : DecodeError) → Answers bytes (Err e) → (w : WorkError) → IsTold (decoding_told name.now e) w → IsStaged decoding value part (Err w)
+    not_spelled decode.Malformed none = told_as _ (decoding.Refuses part) (no_module none refl)
+    not_spelled decode.Unsupported is = told_as _ (decoding.Refuses part) (not_supported is.0 is.1 is.2 refl)
+    not_spelled (decode.Limit which value) is = told_as _ (decoding.Refuses part) (excess is.0 which value is.1 is.2 is.3 refl)
+    not_spelled decode.Memory is = told_memory (decoding.Refuses part)
 
     pub decodes : (tree : Module) → Answers bytes (Ok tree) → Decodes part (record { name = name.now; tree = tree })
     decodes tree is = record { same_name = refl; spelled = is.0; supported = is.1; within = is.2 }
 
 -- a module that isn't valid
 module _ {X : Type 0} (value : X → Named) (name : Bor (List ℕ)) (tree : Module) where
-  pub not_valid : (reason : Invalid) → IsReason tree reason → IsStaged validation value (record { name = name.now; tree = tree }) (Err (validation_error name reason))
-  not_valid (invalid.Function index) why = record { reason = invalid.Function index; is_reason = why; is_refusal = refl }
-  not_valid invalid.Module why = record { reason = invalid.Module; is_reason = why; is_refusal = refl }
-  not_valid invalid.Memory why = tt
+  abbrev named : Named
+  named = record { name = name.now; tree = tree }
+
+  pub not_valid : (reason : Invalid) → IsReason tree reason → (w : WorkError) → IsTold (validation_told name.now reason) w → IsStaged validation value named (Err w)
+  not_valid (invalid.Function index) why = told_as _ (ValidationRefuses named) (record { reason = invalid.Function index; is_reason = why; is_refusal = refl })
+  not_valid invalid.Module why = told_as _ (ValidationRefuses named) (record { reason = invalid.Module; is_reason = why; is_refusal = refl })
+  not_valid invalid.Memory why = told_memory (ValidationRefuses named)
 
 -- a module whose labels break a rule
 module _ {X : Type 0} (value : X → LabelledModule) (name : Bor (List ℕ)) (tree : Module) where
-  pub not_labelled : (error : LabelError) → AreTold tree (Err error) → IsStaged labelling value (record { name = name.now; tree = tree }) (Err (labels_error name error))
-  not_labelled label.Malformed why = record { error = label.Malformed; wrong = fault.Malformed; told = why; is_fault = refl; is_refusal = refl }
-  not_labelled label.Twice why = record { error = label.Twice; wrong = fault.Twice; told = why; is_fault = refl; is_refusal = refl }
-  not_labelled label.OutOfRange why = record { error = label.OutOfRange; wrong = fault.OutOfRange; told = why; is_fault = refl; is_refusal = refl }
-  not_labelled label.OnImport why = record { error = label.OnImport; wrong = fault.OnImport; told = why; is_fault = refl; is_refusal = refl }
-  not_labelled label.Both why = record { error = label.Both; wrong = fault.Both; told = why; is_fault = refl; is_refusal = refl }
-  not_labelled label.Memory why = tt
+  abbrev refuses : Refusal → Type 0
+  refuses = LabelsRefuse (record { name = name.now; tree = tree })
+
+  pub not_labelled : (error : LabelError) → AreTold tree (Err error) → (w : WorkError) → IsTold (labels_told name.now error) w
+      → IsStaged labelling value (record { name = name.now; tree = tree }) (Err w)
+  not_labelled error why = by_fault (fault_of error) refl
+    where
+      by_fault : (found : Option (List ℕ)) → fault_of error ≡ found → (w : WorkError) → IsTold (option_map (bad_labels name.now) found) w → Tells refuses w
+      by_fault None e = told_memory refuses
+      by_fault (Some wrong) e = told_as (bad_labels name.now wrong) refuses (record { error = error; wrong = wrong; told = why; is_fault = e; is_refusal = refl })
 
 -- the name of a module by its number
 named_by : (ready : List Ready) (place : ℕ) (name : Bor (List ℕ)) → slice_get (map (λ (one : Ready). one.name) ready) place ≡ Some name → (one : LabelledModule) × (slice_get (map ready_in ready) place ≡ Some one) × (one.name ≡ name.now)
@@ -76,18 +79,18 @@ module _ {X : Type 0} (value : X → Tree) (ready : List Ready) where
   pub not_linked : (fault : LinkError) (e : WorkError) → Gives (Err fault) (links (linked_parts all_named)) → IsLinkingError (map (λ (one : Ready). one.name) ready) fault e → IsStaged linking value all_named (Err e)
   not_linked (link.Unknown part import) e is h =
       let one = named_by ready part h.0 h.1 in
-      subst (λ e. IsStaged linking value all_named (Err e)) (sym h.2) (unknown part import one.0 is one.1 (ap (λ name. unknown_import name import) (sym one.2)))
+      told_as _ (LinkingRefuses all_named) (unknown part import one.0 is one.1 (ap (λ name. unknown_import name import) (sym one.2))) e h.2
   not_linked (link.Mismatch part import) e is h =
       let one = named_by ready part h.0 h.1 in
-      subst (λ e. IsStaged linking value all_named (Err e)) (sym h.2) (mismatched part import one.0 is one.1 (ap (λ name. mismatched_import name import) (sym one.2)))
+      told_as _ (LinkingRefuses all_named) (mismatched part import one.0 is one.1 (ap (λ name. mismatched_import name import) (sym one.2))) e h.2
   not_linked (link.ElementRange part) e is h =
       let one = named_by ready part h.0 h.1 in
-      subst (λ e. IsStaged linking value all_named (Err e)) (sym h.2) (element part one.0 is one.1 (ap element_range (sym one.2)))
+      told_as _ (LinkingRefuses all_named) (element part one.0 is one.1 (ap element_range (sym one.2))) e h.2
   not_linked (link.DataRange part) e is h =
       let one = named_by ready part h.0 h.1 in
-      subst (λ e. IsStaged linking value all_named (Err e)) (sym h.2) (segment part one.0 is one.1 (ap data_range (sym one.2)))
-  not_linked (link.Limit which amount) e is h = subst (λ e. IsStaged linking value all_named (Err e)) (sym h) (too_large which amount is refl)
-  not_linked link.Memory e is h = subst (λ e. IsStaged linking value all_named (Err e)) (sym h) tt
+      told_as _ (LinkingRefuses all_named) (segment part one.0 is one.1 (ap data_range (sym one.2))) e h.2
+  not_linked (link.Limit which amount) e is h = told_as _ (LinkingRefuses all_named) (too_large which amount is refl) e h
+  not_linked link.Memory e is h = told_memory (LinkingRefuses all_named) e h
 
 -- a fault of linking names one of the modules
 module _ (ready : List Ready) (names : List (Bor (List ℕ))) (parts : List LinkPart) (are_names : names ≡ map (λ (one : Ready). one.name) ready) (are_parts : parts ≡ linked_parts (map ready_in ready)) where

@@ -1,22 +1,22 @@
 -- From a program on: what is refused first, or what all stages pass on.
-use Rattle.std.proofs.Common.{◌≡◌, ℕ, List, None, refl}
+use Rattle.std.proofs.Common.{◌≡◌, ℕ, List, None, Some, refl}
 use Rattle.std.specs.Prelude.{Ok, Err}
 use Rattle.bl_base.specs.declared.start.Start.{Start}
 use Rattle.bl_cmd.specs.declared.definitions.ProgramParts.{ProgramParts as Program}
 use Rattle.bl_rob.specs.declared.directive.Directive.{Directive}
-use Rattle.bl_build.specs.Entering.{Entry, Finds, Starts, function_named, starting}
+use Rattle.bl_build.specs.Entering.{Entry, Finds, Starts, function_named, no_export, starting}
 use Rattle.bl_job.specs.Stages.{at_first, at_second}
 use Rattle.bl_build.specs.Tracing.{Speculated, program_speculating}
-use Rattle.bl_job.specs.Working.{IsStaged}
+use Rattle.bl_job.specs.Working.{IsStaged, IsTold}
+use Rattle.bl_job.proofs.StageLemmas.{told_as}
 use Rattle.bl_build.specs.Working.{IsTraced, entered_in}
-use Rattle.bl_job.specs.declared.refusal.Refusal.TheVariants as told
 use Rattle.bl_job.specs.declared.refusal.WorkError.{WorkError}
 use Rattle.bl_job.specs.declared.refusal.WorkError.TheVariants as error
 
 module _ {X : Type 0} (value : X → Speculated) (export trace start : List ℕ) (program : Program) where
   -- an export that is absent
-  pub not_exported : function_named export program.exports ≡ None → IsStaged (program_speculating export trace start) value program (Err (error.Refused told.NoExport))
-  not_exported none = at_first (record { not_exported = none; is_refusal = refl })
+  pub not_exported : function_named export program.exports ≡ None → (e : WorkError) → IsTold (Some no_export) e → IsStaged (program_speculating export trace start) value program (Err e)
+  not_exported none = told_as no_export ((program_speculating export trace start).Refuses program) (at_first (record { not_exported = none; is_refusal = refl }))
 
   module _ (entry : Entry) (found : Finds export program entry) where
     -- a trace file that is refused
@@ -40,6 +40,6 @@ module _ (export trace start : List ℕ) (program : Program) (entry : Entry) (fo
     (
       record { entry = entry; directives = directives },
       record { same_entry = refl; few = traced.0; read = traced.1 },
-      record { same_directives = refl; starts = starts },
+      (entered_in entry s, starts, refl),
     ),
   )

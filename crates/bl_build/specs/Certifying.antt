@@ -1,5 +1,5 @@
 -- From the bytes of an image to its program, with the certificate that the bytes of another file are; what verdicts on them say.
-use Rattle.std.specs.Prelude.{◌≡◌, ℕ, List, Ok, Err}
+use Rattle.std.specs.Prelude.{◌≡◌, ℕ, List, [], ◌∷◌, codes, Ok, Err}
 use Rattle.bl_cmd.specs.declared.definitions.ProgramParts.{ProgramParts as Program}
 use Rattle.bl_graph.specs.declared.certificate.Certificate.{Certificate}
 use Rattle.bl_transient.specs.declared.transient.FlowVerdict.{FlowVerdict}
@@ -9,7 +9,8 @@ use Rattle.bl_witness.specs.declared.verdict.CertVerdict.{CertVerdict}
 use Rattle.bl_witness.specs.declared.verdict.CertVerdict.TheVariants as rules
 use Rattle.bl_witness.specs.declared.error.CertError.TheVariants.{NotJson, Shape}
 use Rattle.bl_build.specs.Entering.{imaging}
-use Rattle.bl_job.specs.Refusals.{Refusal, not_json, other_shape}
+use Rattle.bl_job.specs.Refusals.{Refusal, refusal_of}
+use Rattle.bl_job.specs.declared.status.Reason.TheVariants as why
 use Rattle.bl_job.specs.Stages.{Stage, chain}
 
 -- a program, and a certificate that is given for it
@@ -21,6 +22,14 @@ pub record Certified : Type 0 where
 pub record IsRead (bytes : List ℕ) (program : Program) (certified : Certified) : Type 0 where
   pub same_program : certified.program ≡ program
   pub read : Reads bytes (Ok certified.certificate)
+
+-- the bytes of a certificate are no JSON value
+abbrev pub not_json : Refusal
+not_json = refusal_of why.Certificate (codes "certificate: not JSON" ∷ [])
+
+-- they are one that is no certificate
+abbrev pub other_shape : Refusal
+other_shape = refusal_of why.Certificate (codes "certificate: shape" ∷ [])
 
 pub data ReadingRefuses (bytes : List ℕ) (refusal : Refusal) : Type 0 where
   -- they are the text of no JSON value

@@ -1,5 +1,6 @@
 -- From the bytes of an image to its program, then to an exported function of it, and then to a start of the function.
-use Rattle.std.specs.Prelude.{◌≡◌, ℕ, List, [], ◌∷◌, map, slice_get, Option, Some, None, Result, Ok, Err, if◌then◌else◌}
+use Rattle.std.specs.Fmt.{decimal}
+use Rattle.std.specs.Prelude.{◌≡◌, ◌++◌, ℕ, codes, List, [], ◌∷◌, map, slice_get, Option, Some, None, Result, Ok, Err, if◌then◌else◌}
 use Rattle.std.specs.Str.{bytes_eq}
 use Rattle.bl_base.specs.declared.names.ValueType.{ValueType}
 use Rattle.bl_base.specs.declared.start.Start.{Start}
@@ -11,7 +12,8 @@ use Rattle.bl_image.specs.Image.{Image}
 use Rattle.bl_trace.specs.StartFiles.{answer_of}
 use Rattle.bl_trace.specs.declared.error.StartError.{StartError}
 use Rattle.bl_trace.specs.declared.error.StartError.TheVariants.{Line, Count}
-use Rattle.bl_job.specs.Refusals.{Refusal, not_an_image, broken_rule, no_export, bad_line, few_arguments}
+use Rattle.bl_job.specs.Refusals.{Refusal, refusal_of}
+use Rattle.bl_job.specs.declared.status.Reason.TheVariants as why
 use Rattle.bl_job.specs.Stages.{Stage, chain}
 
 -- ---- programs
@@ -20,6 +22,14 @@ use Rattle.bl_job.specs.Stages.{Stage, chain}
 pub record IsImaged (bytes : List ℕ) (program : Program) : Type 0 where
   pub image : Image program bytes
   pub rules : IsWellFormed program
+
+-- the bytes of a file are the image of no program
+abbrev pub not_an_image : Refusal
+not_an_image = refusal_of why.Image (codes "image: not an image" ∷ [])
+
+-- the first rule that a program breaks, and the position where it does
+abbrev pub broken_rule : (rule position : ℕ) → Refusal
+broken_rule rule position = refusal_of why.Image (codes "image: rule " ∷ (decimal rule ++ codes " at ") ∷ decimal position ∷ [])
 
 pub data ImagingRefuses (bytes : List ℕ) (refusal : Refusal) : Type 0 where
   -- the bytes are the image of no program
@@ -49,6 +59,10 @@ pub record Finds (export : List ℕ) (program : Program) (entry : Entry) : Type 
   pub same_program : entry.program ≡ program
   pub exported : function_named export program.exports ≡ Some entry.function
   pub defined : slice_get program.functions entry.function ≡ Some entry.defined
+
+-- no function is exported under the name
+abbrev pub no_export : Refusal
+no_export = refusal_of why.Start (codes "start: export" ∷ [])
 
 -- no function is
 pub record FindingRefuses (export : List ℕ) (program : Program) (refusal : Refusal) : Type 0 where
@@ -81,6 +95,14 @@ asked bytes entry = answer_of (kinds_of entry.defined) (pages_of entry.program) 
 pub record Starts (bytes : List ℕ) (entry : Entry) (entered : Entered) : Type 0 where
   pub same_entry : entered.entry ≡ entry
   pub read : asked bytes entry ≡ Ok entered.start
+
+-- a line of a start file, by its number, from 1
+abbrev pub bad_line : ℕ → Refusal
+bad_line number = refusal_of why.Start (codes "start: line " ∷ decimal number ∷ [])
+
+-- how many arguments there are
+abbrev pub few_arguments : ℕ → Refusal
+few_arguments count = refusal_of why.Start (codes "start: arguments " ∷ decimal count ∷ [])
 
 pub data StartingRefuses (bytes : List ℕ) (entry : Entry) (refusal : Refusal) : Type 0 where
   -- a line is bad; the first one

@@ -6,4 +6,5 @@ pub mod Loading
 pub mod Meaning
 pub mod Running
 pub mod Tracing
+pub mod Weighing
 pub mod Working

@@ -1,6 +1,7 @@
 -- From the bytes of modules to the linked tree, in stages: all are decoded, then all validated, then the labels of each are read, and
 -- then they are linked.
-use Rattle.std.specs.Prelude.{◌≡◌, ◌≤◌, ℕ, List, length, map, slice_get, Option, Some, None, Result, Ok, Err}
+use Rattle.std.specs.Fmt.{decimal}
+use Rattle.std.specs.Prelude.{◌≡◌, ◌≤◌, ◌++◌, ℕ, List, [], ◌∷◌, codes, length, map, slice_get, Option, Some, None, Result, Ok, Err}
 use Rattle.std.specs.List.{All, AllZip, zip}
 use Rattle.bl_base.specs.Fits.{AreBytes}
 use Rattle.bl_base.specs.Quantity.{limit_of}
@@ -25,9 +26,8 @@ use Rattle.bl_link.specs.Linkable.{NoSolidus}
 use Rattle.bl_link.specs.Links.{links, part_of}
 use Rattle.bl_link.specs.declared.part.Part.{Part as LinkPart}
 use Rattle.bl_link.specs.declared.error.LinkError.TheVariants.{Unknown, Mismatch, ElementRange, DataRange, Limit}
-use Rattle.bl_job.specs.Refusals.{Refusal, malformed, invalid_function, invalid_module, unsupported, limit, unknown_import, mismatched_import, element_range, data_range, bad_labels}
-use Rattle.bl_job.specs.declared.refusal.LabelFault.{LabelFault}
-use Rattle.bl_job.specs.declared.refusal.LabelFault.TheVariants as fault
+use Rattle.bl_job.specs.Refusals.{Refusal, limit, refusal_of}
+use Rattle.bl_job.specs.declared.status.Reason.TheVariants as why
 use Rattle.bl_text.specs.Names.{module_name}
 use Rattle.bl_job.specs.Stages.{Stage, chain, each}
 
@@ -69,6 +69,14 @@ pub record Decodes (part : Part) (named : Named) : Type 0 where
   pub supported : IsSupported named.tree
   pub within : first_excess named.tree ≡ None
 
+-- a module's bytes are not in the grammar
+abbrev pub malformed : List ℕ → Refusal
+malformed name = refusal_of why.Malformed (codes "malformed: " ∷ name ∷ [])
+
+-- a module has something that isn't supported
+abbrev pub unsupported : List ℕ → Refusal
+unsupported name = refusal_of why.Unsupported (codes "unsupported: " ∷ name ∷ [])
+
 pub data DecodingRefuses (part : Part) (refusal : Refusal) : Type 0 where
   -- the bytes spell no module
   no_module : ((tree : Module) → Spells part.bytes tree → ⊥) → refusal ≡ malformed part.name → DecodingRefuses part refusal
@@ -87,6 +95,14 @@ decoding = record { Passes = Decodes; Refuses = DecodingRefuses }
 pub record IsPassed (Holds : Module → Type 0) (old new : Named) : Type 0 where
   pub same : new ≡ old
   pub holds : Holds old.tree
+
+-- the first function of a module that has no typing, by its index, imports first
+abbrev pub invalid_function : List ℕ → ℕ → Refusal
+invalid_function name index = refusal_of why.Invalid (codes "invalid: " ∷ name ∷ codes " function " ∷ decimal index ∷ [])
+
+-- each function of a module has a typing, and the module breaks another rule
+abbrev pub invalid_module : List ℕ → Refusal
+invalid_module name = refusal_of why.Invalid (codes "invalid: " ∷ name ∷ codes " module" ∷ [])
 
 -- a reason for not being valid as a refusal; want of memory is none
 abbrev pub IsRefusalOf : List ℕ → Invalid → Refusal → Type 0
@@ -122,18 +138,22 @@ pub record ReadsLabels (named : Named) (labelled : LabelledModule) : Type 0 wher
   pub told : AreTold named.tree (Ok labelled.labels)
 
 -- what is wrong with labels as a refusal says it; want of memory is nothing wrong
-abbrev pub fault_of : LabelError → Option LabelFault
-fault_of label_error.Malformed = Some fault.Malformed
-fault_of label_error.Twice = Some fault.Twice
-fault_of label_error.OutOfRange = Some fault.OutOfRange
-fault_of label_error.OnImport = Some fault.OnImport
-fault_of label_error.Both = Some fault.Both
+abbrev pub fault_of : LabelError → Option (List ℕ)
+fault_of label_error.Malformed = Some (codes " malformed")
+fault_of label_error.Twice = Some (codes " twice")
+fault_of label_error.OutOfRange = Some (codes " out of range")
+fault_of label_error.OnImport = Some (codes " on import")
+fault_of label_error.Both = Some (codes " both")
 fault_of label_error.Memory = None
+
+-- the labels of a module break a rule
+abbrev pub bad_labels : List ℕ → List ℕ → Refusal
+bad_labels name wrong = refusal_of why.Labels (codes "labels: " ∷ name ∷ wrong ∷ [])
 
 -- the labels of a module break a rule; the first one
 pub record LabelsRefuse (named : Named) (refusal : Refusal) : Type 0 where
   pub error : LabelError
-  pub wrong : LabelFault
+  pub wrong : List ℕ
   pub told : AreTold named.tree (Err error)
   pub is_fault : fault_of error ≡ Some wrong
   pub is_refusal : refusal ≡ bad_labels named.name wrong
@@ -151,6 +171,26 @@ linked_parts labelled = map (λ each. part_of each.name each.tree each.labels) l
 pub record Links (labelled : List LabelledModule) (tree : Tree) : Type 0 where
   pub is_tree : links (linked_parts labelled) ≡ Ok tree
   pub can_run : IsLinked tree
+
+-- an import of a module, by its number, from 0, with what is wrong of it
+abbrev pub bad_import : List ℕ → ℕ → List ℕ → Refusal
+bad_import name import wrong = refusal_of why.Link (codes "link: " ∷ name ∷ (codes " import " ++ decimal import ++ wrong) ∷ [])
+
+-- no module before this one is of the name that an import of it has and exports anything of the name
+abbrev pub unknown_import : List ℕ → ℕ → Refusal
+unknown_import name import = bad_import name import (codes " unknown")
+
+-- what an import of a module is given doesn't match
+abbrev pub mismatched_import : List ℕ → ℕ → Refusal
+mismatched_import name import = bad_import name import (codes " mismatch")
+
+-- an element segment of a module doesn't lie in its table
+abbrev pub element_range : List ℕ → Refusal
+element_range name = refusal_of why.Link (codes "link: " ∷ name ∷ codes " element" ∷ [])
+
+-- a data segment of a module doesn't lie in the first bytes of its memory
+abbrev pub data_range : List ℕ → Refusal
+data_range name = refusal_of why.Link (codes "link: " ∷ name ∷ codes " data" ∷ [])
 
 -- why modules aren't linked, with the name of the module whose import or segment it is
 pub data LinkingRefuses (labelled : List LabelledModule) (refusal : Refusal) : Type 0 where

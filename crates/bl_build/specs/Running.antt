@@ -7,7 +7,8 @@ use Rattle.bl_wasm.specs.declared.linked.Signature.{Signature}
 use Rattle.bl_wasm.specs.declared.linked.Tree.{Tree}
 use Rattle.bl_trace.specs.StartFiles.{answer_of}
 use Rattle.bl_trace.specs.declared.error.StartError.TheVariants.{Line, Count}
-use Rattle.bl_job.specs.Refusals.{Refusal, no_export, bad_line, few_arguments}
+use Rattle.bl_job.specs.Refusals.{Refusal}
+use Rattle.bl_build.specs.Entering.{bad_line, few_arguments, no_export}
 use Rattle.bl_job.specs.Stages.{Stage, chain}
 use Rattle.bl_build.specs.Loading.{Part, loading}
 

@@ -1,14 +1,16 @@
 -- From the bytes of an image to an exported function of its program with the directives of a trace file and a start, or two starts.
-use Rattle.std.specs.Prelude.{◌≡◌, ℕ, ◌<◌, ◌≤◌, List, length, Ok, Err}
+use Rattle.std.specs.Fmt.{decimal}
+use Rattle.std.specs.Prelude.{◌≡◌, ℕ, ◌<◌, ◌≤◌, List, [], ◌∷◌, codes, length, Ok, Err}
 use Rattle.bl_base.specs.Quantity.{limit_of}
 use Rattle.bl_base.specs.declared.quantity.Quantity.TheVariants as quantity
 use Rattle.bl_cmd.specs.declared.definitions.ProgramParts.{ProgramParts as Program}
 use Rattle.bl_rob.specs.declared.directive.Directive.{Directive}
 use Rattle.bl_trace.specs.Lines.{lines_of}
 use Rattle.bl_trace.specs.Traces.{trace_of}
-use Rattle.bl_build.specs.Entering.{Entered, Entry, Starts, StartingRefuses, finding, imaging}
-use Rattle.bl_job.specs.Refusals.{Refusal, bad_directive, limit}
-use Rattle.bl_job.specs.Stages.{Stage, chain}
+use Rattle.bl_build.specs.Entering.{Entered, Entry, finding, imaging, starting}
+use Rattle.bl_job.specs.Refusals.{Refusal, limit, refusal_of}
+use Rattle.bl_job.specs.declared.status.Reason.TheVariants as why
+use Rattle.bl_job.specs.Stages.{Stage, beside, chain}
 use Rattle.bl_base.specs.declared.start.Start.{Start}
 
 -- ---- trace files
@@ -23,6 +25,10 @@ pub record Traces (bytes : List ℕ) (entry : Entry) (traced : Traced) : Type 0 
   pub same_entry : traced.entry ≡ entry
   pub few : length (lines_of bytes) ≤ limit_of quantity.Directives
   pub read : trace_of bytes ≡ Ok traced.directives
+
+-- a line of a trace file, by its number, from 1
+abbrev pub bad_directive : ℕ → Refusal
+bad_directive number = refusal_of why.Trace (codes "trace: line " ∷ decimal number ∷ [])
 
 pub data TracingRefuses (bytes : List ℕ) (refusal : Refusal) : Type 0 where
   -- there are more lines
@@ -44,12 +50,9 @@ pub record Speculated : Type 0 where
   pub directives : List Directive
 
 -- the bytes of a start file ask for that start of the function
-pub record StartsTraced (bytes : List ℕ) (traced : Traced) (speculated : Speculated) : Type 0 where
-  pub same_directives : speculated.directives ≡ traced.directives
-  pub starts : Starts bytes traced.entry speculated.entered
-
 abbrev pub starting_traced : List ℕ → Stage Traced Speculated
-starting_traced bytes = record { Passes = StartsTraced bytes; Refuses = λ traced. StartingRefuses bytes traced.entry }
+starting_traced bytes =
+    beside (λ traced. traced.entry) (starting bytes) (λ traced entered. record { entered = entered; directives = traced.directives })
 
 -- ---- all stages
 
@@ -74,12 +77,9 @@ abbrev pub entry_of : Twinned → Entry
 entry_of twinned = twinned.speculated.entered.entry
 
 -- the bytes of a start file ask for that other start of the function
-pub record StartsOther (bytes : List ℕ) (speculated : Speculated) (twinned : Twinned) : Type 0 where
-  pub same : twinned.speculated ≡ speculated
-  pub starts : Starts bytes speculated.entered.entry (record { entry = speculated.entered.entry; start = twinned.other })
-
 abbrev pub starting_other : List ℕ → Stage Speculated Twinned
-starting_other bytes = record { Passes = StartsOther bytes; Refuses = λ speculated. StartingRefuses bytes speculated.entered.entry }
+starting_other bytes =
+    beside (λ speculated. speculated.entered.entry) (starting bytes) (λ speculated entered. record { speculated = speculated; other = entered.start })
 
 -- from a program to a function of it that is exported under a name, with the directives of a trace file's bytes and the two starts that
 -- the bytes of two start files ask for

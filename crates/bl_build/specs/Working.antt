@@ -1,7 +1,6 @@
 -- What the functions of the stages answer.
-use Rattle.std.specs.Prelude.{◌≡◌, ◌≤◌, ℕ, length, List, map, slice_get, Some, Result, Ok, Err, Vec}
+use Rattle.std.specs.Prelude.{◌≡◌, ◌≤◌, ℕ, length, List, option_map, slice_get, Option, Some, None, Result, Ok, Err}
 use Rattle.std.proofs.Common.{Bor}
-use Rattle.std.specs.declared.alloc.Global.{Global}
 use Rattle.bl_base.specs.Quantity.{limit_of}
 use Rattle.bl_base.specs.declared.quantity.Quantity.TheVariants as quantity
 use Rattle.bl_base.specs.declared.start.Start.{Start}
@@ -11,7 +10,6 @@ use Rattle.bl_image.specs.declared.error.ImageError.TheVariants as image
 use Rattle.bl_decode.specs.declared.error.DecodeError.{DecodeError}
 use Rattle.bl_decode.specs.declared.error.DecodeError.TheVariants as decode
 use Rattle.bl_labels.specs.declared.error.LabelError.{LabelError}
-use Rattle.bl_labels.specs.declared.error.LabelError.TheVariants as label
 use Rattle.bl_link.specs.declared.error.LinkError.{LinkError}
 use Rattle.bl_link.specs.declared.error.LinkError.TheVariants as link
 use Rattle.bl_validate.specs.declared.verdict.Invalid.{Invalid}
@@ -25,18 +23,18 @@ use Rattle.bl_trace.specs.declared.error.TraceError.{TraceError}
 use Rattle.bl_trace.specs.declared.error.TraceError.TheVariants as trace
 use Rattle.bl_wasm.specs.declared.linked.Tree.{Tree}
 use Rattle.bl_build.specs.Building.{Built}
-use Rattle.bl_build.specs.Entering.{Entered, Entry}
+use Rattle.bl_build.specs.Entering.{Entered, Entry, bad_line, broken_rule, few_arguments, not_an_image}
 use Rattle.bl_build.specs.Hardening.{Hardened}
-use Rattle.bl_build.specs.Loading.{LabelledModule, Named}
-use Rattle.bl_job.specs.Refusals.{Refusal, malformed, invalid_function, invalid_module, unsupported, limit, unknown_import, mismatched_import, element_range, data_range, bad_labels, not_an_image, broken_rule, no_export, not_json, other_shape, bad_directive, bad_line, few_arguments}
+use Rattle.bl_build.specs.Loading.{LabelledModule, Named, bad_labels, data_range, element_range, fault_of, invalid_function, invalid_module, malformed, mismatched_import, unknown_import, unsupported}
+use Rattle.bl_job.specs.Refusals.{Refusal, limit}
 use Rattle.bl_build.specs.Running.{Invoked}
-use Rattle.bl_build.specs.Tracing.{Speculated, TracingRefuses}
-use Rattle.bl_build.specs.Certifying.{ReadingRefuses}
+use Rattle.bl_build.specs.Tracing.{Speculated, TracingRefuses, bad_directive}
+use Rattle.bl_build.specs.Certifying.{ReadingRefuses, not_json, other_shape}
 use Rattle.bl_graph.specs.declared.certificate.Certificate.{Certificate}
 use Rattle.bl_witness.specs.Shapes.{Reads}
 use Rattle.bl_witness.specs.declared.error.CertError.{CertError}
 use Rattle.bl_witness.specs.declared.error.CertError.TheVariants as cert
-use Rattle.bl_job.specs.Working.{Tells}
+use Rattle.bl_job.specs.Working.{IsTold, Tells}
 use Rattle.bl_build.specs.declared.build.Built.{Built as BuiltMade}
 use Rattle.bl_build.specs.declared.entry.Entry.{Entry as EntryFound}
 use Rattle.bl_build.specs.declared.harden.Hardened.{Hardened as HardenedMade}
@@ -44,11 +42,7 @@ use Rattle.bl_build.specs.declared.invocation.Invocation.{Invocation}
 use Rattle.bl_build.specs.declared.loading.Checked.{Checked}
 use Rattle.bl_build.specs.declared.loading.Ready.{Ready}
 use Rattle.bl_build.specs.declared.loading.Spelled.{Spelled}
-use Rattle.bl_job.specs.declared.refusal.LabelFault.TheVariants as fault
-use Rattle.bl_job.specs.declared.refusal.Refusal.{Refusal as RefusalTold}
-use Rattle.bl_job.specs.declared.refusal.Refusal.TheVariants as told
 use Rattle.bl_job.specs.declared.refusal.WorkError.{WorkError}
-use Rattle.bl_job.specs.declared.refusal.WorkError.TheVariants as error
 use Rattle.bl_build.specs.declared.speculation.Speculation.{Speculation}
 
 -- modules under their names
@@ -61,62 +55,60 @@ checked_in checked = record { name = checked.name.now; tree = checked.wasm }
 abbrev pub ready_in : Ready → LabelledModule
 ready_in ready = record { name = ready.name.now; tree = ready.wasm; labels = ready.labels }
 
--- an error of decoding a module of that name
-abbrev pub decoding_error : Bor (List ℕ) → DecodeError → WorkError
-decoding_error name decode.Malformed = error.Refused (told.Malformed name)
-decoding_error name decode.Unsupported = error.Refused (told.Unsupported name)
-decoding_error name (decode.Limit which value) = error.Refused (told.Limit which value)
-decoding_error name decode.Memory = error.Memory
+-- ---- errors as the refusals that they are told as; want of memory is told as none
 
--- a reason of validation of a module of that name
-abbrev pub validation_error : Bor (List ℕ) → Invalid → WorkError
-validation_error name (invalid.Function index) = error.Refused (told.InvalidFunction name index)
-validation_error name invalid.Module = error.Refused (told.InvalidModule name)
-validation_error name invalid.Memory = error.Memory
+abbrev pub decoding_told : List ℕ → DecodeError → Option Refusal
+decoding_told name decode.Malformed = Some (malformed name)
+decoding_told name decode.Unsupported = Some (unsupported name)
+decoding_told name (decode.Limit which value) = Some (limit which value)
+decoding_told name decode.Memory = None
 
--- an error of reading the labels of a module of that name
-abbrev pub labels_error : Bor (List ℕ) → LabelError → WorkError
-labels_error name label.Malformed = error.Refused (told.BadLabels name fault.Malformed)
-labels_error name label.Twice = error.Refused (told.BadLabels name fault.Twice)
-labels_error name label.OutOfRange = error.Refused (told.BadLabels name fault.OutOfRange)
-labels_error name label.OnImport = error.Refused (told.BadLabels name fault.OnImport)
-labels_error name label.Both = error.Refused (told.BadLabels name fault.Both)
-labels_error name label.Memory = error.Memory
+abbrev pub validation_told : List ℕ → Invalid → Option Refusal
+validation_told name (invalid.Function index) = Some (invalid_function name index)
+validation_told name invalid.Module = Some (invalid_module name)
+validation_told name invalid.Memory = None
+
+abbrev pub labels_told : List ℕ → LabelError → Option Refusal
+labels_told name error = option_map (bad_labels name) (fault_of error)
 
 -- an error of linking modules of those names, by the name of the part that it names
 abbrev pub IsLinkingError : List (Bor (List ℕ)) → LinkError → WorkError → Type 0
 IsLinkingError names (link.Unknown part import) e =
-    (name : Bor (List ℕ)) × (slice_get names part ≡ Some name) × (e ≡ error.Refused (told.UnknownImport name import))
+    (name : Bor (List ℕ)) × (slice_get names part ≡ Some name) × IsTold (Some (unknown_import name.now import)) e
 IsLinkingError names (link.Mismatch part import) e =
-    (name : Bor (List ℕ)) × (slice_get names part ≡ Some name) × (e ≡ error.Refused (told.MismatchedImport name import))
+    (name : Bor (List ℕ)) × (slice_get names part ≡ Some name) × IsTold (Some (mismatched_import name.now import)) e
 IsLinkingError names (link.ElementRange part) e =
-    (name : Bor (List ℕ)) × (slice_get names part ≡ Some name) × (e ≡ error.Refused (told.ElementRange name))
+    (name : Bor (List ℕ)) × (slice_get names part ≡ Some name) × IsTold (Some (element_range name.now)) e
 IsLinkingError names (link.DataRange part) e =
-    (name : Bor (List ℕ)) × (slice_get names part ≡ Some name) × (e ≡ error.Refused (told.DataRange name))
-IsLinkingError names (link.Limit which value) e = e ≡ error.Refused (told.Limit which value)
-IsLinkingError names link.Memory e = e ≡ error.Memory
+    (name : Bor (List ℕ)) × (slice_get names part ≡ Some name) × IsTold (Some (data_range name.now)) e
+IsLinkingError names (link.Limit which value) e = IsTold (Some (limit which value)) e
+IsLinkingError names link.Memory e = IsTold None e
 
--- an error of reading a start file
-abbrev pub start_error : StartError → WorkError
-start_error (start.Line number) = error.Refused (told.BadLine number)
-start_error (start.Count count) = error.Refused (told.FewArguments count)
-start_error start.Memory = error.Memory
+abbrev pub start_told : StartError → Option Refusal
+start_told (start.Line number) = Some (bad_line number)
+start_told (start.Count count) = Some (few_arguments count)
+start_told start.Memory = None
 
--- an error of reading a trace file
-abbrev pub trace_error : TraceError → WorkError
-trace_error (trace.Line number) = error.Refused (told.BadDirective number)
-trace_error trace.Memory = error.Memory
+abbrev pub trace_told : TraceError → Option Refusal
+trace_told (trace.Line number) = Some (bad_directive number)
+trace_told trace.Memory = None
+
+abbrev pub image_told : ImageError → Option Refusal
+image_told image.NotAnImage = Some not_an_image
+image_told (image.IllFormed rule position) = Some (broken_rule rule position.0)
+image_told image.Memory = None
+
+abbrev pub cert_told : CertError → Option Refusal
+cert_told cert.NotJson = Some not_json
+cert_told cert.Shape = Some other_shape
+cert_told cert.Memory = None
+
+-- ---- values
 
 -- a function of a tree, its type and its start
 abbrev pub invoked_in : Tree → Invocation → Invoked
 invoked_in tree invocation =
     record { tree = tree; function = invocation.function; type = invocation.kind.now; start = invocation.start }
-
--- an error of reading an image
-abbrev pub image_error : ImageError → WorkError
-image_error image.NotAnImage = error.Refused told.NotAnImage
-image_error (image.IllFormed rule position) = error.Refused (told.BrokenRule rule position.0)
-image_error image.Memory = error.Memory
 
 -- a function of a program
 abbrev pub entry_in : Program → EntryFound → Entry
@@ -155,9 +147,3 @@ IsTraced bytes (Err e) = Tells (TracingRefuses bytes) e
 abbrev pub IsCertificateOf : List ℕ → Result Certificate WorkError → Type 0
 IsCertificateOf bytes (Ok certificate) = Reads bytes (Ok certificate)
 IsCertificateOf bytes (Err e) = Tells (ReadingRefuses bytes) e
-
--- an error of reading a certificate
-abbrev pub cert_error : CertError → WorkError
-cert_error cert.NotJson = error.Refused told.NotJson
-cert_error cert.Shape = error.Refused told.OtherShape
-cert_error cert.Memory = error.Memory

@@ -1,18 +1,21 @@
 //! From modules' bytes to their program and the program's image.
-ghost use Rattle.std.specs.Prelude.{◌≡◌, ◌≤◌, length, map};
+ghost use Rattle.std.specs.Prelude.{◌≡◌, ◌≤◌, Some, length, map};
 ghost use Rattle.bl_base.specs.Quantity.{limit_of};
 ghost use Rattle.bl_base.specs.declared.quantity.Quantity.TheVariants as quantity;
 ghost use Rattle.bl_build.specs.Building.{building, compiling, lowering, sizing};
 ghost use Rattle.bl_build.specs.Loading.{AreShort, parts_of};
 ghost use Rattle.bl_text.specs.Names.{AreNamedApart};
+ghost use Rattle.bl_build.specs.Weighing.{building_by, compiling_by, counted_sources, weighing};
+ghost use Rattle.bl_job.specs.Stages.{chain};
 ghost use Rattle.bl_job.specs.Working.{IsStaged, contents_in};
 ghost use Rattle.bl_build.specs.Working.{built_in};
 
+use crate::counts::weighed;
 use crate::loading::load;
 use bl_base::{Quantity, Text};
 use bl_cmd::WellFormed;
 use bl_image::encode;
-use bl_job::{Refusal, WorkError};
+use bl_job::{Content, WorkError, limit};
 use bl_lower::{LowerError, lower};
 use bl_wasm::Linked;
 use std::alloc::Global;
@@ -45,15 +48,11 @@ impl Built {
 /// The program of the modules in files with these contents, and its image; Refused exactly where the modules are refused (`load`), or
 /// the commands of the program or the bytes of its image are above their limit. Linear in the bytes, those of the memories and in
 /// the image.
-pub fn compile<'a>(
-    alloc: Global,
-    words: &[&'a str],
-    contents: &[Vec<u8>],
-) -> Result<Built, WorkError<'a>>
+pub fn compile(alloc: Global, words: &[&str], contents: Vec<Content>) -> Result<Built, WorkError>
     requires few { length words.now ≤ limit_of quantity.Modules }
     requires apart { AreNamedApart (map (λ word. word.now) words.now) }
-    requires short { AreShort (map (λ word. word.now) words.now) (contents_in contents.now) }
-    ensures { IsStaged compiling built_in (parts_of (map (λ word. word.now) words.now) (contents_in contents.now)) result }
+    requires short { AreShort (map (λ word. word.now) words.now) (contents_in contents.items) }
+    ensures { IsStaged compiling built_in (parts_of (map (λ word. word.now) words.now) (contents_in contents.items)) result }
 {
     match load(alloc, words, contents) {
         Ok(linked) => build(alloc, linked),
@@ -62,7 +61,7 @@ pub fn compile<'a>(
 }
 
 /// The program of a linked tree, with its image.
-fn build<'a>(alloc: Global, linked: Linked) -> Result<Built, WorkError<'a>>
+fn build(alloc: Global, linked: Linked) -> Result<Built, WorkError>
     ensures { IsStaged building built_in linked result }
 {
     match lowered(alloc, linked) {
@@ -71,8 +70,48 @@ fn build<'a>(alloc: Global, linked: Linked) -> Result<Built, WorkError<'a>>
     }
 }
 
+/// That program with the weights by the counts of a file's bytes, and its image, whose length is the one that is judged; Refused exactly where the
+/// modules are refused, the program has too many commands, the counts are refused, or the image has too many bytes. Linear in the bytes, those
+/// of the memories and in the image.
+pub(crate) fn compile_by(
+    alloc: Global,
+    words: &[&str],
+    contents: Vec<Content>,
+    counts: &[u8],
+) -> Result<Built, WorkError>
+    requires few { length words.now ≤ limit_of quantity.Modules }
+    requires apart { AreNamedApart (map (λ word. word.now) words.now) }
+    requires short { AreShort (map (λ word. word.now) words.now) (contents_in contents.items) }
+    ensures { IsStaged compiling_by built_in (counted_sources (map (λ word. word.now) words.now) (contents_in contents.items) counts.now) result }
+{
+    match load(alloc, words, contents) {
+        Ok(linked) => build_by(alloc, linked, counts),
+        Err(error) => Err(error),
+    }
+}
+
+/// The program of a linked tree with these weights, and its image.
+fn build_by(alloc: Global, linked: Linked, counts: &[u8]) -> Result<Built, WorkError>
+    ensures { IsStaged (building_by (Some counts.now)) built_in linked result }
+{
+    match lowered(alloc, linked) {
+        Ok(program) => weighed_built(alloc, program, counts),
+        Err(error) => Err(error),
+    }
+}
+
+/// A program with these weights, and its image.
+fn weighed_built(alloc: Global, program: WellFormed, counts: &[u8]) -> Result<Built, WorkError>
+    ensures { IsStaged (chain (weighing counts.now) sizing) built_in program result }
+{
+    match weighed(alloc, program, counts) {
+        Ok(program) => sized(alloc, program),
+        Err(error) => Err(error),
+    }
+}
+
 /// The program of a linked tree, which is freed; Refused exactly where the program has too many commands.
-fn lowered<'a>(alloc: Global, linked: Linked) -> Result<WellFormed, WorkError<'a>>
+fn lowered(alloc: Global, linked: Linked) -> Result<WellFormed, WorkError>
     ensures { IsStaged lowering (λ program. program) linked result }
 {
     let program = program_of(alloc, &linked);
@@ -81,7 +120,7 @@ fn lowered<'a>(alloc: Global, linked: Linked) -> Result<WellFormed, WorkError<'a
 }
 
 /// The program of a linked tree; Refused exactly where it has too many commands.
-fn program_of<'a>(alloc: Global, linked: &Linked) -> Result<WellFormed, WorkError<'a>>
+fn program_of(alloc: Global, linked: &Linked) -> Result<WellFormed, WorkError>
     ensures { IsStaged lowering (λ program. program) linked.now result }
 {
     match lower(alloc, linked) {
@@ -90,25 +129,19 @@ fn program_of<'a>(alloc: Global, linked: &Linked) -> Result<WellFormed, WorkErro
             let _rules = program.program();
             Ok(program)
         }
-        Err(LowerError::Limit(value)) => Err(WorkError::Refused(Refusal::Limit {
-            which: Quantity::Commands,
-            value,
-        })),
+        Err(LowerError::Limit(value)) => Err(limit(alloc, Quantity::Commands, value)),
         Err(LowerError::Memory) => Err(WorkError::Memory),
     }
 }
 
 /// A program with its image; Refused exactly where the image has too many bytes.
-fn sized<'a>(alloc: Global, program: WellFormed) -> Result<Built, WorkError<'a>>
+fn sized(alloc: Global, program: WellFormed) -> Result<Built, WorkError>
     ensures { IsStaged sizing built_in program result }
 {
     let image = encode(alloc, &program)?;
     let length = image.len() as u64;
     if length > Quantity::Image.limit() {
-        return Err(WorkError::Refused(Refusal::Limit {
-            which: Quantity::Image,
-            value: length,
-        }));
+        return Err(limit(alloc, Quantity::Image, length));
     }
     Ok(Built {
         program,

@@ -1,15 +1,15 @@
 //! From the bytes of an image to its program, to an exported function of it, and to a start of the function.
 ghost use Rattle.std.specs.Prelude.{◌≡◌, IfOk, MatchOption, None, Some, slice_get};
 ghost use Rattle.bl_cmd.specs.Outcomes.{IsStart};
-ghost use Rattle.bl_build.specs.Entering.{Finds, function_named, imaging, kinds_of, pages_of, starting};
-ghost use Rattle.bl_job.specs.Working.{IsStaged};
-ghost use Rattle.bl_build.specs.Working.{entered_in, entry_in, image_error};
+ghost use Rattle.bl_build.specs.Entering.{Finds, broken_rule, function_named, imaging, kinds_of, pages_of, starting};
+ghost use Rattle.bl_job.specs.Working.{IsStaged, IsTold};
+ghost use Rattle.bl_build.specs.Working.{entered_in, entry_in, image_told};
 
 use crate::start::of_start;
 use bl_base::{NoMemory, Start, ValueType};
 use bl_cmd::{ExportDef, FunctionDef, MemoryDef, ProgramParts, WellFormed};
 use bl_image::{ImageError, decode_image};
-use bl_job::{Refusal, WorkError};
+use bl_job::{Reason, WorkError, refused, refused_at};
 use bl_trace::read_start;
 use std::alloc::Global;
 
@@ -23,7 +23,7 @@ pub struct Entry<'p> {
 }
 
 /// The program of an image; Refused exactly where the bytes are no image, or its program isn't well-formed.
-pub fn read_image<'a>(alloc: Global, bytes: &[u8]) -> Result<WellFormed, WorkError<'a>>
+pub fn read_image(alloc: Global, bytes: &[u8]) -> Result<WellFormed, WorkError>
     ensures { IsStaged imaging (λ program. program) bytes.now result }
 {
     match decode_image(alloc, bytes) {
@@ -32,21 +32,36 @@ pub fn read_image<'a>(alloc: Global, bytes: &[u8]) -> Result<WellFormed, WorkErr
             let _rules = program.program();
             Ok(program)
         }
-        Err(error) => Err(of_image(error)),
+        Err(error) => Err(of_image(alloc, error)),
     }
 }
 
 /// Why there is no program.
-fn of_image<'a>(error: ImageError) -> WorkError<'a>
-    ensures { result ≡ image_error error }
+fn of_image(alloc: Global, error: ImageError) -> WorkError
+    ensures { IsTold (image_told error) result }
 {
     match error {
-        ImageError::NotAnImage => WorkError::Refused(Refusal::NotAnImage),
-        ImageError::IllFormed { rule, position } => WorkError::Refused(Refusal::BrokenRule {
-            rule,
-            position: position.0,
-        }),
+        ImageError::NotAnImage => refused(alloc, Reason::Image, "image: not an image", "", ""),
+        ImageError::IllFormed { rule, position } => broken_rule(alloc, rule, position.0),
         ImageError::Memory => WorkError::Memory,
+    }
+}
+
+/// The program of an image breaks a rule, at a position.
+fn broken_rule(alloc: Global, rule: u8, position: u32) -> WorkError
+    ensures { IsTold (Some (broken_rule rule position)) result }
+{
+    match format!(in alloc; "{rule} at ") {
+        Ok(rule) => {
+            refused_at(
+                alloc,
+                Reason::Image,
+                "image: rule ",
+                rule.as_str(),
+                u64::from(position),
+            )
+        }
+        Err(_) => WorkError::Memory,
     }
 }
 
@@ -74,12 +89,12 @@ fn number_named(name: &str, exports: &[ExportDef]) -> Option<u32>
 }
 
 /// The start of a function that a start file asks for; Refused exactly where a line is bad or there are too few arguments.
-pub fn read_entry_start<'a>(
+pub fn read_entry_start(
     alloc: Global,
     program: &WellFormed,
     entry: &Entry<'_>,
     bytes: &[u8],
-) -> Result<Start, WorkError<'a>>
+) -> Result<Start, WorkError>
     requires { slice_get program.now.functions entry.now.function ≡ Some entry.now.defined.now }
     ensures staged { IsStaged (starting bytes.now) (entered_in (entry_in program.now entry.now)) (entry_in program.now entry.now) result }
     ensures fits { IfOk result (λ start. IsStart program.now entry.now.function start) }
@@ -88,7 +103,7 @@ pub fn read_entry_start<'a>(
     let pages = pages_of(alloc, program.program().parts())?;
     match read_start(alloc, bytes, kinds.as_slice(), pages.as_slice()) {
         Ok(start) => Ok(start),
-        Err(error) => Err(of_start(error)),
+        Err(error) => Err(of_start(alloc, error)),
     }
 }
 

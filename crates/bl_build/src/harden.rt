@@ -5,17 +5,18 @@ ghost use Rattle.bl_base.specs.declared.quantity.Quantity.TheVariants as quantit
 ghost use Rattle.bl_build.specs.Hardening.{IsHardened, hardening};
 ghost use Rattle.bl_build.specs.Loading.{AreShort, parts_of};
 ghost use Rattle.bl_text.specs.Names.{AreNamedApart};
+ghost use Rattle.bl_build.specs.Weighing.{counted_sources, hardening_by};
 ghost use Rattle.bl_job.specs.Working.{IsStaged, contents_in};
 ghost use Rattle.bl_build.specs.Working.{hardened_in};
 
-use crate::build::compile;
+use crate::build::{compile, compile_by};
 use bl_base::{NoMemory, Text};
 use bl_cmd::WellFormed;
 use bl_ct::{CtVerdict, constant_time};
 use bl_cut::{least_protects_of, protect};
 use bl_graph::{Certificate, graph};
 use bl_image::encode;
-use bl_job::WorkError;
+use bl_job::{Content, WorkError};
 use std::alloc::Global;
 
 /// A program with its protects.
@@ -44,17 +45,36 @@ impl Hardened {
 /// constant time, and the image; Refused exactly where `compile` refuses the modules. The length of the program's own image is judged,
 /// which is freed before the protects are chosen: the one that is made has as many bytes. Costs what `compile` does and a maximum flow
 /// in a network that is linear in the program.
-pub fn compile_hardened<'a>(
+pub fn compile_hardened(
     alloc: Global,
-    words: &[&'a str],
-    contents: &[Vec<u8>],
-) -> Result<Hardened, WorkError<'a>>
+    words: &[&str],
+    contents: Vec<Content>,
+) -> Result<Hardened, WorkError>
     requires few { length words.now ≤ limit_of quantity.Modules }
     requires apart { AreNamedApart (map (λ word. word.now) words.now) }
-    requires short { AreShort (map (λ word. word.now) words.now) (contents_in contents.now) }
-    ensures { IsStaged hardening hardened_in (parts_of (map (λ word. word.now) words.now) (contents_in contents.now)) result }
+    requires short { AreShort (map (λ word. word.now) words.now) (contents_in contents.items) }
+    ensures { IsStaged hardening hardened_in (parts_of (map (λ word. word.now) words.now) (contents_in contents.items)) result }
 {
     match compile(alloc, words, contents) {
+        Ok(built) => Ok(protect_least(alloc, built.into_program())?),
+        Err(error) => Err(error),
+    }
+}
+
+/// The same of the program with the weights by the counts of a file's bytes; Refused exactly where the modules, the program, the counts or the
+/// image with these weights are refused.
+pub fn compile_hardened_by(
+    alloc: Global,
+    words: &[&str],
+    contents: Vec<Content>,
+    counts: &[u8],
+) -> Result<Hardened, WorkError>
+    requires few { length words.now ≤ limit_of quantity.Modules }
+    requires apart { AreNamedApart (map (λ word. word.now) words.now) }
+    requires short { AreShort (map (λ word. word.now) words.now) (contents_in contents.items) }
+    ensures { IsStaged hardening_by hardened_in (counted_sources (map (λ word. word.now) words.now) (contents_in contents.items) counts.now) result }
+{
+    match compile_by(alloc, words, contents, counts) {
         Ok(built) => Ok(protect_least(alloc, built.into_program())?),
         Err(error) => Err(error),
     }

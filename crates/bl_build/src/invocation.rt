@@ -6,9 +6,9 @@ ghost use Rattle.bl_build.specs.Running.{invoking, sizes_of};
 ghost use Rattle.bl_job.specs.Working.{IsStaged};
 ghost use Rattle.bl_build.specs.Working.{invoked_in};
 
-use crate::start::of_start;
+use crate::start::{no_export, of_start};
 use bl_base::{NoMemory, Start};
-use bl_job::{Refusal, WorkError};
+use bl_job::WorkError;
 use bl_trace::read_start;
 use bl_wasm::{Signature, Tree};
 use std::alloc::Global;
@@ -25,18 +25,18 @@ pub struct Invocation<'a> {
 }
 
 /// The function exported under a name, and the start of it that a start file asks for.
-pub fn prepare<'a, 'b>(
+pub fn prepare<'a>(
     alloc: Global,
     tree: &'a Tree,
     export: &str,
     bytes: &[u8],
-) -> Result<Invocation<'a>, WorkError<'b>>
+) -> Result<Invocation<'a>, WorkError>
     requires { IsLinked tree.now }
     ensures invoked { IsStaged (invoking export.now bytes.now) (invoked_in tree.now) tree.now result }
     ensures fits { IfOk result (λ invocation. IsStart tree.now invocation.function invocation.start) }
 {
     let Some(function) = tree.exports.find(export) else {
-        return Err(WorkError::Refused(Refusal::NoExport));
+        return Err(no_export(alloc));
     };
     let kind = signature(tree, function);
     let sizes = sizes_of(alloc, tree)?;
@@ -46,7 +46,7 @@ pub fn prepare<'a, 'b>(
             kind,
             start,
         }),
-        Err(error) => Err(of_start(error)),
+        Err(error) => Err(of_start(alloc, error)),
     }
 }
 

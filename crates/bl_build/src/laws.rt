@@ -11,35 +11,47 @@ ghost use Rattle.bl_transient.specs.declared.transient.FlowVerdict.{FlowVerdict}
 ghost use Rattle.bl_witness.specs.Verdicts.{Checks};
 ghost use Rattle.bl_witness.specs.declared.verdict.CertVerdict.{CertVerdict};
 ghost use Rattle.bl_image.specs.Image.{Image};
-ghost use Rattle.bl_build.specs.Building.{AreCompilable, compiling};
-ghost use Rattle.bl_build.specs.Certifying.{verifying};
-ghost use Rattle.bl_build.specs.Entering.{entering};
+ghost use Rattle.bl_wasm.specs.Linked.{IsLinked};
+ghost use Rattle.bl_build.specs.Building.{AreCompilable, compiling, lowering, sizing};
+ghost use Rattle.bl_build.specs.Certifying.{certifying};
+ghost use Rattle.bl_build.specs.Entering.{finding, imaging, starting};
 ghost use Rattle.bl_build.specs.Hardening.{Hardened, IsHardened};
-ghost use Rattle.bl_build.specs.Loading.{AreLoadable, loading};
-ghost use Rattle.bl_build.specs.Running.{preparing};
+ghost use Rattle.bl_build.specs.Loading.{AreLoadable, decoding, labelling, linking, loading, validation};
+ghost use Rattle.bl_build.specs.Running.{invoking};
 ghost use Rattle.bl_job.specs.Stages.{Anything, IsLawfulStage, IsTotalStage};
-ghost use Rattle.bl_build.specs.Tracing.{speculating, twinning};
+ghost use Rattle.bl_build.specs.Tracing.{tracing};
+ghost use Rattle.bl_build.specs.Weighing.{compiling_by, weighing};
 
-/// Each stage of work on contents makes one thing of them, or refuses them for one reason, and never both.
+/// Each stage makes one thing of a value, or refuses it for one reason, and never both. So do chains of stages and a stage on each of a list.
 pub fn stages_are_lawful()
-    ensures compiling { IsLawfulStage compiling }
-    ensures preparing { (export start : Listed ℕ) → IsLawfulStage (preparing export start) }
-    ensures entering { (export start : Listed ℕ) → IsLawfulStage (entering export start) }
-    ensures speculating { (export trace start : Listed ℕ) → IsLawfulStage (speculating export trace start) }
-    ensures twinning { (export trace start other : Listed ℕ) → IsLawfulStage (twinning export trace start other) }
-    ensures verifying { (certificate : Listed ℕ) → IsLawfulStage (verifying certificate) }
+    ensures decoding { IsLawfulStage decoding }
+    ensures validation { IsLawfulStage validation }
+    ensures labelling { IsLawfulStage labelling }
+    ensures linking { IsLawfulStage linking }
+    ensures lowering { IsLawfulStage lowering }
+    ensures weighing { (counts : Listed ℕ) → IsLawfulStage (weighing counts) }
+    ensures sizing { IsLawfulStage sizing }
+    ensures invoking { (export start : Listed ℕ) → IsLawfulStage (invoking export start) }
+    ensures imaging { IsLawfulStage imaging }
+    ensures finding { (export : Listed ℕ) → IsLawfulStage (finding export) }
+    ensures starting { (start : Listed ℕ) → IsLawfulStage (starting start) }
+    ensures tracing { (trace : Listed ℕ) → IsLawfulStage (tracing trace) }
+    ensures certifying { (certificate : Listed ℕ) → IsLawfulStage (certifying certificate) }
 {}
 
-/// Each of these stages makes something of contents, or refuses them: it can't be that neither is so. Of modules this is said where
-/// they can be loaded, of compiling them where their names are texts too, and of the bytes of other files without a condition.
+/// Each of these stages makes something of a value, or refuses it: it can't be that neither is so. Of modules this is said where
+/// they can be loaded, of compiling them where their names are texts too, of linked trees and programs where they can be run, and of the bytes of
+/// other files without a condition. So do chains of stages.
 pub fn stages_are_total()
     ensures loading { IsTotalStage AreLoadable loading }
     ensures compiling { IsTotalStage AreCompilable compiling }
-    ensures preparing { (export start : Listed ℕ) → IsTotalStage AreLoadable (preparing export start) }
-    ensures entering { (export start : Listed ℕ) → IsTotalStage Anything (entering export start) }
-    ensures speculating { (export trace start : Listed ℕ) → IsTotalStage Anything (speculating export trace start) }
-    ensures twinning { (export trace start other : Listed ℕ) → IsTotalStage Anything (twinning export trace start other) }
-    ensures verifying { (certificate : Listed ℕ) → IsTotalStage Anything (verifying certificate) }
+    ensures compiling_by { IsTotalStage (λ sources. AreCompilable sources.parts) compiling_by }
+    ensures invoking { (export start : Listed ℕ) → IsTotalStage IsLinked (invoking export start) }
+    ensures imaging { IsTotalStage Anything imaging }
+    ensures finding { (export : Listed ℕ) → IsTotalStage IsWellFormed (finding export) }
+    ensures starting { (start : Listed ℕ) → IsTotalStage Anything (starting start) }
+    ensures tracing { (trace : Listed ℕ) → IsTotalStage Anything (tracing trace) }
+    ensures certifying { (certificate : Listed ℕ) → IsTotalStage IsWellFormed (certifying certificate) }
 {}
 
 /// Well-formed programs have verdicts: by the rules of certificates on each certificate, by the transient rules on each set of sites,

@@ -4,6 +4,7 @@
 
 mod build;
 mod certificate;
+mod counts;
 mod directives;
 mod entry;
 mod harden;
@@ -16,7 +17,8 @@ mod start;
 pub use build::{Built, compile};
 pub use certificate::read_certificate;
 pub use entry::{Entry, find_entry, read_entry_start, read_image};
-pub use harden::{Hardened, compile_hardened};
+pub use harden::{Hardened, compile_hardened, compile_hardened_by};
 pub use invocation::{Invocation, prepare};
 pub use loading::load;
 pub use speculation::{Speculation, prepare_speculation};
+pub use start::no_export;

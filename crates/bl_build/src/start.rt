@@ -1,17 +1,33 @@
-//! Start files that give no start.
-ghost use Rattle.std.specs.Prelude.{◌≡◌};
-ghost use Rattle.bl_build.specs.Working.{start_error};
+//! Exports that are absent, and start files that give no start.
+ghost use Rattle.std.specs.Prelude.{Some};
+ghost use Rattle.bl_build.specs.Entering.{no_export};
+ghost use Rattle.bl_job.specs.Working.{IsTold};
+ghost use Rattle.bl_build.specs.Working.{start_told};
 
-use bl_job::{Refusal, WorkError};
+use bl_job::{Reason, WorkError, refused, refused_at};
 use bl_trace::StartError;
+use std::alloc::Global;
 
 /// Why a function isn't run whose start file gives no start.
-pub fn of_start<'a>(error: StartError) -> WorkError<'a>
-    ensures { result ≡ start_error error }
+pub fn of_start(alloc: Global, error: StartError) -> WorkError
+    ensures { IsTold (start_told error) result }
 {
     match error {
-        StartError::Line(number) => WorkError::Refused(Refusal::BadLine(number)),
-        StartError::Count(count) => WorkError::Refused(Refusal::FewArguments(count)),
+        StartError::Line(number) => refused_at(alloc, Reason::Start, "start: line ", "", number),
+        StartError::Count(count) => refused_at(
+            alloc,
+            Reason::Start,
+            "start: arguments ",
+            "",
+            count,
+        ),
         StartError::Memory => WorkError::Memory,
     }
+}
+
+/// No function is exported under a name.
+pub fn no_export(alloc: Global) -> WorkError
+    ensures { IsTold (Some no_export) result }
+{
+    refused(alloc, Reason::Start, "start: export", "", "")
 }

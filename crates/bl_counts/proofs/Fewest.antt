@@ -1,83 +1,23 @@
 -- The least set by counts of a run is executed least in it.
-use Rattle.std.proofs.Common.{◌≡◌, ℕ, zero, suc, ◌+◌, ◌*◌, ◌^◌, ◌<◌, ◌≤◌, ◌⊎◌, inl, inr, Bool, true, false, List, [], ◌∷◌, length, map, Option, Some, None, slice_get, unwrap_or, refl, sym, ap, subst, ◌∙◌, arith}
+use Rattle.std.proofs.Common.{◌≡◌, ℕ, zero, suc, ◌+◌, ◌*◌, ◌^◌, ◌<◌, ◌≤◌, ◌⊎◌, inl, inr, Bool, true, false, List, [], ◌∷◌, length, Option, Some, None, slice_get, unwrap_or, refl, sym, ap, subst, ◌∙◌, arith}
 use Rattle.std.specs.Prelude.{◌==◌, ◌&&◌, IsSome, is_some, option_map, option_and_then, if◌then◌else◌, count_by}
-use Rattle.std.proofs.Math.Path.{fun_ext}
 use Rattle.std.proofs.lemmas.Bool.{ne_eqb, eq-eqb, cases_lt, false≢true}
 use Rattle.std.proofs.lemmas.List.Sums.{sum_by-cons}
-use Rattle.std.proofs.lemmas.Option.{slice_get-map}
 use Rattle.bl_base.specs.Sums.{sum_below}
-use Rattle.bl_base.specs.Runs.{Next}
 use Rattle.bl_base.specs.declared.start.Start.{Start}
 use Rattle.bl_base.proofs.Sums.{sum_same, sum_change, sum_none}
-use Rattle.bl_cmd.specs.Layout.{command_at}
-use Rattle.bl_cmd.specs.Outcomes.{opening}
 use Rattle.bl_cmd.specs.Rules.{IsWellFormed}
 use Rattle.bl_cmd.specs.Sites.{mark_of, mark_at, site_weight, weight_of, IsSite}
-use Rattle.bl_cmd.specs.Steps.{Plain, perform, plain_step, ret}
 use Rattle.bl_cmd.specs.declared.command.Mark.{Mark}
 use Rattle.bl_cmd.specs.declared.command.Command.{Command}
-use Rattle.bl_cmd.specs.declared.command.Command.TheVariants.{Set, Load, Store, Test, Jump, Arg, Call, Out, Ret, Trap}
 use Rattle.bl_cmd.specs.declared.definitions.ProgramParts.{ProgramParts as Program}
 use Rattle.bl_graph.specs.Ranges.{AreSites}
 use Rattle.bl_transient.specs.Transient.{Passes}
 use Rattle.bl_cut.specs.Least.{Least}
-use Rattle.bl_counts.specs.Counting.{IsFewer, executions, sites, bare, bare_command, count_in, counts_from, counts_of, exec, executed, is_site, size_of, stepped, times, weight_by, weighed, with_count}
+use Rattle.bl_counts.specs.Counting.{IsFewer, executions, sites, bare, count_in, counts_from, counts_of, exec, executed, is_site, size_of, times, weight_by, weighed, with_count}
 use Rattle.bl_counts.specs.declared.counts.SiteCount.{SiteCount}
+use Rattle.bl_counts.proofs.Bare.{is_site_same}
 use Rattle.bl_counts.proofs.Weights.{counted, few, weighs, weight_is}
-
--- ---- programs without marks and weights
-
-module _ (program : Program) where
-  performs : (command : Command) (s : Plain) → perform (bare program) (Some (bare_command command)) s ≡ perform program (Some command) s
-  performs (Set mark op to a c d) s = refl
-  performs (Load mark kind memory to offset address) s = refl
-  performs (Store kind memory offset address value) s = refl
-  performs (Test cond one other) s = refl
-  performs (Jump to) s = refl
-  performs (Arg mark function index value) s = refl
-  performs (Call function) s = refl
-  performs (Out mark index value) s = refl
-  performs Ret s = returns s.chain
-    where
-      returns : (chain : List ℕ) → ret (bare program) chain s ≡ ret program chain s
-      returns [] = refl
-      returns (back ∷ chain) = refl
-  performs (Trap kind) s = refl
-
-  steps_same : (s : Plain) → plain_step (bare program) s ≡ plain_step program s
-  steps_same s = ap (λ o. perform (bare program) o s) (slice_get-map bare_command program.commands s.position) ∙ by (command_at program s.position)
-    where
-      by : (o : Option Command) → perform (bare program) (option_map bare_command o) s ≡ perform program o s
-      by None = refl
-      by (Some command) = performs command s
-
-  runs_same : (function : ℕ) (start : Start) (steps : ℕ) → executed (bare program) function start steps ≡ executed program function start steps
-  runs_same function start steps =
-      ap (λ (step : Plain → Next Plain). map (λ (s : Plain). s.position) (stepped step steps (opening program function start))) (fun_ext steps_same)
-
-  sites_same : (s : ℕ) → is_site (bare program) s ≡ is_site program s
-  sites_same s = ap (λ o. is_some (option_and_then mark_of o)) (slice_get-map bare_command program.commands s) ∙ by (command_at program s)
-    where
-      by : (o : Option Command) → is_some (option_and_then mark_of (option_map bare_command o)) ≡ is_some (option_and_then mark_of o)
-      by None = refl
-      by (Some (Set mark op to a c d)) = refl
-      by (Some (Load mark kind memory to offset address)) = refl
-      by (Some (Store kind memory offset address value)) = refl
-      by (Some (Test cond one other)) = refl
-      by (Some (Jump to)) = refl
-      by (Some (Arg mark function index value)) = refl
-      by (Some (Call function)) = refl
-      by (Some (Out mark index value)) = refl
-      by (Some Ret) = refl
-      by (Some (Trap kind)) = refl
-
-module _ (one other : Program) (same : bare one ≡ bare other) where
-  pub executed_same : (function : ℕ) (start : Start) (steps : ℕ) → executed one function start steps ≡ executed other function start steps
-  executed_same function start steps =
-      sym (runs_same one function start steps) ∙ ap (λ (p : Program). executed p function start steps) same ∙ runs_same other function start steps
-
-  pub is_site_same : (s : ℕ) → is_site one s ≡ is_site other s
-  is_site_same s = sym (sites_same one s) ∙ ap (λ (p : Program). is_site p s) same ∙ sites_same other s
 
 -- ---- the count that is named for a site
 

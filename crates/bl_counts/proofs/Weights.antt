@@ -295,6 +295,20 @@ is_well_formed program counts small w = keeps_rules (count_in counts) program be
         let part = sum_le (length program.commands) (λ s. if is_site program s then count_in counts s else 0) (count_in counts) (λ s lt. least (is_site program s) (count_in counts s)) in
         omega arith
 
+-- the count of a position is at most the sum of all
+at_most_total : (counts : List SiteCount) (s : ℕ) → count_in counts s ≤ total counts
+at_most_total [] s = omega arith
+at_most_total (one ∷ others) s = let rest = at_most_total others s in let all = sum_by-cons (λ (c : SiteCount). c.count) one others in by (one.at.0 == s) rest
+  where
+    by : (b : Bool) → count_in others s ≤ total others → unwrap_or (option_map (λ (c : SiteCount). c.count) (if b then Some one else find (λ (c : SiteCount). c.at.0 == s) others)) 0 ≤ total (one ∷ others)
+    by true rest = let all = sum_by-cons (λ (c : SiteCount). c.count) one others in omega arith
+    by false rest = let all = sum_by-cons (λ (c : SiteCount). c.count) one others in omega arith
+
+-- each weight is a number of 64 bits
+pub small_weights : (program : Program) (counts : List SiteCount) → total counts < 2 ^ 32 → All (λ (entry : SiteWeight). entry.weight < 2 ^ 64) (weighed counts program).weights
+small_weights program counts few =
+    all_weights (count_in counts) (λ (entry : SiteWeight). entry.weight < 2 ^ 64) 0 program.commands (λ k mark e. let le = at_most_total counts (0 + k) in omega arith)
+
 -- the parts with other weights
 pub made_is : (program parts : Program) (weights other : List SiteWeight) → parts ≡ program → weights ≡ other
     → (let made : Program = record parts { weights = weights } in made) ≡ record program { weights = other }

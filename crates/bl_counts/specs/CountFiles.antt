@@ -1,6 +1,7 @@
 -- Count files: a program's number of commands, and how often its sites were executed.
-use Rattle.std.specs.Prelude.{◌≡◌, ℕ, zero, suc, ◌+◌, ◌^◌, ◌==◌, if◌then◌else◌, List, [], ◌∷◌, take, drop, Option, Some, None, Result, Ok, Err, codes}
-use Rattle.std.specs.List.{before_first, after_first}
+use Rattle.std.specs.Prelude.{◌≡◌, ℕ, zero, suc, ◌+◌, ◌^◌, ◌==◌, if◌then◌else◌, List, [], ◌∷◌, ◌++◌, take, drop, Option, Some, None, Result, Ok, Err, codes}
+use Rattle.std.specs.Fmt.{decimal}
+use Rattle.std.specs.List.{before_first, after_first, flat_map}
 use Rattle.std.specs.Str.{bytes_eq}
 use Rattle.bl_counts.specs.declared.file.CountFile.{CountFile}
 use Rattle.bl_counts.specs.declared.counts.SiteCount.{SiteCount}
@@ -53,3 +54,13 @@ abbrev pub IsCountFile : Result CountFile ℕ → Result CountFile CountFileErro
 IsCountFile asked (Ok file) = asked ≡ Ok file
 IsCountFile asked (Err (Line number)) = asked ≡ Err number
 IsCountFile asked (Err Memory) = Unit {0}
+
+-- ---- texts
+
+-- the line of a site and its count
+abbrev pub site_text : SiteCount → List ℕ
+site_text one = codes "site " ++ decimal one.at.0 ++ codes " " ++ decimal one.count ++ 10 ∷ []
+
+-- the text of a count file: the program's number of commands, and each count
+abbrev pub counts_text : ℕ → List SiteCount → List ℕ
+counts_text commands counts = codes "commands " ++ decimal commands ++ 10 ∷ [] ++ flat_map site_text counts

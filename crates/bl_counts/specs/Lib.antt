@@ -1,4 +1,5 @@
 pub mod Answers
 pub mod CountFiles
 pub mod Counting
+pub mod Recorded
 pub mod Tallies

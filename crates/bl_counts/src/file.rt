@@ -1,13 +1,13 @@
 //! Count files.
-ghost use Rattle.std.specs.Prelude.{◌≡◌, ◌<◌, ◌^◌, IfOk, IfSome};
-ghost use Rattle.std.specs.List.{All};
-ghost use Rattle.bl_counts.specs.CountFiles.{IsCountFile, commands_of, count_file_of, site_in, site_of, with_commands};
+ghost use Rattle.std.specs.Prelude.{◌≡◌, ◌<◌, ◌++◌, ◌^◌, IfOk, IfSome};
+ghost use Rattle.std.specs.List.{All, flat_map};
+ghost use Rattle.bl_counts.specs.CountFiles.{IsCountFile, commands_of, count_file_of, counts_text, site_in, site_of, site_text, with_commands};
 ghost use Rattle.bl_trace.specs.Items.{items_of};
 ghost use Rattle.bl_trace.specs.Lines.{lines_of};
 
 use crate::counts::SiteCount;
 use crate::error::CountFileError;
-use bl_base::{List, Pos};
+use bl_base::{List, NoMemory, Pos};
 use bl_text::read_decimal;
 use bl_trace::place_of;
 use std::alloc::Global;
@@ -98,4 +98,42 @@ fn read_pair(text: &[u8]) -> Option<SiteCount>
         at: Pos(at as u32),
         count,
     })
+}
+
+/// The text of a count file: a line of the program's number of commands, and a line of each count. What `read_counts` says of it is that
+/// number and these counts, where none is 0 or above 4,294,967,295. Linear in the counts.
+pub fn counts_text(alloc: Global, commands: u64, counts: &[SiteCount]) -> Result<Vec<u8>, NoMemory>
+    ensures { IfOk result (λ text. text.items ≡ counts_text commands counts.now) }
+{
+    let head = format!(in alloc; "commands {commands}\n")?;
+    let mut text = head.into_bytes();
+    push_sites(alloc, &mut text, counts)?;
+    Ok(text)
+}
+
+/// Puts a line of each count behind the text.
+fn push_sites(alloc: Global, text: &mut Vec<u8>, counts: &[SiteCount]) -> Result<(), NoMemory>
+    ensures { IfOk result (λ _. text.new.items ≡ text.old.items ++ flat_map site_text counts.now) }
+{
+    for one in counts {
+        push_site(alloc, text, one.at, one.count)?;
+    }
+    Ok(())
+}
+
+/// Puts the line of a site and its count behind the text.
+fn push_site(alloc: Global, text: &mut Vec<u8>, at: Pos, count: u64) -> Result<(), NoMemory>
+    ensures { IfOk result (λ _. text.new.items ≡ text.old.items ++ site_text (record { at = at; count = count })) }
+{
+    let line = site_line(alloc, at.0, count)?;
+    text.extend_from_slice(&line)?;
+    Ok(())
+}
+
+/// The line of a site and its count.
+fn site_line(alloc: Global, at: u32, count: u64) -> Result<Vec<u8>, NoMemory>
+    ensures { IfOk result (λ text. text.items ≡ site_text (record { at = record { 0 = at }; count = count })) }
+{
+    let text = format!(in alloc; "site {at} {count}\n")?;
+    Ok(text.into_bytes())
 }

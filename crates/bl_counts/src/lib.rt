@@ -10,6 +10,6 @@ mod weighing;
 
 pub use counts::{Counted, SiteCount};
 pub use error::{CountError, CountFileError};
-pub use file::{CountFile, read_counts};
+pub use file::{CountFile, counts_text, read_counts};
 pub use tally::count_run;
 pub use weighing::weigh;

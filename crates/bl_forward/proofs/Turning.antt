@@ -1,5 +1,5 @@
 -- What an entry comes to is the step of the rules.
-use Rattle.std.proofs.Common.{◌≡◌, ℕ, ◌*◌, ◌^◌, ◌<◌, ◌≤◌, Bool, true, false, List, [], ◌∷◌, length, take, Option, Some, None, refl, sym, ap, ◌∙◌, subst}
+use Rattle.std.proofs.Common.{◌≡◌, ℕ, ◌*◌, ◌^◌, ◌<◌, Bool, true, false, List, [], ◌∷◌, length, take, Option, Some, None, refl, sym, ap, ◌∙◌, subst}
 use Rattle.std.proofs.lemmas.Bool.{eqb-true}
 use Rattle.std.specs.Prelude.{◌&&◌, nat_eq, if◌then◌else◌, slice_get, Result, Ok, Err}
 use Rattle.std.specs.Option.{ok_or}
@@ -28,7 +28,7 @@ use Rattle.bl_rob.proofs.Keeps.{Holds}
 use Rattle.bl_rob.proofs.Reaching.{KeepAll}
 use Rattle.bl_rob.proofs.Rooms.{Fits, acted_fits, comes_fit, executes, step_fits, within}
 use Rattle.bl_forward.specs.Calls.{ForwardSteps, as_plain, found_behind, is_enabled, turned, turned_at, turned_by, turned_from, turned_where}
-use Rattle.bl_forward.specs.Forwarding.{exec_at, exec_work, fills, found_from, found_in, forward_step, plainly, settled, supplied, supplies, takes}
+use Rattle.bl_forward.specs.Forwarding.{exec_at, exec_work, fills, found_from, found_in, forward_step, plainly, settled, supplied, takes}
 use Rattle.bl_forward.specs.declared.find.Found.{Found}
 use Rattle.bl_forward.specs.declared.find.Found.TheVariants.{Memory, Stored, Blocked}
 use Rattle.bl_forward.specs.declared.load.Turn.{Turn}

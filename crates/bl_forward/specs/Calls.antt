@@ -1,5 +1,5 @@
 -- What the calls of the machine answer.
-use Rattle.std.specs.Prelude.{◌≡◌, ℕ, Bool, true, false, if◌then◌else◌, List, take, Option, Some, None, slice_get, Result, Ok, Err}
+use Rattle.std.specs.Prelude.{ℕ, Bool, if◌then◌else◌, List, take, Option, Some, None, slice_get, Result, Ok, Err}
 use Rattle.bl_ops.specs.Access.{extended, width_of}
 use Rattle.bl_ops.specs.declared.access.AccessKind.{AccessKind}
 use Rattle.bl_cmd.specs.Steps.{effective, loaded}

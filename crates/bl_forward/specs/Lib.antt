@@ -1,4 +1,6 @@
 pub mod Calls
 pub mod Forwarding
 pub mod LastStores
+pub mod Laws
+pub mod Sights
 pub mod Verdicts

@@ -1,7 +1,7 @@
 //! Laws of the machine that forwards stores. Each function is its contract alone.
-ghost use Rattle.std.specs.Prelude.{◌≡◌, ◌↔◌, ℕ, List};
+ghost use Rattle.std.specs.Prelude.{◌≡◌, ◌↔◌, ◌≤◌, ℕ, List};
 ghost use Rattle.bl_base.specs.declared.start.Start.{Start};
-ghost use Rattle.bl_cmd.specs.Outcomes.{IsStart, opening as plain_opening};
+ghost use Rattle.bl_cmd.specs.Outcomes.{Agree, IsStart, opening as plain_opening};
 ghost use Rattle.bl_cmd.specs.Programs.{IsProgram};
 ghost use Rattle.bl_cmd.specs.Rules.{IsWellFormed};
 ghost use Rattle.bl_cmd.specs.Sites.{is_protected};
@@ -12,8 +12,11 @@ ghost use Rattle.bl_rob.specs.Observed.{IsConsistent, after_by};
 ghost use Rattle.bl_rob.specs.declared.directive.Directive.{Directive};
 ghost use Rattle.bl_rob.specs.declared.entry.Entry.{Entry};
 ghost use Rattle.bl_transient.specs.Transient.{Passes};
-ghost use Rattle.bl_forward.specs.Forwarding.{HasEqualForwarding, found_in, forward_step};
+ghost use Rattle.bl_twin.specs.Comparing.{comparison_by};
+ghost use Rattle.bl_twin.specs.declared.comparison.Comparison.TheVariants as comparison_is;
+ghost use Rattle.bl_forward.specs.Forwarding.{observed_forwarding, HasEqualForwarding, found_in, forward_step};
 ghost use Rattle.bl_forward.specs.LastStores.{Finds};
+ghost use Rattle.bl_forward.specs.Sights.{are_same};
 ghost use Rattle.bl_forward.specs.declared.find.Found.{Found};
 
 /// Where a load of so many bytes from a place on finds them behind entries: in memory, where no ready store among them meets its range; in
@@ -38,4 +41,13 @@ pub fn consistency()
 pub fn equal_observations()
     ensures { (program : ProgramParts) → IsProgram program → IsWellFormed program → ConstantTime program
         → Passes program (is_protected program) → HasEqualForwarding program }
+{}
+
+/// Where runs of a program from starts that agree in public are observed alike, no comparison of two of them says `Differ`,
+/// whatever the directives and the size of the buffer.
+pub fn safe_programs_never_differ()
+    ensures { (program : ProgramParts) → HasEqualForwarding program → (most : ℕ) → 1 ≤ most → most ≤ 64
+        → (function : ℕ) (directives : List Directive) (one other : Start) → Agree program function one other
+        → comparison_by are_same (observed_forwarding most program function one directives) (observed_forwarding most program function other directives)
+        ≡ comparison_is.Differ → ⊥ }
 {}

@@ -6,9 +6,11 @@ mod fwd;
 pub mod laws;
 mod load;
 mod observe;
+mod runs;
 mod seen;
 mod verdict;
 
 pub use fwd::Fwd;
+pub use runs::compare_forwarding;
 pub use seen::Seen;
 pub use verdict::{ForwardVerdict, forward_safe};

@@ -6,11 +6,20 @@ use Rattle.bl_job.specs.Jobs.{AreRead, FirstRefusal, Job, Plan, Read, against, s
 use Rattle.bl_job.specs.Refusals.{Refusal}
 use Rattle.bl_job.specs.Status.{status_of}
 use Rattle.bl_job.specs.Texts.{refusal_text}
-use Rattle.bl_job.specs.Working.{NotFetched, failed, no_memory_to_fetch, refused as length_refused}
-use Rattle.bl_job.specs.Worlds.{SaidIfRoom, Unchanged, World, is_said, no_memory_to_say}
+use Rattle.bl_job.specs.Working.{IsSaid, IsTold, NotFetched, Tells, failed, no_memory_to_fetch, refusal_in, refused as length_refused}
+use Rattle.bl_job.specs.Worlds.{Said, SaidIfRoom, Stream, Unchanged, World, is_said, no_memory_to_say}
+use Rattle.bl_job.specs.declared.refusal.WorkError.{WorkError}
+use Rattle.bl_job.specs.declared.refusal.WorkError.TheVariants as error
 use Rattle.bl_job.specs.declared.status.Status.{Status}
+use Rattle.bl_job.specs.declared.status.Status.TheVariants.{Refused}
 use Rattle.bl_job.proofs.FetchLemmas.{same_world}
 use Rattle.bl_job.proofs.JobLemmas.{lengths_fit}
+
+-- what is said of an error that is that refusal
+pub told_said : (refusal : Refusal) (e : WorkError) (old new : Stream) (status : Status) → IsTold (Some refusal) e → IsSaid e old new status
+    → SaidIfRoom (refusal_text refusal) (status_of refusal) old new status
+told_said refusal (error.Refused other) old new status told said = is_said (subst (λ r. Said (refusal_text r) (status_of r) old new status) told said)
+told_said refusal error.Memory old new status told said = no_memory_to_say said.0 said.1
 
 module _ {Request : Type 0} (job_of : Request → Job) (request : Request) (new : World) (status : Status) where
   -- an error is the first
@@ -38,10 +47,12 @@ module _ {Request : Type 0} (job_of : Request → Job) (request : Request) (new 
     pub done_ends : (plan : Plan) → (job_of request).Does contents plan → Delivers plan mid new status → Ends job_of (Some request) old new status
     done_ends plan does d = as_planned plan (done request contents plan refl is_read does) (at_entry (λ w. Delivers plan w new status) d)
 
-    pub against_ends : (refusal : Refusal) → (job_of request).Against contents refusal → new.files ≡ mid.files → new.faults ≡ mid.faults
-        → SaidIfRoom (refusal_text refusal) (status_of refusal) mid.sink new.sink status → Ends job_of (Some request) old new status
-    against_ends refusal is files faults said =
-        refused_ends old refusal (against contents is_read is) (files ∙ u.files) (faults ∙ u.faults) (subst (λ s. SaidIfRoom (refusal_text refusal) (status_of refusal) s new.sink status) u.sink said)
+    pub error_ends : (e : WorkError) → Tells ((job_of request).Against contents) e → new.files ≡ mid.files → new.faults ≡ mid.faults → IsSaid e mid.sink new.sink status
+        → Ends job_of (Some request) old new status
+    error_ends (error.Refused refusal) is files faults said =
+        refused_ends old (refusal_in refusal) (against contents is_read is) (files ∙ u.files) (faults ∙ u.faults)
+        (is_said (subst (λ s. Said refusal.line.items (Refused refusal.reason) s new.sink status) u.sink said))
+    error_ends error.Memory is files faults said = no_memory (record { files = files ∙ u.files; faults = faults ∙ u.faults; sink = said.0 ∙ u.sink }) said.1
 
 -- what was read fits the reads of the job
 pub contents_fit : (job : Job) (files : Option Files) (reads : List Read) (contents : List (List ℕ)) → reads ≡ job.reads → AreRead files reads contents → AreRead None job.reads contents

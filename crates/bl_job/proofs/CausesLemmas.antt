@@ -5,12 +5,12 @@ use Rattle.bl_job.specs.Causes.{Causes, IsDone, NoFault, NoneRose, UnlessFault}
 use Rattle.bl_job.specs.Ends.{Ends}
 use Rattle.bl_job.specs.Jobs.{AreRead, FirstRefusal, IsLawful, Job, Plan}
 use Rattle.bl_job.specs.Refusals.{Refusal}
-use Rattle.bl_job.specs.Status.{Kind, kind_of, of_deed, of_memory, of_read_fault, of_refusal, of_usage, of_write_fault, status_of}
+use Rattle.bl_job.specs.Status.{kind_of, of_deed, of_read_fault, of_refusal, of_usage, of_write_fault, status_of}
 use Rattle.bl_job.specs.Worlds.{World}
 use Rattle.bl_job.specs.declared.status.Status.{Status}
 use Rattle.bl_job.specs.declared.status.Status.TheVariants.{Memory, ReadFault, Usage, WriteFault}
 use Rattle.bl_job.proofs.JobLemmas.{done_not_refused, one_done, one_first}
-use Rattle.bl_job.proofs.Ways.{Way, faulty_keep, faulty_read, faulty_sink, full, is_done, is_refused, no_request, said_by, way}
+use Rattle.bl_job.proofs.Ways.{Way, faulty, full, is_done, is_refused, no_request, of_read, of_write, said_by, unless, way}
 
 -- the words ask for one request
 one_request : {Request : Type 0} {asked : Option Request} (r s : Request) → asked ≡ Some r → asked ≡ Some s → r ≡ s
@@ -24,19 +24,15 @@ module _ {Request : Type 0} (job_of : Request → Job) (laws : (request : Reques
   unasked (no_request none e quiet) is = inl e
   unasked (is_refused r quiet) is = let other = r.is_request in absurd cc
   unasked (is_done d quiet) is = let other = d.is_request in absurd cc
-  unasked (faulty_read f e) is = inr (inl e)
-  unasked (faulty_keep f e) is = inr (inr (inl e))
-  unasked (faulty_sink f e) is = inr (inr (inl e))
-  unasked (full e) is = inr (inr (inr e))
+  unasked (faulty f) is = unless job_of laws asked old new status Usage f
 
   quiet : W → (status ≡ ReadFault → ⊥) → (status ≡ WriteFault → ⊥) → (status ≡ Memory → ⊥) → NoFault old new
   quiet (no_request none e q) read write memory = q
   quiet (is_refused r q) read write memory = q
   quiet (is_done d q) read write memory = q
-  quiet (faulty_read f e) read write memory = absurd (read e)
-  quiet (faulty_keep f e) read write memory = absurd (write e)
-  quiet (faulty_sink f e) read write memory = absurd (write e)
-  quiet (full e) read write memory = absurd (memory e)
+  quiet (faulty (of_read f e)) read write memory = absurd (read e)
+  quiet (faulty (of_write f e)) read write memory = absurd (write e)
+  quiet (faulty (full e)) read write memory = absurd (memory e)
 
   -- where nothing is refused and no count rises the job is done
   complete : W → (request : Request) → asked ≡ Some request → ((refusal : Refusal) → FirstRefusal (job_of request) old.files refusal → ⊥) → NoneRose old new
@@ -45,10 +41,10 @@ module _ {Request : Type 0} (job_of : Request → Job) (laws : (request : Reques
   complete (is_refused r q) request is not none_rose =
       absurd (not r.refusal (subst (λ s. FirstRefusal (job_of s) old.files r.refusal) (one_request r.request request r.is_request is) r.first))
   complete (is_done d q) request is not none_rose = inl d
-  complete (faulty_read f e) request is not none_rose = absurd (none_rose.reads f.fails.rose)
-  complete (faulty_keep f e) request is not none_rose = absurd (none_rose.writes f.fails.rose)
-  complete (faulty_sink rose e) request is not none_rose = absurd (none_rose.sink rose)
-  complete (full e) request is not none_rose = inr e
+  complete (faulty (of_read f e)) request is not none_rose = absurd (none_rose.reads f.fails.rose)
+  complete (faulty (of_write (inl rose) e)) request is not none_rose = absurd (none_rose.sink rose)
+  complete (faulty (of_write (inr f) e)) request is not none_rose = absurd (none_rose.writes f.fails.rose)
+  complete (faulty (full e)) request is not none_rose = inr e
 
   module _ (files : Files) (request : Request) (exposed : old.files ≡ Some files) (is : asked ≡ Some request) where
     -- what is said of the request that is asked for, of files that are exposed
@@ -63,10 +59,7 @@ module _ {Request : Type 0} (job_of : Request → Job) (laws : (request : Reques
         absurd (done_not_refused files (job_of request) (laws request) refusal d.contents d.plan
         (here (λ s f. AreRead f (job_of s).reads d.contents) d.request d.is_request d.read)
         (here (λ s f. (job_of s).Does d.contents d.plan) d.request d.is_request d.does) first)
-    refused (faulty_read f e) refusal first = inr (inl e)
-    refused (faulty_keep f e) refusal first = inr (inr (inl e))
-    refused (faulty_sink f e) refusal first = inr (inr (inl e))
-    refused (full e) refusal first = inr (inr (inr e))
+    refused (faulty f) refusal first = unless job_of laws asked old new status (status_of refusal) f
 
     done : W → (contents : List (List ℕ)) (plan : Plan) → AreRead (Some files) (job_of request).reads contents → (job_of request).Does contents plan → UnlessFault plan.status status
     done (no_request none e q) contents plan read does = absurd cc
@@ -76,10 +69,7 @@ module _ {Request : Type 0} (job_of : Request → Job) (laws : (request : Reques
         inl (d.meant ∙ one_done files (job_of request) (laws request) d.contents contents d.plan plan
         (here (λ s f. AreRead f (job_of s).reads d.contents) d.request d.is_request d.read) read
         (here (λ s f. (job_of s).Does d.contents d.plan) d.request d.is_request d.does) does)
-    done (faulty_read f e) contents plan read does = inr (inl e)
-    done (faulty_keep f e) contents plan read does = inr (inr (inl e))
-    done (faulty_sink f e) contents plan read does = inr (inr (inl e))
-    done (full e) contents plan read does = inr (inr (inr e))
+    done (faulty f) contents plan read does = unless job_of laws asked old new status plan.status f
 
   -- what each status says, and when it comes
   pub causes : Ends job_of asked old new status → Causes job_of asked old new status
@@ -105,30 +95,16 @@ module _ {Request : Type 0} (job_of : Request → Job) (laws : (request : Reques
 
 -- ---- words that are no request
 
--- a status of these kinds is one alone
-abbrev Only : Kind → Status → Type 0
-Only of_deed s = Unit {0}
-Only of_usage s = s ≡ Usage
-Only of_refusal s = Unit {0}
-Only of_read_fault s = s ≡ ReadFault
-Only of_write_fault s = s ≡ WriteFault
-Only of_memory s = s ≡ Memory
-
-only : (s : Status) → Only (kind_of s) s
-only s = elim s as (λ t. Only (kind_of t) t) [ Usage ↦ refl | ReadFault ↦ refl | WriteFault ↦ refl | Memory ↦ refl | _ ↦ tt ]
-
 module _ {Request : Type 0} (job_of : Request → Job) (old new : World) (s : Status) (c : Causes job_of None old new s) where
   not_asked : {request : Request} → None ≡ Some request → ⊥
   not_asked e = cc
 
   -- where no count rises, the status is usage, or memory ran out
   pub without_request : NoneRose old new → (s ≡ Usage) ⊎ (s ≡ Memory)
-  without_request none_rose = by_kind (kind_of s) refl (only s)
+  without_request none_rose = of_status (c.usage refl)
     where
-      by_kind : (kind : Kind) → kind_of s ≡ kind → Only kind s → (s ≡ Usage) ⊎ (s ≡ Memory)
-      by_kind of_deed e is = absurd (not_asked (c.done_only e).is_request)
-      by_kind of_usage e is = inl is
-      by_kind of_refusal e is = absurd (not_asked (c.refused_only e).is_request)
-      by_kind of_read_fault e is = absurd (not_asked (c.read_fault is).is_request)
-      by_kind of_write_fault e is = elim (c.write_fault is) [ inl rose ↦ absurd (none_rose.sink rose) | inr fault ↦ absurd (not_asked fault.is_request) ]
-      by_kind of_memory e is = inr is
+      of_status : UnlessFault Usage s → (s ≡ Usage) ⊎ (s ≡ Memory)
+      of_status (inl is) = inl is
+      of_status (inr (inl is)) = absurd (not_asked (c.read_fault is).is_request)
+      of_status (inr (inr (inl is))) = elim (c.write_fault is) [ inl rose ↦ absurd (none_rose.sink rose) | inr fault ↦ absurd (not_asked fault.is_request) ]
+      of_status (inr (inr (inr is))) = inr is

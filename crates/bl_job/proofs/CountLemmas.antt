@@ -1,11 +1,11 @@
--- Requests of too many modules are lawful, and where the modules are few the job is the work on them.
-use Rattle.std.proofs.Common.{◌≡◌, ℕ, ◌<◌, ◌≤◌, Bool, true, false, List, [], length, nat_le, Option, sym, ap, ◌∙◌, subst}
-use Rattle.std.proofs.lemmas.Bool.{le-leb, lt-leb}
+-- Requests of too many modules are lawful and always answered, and where the modules are few the job is the work on them.
+use Rattle.std.proofs.Common.{◌≡◌, ℕ, ◌<◌, ◌≤◌, Bool, true, false, List, [], length, nat_le, Option, inl, inr, refl, sym, ap, ◌∙◌, subst}
+use Rattle.std.proofs.lemmas.Bool.{cases_lt, false≢true, le-leb, lt-leb}
 use Rattle.bl_base.specs.Quantity.{limit_of}
 use Rattle.bl_base.specs.declared.quantity.Quantity.TheVariants as quantity
 use Rattle.bl_outside.specs.Shelf.{Files}
 use Rattle.bl_job.specs.Counting.{job_if, too_many, with_modules}
-use Rattle.bl_job.specs.Jobs.{AreRead, FirstRefusal, IsLawful, Job, Plan, against}
+use Rattle.bl_job.specs.Jobs.{AreRead, FirstRefusal, IsLawful, IsTotal, Job, Plan, against}
 use Rattle.bl_job.specs.Refusals.{Refusal, limit}
 
 too_many_lawful : (count : ℕ) → IsLawful (too_many count)
@@ -58,3 +58,15 @@ too_many_first modules job files count same many =
     let over : limit_of quantity.Modules < length modules = subst (λ (n : ℕ). limit_of quantity.Modules < n) same many in
     let fails : false ≡ nat_le (length modules) (limit_of quantity.Modules) = sym (lt-leb (length modules) (limit_of quantity.Modules) over) in
     subst (λ b. FirstRefusal (job_if b (length modules) job) files (limit quantity.Modules count)) fails (against [] tt (ap (limit quantity.Modules) same))
+
+-- a job answers all contents that are there, however many modules are asked for
+total_if : (test : Bool) (count : ℕ) (job : Job) → (test ≡ true → IsTotal job) → IsTotal (job_if test count job)
+total_if true count job total = total refl
+total_if false count job total = record { always = λ contents there refused made. refused (limit quantity.Modules count) refl }
+
+pub with_modules_total : (modules : List (List ℕ)) (job : Job) → (length modules ≤ limit_of quantity.Modules → IsTotal job) → IsTotal (with_modules modules job)
+with_modules_total modules job total =
+    total_if (nat_le (length modules) (limit_of quantity.Modules)) (length modules) job (λ e. elim (cases_lt (limit_of quantity.Modules) (length modules)) as (λ _. IsTotal job) [
+      | inl many ↦ absurd (false≢true (sym (lt-leb (length modules) (limit_of quantity.Modules) many) ∙ e))
+      | inr few ↦ total few
+    ])

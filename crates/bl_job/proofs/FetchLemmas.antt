@@ -1,27 +1,27 @@
 -- Files that are fetched in order, and files that are kept in order.
 use Rattle.std.proofs.Common.{◌≡◌, ℕ, ◌+◌, ◌<◌, ◌≤◌, List, [], ◌∷◌, ◌++◌, length, take, drop, get_or, map, Option, Some, refl, inl, ap, sym, ◌∙◌, subst, arith, drop-cons, add-one}
-use Rattle.std.specs.Prelude.{Ok, Err, Vec, slice_get, Result, false, if◌then◌else◌}
+use Rattle.std.specs.Prelude.{Ok, Err, slice_get, Result, false, if◌then◌else◌}
 use Rattle.std.specs.List.{All, AllByRecursion}
 use Rattle.std.specs.Result.{is_ok, is_err}
-use Rattle.std.specs.declared.alloc.Global.{Global}
 use Rattle.std.proofs.lemmas.List.{get_or-map, length-map, map-append, take_all, take_more, take-append-drop}
 use Rattle.std.proofs.lemmas.List.Elements.{All-from_recursion}
 use Rattle.std.proofs.lemmas.Option.{slice_get-get_or}
 use Rattle.bl_base.specs.Quantity.{limit_of}
-use Rattle.bl_outside.specs.Shelf.{Files, Gives, KeepFaults, ReadFails, with_file}
+use Rattle.bl_outside.specs.Shelf.{Files, KeepFaults, ReadFails, most_asked, with_file}
 use Rattle.bl_outside.specs.declared.shelf.ShelfError.{ShelfError}
 use Rattle.bl_outside.specs.declared.shelf.ShelfError.TheVariants as shelf
 use Rattle.bl_job.specs.Ends.{Delivers, all_kept, no_memory_to_keep, not_kept}
-use Rattle.bl_job.specs.Jobs.{AreRead, IsSmall, IsTooLong, Plan, Read}
+use Rattle.bl_job.specs.Jobs.{AreRead, FileIs, IsSmall, IsTooLong, Plan, Read}
 use Rattle.bl_job.specs.Refusals.{limit}
 use Rattle.bl_job.specs.Texts.{read_fault_text, write_fault_text, refusal_text}
-use Rattle.bl_job.specs.Working.{NotFetched, NotKept, failed, keep_in, no_memory_to_fetch, read_in, refused, contents_in}
+use Rattle.bl_job.specs.Working.{NotFetched, NotKept, failed, keep_in, no_memory_to_fetch, read_in, refused, content_in, contents_in}
 use Rattle.bl_job.specs.Worlds.{Said, SaidIfRoom, SameShelf, Unchanged, World, with_files}
+use Rattle.bl_job.specs.declared.content.Content.{Content}
 use Rattle.bl_job.specs.declared.job.Keep.{Keep}
 use Rattle.bl_job.specs.declared.job.Read.{Read as ReadAsked}
 use Rattle.bl_job.specs.declared.status.Status.{Status}
-use Rattle.bl_job.specs.declared.status.Status.TheVariants.{Limit, ReadFault}
-use Rattle.bl_job.proofs.Files.{fetched_long, fetched_whole}
+use Rattle.bl_job.specs.declared.status.Status.TheVariants.{ReadFault, Refused}
+use Rattle.bl_job.specs.declared.status.Reason.TheVariants as reason
 use Rattle.bl_job.proofs.JobLemmas.{at_behind, read_behind}
 
 -- worlds between which nothing changed are one
@@ -31,7 +31,7 @@ same_world old mid u = λ i. record { files = u.files i; faults = u.faults i; si
 -- ---- what is asked for
 
 abbrev IsSmallAsked : ReadAsked → Type 0
-IsSmallAsked read = limit_of read.quantity ≤ 268435456
+IsSmallAsked read = limit_of read.quantity ≤ most_asked
 
 small_asked : (reads : List ReadAsked) → AllByRecursion IsSmall (map read_in reads) → AllByRecursion IsSmallAsked reads
 small_asked [] small = tt
@@ -44,14 +44,10 @@ small_reads reads these same small = All-from_recursion IsSmallAsked reads (smal
 -- ---- one file
 
 module _ (read : Read) (old new : World) where
-  -- bytes that are short enough
-  pub short_fetched : (bytes : List ℕ) → Unchanged old new → Gives old.files read.name (limit_of read.quantity) bytes → length bytes ≤ limit_of read.quantity → Unchanged old new × AreRead old.files (read ∷ []) (bytes ∷ [])
-  short_fetched bytes u gives short = (u, (record { file = fetched_whole old.files read.name (limit_of read.quantity) bytes gives short; short = short }, tt))
-
-  -- bytes that are too many
-  pub long_refused : (bytes : List ℕ) (status : Status) → Gives old.files read.name (limit_of read.quantity) bytes → limit_of read.quantity < length bytes → SameShelf old new
-      → SaidIfRoom (refusal_text (limit read.quantity (limit_of read.quantity + 1))) Limit old.sink new.sink status → NotFetched (read ∷ []) old new status
-  long_refused bytes status gives long same said = refused (limit read.quantity (limit_of read.quantity + 1)) (inl (fetched_long old.files read bytes gives long, refl)) same said
+  -- a file that is too long
+  pub long_refused : (status : Status) → IsTooLong old.files read → SameShelf old new → SaidIfRoom (refusal_text (limit read.quantity (limit_of read.quantity + 1))) (Refused reason.Limit) old.sink new.sink status
+      → NotFetched (read ∷ []) old new status
+  long_refused status long same said = refused (limit read.quantity (limit_of read.quantity + 1)) (inl (long, refl)) same said
 
   -- a file that could not be read
   pub not_read : (status : Status) → ReadFails old.faults new.faults read.name → new.files ≡ old.files → Said (read_fault_text read.name) ReadFault old.sink new.sink status
@@ -90,18 +86,18 @@ split_at xs i d within =
     ap (λ n. take i xs ++ get_or xs i d ∷ drop n xs) (add-one i) ∙ (ap (λ rest. take i xs ++ rest) (sym next) ∙ take-append-drop i xs)
 
 -- the files of a list of reads as the code keeps them
-module _ (reads : List ReadAsked) (i : ℕ) (d : ReadAsked) (within : i < length reads) (old now new : World) (contents : List (Vec ℕ Global))
+module _ (reads : List ReadAsked) (i : ℕ) (d : ReadAsked) (within : i < length reads) (old now new : World) (contents : List Content)
     (so : FetchedSo (map read_in (take i reads)) old now (contents_in contents)) where
   abbrev next : Read
   next = read_in (get_or reads i d)
 
   -- the next one was fetched
-  pub next_fetched : (bytes : Vec ℕ Global) (all : List (Vec ℕ Global)) → Unchanged now new → AreRead now.files (next ∷ []) (bytes.items ∷ []) → all ≡ contents ++ bytes ∷ []
+  pub next_fetched : (content : Content) (all : List Content) → Unchanged now new → AreRead now.files (next ∷ []) (content_in content ∷ []) → all ≡ contents ++ content ∷ []
       → FetchedSo (map read_in (take (i + 1) reads)) old new (contents_in all)
-  next_fetched bytes all u r e =
+  next_fetched content all u r e =
       let names = ap (map read_in) (take_more reads i d within) ∙ map-append read_in (take i reads) (get_or reads i d ∷ []) in
-      let held = ap contents_in e ∙ map-append (λ (bytes : Vec ℕ Global). bytes.items) contents (bytes ∷ []) in
-      let made = fetched_more (map read_in (take i reads)) next old now new (contents_in contents) so bytes.items u r in
+      let held = ap contents_in e ∙ map-append content_in contents (content ∷ []) in
+      let made = fetched_more (map read_in (take i reads)) next old now new (contents_in contents) so (content_in content) u r in
       subst (λ names. FetchedSo names old new (contents_in all)) (sym names) (subst (FetchedSo (map read_in (take i reads) ++ next ∷ []) old new) (sym held) made)
 
   -- the next one wasn't

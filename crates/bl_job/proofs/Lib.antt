@@ -2,14 +2,13 @@ pub mod CarryLemmas
 pub mod CausesLemmas
 pub mod CountLemmas
 pub mod FetchLemmas
-pub mod Files
 pub mod JobLemmas
 pub mod KeptFiles
 pub mod LeavingLemmas
+pub mod Pieces
 pub mod StageLemmas
 pub mod StagedWork
 pub mod Staging
 pub mod Took
-pub mod TotalJobs
 pub mod Ways
 pub mod WorkLemmas

@@ -1,15 +1,24 @@
--- Stages that keep the laws, one after another and on each of a list.
-use Rattle.std.proofs.Common.{◌≡◌, List, [], ◌∷◌, ◌++◌, append-nil, append_assoc, refl, inl, inr, subst, sym}
+-- Stages that keep the laws and always answer, one after another, on a part of a value and on each of a list.
+use Rattle.std.proofs.Common.{◌≡◌, List, [], ◌∷◌, ◌++◌, Some, None, append-nil, append_assoc, refl, inl, inr, subst, sym, ap, ◌∙◌}
+use Rattle.std.specs.List.{All}
+use Rattle.std.proofs.lemmas.List.Elements.{All-head, All-tail}
 use Rattle.bl_job.specs.Refusals.{Refusal}
-use Rattle.bl_job.specs.Working.{Tells, refusal_in}
+use Rattle.bl_job.specs.Working.{IsTold, Tells, refusal_in}
 use Rattle.bl_job.specs.declared.refusal.WorkError.{WorkError}
 use Rattle.bl_job.specs.declared.refusal.WorkError.TheVariants as error
-use Rattle.bl_job.specs.Stages.{AllPass, FirstRefused, IsLawfulStage, Stage, ThenRefuses, at_first, at_second, chain, each}
+use Rattle.bl_job.specs.Stages.{AllPass, FirstRefused, IsLawfulStage, IsTotalStage, Stage, ThenRefuses, at_first, at_second, beside, chain, each}
 
 -- what holds of a refusal leads to what holds of it elsewhere
 pub tells_on : (P Q : Refusal → Type 0) → ((refusal : Refusal) → P refusal → Q refusal) → (e : WorkError) → Tells P e → Tells Q e
 tells_on P Q f (error.Refused refusal) p = f (refusal_in refusal) p
 tells_on P Q f error.Memory p = tt
+
+-- what holds of a refusal holds of an error that is told to be it, and anything of one that is want of memory
+pub told_as : (refusal : Refusal) (P : Refusal → Type 0) → P refusal → (e : WorkError) → IsTold (Some refusal) e → Tells P e
+told_as refusal P p = tells_on (λ told. told ≡ refusal) P (λ told is. subst P (sym is) p)
+
+pub told_memory : (P : Refusal → Type 0) (e : WorkError) → IsTold None e → Tells P e
+told_memory P e told = subst (Tells P) (sym told) tt
 
 module _ {A B C : Type 0} (first : Stage A B) (second : Stage B C) (f : IsLawfulStage first) (s : IsLawfulStage second) where
   chain_result : (a : A) (b c : C) → (chain first second).Passes a b → (chain first second).Passes a c → b ≡ c
@@ -27,6 +36,24 @@ module _ {A B C : Type 0} (first : Stage A B) (second : Stage B C) (f : IsLawful
 
   pub chain_lawful : IsLawfulStage (chain first second)
   chain_lawful = record { one_result = chain_result; one_refusal = chain_refusal; not_both = chain_not_both }
+
+pub chain_total : {A B C : Type 0} (Given : A → Type 0) (Known : B → Type 0) (first : Stage A B) (second : Stage B C) → IsTotalStage Given first → IsTotalStage Known second
+    → ((a : A) (b : B) → Given a → first.Passes a b → Known b) → IsTotalStage Given (chain first second)
+chain_total Given Known first second f s known = record {
+  always = λ a given made refused.
+      f.always a given (λ b p. s.always b (known a b given p) (λ c q. made c (b, p, q)) (λ r q. refused r (at_second b p q))) (λ r p. refused r (at_first p));
+}
+
+module _ {A B C D : Type 0} (part : C → A) (stage : Stage A B) (join : C → B → D) where
+  pub beside_lawful : IsLawfulStage stage → IsLawfulStage (beside part stage join)
+  beside_lawful s = record {
+    one_result = λ c d e p q. p.2 ∙ ap (join c) (s.one_result (part c) p.0 q.0 p.1 q.1) ∙ sym q.2;
+    one_refusal = λ c. s.one_refusal (part c);
+    not_both = λ c d r p. s.not_both (part c) p.0 r p.1;
+  }
+
+  pub beside_total : (Given : A → Type 0) → IsTotalStage Given stage → IsTotalStage (λ c. Given (part c)) (beside part stage join)
+  beside_total Given s = record { always = λ c given made refused. s.always (part c) given (λ b p. made (join c b) (b, p, refl)) refused }
 
 module _ {A B : Type 0} (stage : Stage A B) (s : IsLawfulStage stage) where
   each_result : (xs : List A) (ys zs : List B) → AllPass stage xs ys → AllPass stage xs zs → ys ≡ zs
@@ -55,6 +82,16 @@ module _ {A B : Type 0} (stage : Stage A B) (s : IsLawfulStage stage) where
 
   pub each_lawful : IsLawfulStage (each stage)
   each_lawful = record { one_result = each_result; one_refusal = each_refusal; not_both = each_not_both }
+
+module _ {A B : Type 0} (Given : A → Type 0) (stage : Stage A B) (s : IsTotalStage Given stage) where
+  each_always : (xs : List A) → All Given xs → ((ys : List B) → AllPass stage xs ys → ⊥) → ((r : Refusal) → FirstRefused stage xs r → ⊥) → ⊥
+  each_always [] given made refused = made [] tt
+  each_always (x ∷ xs) given made refused =
+      s.always x (All-head Given x xs given)
+      (λ y p. each_always xs (All-tail Given x xs given) (λ ys q. made (y ∷ ys) (p, q)) (λ r q. refused r (inr (y, p, q)))) (λ r p. refused r (inl p))
+
+  pub each_total : IsTotalStage (All Given) (each stage)
+  each_total = record { always = each_always }
 
 -- a stage on one after another: what is left of the list decides, and what the first ones were passed on as stands before it
 module _ {A B : Type 0} (stage : Stage A B) where

@@ -1,5 +1,5 @@
 -- What a sink holds after several texts.
-use Rattle.std.proofs.Common.{◌≡◌, ℕ, ◌+◌, ◌≤◌, List, [], ◌∷◌, ◌++◌, length, take, drop, Option, Some, None, refl, ap, sym, ◌∙◌, arith, append_assoc, length-append, subst}
+use Rattle.std.proofs.Common.{◌≡◌, ℕ, ◌+◌, ◌≤◌, List, ◌++◌, length, take, drop, Option, Some, None, refl, ap, sym, ◌∙◌, arith, append_assoc, length-append, subst}
 use Rattle.std.proofs.Math.Seq.{take-add, take-append-add}
 use Rattle.std.proofs.lemmas.List.{take-append-le}
 use Rattle.bl_outside.specs.Faults.{Rose}
@@ -7,14 +7,6 @@ use Rattle.std.specs.Prelude.{Result, Ok, Err, IsErr}
 use Rattle.bl_outside.specs.declared.sink.SinkFault.{SinkFault}
 use Rattle.bl_outside.specs.Sink.{after_push}
 use Rattle.bl_job.specs.Worlds.{took, Stream, Whole, Cut, Pushes}
-
-append_nothing : (xs : List ℕ) → xs ++ [] ≡ xs
-append_nothing [] = refl
-append_nothing (x ∷ xs) = ap (λ l. x ∷ l) (append_nothing xs)
-
-pub took_nothing : (t : Option (List ℕ)) → took t [] ≡ t
-took_nothing None = refl
-took_nothing (Some bytes) = ap Some (append_nothing bytes)
 
 pub took_both : (t : Option (List ℕ)) (a b : List ℕ) → took (took t a) b ≡ took t (a ++ b)
 took_both None a b = refl

@@ -1,22 +1,18 @@
 -- The ways in which a call ends, by the kinds of their statuses.
-use Rattle.std.proofs.Common.{◌≡◌, ℕ, List, Option, Some, None, refl, ap, sym, ◌∙◌, subst, inl, inr, map, arith}
+use Rattle.std.proofs.Common.{◌≡◌, ℕ, List, Option, Some, None, ap, sym, ◌∙◌, subst, inl, inr, map, arith}
 use Rattle.std.specs.Prelude.{slice_get, Contains, ◌⊎◌}
 use Rattle.std.proofs.lemmas.List.{get_or-map, length-map}
 use Rattle.std.proofs.lemmas.Option.{get_or_from_slice_get, slice_get_within}
 use Rattle.bl_outside.specs.Faults.{Rose}
 use Rattle.bl_outside.specs.Shelf.{ReadFails, WriteFails}
-use Rattle.bl_job.specs.Causes.{IsDone, IsKeepFault, IsReadFault, IsRefused, NoFault}
+use Rattle.bl_job.specs.Causes.{IsDone, IsKeepFault, IsReadFault, IsRefused, NoFault, UnlessFault}
 use Rattle.bl_job.specs.Ends.{Delivers, Ends, PlanFor, all_kept, as_planned, done, no_memory, no_memory_to_keep, not_kept, not_read, refused, usage}
 use Rattle.bl_job.specs.Jobs.{IsLawful, Job, KeepsNamed, Plan, ReadsName}
-use Rattle.bl_job.specs.Refusals.{Refusal, malformed}
-use Rattle.bl_job.specs.Status.{Kind, kind_of, of_deed, of_memory, of_read_fault, of_refusal, of_usage, of_write_fault, status_of}
+use Rattle.bl_job.specs.Status.{Kind, kind_of, of_deed, of_memory, of_read_fault, of_refusal, of_usage, of_write_fault}
 use Rattle.bl_job.specs.Texts.{read_fault_text, write_fault_text}
 use Rattle.bl_job.specs.Worlds.{Said, Whole, World, cut, took, whole, with_files}
 use Rattle.bl_job.specs.declared.status.Status.{Status}
 use Rattle.bl_job.specs.declared.status.Status.TheVariants.{Memory, ReadFault, Usage, WriteFault}
-
-pub kind_of_refusal : (refusal : Refusal) → kind_of (status_of refusal) ≡ of_refusal
-kind_of_refusal refusal = elim refusal as (λ r. kind_of (status_of r) ≡ of_refusal) [ malformed name ↦ refl | _ ↦ refl ]
 
 -- an entry's name is one of the names
 name_kept : (keeps : List (List ℕ × List ℕ)) (before : ℕ) (keep : List ℕ × List ℕ) → slice_get keeps before ≡ Some keep → Contains (map (λ each. each.0) keeps) keep.0
@@ -39,23 +35,31 @@ record Carried (plan : Plan) (old new : World) (status : Status) : Type 0 where
   meant : status ≡ plan.status
 
 module _ {Request : Type 0} (job_of : Request → Job) (laws : (request : Request) → IsLawful (job_of request)) (asked : Option Request) (old new : World) (status : Status) where
+  -- a fault, or want of memory
+  pub data Fault : Type 0 where
+    of_read : IsReadFault job_of asked old new → status ≡ ReadFault → Fault
+    of_write : Rose old.sink.faults new.sink.faults ⊎ IsKeepFault job_of asked old new → status ≡ WriteFault → Fault
+    full : status ≡ Memory → Fault
+
   pub data Way : Type 0 where
     no_request : asked ≡ None → status ≡ Usage → NoFault old new → Way
     is_refused : IsRefused job_of asked old new status → NoFault old new → Way
     is_done : IsDone job_of asked old new status → NoFault old new → Way
-    faulty_read : IsReadFault job_of asked old new → status ≡ ReadFault → Way
-    faulty_keep : IsKeepFault job_of asked old new → status ≡ WriteFault → Way
-    faulty_sink : Rose old.sink.faults new.sink.faults → status ≡ WriteFault → Way
-    full : status ≡ Memory → Way
+    faulty : Fault → Way
+
+  pub unless : (meant : Status) → Fault → UnlessFault meant status
+  unless meant (of_read f e) = inr (inl e)
+  unless meant (of_write f e) = inr (inr (inl e))
+  unless meant (full e) = inr (inr (inr e))
 
   -- a plan was carried out, or a file that it keeps was not kept
   delivered : (plan : Plan) → Delivers plan old new status → (Carried plan old new status → Way)
       → ((before : ℕ) (keep : List ℕ × List ℕ) → slice_get plan.keeps before ≡ Some keep → WriteFails old.faults new.faults keep.0 → Whole (write_fault_text keep.0) old.sink new.sink → status ≡ WriteFault → Way) → Way
   delivered plan (all_kept files faults (whole said meant)) carried fault = carried (record { files = files; no_fault = record { shelf = faults; sink = said.faults }; printed = said.taken; meant = meant })
-  delivered plan (all_kept files faults (cut said meant)) carried fault = faulty_sink said.rose meant
+  delivered plan (all_kept files faults (cut said meant)) carried fault = faulty (of_write (inl said.rose) meant)
   delivered plan (not_kept before keep is fails files (whole said meant)) carried fault = fault before keep is fails said meant
-  delivered plan (not_kept before keep is fails files (cut said meant)) carried fault = faulty_sink said.rose meant
-  delivered plan (no_memory_to_keep before keep is files faults sink meant) carried fault = full meant
+  delivered plan (not_kept before keep is fails files (cut said meant)) carried fault = faulty (of_write (inl said.rose) meant)
+  delivered plan (no_memory_to_keep before keep is files faults sink meant) carried fault = faulty (full meant)
 
   planned : (plan : Plan) → PlanFor job_of asked old.files plan → Delivers plan old new status → Way
   planned _ (usage none) d = delivered _ d (λ c. no_request none c.meant c.no_fault) (λ before keep is. absurd cc)
@@ -66,29 +70,29 @@ module _ {Request : Type 0} (job_of : Request → Job) (laws : (request : Reques
   planned _ (done request contents plan is read does) d =
       delivered _ d
       (λ c. is_done (record { request = request; contents = contents; plan = plan; is_request = is; read = read; does = does; meant = c.meant; kept = c.files; printed = c.printed }) c.no_fault)
-      (λ before keep at_place fails said meant. faulty_keep (record {
+      (λ before keep at_place fails said meant. faulty (of_write (inr (record {
         request = request;
         is_request = is;
         is_kept = subst (Contains (job_of request).keeps) (sym fails.last)
             (named_kept (job_of request).keeps plan.keeps ((laws request).keeps_named contents plan does) before keep at_place);
         fails = subst (WriteFails old.faults new.faults) (sym fails.last) fails;
         printed = said.taken ∙ ap (λ n. took old.sink.taken (write_fault_text n)) (sym fails.last);
-      }) meant)
+      })) meant))
 
   read_failed : (request : Request) (name : List ℕ) → asked ≡ Some request → ReadsName old.files (job_of request).reads name → ReadFails old.faults new.faults name → Said (read_fault_text name) ReadFault old.sink new.sink status → Way
-  read_failed request name is read fails (whole said meant) = faulty_read (record {
+  read_failed request name is read fails (whole said meant) = faulty (of_read (record {
     request = request;
     is_request = is;
     is_read = subst (ReadsName old.files (job_of request).reads) (sym fails.last) read;
     fails = subst (ReadFails old.faults new.faults) (sym fails.last) fails;
     printed = said.taken ∙ ap (λ n. took old.sink.taken (read_fault_text n)) (sym fails.last);
-  }) meant
-  read_failed request name is read fails (cut said meant) = faulty_sink said.rose meant
+  }) meant)
+  read_failed request name is read fails (cut said meant) = faulty (of_write (inl said.rose) meant)
 
   pub way : Ends job_of asked old new status → Way
   way (as_planned plan p d) = planned plan p d
   way (not_read request name is read fails files said) = read_failed request name is read fails said
-  way (no_memory unchanged e) = full e
+  way (no_memory unchanged e) = faulty (full e)
 
   -- what a status of a kind says
   abbrev Says : Kind → Type 0
@@ -104,12 +108,11 @@ module _ {Request : Type 0} (job_of : Request → Job) (laws : (request : Reques
 
   pub says_of_kind : Way → Says (kind_of status)
   says_of_kind (no_request none e quiet) = says of_usage (ap kind_of e) none
-  says_of_kind (is_refused r quiet) = says of_refusal (ap kind_of r.meant ∙ kind_of_refusal r.refusal) r
+  says_of_kind (is_refused r quiet) = says of_refusal (ap kind_of r.meant) r
   says_of_kind (is_done d quiet) = says of_deed (ap kind_of d.meant ∙ (laws d.request).status_of_deed d.contents d.plan d.does) d
-  says_of_kind (faulty_read f e) = says of_read_fault (ap kind_of e) f
-  says_of_kind (faulty_keep f e) = says of_write_fault (ap kind_of e) (inr f)
-  says_of_kind (faulty_sink rose e) = says of_write_fault (ap kind_of e) (inl rose)
-  says_of_kind (full e) = says of_memory (ap kind_of e) tt
+  says_of_kind (faulty (of_read f e)) = says of_read_fault (ap kind_of e) f
+  says_of_kind (faulty (of_write f e)) = says of_write_fault (ap kind_of e) f
+  says_of_kind (faulty (full e)) = says of_memory (ap kind_of e) tt
 
   -- so a status of a kind says that
   pub said_by : Way → (kind : Kind) → kind_of status ≡ kind → Says kind

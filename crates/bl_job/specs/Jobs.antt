@@ -5,7 +5,7 @@ use Rattle.std.specs.List.{All}
 use Rattle.bl_base.specs.Fits.{AreBytes}
 use Rattle.bl_base.specs.Quantity.{limit_of}
 use Rattle.bl_base.specs.declared.quantity.Quantity.{Quantity}
-use Rattle.bl_outside.specs.Shelf.{Files}
+use Rattle.bl_outside.specs.Shelf.{Files, most_asked}
 use Rattle.bl_job.specs.Refusals.{Refusal, limit}
 use Rattle.bl_job.specs.Status.{kind_of, of_deed}
 use Rattle.bl_job.specs.declared.status.Status.{Status}
@@ -17,7 +17,7 @@ pub record Read : Type 0 where
 
 -- a shelf may be asked for as many bytes
 abbrev pub IsSmall : Read → Type 0
-IsSmall read = limit_of read.quantity ≤ 268435456
+IsSmall read = limit_of read.quantity ≤ most_asked
 
 -- a status, the files that are kept, in order, by their names and bytes, and the text that is printed
 pub record Plan : Type 0 where

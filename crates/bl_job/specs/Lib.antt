@@ -3,6 +3,7 @@ pub mod Counting
 pub mod Ends
 pub mod Jobs
 pub mod Leaving
+pub mod Reading
 pub mod Refusals
 pub mod Staged
 pub mod Stages

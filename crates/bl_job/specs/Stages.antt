@@ -29,6 +29,13 @@ pub data ThenRefuses {A B C : Type 0} (first : Stage A B) (second : Stage B C) (
 abbrev pub chain : {A B C : Type 0} → Stage A B → Stage B C → Stage A C
 chain {B = B} first second = record { Passes = λ a c. (b : B) × first.Passes a b × second.Passes b c; Refuses = ThenRefuses first second }
 
+-- a stage on a part of a value; what it makes is joined to the value
+abbrev pub beside : {A B C D : Type 0} → (C → A) → Stage A B → (C → B → D) → Stage C D
+beside {B = B} part stage join = record {
+  Passes = λ c d. (b : B) × stage.Passes (part c) b × (d ≡ join c b);
+  Refuses = λ c. stage.Refuses (part c);
+}
+
 -- a stage on each of a list: all pass, or the first that doesn't is refused
 abbrev pub AllPass : {A B : Type 0} → Stage A B → List A → List B → Type 0
 AllPass stage [] [] = Unit {0}

@@ -1,5 +1,5 @@
 -- What the functions of the work answer.
-use Rattle.std.specs.Prelude.{◌≡◌, ℕ, List, [], ◌∷◌, map, Result, Ok, Err, Vec}
+use Rattle.std.specs.Prelude.{◌≡◌, ℕ, List, [], ◌∷◌, map, Option, Some, None, Result, Ok, Err, Vec, unwrap_or}
 use Rattle.std.proofs.Common.{Bor}
 use Rattle.std.specs.declared.alloc.Global.{Global}
 use Rattle.bl_base.specs.declared.quantity.Quantity.{Quantity}
@@ -7,20 +7,21 @@ use Rattle.bl_outside.specs.Shelf.{ReadFails}
 use Rattle.bl_outside.specs.declared.shelf.ShelfError.{ShelfError}
 use Rattle.bl_outside.specs.declared.shelf.ShelfError.TheVariants as shelf
 use Rattle.bl_job.specs.Jobs.{AreRead, Job, Plan, Read, ReadsName, RefusesLength}
-use Rattle.bl_job.specs.Refusals.{Refusal, malformed, invalid_function, invalid_module, unsupported, limit, unknown_import, mismatched_import, element_range, data_range, bad_labels, not_an_image, broken_rule, no_export, not_json, other_shape, bad_directive, bad_line, few_arguments}
+use Rattle.bl_job.specs.Refusals.{Refusal}
 use Rattle.bl_job.specs.Stages.{Stage}
 use Rattle.bl_job.specs.Status.{status_of}
 use Rattle.bl_job.specs.Texts.{read_fault_text, refusal_text}
 use Rattle.bl_job.specs.Worlds.{Said, SaidIfRoom, SameShelf, Stream, Unchanged, World}
+use Rattle.bl_job.specs.declared.content.Content.{Content}
+use Rattle.bl_job.specs.declared.content.Content.TheVariants as content
 use Rattle.bl_job.specs.declared.job.Keep.{Keep}
 use Rattle.bl_job.specs.declared.job.Plan.{Plan as PlanMade}
 use Rattle.bl_job.specs.declared.job.Read.{Read as ReadAsked}
 use Rattle.bl_job.specs.declared.refusal.Refusal.{Refusal as RefusalTold}
-use Rattle.bl_job.specs.declared.refusal.Refusal.TheVariants as told
 use Rattle.bl_job.specs.declared.refusal.WorkError.{WorkError}
 use Rattle.bl_job.specs.declared.refusal.WorkError.TheVariants as error
 use Rattle.bl_job.specs.declared.status.Status.{Status}
-use Rattle.bl_job.specs.declared.status.Status.TheVariants.{Memory, ReadFault, WriteFault}
+use Rattle.bl_job.specs.declared.status.Status.TheVariants.{Memory, ReadFault, Refused, WriteFault}
 
 -- ---- values of the code as those of the definitions
 
@@ -36,28 +37,16 @@ keep_in keep = (keep.name.now, keep.bytes.items)
 abbrev pub plan_in : PlanMade → Plan
 plan_in plan = record { status = plan.status; keeps = map keep_in plan.keeps.items; text = plan.text.items }
 
-abbrev pub contents_in : List (Vec ℕ Global) → List (List ℕ)
-contents_in contents = map (λ bytes. bytes.items) contents
+-- the bytes of a file; of a decoder that has failed there are none
+abbrev pub content_in : Content → List ℕ
+content_in (content.Bytes bytes) = bytes.items
+content_in (content.Module fed) = unwrap_or fed []
+
+abbrev pub contents_in : List Content → List (List ℕ)
+contents_in contents = map content_in contents
 
 abbrev pub refusal_in : RefusalTold → Refusal
-refusal_in (told.Malformed name) = malformed name.now
-refusal_in (told.InvalidFunction name index) = invalid_function name.now index
-refusal_in (told.InvalidModule name) = invalid_module name.now
-refusal_in (told.Unsupported name) = unsupported name.now
-refusal_in (told.Limit which value) = limit which value
-refusal_in (told.UnknownImport name import) = unknown_import name.now import
-refusal_in (told.MismatchedImport name import) = mismatched_import name.now import
-refusal_in (told.ElementRange name) = element_range name.now
-refusal_in (told.DataRange name) = data_range name.now
-refusal_in (told.BadLabels name wrong) = bad_labels name.now wrong
-refusal_in told.NotAnImage = not_an_image
-refusal_in (told.BrokenRule rule position) = broken_rule rule position
-refusal_in told.NoExport = no_export
-refusal_in told.NotJson = not_json
-refusal_in told.OtherShape = other_shape
-refusal_in (told.BadDirective number) = bad_directive number
-refusal_in (told.BadLine number) = bad_line number
-refusal_in (told.FewArguments count) = few_arguments count
+refusal_in told = record { reason = told.reason; line = told.line.items }
 
 -- ---- files
 
@@ -72,12 +61,12 @@ pub data NotFetched (reads : List Read) (old new : World) (status : Status) : Ty
   no_memory_to_fetch : Unchanged old new → status ≡ Memory → NotFetched reads old new status
 
 -- what fetching one file leaves, with the status where it is not fetched
-abbrev pub Fetched : Read → World → World → Result (Vec ℕ Global) Status → Type 0
-Fetched read old new (Ok bytes) = Unchanged old new × AreRead old.files (read ∷ []) (bytes.items ∷ [])
+abbrev pub Fetched : Read → World → World → Result Content Status → Type 0
+Fetched read old new (Ok content) = Unchanged old new × AreRead old.files (read ∷ []) (content_in content ∷ [])
 Fetched read old new (Err status) = NotFetched (read ∷ []) old new status
 
 -- what fetching files in order leaves
-abbrev pub AllFetched : List Read → World → World → Result (Vec (Vec ℕ Global) Global) Status → Type 0
+abbrev pub AllFetched : List Read → World → World → Result (Vec Content Global) Status → Type 0
 AllFetched reads old new (Ok contents) = Unchanged old new × AreRead old.files reads (contents_in contents.items)
 AllFetched reads old new (Err status) = NotFetched reads old new status
 
@@ -92,6 +81,16 @@ NotKept shelf.Memory text old new status = (new ≡ old) × (status ≡ Memory)
 abbrev pub Tells : (Refusal → Type 0) → WorkError → Type 0
 Tells P (error.Refused refusal) = P (refusal_in refusal)
 Tells P error.Memory = Unit {0}
+
+-- the error is that refusal, unless there was no memory to make its line; or there is none but that there was no memory
+abbrev pub IsTold : Option Refusal → WorkError → Type 0
+IsTold (Some refusal) e = Tells (λ told. told ≡ refusal) e
+IsTold None e = e ≡ error.Memory
+
+-- what is said of an error: the line of a refusal, and nothing where there was no memory
+abbrev pub IsSaid : WorkError → Stream → Stream → Status → Type 0
+IsSaid (error.Refused refusal) old new status = Said refusal.line.items (Refused refusal.reason) old new status
+IsSaid error.Memory old new status = (new ≡ old) × (status ≡ Memory)
 
 -- what a stage gives, or why it refuses
 abbrev pub IsStaged : {A B X : Type 0} → Stage A B → (X → B) → A → Result X WorkError → Type 0

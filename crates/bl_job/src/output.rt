@@ -1,14 +1,11 @@
 //! Text to the sink.
 ghost use Rattle.std.specs.Prelude.{◌++◌, [], ◌∷◌};
-ghost use Rattle.bl_job.specs.Status.{status_of};
-ghost use Rattle.bl_job.specs.Texts.{refusal_text};
-ghost use Rattle.bl_job.specs.Working.{refusal_in};
-ghost use Rattle.bl_job.specs.Worlds.{Pushes, Said, SaidIfRoom, stream};
+ghost use Rattle.bl_job.specs.Working.{IsSaid};
+ghost use Rattle.bl_job.specs.Worlds.{Pushes, Said, stream};
 
-use crate::refusal::Refusal;
-use crate::status::{Status, status_of};
+use crate::refusal::WorkError;
+use crate::status::Status;
 use bl_outside::{Sink, SinkFault};
-use std::alloc::Global;
 
 /// Pushes all of a text, piece by piece; each turn takes at least one byte or ends. After a fault a
 /// prefix of the text was taken.
@@ -51,12 +48,12 @@ fn push_line<O: Sink>(out: &mut O, head: &str, tail: &[u8]) -> Result<(), SinkFa
     push_all(out, b"\n")
 }
 
-/// Prints why a request is refused.
-pub fn refuse<O: Sink>(alloc: Global, refusal: Refusal<'_>, out: &mut O) -> Status
-    ensures { SaidIfRoom (refusal_text (refusal_in refusal.entry)) (status_of (refusal_in refusal.entry)) (stream O.taken O.faults out.old) (stream O.taken O.faults out.new) result }
+/// Prints why a request is refused; nothing where memory ran out.
+pub fn refuse<O: Sink>(error: WorkError, out: &mut O) -> Status
+    ensures { IsSaid error (stream O.taken O.faults out.old) (stream O.taken O.faults out.new) result }
 {
-    let Ok(text) = refusal.text(alloc) else {
-        return Status::Memory;
-    };
-    say(out, &text, status_of(refusal))
+    match error {
+        WorkError::Refused(refusal) => say(out, &refusal.line, Status::Refused(refusal.reason)),
+        WorkError::Memory => Status::Memory,
+    }
 }

@@ -1,12 +1,9 @@
 //! Exit statuses.
 ghost use Rattle.std.specs.Prelude.{◌≡◌};
-ghost use Rattle.bl_job.specs.Status.{status_number, status_of};
-ghost use Rattle.bl_job.specs.Working.{refusal_in};
-
-use crate::refusal::Refusal;
+ghost use Rattle.bl_job.specs.Status.{reason_number, status_number};
 
 /// How a call ended.
-#[derive(Clone, Copy, Debug, PartialEq, Eq)]
+#[derive(Clone, Copy, Debug)]
 pub enum Status {
     /// The work is done and all its text is written.
     Done,
@@ -18,6 +15,21 @@ pub enum Status {
     ReadFault,
     /// A file or the sink could not be written.
     WriteFault,
+    /// Memory ran out.
+    Memory,
+    /// The run ended by a trap.
+    Trapped,
+    /// The run had not ended when its steps were spent.
+    Spent,
+    /// A directive isn't enabled.
+    Stuck,
+    /// The request is refused.
+    Refused(Reason),
+}
+
+/// Why a request is refused.
+#[derive(Clone, Copy, Debug)]
+pub enum Reason {
     /// A module's bytes aren't in the grammar.
     Malformed,
     /// A module has no typing.
@@ -30,8 +42,6 @@ pub enum Status {
     Link,
     /// The labels of a module break a rule.
     Labels,
-    /// Memory ran out.
-    Memory,
     /// The bytes are no image, or the image is not well-formed.
     Image,
     /// The bytes of a certificate are no JSON value, or one that is no certificate.
@@ -40,12 +50,8 @@ pub enum Status {
     Trace,
     /// The export is absent, a line of the start file is bad, or there are too few arguments.
     Start,
-    /// The run ended by a trap.
-    Trapped,
-    /// The run had not ended when its steps were spent.
-    Spent,
-    /// A directive isn't enabled.
-    Stuck,
+    /// A count file has a bad line, or doesn't fit the program.
+    Counts,
 }
 
 impl Status {
@@ -59,39 +65,32 @@ impl Status {
             Status::Usage => 2,
             Status::ReadFault => 3,
             Status::WriteFault => 4,
-            Status::Malformed => 5,
-            Status::Invalid => 6,
-            Status::Unsupported => 7,
-            Status::Limit => 8,
-            Status::Link => 9,
-            Status::Labels => 10,
             Status::Memory => 11,
-            Status::Image => 12,
-            Status::Certificate => 13,
-            Status::Trace => 14,
-            Status::Start => 15,
             Status::Trapped => 16,
             Status::Spent => 17,
             Status::Stuck => 18,
+            Status::Refused(reason) => reason.code(),
         }
     }
 }
 
-/// The exit status of a refusal.
-pub fn status_of(refusal: Refusal<'_>) -> Status
-    ensures { result ≡ status_of (refusal_in refusal.entry) }
-{
-    match refusal {
-        Refusal::Malformed(_) => Status::Malformed,
-        Refusal::InvalidFunction(_, _) | Refusal::InvalidModule(_) => Status::Invalid,
-        Refusal::Unsupported(_) => Status::Unsupported,
-        Refusal::Limit { .. } => Status::Limit,
-        Refusal::UnknownImport(_, _) | Refusal::MismatchedImport(_, _) => Status::Link,
-        Refusal::ElementRange(_) | Refusal::DataRange(_) => Status::Link,
-        Refusal::BadLabels(_, _) => Status::Labels,
-        Refusal::NotAnImage | Refusal::BrokenRule { .. } => Status::Image,
-        Refusal::NotJson | Refusal::OtherShape => Status::Certificate,
-        Refusal::BadDirective(_) => Status::Trace,
-        Refusal::NoExport | Refusal::BadLine(_) | Refusal::FewArguments(_) => Status::Start,
+impl Reason {
+    /// The number that the process ends with.
+    fn code(self) -> u8
+        ensures { result ≡ reason_number self }
+    {
+        match self {
+            Reason::Malformed => 5,
+            Reason::Invalid => 6,
+            Reason::Unsupported => 7,
+            Reason::Limit => 8,
+            Reason::Link => 9,
+            Reason::Labels => 10,
+            Reason::Image => 12,
+            Reason::Certificate => 13,
+            Reason::Trace => 14,
+            Reason::Start => 15,
+            Reason::Counts => 19,
+        }
     }
 }

@@ -2,7 +2,9 @@ pub mod Fitting
 pub mod HexBytes
 pub mod Operands
 pub mod LineSplits
+pub mod LineTexts
 pub mod Pieces
 pub mod Saying
 pub mod Telling
 pub mod ItemLemmas
+pub mod WrittenTraces

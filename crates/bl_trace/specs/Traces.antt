@@ -1,5 +1,7 @@
 -- The directives of a trace file.
-use Rattle.std.specs.Prelude.{◌≡◌, ℕ, ◌^◌, true, false, if◌then◌else◌, List, take, drop, Option, Some, None, option_map, Result, Ok, Err, codes}
+use Rattle.std.specs.Prelude.{◌≡◌, ℕ, ◌^◌, ◌<◌, true, false, if◌then◌else◌, List, [], ◌∷◌, ◌++◌, take, drop, Option, Some, None, option_map, Result, Ok, Err, codes}
+use Rattle.std.specs.Fmt.{decimal}
+use Rattle.std.specs.List.{flat_map}
 use Rattle.std.specs.Str.{bytes_eq}
 use Rattle.bl_rob.specs.declared.directive.Directive.{Directive}
 use Rattle.bl_rob.specs.declared.directive.Directive.TheVariants.{Fetch, Predict, Exec, Retire}
@@ -31,3 +33,24 @@ abbrev pub IsTrace : Result (List Directive) ℕ → Result (List Directive) Tra
 IsTrace asked (Ok directives) = asked ≡ Ok directives
 IsTrace asked (Err (Line number)) = asked ≡ Err number
 IsTrace asked (Err Memory) = Unit {0}
+
+-- ---- texts
+
+-- the line that says a directive, without its LF
+abbrev pub directive_text : Directive → List ℕ
+directive_text Fetch = codes "fetch"
+directive_text (Predict true) = codes "fetch 1"
+directive_text (Predict false) = codes "fetch 0"
+directive_text (Exec n) = codes "exec " ++ decimal n
+directive_text Retire = codes "retire"
+
+-- the text of directives, a line for each
+abbrev pub trace_text : List Directive → List ℕ
+trace_text directives = flat_map (λ directive. directive_text directive ++ 10 ∷ []) directives
+
+-- the entry that is executed has a number of 32 bits
+abbrev pub IsWritten : Directive → Type 0
+IsWritten (Exec n) = n < 2 ^ 32
+IsWritten Fetch = Unit {0}
+IsWritten (Predict predicted) = Unit {0}
+IsWritten Retire = Unit {0}

@@ -1,5 +1,6 @@
 //! Laws of the definitions. Each function is its contract alone.
-ghost use Rattle.std.specs.Prelude.{◌≡◌, ◌↔◌, ℕ, List as Listed, Result as Either, Ok};
+ghost use Rattle.std.specs.Prelude.{◌≡◌, ◌↔◌, ℕ, List as Listed, Result as Either, Ok, length};
+ghost use Rattle.std.specs.List.{All};
 ghost use Rattle.bl_base.specs.Fits.{Fits};
 ghost use Rattle.bl_base.specs.declared.names.ValueType.{ValueType};
 ghost use Rattle.bl_base.specs.declared.start.Start.{Start};
@@ -9,7 +10,7 @@ ghost use Rattle.bl_trace.specs.StartFiles.{answer_of};
 ghost use Rattle.bl_trace.specs.Items.{TellItems};
 ghost use Rattle.bl_trace.specs.Lines.{lines_of};
 ghost use Rattle.bl_trace.specs.Told.{Tells};
-ghost use Rattle.bl_trace.specs.Traces.{directive_of, trace_of};
+ghost use Rattle.bl_trace.specs.Traces.{IsWritten, directive_of, trace_of, trace_text};
 
 /// A start that a file asks for fits the function.
 pub fn what_is_asked_for_fits()
@@ -26,4 +27,10 @@ pub fn what_lines_tell()
 /// A trace file has the directives of its lines, where each line says one; else the number of the first one that says none.
 pub fn what_traces_tell()
     ensures { (bytes : Listed ℕ) (answer : Either (Listed Directive) ℕ) → trace_of bytes ≡ answer ↔ TellItems directive_of (lines_of bytes) answer }
+{}
+
+/// What is written of directives is read back, and has as many lines.
+pub fn what_is_written_is_read()
+    ensures reads { (directives : Listed Directive) → All IsWritten directives → trace_of (trace_text directives) ≡ Ok directives }
+    ensures lines { (directives : Listed Directive) → All IsWritten directives → length (lines_of (trace_text directives)) ≡ length directives }
 {}

@@ -58,7 +58,7 @@ fn division(alloc: Global, a: u64, b: u64) -> Result<Vec<u8>, NoMemory>
 }
 
 /// The line that begins with a text, with the guards of a mask behind it.
-fn guarded(alloc: Global, mut text: Vec<u8>, mask: u64) -> Result<Vec<u8>, NoMemory>
+pub fn guarded(alloc: Global, mut text: Vec<u8>, mask: u64) -> Result<Vec<u8>, NoMemory>
     ensures { IfOk result (λ line. line.items ≡ text.items ++ guards_text mask ++ 10 ∷ []) }
 {
     if mask == 0 {

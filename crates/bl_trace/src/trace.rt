@@ -1,11 +1,12 @@
 //! A trace file, read line by line.
-ghost use Rattle.std.specs.Prelude.{◌≡◌, length};
+ghost use Rattle.std.specs.Prelude.{◌≡◌, ◌++◌, ◌∷◌, [], IfOk, OnOk, codes, length};
+ghost use Rattle.std.specs.Fmt.{decimal};
 ghost use Rattle.bl_trace.specs.Lines.{lines_of};
-ghost use Rattle.bl_trace.specs.Traces.{IsTrace, directive_of, executed, trace_of};
+ghost use Rattle.bl_trace.specs.Traces.{IsTrace, directive_of, directive_text, executed, trace_of, trace_text};
 
 use crate::error::TraceError;
 use crate::line::place_of;
-use bl_base::List;
+use bl_base::{List, NoMemory};
 use bl_rob::Directive;
 use bl_text::read_decimal;
 use std::alloc::Global;
@@ -73,4 +74,39 @@ fn read_exec(line: &[u8]) -> Option<u32>
     let digits = line.strip_prefix(b"exec ".as_slice())?;
     let entry = read_decimal(digits, u64::from(u32::MAX))?;
     Some(entry as u32)
+}
+
+/// The text of a trace file: a line for each directive, which `read_trace` reads back. Linear in the directives.
+pub fn trace_text(alloc: Global, directives: &[Directive]) -> Result<Vec<u8>, NoMemory>
+    ensures { IfOk result (λ text. text.items ≡ trace_text directives.now) }
+{
+    let mut text = Vec::new(alloc);
+    for directive in directives {
+        push_directive(alloc, &mut text, *directive)?;
+    }
+    Ok(text)
+}
+
+/// Puts the line of a directive behind the text.
+fn push_directive(alloc: Global, text: &mut Vec<u8>, directive: Directive) -> Result<(), NoMemory>
+    ensures { OnOk result (text.new.items ≡ text.old.items ++ (directive_text directive ++ 10 ∷ [])) }
+{
+    match directive {
+        Directive::Fetch => text.extend_from_slice(b"fetch\n".as_slice())?,
+        Directive::Predict(true) => text.extend_from_slice(b"fetch 1\n".as_slice())?,
+        Directive::Predict(false) => text.extend_from_slice(b"fetch 0\n".as_slice())?,
+        Directive::Exec(n) => {
+            let line = exec_line(alloc, n)?;
+            text.extend_from_slice(&line)?;
+        }
+        Directive::Retire => text.extend_from_slice(b"retire\n".as_slice())?,
+    }
+    Ok(())
+}
+
+/// The line that executes an entry.
+fn exec_line(alloc: Global, n: u32) -> Result<Vec<u8>, NoMemory>
+    ensures { IfOk result (λ line. line.items ≡ codes "exec " ++ decimal n ++ 10 ∷ []) }
+{
+    Ok(format!(in alloc; "exec {n}\n")?.into_bytes())
 }

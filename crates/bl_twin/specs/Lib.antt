@@ -1,3 +1,4 @@
 pub mod Agreeing
 pub mod Comparing
+pub mod Laws
 pub mod Runs

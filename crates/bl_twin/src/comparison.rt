@@ -1,9 +1,10 @@
 //! What two runs have in common, and what they show behind it.
 ghost use Rattle.std.specs.Prelude.{◌≡◌, ◌≤◌, take, length};
 ghost use Rattle.bl_rob.specs.CallResults.{seen_in};
-ghost use Rattle.bl_twin.specs.Comparing.{common, compared, is_same, shown_behind};
+ghost use Rattle.bl_twin.specs.Comparing.{common_by, compared, shown_behind};
 
-use bl_rob::{Observation, Seen};
+use crate::sight::Sight;
+use bl_rob::Observed;
 
 /// How what is observed of two runs of the same directives compares.
 #[derive(Clone, Copy, Debug, PartialEq, Eq)]
@@ -18,37 +19,30 @@ pub enum Comparison {
 
 /// What a run shows at a place.
 #[derive(Clone, Copy)]
-pub enum Shown {
+pub enum Shown<O> {
     /// What is observed of the directive there.
-    Seen(Observation),
+    Seen(O),
     /// The directive there is refused.
     Stuck,
     /// Nothing: no directive is left.
     Over,
 }
 
-/// Whether two observations are the same.
-fn is_same(one: &Observation, other: &Observation) -> bool
-    ensures { result ≡ is_same one.now other.now }
-{
-    *one == *other
-}
-
 /// How many of their first observations two runs have in common.
-pub fn common_front(one: &[Observation], other: &[Observation]) -> usize
-    ensures count { result ≡ length (common one.now other.now) }
+pub fn common_front<O: Sight>(one: &[O], other: &[O]) -> usize
+    ensures count { result ≡ length (common_by O.alike one.now other.now) }
     ensures within { result ≤ length one.now }
-    ensures front { take result one.now ≡ common one.now other.now }
+    ensures front { take result one.now ≡ common_by O.alike one.now other.now }
 {
     let mut count = 0;
-    while count < one.len() && count < other.len() && is_same(&one[count], &other[count]) {
+    while count < one.len() && count < other.len() && one[count].is_same(&other[count]) {
         count += 1;
     }
     count
 }
 
 /// What a run shows behind so many observations.
-pub fn shown_behind(seen: &Seen, count: usize) -> Shown
+pub fn shown_behind<O: Sight>(seen: &Observed<O>, count: usize) -> Shown<O>
     ensures { result ≡ shown_behind (seen_in seen.now) count }
 {
     match seen.made.as_slice().get(count) {
@@ -59,7 +53,7 @@ pub fn shown_behind(seen: &Seen, count: usize) -> Shown
 }
 
 /// The comparison of two runs, by what both show behind the common prefix.
-pub fn compared(one: Shown, other: Shown) -> Comparison
+pub fn compared<O: Sight>(one: Shown<O>, other: Shown<O>) -> Comparison
     ensures { result ≡ compared one other }
 {
     match (one, other) {

@@ -5,9 +5,11 @@ mod agreement;
 mod comparison;
 pub mod laws;
 mod runs;
+mod sight;
 mod text;
 
 pub use agreement::agree;
 pub use comparison::Comparison;
 pub use runs::compare_runs;
+pub use sight::Sight;
 pub use text::{Compared, compare};

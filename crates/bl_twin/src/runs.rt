@@ -9,7 +9,7 @@ use crate::agreement::agree;
 use crate::text::{Compared, compare};
 use bl_base::{NoMemory, Start};
 use bl_cmd::WellFormed;
-use bl_rob::{Directive, Rob, Seen};
+use bl_rob::{Directive, Observation, Observed, Rob};
 use std::alloc::Global;
 
 /// Takes directives on a function from each of two starts, where the buffer has room for 64 entries, and compares what is observed, behind
@@ -39,7 +39,7 @@ fn seen_from(
     function: u32,
     start: &Start,
     directives: &[Directive],
-) -> Result<Seen, NoMemory>
+) -> Result<Observed<Observation>, NoMemory>
     requires { IsStart program.now function start.now }
     ensures { IfOk result (λ seen. seen_in seen ≡ observed 64 program.now function start.now directives.now) }
 {

@@ -12,7 +12,7 @@ use Rattle.clap.specs.Kinds.{Kinds, or_else, IsAmong as IsAmongKinds}
 use Rattle.clap.specs.Faults.{is_simple_and_free, bundle_step_fault, check_fault, default_fault, given_default_fault, settle_fault, defaults_fault, entered_fault, fault_of, flags_fault, level_fault, turn_fault, walk_fault}
 use Rattle.clap.specs.declared.error.kind.ErrorKind.TheVariants.{OutOfMemory, UnknownArgument, InvalidSubcommand}
 use Rattle.clap.specs.declared.error.kind.ErrorKind.{ErrorKind}
-use Rattle.bl_words.specs.Requests.{Steps, Command, Parts, Request, arguments_alone, asked_among, command_of, commands, kept, parts_of, request_of, value_of}
+use Rattle.bl_words.specs.Requests.{Steps, Counts, Command, Parts, Request, arguments_alone, asked_among, command_of, commands, kept, parts_of, request_of, value_of, with_counts}
 use Rattle.bl_words.specs.CommandLine.{blade_app, argument_rule, option_rule}
 use Rattle.bl_words.proofs.WordKinds.{Kind, kind, plain, end, asking, giving, long, short}
 use Rattle.bl_words.proofs.Contents.{parts_of_rows}
@@ -40,9 +40,13 @@ argument_built = with_index 1 (filled argument_rule)
 abbrev steps_built : Rule
 steps_built = with_index 2 (filled (option_rule (codes "steps")))
 
+abbrev counts_built : Rule
+counts_built = with_index 3 (filled (option_rule (codes "counts")))
+
 no_defaults : (rows : List Row) → defaults_fault rows rules ≡ []
 unfolding defaults_fault
 no_defaults rows = past _ _ (default_none rows argument_built refl) ∙ past _ _ (default_none (with_default rows argument_built) steps_built refl)
+    ∙ past _ _ (default_none (with_default (with_default rows argument_built) steps_built) counts_built refl)
 
 same_rows : (b : Bool) (rows : List Row) → cond b rows rows ≡ rows
 same_rows true rows = refl
@@ -54,8 +58,12 @@ argument_stays rows = same_rows _ rows
 steps_stay : (rows : List Row) → with_default rows steps_built ≡ rows
 steps_stay rows = same_rows _ rows
 
+counts_stay : (rows : List Row) → with_default rows counts_built ≡ rows
+counts_stay rows = same_rows _ rows
+
 rows_stay : (rows : List Row) → fold with_default rows rules ≡ rows
-rows_stay rows = ap (λ r. with_default r steps_built) (argument_stays rows) ∙ steps_stay rows
+rows_stay rows =
+    ap (λ r. with_default (with_default r steps_built) counts_built) (argument_stays rows) ∙ (ap (λ r. with_default r counts_built) (steps_stay rows) ∙ counts_stay rows)
 
 abbrev sub_fault : Text → List Text → Kinds
 sub_fault name words = level_fault (built_shape name) [] nothing_held words false []
@@ -179,7 +187,9 @@ other_refused program _ (plain word p) words text other =
     cc)
 other_refused program _ end words text other = end_refused program words
 other_refused program _ (asking Steps) words text other = first_refused program (codes "--steps") words (λ e. cc)
+other_refused program _ (asking Counts) words text other = first_refused program (codes "--counts") words (λ e. cc)
 other_refused program _ (giving Steps v) words text other = first_refused program (codes "--steps=" ++ v) words (λ e. cc)
+other_refused program _ (giving Counts v) words text other = first_refused program (codes "--counts=" ++ v) words (λ e. cc)
 other_refused program _ (long word name v is unlike strange) words text other =
     first_refused program word words (λ e.
     let unknown : turn_fault top names start word ≡ UnknownArgument ∷ [] = rw (other, strange.end, is) refl in
@@ -277,11 +287,14 @@ module _ (name : Text) (words : List Text) where
 -- words of no command ask for nothing
 asked_none : (name : Text) (found : Option Parts) → ((arguments : List Text) (steps : Option Text) → asked_among commands name arguments steps ≡ None) → asked name found ≡ None
 asked_none name None none = refl
-asked_none name (Some parts) none = go (value_of parts.steps_values)
+asked_none name (Some parts) none = go (value_of parts.steps_values) (value_of parts.counts_values)
   where
-    go : (value : Option (Option Text)) → option_and_then (λ steps. option_and_then kept (asked_among commands name parts.arguments steps)) value ≡ None
-    go None = refl
-    go (Some steps) = ap (option_and_then kept) (none parts.arguments steps)
+    go : (value second : Option (Option Text))
+        → option_and_then (λ steps. option_and_then (λ counts. option_and_then kept (option_and_then (with_counts counts) (asked_among commands name parts.arguments steps))) second) value
+        ≡ None
+    go None second = refl
+    go (Some steps) None = refl
+    go (Some steps) (Some counts) = ap (λ found. option_and_then kept (option_and_then (with_counts counts) found)) (none parts.arguments steps)
 
 when_named_taken : (program name : Text) (words : List Text) → AllText words → IsCommand name → fault_of blade_app (program ∷ name ∷ words) ≡ []
     → asked name (parts_of words) ≡ chosen (subcommand_of blade_app (program ∷ name ∷ words))

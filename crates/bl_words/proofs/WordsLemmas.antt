@@ -1,18 +1,19 @@
 -- How the words of a command are taken apart, and what those of a request say of its files and its numbers.
-use Rattle.std.proofs.Common.{◌≡◌, ◌+◌, ◌∙◌, ap, sym, ℕ, ◌^◌, ◌<◌, ◌≤◌, nat_lt, length, Bool, ◌&&◌, ◌||◌, not, true, false, cond, List, [], ◌∷◌, ◌++◌, drop, map, Option, Some, None, refl, subst, arith}
+use Rattle.std.proofs.Common.{◌≡◌, ◌+◌, ◌∙◌, ap, sym, ℕ, ◌^◌, ◌<◌, ◌≤◌, nat_le, nat_lt, length, Bool, ◌&&◌, ◌||◌, not, true, false, cond, List, [], ◌∷◌, ◌++◌, drop, map, Option, Some, None, refl, subst, arith}
 use Rattle.std.specs.Prelude.{⊤, Decides, IfSome, codes, option_and_then}
+use Rattle.std.specs.List.{list_any}
 use Rattle.std.specs.Option.{option_map}
 use Rattle.std.specs.Str.{bytes_eq}
-use Rattle.std.proofs.lemmas.Bool.{and_parts, cond-false, eqb-true, ltb-true, false_from_ne_true, not-false}
+use Rattle.std.proofs.lemmas.Bool.{and_parts, cond-false, eqb-true, leb-true, ltb-true, false_from_ne_true, not-false, true≢false}
 use Rattle.std.proofs.lemmas.Bool.Decides.{not_from_Decides}
 use Rattle.std.proofs.lemmas.Slice.Eq.{bytes_eq-Decides}
 use Rattle.bl_base.specs.Quantity.{limit_of}
 use Rattle.bl_base.specs.declared.quantity.Quantity.TheVariants as quantity
 use Rattle.bl_text.specs.Names.{AreNamedApart, module_name}
-use Rattle.bl_words.specs.Requests.{Command, GenRequest, HardenRequest, IsGenInRange, Parts, Request, are_distinct, asked_among, command_of, commands, files_in, gen, gen_of, harden, harden_of, interp, interp_of, kept, lower, lower_of, modules_in, parts_behind, parts_by, parts_of, request_of, run, run_of, seed_of, size_of, spec, spec_of, twin, twin_of, value_of, verify, verify_of}
+use Rattle.bl_words.specs.Requests.{AreInRange, AreTurnsInRange, Command, GenRequest, HardenRequest, InterpRequest, IsGenInRange, Parts, PredictRequest, Request, RunRequest, are_distinct, are_files_unlike, asked_among, command_of, commands, file_named, files_in, forward, gen, gen_of, harden, harden_of, interp, interp_of, kept, lower, lower_of, modules_in, modules_of, number_of_steps, parts_behind, parts_by, parts_of, predict, predict_of, request_of, run, run_of, seed_of, size_of, spec, spec_of, steps_of, turns_of, twin, twin_of, value_of, verify, verify_of, with_counts}
 use Rattle.bl_text.specs.Digits.{decimal_below}
 use Rattle.bl_words.specs.Requests.{BeginsWithDash, IsOption, IsTakenApart, no_words, options_end, argument, value_in_next_word, value_in_same_word}
-use Rattle.bl_words.specs.Requests.{OptionName, Steps, Reading, ends, asks, gives, strange, plain, arguments_alone, begins_with_dash, has_value_of, is_option, options, reading_among, reading_of, with_argument, with_value, word_of}
+use Rattle.bl_words.specs.Requests.{OptionName, Steps, Counts, Reading, ends, asks, gives, strange, plain, arguments_alone, begins_with_dash, has_value_of, is_option, options, reading_among, reading_of, with_argument, with_value, word_of}
 use Rattle.bl_words.proofs.WordKinds.{value_is}
 use Rattle.bl_words.proofs.ModuleWords.{named_apart}
 use Rattle.bl_text.proofs.Decimals.{below_limit}
@@ -109,9 +110,11 @@ other_fails word test not_so so = false_from_ne_true test (λ e. not_so (option_
 -- the words that rules name are options
 pub asks_option : (name : OptionName) → is_option (codes "--" ++ word_of name) ≡ true
 asks_option Steps = refl
+asks_option Counts = refl
 
 pub gives_option : (name : OptionName) (v : List ℕ) → is_option (codes "--" ++ word_of name ++ (codes "=" ++ v)) ≡ true
 gives_option Steps v = refl
+gives_option Counts v = refl
 
 plain_among : (names : List OptionName) (word : List ℕ) → (IsOption word → ⊥) → reading_among names word ≡ plain
 plain_among [] word not_so = cond-false (is_option word) _ _ (other_fails word _ not_so (λ e. e))
@@ -125,9 +128,11 @@ plain_read word not_so = cond-false (bytes_eq word (codes "--")) _ _ (other_fail
 
 pub asks_read : (name : OptionName) → reading_of (codes "--" ++ word_of name) ≡ asks name
 asks_read Steps = refl
+asks_read Counts = refl
 
 pub gives_read : (name : OptionName) (v : List ℕ) → reading_of (codes "--" ++ word_of name ++ (codes "=" ++ v)) ≡ gives name v
 gives_read Steps v = refl
+gives_read Counts v = refl
 
 abbrev read_as : List ℕ → List (List ℕ) → Reading → Option Parts
 read_as word words reading = parts_by reading word words (parts_of words) (parts_behind words)
@@ -180,11 +185,62 @@ gen_within (seed_word ∷ size_word ∷ []) None =
     sized seed below (Some size) within = record { seed_fits = below; size_is_positive = within.0; size_is_within = within.1 }
 gen_within _ _ = tt
 
+steps_within : (word : List ℕ) → IfSome (number_of_steps word) AreInRange
+steps_within word =
+    found_then (λ steps. steps < 2 ^ 32) AreInRange _ (decimal_below (2 ^ 32) word) (below_limit (2 ^ 32) word)
+    (λ steps below. of_cond (λ found. IfSome found AreInRange) (nat_lt 0 steps && nat_lt (length word) 11) (Some steps) None
+    (λ e. let positive = ltb-true 0 steps (and_parts (nat_lt 0 steps) (nat_lt (length word) 11) e).0 in record { some = omega (arith, positive); few = below })
+    (λ _. tt))
+
+steps_in : (value : Option (List ℕ)) → IfSome (steps_of value) AreInRange
+steps_in None = record { some = omega arith; few = omega arith }
+steps_in (Some word) = steps_within word
+
+-- what is made with a number of steps has that number
+module _ {A : Type 0} (P : A → Type 0) (made : ℕ → A) (own : (steps : ℕ) → AreInRange steps → P (made steps)) where
+  with_steps : (found : Option ℕ) → IfSome found AreInRange → IfSome (option_map made found) P
+  with_steps None within = tt
+  with_steps (Some steps) within = own steps within
+
+interp_within : (arguments : List (List ℕ)) (steps : Option (List ℕ)) → IfSome (interp_of arguments steps) (λ request. AreInRange request.steps)
+interp_within (export ∷ start ∷ words) steps = of_modules (modules_of words)
+  where
+    of_modules : (found : Option (List (List ℕ)))
+        → IfSome (option_and_then (λ modules. option_map (λ steps. record { export = export; start = start; modules = modules; steps = steps }) (steps_of steps)) found)
+        (λ (request : InterpRequest). AreInRange request.steps)
+    of_modules None = tt
+    of_modules (Some modules) = with_steps (λ (request : InterpRequest). AreInRange request.steps) _ (λ steps within. within) (steps_of steps) (steps_in steps)
+interp_within _ _ = tt
+
+run_within : (arguments : List (List ℕ)) (steps : Option (List ℕ)) → IfSome (run_of arguments steps) (λ request. AreInRange request.steps)
+run_within (image ∷ export ∷ start ∷ []) steps = with_steps (λ (request : RunRequest). AreInRange request.steps) _ (λ steps within. within) (steps_of steps) (steps_in steps)
+run_within _ _ = tt
+
+turns_in : (value : Option (List ℕ)) → IfSome (turns_of value) AreTurnsInRange
+turns_in value =
+    found_then AreInRange AreTurnsInRange _ (steps_of value) (steps_in value)
+    (λ turns within. of_cond (λ found. IfSome found AreTurnsInRange) (nat_le turns (limit_of quantity.Directives)) (Some turns) None
+    (λ e. record { some = within.some; few = leb-true turns (limit_of quantity.Directives) e })
+    (λ _. tt))
+
+predict_within : (arguments : List (List ℕ)) (steps : Option (List ℕ)) → IfSome (predict_of arguments steps) (λ request. AreTurnsInRange request.steps)
+predict_within (image ∷ export ∷ trace ∷ start ∷ []) steps = with_turns (turns_of steps) (turns_in steps)
+  where
+    with_turns : (found : Option ℕ) → IfSome found AreTurnsInRange
+        → IfSome (option_map (λ steps. record { image = image; export = export; trace = trace; start = start; steps = steps }) found)
+        (λ (request : PredictRequest). AreTurnsInRange request.steps)
+    with_turns None within = tt
+    with_turns (Some turns) within = within
+predict_within _ _ = tt
+
 -- ---- requests
 
 -- what a request keeps by its command
 abbrev KeepsRules : Request → Type 0
 KeepsRules (gen request) = IsGenInRange request
+KeepsRules (interp request) = AreInRange request.steps
+KeepsRules (run request) = AreInRange request.steps
+KeepsRules (predict request) = AreTurnsInRange request.steps
 KeepsRules _ = Unit {0}
 
 made_keeps : {A : Type 0} (made : A → Request) (P : A → Type 0) → ((a : A) → P a → KeepsRules (made a)) → (found : Option A) → IfSome found P → IfSome (option_map made found) KeepsRules
@@ -206,6 +262,16 @@ plain_row made read h arguments steps = made_keeps made (λ _. Unit {0}) (λ a _
 gen_row : (arguments : List (List ℕ)) (steps : Option (List ℕ)) → IfSome (option_map gen (gen_of arguments steps)) KeepsRules
 gen_row arguments steps = made_keeps gen IsGenInRange (λ request within. within) (gen_of arguments steps) (gen_within arguments steps)
 
+interp_row : (arguments : List (List ℕ)) (steps : Option (List ℕ)) → IfSome (option_map interp (interp_of arguments steps)) KeepsRules
+interp_row arguments steps = made_keeps interp (λ request. AreInRange request.steps) (λ request within. within) (interp_of arguments steps) (interp_within arguments steps)
+
+run_row : (arguments : List (List ℕ)) (steps : Option (List ℕ)) → IfSome (option_map run (run_of arguments steps)) KeepsRules
+run_row arguments steps = made_keeps run (λ request. AreInRange request.steps) (λ request within. within) (run_of arguments steps) (run_within arguments steps)
+
+predict_row : (arguments : List (List ℕ)) (steps : Option (List ℕ)) → IfSome (option_map predict (predict_of arguments steps)) KeepsRules
+predict_row arguments steps =
+    made_keeps predict (λ request. AreTurnsInRange request.steps) (λ request within. within) (predict_of arguments steps) (predict_within arguments steps)
+
 abbrev AllKeep : List Command → Type 0
 AllKeep [] = ⊤
 AllKeep (one ∷ others) = RowKeeps one × AllKeep others
@@ -216,10 +282,10 @@ rows_keep = (
   (
     plain_row lower lower_of (λ _. tt),
     (
-      plain_row interp interp_of (λ _. tt),
+      interp_row,
       (
-        plain_row run run_of (λ _. tt),
-        (plain_row spec spec_of (λ _. tt), (plain_row verify verify_of (λ _. tt), (plain_row twin twin_of (λ _. tt), (gen_row, tt)))),
+        run_row,
+        (plain_row spec spec_of (λ _. tt), (plain_row verify verify_of (λ _. tt), (plain_row twin twin_of (λ _. tt), (plain_row forward twin_of (λ _. tt), (predict_row, (gen_row, tt)))))),
       ),
     ),
   ),
@@ -230,6 +296,14 @@ asked_keeps [] keep word arguments steps = tt
 asked_keeps (one ∷ all) keep word arguments steps =
     of_cond (λ found. IfSome found KeepsRules) (bytes_eq word one.name) _ _ (λ _. keep.0 arguments steps) (λ _. asked_keeps all keep.1 word arguments steps)
 
+-- so does a request with a count file
+counted_keeps : (counts : Option (List ℕ)) (found : Option Request) → IfSome found KeepsRules → IfSome (option_and_then (with_counts counts) found) KeepsRules
+counted_keeps counts None h = tt
+counted_keeps None (Some request) h = h
+counted_keeps (Some file) (Some (harden request)) h = tt
+counted_keeps (Some file) (Some (run request)) h = h
+counted_keeps (Some file) (Some _) h = tt
+
 -- what holds of each request that a command keeps holds of the request of words
 then_holds : {A : Type 0} (P : Request → Type 0) (ask : A → Option Request) (found : Option A) → ((a : A) → IfSome (ask a) P) → IfSome (option_and_then ask found) P
 then_holds P ask None h = tt
@@ -237,29 +311,35 @@ then_holds P ask (Some a) h = h a
 
 of_words : (P : Request → Type 0) → ((request : Request) → KeepsRules request → IfSome (kept request) P) → (words : List (List ℕ)) → IfSome (request_of words) P
 of_words P h (program ∷ word ∷ words) =
-    then_holds P (command_of word) (parts_of words) (λ parts. then_holds P _ (value_of parts.steps_values) (λ steps.
-    found_then KeepsRules P kept (asked_among commands word parts.arguments steps) (asked_keeps commands rows_keep word parts.arguments steps) h))
+    then_holds P (command_of word) (parts_of words) (λ parts. then_holds P _ (value_of parts.steps_values) (λ steps. then_holds P _ (value_of parts.counts_values) (λ counts.
+    found_then KeepsRules P kept (option_and_then (with_counts counts) (asked_among commands word parts.arguments steps))
+    (counted_keeps counts (asked_among commands word parts.arguments steps) (asked_keeps commands rows_keep word parts.arguments steps)) h)))
 of_words P h _ = tt
 
 -- what is kept passes both tests
-kept_holds : (P : Request → Type 0) (request : Request) → (are_distinct (files_in request) ≡ true → are_distinct (map module_name (modules_in request)) ≡ true → P request)
+kept_holds : (P : Request → Type 0) (request : Request) → (are_files_unlike request ≡ true → are_distinct (map module_name (modules_in request)) ≡ true → P request)
     → IfSome (kept request) P
 kept_holds P request h =
-    of_cond (λ found. IfSome found P) (not (are_distinct (files_in request))) _ _ (λ _. tt)
+    of_cond (λ found. IfSome found P) (not (are_files_unlike request)) _ _ (λ _. tt)
     (λ differ. of_cond (λ found. IfSome found P) (are_distinct (map module_name (modules_in request))) _ _ (λ apart. h (not-false _ differ) apart) (λ _. tt))
 
 holds_of : (P : Request → Type 0) → ((request : Request) → KeepsRules request → IfSome (kept request) P) → (words : List (List ℕ)) (request : Request) → request_of words ≡ Some request → P request
 holds_of P h words request e = subst (λ asked. IfSome asked P) e (of_words P h words)
 
+-- the first two of distinct words differ
+unlike_first : (first second : List ℕ) (others : List (List ℕ)) → are_distinct (first ∷ second ∷ others) ≡ true → bytes_eq first second ≡ false
+unlike_first first second others e =
+    false_from_ne_true (bytes_eq first second)
+    (λ same. true≢false (sym (and_parts (not (list_any (bytes_eq first) (second ∷ others))) (are_distinct (second ∷ others)) e).0 ∙ ap not (any_first same)))
+  where
+    any_first : bytes_eq first second ≡ true → list_any (bytes_eq first) (second ∷ others) ≡ true
+    any_first same = rw same refl
+
 -- the files that a `harden` keeps differ
 pub request_differs : (words : List (List ℕ)) (request : HardenRequest) → request_of words ≡ Some (harden request) → bytes_eq request.image request.certificate ≡ false
 request_differs words request e =
-    let distinct = holds_of (λ request. are_distinct (files_in request) ≡ true) (λ request _. kept_holds _ request (λ differ apart. differ)) words (harden request) e in
-    go (bytes_eq request.image request.certificate) distinct
-  where
-    go : (same : Bool) → (not (same || false) && true) ≡ true → same ≡ false
-    go true e = cc
-    go false e = refl
+    let distinct = holds_of (λ request. are_files_unlike request ≡ true) (λ request _. kept_holds _ request (λ differ apart. differ)) words (harden request) e in
+    unlike_first request.image request.certificate (file_named request.counts) distinct
 
 -- no two modules of a request have one name
 pub names_apart : (words : List (List ℕ)) (request : Request) → request_of words ≡ Some request → AreNamedApart (modules_in request)
@@ -268,3 +348,14 @@ names_apart = holds_of (λ request. AreNamedApart (modules_in request)) (λ requ
 -- the seed and the size of a `gen` are in range
 pub gen_in_range : (words : List (List ℕ)) (request : GenRequest) → request_of words ≡ Some (gen request) → IsGenInRange request
 gen_in_range words request e = holds_of KeepsRules (λ request keep. kept_holds _ request (λ differ apart. keep)) words (gen request) e
+
+-- and so are the steps of an `interp` and of a `run`
+pub interp_in_range : (words : List (List ℕ)) (request : InterpRequest) → request_of words ≡ Some (interp request) → AreInRange request.steps
+interp_in_range words request e = holds_of KeepsRules (λ request keep. kept_holds _ request (λ differ apart. keep)) words (interp request) e
+
+pub run_in_range : (words : List (List ℕ)) (request : RunRequest) → request_of words ≡ Some (run request) → AreInRange request.steps
+run_in_range words request e = holds_of KeepsRules (λ request keep. kept_holds _ request (λ differ apart. keep)) words (run request) e
+
+-- and so are the turns of a `predict`
+pub predict_in_range : (words : List (List ℕ)) (request : PredictRequest) → request_of words ≡ Some (predict request) → AreTurnsInRange request.steps
+predict_in_range words request e = holds_of KeepsRules (λ request keep. kept_holds _ request (λ differ apart. keep)) words (predict request) e

@@ -14,7 +14,7 @@ abbrev pub option_rule : Text → Rule
 option_rule name = record (new_rule name) { long = Some name; action = Some Append }
 
 abbrev pub command_shape : List ℕ → Shape
-command_shape name = record (new_shape name) { rules = argument_rule ∷ option_rule (codes "steps") ∷ [] }
+command_shape name = record (new_shape name) { rules = argument_rule ∷ option_rule (codes "steps") ∷ option_rule (codes "counts") ∷ [] }
 
 abbrev pub bare_app : App
 bare_app = record {

@@ -1,5 +1,5 @@
 -- What the words of a call ask for.
-use Rattle.std.specs.Prelude.{◌≡◌, ◌+◌, ℕ, ◌-◌, ◌^◌, ◌<◌, ◌≤◌, Bool, ◌&&◌, not, true, false, List, [], ◌∷◌, ◌++◌, length, map, take, drop, Option, Some, None, option_and_then, nat_eq, nat_lt, codes, if◌then◌else◌}
+use Rattle.std.specs.Prelude.{◌≡◌, ◌+◌, ℕ, ◌^◌, ◌<◌, ◌≤◌, Bool, ◌&&◌, not, true, false, List, [], ◌∷◌, ◌++◌, length, map, take, drop, Option, Some, None, option_and_then, nat_eq, nat_le, nat_lt, codes, if◌then◌else◌}
 use Rattle.std.specs.List.{list_any}
 use Rattle.std.specs.Option.{option_map}
 use Rattle.std.specs.Str.{bytes_eq}
@@ -8,11 +8,12 @@ use Rattle.bl_base.specs.declared.quantity.Quantity.TheVariants as quantity
 use Rattle.bl_text.specs.Digits.{decimal_below}
 use Rattle.bl_text.specs.Names.{module_name}
 
--- `harden`: the files that are written, and the modules that are read
+-- `harden`: the files that are written, the modules that are read, and the count file that is read, where one is named
 pub record HardenRequest : Type 0 where
   pub image : List ℕ
   pub certificate : List ℕ
   pub modules : List (List ℕ)
+  pub counts : Option (List ℕ)
 
 -- `lower`: the file that is written, and the modules that are read
 pub record LowerRequest : Type 0 where
@@ -26,12 +27,14 @@ pub record InterpRequest : Type 0 where
   pub modules : List (List ℕ)
   pub steps : ℕ
 
--- `run`: the image that is read, the name of an exported function, the start file that is read, and the most steps
+-- `run`: the image that is read, the name of an exported function, the start file that is read, the most steps, and the count file that
+-- is written, where one is named
 pub record RunRequest : Type 0 where
   pub image : List ℕ
   pub export : List ℕ
   pub start : List ℕ
   pub steps : ℕ
+  pub counts : Option (List ℕ)
 
 -- `spec`: the image that is read, the name of an exported function, and the trace file and the start file that are read
 pub record SpecRequest : Type 0 where
@@ -45,13 +48,23 @@ pub record VerifyRequest : Type 0 where
   pub image : List ℕ
   pub certificate : List ℕ
 
--- `twin`: the image that is read, the name of an exported function, and the trace file and the two start files that are read
+-- `twin` and `forward`: the image that is read, the name of an exported function, and the trace file and the two start files that are
+-- read
 pub record TwinRequest : Type 0 where
   pub image : List ℕ
   pub export : List ℕ
   pub trace : List ℕ
   pub start : List ℕ
   pub other_start : List ℕ
+
+-- `predict`: the image that is read, the name of an exported function, the trace file that is written, the start file that is read, and the
+-- most turns
+pub record PredictRequest : Type 0 where
+  pub image : List ℕ
+  pub export : List ℕ
+  pub trace : List ℕ
+  pub start : List ℕ
+  pub steps : ℕ
 
 -- `gen`: the number that a module is made from, and its size
 pub record GenRequest : Type 0 where
@@ -67,6 +80,8 @@ pub data Request : Type 0 where
   spec : SpecRequest → Request
   verify : VerifyRequest → Request
   twin : TwinRequest → Request
+  forward : TwinRequest → Request
+  predict : PredictRequest → Request
   gen : GenRequest → Request
 
 -- the modules that a request reads
@@ -76,9 +91,15 @@ modules_in (lower request) = request.modules
 modules_in (interp request) = request.modules
 modules_in _ = []
 
+-- a file that may be named
+abbrev pub file_named : Option (List ℕ) → List (List ℕ)
+file_named None = []
+file_named (Some file) = file ∷ []
+
 -- the files of a request of which no two may be one
 abbrev pub files_in : Request → List (List ℕ)
-files_in (harden request) = request.image ∷ request.certificate ∷ []
+files_in (harden request) = request.image ∷ request.certificate ∷ file_named request.counts
+files_in (run request) = request.image ∷ file_named request.counts
 files_in (verify request) = request.image ∷ request.certificate ∷ []
 files_in _ = []
 
@@ -95,25 +116,29 @@ pub record IsOption (word : List ℕ) : Type 0 where
 -- the options
 pub data OptionName : Type 0 where
   Steps : OptionName
+  Counts : OptionName
 
 -- an option's name behind its `--`
 abbrev pub word_of : OptionName → List ℕ
 word_of Steps = codes "steps"
+word_of Counts = codes "counts"
 
 -- a command's words taken apart: its arguments, and the values that each option is given
 pub record Parts : Type 0 where
   pub arguments : List (List ℕ)
   pub steps_values : List (List ℕ)
+  pub counts_values : List (List ℕ)
 
 -- arguments alone
 abbrev pub arguments_alone : List (List ℕ) → Parts
-arguments_alone words = record { arguments = words; steps_values = [] }
+arguments_alone words = record { arguments = words; steps_values = []; counts_values = [] }
 
 abbrev pub with_argument : List ℕ → Parts → Parts
 with_argument word parts = record parts { arguments = word ∷ parts.arguments }
 
 abbrev pub with_value : OptionName → List ℕ → Parts → Parts
 with_value Steps value parts = record parts { steps_values = value ∷ parts.steps_values }
+with_value Counts value parts = record parts { counts_values = value ∷ parts.counts_values }
 
 -- the parts of the words behind a command. Words can't be taken apart where, before a `--`, another option stands, or an option without
 -- a value
@@ -157,7 +182,7 @@ pub data Reading : Type 0 where
   plain : Reading
 
 abbrev pub options : List OptionName
-options = Steps ∷ []
+options = Steps ∷ Counts ∷ []
 
 -- the word is an option with a `=`
 abbrev pub has_value_of : OptionName → List ℕ → Bool
@@ -195,10 +220,15 @@ abbrev mutual
   parts_behind [] name = None
   parts_behind (value ∷ words) name = (if is_option value then None else option_map (with_value name value) (parts_of words))
 
--- the value of an option, which stands at most once: it doesn't begin with `-`, in either spelling
+-- whether a word may be the value of an option: it isn't empty and doesn't begin with `-`
+abbrev pub is_value : List ℕ → Bool
+is_value [] = false
+is_value (first ∷ rest) = not (nat_eq first 45)
+
+-- the value of an option, which stands at most once, in either spelling
 abbrev pub value_of : List (List ℕ) → Option (Option (List ℕ))
 value_of [] = Some None
-value_of (value ∷ []) = if begins_with_dash value then None else Some (Some value)
+value_of (value ∷ []) = if is_value value then Some (Some value) else None
 value_of values = None
 
 -- N of `--steps N`: one to ten decimal digits, leading zeros among them, of a number from 1 to 4,294,967,295; so no
@@ -211,6 +241,10 @@ number_of_steps word =
 abbrev pub steps_of : Option (List ℕ) → Option ℕ
 steps_of None = Some 1000000
 steps_of (Some value) = number_of_steps value
+
+-- the most turns of a `predict`, by the value of `--steps`: at most as many as a trace file may have lines
+abbrev pub turns_of : Option (List ℕ) → Option ℕ
+turns_of value = option_and_then (λ turns. if nat_le turns (limit_of quantity.Directives) then Some turns else None) (steps_of value)
 
 -- SEED of `gen`: one to twenty decimal digits, leading zeros among them, of a number below 2^64; so it has no sign
 abbrev pub seed_of : List ℕ → Option ℕ
@@ -228,20 +262,36 @@ pub record IsGenInRange (request : GenRequest) : Type 0 where
   pub size_is_positive : 1 ≤ request.size
   pub size_is_within : request.size ≤ limit_of quantity.Functions
 
+-- the most steps of an `interp` or a `run` are in range
+pub record AreInRange (steps : ℕ) : Type 0 where
+  pub some : 1 ≤ steps
+  pub few : steps < 2 ^ 32
+
+-- the most turns of a `predict` are in range: a trace file may have so many lines
+pub record AreTurnsInRange (turns : ℕ) : Type 0 where
+  pub some : 1 ≤ turns
+  pub few : turns ≤ limit_of quantity.Directives
+
 -- whether no word stands twice
 abbrev pub are_distinct : List (List ℕ) → Bool
 are_distinct [] = true
 are_distinct (name ∷ names) = not (list_any (bytes_eq name) names) && are_distinct names
+
+-- whether no two files of a request that must differ are one: the trace file of a `predict` is neither of the files that are read, which
+-- may be one
+abbrev pub are_files_unlike : Request → Bool
+are_files_unlike (predict request) = are_distinct (request.image ∷ request.trace ∷ []) && are_distinct (request.trace ∷ request.start ∷ [])
+are_files_unlike request = are_distinct (files_in request)
 
 -- the modules of a request: at least one
 abbrev pub modules_of : List (List ℕ) → Option (List (List ℕ))
 modules_of [] = None
 modules_of words = Some words
 
--- what `harden` asks for: an image, a certificate, and modules
+-- what `harden` asks for but for a count file: an image, a certificate, and modules
 abbrev pub harden_of : List (List ℕ) → Option (List ℕ) → Option HardenRequest
 harden_of (image ∷ certificate ∷ words) None =
-    option_map (λ modules. record { image = image; certificate = certificate; modules = modules }) (modules_of words)
+    option_map (λ modules. record { image = image; certificate = certificate; modules = modules; counts = None }) (modules_of words)
 harden_of arguments steps = None
 
 -- what `lower` asks for: an image, and modules
@@ -257,10 +307,10 @@ interp_of (export ∷ start ∷ words) steps =
     (modules_of words)
 interp_of arguments steps = None
 
--- what `run` asks for: an image, an export and a start file, and the most steps
+-- what `run` asks for but for a count file: an image, an export and a start file, and the most steps
 abbrev pub run_of : List (List ℕ) → Option (List ℕ) → Option RunRequest
 run_of (image ∷ export ∷ start ∷ []) steps =
-    option_map (λ steps. record { image = image; export = export; start = start; steps = steps }) (steps_of steps)
+    option_map (λ steps. record { image = image; export = export; start = start; steps = steps; counts = None }) (steps_of steps)
 run_of arguments steps = None
 
 -- what `spec` asks for: an image, an export, a trace file and a start file
@@ -273,11 +323,17 @@ abbrev pub verify_of : List (List ℕ) → Option (List ℕ) → Option VerifyRe
 verify_of (image ∷ certificate ∷ []) None = Some (record { image = image; certificate = certificate })
 verify_of arguments steps = None
 
--- what `twin` asks for: an image, an export, a trace file and two start files
+-- what `twin` and `forward` ask for: an image, an export, a trace file and two start files
 abbrev pub twin_of : List (List ℕ) → Option (List ℕ) → Option TwinRequest
 twin_of (image ∷ export ∷ trace ∷ start ∷ other_start ∷ []) None =
     Some (record { image = image; export = export; trace = trace; start = start; other_start = other_start })
 twin_of arguments steps = None
+
+-- what `predict` asks for: an image, an export, a trace file and a start file, and the most turns
+abbrev pub predict_of : List (List ℕ) → Option (List ℕ) → Option PredictRequest
+predict_of (image ∷ export ∷ trace ∷ start ∷ []) steps =
+    option_map (λ steps. record { image = image; export = export; trace = trace; start = start; steps = steps }) (turns_of steps)
+predict_of arguments steps = None
 
 -- what `gen` asks for: a seed and a size
 abbrev pub gen_of : List (List ℕ) → Option (List ℕ) → Option GenRequest
@@ -303,6 +359,8 @@ commands =
     ∷ row (codes "spec") spec spec_of
     ∷ row (codes "verify") verify verify_of
     ∷ row (codes "twin") twin twin_of
+    ∷ row (codes "forward") forward twin_of
+    ∷ row (codes "predict") predict predict_of
     ∷ row (codes "gen") gen gen_of
     ∷ []
 
@@ -312,17 +370,29 @@ asked_among [] word arguments steps = None
 asked_among (first ∷ others) word arguments steps =
     if bytes_eq word first.name then first.asks arguments steps else asked_among others word arguments steps
 
+-- a request with the value of `--counts`: `harden` and `run` alone have a count file
+abbrev pub with_counts : Option (List ℕ) → Request → Option Request
+with_counts None request = Some request
+with_counts (Some file) (harden request) = Some (harden (record request { counts = Some file }))
+with_counts (Some file) (run request) = Some (run (record request { counts = Some file }))
+with_counts (Some file) request = None
+
 -- a request in which no two files that must differ are one, and no two modules have one name
 abbrev pub kept : Request → Option Request
 kept request =
-    (if not (are_distinct (files_in request)) then None
+    (if not (are_files_unlike request) then None
     else if are_distinct (map module_name (modules_in request)) then Some request
     else None)
 
 -- what the command that a word names asks for with these parts
 abbrev pub command_of : List ℕ → Parts → Option Request
 command_of word parts =
-    option_and_then (λ steps. option_and_then kept (asked_among commands word parts.arguments steps)) (value_of parts.steps_values)
+    option_and_then
+    (λ steps.
+    option_and_then
+    (λ counts. option_and_then kept (option_and_then (with_counts counts) (asked_among commands word parts.arguments steps)))
+    (value_of parts.counts_values))
+    (value_of parts.steps_values)
 
 -- the request of all words, the program's own name first, and then the command
 abbrev pub request_of : List (List ℕ) → Option Request

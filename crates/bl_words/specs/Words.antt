@@ -1,24 +1,26 @@
 -- The words of a call as the code keeps them.
 use Rattle.std.specs.Prelude.{List, ℕ, map, Option, option_map}
 use Rattle.std.specs.Borrow.{Bor}
-use Rattle.bl_words.specs.Requests.{Request, GenRequest, HardenRequest, InterpRequest, LowerRequest, RunRequest, SpecRequest, TwinRequest, VerifyRequest}
-use Rattle.bl_words.specs.Requests.{Parts, gen, harden, interp, lower, run, spec, twin, verify}
+use Rattle.bl_words.specs.Requests.{Request, GenRequest, HardenRequest, InterpRequest, LowerRequest, PredictRequest, RunRequest, SpecRequest, TwinRequest, VerifyRequest}
+use Rattle.bl_words.specs.Requests.{Parts, forward, gen, harden, interp, lower, predict, run, spec, twin, verify}
 use Rattle.bl_words.specs.declared.words.GenWords.{GenWords}
 use Rattle.bl_words.specs.declared.words.HardenWords.{HardenWords}
 use Rattle.bl_words.specs.declared.words.InterpWords.{InterpWords}
 use Rattle.bl_words.specs.declared.words.LowerWords.{LowerWords}
+use Rattle.bl_words.specs.declared.words.PredictWords.{PredictWords}
 use Rattle.bl_words.specs.declared.words.RunWords.{RunWords}
 use Rattle.bl_words.specs.declared.words.SpecWords.{SpecWords}
 use Rattle.bl_words.specs.declared.words.TwinWords.{TwinWords}
 use Rattle.bl_words.specs.declared.words.VerifyWords.{VerifyWords}
 use Rattle.bl_words.specs.declared.words.Request.{Request as RequestWords}
-use Rattle.bl_words.specs.declared.words.Request.TheVariants.{Gen, Harden, Interp, Lower, Run, Spec, Twin, Verify}
+use Rattle.bl_words.specs.declared.words.Request.TheVariants.{Forward, Gen, Harden, Interp, Lower, Predict, Run, Spec, Twin, Verify}
 
 -- the parts that borrowed words are
-abbrev pub parts_in : (arguments steps : List (Bor (List ℕ))) → Parts
-parts_in arguments steps = record {
+abbrev pub parts_in : (arguments steps counts : List (Bor (List ℕ))) → Parts
+parts_in arguments steps counts = record {
   arguments = map (λ word. word.now) arguments;
   steps_values = map (λ word. word.now) steps;
+  counts_values = map (λ word. word.now) counts;
 }
 
 -- the text that a borrowed word is, where there is one
@@ -27,7 +29,12 @@ text_in = option_map (λ word. word.now)
 
 -- the request that borrowed words are
 abbrev pub harden_in : HardenWords → HardenRequest
-harden_in words = record { image = words.image.now; certificate = words.certificate.now; modules = map (λ word. word.now) words.modules }
+harden_in words = record {
+  image = words.image.now;
+  certificate = words.certificate.now;
+  modules = map (λ word. word.now) words.modules;
+  counts = text_in words.counts;
+}
 
 abbrev pub lower_in : LowerWords → LowerRequest
 lower_in words = record { image = words.image.now; modules = map (λ word. word.now) words.modules }
@@ -41,7 +48,13 @@ interp_in words = record {
 }
 
 abbrev pub run_in : RunWords → RunRequest
-run_in words = record { image = words.image.now; export = words.export.now; start = words.start.now; steps = words.steps }
+run_in words = record {
+  image = words.image.now;
+  export = words.export.now;
+  start = words.start.now;
+  steps = words.steps;
+  counts = text_in words.counts;
+}
 
 abbrev pub spec_in : SpecWords → SpecRequest
 spec_in words = record { image = words.image.now; export = words.export.now; trace = words.trace.now; start = words.start.now }
@@ -58,6 +71,9 @@ twin_in words = record {
   other_start = words.other_start.now;
 }
 
+abbrev pub predict_in : PredictWords → PredictRequest
+predict_in words = record { image = words.image.now; export = words.export.now; trace = words.trace.now; start = words.start.now; steps = words.steps }
+
 abbrev pub gen_in : GenWords → GenRequest
 gen_in words = record { seed = words.seed; size = words.size }
 
@@ -69,4 +85,6 @@ request_in (Run words) = run (run_in words)
 request_in (Spec words) = spec (spec_in words)
 request_in (Verify words) = verify (verify_in words)
 request_in (Twin words) = twin (twin_in words)
+request_in (Forward words) = forward (twin_in words)
+request_in (Predict words) = predict (predict_in words)
 request_in (Gen words) = gen (gen_in words)

@@ -51,7 +51,8 @@ fn command_line<'a>(alloc: Global) -> Result<Command<'a>, AllocError>
         alloc,
         bare(alloc),
         &[
-            "harden", "lower", "interp", "run", "spec", "verify", "twin", "gen",
+            "harden", "lower", "interp", "run", "spec", "verify", "twin", "forward", "predict",
+            "gen",
         ],
     )
 }
@@ -90,7 +91,8 @@ fn subcommand<'a>(alloc: Global, name: &'a str) -> Result<Command<'a>, AllocErro
     ensures local { IfOk result (λ c. (fields_of c).has_globals ≡ false) }
 {
     let command = Command::new(alloc, name).arg(argument(alloc))?;
-    command.arg(option(alloc, "steps"))
+    let command = command.arg(option(alloc, "steps"))?;
+    command.arg(option(alloc, "counts"))
 }
 
 /// The arguments of a command, in order.

@@ -11,8 +11,8 @@ mod read;
 mod steps;
 mod words;
 
-pub use read::read_words;
+pub use read::{modules_in, read_words};
 pub use words::{
-    GenWords, HardenWords, InterpWords, LowerWords, Request, RunWords, SpecWords, TwinWords,
-    VerifyWords,
+    GenWords, HardenWords, InterpWords, LowerWords, PredictWords, Request, RunWords, SpecWords,
+    TwinWords, VerifyWords,
 };

@@ -1,18 +1,20 @@
 //! From the words of a call to what they ask for.
 ghost use Rattle.std.specs.Prelude.{◌≡◌, IfOk, map, string_bytes};
+ghost use Rattle.std.specs.List.{list_any};
 ghost use Rattle.std.specs.Option.{option_map};
+ghost use Rattle.std.specs.Str.{bytes_eq};
 ghost use Rattle.clap.specs.Walk.{texts};
-ghost use Rattle.bl_words.specs.Requests.{are_distinct, asked_among, command_of, commands, files_in, gen, gen_of, harden, harden_of, interp, interp_of, kept, lower, lower_of, modules_in, request_of, run, run_of, spec, spec_of, twin, twin_of, verify, verify_of};
-ghost use Rattle.bl_words.specs.Words.{parts_in, request_in, text_in};
+ghost use Rattle.bl_words.specs.Requests.{are_distinct, are_files_unlike, asked_among, command_of, commands, file_named, files_in, forward, gen, gen_of, harden, harden_of, interp, interp_of, kept, lower, lower_of, modules_in, predict, predict_of, request_of, run, run_of, spec, spec_of, twin, twin_of, verify, verify_of, with_counts};
+ghost use Rattle.bl_words.specs.Words.{harden_in, parts_in, predict_in, request_in, text_in};
 
 use crate::command_line::{Unmatched, matches_of};
 use crate::modules::{are_named_apart, modules_of};
 use crate::numbers::{read_seed, read_size};
 use crate::options::value_of;
-use crate::steps::most_steps;
+use crate::steps::{most_steps, most_turns};
 use crate::words::{
-    GenWords, HardenWords, InterpWords, LowerWords, Request, RunWords, SpecWords, TwinWords,
-    VerifyWords,
+    GenWords, HardenWords, InterpWords, LowerWords, PredictWords, Request, RunWords, SpecWords,
+    TwinWords, VerifyWords,
 };
 use bl_base::NoMemory;
 use std::alloc::Global;
@@ -32,24 +34,57 @@ pub fn read_words<'a>(alloc: Global, words: &'a [String]) -> Result<Option<Reque
     };
     let arguments = inner.get_raw("argument").unwrap_or(&[]);
     let steps = inner.get_raw("steps").unwrap_or(&[]);
-    command_words(alloc, name, arguments, steps)
+    let counts = inner.get_raw("counts").unwrap_or(&[]);
+    command_words(alloc, name, arguments, steps, counts)
 }
 
-/// What a command asks for, by its name, its arguments and the values that `--steps` is given.
+/// What a command asks for, by its name, its arguments and the values that each option is given.
 fn command_words<'a>(
     alloc: Global,
     name: &str,
     arguments: &[&'a str],
     steps: &[&'a str],
+    counts: &[&'a str],
 ) -> Result<Option<Request<'a>>, NoMemory>
-    ensures { IfOk result (λ request. option_map request_in request ≡ command_of name.now (parts_in arguments.now steps.now)) }
+    ensures { IfOk result (λ request. option_map request_in request ≡ command_of name.now (parts_in arguments.now steps.now counts.now)) }
 {
     let Some(steps) = value_of(steps) else {
         return Ok(None);
     };
-    match asked_by(alloc, name, arguments, steps)? {
+    let Some(counts) = value_of(counts) else {
+        return Ok(None);
+    };
+    let Some(request) = asked_by(alloc, name, arguments, steps)? else {
+        return Ok(None);
+    };
+    match with_counts(request, counts) {
         Some(request) => kept(alloc, request),
         None => Ok(None),
+    }
+}
+
+/// The request with the value of `--counts`: `harden` and `run` alone have a count file.
+fn with_counts<'a>(request: Request<'a>, counts: Option<&'a str>) -> Option<Request<'a>>
+    ensures { option_map request_in result ≡ with_counts (text_in counts.entry) (request_in request.entry) }
+{
+    let Some(file) = counts else {
+        return Some(request);
+    };
+    match request {
+        Request::Harden(words) => Some(Request::Harden(HardenWords {
+            image: words.image,
+            certificate: words.certificate,
+            modules: words.modules,
+            counts: Some(file),
+        })),
+        Request::Run(words) => Some(Request::Run(RunWords {
+            image: words.image,
+            export: words.export,
+            start: words.start,
+            steps: words.steps,
+            counts: Some(file),
+        })),
+        _ => None,
     }
 }
 
@@ -68,17 +103,52 @@ fn kept<'a>(alloc: Global, request: Request<'a>) -> Result<Option<Request<'a>>, 
 
 /// Whether no two files of a request that must differ are one.
 fn are_files_unlike(request: &Request) -> bool
-    ensures { result ≡ are_distinct (files_in (request_in request.now)) }
+    ensures { result ≡ are_files_unlike (request_in request.now) }
 {
     match request {
-        Request::Harden(words) => words.image != words.certificate,
+        Request::Harden(words) => are_kept_apart(words),
+        Request::Run(words) => !is_named(words.counts, words.image),
         Request::Verify(words) => words.image != words.certificate,
+        Request::Predict(words) => is_trace_apart(words),
         _ => true,
     }
 }
 
-/// The modules that a request reads.
-fn modules_in<'r, 'a>(request: &'r Request<'a>) -> &'r [&'a str]
+/// Whether the image, the certificate and the count file of a `harden` are each a file of its own.
+fn are_kept_apart(words: &HardenWords) -> bool
+    ensures { result ≡ are_distinct (files_in (harden (harden_in words.now))) }
+{
+    if words.image == words.certificate {
+        return false;
+    }
+    if is_named(words.counts, words.image) {
+        return false;
+    }
+    !is_named(words.counts, words.certificate)
+}
+
+/// Whether the trace file of a `predict` is neither of the files that are read.
+fn is_trace_apart(words: &PredictWords) -> bool
+    ensures { result ≡ are_files_unlike (predict (predict_in words.now)) }
+{
+    if words.image == words.trace {
+        return false;
+    }
+    words.trace != words.start
+}
+
+/// Whether a file is named, by this word.
+fn is_named(file: Option<&str>, word: &str) -> bool
+    ensures { result ≡ list_any (bytes_eq word.now) (file_named (text_in file.entry)) }
+{
+    match file {
+        Some(file) => file == word,
+        None => false,
+    }
+}
+
+/// The modules that a request reads, by their words; of an image there are none.
+pub fn modules_in<'r, 'a>(request: &'r Request<'a>) -> &'r [&'a str]
     ensures { texts result.now ≡ modules_in (request_in request.now) }
 {
     match request {
@@ -106,6 +176,8 @@ fn asked_by<'a>(
         "spec" => Ok(spec_words(arguments, steps)),
         "verify" => Ok(verify_words(arguments, steps)),
         "twin" => Ok(twin_words(arguments, steps)),
+        "forward" => Ok(forward_words(arguments, steps)),
+        "predict" => Ok(predict_words(arguments, steps)),
         "gen" => Ok(gen_words(arguments, steps)),
         _ => Ok(None),
     }
@@ -127,6 +199,7 @@ fn harden_words<'a>(
             image: *image,
             certificate: *certificate,
             modules,
+            counts: None,
         }))),
         None => Ok(None),
     }
@@ -190,6 +263,7 @@ fn run_words<'a>(arguments: &[&'a str], steps: Option<&'a str>) -> Option<Reques
         export: *export,
         start: *start,
         steps,
+        counts: None,
     }))
 }
 
@@ -235,6 +309,39 @@ fn twin_words<'a>(arguments: &[&'a str], steps: Option<&'a str>) -> Option<Reque
         })),
         _ => None,
     }
+}
+
+/// What `forward` asks for with these parts: those of `twin`.
+fn forward_words<'a>(arguments: &[&'a str], steps: Option<&'a str>) -> Option<Request<'a>>
+    ensures { option_map request_in result ≡ option_map forward (twin_of (texts arguments.now) (text_in steps.entry)) }
+{
+    match (arguments, steps) {
+        ([image, export, trace, start, other_start], None) => Some(Request::Forward(TwinWords {
+            image: *image,
+            export: *export,
+            trace: *trace,
+            start: *start,
+            other_start: *other_start,
+        })),
+        _ => None,
+    }
+}
+
+/// What `predict` asks for with these parts: four arguments, and at most one `--steps`.
+fn predict_words<'a>(arguments: &[&'a str], steps: Option<&'a str>) -> Option<Request<'a>>
+    ensures { option_map request_in result ≡ option_map predict (predict_of (texts arguments.now) (text_in steps.entry)) }
+{
+    let [image, export, trace, start] = arguments else {
+        return None;
+    };
+    let steps = most_turns(steps)?;
+    Some(Request::Predict(PredictWords {
+        image: *image,
+        export: *export,
+        trace: *trace,
+        start: *start,
+        steps,
+    }))
 }
 
 /// What `gen` asks for with these parts: two arguments, which are a seed and a size, and no option.

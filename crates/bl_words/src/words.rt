@@ -6,8 +6,8 @@ use bl_base::List;
 /// One more command is one more variant here, with its words; its name in `command_line`; its arm in `asked_by` of `read`, with
 /// the function behind it that tests the command's parts. In the definitions: a record of the request, a variant of `Request`,
 /// what it asks for and its row in `commands` (Requests.antt), and `request_in` (Words.antt). In the lemmas: a field of
-/// `rows_keep` (WordsLemmas.antt). One with modules, or with files that must differ, stands in `modules_in` or
-/// `are_files_unlike` of `read` too, and in `modules_in` or `files_in`.
+/// `rows_keep` (WordsLemmas.antt). One with modules, with files that must differ, or with a count file stands in
+/// `modules_in`, `are_files_unlike` or `with_counts` of `read` too, and in `modules_in`, `files_in` or `with_counts`.
 #[derive(Drop)]
 pub enum Request<'a> {
     /// To write the image and the certificate of modules.
@@ -24,6 +24,11 @@ pub enum Request<'a> {
     Verify(VerifyWords<'a>),
     /// To take the same directives from two start files, and compare what is observed.
     Twin(TwinWords<'a>),
+    /// To say whether the program is safe where stores are forwarded, take the same directives from two start files there, and compare
+    /// what is observed.
+    Forward(TwinWords<'a>),
+    /// To drive an exported function of an image by a predictor, and write the trace file of the directives that it chooses.
+    Predict(PredictWords<'a>),
     /// To make a module from a number, and harden it.
     Gen(GenWords),
 }
@@ -37,6 +42,8 @@ pub struct HardenWords<'a> {
     pub certificate: &'a str,
     /// The files of the modules, which are read: at least one, and no two modules have one name.
     pub modules: List<&'a str>,
+    /// The count file, which is read, where one is named; another word than the image's and the certificate's, and not empty.
+    pub counts: Option<&'a str>,
 }
 
 /// The words of a `lower`.
@@ -72,6 +79,8 @@ pub struct RunWords<'a> {
     pub start: &'a str,
     /// The most steps that are made, from 1 to 4,294,967,295.
     pub steps: u64,
+    /// The count file, which is written, where one is named; another word than the image's, and not empty.
+    pub counts: Option<&'a str>,
 }
 
 /// The words of a `spec`.
@@ -96,7 +105,7 @@ pub struct VerifyWords<'a> {
     pub certificate: &'a str,
 }
 
-/// The words of a `twin`.
+/// The words of a `twin` or of a `forward`.
 #[derive(Clone, Copy)]
 pub struct TwinWords<'a> {
     /// The file of the image, which is read.
@@ -109,6 +118,21 @@ pub struct TwinWords<'a> {
     pub start: &'a str,
     /// The start file of the other run, which is read.
     pub other_start: &'a str,
+}
+
+/// The words of a `predict`.
+#[derive(Clone, Copy)]
+pub struct PredictWords<'a> {
+    /// The file of the image, which is read.
+    pub image: &'a str,
+    /// The name of the exported function that is entered.
+    pub export: &'a str,
+    /// The trace file, which is written; another word than the image's and the start file's.
+    pub trace: &'a str,
+    /// The start file, which is read.
+    pub start: &'a str,
+    /// The most turns that are taken, from 1 to as many as a trace file may have lines.
+    pub steps: u64,
 }
 
 /// The words of a `gen`.

@@ -1,8 +1,10 @@
-//! Tests of the program's commands over files in memory: `harden`, `verify`, `spec`, `twin` and `gen`, and bytes that are changed or missing.
+//! Tests of the program's commands over files in memory: `harden`, `verify`, `spec`, `twin` and `gen`, counted runs, and bytes that are changed or missing.
 #![tactic(auto)]
 
 #[cfg(test)]
 mod calls;
+#[cfg(test)]
+mod counts;
 #[cfg(test)]
 mod harden;
 #[cfg(test)]

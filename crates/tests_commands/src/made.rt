@@ -1,7 +1,9 @@
 //! Each of the four kinds of items stands twice in a function, whatever the seed: 47 commands and 35 sites a function, and 5 commands and 4
 //! sites for each call of the function before it.
-use crate::calls::{ends, failing};
+use crate::calls::{ends, failing, stands};
 use bl_base::NoMemory;
+use bl_gen::make;
+use bl_outside::MemoryShelf;
 use std::alloc::Global;
 use std::test::Fail;
 
@@ -66,5 +68,37 @@ fn a_made_module_of_10000_functions_is_hardened(rt: HostRuntime) -> Result<(), F
     let text =
         "module 769905\nfunctions 10000\ncommands 520002\nsites 389996\nprotects 80000 weight 80000\nconstant-time yes\n";
     assert!(rt; ends_without_files(rt.alloc(), "blade gen 5 10000", 0, text)?);
+    Ok(())
+}
+
+/// Whether a made module that is longer than one piece ends so on that shelf, and nothing is kept.
+fn keeps_nothing(
+    alloc: Global,
+    shelf: &mut MemoryShelf,
+    status: u8,
+    text: &str,
+) -> Result<bool, NoMemory> {
+    let wasm = make(alloc, 5, 1000)?;
+    shelf.put("g.wasm", &wasm)?;
+    let ended = ends(
+        alloc,
+        shelf,
+        "blade harden g.img g.json g.wasm",
+        status,
+        text,
+    )?;
+    Ok(wasm.len() == 76_905 && ended && !stands(shelf, "g.img") && !stands(shelf, "g.json"))
+}
+
+/// Whether that holds where the shelf's call of that number fails.
+fn is_refused(alloc: Global, number: u64, status: u8, text: &str) -> Result<bool, NoMemory> {
+    let mut shelf = failing(alloc, number)?;
+    keeps_nothing(alloc, &mut shelf, status, text)
+}
+
+#[test]
+fn a_long_module_is_read_by_two_calls(rt: HostRuntime) -> Result<(), Fail> {
+    assert!(rt; is_refused(rt.alloc(), 2, 3, "read fault: g.wasm\n")?);
+    assert!(rt; is_refused(rt.alloc(), 3, 4, "write fault: g.json\n")?);
     Ok(())
 }

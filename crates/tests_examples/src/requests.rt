@@ -1,7 +1,8 @@
 //! What the words of calls ask for.
 use bl_base::NoMemory;
 use bl_words::{
-    HardenWords, InterpWords, LowerWords, Request, RunWords, SpecWords, TwinWords, read_words,
+    HardenWords, InterpWords, LowerWords, PredictWords, Request, RunWords, SpecWords, TwinWords,
+    read_words,
 };
 use std::alloc::Global;
 use std::test::Fail;
@@ -79,7 +80,7 @@ static COMMANDS: [(&str, &str); 27] = [
 ];
 
 /// The words of a line behind the program's name, and what they ask for.
-static CHECKS: [(&str, &str); 28] = [
+static CHECKS: [(&str, &str); 30] = [
     ("verify i c", "verify i c"),
     ("verify i ./i", "verify i ./i"),
     ("verify a a", "none"),
@@ -108,6 +109,8 @@ static CHECKS: [(&str, &str); 28] = [
     ("twin i e t s s2 --steps=7 --steps 8", "none"),
     ("twin i e t s s2 --steps", "none"),
     ("Twin i e t s s2", "none"),
+    ("forward i e t s s2", "forward i e t s s2"),
+    ("forward i e t s", "none"),
 ];
 
 /// The words of a line behind the program's name, and what they ask for.
@@ -142,6 +145,19 @@ static NUMBERS: [(&str, &str); 30] = [
     ("gen --steps 1 2", "none"),
     ("gen --help", "none"),
     ("help gen", "none"),
+];
+
+/// The words of a line behind the program's name, and what they ask for.
+static OF_PREDICTIONS: [(&str, &str); 9] = [
+    ("predict i e t s", "predict i e t s 1000000"),
+    ("predict i e t i", "predict i e t i 1000000"),
+    ("predict --steps=7 i e t s", "predict i e t s 7"),
+    ("predict i e t s --steps 1000000", "predict i e t s 1000000"),
+    ("predict i e t s --steps 1000001", "none"),
+    ("predict i e i s", "none"),
+    ("predict i e s s", "none"),
+    ("predict i e t", "none"),
+    ("predict i e t s --counts c", "none"),
 ];
 
 /// The words of a line behind the program's name, and what they ask for.
@@ -200,10 +216,16 @@ fn spec_line(alloc: Global, words: &SpecWords<'_>) -> Result<String, NoMemory> {
     Ok(format!(in alloc; "spec {image} {export} {trace} {start}")?)
 }
 
-fn twin_line(alloc: Global, words: &TwinWords<'_>) -> Result<String, NoMemory> {
+fn twin_line(alloc: Global, name: &str, words: &TwinWords<'_>) -> Result<String, NoMemory> {
     let (image, export, trace) = (words.image, words.export, words.trace);
     let (start, other) = (words.start, words.other_start);
-    Ok(format!(in alloc; "twin {image} {export} {trace} {start} {other}")?)
+    Ok(format!(in alloc; "{name} {image} {export} {trace} {start} {other}")?)
+}
+
+fn predict_line(alloc: Global, words: &PredictWords<'_>) -> Result<String, NoMemory> {
+    let (image, export, trace) = (words.image, words.export, words.trace);
+    let (start, steps) = (words.start, words.steps);
+    Ok(format!(in alloc; "predict {image} {export} {trace} {start} {steps}")?)
 }
 
 /// What is asked for, as a line.
@@ -218,7 +240,9 @@ fn line_of(alloc: Global, request: &Request<'_>) -> Result<String, NoMemory> {
             "verify {} {}",
             words.image, words.certificate
         )?),
-        Request::Twin(words) => twin_line(alloc, words),
+        Request::Twin(words) => twin_line(alloc, "twin", words),
+        Request::Forward(words) => twin_line(alloc, "forward", words),
+        Request::Predict(words) => predict_line(alloc, words),
         Request::Gen(words) => Ok(format!(in alloc; "gen {} {}", words.seed, words.size)?),
     }
 }
@@ -279,7 +303,7 @@ fn each_command_has_its_arguments(rt: HostRuntime) -> Result<(), Fail> {
 
 #[test]
 fn the_commands_that_check_have_their_arguments(rt: HostRuntime) -> Result<(), Fail> {
-    assert_eq!(rt; told(rt.alloc(), &CHECKS)?, 28);
+    assert_eq!(rt; told(rt.alloc(), &CHECKS)?, 30);
     Ok(())
 }
 
@@ -306,5 +330,11 @@ fn no_words_are_no_request(rt: HostRuntime) -> Result<(), Fail> {
     assert!(rt; ask(rt.alloc(), &[], "none")?);
     assert!(rt; name_asks_nothing(rt.alloc())?);
     assert!(rt; asks(rt.alloc(), "", "none")?);
+    Ok(())
+}
+
+#[test]
+fn a_predict_has_its_turns_and_a_trace_of_its_own(rt: HostRuntime) -> Result<(), Fail> {
+    assert_eq!(rt; told(rt.alloc(), &OF_PREDICTIONS)?, 9);
     Ok(())
 }

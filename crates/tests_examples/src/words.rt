@@ -44,6 +44,37 @@ static HARDENS: [(&str, bool); 5] = [
     ("harden a b m.wasm --steps 7", false),
 ];
 
+/// A line, and whether its words ask for a `harden` or a `run` with a count file.
+static COUNTS: [(&str, bool); 27] = [
+    ("harden --counts c a b m.wasm", true),
+    ("harden a b m.wasm --counts=c", true),
+    ("harden a --counts c b m.wasm", true),
+    ("harden --counts=m.wasm a b m.wasm", true),
+    ("harden -- --counts c m.wasm", true),
+    ("harden --counts a a b m.wasm", false),
+    ("harden --counts=b a b m.wasm", false),
+    ("harden --counts  a b m.wasm", false),
+    ("harden --counts= a b m.wasm", false),
+    ("harden --counts - a b m.wasm", false),
+    ("harden --counts=- a b m.wasm", false),
+    ("harden --counts=-c a b m.wasm", false),
+    ("harden --counts c --counts=d a b m.wasm", false),
+    ("harden a b m.wasm --counts", false),
+    ("harden --counts -- c a b m.wasm", false),
+    ("harden --count=c a b m.wasm", false),
+    ("run --counts c i m/f s", true),
+    ("run i m/f s --counts=s", true),
+    ("run --counts c --steps 7 i m/f s", true),
+    ("run --counts i i m/f s", false),
+    ("run --counts=c i m/f s --counts c", false),
+    ("lower --counts c i m.wasm", false),
+    ("interp --counts c m/f s m.wasm", false),
+    ("spec --counts=c i m/f t s", false),
+    ("verify --counts c i b", false),
+    ("twin --counts c i m/f t s o", false),
+    ("gen --counts c 0 1", false),
+];
+
 /// The status of a call on an empty shelf.
 fn status_without_files(alloc: Global, line: &str) -> Result<u8, NoMemory> {
     let mut shelf = files_of(alloc, &[])?;
@@ -70,8 +101,16 @@ fn steps_stand_at_most_once_among_the_arguments_of_interp(rt: HostRuntime) -> Re
 }
 
 #[test]
-fn harden_takes_no_option(rt: HostRuntime) -> Result<(), Fail> {
+fn harden_takes_no_steps(rt: HostRuntime) -> Result<(), Fail> {
     assert_eq!(rt; told(rt.alloc(), &HARDENS)?, 5);
+    Ok(())
+}
+
+#[test]
+fn a_count_file_stands_at_most_once_and_apart_from_what_is_written(
+    rt: HostRuntime,
+) -> Result<(), Fail> {
+    assert_eq!(rt; told(rt.alloc(), &COUNTS)?, 27);
     Ok(())
 }
 

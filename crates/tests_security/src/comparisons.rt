@@ -1,6 +1,6 @@
 //! The texts on two runs of eleven directives, of which the first ten are observed alike.
 use bl_base::{List, NoMemory};
-use bl_rob::{Observation, Seen};
+use bl_rob::{Observation, Observed};
 use bl_twin::{Comparison, compare};
 use std::alloc::Global;
 use std::test::Fail;
@@ -10,7 +10,11 @@ static FRONT: [u8; 65] =
     *b"none\nnone\nnone\nnone\nnone\nnone\nnone\nnone\nnone\nread 65536 guards 3\n";
 
 /// A run that is observed so at its eleventh directive, if at all, and that refuses the directive at that place, if any.
-fn run(alloc: Global, last: Option<u64>, refused: Option<u64>) -> Result<Seen, NoMemory> {
+fn run(
+    alloc: Global,
+    last: Option<u64>,
+    refused: Option<u64>,
+) -> Result<Observed<Observation>, NoMemory> {
     let mut made = List::new(alloc);
     for _ in 0..9 {
         made.push(Observation::Nothing)?;
@@ -25,7 +29,7 @@ fn run(alloc: Global, last: Option<u64>, refused: Option<u64>) -> Result<Seen, N
             guards: 0b100_1000,
         })?;
     }
-    Ok(Seen { made, refused })
+    Ok(Observed { made, refused })
 }
 
 /// Whether the comparison of two runs is that one, and the text on them is a first line, the lines of the first ten
@@ -33,7 +37,7 @@ fn run(alloc: Global, last: Option<u64>, refused: Option<u64>) -> Result<Seen, N
 fn is_told(
     alloc: Global,
     agree: bool,
-    runs: (&Seen, &Seen),
+    runs: (&Observed<Observation>, &Observed<Observation>),
     comparison: Comparison,
     lines: (&str, &str),
 ) -> Result<bool, NoMemory> {

@@ -1,5 +1,6 @@
 //! Tests of what programs give away: least protects and certificates, the check of constant time and the verdict on two runs, each from an
-//! image's bytes on; agreement of starts, comparisons of two runs, and the buffer machine with room for one entry; weights by counted runs.
+//! image's bytes on; agreement of starts, comparisons of two runs, the buffer machine with room for one entry, and the machine that
+//! forwards stores; weights by counted runs; the lines of a cache.
 #![tactic(auto)]
 
 #[cfg(test)]
@@ -17,6 +18,10 @@ mod counts;
 #[cfg(test)]
 mod drawn;
 #[cfg(test)]
+mod forward;
+#[cfg(test)]
+mod forward_greatest;
+#[cfg(test)]
 mod images;
 #[cfg(test)]
 mod labelled;
@@ -24,6 +29,8 @@ mod labelled;
 mod labels;
 #[cfg(test)]
 mod least;
+#[cfg(test)]
+mod lines;
 #[cfg(test)]
 mod pairs;
 #[cfg(test)]

@@ -3,7 +3,7 @@ use crate::begun::is_start;
 use bl_base::{List, NoMemory, Start};
 use bl_cmd::WellFormed;
 use bl_image::decode_image;
-use bl_rob::{Directive, Rob, Seen};
+use bl_rob::{Directive, Observation, Observed, Rob};
 use std::alloc::Global;
 use std::test::Fail;
 
@@ -32,7 +32,7 @@ fn seen_in_one(
     program: &WellFormed,
     start: &Start,
     directives: &[Directive],
-) -> Result<Seen, NoMemory> {
+) -> Result<Observed<Observation>, NoMemory> {
     if !is_start(alloc, program, 0, start)? {
         return Err(NoMemory);
     }

@@ -8,8 +8,8 @@ mod run;
 
 use bl_base::NoMemory;
 use calls::{
-    HARDEN, Told, ends, ends_within, holds, is_told, module_of, shelf_failing, shelf_of, stands,
-    status_of, told,
+    HARDEN, Told, ends, ends_narrowly, ends_within, holds, is_told, module_of, shelf_failing,
+    shelf_of, stands, status_of, told,
 };
 use std::alloc::Global;
 use std::test::Fail;
@@ -50,6 +50,18 @@ fn the_image_the_certificate_and_the_report_of_the_add_one_module(
     rt: HostRuntime,
 ) -> Result<(), Fail> {
     assert!(rt; is_hardened(rt.alloc(), &ADD_ONE, &IMAGE, REPORT)?);
+    Ok(())
+}
+
+/// Whether the report is the same on a sink that takes one byte at a push.
+fn is_printed_byte_by_byte(alloc: Global) -> Result<bool, NoMemory> {
+    let mut files = shelf_of(alloc, &[("inc.wasm", &ADD_ONE)])?;
+    ends_narrowly(alloc, &mut files, HARDEN_INC, 0, REPORT)
+}
+
+#[test]
+fn a_narrow_sink_takes_the_same_report(rt: HostRuntime) -> Result<(), Fail> {
+    assert!(rt; is_printed_byte_by_byte(rt.alloc())?);
     Ok(())
 }
 

@@ -25,6 +25,19 @@ pub(super) fn say(
     Ok(blade(alloc, words.as_slice(), shelf, out))
 }
 
+/// Whether a call ends with that status and prints that text to that sink.
+pub(super) fn ends_to(
+    alloc: Global,
+    shelf: &mut MemoryShelf,
+    line: &str,
+    out: &mut MemorySink,
+    status: u8,
+    text: &str,
+) -> Result<bool, NoMemory> {
+    let answer = say(alloc, shelf, line, out)?;
+    Ok(answer == status && out.bytes() == text.as_bytes())
+}
+
 /// Whether a call ends with that status and prints that text, on a sink with that limit.
 pub(super) fn ends_within(
     alloc: Global,
@@ -35,8 +48,7 @@ pub(super) fn ends_within(
     text: &str,
 ) -> Result<bool, NoMemory> {
     let mut out = MemorySink::new(alloc, limit);
-    let answer = say(alloc, shelf, line, &mut out)?;
-    Ok(answer == status && out.bytes() == text.as_bytes())
+    ends_to(alloc, shelf, line, &mut out, status, text)
 }
 
 /// Whether a call ends with that status and prints that text.
@@ -48,6 +60,18 @@ pub(super) fn ends(
     text: &str,
 ) -> Result<bool, NoMemory> {
     ends_within(alloc, shelf, line, None, status, text)
+}
+
+/// The same on a sink that takes one byte at a push.
+pub(super) fn ends_narrowly(
+    alloc: Global,
+    shelf: &mut MemoryShelf,
+    line: &str,
+    status: u8,
+    text: &str,
+) -> Result<bool, NoMemory> {
+    let mut out = MemorySink::narrow(alloc, 1, None);
+    ends_to(alloc, shelf, line, &mut out, status, text)
 }
 
 /// The status of a call.

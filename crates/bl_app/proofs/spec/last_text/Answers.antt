@@ -1,7 +1,7 @@
 use Rattle.std.proofs.Common.{subst}
 use Rattle.bl_rob.specs.CallResults.{Told, outcome_in, shown}
 use Rattle.bl_build.specs.Working.{entered_in, entry_in}
-use Rattle.bl_app.proofs.SpecWork.{said_run}
+use Rattle.bl_app.proofs.SpecLemmas.{said_run}
 use Rattle.bl_app.proofs.spec.last_text.Goals as goal
 
 pub returns-in-Some-2 : goal.returns-in-Some-2

@@ -19,4 +19,4 @@ returns-in-Err-read_entry_start c =
 pub returns : goal.returns
 returns c =
     let speculated = speculated_in c.args.program.now c.in-Ok.speculation in
-    (twinned_in speculated c.in-Ok-read_entry_start.other, (speculated, c.in-Ok.ensures.staged, record { same = refl; starts = c.in-Ok-read_entry_start.ensures.staged }), c.in_ok-tell.ensures)
+    (twinned_in speculated c.in-Ok-read_entry_start.other, (speculated, c.in-Ok.ensures.staged, (_, c.in-Ok-read_entry_start.ensures.staged, refl)), c.in_ok-tell.ensures)

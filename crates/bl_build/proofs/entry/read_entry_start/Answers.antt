@@ -1,8 +1,6 @@
-use Rattle.std.proofs.Common.{◌≡◌, ◌∙◌, ap, subst, sym}
-use Rattle.std.specs.Prelude.{Err}
-use Rattle.bl_build.specs.Entering.{pages_of, starting}
-use Rattle.bl_job.specs.Working.{IsStaged}
-use Rattle.bl_build.specs.Working.{entered_in, entry_in}
+use Rattle.std.proofs.Common.{◌≡◌, ◌∙◌, ap}
+use Rattle.bl_build.specs.Entering.{pages_of}
+use Rattle.bl_build.specs.Working.{entry_in}
 use Rattle.bl_build.proofs.EnteringLemmas.{not_started}
 use Rattle.bl_build.proofs.entry.read_entry_start.Goals as goal
 
@@ -12,5 +10,4 @@ returns-clause-staged c =
     let parts : c.parts.result.now ≡ c.args.program.now = c.parts.ensures.same ∙ c.program.ensures.same in
     let kinds = c.as_slice.ensures.value ∙ c.in_ok-kinds.ensures in
     let pages = c.as_slice-2.ensures.value ∙ c.in_ok-pages.ensures ∙ ap pages_of parts in
-    subst (λ e. IsStaged (starting c.args.bytes.now) (entered_in entry) entry (Err e)) (sym c.of_start.ensures)
-    (not_started entry c.args.bytes.now c.as_slice.result.now c.as_slice-2.result.now c.in-Err.error kinds pages c.in-Err.ensures.answer)
+    not_started entry c.args.bytes.now c.as_slice.result.now c.as_slice-2.result.now c.in-Err.error kinds pages c.in-Err.ensures.answer c.of_start.result c.of_start.ensures

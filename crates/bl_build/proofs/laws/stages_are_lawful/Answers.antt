@@ -1,24 +1,47 @@
-use Rattle.bl_build.proofs.BuildLemmas.{compiling_lawful}
-use Rattle.bl_build.proofs.InvokingLemmas.{preparing_lawful}
-use Rattle.bl_build.proofs.EnteringLemmas.{entering_lawful}
-use Rattle.bl_build.proofs.TracingLemmas.{speculating_lawful, twinning_lawful}
-use Rattle.bl_build.proofs.CertifyingLemmas.{verifying_lawful}
+use Rattle.bl_build.proofs.BuildLemmas.{lowering_lawful, sizing_lawful}
+use Rattle.bl_build.proofs.CertifyingLemmas.{certifying_lawful}
+use Rattle.bl_build.proofs.EnteringLemmas.{finding_lawful, imaging_lawful, starting_lawful}
+use Rattle.bl_build.proofs.InvokingLemmas.{invoking_lawful}
+use Rattle.bl_build.proofs.LoadingLemmas.{decoding_lawful, labelling_lawful, linking_lawful, validation_lawful}
+use Rattle.bl_build.proofs.TracingLemmas.{tracing_lawful}
+use Rattle.bl_build.proofs.WeighingLemmas.{weighing_lawful}
 use Rattle.bl_build.proofs.laws.stages_are_lawful.Goals as goal
 
-pub returns-clause-compiling : goal.returns-clause-compiling
-returns-clause-compiling c = compiling_lawful
+pub returns-clause-decoding : goal.returns-clause-decoding
+returns-clause-decoding c = decoding_lawful
 
-pub returns-clause-preparing : goal.returns-clause-preparing
-returns-clause-preparing c = preparing_lawful
+pub returns-clause-validation : goal.returns-clause-validation
+returns-clause-validation c = validation_lawful
 
-pub returns-clause-entering : goal.returns-clause-entering
-returns-clause-entering c = entering_lawful
+pub returns-clause-labelling : goal.returns-clause-labelling
+returns-clause-labelling c = labelling_lawful
 
-pub returns-clause-speculating : goal.returns-clause-speculating
-returns-clause-speculating c = speculating_lawful
+pub returns-clause-linking : goal.returns-clause-linking
+returns-clause-linking c = linking_lawful
 
-pub returns-clause-twinning : goal.returns-clause-twinning
-returns-clause-twinning c = twinning_lawful
+pub returns-clause-lowering : goal.returns-clause-lowering
+returns-clause-lowering c = lowering_lawful
 
-pub returns-clause-verifying : goal.returns-clause-verifying
-returns-clause-verifying c = verifying_lawful
+pub returns-clause-weighing : goal.returns-clause-weighing
+returns-clause-weighing c = weighing_lawful
+
+pub returns-clause-sizing : goal.returns-clause-sizing
+returns-clause-sizing c = sizing_lawful
+
+pub returns-clause-invoking : goal.returns-clause-invoking
+returns-clause-invoking c = invoking_lawful
+
+pub returns-clause-imaging : goal.returns-clause-imaging
+returns-clause-imaging c = imaging_lawful
+
+pub returns-clause-finding : goal.returns-clause-finding
+returns-clause-finding c = finding_lawful
+
+pub returns-clause-starting : goal.returns-clause-starting
+returns-clause-starting c = starting_lawful
+
+pub returns-clause-tracing : goal.returns-clause-tracing
+returns-clause-tracing c = tracing_lawful
+
+pub returns-clause-certifying : goal.returns-clause-certifying
+returns-clause-certifying c = certifying_lawful

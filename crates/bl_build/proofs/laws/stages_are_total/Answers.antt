@@ -1,6 +1,7 @@
 use Rattle.bl_build.proofs.BuildLemmas.{compiling_total}
-use Rattle.bl_build.proofs.ImagesTotal.{entering_total, speculating_total, twinning_total, verifying_total}
-use Rattle.bl_build.proofs.LoadingTotal.{loading_total, preparing_total}
+use Rattle.bl_build.proofs.ImagesTotal.{certifying_total, finding_total, imaging_total, starting_total, tracing_total}
+use Rattle.bl_build.proofs.LoadingTotal.{invoking_total, loading_total}
+use Rattle.bl_build.proofs.WeighingLemmas.{compiling_by_total}
 use Rattle.bl_build.proofs.laws.stages_are_total.Goals as goal
 
 pub returns-clause-loading : goal.returns-clause-loading
@@ -9,17 +10,23 @@ returns-clause-loading c = loading_total
 pub returns-clause-compiling : goal.returns-clause-compiling
 returns-clause-compiling c = compiling_total
 
-pub returns-clause-preparing : goal.returns-clause-preparing
-returns-clause-preparing c = preparing_total
+pub returns-clause-compiling_by : goal.returns-clause-compiling_by
+returns-clause-compiling_by c = compiling_by_total
 
-pub returns-clause-entering : goal.returns-clause-entering
-returns-clause-entering c = entering_total
+pub returns-clause-invoking : goal.returns-clause-invoking
+returns-clause-invoking c = invoking_total
 
-pub returns-clause-speculating : goal.returns-clause-speculating
-returns-clause-speculating c = speculating_total
+pub returns-clause-imaging : goal.returns-clause-imaging
+returns-clause-imaging c = imaging_total
 
-pub returns-clause-twinning : goal.returns-clause-twinning
-returns-clause-twinning c = twinning_total
+pub returns-clause-finding : goal.returns-clause-finding
+returns-clause-finding c = finding_total
 
-pub returns-clause-verifying : goal.returns-clause-verifying
-returns-clause-verifying c = verifying_total
+pub returns-clause-starting : goal.returns-clause-starting
+returns-clause-starting c = starting_total
+
+pub returns-clause-tracing : goal.returns-clause-tracing
+returns-clause-tracing c = tracing_total
+
+pub returns-clause-certifying : goal.returns-clause-certifying
+returns-clause-certifying c = certifying_total

@@ -1,54 +1,52 @@
-use Rattle.std.proofs.Common.{◌≡◌, ◌<◌, ◌^◌, ◌⊎◌, Bor, Err, List, [], ◌∷◌, ℕ, inl, inr, length, map, refl, subst, sym}
+use Rattle.std.proofs.Common.{◌≡◌, ◌∙◌, ◌<◌, ◌^◌, List, [], ap, arith, drop, length, map, subst, sym}
 use Rattle.std.specs.Prelude.{Vec}
 use Rattle.std.specs.List.{All}
-use Rattle.std.specs.Iterator.Adapters.{zip_first, zip_second}
-use Rattle.std.specs.Slice.Iter.{iter_rest}
+use Rattle.std.specs.Vec.Iter.{into_iter_items}
 use Rattle.std.specs.declared.alloc.Global.{Global}
+use Rattle.std.proofs.lemmas.Grind.{common_steps}
 use Rattle.std.proofs.lemmas.List.Elements.{All-push}
-use Rattle.std.proofs.lemmas.Slice.Zip.{Zip-more, either_empty_from_Zip}
 use Rattle.bl_wasm.specs.Validity.{functions_of}
-use Rattle.bl_wasm.proofs.LimitLemmas.{few_functions}
-use Rattle.bl_decode.specs.Decoding.{Answers}
 use Rattle.bl_build.specs.Loading.{decoding, parts_of}
 use Rattle.bl_job.specs.Working.{contents_in}
 use Rattle.bl_build.specs.Working.{spelled_in}
 use Rattle.bl_build.specs.declared.loading.Spelled.{Spelled}
-use Rattle.bl_build.proofs.LoadSteps.{next_decoded, not_decoded, words_in}
-use Rattle.bl_job.proofs.StageLemmas.{goes_ends}
+use Rattle.bl_build.proofs.LoadSteps.{all_decoded, next_decoded, next_word, none_decoded, not_decoded, words_in}
+use Rattle.bl_job.proofs.StageLemmas.{Goes, goes_ends}
 use Rattle.bl_build.proofs.loading.decode_all.Goals as goal
+use Rattle.bl_build.proofs.loading.decode_all.Goals.{in-Some+in-Ok+in_ok-push-in-Ok, in_default}
 
 abbrev IsFew : Spelled → Type 0
 IsFew one = length (functions_of one.tree) < 2 ^ 32
 
 pub loop-word-preserved : goal.loop-word-preserved
 loop-word-preserved c =
-    let more = Zip-more c.loop-word.word-iterator c.next.new.self c.next.result _ c.in-Some.is c.next.ensures.steps in
-    let value : Spelled = record { name = c.module_name-name.result; tree = c.in-Ok.tree } in
-    let grown = c.in_ok-push-in-Ok.ensures.items in
-    record {
-      can = (tt, tt);
-      finite = tt;
-      goes = next_decoded (parts_of (words_in c.args.words.now) (contents_in c.args.contents.now)) (iter_rest (zip_first c.loop-word.word-iterator)) (iter_rest (zip_first c.next.new.self))
-          (iter_rest (zip_second c.loop-word.word-iterator)) (iter_rest (zip_second c.next.new.self)) c.loop-word.all.items _ c.module_name-name.result _ more.0 more.1 c.module_name-name.ensures
-          c.loop-word.invariant.goes c.in-Ok.tree c.push.new.self.items grown (rw c.deref.ensures.value at c.in-Ok.ensures.answer);
-      few = subst (All IsFew) (sym grown) (All-push IsFew c.loop-word.all.items value c.loop-word.invariant.few (few_functions c.in-Ok.tree c.in-Ok.ensures.answer.2));
-    }
+    let words = c.args.words.now in
+    let whole = parts_of (words_in words) (contents_in c.args.contents.items) in
+    elim c.match-next.branch [
+      | in-Some+in-Ok+in_ok-push-in-Ok w ↦
+          let grown = ap (λ (all : Vec Spelled Global). all.items) w.all-is ∙ w.in_ok-push-in-Ok.ensures.items in
+          record {
+            goes = next_decoded whole _ _ (into_iter_items c.loop-word.rest) (into_iter_items c.next.new.self) c.loop-word.all.items _ w.in-Some.content (next_word words c.loop-word.word-index _ c.loop-word-test.true)
+                w.in-Some.ensures.cases.0 c.loop-word.invariant.goes w.in-Ok.one c.match-next.all.items grown w.in-Ok.ensures.staged;
+            few = subst (All IsFew) (sym grown) (All-push IsFew c.loop-word.all.items w.in-Ok.one c.loop-word.invariant.few w.in-Ok.ensures.few);
+          }
+      | in_default w ↦
+          let same = ap (λ (all : Vec Spelled Global). all.items) w.all-is in
+          let none : into_iter_items c.loop-word.rest ≡ [] = grind (arith, common_steps) in
+          record {
+            goes = none_decoded whole (map spelled_in c.match-next.all.items) _ _ _ _ none (sym w.in_default.ensures.items ∙ none)
+                (subst (λ (all : List Spelled). Goes decoding whole (map spelled_in all) (parts_of (words_in (drop c.loop-word.word-index words)) (contents_in (into_iter_items c.loop-word.rest)))) (sym same) c.loop-word.invariant.goes);
+            few = subst (All IsFew) (sym same) c.loop-word.invariant.few;
+          }
+    ]
 
 pub returns-in-Err-clause-staged : goal.returns-in-Err-clause-staged
 returns-in-Err-clause-staged c =
-    let more = Zip-more c.loop-word.word-iterator c.next.new.self c.next.result _ c.in-Some.is c.next.ensures.steps in
-    not_decoded (parts_of (words_in c.args.words.now) (contents_in c.args.contents.now)) (iter_rest (zip_first c.loop-word.word-iterator)) (iter_rest (zip_first c.next.new.self))
-    (iter_rest (zip_second c.loop-word.word-iterator)) (iter_rest (zip_second c.next.new.self)) c.loop-word.all.items _ c.module_name-name.result _ more.0 more.1 c.module_name-name.ensures
-    c.loop-word.invariant.goes (λ (all : Vec Spelled Global). map spelled_in all.items) c.in-Err.error c.of_decoding.result c.of_decoding.ensures (subst (λ (these : List ℕ). Answers these (Err c.in-Err.error)) c.deref.ensures.value c.in-Err.ensures.answer)
-
--- where no word or no file is left, no part is
-no_parts : (words : List (Bor (List ℕ))) (contents : List (Vec ℕ Global)) → (words ≡ []) ⊎ (contents ≡ []) → parts_of (words_in words) (contents_in contents) ≡ []
-no_parts [] contents e = refl
-no_parts (word ∷ words) [] e = refl
-no_parts (word ∷ words) (bytes ∷ contents) (inl e) = absurd cc
-no_parts (word ∷ words) (bytes ∷ contents) (inr e) = absurd cc
+    let whole = parts_of (words_in c.args.words.now) (contents_in c.args.contents.items) in
+    not_decoded whole _ _ (into_iter_items c.loop-word.rest) (into_iter_items c.next.new.self) c.loop-word.all.items _ c.in-Some.content (next_word c.args.words.now c.loop-word.word-index _ c.loop-word-test.true)
+    c.in-Some.ensures.cases.0 c.loop-word.invariant.goes (λ (all : Vec Spelled Global). map spelled_in all.items) c.in-Err.error c.in-Err.ensures.staged
 
 pub returns-clause-staged : goal.returns-clause-staged
 returns-clause-staged c =
-    goes_ends decoding (parts_of (words_in c.args.words.now) (contents_in c.args.contents.now)) _ _
-    (no_parts _ _ (either_empty_from_Zip c.loop-word.word-iterator c.next.new.self c.next.result c.in-None.is c.next.ensures.steps)) c.loop-word.invariant.goes
+    goes_ends decoding (parts_of (words_in c.args.words.now) (contents_in c.args.contents.items)) _ _
+    (all_decoded c.args.words.now c.loop-word.word-index (into_iter_items c.loop-word.rest) c.loop-word-test.false) c.loop-word.invariant.goes

@@ -1,9 +1,8 @@
-use Rattle.std.proofs.Common.{refl, subst, sym}
+use Rattle.std.proofs.Common.{refl, subst}
 use Rattle.std.specs.Prelude.{Err, Ok}
 use Rattle.bl_wasm.specs.declared.module.Module.{Module}
-use Rattle.bl_build.specs.Loading.{AreTold, labelling}
-use Rattle.bl_job.specs.Working.{IsStaged}
-use Rattle.bl_build.specs.Working.{checked_in, ready_in}
+use Rattle.bl_build.specs.Loading.{AreTold}
+use Rattle.bl_build.specs.Working.{ready_in}
 use Rattle.bl_build.proofs.Readings.{not_labelled}
 use Rattle.bl_build.proofs.loading.labelled.Goals as goal
 
@@ -13,5 +12,5 @@ returns-in-Ok-clause-staged c =
 
 pub returns-in-Err-clause-staged : goal.returns-in-Err-clause-staged
 returns-in-Err-clause-staged c =
-    subst (λ e. IsStaged labelling ready_in (checked_in c.args.one) (Err e)) (sym c.of_labels.ensures)
-    (not_labelled ready_in c.args.one.name c.args.one.wasm c.in-Err.error (subst (λ (tree : Module). AreTold tree (Err c.in-Err.error)) c.module.ensures.same c.in-Err.ensures.told))
+    not_labelled ready_in c.args.one.name c.args.one.wasm c.in-Err.error (subst (λ (tree : Module). AreTold tree (Err c.in-Err.error)) c.module.ensures.same c.in-Err.ensures.told)
+    c.of_labels.result c.of_labels.ensures

@@ -4,7 +4,7 @@ use Rattle.bl_build.proofs.speculation.prepare_speculation.Goals as goal
 
 pub returns-in_default-clause-staged : goal.returns-in_default-clause-staged
 returns-in_default-clause-staged c =
-    not_exported (speculated_in c.args.program.now) c.args.export.now c.args.trace.now c.args.start.now c.args.program.now c.in_default.ensures
+    not_exported (speculated_in c.args.program.now) c.args.export.now c.args.trace.now c.args.start.now c.args.program.now c.in_default.ensures c.no_export.result c.no_export.ensures
 
 pub returns-in-Err-clause-staged : goal.returns-in-Err-clause-staged
 returns-in-Err-clause-staged c =

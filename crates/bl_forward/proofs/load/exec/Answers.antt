@@ -1,4 +1,4 @@
-use Rattle.std.proofs.Common.{◌≡◌, ◌∙◌, refl, sym}
+use Rattle.std.proofs.Common.{◌∙◌, refl, sym}
 use Rattle.bl_rob.specs.CallResults.{shown}
 use Rattle.bl_forward.proofs.Turning.{fills_within, filled_step, plain_exec, waits_turn}
 use Rattle.bl_forward.proofs.load.exec.Goals as goal

@@ -1,10 +1,5 @@
-use Rattle.std.proofs.Common.{◌-◌, ◌∷◌, ◌∙◌, ap, drop, length, sym, take}
-use Rattle.bl_job.specs.Working.{contents_in}
-use Rattle.bl_job.proofs.WorkLemmas.{first_and_rest}
+use Rattle.bl_job.proofs.WorkLemmas.{first_taken}
 use Rattle.bl_job.proofs.contents.first_file.Goals as goal
 
 pub returns : goal.returns
-returns c =
-    let all = c.args.contents.now in
-    ap contents_in (first_and_rest all c.first-item.result c.in-len1-up.len_at_least c.first-item.is)
-    ∙ (λ i. sym c.as_slice.ensures.value i ∷ contents_in (take (length all - 1) (drop 1 all)))
+returns c = first_taken c.args.contents.items c.remove-first.new.self.items c.remove-first.result c.requires c.remove-first.ensures.value c.remove-first.ensures.by_index.2

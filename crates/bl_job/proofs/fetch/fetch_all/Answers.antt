@@ -7,7 +7,7 @@ use Rattle.bl_job.proofs.fetch.fetch_all.Goals as goal
 
 pub loop-read-preserved : goal.loop-read-preserved
 loop-read-preserved g c =
-    next_fetched c.args.reads.now c.loop-read.read-index _ c.loop-read-test.true _ _ _ _ c.loop-read.invariant c.in-Ok.bytes c.push.new.self.items c.in-Ok.ensures.0 c.in-Ok.ensures.1
+    next_fetched c.args.reads.now c.loop-read.read-index _ c.loop-read-test.true _ _ _ _ c.loop-read.invariant c.in-Ok.content c.push.new.self.items c.in-Ok.ensures.0 c.in-Ok.ensures.1
     (pushed c.push.result _ _ _ c.push.ensures.items c.if-is_err.ensures.value)
 
 pub returns-in-Err : goal.returns-in-Err

@@ -1,7 +1,12 @@
+use Rattle.bl_rob.specs.CallResults.{seen_in}
+use Rattle.bl_rob.specs.Machines.{directive_step}
+use Rattle.bl_trace.specs.Observations.{observation_text}
+use Rattle.bl_twin.specs.Comparing.{is_same}
 use Rattle.bl_twin.proofs.SideBySide.{side_by_side}
 use Rattle.bl_twin.proofs.runs.compare_runs.Goals as goal
 
 pub returns : goal.returns
 returns c =
-    side_by_side c.args.program.now c.args.function c.args.one.now c.args.other.now c.args.directives.now c.in_ok-agree.agree c.in_ok-first.first c.in_ok-second.second c.compare.result
+    side_by_side is_same observation_text (directive_step 64) c.args.program.now c.args.function c.args.one.now c.args.other.now c.args.directives.now c.in_ok-agree.agree
+    (seen_in c.in_ok-first.first) (seen_in c.in_ok-second.second) c.compare.result
     c.in_ok-agree.ensures c.in_ok-first.ensures c.in_ok-second.ensures c.compare.ensures.comparison c.compare.ensures.text

@@ -1,0 +1,282 @@
+-- The command `predict` keeps the laws; what is said where it is done; and `spec` follows the trace file that it keeps.
+use Rattle.std.proofs.Common.{◌≡◌, ◌↔◌, ◌∙◌, ◌+◌, ◌*◌, ◌^◌, ◌%◌, ◌<◌, ◌≤◌, ◌++◌, append_assoc, ℕ, Bool, true, false, List, [], ◌∷◌, codes, drop, get_or, length, map, Option, Some, None, Ok, slice_get, refl, ap, sym, subst, arith, inl, inr, IsTrue}
+use Rattle.std.specs.Fmt.{decimal}
+use Rattle.std.specs.List.{All, flat_map}
+use Rattle.std.proofs.lemmas.Bool.{false≢true}
+use Rattle.std.proofs.lemmas.Fmt.{decimal_by_steps}
+use Rattle.std.proofs.lemmas.List.{length-append}
+use Rattle.std.proofs.lemmas.List.Elements.{All-head, All-tail}
+use Rattle.std.proofs.Math.Seq.{drop-append_seam}
+use Rattle.bl_base.specs.Fits.{Fits}
+use Rattle.bl_base.specs.Quantity.{limit_of}
+use Rattle.bl_base.specs.Runs.{Outcome, outcome_of, returned, trapped}
+use Rattle.bl_base.specs.declared.quantity.Quantity.TheVariants as quantity
+use Rattle.bl_base.specs.declared.start.Start.{Start}
+use Rattle.bl_cmd.specs.Outcomes.{Agree, IsStart, opening as plain_opening, plain}
+use Rattle.bl_cmd.specs.Programs.{IsProgram}
+use Rattle.bl_cmd.specs.Rules.{IsWellFormed}
+use Rattle.bl_cmd.specs.declared.definitions.ProgramParts.{ProgramParts as Program}
+use Rattle.bl_predict.specs.Drives.{Driving, IsDriven}
+use Rattle.bl_predict.specs.declared.driver.Driven.{Driven}
+use Rattle.bl_predict.specs.Takings.{IsNear, IsTaken}
+use Rattle.bl_predict.proofs.Paired.{two_drives}
+use Rattle.bl_predict.proofs.Taken.{each_taken}
+use Rattle.bl_rob.specs.CallResults.{outcome_in}
+use Rattle.bl_rob.specs.Observed.{IsConsistent, reached}
+use Rattle.bl_rob.specs.declared.directive.Directive.{Directive}
+use Rattle.bl_rob.specs.declared.directive.Directive.TheVariants.{Fetch, Predict, Exec, Retire}
+use Rattle.bl_rob.proofs.Keeps.{consistent}
+use Rattle.bl_sct.proofs.Whole.{equal}
+use Rattle.bl_sct.specs.Verdicts.{Assesses}
+use Rattle.bl_sct.specs.declared.verdict.Verdict.{Verdict}
+use Rattle.bl_sct.specs.declared.verdict.Verdict.TheVariants.{Safe, NotConstantTime, NotStable}
+use Rattle.bl_trace.proofs.Fitting.{answered_fits}
+use Rattle.bl_trace.proofs.LineTexts.{all_read, lines_counted}
+use Rattle.bl_trace.proofs.WrittenTraces.{no_feeds, reads_back}
+use Rattle.bl_trace.specs.Lines.{lines_of}
+use Rattle.bl_trace.specs.Observations.{observation_text}
+use Rattle.bl_trace.specs.Traces.{IsWritten, directive_of, directive_text, trace_of, trace_text}
+use Rattle.bl_words.specs.Requests.{AreTurnsInRange, PredictRequest}
+use Rattle.bl_build.specs.Entering.{Entered, Entry, Finds, IsImaged, Starts, entering, kinds_of, pages_of}
+use Rattle.bl_build.specs.Tracing.{Speculated, Traced}
+use Rattle.bl_build.proofs.Classical.{either}
+use Rattle.bl_job.specs.Jobs.{Plan}
+use Rattle.bl_job.specs.Status.{kind_of}
+use Rattle.bl_job.proofs.Staging.{IsStagedCommand, one_done}
+use Rattle.bl_app.specs.Executing.{plain_text}
+use Rattle.bl_app.specs.Forwarding.{BeginsWith, IsSafe}
+use Rattle.bl_app.specs.Outcomes.{outcome_status}
+use Rattle.bl_app.specs.Predicting.{IsFollowed, PredictMeans, PredictPlans, alike_text, drive_outcome, driven_of, following, met, met_by, met_text, predict_job, predict_plan, predict_staged, with_start}
+use Rattle.bl_app.specs.Speculating.{end_text, last_text, seen_of, spec_job, spec_plan, spec_staged, spec_status}
+use Rattle.bl_app.proofs.RunLemmas.{deed_of_run, entering_lawful, entering_total}
+use Rattle.bl_app.proofs.SpecLemmas.{ended_so, spec_staged_is}
+use Rattle.bl_app.proofs.TwinLemmas.{one_bool}
+
+-- ---- one plan
+
+pub one_predict_plan : (turns : ℕ) (word : List ℕ) (entered : Entered) (p q : Plan) → PredictPlans turns word entered p → PredictPlans turns word entered q → p ≡ q
+one_predict_plan turns word entered p q h k =
+    h.is_plan ∙ ap (predict_plan turns word entered) (one_bool (IsSafe entered.entry.program) h.alike k.alike h.is_alike k.is_alike) ∙ sym k.is_plan
+
+some_predict_plan : (turns : ℕ) (word : List ℕ) (entered : Entered) → ((plan : Plan) → PredictPlans turns word entered plan → ⊥) → ⊥
+some_predict_plan turns word entered none =
+    either (IsSafe entered.entry.program) (λ cases. elim cases as (λ _. ⊥) [
+      | inl safe ↦ none _ (record { alike = true; is_alike = (λ e. safe, λ _. refl); is_plan = refl })
+      | inr unsafe ↦ none _ (record { alike = false; is_alike = (λ e. absurd (false≢true e), λ safe. absurd (unsafe safe)); is_plan = refl })
+    ])
+
+-- what is planned by what a drive has come to
+pub planned_by : (turns : ℕ) (word : List ℕ) (entered : Entered) (driven : Driven) → IsDriven entered.entry.program (driven_of turns entered) driven → (alike : Bool)
+    → IsTrue alike ↔ IsSafe entered.entry.program → (plan : Plan)
+    → plan
+    ≡ (record {
+      status = outcome_status (outcome_of driven.run);
+      keeps = (word, trace_text driven.trace) ∷ [];
+      text = met_by driven ++ alike_text alike ++ plain_text entered turns (outcome_of driven.run);
+    })
+    → PredictPlans turns word entered plan
+planned_by turns word entered driven is alike is_alike plan e = record {
+  alike = alike;
+  is_alike = is_alike;
+  is_plan = e
+      ∙ (λ i. record {
+        status = outcome_status (is.run i);
+        keeps = (word, trace_text (is.trace i)) ∷ [];
+        text = met_text (length (is.trace i)) (is.rollbacks i) (is.hits i) (is.misses i) ++ alike_text alike ++ plain_text entered turns (is.run i);
+      });
+}
+
+-- ---- what is entered
+
+module _ (export start image : List ℕ) (entered : Entered) (prepared : (entering export start).Passes image entered) where
+  imaged : IsImaged image prepared.0
+  imaged = prepared.1
+
+  entry : Entry
+  entry = prepared.2.0
+
+  found : Finds export prepared.0 prepared.2.0
+  found = prepared.2.1
+
+  starts : Starts start prepared.2.0 entered
+  starts = prepared.2.2
+
+  same_program : prepared.0 ≡ entered.entry.program
+  same_program = sym (ap (λ (e : Entry). e.program) starts.same_entry ∙ found.same_program)
+
+  facts : IsProgram entered.entry.program
+  facts = subst IsProgram same_program imaged.image.is_program
+
+  rules : IsWellFormed entered.entry.program
+  rules = subst IsWellFormed same_program imaged.rules
+
+  fits : IsStart entered.entry.program entered.entry.function entered.start
+  fits =
+      let exists : slice_get prepared.2.0.program.functions prepared.2.0.function ≡ Some prepared.2.0.defined
+      = subst (λ p. slice_get p.functions prepared.2.0.function ≡ Some prepared.2.0.defined) (sym found.same_program) found.defined in
+      record {
+        defined = entered.entry.defined;
+        exists = subst (λ (e : Entry). slice_get e.program.functions e.function ≡ Some e.defined) (sym starts.same_entry) exists;
+        fits = subst (λ (e : Entry). Fits (kinds_of e.defined) (pages_of e.program) entered.start) (sym starts.same_entry)
+            (answered_fits (kinds_of prepared.2.0.defined) (pages_of prepared.2.0.program) start entered.start starts.read);
+      }
+
+-- ---- what is meant
+
+says_yes : (alike : Bool) (behind rest : List ℕ) → alike_text alike ++ behind ≡ alike_text true ++ rest → alike ≡ true
+says_yes true behind rest e = refl
+says_yes false behind rest e = let differs = ap (λ l. get_or l 6 0) e in absurd (omega (arith, differs))
+
+says_behind : (front : List ℕ) (alike : Bool) (behind rest : List ℕ) → front ++ alike_text alike ++ behind ≡ front ++ alike_text true ++ rest → alike ≡ true
+says_behind front alike behind rest e =
+    says_yes alike behind rest
+    (sym (drop-append_seam front (alike_text alike ++ behind))
+    ∙ ap (drop (length front)) (sym (append_assoc front (alike_text alike) behind) ∙ e ∙ append_assoc front (alike_text true) rest)
+    ∙ drop-append_seam front (alike_text true ++ rest))
+
+module _ (turns : ℕ) (word : List ℕ) (entered : Entered) (plan : Plan) (h : PredictPlans turns word entered plan) where
+  abbrev drive : Driving
+  drive = driven_of turns entered
+
+  abbrev Alike : Type 0
+  Alike = BeginsWith (met (driven_of turns entered) ++ alike_text true) plan.text
+
+  text_is : plan.text ≡ met (driven_of turns entered) ++ alike_text h.alike ++ plain_text entered turns (drive_outcome turns entered)
+  text_is = ap (λ p. p.text) h.is_plan
+
+  safe_by : Alike → IsSafe entered.entry.program
+  safe_by begins =
+      h.is_alike.0 (says_behind (met (driven_of turns entered)) h.alike (plain_text entered turns (drive_outcome turns entered)) begins.0 (sym text_is ∙ begins.1))
+
+  alike_by : IsSafe entered.entry.program → Alike
+  alike_by safe =
+      (_, text_is ∙ ap (λ a. met (driven_of turns entered) ++ alike_text a ++ plain_text entered turns (drive_outcome turns entered)) (h.is_alike.1 safe))
+
+  assessed_so : (verdict : Verdict) → Assesses entered.entry.program verdict → verdict ≡ Safe ↔ Alike
+  assessed_so Safe a = (λ e. alike_by (a.0, a.1), λ begins. refl)
+  assessed_so (NotConstantTime chain) a = (λ e. absurd cc, λ begins. absurd (a.1 (safe_by begins).0))
+  assessed_so (NotStable position) a = (λ e. absurd cc, λ begins. absurd (a.passes_not (safe_by begins).1))
+
+-- what was taken of a drive
+taken : (turns : ℕ) (entered : Entered) → IsTaken entered.entry.program entered.entry.function entered.start turns (driven_of turns entered)
+taken turns entered = each_taken entered.entry.program entered.entry.function entered.start turns
+
+predict_means : (export start image : List ℕ) (turns : ℕ) (word : List ℕ) (entered : Entered) → (entering export start).Passes image entered → (plan : Plan)
+    → PredictPlans turns word entered plan → PredictMeans turns entered plan
+predict_means export start image turns word entered prepared plan h =
+    let program = entered.entry.program in
+    let function = entered.entry.function in record {
+      consistent = ended_so program function entered.start (fits export start image entered prepared) (driven_of turns entered).state
+          (subst (IsConsistent program (plain_opening program function entered.start)) (taken turns entered).leads (consistent 64 program function entered.start (driven_of turns entered).trace));
+      assessed = assessed_so turns word entered plan h;
+      alike = λ begins other agree.
+          let safe = safe_by turns word entered plan h begins in
+          two_drives program (equal program (facts export start image entered prepared) (rules export start image entered prepared) safe.0 safe.1) function entered.start other agree turns;
+    }
+
+-- ---- the command
+
+pub predict_staged_is : (request : PredictRequest) → IsStagedCommand (Unit {0}) (predict_staged request)
+predict_staged_is request = record {
+  small = (omega arith, (omega arith, tt));
+  lawful = λ image start. entering_lawful request.export start;
+  total = λ given image start. (entering_total request.export start).always image tt;
+  one_status = λ entered p q h k. ap (λ plan. plan.status) (one_predict_plan request.steps request.trace entered p q h k);
+  status_of_deed = λ entered plan h. ap (λ p. kind_of p.status) h.is_plan ∙ deed_of_run (drive_outcome request.steps entered);
+  keeps_named = λ entered plan h. inl (ap (λ p. map (λ keep. keep.0) p.keeps) h.is_plan);
+  means = λ image start entered prepared plan h. predict_means request.export start image request.steps request.trace entered prepared plan h;
+  planned = λ image start entered prepared. some_predict_plan request.steps request.trace entered;
+}
+
+-- ---- the trace file that is kept
+
+near_written : (directive : Directive) → IsNear directive → IsWritten directive
+near_written (Exec n) near = omega (arith, near)
+near_written Fetch near = tt
+near_written (Predict predicted) near = tt
+near_written Retire near = tt
+
+abbrev HasFewDigits : ℕ → List ℕ → Type 0
+HasFewDigits n digits = (n < 10 → length digits ≤ 1) × (n < 100 → length digits ≤ 2)
+
+few_digits : (n : ℕ) → n < 2 ^ 64 → HasFewDigits n (decimal n)
+few_digits =
+    decimal_by_steps HasFewDigits (λ n lt. (λ _. omega arith, λ _. omega arith))
+    (λ n digits le h. (
+      λ lt. absurd (omega (arith, lt, le)),
+      λ lt. let few = h.0 (omega (arith, lt)) in let count = length-append digits ((48 + n % 10) ∷ []) in omega (arith, few, count),
+    ))
+
+line_short : (directive : Directive) → IsNear directive → length (directive_text directive ++ 10 ∷ []) ≤ 8
+line_short Fetch near = omega arith
+line_short (Predict true) near = omega arith
+line_short (Predict false) near = omega arith
+line_short (Exec n) near =
+    let few = (few_digits n (omega (arith, near))).1 (omega (arith, near)) in
+    let count = length-append (decimal n) (10 ∷ []) in
+    omega (arith, few, count)
+line_short Retire near = omega arith
+
+text_short : (directives : List Directive) → All IsNear directives → length (trace_text directives) ≤ 8 * length directives
+text_short [] near = omega arith
+text_short (directive ∷ directives) near =
+    let first = line_short directive (All-head IsNear directive directives near) in
+    let rest = text_short directives (All-tail IsNear directive directives near) in
+    let count = length-append (directive_text directive ++ 10 ∷ []) (trace_text directives) in
+    omega (arith, first, rest, count)
+
+-- what is told of an outcome that there is doesn't depend on the steps
+same_end : (entered : Entered) (turns : ℕ) (outcome : Option Outcome) (end : Outcome) → outcome ≡ Some end → end_text entered outcome ≡ plain_text entered turns outcome
+same_end entered turns (Some (returned values memories)) end e = refl
+same_end entered turns (Some (trapped kind memories)) end e = refl
+same_end entered turns None end e = cc
+
+pub followed : (request : PredictRequest) → AreTurnsInRange request.steps → (image start : List ℕ) (told : Plan) → (predict_job request).Does (image ∷ start ∷ []) told
+    → IsFollowed request image start told
+followed request within image start told h =
+    let entered = h.made in
+    let prepared = h.passes in
+    let drive = driven_of request.steps entered in
+    let took = taken request.steps entered in
+    let written : All IsWritten drive.trace = λ k d lt. near_written _ (took.near k d lt) in
+    let trace = trace_text drive.trace in
+    let counted : length (lines_of trace) ≡ length drive.trace = lines_counted directive_of directive_text IsWritten reads_back no_feeds drive.trace written in
+    let size = text_short drive.trace took.near in
+    let few = took.few in
+    let most = within.few in
+    let s : Speculated = record { entered = entered; directives = drive.trace } in
+    let traced : Traced = record { entry = prepared.2.0; directives = drive.trace } in
+    let read : trace_of trace ≡ Ok drive.trace = all_read directive_of directive_text IsWritten reads_back no_feeds drive.trace written in
+    let ended : outcome_in entered.entry.program (reached 64 entered.entry.program entered.entry.function entered.start drive.trace) ≡ drive_outcome request.steps entered
+    = ap (outcome_in entered.entry.program) took.leads in
+    let does : (spec_job (following request)).Does (image ∷ trace ∷ start ∷ []) (spec_plan s) = record {
+      made = s;
+      passes = (
+        prepared.0,
+        prepared.1,
+        (
+          prepared.2.0,
+          prepared.2.1,
+          (traced, record { same_entry = refl; few = omega (arith, counted, few, most); read = read }, (entered, prepared.2.2, refl)),
+        ),
+      );
+      plans = refl;
+    } in
+    record {
+      trace = trace;
+      kept = ap (λ p. p.keeps) h.plans.is_plan;
+      short = omega (arith, size, few, most);
+      plan = spec_plan s;
+      does = does;
+      alone = λ other other_does. one_done (spec_staged (following request)) (spec_staged_is (following request)) (λ made p q h k. h ∙ sym k) (image ∷ trace ∷ start ∷ []) other (spec_plan s) other_does does;
+      done = ap spec_status took.enabled;
+      entered = entered;
+      passes = prepared;
+      status = ap (λ p. p.status) h.plans.is_plan;
+      told_last = (met drive ++ alike_text h.plans.alike, ap (λ p. p.text) h.plans.is_plan);
+      said_last = (
+        flat_map observation_text (seen_of s).made,
+        λ i. flat_map observation_text (seen_of s).made ++ last_text entered (ended i) (took.enabled i),
+      );
+      same = same_end entered request.steps (drive_outcome request.steps entered);
+    }

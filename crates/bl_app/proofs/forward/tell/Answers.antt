@@ -1,0 +1,24 @@
+use Rattle.std.proofs.Common.{List, ◌++◌, ◌∙◌, ap, map, subst}
+use Rattle.bl_rob.specs.declared.directive.Directive.{Directive}
+use Rattle.bl_forward.specs.Sights.{AreForwardedSideBySide}
+use Rattle.bl_app.specs.Twinning.{twin_status}
+use Rattle.bl_job.specs.Working.{keep_in}
+use Rattle.bl_app.proofs.forward.tell.Goals as goal
+
+pub returns : goal.returns
+returns c =
+    let speculation = c.args.speculation.now in
+    let done = subst (λ (directives : List Directive). AreForwardedSideBySide c.args.program.now speculation.entry.function speculation.start c.args.other.now directives c.in_ok-compared.compared)
+    c.as_slice.ensures c.in_ok-compared.ensures in
+    let behind = c.as_slice-2.ensures ∙ done.tells in
+    record {
+      safe = c.in_ok-safe.safe;
+      is_safe = c.in_ok-safe.ensures;
+      agree = done.agree;
+      agrees = done.agrees;
+      is_plan = λ i. record {
+        status = (c.twin_status.ensures ∙ ap twin_status done.compares) i;
+        keeps = map keep_in (c.new.ensures.items i);
+        text = (c.in_ok-extend_from_slice.ensures.items ∙ (λ j. c.in_ok-text.ensures j ++ behind j)) i;
+      };
+    }

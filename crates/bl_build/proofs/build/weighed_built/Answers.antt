@@ -1,0 +1,14 @@
+use Rattle.bl_cmd.specs.declared.definitions.ProgramParts.{ProgramParts as Program}
+use Rattle.bl_build.specs.Building.{sizing}
+use Rattle.bl_build.specs.Weighing.{weighing}
+use Rattle.bl_job.specs.Stages.{at_first, chain}
+use Rattle.bl_build.specs.Working.{built_in}
+use Rattle.bl_build.proofs.BuildLemmas.{staged_behind, still_refused}
+use Rattle.bl_build.proofs.build.weighed_built.Goals as goal
+
+pub returns-in-Ok : goal.returns-in-Ok
+returns-in-Ok c = staged_behind (weighing c.args.counts.now) sizing built_in c.args.program c.in-Ok.program c.sized.result c.in-Ok.ensures c.sized.ensures
+
+pub returns-in-Err : goal.returns-in-Err
+returns-in-Err c =
+    still_refused (weighing c.args.counts.now) (chain (weighing c.args.counts.now) sizing) (λ (program : Program). program) built_in c.args.program (λ refusal r. at_first r) c.in-Err.error c.in-Err.ensures

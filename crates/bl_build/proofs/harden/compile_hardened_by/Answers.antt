@@ -1,0 +1,11 @@
+use Rattle.std.proofs.Common.{Bor, List, map, ℕ}
+use Rattle.bl_build.specs.Weighing.{compiling_by, counted_sources, hardening_by}
+use Rattle.bl_build.specs.Working.{built_in, hardened_in}
+use Rattle.bl_job.specs.Working.{contents_in}
+use Rattle.bl_build.proofs.BuildLemmas.{still_refused}
+use Rattle.bl_build.proofs.harden.compile_hardened_by.Goals as goal
+
+pub returns-in-Err : goal.returns-in-Err
+returns-in-Err c =
+    let words = map (λ (word : Bor (List ℕ)). word.now) c.args.words.now in
+    still_refused compiling_by hardening_by built_in hardened_in (counted_sources words (contents_in c.args.contents.items) c.args.counts.now) (λ refusal r. r) c.in-Err.error c.in-Err.ensures

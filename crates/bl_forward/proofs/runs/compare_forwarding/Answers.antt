@@ -1,0 +1,11 @@
+use Rattle.bl_rob.specs.CallResults.{seen_in}
+use Rattle.bl_twin.proofs.SideBySide.{side_by_side}
+use Rattle.bl_forward.specs.Forwarding.{forward_step}
+use Rattle.bl_forward.specs.Sights.{are_same, seen_text}
+use Rattle.bl_forward.proofs.runs.compare_forwarding.Goals as goal
+
+pub returns : goal.returns
+returns c =
+    side_by_side are_same seen_text (forward_step 32) c.args.program.now c.args.function c.args.one.now c.args.other.now c.args.directives.now c.in_ok-agree.agree
+    (seen_in c.in_ok-first.first) (seen_in c.in_ok-second.second) c.compare.result
+    c.in_ok-agree.ensures c.in_ok-first.ensures c.in_ok-second.ensures c.compare.ensures.comparison c.compare.ensures.text

@@ -1,4 +1,0 @@
-use Rattle.bl_job.proofs.refusal.import_line.Goals as goal
-
-pub returns : goal.returns
-returns c = rw (c.as_str.ensures.value, c.in_ok-tail.ensures.ok) at c.named_line.ensures

@@ -1,0 +1,4 @@
+pub mod Drives
+pub mod Lines
+pub mod Outlines
+pub mod Takings
