@@ -5,15 +5,20 @@ use Rattle.bl_cmd.specs.Rules.{IsWellFormed}
 use Rattle.bl_cmd.specs.Sites.{is_protected}
 use Rattle.bl_cmd.specs.declared.definitions.ProgramParts.{ProgramParts as Program}
 use Rattle.bl_graph.proofs.Ranging.{in_range}
+use Rattle.bl_ct.specs.Verdicts.{FindsChain}
+use Rattle.bl_report.specs.Verdicts.{verdicts_of}
 use Rattle.bl_sct.proofs.Whole.{equal}
+use Rattle.bl_transient.specs.Verdicts.{IsFirstLeak}
 use Rattle.bl_transient.specs.declared.transient.FlowVerdict.{FlowVerdict}
 use Rattle.bl_transient.specs.declared.transient.FlowVerdict.TheVariants as flow
+use Rattle.bl_witness.specs.Verdicts.{Checks}
 use Rattle.bl_witness.specs.declared.verdict.CertVerdict.{CertVerdict}
 use Rattle.bl_witness.specs.declared.verdict.CertVerdict.TheVariants as rules
 use Rattle.bl_words.specs.Requests.{VerifyRequest}
-use Rattle.bl_job.specs.Jobs.{Plan}
+use Rattle.bl_job.specs.Jobs.{Plan, saying}
 use Rattle.bl_job.specs.Status.{kind_of, of_deed}
-use Rattle.bl_app.specs.Verifying.{AreVerdicts, Say, Verdicts, VerifyDoes, VerifyPlans, verify_reading, verify_staged, verify_status}
+use Rattle.bl_app.specs.Verifying.{AreVerdicts, Say, Shows, Verdicts, VerifyDoes, VerifyPlans, found_plan, found_status, verify_reading, verify_staged, verify_status}
+use Rattle.bl_app.specs.declared.verify.Found.{Found}
 use Rattle.bl_build.specs.Certifying.{Certified, certifying, verifying}
 use Rattle.bl_build.proofs.JudgedCertificates.{assessed_so, certain_back, certain_in, none_is_lighter, stable_back, stable_in}
 use Rattle.bl_build.proofs.JudgedPrograms.{labelled_yes, yes_labelled}
@@ -23,7 +28,7 @@ use Rattle.bl_build.proofs.EnteringLemmas.{imaged_lawful}
 use Rattle.bl_build.proofs.ImagesTotal.{certifying_total, imaged_total}
 use Rattle.bl_job.specs.Stages.{IsLawfulStage}
 use Rattle.bl_build.proofs.OneVerdict.{one_flow, one_rules}
-use Rattle.bl_build.proofs.VerdictsTotal.{some_check, some_flow_verdict, some_label_verdict}
+use Rattle.bl_build.proofs.VerdictsTotal.{flow_verdict_of, label_verdict_of, some_check, some_flow_verdict, some_label_verdict}
 
 -- ---- verdicts
 
@@ -50,6 +55,29 @@ module _ (certified : Certified) where
     assessed = assessed_so program v.flow v.labels a.flow a.labels;
     safe = λ stable says. equal program facts rules (yes_labelled program v.labels a.labels says) (stable_in program v.flow a.flow stable);
   }
+
+-- ---- what is found
+
+-- a first leak and a secret chain show verdicts
+pub found_shows : (certified : Certified) (found : Found) → IsProgram certified.program → IsWellFormed certified.program → Checks certified.program certified.certificate found.rules
+    → IsFirstLeak certified.program (is_protected certified.program) found.leak → FindsChain certified.program found.chain → Shows certified found
+found_shows certified found facts rules checked first chain =
+    let flow = flow_verdict_of certified.program (is_protected certified.program) (in_range certified.program facts rules) found.leak first in
+    let labels = label_verdict_of certified.program facts rules found.chain chain in
+    record {
+      verdicts = record { rules = found.rules; flow = flow.0; labels = labels.0 };
+      are_verdicts = record { rules = checked; flow = flow.1; labels = labels.1 };
+      rules = refl;
+      leak = flow.2;
+      chain = labels.2;
+    }
+
+pub found_plans : (certified : Certified) (found : Found) (plan : Plan) → Shows certified found → plan ≡ found_plan found → VerifyPlans certified plan
+found_plans certified found plan shows is = record {
+  verdicts = shows.verdicts;
+  are_verdicts = shows.are_verdicts;
+  is_plan = is ∙ sym (λ i. saying (found_status (shows.rules i) (shows.leak i)) (verdicts_of (shows.rules i) (shows.leak i) (shows.chain i)));
+}
 
 -- ---- the command
 

@@ -1,21 +1,21 @@
 -- `verify`: its job, and what is said where it is done.
-use Rattle.std.specs.Prelude.{◌≡◌, ◌↔◌, ℕ, List, [], ◌∷◌}
+use Rattle.std.specs.Prelude.{◌≡◌, ◌↔◌, ℕ, List, [], ◌∷◌, Option, None}
+use Rattle.bl_base.specs.declared.number.Pos.{Pos}
 use Rattle.bl_base.specs.declared.quantity.Quantity.TheVariants as quantity
 use Rattle.bl_cmd.specs.Sites.{is_protected}
 use Rattle.bl_cmd.specs.declared.definitions.ProgramParts.{ProgramParts as Program}
-use Rattle.bl_ct.specs.Verdicts.{Judges as JudgesLabels}
+use Rattle.bl_ct.specs.Verdicts.{Judges as JudgesLabels, chain_in}
 use Rattle.bl_ct.specs.declared.verdict.CtVerdict.{CtVerdict}
 use Rattle.bl_graph.specs.Certificates.{Certifies}
 use Rattle.bl_graph.specs.Labels.{ConstantTime}
 use Rattle.bl_graph.specs.declared.certificate.Certificate.{Certificate}
-use Rattle.bl_report.specs.Verdicts.{verdicts_text}
+use Rattle.bl_report.specs.Verdicts.{leak_in, verdicts_of, verdicts_text}
 use Rattle.bl_rob.specs.Observed.{HasEqualObservations}
 use Rattle.bl_sct.specs.Verdicts.{Assesses, IsStable}
 use Rattle.bl_sct.specs.declared.verdict.Verdict.{Verdict}
 use Rattle.bl_sct.specs.declared.verdict.Verdict.TheVariants.{Safe}
 use Rattle.bl_transient.specs.Verdicts.{Judges as JudgesFlow}
 use Rattle.bl_transient.specs.declared.transient.FlowVerdict.{FlowVerdict}
-use Rattle.bl_transient.specs.declared.transient.FlowVerdict.TheVariants as flow
 use Rattle.bl_witness.specs.Verdicts.{AreLightest, Checks}
 use Rattle.bl_witness.specs.declared.verdict.CertVerdict.{CertVerdict}
 use Rattle.bl_witness.specs.declared.verdict.CertVerdict.TheVariants as rules
@@ -24,7 +24,7 @@ use Rattle.bl_app.specs.Executing.{image_read}
 use Rattle.bl_build.specs.Hardening.{IsYes}
 use Rattle.bl_job.specs.Jobs.{Job, Plan, Read, saying}
 use Rattle.bl_job.specs.Staged.{Makes, Reading, Staged, all_read, contents_stage, file, staged_job}
-use Rattle.bl_app.specs.declared.verify.Verdicts.{Verdicts as VerdictsFound}
+use Rattle.bl_app.specs.declared.verify.Found.{Found}
 use Rattle.bl_job.specs.declared.status.Status.{Status}
 use Rattle.bl_job.specs.declared.status.Status.TheVariants.{Done, No}
 use Rattle.bl_build.specs.Certifying.{Certain, Certified, Stable, verifying}
@@ -41,10 +41,6 @@ pub record Verdicts : Type 0 where
 abbrev pub certified_in : Program → Certificate → Certified
 certified_in program certificate = record { program = program; certificate = certificate }
 
--- the verdicts on them
-abbrev pub verdicts_in : VerdictsFound → Verdicts
-verdicts_in found = record { rules = found.rules; flow = found.flow; labels = found.labels }
-
 -- the verdicts are these of the program with its own protects
 pub record AreVerdicts (certified : Certified) (verdicts : Verdicts) : Type 0 where
   pub rules : Checks certified.program certified.certificate verdicts.rules
@@ -55,12 +51,27 @@ abbrev pub verify_text : Verdicts → List ℕ
 verify_text verdicts = verdicts_text verdicts.rules verdicts.flow verdicts.labels
 
 -- no where the certificate or the transient rules are broken
+abbrev pub found_status : CertVerdict → Option Pos → Status
+found_status rules.Yes None = Done
+found_status verdict leak = No
+
 abbrev pub verify_status : CertVerdict → FlowVerdict → Status
-verify_status rules.Yes (flow.Yes typing) = Done
-verify_status verdict other = No
+verify_status verdict flow = found_status verdict (leak_in flow)
 
 abbrev pub verify_plan : Verdicts → Plan
 verify_plan verdicts = saying (verify_status verdicts.rules verdicts.flow) (verify_text verdicts)
+
+-- what is found shows verdicts on a program and a certificate: they have that first leak and that secret chain
+pub record Shows (certified : Certified) (found : Found) : Type 0 where
+  pub verdicts : Verdicts
+  pub are_verdicts : AreVerdicts certified verdicts
+  pub rules : verdicts.rules ≡ found.rules
+  pub leak : leak_in verdicts.flow ≡ found.leak
+  pub chain : chain_in verdicts.labels ≡ found.chain
+
+-- what is printed then
+abbrev pub found_plan : Found → Plan
+found_plan found = saying (found_status found.rules found.leak) (verdicts_of found.rules found.leak found.chain)
 
 -- a certificate that is read
 abbrev pub certificate_read : List ℕ → Read

@@ -1,34 +1,33 @@
 //! `verify`: from the bytes of an image and of a certificate to the verdicts on them.
 ghost use Rattle.std.specs.Prelude.{◌≡◌, None, IfOk, map};
 ghost use Rattle.bl_job.specs.Jobs.{AreRead};
-ghost use Rattle.bl_app.specs.Verifying.{AreVerdicts, VerifyPlans, certified_in, verdicts_in, verify_job, verify_plan, verify_status};
+ghost use Rattle.bl_app.specs.Verifying.{Shows, VerifyPlans, certified_in, found_plan, found_status, verify_job};
 ghost use Rattle.bl_build.specs.Certifying.{certifying};
 ghost use Rattle.bl_job.specs.Working.{contents_in, IsDoneBehind, IsWork, plan_in, read_in};
 ghost use Rattle.bl_graph.specs.Graphs.{IsGraph};
 ghost use Rattle.bl_words.specs.Words.{verify_in};
 
-use bl_base::{NoMemory, Quantity};
+use bl_base::{NoMemory, Pos, Quantity};
 use bl_build::{read_certificate, read_image};
 use bl_cmd::WellFormed;
-use bl_ct::{CtVerdict, constant_time};
-use bl_graph::{Certificate, Graph, graph};
+use bl_ct::secret_chain_of;
+use bl_graph::{Certificate, Graph, SecretChain, graph};
 use bl_job::{Content, Plan, Read, Status, WorkError, list_reads, two_files};
-use bl_report::verdicts_text;
-use bl_sct::stability_of;
-use bl_transient::FlowVerdict;
+use bl_report::verdicts_text_of;
+use bl_sct::own_leak_of;
 use bl_witness::{CertVerdict, check_certificate_of};
 use bl_words::VerifyWords;
 use std::alloc::Global;
 
-/// The verdicts on a program and a certificate.
+/// What is found of a program and a certificate.
 #[derive(Drop)]
-pub struct Verdicts {
-    /// By the rules of certificates.
+pub struct Found {
+    /// The verdict by the rules of certificates.
     pub rules: CertVerdict,
-    /// By the transient rules, of the program's own protects.
-    pub flow: FlowVerdict,
-    /// By the label rules.
-    pub labels: CtVerdict,
+    /// The first sink that reads a variable which is transient by the program's own protects, if there is one.
+    pub leak: Option<Pos>,
+    /// A secret chain, if there is one.
+    pub chain: Option<SecretChain>,
 }
 
 /// The files that `verify` reads: the image, and then the certificate.
@@ -44,8 +43,8 @@ pub fn verify_reads<'a>(alloc: Global, words: &VerifyWords<'a>) -> Result<Vec<Re
     )
 }
 
-/// Printing the verdicts on an image's program and a certificate; Refused exactly where their bytes are refused. Linear in the bytes and
-/// in the number of the program's declared variables, but for what the check of a program takes and the logarithm of its size.
+/// Printing the verdicts on an image's program and a certificate; Refused exactly where their bytes are refused. Linear in the bytes,
+/// but for what the check of a program takes and the logarithm of its size; takes no memory for a variable that is declared alone.
 pub fn verify<'a>(
     alloc: Global,
     words: &VerifyWords<'a>,
@@ -62,6 +61,7 @@ pub fn verify<'a>(
 }
 
 /// The same, by the image's program.
+#[tactic(auto, using(crate::proofs::VerifyLemmas::found_plans))]
 fn verify_program<'a>(
     alloc: Global,
     program: &WellFormed,
@@ -74,18 +74,14 @@ fn verify_program<'a>(
         Err(error) => return Err(error),
     };
     match judge(alloc, program, &certificate) {
-        Ok(verdicts) => Ok(tell(alloc, &verdicts)?),
+        Ok(found) => Ok(tell(alloc, &found)?),
         Err(NoMemory) => Err(WorkError::Memory),
     }
 }
 
-/// The verdicts on a program and a certificate.
-fn judge(
-    alloc: Global,
-    program: &WellFormed,
-    certificate: &Certificate,
-) -> Result<Verdicts, NoMemory>
-    ensures { IfOk result (λ verdicts. AreVerdicts (certified_in program.now certificate.now) (verdicts_in verdicts)) }
+/// What is found of a program and a certificate.
+fn judge(alloc: Global, program: &WellFormed, certificate: &Certificate) -> Result<Found, NoMemory>
+    ensures { IfOk result (λ found. Shows (certified_in program.now certificate.now) found) }
 {
     let graph = graph(alloc, program)?;
     judge_of(alloc, program, &graph, certificate)
@@ -97,38 +93,36 @@ fn judge_of(
     program: &WellFormed,
     graph: &Graph,
     certificate: &Certificate,
-) -> Result<Verdicts, NoMemory>
+) -> Result<Found, NoMemory>
     requires { IsGraph program.now graph.now }
-    ensures { IfOk result (λ verdicts. AreVerdicts (certified_in program.now certificate.now) (verdicts_in verdicts)) }
+    ensures { IfOk result (λ found. Shows (certified_in program.now certificate.now) found) }
 {
+    // What is known of the program is read with it.
+    let _parts = program.program().parts();
     let rules = check_certificate_of(alloc, program, graph, certificate)?;
-    let flow = stability_of(alloc, program, graph)?;
-    let labels = constant_time(alloc, program, graph)?;
-    Ok(Verdicts {
-        rules,
-        flow,
-        labels,
-    })
+    let leak = own_leak_of(alloc, program, graph)?;
+    let chain = secret_chain_of(alloc, program, graph)?;
+    Ok(Found { rules, leak, chain })
 }
 
-/// Printing verdicts.
-fn tell<'a>(alloc: Global, verdicts: &Verdicts) -> Result<Plan<'a>, NoMemory>
-    ensures { IfOk result (λ plan. plan_in plan ≡ verify_plan (verdicts_in verdicts.now)) }
+/// Printing the verdicts that what is found shows.
+fn tell<'a>(alloc: Global, found: &Found) -> Result<Plan<'a>, NoMemory>
+    ensures { IfOk result (λ plan. plan_in plan ≡ found_plan found.now) }
 {
-    let text = verdicts_text(alloc, &verdicts.rules, &verdicts.flow, &verdicts.labels)?;
+    let text = verdicts_text_of(alloc, &found.rules, found.leak, found.chain.as_ref())?;
     Ok(Plan {
-        status: verify_status(&verdicts.rules, &verdicts.flow),
+        status: verify_status(&found.rules, found.leak),
         keeps: Vec::new(alloc),
         text: text.into_vec(),
     })
 }
 
 /// The exit status, by the rules of certificates and the transient rules.
-fn verify_status(rules: &CertVerdict, flow: &FlowVerdict) -> Status
-    ensures { result ≡ verify_status rules.now flow.now }
+fn verify_status(rules: &CertVerdict, leak: Option<Pos>) -> Status
+    ensures { result ≡ found_status rules.now leak }
 {
-    match (rules, flow) {
-        (CertVerdict::Yes, FlowVerdict::Yes(_)) => Status::Done,
+    match (rules, leak) {
+        (CertVerdict::Yes, None) => Status::Done,
         _ => Status::No,
     }
 }

@@ -2,7 +2,7 @@
 -- protects and their certificate.
 use Rattle.std.proofs.Common.{◌≡◌, ◌↔◌, ℕ, zero, suc, ◌+◌, ◌<◌, ◌≤◌, Bool, cond, List, [], ◌∷◌, ◌++◌, length, map, Option, Some, None, slice_get, slice_index, unwrap_or, nat_eq, inl, inr, refl, sym, ap, ◌∙◌, subst, arith}
 use Rattle.std.specs.Prelude.{IsSome}
-use Rattle.std.specs.List.{Contains}
+use Rattle.std.specs.List.{Contains, range_with_len}
 use Rattle.std.proofs.lemmas.Bool.{cases_eq, cases_lt, eq-eqb, ne_eqb}
 use Rattle.std.proofs.lemmas.List.Elements.{Contains-append_cases, Contains-append_left, Contains-append_right}
 use Rattle.bl_cmd.specs.Programs.{IsProgram}
@@ -16,17 +16,19 @@ use Rattle.bl_flow.specs.declared.network.Network.{Network}
 use Rattle.bl_flow.proofs.Existing.{SomeFlow, some_flow}
 use Rattle.bl_graph.specs.Certificates.{Certifies, flow_of}
 use Rattle.bl_graph.specs.Graphs.{use_of}
+use Rattle.bl_graph.specs.Names.{AreNames, place_of}
 use Rattle.bl_graph.specs.Ranges.{AreInRange, commands, variables}
 use Rattle.bl_graph.specs.declared.certificate.Certificate.{Certificate}
 use Rattle.bl_graph.specs.declared.certificate.FlowPath.{FlowPath}
 use Rattle.bl_graph.specs.declared.facts.Use.{Use}
 use Rattle.bl_graph.proofs.Members.{first_in, from_map, in_cases, in_map, later_in, none_in}
+use Rattle.bl_graph.proofs.Naming.{all_are_names, place_in_range}
 use Rattle.bl_graph.proofs.Ranging.{in_range}
 use Rattle.bl_ct.proofs.Listing.{Lists, lists_of}
 use Rattle.bl_cut.specs.Choices.{IsMaxFlow, KnowsSinks, path_of}
 use Rattle.bl_cut.specs.Least.{Least}
 use Rattle.bl_cut.specs.Marks.{protected}
-use Rattle.bl_cut.specs.Network.{ArcKind, IsEnd, IsNetwork, read, read_arc, sink_node, write, write_arc}
+use Rattle.bl_cut.specs.Network.{ArcKind, IsEnd, IsNetwork, node_of, read, read_arc, sink_node, write, write_arc}
 use Rattle.bl_cut.proofs.Choosing.{certified, is_least}
 use Rattle.bl_cut.proofs.Cutting.{bounded, in_range as network_in_range, total}
 use Rattle.bl_cut.proofs.Marked.{certifies_on, is_program, is_well_formed}
@@ -102,55 +104,67 @@ module _ (program : Program) (facts : IsProgram program) (rules : IsWellFormed p
   lists : Lists program
   lists = lists_of program
 
-  arcs : List Arc
-  arcs = map (write_arc (commands program)) lists.writes ++ map (read_arc (commands program)) lists.reads
+  -- all variables, each the number of itself
+  names : List ℕ
+  names = range_with_len 0 (variables program)
 
-  arc_kind : (u v : ℕ) → Contains arcs (record { from = u; to = v }) → ArcKind program u v
+  named : AreNames program names
+  unfolding names
+  named = all_are_names program is
+
+  own_place : (x : ℕ) → x < variables program → place_of names x ≡ x
+  unfolding names
+  own_place x lt = place_in_range (variables program) x lt
+
+  arcs : List Arc
+  arcs = map (write_arc names (commands program)) lists.writes ++ map (read_arc names (commands program)) lists.reads
+
+  arc_kind : (u v : ℕ) → Contains arcs (record { from = u; to = v }) → ArcKind program names u v
   unfolding arcs
   arc_kind u v h =
-      elim (Contains-append_cases (map (write_arc (commands program)) lists.writes) (map (read_arc (commands program)) lists.reads) (record { from = u; to = v }) h) as (λ _. ArcKind program u v) [
+      elim (Contains-append_cases (map (write_arc names (commands program)) lists.writes) (map (read_arc names (commands program)) lists.reads) (record { from = u; to = v }) h) as (λ _. ArcKind program names u v) [
         | inl w ↦
-            let found = from_map (write_arc (commands program)) lists.writes (record { from = u; to = v }) w in
+            let found = from_map (write_arc names (commands program)) lists.writes (record { from = u; to = v }) w in
             let from : found.0.at.0 ≡ u = ap (λ (a : Arc). a.from) found.2 in
-            let to : commands program + found.0.var.0 ≡ v = ap (λ (a : Arc). a.to) found.2 in
+            let to : node_of program names found.0.var.0 ≡ v = ap (λ (a : Arc). a.to) found.2 in
             write found.0.var.0 (subst (λ s. Writes program s found.0.var.0) from ((lists.writes_are found.0.at.0 found.0.var.0).0 found.1)) (sym to)
         | inr r ↦
-            let found = from_map (read_arc (commands program)) lists.reads (record { from = u; to = v }) r in
-            let from : commands program + found.0.var.0 ≡ u = ap (λ (a : Arc). a.from) found.2 in
+            let found = from_map (read_arc names (commands program)) lists.reads (record { from = u; to = v }) r in
+            let from : node_of program names found.0.var.0 ≡ u = ap (λ (a : Arc). a.from) found.2 in
             let to : found.0.at.0 ≡ v = ap (λ (a : Arc). a.to) found.2 in
             read found.0.var.0 (subst (λ s. Reads program s found.0.var.0) to ((lists.reads_are found.0.at.0 found.0.var.0).0 found.1)) (sym from)
       ]
 
-  arc_of : (u v : ℕ) → ArcKind program u v → Contains arcs (record { from = u; to = v })
+  arc_of : (u v : ℕ) → ArcKind program names u v → Contains arcs (record { from = u; to = v })
   unfolding arcs
   arc_of u v (write x writes e) =
       subst (λ w. Contains arcs (record { from = u; to = w })) (sym e)
-      (Contains-append_left (map (write_arc (commands program)) lists.writes) (map (read_arc (commands program)) lists.reads) (record { from = u; to = commands program + x })
-      (in_map (write_arc (commands program)) lists.writes (use_of u x) ((lists.writes_are u x).1 writes)))
+      (Contains-append_left (map (write_arc names (commands program)) lists.writes) (map (read_arc names (commands program)) lists.reads) (record { from = u; to = node_of program names x })
+      (in_map (write_arc names (commands program)) lists.writes (use_of u x) ((lists.writes_are u x).1 writes)))
   arc_of u v (read x reads e) =
       subst (λ w. Contains arcs (record { from = w; to = v })) (sym e)
-      (Contains-append_right (map (write_arc (commands program)) lists.writes) (map (read_arc (commands program)) lists.reads) (record { from = commands program + x; to = v })
-      (in_map (read_arc (commands program)) lists.reads (use_of v x) ((lists.reads_are v x).1 reads)))
+      (Contains-append_right (map (write_arc names (commands program)) lists.writes) (map (read_arc names (commands program)) lists.reads) (record { from = node_of program names x; to = v })
+      (in_map (read_arc names (commands program)) lists.reads (use_of v x) ((lists.reads_are v x).1 reads)))
 
   ends : List ℕ
-  ends = map (sink_node (commands program)) lists.sinks
+  ends = map (sink_node names (commands program)) lists.sinks
 
-  end_kind : (v : ℕ) → Contains ends v → IsEnd program v
+  end_kind : (v : ℕ) → Contains ends v → IsEnd program names v
   unfolding ends
   end_kind v h =
-      let found = from_map (sink_node (commands program)) lists.sinks v h in
+      let found = from_map (sink_node names (commands program)) lists.sinks v h in
       (found.0.var.0, sym found.2, (found.0.at.0, (lists.sinks_are found.0.at.0 found.0.var.0).0 found.1))
 
-  end_of : (v : ℕ) → IsEnd program v → Contains ends v
+  end_of : (v : ℕ) → IsEnd program names v → Contains ends v
   unfolding ends
-  end_of v end = subst (Contains ends) (sym end.1) (in_map (sink_node (commands program)) lists.sinks (use_of end.2.0 end.0) ((lists.sinks_are end.2.0 end.0).1 end.2.1))
+  end_of v end = subst (Contains ends) (sym end.1) (in_map (sink_node names (commands program)) lists.sinks (use_of end.2.0 end.0) ((lists.sinks_are end.2.0 end.0).1 end.2.1))
 
   weights : List (Option ℕ)
-  weights = table (commands program + variables program) (site_weight program)
+  weights = table (commands program + length names) (site_weight program)
 
-  many : length weights ≡ commands program + variables program
+  many : length weights ≡ commands program + length names
   unfolding weights
-  many = table_length (commands program + variables program) (site_weight program)
+  many = table_length (commands program + length names) (site_weight program)
 
   no_site : (o : Option ℕ) (v : ℕ) → commands program ≤ v → site_weight program v ≡ o → o ≡ None
   no_site None v past e = refl
@@ -159,21 +173,22 @@ module _ (program : Program) (facts : IsProgram program) (rules : IsWellFormed p
   weighed : (v : ℕ) → unwrap_or (slice_get weights v) None ≡ site_weight program v
   unfolding weights
   weighed v =
-      elim (cases_lt v (commands program + variables program)) as (λ _. unwrap_or (slice_get weights v) None ≡ site_weight program v) [
-        | inl lt ↦ ap (λ o. unwrap_or o None) (table_at (commands program + variables program) (site_weight program) v lt)
+      elim (cases_lt v (commands program + length names)) as (λ _. unwrap_or (slice_get weights v) None ≡ site_weight program v) [
+        | inl lt ↦ ap (λ o. unwrap_or o None) (table_at (commands program + length names) (site_weight program) v lt)
         | inr past ↦
-            ap (λ o. unwrap_or o None) (table_past (commands program + variables program) (site_weight program) v past)
+            ap (λ o. unwrap_or o None) (table_past (commands program + length names) (site_weight program) v past)
             ∙ sym (no_site (site_weight program v) v (omega arith) refl)
       ]
 
   sink_of : List ℕ
   sink_of = numbers (variables program) (use_at lists.sinks)
 
-  knows : KnowsSinks program sink_of
+  knows : KnowsSinks program names sink_of
   unfolding sink_of
   knows = record {
     each = λ position x reads.
-        subst (λ a. SinkReads program a x) (sym (numbers_at (variables program) (use_at lists.sinks) x (is.sinks position x reads).1))
+        let small = (is.sinks position x reads).1 in
+        subst (λ a. SinkReads program a x) (sym (ap (slice_index (numbers (variables program) (use_at lists.sinks))) (own_place x small) ∙ numbers_at (variables program) (use_at lists.sinks) x small))
         ((lists.sinks_are (use_at lists.sinks x) x).0 (use_in lists.sinks position x ((lists.sinks_are position x).1 reads)));
   }
 
@@ -181,9 +196,10 @@ module _ (program : Program) (facts : IsProgram program) (rules : IsWellFormed p
     network : Network
     network = record { weights = weights; arcs = arcs; starts = starts; ends = ends }
 
-    is_network : IsNetwork program network
+    is_network : IsNetwork program names network
     unfolding network
     is_network = record {
+      named = named;
       size_is = many;
       weights = weighed;
       arcs = λ u v. (arc_kind u v, arc_of u v);
@@ -192,7 +208,7 @@ module _ (program : Program) (facts : IsProgram program) (rules : IsWellFormed p
     }
 
     flow : SomeFlow network
-    flow = some_flow network (network_in_range program is network is_network) (bounded program is network is_network) (total program is network is_network)
+    flow = some_flow network (network_in_range program names is network is_network) (bounded program names is network is_network) (total program names is network is_network)
 
     is_flow : IsMaxFlow network flow.result
     is_flow = record { paths = flow.paths; loads = flow.loads; cut = flow.cut; weight = flow.weight; least = flow.least; near = flow.near; nearest = flow.nearest }
@@ -201,7 +217,7 @@ module _ (program : Program) (facts : IsProgram program) (rules : IsWellFormed p
     set = cut_of flow.result
 
     least : Least program set
-    least = is_least program is network is_network flow.result is_flow
+    least = is_least program names is network is_network flow.result is_flow
 
     paths : List FlowPath
     paths = map (path_of (commands program) sink_of) flow.result.paths
@@ -211,7 +227,7 @@ module _ (program : Program) (facts : IsProgram program) (rules : IsWellFormed p
 
     certifies : Certifies (protected set program) certificate
     unfolding certificate paths
-    certifies = certifies_on set program least.sites certificate (certified program is network is_network flow.result is_flow sink_of knows)
+    certifies = certifies_on set program least.sites certificate (certified program names is network is_network flow.result is_flow sink_of knows)
 
     made : (own : List ℕ) → Image program own → (hardened : Hardened) × IsHardened program hardened
     made own image =

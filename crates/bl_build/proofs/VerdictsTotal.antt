@@ -1,10 +1,12 @@
 -- Programs and certificates have verdicts: by the rules of certificates, by the transient rules and by the label rules.
-use Rattle.std.proofs.Common.{◌≡◌, ℕ, zero, suc, ◌<◌, ◌≤◌, Bool, true, false, List, [], ◌∷◌, length, take, Some, None, slice_get, inl, inr, refl, sym, ap, ◌∙◌, subst, arith}
+use Rattle.std.proofs.Common.{◌≡◌, ℕ, zero, suc, ◌<◌, ◌≤◌, Bool, true, false, List, [], ◌∷◌, length, take, Option, Some, None, slice_get, inl, inr, refl, sym, ap, ◌∙◌, subst, arith}
 use Rattle.std.specs.Prelude.{IsTrue, not, IsSome}
 use Rattle.std.proofs.lemmas.Bool.{cases_Bool, cases_lt, false≢true, not_from_false, not_from_true}
 use Rattle.std.proofs.lemmas.List.Elements.{All-cons, All-nil}
 use Rattle.std.proofs.lemmas.Option.{none-some, slice_get_past, same_Some}
+use Rattle.bl_base.proofs.BoolLemmas.{never_both}
 use Rattle.bl_base.proofs.Lists.{within_get}
+use Rattle.bl_base.specs.declared.number.Pos.{Pos}
 use Rattle.bl_base.specs.declared.names.Flow.{Flow}
 use Rattle.bl_base.specs.declared.names.Flow.TheVariants.{Stable, Transient}
 use Rattle.bl_base.specs.declared.names.Label.{Label}
@@ -13,7 +15,7 @@ use Rattle.bl_cmd.specs.Programs.{IsProgram}
 use Rattle.bl_cmd.specs.Rules.{IsWellFormed}
 use Rattle.bl_cmd.specs.Sites.{SinkReads, is_protected}
 use Rattle.bl_cmd.specs.declared.definitions.ProgramParts.{ProgramParts as Program}
-use Rattle.bl_ct.specs.Verdicts.{IsLeastLabelling, Judges as JudgesLabels, labelling_of}
+use Rattle.bl_ct.specs.Verdicts.{FindsChain, IsLeastLabelling, Judges as JudgesLabels, chain_in, labelling_of}
 use Rattle.bl_ct.specs.declared.verdict.CtVerdict.{CtVerdict}
 use Rattle.bl_ct.specs.declared.verdict.CtVerdict.TheVariants as ct
 use Rattle.bl_ct.proofs.Deciding.{is_tested}
@@ -26,9 +28,12 @@ use Rattle.bl_graph.specs.Labels.{KeepsLabelRules, Secret, declared, loaded, mov
 use Rattle.bl_graph.specs.Ranges.{AreInRange, commands, variables}
 use Rattle.bl_graph.specs.declared.certificate.Certificate.{Certificate}
 use Rattle.bl_graph.specs.declared.certificate.FlowPath.{FlowPath}
+use Rattle.bl_graph.specs.declared.secret.SecretChain.{SecretChain}
 use Rattle.bl_graph.proofs.Ranging.{in_range}
-use Rattle.bl_transient.specs.Transient.{Assigns, Trans}
-use Rattle.bl_transient.specs.Verdicts.{Judges as JudgesFlow, typing_of}
+use Rattle.bl_transient.specs.Transient.{Assigns, Passes, Trans}
+use Rattle.bl_transient.specs.Verdicts.{IsFirstLeak, IsLeastTyping, Judges as JudgesFlow, typing_of}
+use Rattle.bl_report.specs.Verdicts.{leak_in}
+use Rattle.bl_sct.proofs.Assessing.{hot}
 use Rattle.bl_transient.specs.declared.transient.FlowVerdict.{FlowVerdict}
 use Rattle.bl_transient.specs.declared.transient.FlowVerdict.TheVariants as flow
 use Rattle.bl_transient.proofs.Typings.{is_trans, least_assigns, least_typing, typing_trans}
@@ -151,16 +156,31 @@ module _ (program : Program) (set : ℕ → Bool) (is : AreInRange program) wher
   same_typings : typing_of flows ≡ least_typing program set
   same_typings = λ i x. same_typing x i
 
+  least_flows : ((position x : ℕ) → SinkReads program position x → not (least_typing program set x) ≡ true) → IsLeastTyping program set flows
+  least_flows stable = record {
+    places = many_flows;
+    flows_hold = record {
+      assigns = subst (λ typing. Assigns program typing set) (sym same_typings) (least_assigns program set);
+      sinks = λ position x reads. subst (λ b. not b ≡ true) (sym (same_typing x)) (stable position x reads);
+    };
+    trans = λ x. ((λ h. typing_trans program set x (sym (same_typing x) ∙ h)), (λ t. same_typing x ∙ is_trans program set x t));
+  }
+
+  -- what a sink reads is stable in the least typing where it is in some that keeps the rules
+  stays_stable : Passes program set → (position x : ℕ) → SinkReads program position x → not (least_typing program set x) ≡ true
+  stays_stable p position x reads =
+      elim (cases_Bool (least_typing program set x)) as (λ _. not (least_typing program set x) ≡ true) [
+        | inl e ↦ absurd (never_both (p.0 x) (hot program set p.0 p.1.assigns x (typing_trans program set x e)) (p.1.sinks position x reads))
+        | inr e ↦ not_from_false (least_typing program set x) e
+      ]
+
+  -- the first leak is that of a verdict
+  pub flow_verdict_of : (leak : Option Pos) → IsFirstLeak program set leak → (verdict : FlowVerdict) × JudgesFlow program set verdict × (leak_in verdict ≡ leak)
+  flow_verdict_of None passes = (flow.Yes flows, least_flows (stays_stable passes), refl)
+  flow_verdict_of (Some position) first = (flow.No position, first, refl)
+
   pub some_flow_verdict : ((verdict : FlowVerdict) → JudgesFlow program set verdict → ⊥) → ⊥
-  some_flow_verdict none =
-      none (flow.Yes flows) (record {
-        places = many_flows;
-        flows_hold = record {
-          assigns = subst (λ typing. Assigns program typing set) (sym same_typings) (least_assigns program set);
-          sinks = λ position x reads. subst (λ b. not b ≡ true) (sym (same_typing x)) (stable position x reads);
-        };
-        trans = λ x. ((λ h. typing_trans program set x (sym (same_typing x) ∙ h)), (λ t. same_typing x ∙ is_trans program set x t));
-      })
+  some_flow_verdict none = none (flow.Yes flows) (least_flows stable)
     where
       stable : (position x : ℕ) → SinkReads program position x → not (least_typing program set x) ≡ true
       stable position x reads =
@@ -236,6 +256,11 @@ module _ (program : Program) (facts : IsProgram program) (rules : IsWellFormed p
       (λ t. same_label x ∙ (is_tested program (lists_of program) x).1 t),
     );
   }
+
+  -- the secret chain is that of a verdict
+  pub label_verdict_of : (chain : Option SecretChain) → FindsChain program chain → (verdict : CtVerdict) × JudgesLabels program verdict × (chain_in verdict ≡ chain)
+  label_verdict_of None constant = (ct.Yes labels, least_labels constant.0 constant.1, refl)
+  label_verdict_of (Some chain) found = (ct.No chain, found, refl)
 
   pub some_label_verdict : (verdict : CtVerdict) × JudgesLabels program verdict
   some_label_verdict =

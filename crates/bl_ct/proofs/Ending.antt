@@ -8,7 +8,7 @@ use Rattle.std.proofs.lemmas.List.Elements.{Contains-push_cases, Contains-append
 use Rattle.std.proofs.lemmas.Option.{same_Some}
 use Rattle.bl_cmd.specs.declared.definitions.ProgramParts.{ProgramParts as Program}
 use Rattle.bl_graph.specs.Graphs.{use_of, IsGraph}
-use Rattle.bl_graph.specs.Ranges.{variables}
+use Rattle.bl_graph.specs.Names.{place_of}
 use Rattle.bl_graph.specs.declared.facts.Graph.{Graph}
 use Rattle.bl_graph.specs.declared.facts.Use.{Use}
 use Rattle.bl_graph.specs.Secrets.{Demands}
@@ -16,11 +16,12 @@ use Rattle.bl_graph.specs.SecretChains.{Ends, sunk, stored, given}
 use Rattle.bl_ct.specs.Facts.{AreFacts}
 use Rattle.bl_ct.specs.declared.facts.Facts.{Facts}
 use Rattle.bl_graph.specs.Arcs.{is_in}
-use Rattle.bl_ct.specs.Finding.{entry_at, IsNoted, AreEnds, Gives, KeptAt}
+use Rattle.bl_ct.specs.Finding.{entry_at, entry_of, mark_of, IsTable, IsNoted, AreEnds, Gives, KeptAt}
 use Rattle.bl_graph.proofs.Members.{none_in}
+use Rattle.bl_ct.proofs.Tabling.{at_name, at_others}
 
-pub note_none : (ends : List (Option ℕ)) → IsNoted [] ends ends
-note_none ends = record {
+pub note_none : (names : List ℕ) (ends : List (Option ℕ)) → IsNoted names [] ends ends
+note_none names ends = record {
   places = refl;
   sound = λ x e h. inl h;
   kept = λ x h. h;
@@ -28,31 +29,33 @@ note_none ends = record {
 }
 
 -- one use more
-pub note_more : (uses : List Use) (u : Use) (old new : List (Option ℕ)) → u.var.0 < length new → IsNoted uses old new → IsNoted (uses ++ u ∷ []) old (set new u.var.0 (Some u.at.0))
-note_more uses u old new within noted =
-    let after : List (Option ℕ) = set new u.var.0 (Some u.at.0) in
-    let here : entry_at after u.var.0 ≡ Some u.at.0 = get_or-set_same new u.var.0 (Some u.at.0) None within in
-    let apart_ : (x : ℕ) → (x ≡ u.var.0 → ⊥) → entry_at after x ≡ entry_at new x = λ x apart. get_or-set_other new u.var.0 x (Some u.at.0) None apart in
-    let still : (x : ℕ) → IsTrue (is_some (entry_at new x)) → IsTrue (is_some (entry_at after x)) = λ x h.
-    elim (cases_eq x u.var.0) as (λ _. IsTrue (is_some (entry_at after x))) [
-      | inl e ↦ ap (λ y. is_some (entry_at after y)) e ∙ ap is_some here
+pub note_more : (names : List ℕ) (uses : List Use) (u : Use) (old new : List (Option ℕ)) → IsTable names new → Contains names u.var.0 → IsNoted names uses old new
+    → IsNoted names (uses ++ u ∷ []) old (set new (place_of names u.var.0) (Some u.at.0))
+note_more names uses u old new table has noted =
+    let place : ℕ = place_of names u.var.0 in
+    let after : List (Option ℕ) = set new place (Some u.at.0) in
+    let here : entry_of names after u.var.0 ≡ Some u.at.0 = at_name names new table u.var.0 has (Some u.at.0) None in
+    let apart_ : (x : ℕ) → (x ≡ u.var.0 → ⊥) → entry_of names after x ≡ entry_of names new x = λ x apart. at_others names new table u.var.0 has (Some u.at.0) None x apart in
+    let still : (x : ℕ) → IsTrue (is_some (entry_of names new x)) → IsTrue (is_some (entry_of names after x)) = λ x h.
+    elim (cases_eq x u.var.0) as (λ _. IsTrue (is_some (entry_of names after x))) [
+      | inl e ↦ ap (λ y. is_some (entry_of names after y)) e ∙ ap is_some here
       | inr apart ↦ ap is_some (apart_ x apart) ∙ h
     ] in
     record {
-      places = length-set new u.var.0 (Some u.at.0) ∙ noted.places;
-      sound = λ x e h. elim (cases_eq x u.var.0) as (λ _. (entry_at old x ≡ Some e) ⊎ Contains (uses ++ u ∷ []) (use_of e x)) [
+      places = length-set new place (Some u.at.0) ∙ noted.places;
+      sound = λ x e h. elim (cases_eq x u.var.0) as (λ _. (entry_of names old x ≡ Some e) ⊎ Contains (uses ++ u ∷ []) (use_of e x)) [
         | inl same ↦
-            let at_ : u.at.0 ≡ e = same_Some u.at.0 e (sym here ∙ ap (entry_at after) (sym same) ∙ h) in
+            let at_ : u.at.0 ≡ e = same_Some u.at.0 e (sym here ∙ ap (entry_of names after) (sym same) ∙ h) in
             inr (subst (λ a. Contains (uses ++ u ∷ []) (use_of a x)) at_ (subst (λ y. Contains (uses ++ u ∷ []) (use_of u.at.0 y)) (sym same) (Contains-push uses u)))
-        | inr apart ↦ elim (noted.sound x e (sym (apart_ x apart) ∙ h)) as (λ _. (entry_at old x ≡ Some e) ⊎ Contains (uses ++ u ∷ []) (use_of e x)) [
+        | inr apart ↦ elim (noted.sound x e (sym (apart_ x apart) ∙ h)) as (λ _. (entry_of names old x ≡ Some e) ⊎ Contains (uses ++ u ∷ []) (use_of e x)) [
           | inl was ↦ inl was
           | inr there ↦ inr (Contains-append_left uses (u ∷ []) (use_of e x) there)
         ]
       ];
       kept = λ x h. still x (noted.kept x h);
-      full = λ x e h. elim (Contains-push_cases uses u (use_of e x) h) as (λ _. IsTrue (is_some (entry_at after x))) [
+      full = λ x e h. elim (Contains-push_cases uses u (use_of e x) h) as (λ _. IsTrue (is_some (entry_of names after x))) [
         | inl there ↦ still x (noted.full x e there)
-        | inr same ↦ ap (λ y. is_some (entry_at after y)) (sym (ap (λ (w : Use). w.var.0) same)) ∙ ap is_some here
+        | inr same ↦ ap (λ y. is_some (entry_of names after y)) (sym (ap (λ (w : Use). w.var.0) same)) ∙ ap is_some here
       ];
     }
 
@@ -67,17 +70,17 @@ is_none_some : (o : Option ℕ) (e : ℕ) → o ≡ None → o ≡ Some e → �
 is_none_some o e none some_ = false≢true (ap is_some (sym none ∙ some_))
 
 -- the three kinds of ends together
-module _ (program : Program) (graph : Graph) (is : IsGraph program graph) (facts : Facts) (are : AreFacts program facts) where
+module _ (program : Program) (graph : Graph) (is : IsGraph program graph) (facts : Facts) (are : AreFacts program facts) (names : List ℕ) where
   pub ends_are : (demanded giving : List Bool) (last : List Use) (none one two ends : List (Option ℕ))
-      → ((x : ℕ) → IsTrue (is_in demanded x) ↔ Demands program x) → Gives graph.writes demanded giving → KeptAt graph.reads giving last
-      → none ≡ replicate (variables program) None → IsNoted graph.sinks none one → IsNoted facts.stores one two → IsNoted last two ends
-      → AreEnds program ends
+      → ((x : ℕ) → IsTrue (mark_of names demanded x) ↔ Demands program x) → Gives graph.writes names demanded giving → KeptAt graph.reads giving last
+      → none ≡ replicate (length names) None → IsNoted names graph.sinks none one → IsNoted names facts.stores one two → IsNoted names last two ends
+      → AreEnds program names ends
   ends_are demanded giving last none one two ends exact gives kept_ clear sinks stores reads = record {
-    places = reads.places ∙ (stores.places ∙ (sinks.places ∙ (ap length clear ∙ length-replicate {A = Option ℕ} (variables program) None)));
+    places = reads.places ∙ (stores.places ∙ (sinks.places ∙ (ap length clear ∙ length-replicate {A = Option ℕ} (length names) None)));
     sound = λ x e h. elim (reads.sound x e h) as (λ _. Ends program x e) [
       | inl before ↦ elim (stores.sound x e before) as (λ _. Ends program x e) [
         | inl first ↦ elim (sinks.sound x e first) as (λ _. Ends program x e) [
-          | inl begun ↦ absurd (is_none_some (entry_at none x) e (ap (λ l. entry_at l x) clear ∙ no_entry (variables program) x) begun)
+          | inl begun ↦ absurd (is_none_some (entry_of names none x) e (ap (λ l. entry_of names l x) clear ∙ no_entry (length names) (place_of names x)) begun)
           | inr there ↦ sunk ((is.sinks.each e x).0 there)
         ]
         | inr there ↦ stored ((are.stores (use_of e x)).0 there)
@@ -89,7 +92,7 @@ module _ (program : Program) (graph : Graph) (is : IsGraph program graph) (facts
     ];
     full = full_;
   } where
-    full_ : (x e : ℕ) → Ends program x e → IsTrue (is_some (entry_at ends x))
+    full_ : (x e : ℕ) → Ends program x e → IsTrue (is_some (entry_of names ends x))
     full_ x e (sunk h) = reads.kept x (stores.kept x (sinks.full x e ((is.sinks.each e x).1 h)))
     full_ x e (stored h) = reads.kept x (stores.full x e ((are.stores (use_of e x)).1 h))
     full_ x e (given y r w d) =
@@ -121,35 +124,37 @@ pub kept_none : (marks : List Bool) → KeptAt [] marks []
 kept_none marks v = (λ h. absurd (none_in v h), λ both. absurd (none_in v both.0))
 
 -- one write more
-pub gives_yes : (writes : List Use) (demanded giving : List Bool) (u : Use) → u.at.0 < length giving → IsTrue (is_in demanded u.var.0) → Gives writes demanded giving → Gives (writes ++ u ∷ []) demanded (set giving u.at.0 true)
-gives_yes writes demanded giving u within marked old s =
+pub gives_yes : (writes : List Use) (names : List ℕ) (demanded giving : List Bool) (u : Use) → u.at.0 < length giving → IsTrue (mark_of names demanded u.var.0)
+    → Gives writes names demanded giving → Gives (writes ++ u ∷ []) names demanded (set giving u.at.0 true)
+gives_yes writes names demanded giving u within marked old s =
     let here : IsTrue (is_in (set giving u.at.0 true) u.at.0) = get_or-set_same giving u.at.0 true false within in
-    let Way : Type 0 = (y : ℕ) × Contains (writes ++ u ∷ []) (use_of s y) × IsTrue (is_in demanded y) in
-    let longer : ((y : ℕ) × Contains writes (use_of s y) × IsTrue (is_in demanded y)) → Way = λ w. (w.0, Contains-append_left writes (u ∷ []) (use_of s w.0) w.1, w.2) in (
+    let Way : Type 0 = (y : ℕ) × Contains (writes ++ u ∷ []) (use_of s y) × IsTrue (mark_of names demanded y) in
+    let longer : ((y : ℕ) × Contains writes (use_of s y) × IsTrue (mark_of names demanded y)) → Way = λ w. (w.0, Contains-append_left writes (u ∷ []) (use_of s w.0) w.1, w.2) in (
       λ h. elim (cases_eq s u.at.0) as (λ _. Way) [
         | inl e ↦ (u.var.0, subst (λ a. Contains (writes ++ u ∷ []) (use_of a u.var.0)) (sym e) (Contains-push writes u), marked)
         | inr apart ↦ longer ((old s).0 (sym (get_or-set_other giving u.at.0 s true false apart) ∙ h))
       ],
       λ w. elim (cases_eq s u.at.0) as (λ _. IsTrue (is_in (set giving u.at.0 true) s)) [
         | inl e ↦ ap (is_in (set giving u.at.0 true)) e ∙ here
-        | inr apart ↦ get_or-set_other giving u.at.0 s true false apart ∙ (old s).1 (elim (Contains-push_cases writes u (use_of s w.0) w.1) as (λ _. (y : ℕ) × Contains writes (use_of s y) × IsTrue (is_in demanded y)) [
+        | inr apart ↦ get_or-set_other giving u.at.0 s true false apart ∙ (old s).1 (elim (Contains-push_cases writes u (use_of s w.0) w.1) as (λ _. (y : ℕ) × Contains writes (use_of s y) × IsTrue (mark_of names demanded y)) [
           | inl there ↦ (w.0, there, w.2)
           | inr e ↦ absurd (apart (sym (ap (λ (v : Use). v.at.0) e)))
         ])
       ],
     )
 
-pub gives_no : (writes : List Use) (demanded giving : List Bool) (u : Use) → is_in demanded u.var.0 ≡ false → Gives writes demanded giving → Gives (writes ++ u ∷ []) demanded giving
-gives_no writes demanded giving u cold old s = (
+pub gives_no : (writes : List Use) (names : List ℕ) (demanded giving : List Bool) (u : Use) → mark_of names demanded u.var.0 ≡ false → Gives writes names demanded giving
+    → Gives (writes ++ u ∷ []) names demanded giving
+gives_no writes names demanded giving u cold old s = (
   λ h. let w = (old s).0 h in (w.0, Contains-append_left writes (u ∷ []) (use_of s w.0) w.1, w.2),
   λ w. elim (Contains-push_cases writes u (use_of s w.0) w.1) as (λ _. IsTrue (is_in giving s)) [
     | inl there ↦ (old s).1 (w.0, there, w.2)
-    | inr e ↦ absurd (false≢true (sym cold ∙ subst (λ y. IsTrue (is_in demanded y)) (sym (ap (λ (v : Use). v.var.0) e)) w.2))
+    | inr e ↦ absurd (false≢true (sym cold ∙ subst (λ y. IsTrue (mark_of names demanded y)) (sym (ap (λ (v : Use). v.var.0) e)) w.2))
   ],
 )
 
-pub gives_none : (n : ℕ) (demanded : List Bool) → Gives [] demanded (replicate n false)
-gives_none n demanded s = (
+pub gives_none : (n : ℕ) (names : List ℕ) (demanded : List Bool) → Gives [] names demanded (replicate n false)
+gives_none n names demanded s = (
   λ h. absurd (false≢true (sym (clear s) ∙ h)),
   λ w. absurd (none_in (use_of s w.0) w.1),
 ) where
@@ -161,18 +166,21 @@ gives_none n demanded s = (
       ]
 
 -- one mark more
-pub marked_more : (marks : List Bool) (list : List ℕ) (i : ℕ) → i < length list → slice_index list i < length marks → ((v : ℕ) → IsTrue (is_in marks v) ↔ Contains (take i list) v)
-    → (v : ℕ) → IsTrue (is_in (set marks (slice_index list i) true) v) ↔ Contains (take (i + 1) list) v
-marked_more marks list i lt within exact v =
+pub marked_more : (names : List ℕ) (marks : List Bool) (list : List ℕ) (i : ℕ) → i < length list → IsTable names marks → Contains names (slice_index list i)
+    → ((v : ℕ) → IsTrue (mark_of names marks v) ↔ Contains (take i list) v)
+    → (v : ℕ) → IsTrue (mark_of names (set marks (place_of names (slice_index list i)) true) v) ↔ Contains (take (i + 1) list) v
+marked_more names marks list i lt table has exact v =
     let u : ℕ = slice_index list i in
-    let more : take (i + 1) list ≡ take i list ++ u ∷ [] = take_more list i 0 lt in (
+    let more : take (i + 1) list ≡ take i list ++ u ∷ [] = take_more list i 0 lt in
+    let here : IsTrue (mark_of names (set marks (place_of names u) true) u) = at_name names marks table u has true false in
+    let elsewhere : (v ≡ u → ⊥) → mark_of names (set marks (place_of names u) true) v ≡ mark_of names marks v = λ apart. at_others names marks table u has true false v apart in (
       λ h. subst (λ l. Contains l v) (sym more) (elim (cases_eq v u) as (λ _. Contains (take i list ++ u ∷ []) v) [
         | inl e ↦ subst (λ w. Contains (take i list ++ u ∷ []) w) (sym e) (Contains-push (take i list) u)
-        | inr apart ↦ Contains-append_left (take i list) (u ∷ []) v ((exact v).0 (sym (get_or-set_other marks u v true false apart) ∙ h))
+        | inr apart ↦ Contains-append_left (take i list) (u ∷ []) v ((exact v).0 (sym (elsewhere apart) ∙ h))
       ]),
-      λ h. elim (cases_eq v u) as (λ _. IsTrue (is_in (set marks u true) v)) [
-        | inl e ↦ subst (λ w. IsTrue (is_in (set marks u true) w)) (sym e) (get_or-set_same marks u true false within)
-        | inr apart ↦ get_or-set_other marks u v true false apart ∙ (exact v).1 (elim (Contains-push_cases (take i list) u v (subst (λ l. Contains l v) more h)) as (λ _. Contains (take i list) v) [ inl there ↦ there | inr e ↦ absurd (apart (sym e)) ])
+      λ h. elim (cases_eq v u) as (λ _. IsTrue (mark_of names (set marks (place_of names u) true) v)) [
+        | inl e ↦ subst (λ w. IsTrue (mark_of names (set marks (place_of names u) true) w)) (sym e) here
+        | inr apart ↦ elsewhere apart ∙ (exact v).1 (elim (Contains-push_cases (take i list) u v (subst (λ l. Contains l v) more h)) as (λ _. Contains (take i list) v) [ inl there ↦ there | inr e ↦ absurd (apart (sym e)) ])
       ],
     )
 

@@ -1,7 +1,8 @@
 -- In which ranges lies what is known of a program.
-use Rattle.std.proofs.Common.{◌≡◌, inl, inr, ℕ, suc, ◌<◌, length, Option, Some, None, slice_get, refl, sym, ap, subst, ◌∙◌, arith}
+use Rattle.std.proofs.Common.{◌≡◌, inl, inr, ℕ, suc, ◌<◌, ◌^◌, ◌++◌, List, length, map, Option, Some, None, slice_get, refl, sym, ap, subst, ◌∙◌, arith}
 use Rattle.std.specs.Prelude.{IsSomeAnd}
-use Rattle.std.specs.List.{Contains}
+use Rattle.std.specs.List.{All, Contains, slice_index_or}
+use Rattle.std.proofs.lemmas.List.Elements.{All-contains, Contains-append_left, Contains-append_right, Contains-append_cases, Contains-get_or}
 use Rattle.std.proofs.lemmas.Option.{slice_get_within, same_Some}
 use Rattle.bl_base.proofs.Lists.{all_get, within_get}
 use Rattle.bl_base.specs.declared.names.Label.{Label}
@@ -23,8 +24,14 @@ use Rattle.bl_graph.specs.Secrets.{IsSecretParam, IsSecretGlobal, Declares, Stor
 use Rattle.bl_graph.specs.declared.facts.Use.{Use}
 use Rattle.bl_graph.specs.declared.secret.Origin.{Origin}
 use Rattle.bl_graph.specs.declared.secret.Origin.TheVariants.{Parameter, Global, Memory}
+use Rattle.bl_graph.specs.Graphs.{use_of}
+use Rattle.bl_graph.specs.Labels.{Secret, declared, loaded, moved}
+use Rattle.bl_graph.specs.Names.{AreNames}
+use Rattle.bl_graph.proofs.Members.{in_map, from_map}
+use Rattle.bl_graph.proofs.Naming.{Rise, few_names}
 use Rattle.bl_graph.proofs.Ranging.{in_range, param_small, operand_small}
-use Rattle.bl_ct.specs.Facts.{AreSecretsInRange, IsKnown}
+use Rattle.bl_ct.specs.Facts.{AreFacts, AreSecretsInRange, IsKnown, NamesAll, vars_of}
+use Rattle.bl_ct.specs.declared.facts.Facts.{Facts}
 use Rattle.bl_ct.specs.declared.facts.Declared.{Declared}
 use Rattle.bl_ct.specs.declared.facts.Known.{Known}
 
@@ -149,17 +156,83 @@ module _ (known : Known) (is : IsKnown known) where
   pub secret_range : AreSecretsInRange known.program.now
   secret_range = secrets_in_range known.program.now is.is_program is.rules
 
-  pub writes_in : (u : Use) → Contains known.graph.now.writes u → (u.at.0 < commands known.program.now) × (u.var.0 < variables known.program.now)
-  writes_in u h = let low = range.writes u.at.0 u.var.0 ((is.graph.writes.each u.at.0 u.var.0).0 h) in (range.sites u.at.0 low.0, low.1)
+  -- they fit 32 bits
+  pub names_few : length known.names.now < 2 ^ 32
+  names_few = let few = few_names known.program.now known.names.now range is.names.are in omega arith
 
-  pub reads_in : (u : Use) → Contains known.graph.now.reads u → (u.at.0 < commands known.program.now) × (u.var.0 < variables known.program.now)
-  reads_in u h = let low = range.reads u.at.0 u.var.0 ((is.graph.reads.each u.at.0 u.var.0).0 h) in (range.sites u.at.0 low.0, low.1)
+  pub names_rise : Rise known.names.now
+  names_rise = is.names.are.rise
 
-  pub sinks_in : (u : Use) → Contains known.graph.now.sinks u → u.var.0 < variables known.program.now
-  sinks_in u h = (range.sinks u.at.0 u.var.0 ((is.graph.sinks.each u.at.0 u.var.0).0 h)).1
+  pub writes_in : (u : Use) → Contains known.graph.now.writes u → (u.at.0 < commands known.program.now) × Contains known.names.now u.var.0
+  writes_in u h =
+      let writes = (is.graph.writes.each u.at.0 u.var.0).0 h in
+      (range.sites u.at.0 (range.writes u.at.0 u.var.0 writes).0, is.names.are.writes u.at.0 u.var.0 writes)
 
-  pub stores_in : (u : Use) → Contains known.facts.now.stores u → u.var.0 < variables known.program.now
-  stores_in u h = secret_range.stores u.at.0 u.var.0 ((is.facts.stores u).0 h)
+  pub reads_in : (u : Use) → Contains known.graph.now.reads u → (u.at.0 < commands known.program.now) × Contains known.names.now u.var.0
+  reads_in u h =
+      let reads = (is.graph.reads.each u.at.0 u.var.0).0 h in
+      (range.sites u.at.0 (range.reads u.at.0 u.var.0 reads).0, is.names.are.reads u.at.0 u.var.0 reads)
 
-  pub declared_in : (one : Declared) → Contains known.facts.now.declared one → one.var < variables known.program.now
-  declared_in one h = secret_range.declared one.var one.origin ((is.facts.declared one).0 h)
+  pub sinks_in : (u : Use) → Contains known.graph.now.sinks u → Contains known.names.now u.var.0
+  sinks_in u h = is.names.are.sinks u.at.0 u.var.0 ((is.graph.sinks.each u.at.0 u.var.0).0 h)
+
+  pub stores_in : (u : Use) → Contains known.facts.now.stores u → Contains known.names.now u.var.0
+  stores_in u h = is.names.stores u.at.0 u.var.0 ((is.facts.stores u).0 h)
+
+  pub declared_in : (one : Declared) → Contains known.facts.now.declared one → Contains known.names.now one.var
+  declared_in one h = is.names.declared one.var one.origin ((is.facts.declared one).0 h)
+
+  pub demanded_in : (x : ℕ) → Contains known.facts.now.demanded x → Contains known.names.now x
+  demanded_in x h = is.names.demanded x ((is.facts.demanded x).0 h)
+
+  -- each secret variable is declared secret, or some command writes it
+  pub secret_in : (x : ℕ) → Secret known.program.now x → Contains known.names.now x
+  secret_in x (declared _ origin h) = is.names.declared x origin h
+  secret_in x (loaded s memory _ h w) = is.names.are.writes s x w
+  secret_in x (moved s y _ r w h) = is.names.are.writes s x w
+
+-- ---- the names of a program and its facts
+
+module _ (program : Program) (facts : Facts) (are : AreFacts program facts) (vars : List ℕ) (is : vars ≡ vars_of facts) where
+  abbrev declared_vars : List ℕ
+  declared_vars = map (λ (one : Declared). one.var) facts.declared
+
+  abbrev stored_vars : List ℕ
+  stored_vars = map (λ (one : Use). one.var.0) facts.stores
+
+  of_declared : AreSecretsInRange program → (x : ℕ) → Contains declared_vars x → x < variables program
+  of_declared range x h =
+      let one = from_map (λ (one : Declared). one.var) facts.declared x h in
+      subst (λ y. y < variables program) one.2 (range.declared one.0.var one.0.origin ((are.declared one.0).0 one.1))
+
+  of_stored : AreSecretsInRange program → (x : ℕ) → Contains stored_vars x → x < variables program
+  of_stored range x h =
+      let one = from_map (λ (one : Use). one.var.0) facts.stores x h in
+      subst (λ y. y < variables program) one.2 (range.stores one.0.at.0 one.0.var.0 ((are.stores one.0).0 one.1))
+
+  pub vars_small : AreSecretsInRange program → All (λ x. x < variables program) vars
+  vars_small range = λ k d lt.
+      let x : ℕ = slice_index_or vars k d in
+      let there : Contains (vars_of facts) x = subst (λ l. Contains l x) is (Contains-get_or vars k d lt) in
+      elim (Contains-append_cases (declared_vars ++ stored_vars) facts.demanded x there) as (λ _. x < variables program) [
+        | inl front ↦ elim (Contains-append_cases declared_vars stored_vars x front) as (λ _. x < variables program) [
+          | inl one ↦ of_declared range x one
+          | inr one ↦ of_stored range x one
+        ]
+        | inr one ↦ range.demanded x ((are.demanded x).0 one)
+      ]
+
+  pub names_all : (names : List ℕ) → AreNames program names → All (λ x. Contains names x) vars → NamesAll program names
+  names_all names are_names all =
+      let has : (x : ℕ) → Contains (vars_of facts) x → Contains names x = λ x h.
+      All-contains (λ x. Contains names x) vars x all (subst (λ l. Contains l x) (sym is) h) in
+      let front : (x : ℕ) → Contains (declared_vars ++ stored_vars) x → Contains names x = λ x h.
+      has x (Contains-append_left (declared_vars ++ stored_vars) facts.demanded x h) in
+      record {
+        are = are_names;
+        declared = λ x origin h. front x (Contains-append_left declared_vars stored_vars x
+            (in_map (λ (one : Declared). one.var) facts.declared (record { var = x; origin = origin }) ((are.declared (record { var = x; origin = origin })).1 h)));
+        stores = λ position x h. front x (Contains-append_right declared_vars stored_vars x
+            (in_map (λ (one : Use). one.var.0) facts.stores (use_of position x) ((are.stores (use_of position x)).1 h)));
+        demanded = λ x h. has x (Contains-append_right (declared_vars ++ stored_vars) facts.demanded x ((are.demanded x).1 h));
+      }

@@ -11,5 +11,6 @@ pub mod Listing
 pub mod Nothing
 pub mod Reaching
 pub mod Rowing
+pub mod Tabling
 pub mod Visiting
 pub mod Writing

@@ -1,8 +1,7 @@
--- Where nothing is declared secret, all labels are public.
-use Rattle.std.proofs.Common.{◌≡◌, ◌∙◌, ℕ, zero, suc, false, List, not, ap, refl, sym, length, replicate, slice_get}
-use Rattle.std.specs.Prelude.{All, IsSomeAnd, IsTrue}
-use Rattle.std.proofs.lemmas.Bool.{false≢true, not_from_false}
-use Rattle.std.proofs.lemmas.List.{length-replicate}
+-- Where nothing is declared secret, no variable is secret.
+use Rattle.std.proofs.Common.{◌≡◌, ◌∙◌, ℕ, List, [], arith, refl, sym, slice_get}
+use Rattle.std.specs.Prelude.{All, IsSomeAnd}
+use Rattle.std.proofs.lemmas.Bool.{false≢true}
 use Rattle.bl_base.proofs.Lists.{all_get}
 use Rattle.bl_base.specs.declared.names.Label.{Label}
 use Rattle.bl_base.specs.declared.names.Label.TheVariants as label
@@ -15,18 +14,12 @@ use Rattle.bl_cmd.specs.declared.definitions.MemoryDef.{MemoryDef}
 use Rattle.bl_cmd.specs.declared.definitions.ParamDef.{ParamDef}
 use Rattle.bl_cmd.specs.declared.definitions.ProgramParts.{ProgramParts as Program}
 use Rattle.bl_graph.specs.Labels.{Secret, declared, loaded, moved}
-use Rattle.bl_graph.specs.Ranges.{variables}
 use Rattle.bl_graph.specs.Secrets.{Declares, LoadsSecret, TakesSecret}
 use Rattle.bl_graph.specs.declared.secret.Origin.{Origin}
 use Rattle.bl_graph.specs.declared.secret.Origin.TheVariants.{Parameter, Global, Memory}
 use Rattle.bl_ct.specs.Facts.{HasNoSecrets, HasPublicParams}
-use Rattle.bl_ct.specs.Verdicts.{IsLeastLabelling, labelling_of}
+use Rattle.bl_ct.specs.Verdicts.{AreSecrets}
 use Rattle.bl_ct.proofs.Knowing.{found, secret_public}
-
-public : (n x : ℕ) → labelling_of (replicate n label.Public) x ≡ false
-public zero x = refl
-public (suc n) zero = refl
-public (suc n) (suc x) = public n x
 
 -- what is public isn't secret
 none_secret : {A : Type 0} (label_in : A → Label) (xs : List A) (place : ℕ) → All (λ x. label_in x ≡ label.Public) xs
@@ -70,22 +63,19 @@ module _ (program : Program) (none : HasNoSecrets program) where
   not_secret _ (loaded s memory x h w) = not_loaded s memory h
   not_secret _ (moved s x y r w h) = not_secret x h
 
-  pub all_public_labels : (n : ℕ) (labels : List Label) → labels ≡ replicate n label.Public → n ≡ variables program → IsLeastLabelling program labels
-  all_public_labels n labels all count =
-      let cold : (x : ℕ) → labelling_of labels x ≡ false = λ x. ap (λ l. labelling_of l x) all ∙ public n x in
-      let not_so : (x : ℕ) → IsTrue (labelling_of labels x) → ⊥ = λ x h. false≢true (sym (cold x) ∙ h) in
-      let free : (x : ℕ) → IsTrue (not (labelling_of labels x)) = λ x. not_from_false (labelling_of labels x) (cold x) in
-      record {
-        places = ap length all ∙ length-replicate {A = Label} n label.Public ∙ count;
-        labelled = record {
-          assigns = record {
-            declared = λ x origin h. absurd (not_declared x origin h);
-            loads = λ s memory x h w. absurd (not_loaded s memory h);
-            moves = λ s x y r w h. absurd (not_so x h);
-          };
-          sinks = λ position x h. free x;
-          stores = λ position x h. free x;
-          demanded = λ x h. free x;
-        };
-        least = λ x. (λ h. absurd (not_so x h), λ h. absurd (not_secret x h));
-      }
+  -- no step is needed
+  pub no_secrets : AreSecrets program []
+  no_secrets = record {
+    small = λ k d lt. absurd (let none = lt in omega arith);
+    labelled = record {
+      assigns = record {
+        declared = λ x origin h. absurd (not_declared x origin h);
+        loads = λ s memory x h w. absurd (not_loaded s memory h);
+        moves = λ s x y r w h. absurd (false≢true h);
+      };
+      sinks = λ position x h. refl;
+      stores = λ position x h. refl;
+      demanded = λ x h. refl;
+    };
+    least = λ x. (λ h. absurd (false≢true h), λ h. absurd (not_secret x h));
+  }

@@ -1,5 +1,5 @@
 -- What is known of a program: its graph, what it declares secret, and where it has to be public, as lists.
-use Rattle.std.specs.Prelude.{◌≡◌, ◌⊎◌, ◌↔◌, ◌+◌, ◌<◌, ℕ, All, Contains, List, Some, slice_get}
+use Rattle.std.specs.Prelude.{◌≡◌, ◌⊎◌, ◌↔◌, ◌+◌, ◌++◌, ◌<◌, ℕ, All, Contains, List, Some, map, slice_get}
 use Rattle.bl_base.specs.declared.names.Label.TheVariants as label
 use Rattle.bl_cmd.specs.Layout.{first_of}
 use Rattle.bl_cmd.specs.Programs.{IsProgram}
@@ -10,6 +10,7 @@ use Rattle.bl_cmd.specs.declared.definitions.GlobalDef.{GlobalDef}
 use Rattle.bl_cmd.specs.declared.definitions.ParamDef.{ParamDef}
 use Rattle.bl_cmd.specs.declared.definitions.ProgramParts.{ProgramParts as Program}
 use Rattle.bl_graph.specs.Graphs.{IsGraph}
+use Rattle.bl_graph.specs.Names.{AreNames}
 use Rattle.bl_graph.specs.Ranges.{variables}
 use Rattle.bl_graph.specs.Secrets.{Declares, LoadsSecret, Stores, Demands, TakesSecret, GivesPublic}
 use Rattle.bl_graph.specs.declared.facts.Use.{Use}
@@ -76,12 +77,25 @@ pub record AreFacts (program : Program) (facts : Facts) : Type 0 where
   pub stores : (store : Use) → Contains facts.stores store ↔ Stores program store.at.0 store.var.0
   pub demanded : (x : ℕ) → Contains facts.demanded x ↔ Demands program x
 
--- the graph and the facts are the program's, which keeps the rules
+-- the variables that the facts name
+abbrev pub vars_of : Facts → List ℕ
+vars_of facts = map (λ one. one.var) facts.declared ++ map (λ one. one.var.0) facts.stores ++ facts.demanded
+
+-- names of a program's variables: all that its commands name, and all that is declared secret, stored to public memories or
+-- demanded to be public
+pub record NamesAll (program : Program) (names : List ℕ) : Type 0 where
+  pub are : AreNames program names
+  pub declared : (x : ℕ) (origin : Origin) → Declares program x origin → Contains names x
+  pub stores : (position x : ℕ) → Stores program position x → Contains names x
+  pub demanded : (x : ℕ) → Demands program x → Contains names x
+
+-- the graph, the facts and the names are the program's, which keeps the rules
 pub record IsKnown (known : Known) : Type 0 where
   pub is_program : IsProgram known.program.now
   pub rules : IsWellFormed known.program.now
   pub graph : IsGraph known.program.now known.graph.now
   pub facts : AreFacts known.program.now known.facts.now
+  pub names : NamesAll known.program.now known.names.now
 
 -- what is declared lies in its ranges, and nothing that is declared secret is demanded to be public
 pub record AreSecretsInRange (program : Program) : Type 0 where

@@ -1,5 +1,5 @@
 //! What a program declares secret, and where it has to be public.
-ghost use Rattle.std.specs.Prelude.{◌≡◌, ◌↔◌, ◌+◌, ◌<◌, ◌^◌, ℕ, IfOk, IsSomeAnd, IsTrue, OnOk, Some, [], length, map, option_map, slice_get};
+ghost use Rattle.std.specs.Prelude.{◌≡◌, ◌↔◌, ◌+◌, ◌++◌, ◌<◌, ◌^◌, ℕ, IfOk, IsSomeAnd, IsTrue, OnOk, Some, [], length, map, option_map, slice_get};
 ghost use Rattle.bl_base.specs.declared.names.Label.TheVariants as label_is;
 ghost use Rattle.bl_cmd.specs.Layout.{params_of, statics};
 ghost use Rattle.bl_cmd.specs.Programs.{IsProgram};
@@ -8,7 +8,7 @@ ghost use Rattle.bl_cmd.specs.Sites.{Names};
 ghost use Rattle.bl_graph.specs.Firsts.{firsts_from};
 ghost use Rattle.bl_graph.specs.Ranges.{commands};
 ghost use Rattle.bl_graph.specs.Secrets.{GivesPublic, TakesSecret, demanded_by};
-ghost use Rattle.bl_ct.specs.Facts.{AreFacts, DeclaresOne, Gathers, GlobalFits, LoadFits, ParamFits, SomeAt, StoreFits};
+ghost use Rattle.bl_ct.specs.Facts.{AreFacts, DeclaresOne, Gathers, GlobalFits, LoadFits, ParamFits, SomeAt, StoreFits, vars_of};
 
 use bl_base::{Label, List, NoMemory, Pos, Var};
 use bl_cmd::{Command, Demand, GlobalDef, MemoryDef, Operand, ParamDef, ProgramParts, WellFormed};
@@ -64,6 +64,8 @@ pub(crate) struct Known<'p> {
     pub(crate) graph: &'p Graph,
     /// What it declares.
     pub(crate) facts: &'p Facts,
+    /// The variables that its commands and the facts name.
+    pub(crate) names: &'p bl_graph::Names,
 }
 
 /// What the program declares secret, and where it has to be public. Linear in the program.
@@ -82,6 +84,37 @@ pub(crate) fn facts_of(alloc: Global, parts: &ProgramParts) -> Result<Facts, NoM
         stores: accesses.stores,
         demanded,
     })
+}
+
+/// The variables that the facts name.
+pub(crate) fn vars_of(alloc: Global, facts: &Facts) -> Result<Vec<u32>, NoMemory>
+    ensures { IfOk result (λ vars. vars.items ≡ vars_of facts.now) }
+{
+    let mut vars = Vec::new(alloc);
+    push_declared(&mut vars, facts.declared.as_slice())?;
+    push_used(&mut vars, facts.stores.as_slice())?;
+    vars.extend_from_slice(facts.demanded.as_slice())?;
+    Ok(vars)
+}
+
+/// Appends the variables that are declared secret.
+fn push_declared(vars: &mut Vec<u32>, declared: &[Declared]) -> Result<(), NoMemory>
+    ensures { OnOk result (vars.new.items ≡ vars.old.items ++ map (λ one. one.var) declared.now) }
+{
+    for one in declared {
+        vars.push(one.var)?;
+    }
+    Ok(())
+}
+
+/// Appends the variables of uses.
+fn push_used(vars: &mut Vec<u32>, uses: &[Use]) -> Result<(), NoMemory>
+    ensures { OnOk result (vars.new.items ≡ vars.old.items ++ map (λ one. one.var.0) uses.now) }
+{
+    for one in uses {
+        vars.push(one.var.0)?;
+    }
+    Ok(())
 }
 
 /// The number of a program's commands.

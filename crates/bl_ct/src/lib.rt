@@ -9,4 +9,4 @@ mod search;
 mod secrets;
 mod verdict;
 
-pub use verdict::{CtVerdict, constant_time};
+pub use verdict::{CtVerdict, constant_time, secret_chain_of};

@@ -1,17 +1,17 @@
 //! The search for secret variables.
-ghost use Rattle.std.specs.Prelude.{◌≡◌, ◌<◌, ◌↔◌, ℕ, All, Contains, IfOk, OnOk, Some, length, map};
+ghost use Rattle.std.specs.Prelude.{◌≡◌, ◌<◌, ◌↔◌, ℕ, All, AllPairs, Contains, IfOk, OnOk, Some, length, map};
 ghost use Rattle.bl_cmd.specs.Sites.{Reads, Writes};
 ghost use Rattle.bl_graph.specs.Graphs.{use_of};
-ghost use Rattle.bl_graph.specs.Ranges.{variables};
+ghost use Rattle.bl_graph.specs.Names.{place_of};
 ghost use Rattle.bl_ct.specs.Facts.{IsKnown};
 ghost use Rattle.bl_graph.specs.Arcs.{row_at, rows_in};
-ghost use Rattle.bl_ct.specs.Finding.{AreWritten, IsFoundBy, Searched, Some_asks, Some_fits, Visits, entry_at, from_var};
+ghost use Rattle.bl_ct.specs.Finding.{AreWritten, IsFoundBy, IsTable, Searched, Some_asks, Some_fits, Visits, entry_at, from_name};
 ghost use Rattle.bl_ct.specs.declared.search.Cause.TheVariants as cause_;
 
 use crate::ends::no_entries;
 use crate::facts::{Declared, Known, SecretLoad, command_count};
 use bl_base::NoMemory;
-use bl_graph::{Arc, Origin, Use, rows_of, variables};
+use bl_graph::{Arc, Names, Origin, Use, rows_of};
 use std::alloc::Global;
 
 /// By what a variable was found to be secret.
@@ -44,66 +44,58 @@ pub(crate) struct Step {
     pub(crate) cause: Cause,
 }
 
-/// The secret variables.
-#[derive(Debug, Drop)]
-pub(crate) struct Found {
-    /// For each variable whether it is secret.
-    pub(crate) marks: Vec<bool>,
-    /// Each of them once, those with shorter ways first.
-    pub(crate) queue: Vec<Step>,
-}
-
-/// The secret variables of a program. Linear in the program and in the number of its declared variables.
-pub(crate) fn secret_variables(alloc: Global, known: &Known) -> Result<Found, NoMemory>
+/// The secret variables of a program, each once, those with shorter ways first. Linear in the program.
+pub(crate) fn secret_variables(alloc: Global, known: &Known) -> Result<Vec<Step>, NoMemory>
     requires { IsKnown known.now }
-    ensures { IfOk result (λ found. Searched known.now.program.now found.marks.items found.queue.items) }
+    ensures { IfOk result (λ queue. Searched known.now.program.now queue.items) }
 {
     let count = command_count(known.program);
     let written = written_of(alloc, count, known.graph.writes.as_slice())?;
-    let arcs = var_arcs(alloc, known.graph.reads.as_slice())?;
-    let readers = rows_of(alloc, &arcs, variables(known.program))?;
+    let arcs = name_arcs(alloc, known.names, known.graph.reads.as_slice())?;
+    let readers = rows_of(alloc, &arcs, known.names.len())?;
     search(alloc, known, &readers, &written)
 }
 
-/// The search by tables: for each variable the sites that read it, and for each position the variable that the site there writes.
+/// The search by tables: for each name the sites that read it, and for each position the variable that the site there writes.
 fn search(
     alloc: Global,
     known: &Known,
     readers: &[Vec<u32>],
     written: &[Option<u32>],
-) -> Result<Found, NoMemory>
+) -> Result<Vec<Step>, NoMemory>
     requires is { IsKnown known.now }
-    requires vars { length readers.now ≡ variables known.now.program.now }
-    requires reads { (x s : ℕ) → Contains (row_at (rows_in readers.now) x) s ↔ Reads known.now.program.now s x }
+    requires places { length readers.now ≡ length known.now.names.now }
+    requires reads { (x s : ℕ) → Contains (row_at (rows_in readers.now) (place_of known.now.names.now x)) s ↔ Reads known.now.program.now s x }
     requires writes { (s x : ℕ) → (entry_at written.now s ≡ Some x) ↔ Writes known.now.program.now s x }
-    ensures { IfOk result (λ found. Searched known.now.program.now found.marks.items found.queue.items) }
+    ensures { IfOk result (λ queue. Searched known.now.program.now queue.items) }
 {
+    let names = known.names;
     let mut marks = vec![in alloc; false; readers.len()]?;
     let mut queue = Vec::new(alloc);
-    find_declared(known.facts.declared.as_slice(), &mut marks, &mut queue)?;
-    find_loaded(
-        known.facts.loads.as_slice(),
-        written,
-        &mut marks,
-        &mut queue,
-    )?;
+    let declared = known.facts.declared.as_slice();
+    find_declared(declared, names, &mut marks, &mut queue)?;
+    let loads = known.facts.loads.as_slice();
+    find_loaded(loads, written, names, &mut marks, &mut queue)?;
     let mut next = 0;
     while next < queue.len() {
-        let var = queue[next].var as usize;
-        find_moved(&readers[var], written, next, &mut marks, &mut queue)?;
+        let place = names.number_of(queue[next].var) as usize;
+        let sites = &readers[place];
+        find_moved(sites, written, next, names, &mut marks, &mut queue)?;
         next += 1;
     }
-    Ok(Found { marks, queue })
+    Ok(queue)
 }
 
 /// Finds the variables that are declared secret.
 fn find_declared(
     secrets: &[Declared],
+    names: &Names,
     marks: &mut Vec<bool>,
     queue: &mut Vec<Step>,
 ) -> Result<(), NoMemory>
-    requires { All (λ d. d.var < length marks.old.items) secrets.now }
-    ensures { OnOk result (Visits
+    requires table { IsTable names.now marks.old.items }
+    requires named { All (λ d. Contains names.now d.var) secrets.now }
+    ensures { OnOk result (Visits names.now
         (Some_fits secrets.now (λ d step. step ≡ record { var = d.var; cause = cause_.Declared d.origin }))
         (Some_asks secrets.now (λ d v. v ≡ d.var))
         marks.old.items marks.new.items queue.old.items queue.new.items) }
@@ -114,6 +106,7 @@ fn find_declared(
                 var: secret.var,
                 cause: Cause::Declared(secret.origin),
             },
+            names,
             marks,
             queue,
         )?;
@@ -125,11 +118,13 @@ fn find_declared(
 fn find_loaded(
     loads: &[SecretLoad],
     written: &[Option<u32>],
+    names: &Names,
     marks: &mut Vec<bool>,
     queue: &mut Vec<Step>,
 ) -> Result<(), NoMemory>
-    requires { (s x : ℕ) → entry_at written.now s ≡ Some x → x < length marks.old.items }
-    ensures { OnOk result (Visits
+    requires table { IsTable names.now marks.old.items }
+    requires named { (s x : ℕ) → entry_at written.now s ≡ Some x → Contains names.now x }
+    ensures { OnOk result (Visits names.now
         (Some_fits loads.now (λ l. IsFoundBy (entry_at written.now l.at) (cause_.Loaded l.at l.memory)))
         (Some_asks loads.now (λ l v. entry_at written.now l.at ≡ Some v))
         marks.old.items marks.new.items queue.old.items queue.new.items) }
@@ -139,7 +134,7 @@ fn find_loaded(
             at: load.at,
             memory: load.memory,
         };
-        find_written(written_at(written, load.at), cause, marks, queue)?;
+        find_written(written_at(written, load.at), cause, names, marks, queue)?;
     }
     Ok(())
 }
@@ -149,18 +144,20 @@ fn find_moved(
     sites: &[u32],
     written: &[Option<u32>],
     before: usize,
+    names: &Names,
     marks: &mut Vec<bool>,
     queue: &mut Vec<Step>,
 ) -> Result<(), NoMemory>
-    requires { (s x : ℕ) → entry_at written.now s ≡ Some x → x < length marks.old.items }
-    ensures { OnOk result (Visits
+    requires table { IsTable names.now marks.old.items }
+    requires named { (s x : ℕ) → entry_at written.now s ≡ Some x → Contains names.now x }
+    ensures { OnOk result (Visits names.now
         (Some_fits sites.now (λ s. IsFoundBy (entry_at written.now s) (cause_.Moved s before)))
         (Some_asks sites.now (λ s v. entry_at written.now s ≡ Some v))
         marks.old.items marks.new.items queue.old.items queue.new.items) }
 {
     for site in sites {
         let cause = Cause::Moved { at: *site, before };
-        find_written(written_at(written, *site), cause, marks, queue)?;
+        find_written(written_at(written, *site), cause, names, marks, queue)?;
     }
     Ok(())
 }
@@ -169,25 +166,34 @@ fn find_moved(
 fn find_written(
     var: Option<u32>,
     cause: Cause,
+    names: &Names,
     marks: &mut Vec<bool>,
     queue: &mut Vec<Step>,
 ) -> Result<(), NoMemory>
-    requires { (x : ℕ) → var ≡ Some x → x < length marks.old.items }
-    ensures { OnOk result (Visits (IsFoundBy var cause) (λ v. var ≡ Some v) marks.old.items marks.new.items queue.old.items queue.new.items) }
+    requires table { IsTable names.now marks.old.items }
+    requires named { (x : ℕ) → var ≡ Some x → Contains names.now x }
+    ensures { OnOk result (Visits names.now (IsFoundBy var cause) (λ v. var ≡ Some v) marks.old.items marks.new.items queue.old.items queue.new.items) }
 {
     if let Some(var) = var {
-        find(Step { var, cause }, marks, queue)?;
+        find(Step { var, cause }, names, marks, queue)?;
     }
     Ok(())
 }
 
 /// Marks and queues a variable that isn't marked.
-fn find(step: Step, marks: &mut Vec<bool>, queue: &mut Vec<Step>) -> Result<(), NoMemory>
-    requires { step.var < length marks.old.items }
-    ensures { OnOk result (Visits (λ s. s ≡ step) (λ v. v ≡ step.var) marks.old.items marks.new.items queue.old.items queue.new.items) }
+fn find(
+    step: Step,
+    names: &Names,
+    marks: &mut Vec<bool>,
+    queue: &mut Vec<Step>,
+) -> Result<(), NoMemory>
+    requires table { IsTable names.now marks.old.items }
+    requires named { Contains names.now step.var }
+    ensures { OnOk result (Visits names.now (λ s. s ≡ step) (λ v. v ≡ step.var) marks.old.items marks.new.items queue.old.items queue.new.items) }
 {
-    if !marks[step.var as usize] {
-        marks[step.var as usize] = true;
+    let place = names.number_of(step.var) as usize;
+    if !marks[place] {
+        marks[place] = true;
         queue.push(step)?;
     }
     Ok(())
@@ -216,14 +222,16 @@ fn written_at(written: &[Option<u32>], at: u32) -> Option<u32>
     }
 }
 
-/// From each variable to the sites that read it.
-fn var_arcs(alloc: Global, reads: &[Use]) -> Result<Vec<Arc>, NoMemory>
-    ensures { IfOk result (λ arcs. arcs.items ≡ map from_var reads.now) }
+/// From the number of each name to the sites that read it.
+fn name_arcs(alloc: Global, names: &Names, reads: &[Use]) -> Result<Vec<Arc>, NoMemory>
+    requires rise { AllPairs (λ x y. x < y) names.now }
+    requires named { All (λ r. Contains names.now r.var.0) reads.now }
+    ensures { IfOk result (λ arcs. arcs.items ≡ map (from_name names.now) reads.now) }
 {
     let mut arcs = Vec::new(alloc);
     for read in reads {
         arcs.push(Arc {
-            from: read.var.0,
+            from: names.number_of(read.var.0),
             to: read.at.0,
         })?;
     }

@@ -1,11 +1,11 @@
 -- The cut nearest the starts is the least choice, and its paths certify it.
-use Rattle.std.proofs.Common.{◌≡◌, ℕ, ◌+◌, ◌-◌, ◌*◌, ◌<◌, ◌≤◌, Bool, List, [], ◌∷◌, ◌++◌, length, Some, refl, sym, ap, subst, ◌∙◌, arith, nat_eq, nat_lt, slice_index}
+use Rattle.std.proofs.Common.{◌≡◌, ℕ, ◌-◌, ◌*◌, ◌<◌, ◌≤◌, List, [], ◌∷◌, ◌++◌, length, Some, refl, sym, ap, subst, ◌∙◌, arith, nat_eq, nat_lt, slice_index}
 use Rattle.std.specs.Prelude.{IsSome, map}
 use Rattle.std.specs.List.{All, count_by}
 use Rattle.std.proofs.lemmas.Bool.{eqb-true, lt-ltb}
 use Rattle.std.proofs.lemmas.List.Elements.{All-contains}
 use Rattle.bl_base.specs.declared.number.Pos.{Pos}
-use Rattle.bl_cmd.specs.Sites.{SinkReads, site_weight, weight_of}
+use Rattle.bl_cmd.specs.Sites.{site_weight, weight_of}
 use Rattle.bl_cmd.specs.declared.definitions.ProgramParts.{ProgramParts as Program}
 use Rattle.bl_flow.specs.declared.network.NodePath.{NodePath}
 use Rattle.bl_flow.specs.declared.network.FlowResult.{FlowResult}
@@ -16,15 +16,16 @@ use Rattle.bl_graph.specs.Certificates.{sites_of, flow_through, flow_of, IsFlowP
 use Rattle.bl_graph.specs.Chains.{IsChain}
 use Rattle.bl_graph.specs.Ranges.{commands, AreSites, AreInRange}
 use Rattle.bl_graph.specs.declared.certificate.FlowPath.{FlowPath}
-use Rattle.bl_graph.specs.declared.certificate.Certificate.{Certificate}
 use Rattle.bl_graph.proofs.Chaining.{all_from, amount_of, chain_sites, crossed_most}
 use Rattle.bl_graph.proofs.Counting.{crossed_once, any_counted, count_filter, sum_map, sum_alike}
 use Rattle.bl_graph.proofs.Members.{from_map}
 use Rattle.bl_transient.proofs.Meeting.{chain_met}
 use Rattle.bl_cut.specs.Choices.{IsMaxFlow, KnowsSinks, sites_in, positions, last_var, path_of}
 use Rattle.bl_cut.specs.Least.{Least}
-use Rattle.bl_cut.specs.Network.{IsNetwork}
+use Rattle.bl_graph.specs.Names.{place_of}
+use Rattle.bl_cut.specs.Network.{node_of, IsNetwork}
 use Rattle.bl_cut.proofs.Cutting.{cut_weighs, passing_cut, cut_sites, cut_passes}
+use Rattle.bl_cut.proofs.Hot.{named_trans}
 use Rattle.bl_cut.proofs.Walking.{near_trans, near_var, walk_chain}
 
 pub last_at : (xs : List ℕ) (e : ℕ) → slice_index (xs ++ e ∷ []) (length xs) ≡ e
@@ -38,31 +39,31 @@ pub numbers_back : (xs : List ℕ) → map (λ (s : Pos). s.0) (positions xs) �
 numbers_back [] = refl
 numbers_back (x ∷ xs) = ap (λ l. x ∷ l) (numbers_back xs)
 
-module _ (program : Program) (is : AreInRange program) (n : Network) (net : IsNetwork program n) (r : FlowResult) (flow : IsMaxFlow n r) where
+module _ (program : Program) (names : List ℕ) (is : AreInRange program) (n : Network) (net : IsNetwork program names n) (r : FlowResult) (flow : IsMaxFlow n r) where
   sites_ : AreSites program (cut_of r)
-  sites_ = cut_sites program is n net (cut_of r) flow.cut
+  sites_ = cut_sites program names is n net (cut_of r) flow.cut
 
   -- the cut is the least choice
   pub is_least : Least program (cut_of r)
   is_least =
-      let own = cut_weighs program is n net (cut_of r) in
+      let own = cut_weighs program names is n net (cut_of r) in
       let worth = flow.weight in
       record {
         sites = sites_;
-        passes = cut_passes program is n net (cut_of r) flow.cut;
+        passes = cut_passes program names is n net (cut_of r) flow.cut;
         lightest = λ other are passes.
-            let theirs = cut_weighs program is n net other in
-            let most = flow.least other (passing_cut program is n net other are passes) in
+            let theirs = cut_weighs program names is n net other in
+            let most = flow.least other (passing_cut program names is n net other are passes) in
             omega arith;
         nearest = λ other are passes same x t.
-            let theirs = cut_weighs program is n net other in
+            let theirs = cut_weighs program names is n net other in
             let weighs : cut_weight n other ≡ carried r.paths = omega arith in
-            let lies = flow.nearest other (passing_cut program is n net other are passes) weighs in
-            near_var program is n net other x
-            (lies.in_parts (commands program + x) ((flow.near.in_parts (commands program + x)).1 (near_trans program is n net (cut_of r) sites_ x t)));
+            let lies = flow.nearest other (passing_cut program names is n net other are passes) weighs in
+            near_var program names is n net other x (named_trans program names net.named (cut_of r) x t)
+            (lies.in_parts (node_of program names x) ((flow.near.in_parts (node_of program names x)).1 (near_trans program names is n net (cut_of r) sites_ x t)));
       }
 
-  module _ (sink_of : List ℕ) (knows : KnowsSinks program sink_of) where
+  module _ (sink_of : List ℕ) (knows : KnowsSinks program names sink_of) where
     abbrev back : NodePath → FlowPath
     back path = path_of (commands program) sink_of path
 
@@ -74,14 +75,14 @@ module _ (program : Program) (is : AreInRange program) (n : Network) (net : IsNe
     back_chain path p =
         let end = (net.ends p.last).0 p.to_an_end in
         let z : ℕ = end.0 in
-        let e : p.last ≡ commands program + z = end.1 in
+        let e : p.last ≡ node_of program names z = end.1 in
         let last_node : slice_index path.nodes (length path.nodes - 1) ≡ p.last =
         ap (λ nodes. slice_index nodes (length nodes - 1)) p.nodes ∙ (ap (slice_index (p.before ++ p.last ∷ [])) (last_place p.before p.last) ∙ last_at p.before p.last) in
-        let last : last_var (commands program) path.nodes ≡ z = omega arith in
-        let chain = walk_chain program is n net (slice_index sink_of z) p.start p.last z p.before ((net.starts p.start).0 p.from_a_start) e (knows.each end.2.0 z end.2.1) p.walk in
+        let last : last_var (commands program) path.nodes ≡ place_of names z = omega arith in
+        let chain = walk_chain program names is n net (slice_index sink_of (place_of names z)) p.start p.last z p.before ((net.starts p.start).0 p.from_a_start) e (knows.each end.2.0 z end.2.1) p.walk in
         subst (λ l. IsChain program l (back path).sink.0) (sym (same_sites path))
         (subst (λ x. IsChain program (sites_in (commands program) path.nodes) (slice_index sink_of x)) (sym last)
-        (subst (λ nodes. IsChain program (sites_in (commands program) nodes) (slice_index sink_of z)) (sym p.nodes) chain))
+        (subst (λ nodes. IsChain program (sites_in (commands program) nodes) (slice_index sink_of (place_of names z))) (sym p.nodes) chain))
 
     abbrev pub paths : List FlowPath
     paths = map back r.paths
@@ -116,13 +117,13 @@ module _ (program : Program) (is : AreInRange program) (n : Network) (net : IsNe
     met : All (λ p. 1 ≤ count_by (cut_of r) (sites_of p)) paths
     met = each_back (λ p. 1 ≤ count_by (cut_of r) (sites_of p)) (λ path p.
         any_counted (cut_of r) (sites_of (back path))
-        (chain_met program (cut_of r) (cut_passes program is n net (cut_of r) flow.cut) (sites_of (back path)) (back path).sink.0 (back_chain path p)))
+        (chain_met program (cut_of r) (cut_passes program names is n net (cut_of r) flow.cut) (sites_of (back path)) (back path).sink.0 (back_chain path p)))
 
     some : All (λ p. 0 < p.amount) paths
     some = each_back (λ p. 0 < p.amount) (λ path p. p.amount)
 
     worth : weight_of program (cut_of r) ≡ flow_of paths
-    worth = sym (cut_weighs program is n net (cut_of r)) ∙ (flow.weight ∙ sym same_flow)
+    worth = sym (cut_weighs program names is n net (cut_of r)) ∙ (flow.weight ∙ sym same_flow)
 
     once : All (λ p. count_by (cut_of r) (sites_of p) ≡ 1) paths
     once =

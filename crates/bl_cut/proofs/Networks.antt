@@ -1,71 +1,73 @@
 -- The network that is made of a graph's lists is the program's.
-use Rattle.std.proofs.Common.{◌≡◌, ℕ, zero, suc, ◌+◌, ◌^◌, ◌<◌, ◌≤◌, List, [], ◌∷◌, ◌++◌, length, take, set, get_or, replicate, Option, Some, None, slice_get, unwrap_or, refl, sym, ap, subst, ◌∙◌, arith, ◌⊎◌, inl, inr}
-use Rattle.std.specs.Prelude.{◌↔◌, IsSome, map}
+use Rattle.std.proofs.Common.{◌≡◌, ℕ, zero, suc, ◌+◌, ◌^◌, ◌<◌, ◌≤◌, List, [], ◌∷◌, ◌++◌, length, take, set, get_or, replicate, Option, Some, None, refl, sym, ap, subst, ◌∙◌, arith, ◌⊎◌, inl, inr}
+use Rattle.std.specs.Prelude.{IsSome, map}
 use Rattle.std.specs.List.{All, Contains, slice_index_or}
-use Rattle.std.proofs.lemmas.Bool.{cases_eq, cases_lt, false≢true}
+use Rattle.std.proofs.lemmas.Bool.{cases_eq, cases_lt}
 use Rattle.std.proofs.lemmas.List.{take_more, get_or-set_same, get_or-set_other, get_or-replicate, get_or_past, length-replicate, take_all}
-use Rattle.std.proofs.lemmas.List.Elements.{Contains-append_left, Contains-append_right, Contains-append_cases, Contains-push_cases, Contains-get_or}
+use Rattle.std.proofs.lemmas.List.Elements.{Contains-append_left, Contains-append_right, Contains-append_cases, Contains-push_cases}
 use Rattle.bl_base.specs.declared.number.Pos.{Pos}
-use Rattle.bl_cmd.specs.Sites.{site_weight, IsSite, IsLoad, Writes, Reads, SinkReads}
+use Rattle.bl_cmd.specs.Sites.{site_weight, IsSite, IsLoad, Writes, Reads}
 use Rattle.bl_cmd.specs.declared.definitions.ProgramParts.{ProgramParts as Program}
 use Rattle.bl_flow.specs.declared.network.Arc.{Arc}
-use Rattle.bl_flow.specs.declared.network.Network.{Network}
 use Rattle.bl_graph.specs.Graphs.{use_of, IsGraph}
-use Rattle.bl_graph.specs.Ranges.{commands, variables, AreInRange}
+use Rattle.bl_graph.specs.Names.{AreNames, place_of}
+use Rattle.bl_graph.specs.Ranges.{commands, AreInRange}
 use Rattle.bl_graph.specs.declared.facts.Use.{Use}
 use Rattle.bl_graph.specs.declared.facts.Graph.{Graph}
 use Rattle.bl_graph.proofs.Chaining.{all_from}
 use Rattle.bl_graph.proofs.Members.{in_map, from_map, none_in}
+use Rattle.bl_graph.proofs.Naming.{few_names, place_within}
 use Rattle.bl_graph.proofs.Ranging.{site_writes}
-use Rattle.bl_cut.specs.Network.{ArcKind, write, read, IsEnd, IsNetwork, write_arc, read_arc, sink_node, noted}
+use Rattle.bl_cut.specs.Network.{node_of, ArcKind, write, read, IsEnd, IsNetwork, write_arc, read_arc, sink_node, noted}
 
-module _ (program : Program) (g : Graph) (lists : IsGraph program g) where
-  arc_kind : (u v : ℕ) → Contains (map (write_arc (commands program)) g.writes ++ map (read_arc (commands program)) g.reads) (record { from = u; to = v }) → ArcKind program u v
+module _ (program : Program) (g : Graph) (lists : IsGraph program g) (names : List ℕ) (are : AreNames program names) where
+  arc_kind : (u v : ℕ) → Contains (map (write_arc names (commands program)) g.writes ++ map (read_arc names (commands program)) g.reads) (record { from = u; to = v }) → ArcKind program names u v
   arc_kind u v h =
-      elim (Contains-append_cases (map (write_arc (commands program)) g.writes) (map (read_arc (commands program)) g.reads) (record { from = u; to = v }) h) as (λ _. ArcKind program u v) [
+      elim (Contains-append_cases (map (write_arc names (commands program)) g.writes) (map (read_arc names (commands program)) g.reads) (record { from = u; to = v }) h) as (λ _. ArcKind program names u v) [
         | inl w ↦
-            let found = from_map (write_arc (commands program)) g.writes (record { from = u; to = v }) w in
+            let found = from_map (write_arc names (commands program)) g.writes (record { from = u; to = v }) w in
             let from : found.0.at.0 ≡ u = ap (λ (a : Arc). a.from) found.2 in
-            let to : commands program + found.0.var.0 ≡ v = ap (λ (a : Arc). a.to) found.2 in
+            let to : node_of program names found.0.var.0 ≡ v = ap (λ (a : Arc). a.to) found.2 in
             write found.0.var.0 (subst (λ s. Writes program s found.0.var.0) from ((lists.writes.each found.0.at.0 found.0.var.0).0 found.1)) (sym to)
         | inr r ↦
-            let found = from_map (read_arc (commands program)) g.reads (record { from = u; to = v }) r in
-            let from : commands program + found.0.var.0 ≡ u = ap (λ (a : Arc). a.from) found.2 in
+            let found = from_map (read_arc names (commands program)) g.reads (record { from = u; to = v }) r in
+            let from : node_of program names found.0.var.0 ≡ u = ap (λ (a : Arc). a.from) found.2 in
             let to : found.0.at.0 ≡ v = ap (λ (a : Arc). a.to) found.2 in
             read found.0.var.0 (subst (λ s. Reads program s found.0.var.0) to ((lists.reads.each found.0.at.0 found.0.var.0).0 found.1)) (sym from)
       ]
 
-  arc_of : (u v : ℕ) → ArcKind program u v → Contains (map (write_arc (commands program)) g.writes ++ map (read_arc (commands program)) g.reads) (record { from = u; to = v })
+  arc_of : (u v : ℕ) → ArcKind program names u v → Contains (map (write_arc names (commands program)) g.writes ++ map (read_arc names (commands program)) g.reads) (record { from = u; to = v })
   arc_of u v (write x writes e) =
-      subst (λ w. Contains (map (write_arc (commands program)) g.writes ++ map (read_arc (commands program)) g.reads) (record { from = u; to = w })) (sym e)
-      (Contains-append_left (map (write_arc (commands program)) g.writes) (map (read_arc (commands program)) g.reads) (record { from = u; to = commands program + x })
-      (in_map (write_arc (commands program)) g.writes (use_of u x) ((lists.writes.each u x).1 writes)))
+      subst (λ w. Contains (map (write_arc names (commands program)) g.writes ++ map (read_arc names (commands program)) g.reads) (record { from = u; to = w })) (sym e)
+      (Contains-append_left (map (write_arc names (commands program)) g.writes) (map (read_arc names (commands program)) g.reads) (record { from = u; to = node_of program names x })
+      (in_map (write_arc names (commands program)) g.writes (use_of u x) ((lists.writes.each u x).1 writes)))
   arc_of u v (read x reads e) =
-      subst (λ w. Contains (map (write_arc (commands program)) g.writes ++ map (read_arc (commands program)) g.reads) (record { from = w; to = v })) (sym e)
-      (Contains-append_right (map (write_arc (commands program)) g.writes) (map (read_arc (commands program)) g.reads) (record { from = commands program + x; to = v })
-      (in_map (read_arc (commands program)) g.reads (use_of v x) ((lists.reads.each v x).1 reads)))
+      subst (λ w. Contains (map (write_arc names (commands program)) g.writes ++ map (read_arc names (commands program)) g.reads) (record { from = w; to = v })) (sym e)
+      (Contains-append_right (map (write_arc names (commands program)) g.writes) (map (read_arc names (commands program)) g.reads) (record { from = node_of program names x; to = v })
+      (in_map (read_arc names (commands program)) g.reads (use_of v x) ((lists.reads.each v x).1 reads)))
 
-  end_kind : (v : ℕ) → Contains (map (sink_node (commands program)) g.sinks) v → IsEnd program v
+  end_kind : (v : ℕ) → Contains (map (sink_node names (commands program)) g.sinks) v → IsEnd program names v
   end_kind v h =
-      let found = from_map (sink_node (commands program)) g.sinks v h in
+      let found = from_map (sink_node names (commands program)) g.sinks v h in
       (found.0.var.0, sym found.2, (found.0.at.0, (lists.sinks.each found.0.at.0 found.0.var.0).0 found.1))
 
-  end_of : (v : ℕ) → IsEnd program v → Contains (map (sink_node (commands program)) g.sinks) v
+  end_of : (v : ℕ) → IsEnd program names v → Contains (map (sink_node names (commands program)) g.sinks) v
   end_of v end =
-      subst (Contains (map (sink_node (commands program)) g.sinks)) (sym end.1)
-      (in_map (sink_node (commands program)) g.sinks (use_of end.2.0 end.0) ((lists.sinks.each end.2.0 end.0).1 end.2.1))
+      subst (Contains (map (sink_node names (commands program)) g.sinks)) (sym end.1)
+      (in_map (sink_node names (commands program)) g.sinks (use_of end.2.0 end.0) ((lists.sinks.each end.2.0 end.0).1 end.2.1))
 
   start_kind : (s : ℕ) → Contains (map (λ (load : Pos). load.0) g.loads) s → IsLoad program s
   start_kind s h = let found = from_map (λ (load : Pos). load.0) g.loads s h in subst (IsLoad program) found.2 ((lists.loads found.0.0).0 found.1)
 
-  pub made_network : (n : ℕ) (weights : List (Option ℕ)) (arcs : List Arc) (starts ends : List ℕ) → n ≡ commands program → length weights ≡ n + variables program
-      → ((v : ℕ) → noted weights v ≡ site_weight program v) → arcs ≡ map (write_arc n) g.writes ++ map (read_arc n) g.reads → starts ≡ map (λ (load : Pos). load.0) g.loads
-      → ends ≡ map (sink_node n) g.sinks → IsNetwork program (record { weights = weights; arcs = arcs; starts = starts; ends = ends })
+  pub made_network : (n : ℕ) (weights : List (Option ℕ)) (arcs : List Arc) (starts ends : List ℕ) → n ≡ commands program → length weights ≡ n + length names
+      → ((v : ℕ) → noted weights v ≡ site_weight program v) → arcs ≡ map (write_arc names n) g.writes ++ map (read_arc names n) g.reads → starts ≡ map (λ (load : Pos). load.0) g.loads
+      → ends ≡ map (sink_node names n) g.sinks → IsNetwork program names (record { weights = weights; arcs = arcs; starts = starts; ends = ends })
   made_network n weights arcs starts ends e places weigh arcs_are starts_are ends_are =
-      let all : arcs ≡ map (write_arc (commands program)) g.writes ++ map (read_arc (commands program)) g.reads = arcs_are ∙ ap (λ m. map (write_arc m) g.writes ++ map (read_arc m) g.reads) e in
-      let last : ends ≡ map (sink_node (commands program)) g.sinks = ends_are ∙ ap (λ m. map (sink_node m) g.sinks) e in
+      let all : arcs ≡ map (write_arc names (commands program)) g.writes ++ map (read_arc names (commands program)) g.reads = arcs_are ∙ ap (λ m. map (write_arc names m) g.writes ++ map (read_arc names m) g.reads) e in
+      let last : ends ≡ map (sink_node names (commands program)) g.sinks = ends_are ∙ ap (λ m. map (sink_node names m) g.sinks) e in
       record {
-        size_is = places ∙ ap (λ m. m + variables program) e;
+        named = are;
+        size_is = places ∙ ap (λ m. m + length names) e;
         weights = weigh;
         arcs = λ u v. ((λ h. arc_kind u v (subst (λ l. Contains l (record { from = u; to = v })) all h)), (λ h. subst (λ l. Contains l (record { from = u; to = v })) (sym all) (arc_of u v h)));
         starts = λ s. (
@@ -76,22 +78,25 @@ module _ (program : Program) (g : Graph) (lists : IsGraph program g) where
       }
 
   module _ (is : AreInRange program) (n : ℕ) (e : n ≡ commands program) where
-    pub write_nodes : All (λ w. n + w.var.0 < 2 ^ 32) g.writes
-    write_nodes = all_from (λ w. n + w.var.0 < 2 ^ 32) g.writes (λ w h. let lt = (is.writes w.at.0 w.var.0 ((lists.writes.each w.at.0 w.var.0).0 h)).1 in let small = is.numbers in omega arith)
+    pub write_nodes : All (λ w. Contains names w.var.0 × (n + place_of names w.var.0 < 2 ^ 32)) g.writes
+    write_nodes = all_from (λ w. Contains names w.var.0 × (n + place_of names w.var.0 < 2 ^ 32)) g.writes (λ w h.
+        let has = are.writes w.at.0 w.var.0 ((lists.writes.each w.at.0 w.var.0).0 h) in
+        let lt = place_within names w.var.0 are.rise has in let few = few_names program names is are in (has, omega arith))
 
-    pub read_nodes : All (λ r. n + r.var.0 < 2 ^ 32) g.reads
-    read_nodes = all_from (λ r. n + r.var.0 < 2 ^ 32) g.reads (λ r h. let lt = (is.reads r.at.0 r.var.0 ((lists.reads.each r.at.0 r.var.0).0 h)).1 in let small = is.numbers in omega arith)
+    pub read_nodes : All (λ r. Contains names r.var.0 × (n + place_of names r.var.0 < 2 ^ 32)) g.reads
+    read_nodes = all_from (λ r. Contains names r.var.0 × (n + place_of names r.var.0 < 2 ^ 32)) g.reads (λ r h.
+        let has = are.reads r.at.0 r.var.0 ((lists.reads.each r.at.0 r.var.0).0 h) in
+        let lt = place_within names r.var.0 are.rise has in let few = few_names program names is are in (has, omega arith))
 
-    pub sink_numbers : All (λ s. n + s.var.0 < 2 ^ 32) g.sinks
-    sink_numbers = all_from (λ s. n + s.var.0 < 2 ^ 32) g.sinks (λ s h. let lt = (is.sinks s.at.0 s.var.0 ((lists.sinks.each s.at.0 s.var.0).0 h)).1 in let small = is.numbers in omega arith)
-
-    pub sink_vars : (count : ℕ) → count ≡ variables program → All (λ s. s.var.0 < count) g.sinks
-    sink_vars count f = all_from (λ s. s.var.0 < count) g.sinks (λ s h. let lt = (is.sinks s.at.0 s.var.0 ((lists.sinks.each s.at.0 s.var.0).0 h)).1 in omega arith)
+    pub sink_numbers : All (λ s. Contains names s.var.0 × (n + place_of names s.var.0 < 2 ^ 32)) g.sinks
+    sink_numbers = all_from (λ s. Contains names s.var.0 × (n + place_of names s.var.0 < 2 ^ 32)) g.sinks (λ s h.
+        let has = are.sinks s.at.0 s.var.0 ((lists.sinks.each s.at.0 s.var.0).0 h) in
+        let lt = place_within names s.var.0 are.rise has in let few = few_names program names is are in (has, omega arith))
 
     pub write_sites : All (λ w. IsSite program w.at.0) g.writes
     write_sites = all_from (λ w. IsSite program w.at.0) g.writes (λ w h. (is.writes w.at.0 w.var.0 ((lists.writes.each w.at.0 w.var.0).0 h)).0)
 
-    pub write_places : (nodes : ℕ) → nodes ≡ n + variables program → All (λ w. w.at.0 < nodes) g.writes
+    pub write_places : (nodes : ℕ) → nodes ≡ n + length names → All (λ w. w.at.0 < nodes) g.writes
     write_places nodes f = all_from (λ w. w.at.0 < nodes) g.writes (λ w h.
         let lt = is.sites w.at.0 (is.writes w.at.0 w.var.0 ((lists.writes.each w.at.0 w.var.0).0 h)).0 in omega arith)
 

@@ -1,5 +1,5 @@
 -- Walks in the network of a program: what they reach, and how they are read back.
-use Rattle.std.proofs.Common.{◌≡◌, ℕ, ◌+◌, ◌<◌, ◌≤◌, Bool, List, [], ◌∷◌, ◌++◌, cond, refl, sym, ap, subst, arith, inl, inr, not}
+use Rattle.std.proofs.Common.{◌≡◌, ℕ, ◌<◌, ◌≤◌, Bool, List, [], ◌∷◌, ◌++◌, cond, refl, sym, ap, subst, arith, inl, inr, not}
 use Rattle.std.specs.Prelude.{IsTrue}
 use Rattle.std.specs.List.{All, Contains, filter}
 use Rattle.std.proofs.lemmas.Bool.{cases_Bool, lt-ltb, le-ltb}
@@ -15,7 +15,8 @@ use Rattle.bl_graph.proofs.Counting.{all_head, all_tail}
 use Rattle.bl_graph.proofs.Members.{first_in, later_in, in_cases, none_in}
 use Rattle.bl_transient.specs.Transient.{Trans, loaded, moved}
 use Rattle.bl_cut.specs.Choices.{sites_in}
-use Rattle.bl_cut.specs.Network.{ArcKind, write, read, IsNetwork}
+use Rattle.bl_cut.specs.Network.{node_of, ArcKind, write, read, IsNetwork}
+use Rattle.bl_graph.proofs.Naming.{place_inj}
 use Rattle.bl_cut.proofs.Hot.{Hot, hot_on, hot_load, hot_var, no_var}
 
 abbrev pub Free : (ℕ → Bool) → List ℕ → Type 0
@@ -26,17 +27,17 @@ walk_on : (n : Network) (u v w : ℕ) (before : List ℕ) → Walk n u before v 
 walk_on n u v w before (here _) arc = along u w w [] arc (here w)
 walk_on n u v w before (along _ x _ rest first walk) arc = along u x w (rest ++ v ∷ []) first (walk_on n x v w rest walk arc)
 
-module _ (program : Program) (is : AreInRange program) (n : Network) (net : IsNetwork program n) (set : ℕ → Bool) where
-  walk_hot : (u v : ℕ) (before : List ℕ) → Walk n u before v → Free set before → Hot program set u → Hot program set v
+module _ (program : Program) (names : List ℕ) (is : AreInRange program) (n : Network) (net : IsNetwork program names n) (set : ℕ → Bool) where
+  walk_hot : (u v : ℕ) (before : List ℕ) → Walk n u before v → Free set before → Hot program names set u → Hot program names set v
   walk_hot u v before (here _) free hot = hot
   walk_hot u v before (along _ w _ rest arc walk) free hot =
-      walk_hot w v rest walk (all_tail (λ t. IsTrue (not (set t))) u rest free) (hot_on program is set u w ((net.arcs u w).0 arc) (all_head (λ t. IsTrue (not (set t))) u rest free) hot)
+      walk_hot w v rest walk (all_tail (λ t. IsTrue (not (set t))) u rest free) (hot_on program names net.named is set u w ((net.arcs u w).0 arc) (all_head (λ t. IsTrue (not (set t))) u rest free) hot)
 
   -- the near side holds what is fed and what is transient, and nothing else
-  pub near_var : (x : ℕ) → NearIn n set (commands program + x) → Trans program set x
-  near_var x near =
-      hot_var program set x (commands program + x) refl
-      (walk_hot near.0 (commands program + x) near.1 near.3 near.4 (hot_load program is set near.0 ((net.starts near.0).0 near.2)))
+  pub near_var : (x : ℕ) → Contains names x → NearIn n set (node_of program names x) → Trans program set x
+  near_var x has near =
+      hot_var program names net.named set x (node_of program names x) has refl
+      (walk_hot near.0 (node_of program names x) near.1 near.3 near.4 (hot_load program names net.named is set near.0 ((net.starts near.0).0 near.2)))
 
   near_on : (u v : ℕ) → HasArc n u v → IsTrue (not (set u)) → NearIn n set u → NearIn n set v
   near_on u v arc may near =
@@ -45,16 +46,16 @@ module _ (program : Program) (is : AreInRange program) (n : Network) (net : IsNe
   near_load : (s : ℕ) → IsLoad program s → NearIn n set s
   near_load s load = (s, [], (net.starts s).1 load, here s, All-nil (λ w. IsTrue (not (set w))))
 
-  pub near_trans : AreSites program set → (x : ℕ) → Trans program set x → NearIn n set (commands program + x)
-  near_trans sites x (loaded s _ load writes may) = near_on s (commands program + x) ((net.arcs s (commands program + x)).1 (write x writes refl)) may (near_load s load)
+  pub near_trans : AreSites program set → (x : ℕ) → Trans program set x → NearIn n set (node_of program names x)
+  near_trans sites x (loaded s _ load writes may) = near_on s (node_of program names x) ((net.arcs s (node_of program names x)).1 (write x writes refl)) may (near_load s load)
   near_trans sites x (moved s y _ reads writes may t) =
-      near_on s (commands program + x) ((net.arcs s (commands program + x)).1 (write x writes refl)) may
-      (near_on (commands program + y) s ((net.arcs (commands program + y) s).1 (read y reads refl)) (no_var program is set sites y) (near_trans sites y t))
+      near_on s (node_of program names x) ((net.arcs s (node_of program names x)).1 (write x writes refl)) may
+      (near_on (node_of program names y) s ((net.arcs (node_of program names y) s).1 (read y reads refl)) (no_var program names net.named is set sites y) (near_trans sites y t))
 
 -- what is left of a walk to a sink's variable, read back as sites
-data Ahead (program : Program) (sink u : ℕ) (sites : List ℕ) : Type 0 where
-  at_site : (x : ℕ) (rest : List ℕ) → u < commands program → sites ≡ u ∷ rest → Writes program u x → Carries program x rest sink → Ahead program sink u sites
-  at_var : (x : ℕ) → u ≡ commands program + x → Carries program x sites sink → Ahead program sink u sites
+data Ahead (program : Program) (names : List ℕ) (sink u : ℕ) (sites : List ℕ) : Type 0 where
+  at_site : (x : ℕ) (rest : List ℕ) → u < commands program → sites ≡ u ∷ rest → Writes program u x → Carries program x rest sink → Ahead program names sink u sites
+  at_var : (x : ℕ) → Contains names x → u ≡ node_of program names x → Carries program x sites sink → Ahead program names sink u sites
 
 pub site_kept : (n u : ℕ) (nodes : List ℕ) → u < n → sites_in n (u ∷ nodes) ≡ u ∷ sites_in n nodes
 site_kept n u nodes lt = ap (λ b. cond b (u ∷ sites_in n nodes) (sites_in n nodes)) (lt-ltb u n lt)
@@ -62,33 +63,33 @@ site_kept n u nodes lt = ap (λ b. cond b (u ∷ sites_in n nodes) (sites_in n n
 pub var_left : (n u : ℕ) (nodes : List ℕ) → n ≤ u → sites_in n (u ∷ nodes) ≡ sites_in n nodes
 var_left n u nodes le = ap (λ b. cond b (u ∷ sites_in n nodes) (sites_in n nodes)) (le-ltb u n le)
 
-module _ (program : Program) (is : AreInRange program) (n : Network) (net : IsNetwork program n) (sink : ℕ) where
-  from_var : (w x : ℕ) (sites : List ℕ) → w ≡ commands program + x → Ahead program sink w sites → Carries program x sites sink
-  from_var w x sites e (at_site _ _ lt _ _ _) = absurd (omega arith)
-  from_var w x sites e (at_var y f carries) = let same : y ≡ x = omega arith in subst (λ z. Carries program z sites sink) same carries
+module _ (program : Program) (names : List ℕ) (is : AreInRange program) (n : Network) (net : IsNetwork program names n) (sink : ℕ) where
+  from_var : (w x : ℕ) (sites : List ℕ) → Contains names x → w ≡ node_of program names x → Ahead program names sink w sites → Carries program x sites sink
+  from_var w x sites has e (at_site _ _ lt _ _ _) = absurd (omega arith)
+  from_var w x sites has e (at_var y held f carries) = let same : y ≡ x = place_inj names y x net.named.rise held has (omega arith) in subst (λ z. Carries program z sites sink) same carries
 
-  from_site : (w x : ℕ) (sites : List ℕ) → w < commands program → Reads program w x → Ahead program sink w sites → Carries program x sites sink
+  from_site : (w x : ℕ) (sites : List ℕ) → w < commands program → Reads program w x → Ahead program names sink w sites → Carries program x sites sink
   from_site w x sites lt reads (at_site y rest _ e writes carries) = subst (λ l. Carries program x l sink) (sym e) (reads, (y, writes, carries))
-  from_site w x sites lt reads (at_var y f carries) = absurd (omega arith)
+  from_site w x sites lt reads (at_var y held f carries) = absurd (omega arith)
 
-  by_arc : (u w : ℕ) (nodes : List ℕ) → ArcKind program u w → Ahead program sink w (sites_in (commands program) nodes) → Ahead program sink u (sites_in (commands program) (u ∷ nodes))
+  by_arc : (u w : ℕ) (nodes : List ℕ) → ArcKind program names u w → Ahead program names sink w (sites_in (commands program) nodes) → Ahead program names sink u (sites_in (commands program) (u ∷ nodes))
   by_arc u w nodes (write x writes e) ahead =
       let lt = is.sites u (is.writes u x writes).0 in
-      at_site x (sites_in (commands program) nodes) lt (site_kept (commands program) u nodes lt) writes (from_var w x (sites_in (commands program) nodes) e ahead)
+      at_site x (sites_in (commands program) nodes) lt (site_kept (commands program) u nodes lt) writes (from_var w x (sites_in (commands program) nodes) (net.named.writes u x writes) e ahead)
   by_arc u w nodes (read x reads e) ahead =
       let lt = is.sites w (is.reads w x reads).0 in
-      at_var x e (subst (λ l. Carries program x l sink) (sym (var_left (commands program) u nodes (omega arith))) (from_site w x (sites_in (commands program) nodes) lt reads ahead))
+      at_var x (net.named.reads w x reads) e (subst (λ l. Carries program x l sink) (sym (var_left (commands program) u nodes (omega arith))) (from_site w x (sites_in (commands program) nodes) lt reads ahead))
 
-  ahead : (u v z : ℕ) (before : List ℕ) → v ≡ commands program + z → SinkReads program sink z → Walk n u before v → Ahead program sink u (sites_in (commands program) (before ++ v ∷ []))
-  ahead u v z before e reads (here _) = at_var z e (subst (λ l. Carries program z l sink) (sym (var_left (commands program) v [] (omega arith))) reads)
+  ahead : (u v z : ℕ) (before : List ℕ) → v ≡ node_of program names z → SinkReads program sink z → Walk n u before v → Ahead program names sink u (sites_in (commands program) (before ++ v ∷ []))
+  ahead u v z before e reads (here _) = at_var z (net.named.sinks sink z reads) e (subst (λ l. Carries program z l sink) (sym (var_left (commands program) v [] (omega arith))) reads)
   ahead u v z before e reads (along _ w _ rest arc walk) = by_arc u w (rest ++ v ∷ []) ((net.arcs u w).0 arc) (ahead w v z rest e reads walk)
 
-  to_chain : (s : ℕ) (sites : List ℕ) → IsLoad program s → Ahead program sink s sites → IsChain program sites sink
+  to_chain : (s : ℕ) (sites : List ℕ) → IsLoad program s → Ahead program names sink s sites → IsChain program sites sink
   to_chain s sites load (at_site x rest _ e writes carries) = subst (λ l. IsChain program l sink) (sym e) (load, (x, writes, carries))
-  to_chain s sites load (at_var x e carries) = let lt = is.sites s (is.loads s load) in absurd (omega arith)
+  to_chain s sites load (at_var x held e carries) = let lt = is.sites s (is.loads s load) in absurd (omega arith)
 
   -- a walk from a load to a sink's variable is a chain
-  pub walk_chain : (s v z : ℕ) (before : List ℕ) → IsLoad program s → v ≡ commands program + z → SinkReads program sink z → Walk n s before v
+  pub walk_chain : (s v z : ℕ) (before : List ℕ) → IsLoad program s → v ≡ node_of program names z → SinkReads program sink z → Walk n s before v
       → IsChain program (sites_in (commands program) (before ++ v ∷ [])) sink
   walk_chain s v z before load e reads walk = to_chain s (sites_in (commands program) (before ++ v ∷ [])) load (ahead s v z before e reads walk)
 

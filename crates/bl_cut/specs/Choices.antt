@@ -1,5 +1,5 @@
 -- What a maximum flow in a program's network says, and how its walks are read back.
-use Rattle.std.specs.Prelude.{◌≡◌, ◌+◌, ◌-◌, ◌<◌, ◌≤◌, ℕ, Bool, Some, List, length, filter, map, nat_lt, slice_index}
+use Rattle.std.specs.Prelude.{◌≡◌, ◌-◌, ◌<◌, ◌≤◌, ℕ, Bool, Some, List, length, filter, map, nat_lt, slice_index}
 use Rattle.std.specs.List.{All, Contains}
 use Rattle.bl_base.specs.declared.number.Pos.{Pos}
 use Rattle.bl_cmd.specs.Sites.{SinkReads}
@@ -10,6 +10,7 @@ use Rattle.bl_flow.specs.declared.network.FlowResult.{FlowResult}
 use Rattle.bl_flow.specs.declared.network.Network.{Network}
 use Rattle.bl_flow.specs.declared.network.NodePath.{NodePath}
 use Rattle.bl_graph.specs.Graphs.{use_of}
+use Rattle.bl_graph.specs.Names.{place_of}
 use Rattle.bl_graph.specs.declared.certificate.FlowPath.{FlowPath}
 use Rattle.bl_graph.specs.declared.facts.Use.{Use}
 use Rattle.bl_cut.specs.Network.{IsNetwork}
@@ -25,8 +26,8 @@ pub record IsMaxFlow (n : Network) (r : FlowResult) : Type 0 where
   pub nearest : (cut : ℕ → Bool) → IsCut n cut → cut_weight n cut ≡ carried r.paths → LiesNear n cut r.near_in r.near_out
 
 -- for each variable that a sink reads the position of such a sink
-pub record KnowsSinks (program : Program) (sink_of : List ℕ) : Type 0 where
-  pub each : (position x : ℕ) → SinkReads program position x → SinkReads program (slice_index sink_of x) x
+pub record KnowsSinks (program : Program) (names sink_of : List ℕ) : Type 0 where
+  pub each : (position x : ℕ) → SinkReads program position x → SinkReads program (slice_index sink_of (place_of names x)) x
 
 -- the sites among the nodes of a walk
 abbrev pub sites_in : ℕ → List ℕ → List ℕ
@@ -55,11 +56,11 @@ pub record EndsAtVar (n vars : ℕ) (nodes : List ℕ) : Type 0 where
   pub within : last_var n nodes < vars
 
 -- for each variable that one of the sinks reads the position of such a one
-abbrev pub KnowsIn : List Use → List ℕ → Type 0
-KnowsIn sinks sink_of = (position x : ℕ) → Contains sinks (use_of position x) → Contains sinks (use_of (slice_index sink_of x) x)
+abbrev pub KnowsIn : List ℕ → List Use → List ℕ → Type 0
+KnowsIn names sinks sink_of = (position x : ℕ) → Contains sinks (use_of position x) → Contains sinks (use_of (slice_index sink_of (place_of names x)) x)
 
 -- a maximum flow in the program's network
-pub record IsFlowOf (program : Program) (r : FlowResult) : Type 0 where
+pub record IsFlowOf (program : Program) (names : List ℕ) (r : FlowResult) : Type 0 where
   pub network : Network
-  pub is : IsNetwork program network
+  pub is : IsNetwork program names network
   pub flow : IsMaxFlow network r

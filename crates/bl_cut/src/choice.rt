@@ -14,7 +14,7 @@ use crate::walks::{read_back, sinks_by_variable};
 use bl_base::{List, NoMemory, Pos, SiteSet};
 use bl_cmd::WellFormed;
 use bl_flow::{FlowResult, max_flow};
-use bl_graph::{Certificate, Graph, flow_sum, graph, ranges, variables};
+use bl_graph::{Certificate, Graph, Names, flow_sum, graph, names_of, ranges};
 use std::alloc::Global;
 
 /// A set of sites to protect, its weight, and a flow that shows that no set of less weight passes.
@@ -29,8 +29,8 @@ pub struct Choice {
 }
 
 /// The passing set of least weight whose transient variables are contained in those of every other one of that weight. Marks
-/// that stand in the program are ignored. Costs a maximum flow in a network that is linear in the program and in the number of
-/// its declared variables. Want of memory is the only error.
+/// that stand in the program are ignored. Costs a maximum flow in a network that is linear in the program's commands; where these
+/// name few of its variables, a sort of what they write and read too. Want of memory is the only error.
 pub fn least_protects(alloc: Global, program: &WellFormed) -> Result<Choice, NoMemory>
     ensures least { IfOk result (λ choice. Least program.now (fin.contains choice.protects)) }
     ensures weight { IfOk result (λ choice. choice.weight ≡ weight_of program.now (fin.contains choice.protects)) }
@@ -52,9 +52,10 @@ pub fn least_protects_of(
     ensures certificate { IfOk result (λ choice. Certifies (protected (fin.contains choice.protects) program.now) choice.certificate) }
 {
     ranges(program);
-    let network = network(alloc, program, graph)?;
+    let names = names_of(alloc, program, graph, &[])?;
+    let network = network(alloc, program, graph, &names)?;
     let flow = max_flow(alloc, &network)?;
-    choice_of(alloc, program, graph, &flow)
+    choice_of(alloc, program, graph, &names, &flow)
 }
 
 /// The choice that a maximum flow in the program's network shows.
@@ -62,16 +63,17 @@ fn choice_of(
     alloc: Global,
     program: &WellFormed,
     graph: &Graph,
+    names: &Names,
     flow: &FlowResult,
 ) -> Result<Choice, NoMemory>
     requires graph { IsGraph program.now graph.now }
-    requires flow { IsFlowOf program.now flow.now }
+    requires flow { IsFlowOf program.now names.now flow.now }
     ensures least { IfOk result (λ choice. Least program.now (fin.contains choice.protects)) }
     ensures weight { IfOk result (λ choice. choice.weight ≡ weight_of program.now (fin.contains choice.protects)) }
     ensures certificate { IfOk result (λ choice. Certifies (protected (fin.contains choice.protects) program.now) choice.certificate) }
 {
     let commands = program.program().parts().commands.len() as u32;
-    let sink_of = sinks_by_variable(alloc, variables(program), graph.sinks.as_slice())?;
+    let sink_of = sinks_by_variable(alloc, names, graph.sinks.as_slice())?;
     let paths = read_back(alloc, commands, &sink_of, flow.paths.as_slice())?;
     let weight = flow_sum(&paths);
     let protects = cut_sites(

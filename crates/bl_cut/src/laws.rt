@@ -1,5 +1,5 @@
 //! Laws of least sets, of cuts and of marks. Each function is its contract alone.
-ghost use Rattle.std.specs.Prelude.{◌≡◌, ◌↔◌, ◌+◌, ℕ, Bool, IsTrue, false};
+ghost use Rattle.std.specs.Prelude.{◌≡◌, ◌↔◌, ℕ, Bool, Contains, IsTrue, List, false};
 ghost use Rattle.bl_base.specs.Runs.{Outcome};
 ghost use Rattle.bl_base.specs.declared.start.Start.{Start};
 ghost use Rattle.bl_cmd.specs.Outcomes.{plain};
@@ -9,11 +9,11 @@ ghost use Rattle.bl_flow.specs.Cuts.{IsCut, NearIn, cut_weight};
 ghost use Rattle.bl_flow.specs.declared.network.Network.{Network as Net};
 ghost use Rattle.bl_graph.specs.Graphs.{IsGraph};
 ghost use Rattle.bl_graph.specs.declared.facts.Graph.{Graph as Lists};
-ghost use Rattle.bl_graph.specs.Ranges.{AreInRange, AreSites, commands};
+ghost use Rattle.bl_graph.specs.Ranges.{AreInRange, AreSites};
 ghost use Rattle.bl_transient.specs.Transient.{IsFed, Passes, Trans};
 ghost use Rattle.bl_cut.specs.Least.{Least};
 ghost use Rattle.bl_cut.specs.Marks.{protected};
-ghost use Rattle.bl_cut.specs.Network.{IsNetwork};
+ghost use Rattle.bl_cut.specs.Network.{IsNetwork, node_of};
 
 /// A least set holds exactly the loads, and the sites that read a transient variable, that write one which isn't transient.
 pub fn least_by_trans()
@@ -31,14 +31,14 @@ pub fn some_set_is_least()
     ensures { (program : ProgramParts) → AreInRange program → (set : ℕ → Bool) × Least program set }
 {}
 
-/// The cuts of a program's network are the passing sets of sites, with the same weights; the near side of a cut holds the
-/// transient variables.
+/// The cuts of a program's network over names are the passing sets of sites, with the same weights; the near side of a cut holds
+/// exactly those names that are transient.
 pub fn cuts_are_passing_sets()
-    ensures passing { (program : ProgramParts) (n : Net) (set : ℕ → Bool) → AreInRange program → IsNetwork program n → AreSites program set → Passes program set → IsCut n set }
-    ensures sites { (program : ProgramParts) (n : Net) (set : ℕ → Bool) → AreInRange program → IsNetwork program n → IsCut n set → AreSites program set × Passes program set }
-    ensures weight { (program : ProgramParts) (n : Net) (set : ℕ → Bool) → AreInRange program → IsNetwork program n → cut_weight n set ≡ weight_of program set }
-    ensures near { (program : ProgramParts) (n : Net) (set : ℕ → Bool) → AreInRange program → IsNetwork program n → AreSites program set
-        → (x : ℕ) → NearIn n set (commands program + x) ↔ Trans program set x }
+    ensures passing { (program : ProgramParts) (names : List ℕ) (n : Net) (set : ℕ → Bool) → AreInRange program → IsNetwork program names n → AreSites program set → Passes program set → IsCut n set }
+    ensures sites { (program : ProgramParts) (names : List ℕ) (n : Net) (set : ℕ → Bool) → AreInRange program → IsNetwork program names n → IsCut n set → AreSites program set × Passes program set }
+    ensures weight { (program : ProgramParts) (names : List ℕ) (n : Net) (set : ℕ → Bool) → AreInRange program → IsNetwork program names n → cut_weight n set ≡ weight_of program set }
+    ensures near { (program : ProgramParts) (names : List ℕ) (n : Net) (set : ℕ → Bool) → AreInRange program → IsNetwork program names n → AreSites program set
+        → (x : ℕ) → Contains names x → NearIn n set (node_of program names x) ↔ Trans program set x }
 {}
 
 /// In a program that was protected exactly the sites of the set are.

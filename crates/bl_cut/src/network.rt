@@ -1,35 +1,39 @@
 //! The network of a program.
-ghost use Rattle.std.specs.Prelude.{◌≡◌, ◌+◌, ◌++◌, ◌<◌, ◌^◌, ℕ, All, Contains, IfOk, None, OnOk, length, map, replicate};
+ghost use Rattle.std.specs.Prelude.{◌≡◌, ◌+◌, ◌++◌, ◌<◌, ◌^◌, ℕ, All, AllPairs, Contains, IfOk, None, OnOk, length, map, replicate};
 ghost use Rattle.bl_cmd.specs.Sites.{IsSite, site_weight};
 ghost use Rattle.bl_graph.specs.Graphs.{IsGraph, use_of};
+ghost use Rattle.bl_graph.specs.Names.{AreNames, place_of};
 ghost use Rattle.bl_cut.specs.Network.{IsNetwork, noted, read_arc, sink_node, write_arc};
 
 use bl_base::{List, NoMemory, Pos};
 use bl_cmd::{WellFormed, site_weight};
 use bl_flow::{Arc, Network};
-use bl_graph::{Graph, Read, SinkUse, Write, variables};
+use bl_graph::{Graph, Names, Read, SinkUse, Write, ranges};
 use std::alloc::Global;
 
-/// A node for each position, with the weight of its site, and behind them one without weight for each variable. An arc leads
-/// from a site to what it writes, and from a variable to each site that reads it. Walks begin at the loads, and end at the
-/// variables that sinks read.
+/// A node for each position, with the weight of its site, and behind them one without weight for each name, by its number. An
+/// arc leads from a site to what it writes, and from a variable to each site that reads it. Walks begin at the loads, and end at
+/// the variables that sinks read.
 pub(crate) fn network(
     alloc: Global,
     program: &WellFormed,
     graph: &Graph,
+    names: &Names,
 ) -> Result<Network, NoMemory>
-    requires { IsGraph program.now graph.now }
-    ensures { IfOk result (λ network. IsNetwork program.now network) }
+    requires graph { IsGraph program.now graph.now }
+    requires names { AreNames program.now names.now }
+    ensures { IfOk result (λ network. IsNetwork program.now names.now network) }
 {
+    ranges(program);
     let commands = program.program().parts().commands.len() as u32;
-    let nodes = commands + variables(program);
+    let nodes = commands + names.len();
     let count = graph.writes.len().saturating_add(graph.reads.len());
     let mut arcs = Vec::with_capacity(alloc, count)?;
-    push_writes(&mut arcs, commands, graph.writes.as_slice())?;
-    push_reads(&mut arcs, commands, graph.reads.as_slice())?;
+    push_writes(&mut arcs, commands, names, graph.writes.as_slice())?;
+    push_reads(&mut arcs, commands, names, graph.reads.as_slice())?;
     let weights = node_weights(alloc, program, graph.writes.as_slice(), nodes)?;
     let starts = load_nodes(alloc, graph.loads.as_slice())?;
-    let ends = sink_nodes(alloc, commands, graph.sinks.as_slice())?;
+    let ends = sink_nodes(alloc, commands, names, graph.sinks.as_slice())?;
     Ok(Network {
         weights: List::of(weights),
         arcs: List::of(arcs),
@@ -70,27 +74,39 @@ fn no_weights(alloc: Global, count: u32) -> Result<Vec<Option<u64>>, NoMemory>
 }
 
 /// Appends an arc from each site to what it writes.
-fn push_writes(arcs: &mut Vec<Arc>, commands: u32, writes: &[Write]) -> Result<(), NoMemory>
-    requires { All (λ w. commands + w.var.0 < 2 ^ 32) writes.now }
-    ensures { OnOk result (arcs.new.items ≡ arcs.old.items ++ map (write_arc commands) writes.now) }
+fn push_writes(
+    arcs: &mut Vec<Arc>,
+    commands: u32,
+    names: &Names,
+    writes: &[Write],
+) -> Result<(), NoMemory>
+    requires rise { AllPairs (λ x y. x < y) names.now }
+    requires has { All (λ w. Contains names.now w.var.0 × (commands + place_of names.now w.var.0 < 2 ^ 32)) writes.now }
+    ensures { OnOk result (arcs.new.items ≡ arcs.old.items ++ map (write_arc names.now commands) writes.now) }
 {
     for write in writes {
         arcs.push(Arc {
             from: write.at.0,
-            to: commands + write.var.0,
+            to: commands + names.number_of(write.var.0),
         })?;
     }
     Ok(())
 }
 
 /// Appends an arc to each site from what it reads.
-fn push_reads(arcs: &mut Vec<Arc>, commands: u32, reads: &[Read]) -> Result<(), NoMemory>
-    requires { All (λ r. commands + r.var.0 < 2 ^ 32) reads.now }
-    ensures { OnOk result (arcs.new.items ≡ arcs.old.items ++ map (read_arc commands) reads.now) }
+fn push_reads(
+    arcs: &mut Vec<Arc>,
+    commands: u32,
+    names: &Names,
+    reads: &[Read],
+) -> Result<(), NoMemory>
+    requires rise { AllPairs (λ x y. x < y) names.now }
+    requires has { All (λ r. Contains names.now r.var.0 × (commands + place_of names.now r.var.0 < 2 ^ 32)) reads.now }
+    ensures { OnOk result (arcs.new.items ≡ arcs.old.items ++ map (read_arc names.now commands) reads.now) }
 {
     for read in reads {
         arcs.push(Arc {
-            from: commands + read.var.0,
+            from: commands + names.number_of(read.var.0),
             to: read.at.0,
         })?;
     }
@@ -109,13 +125,19 @@ fn load_nodes(alloc: Global, loads: &[Pos]) -> Result<Vec<u32>, NoMemory>
 }
 
 /// The nodes of the variables that sinks read.
-fn sink_nodes(alloc: Global, commands: u32, sinks: &[SinkUse]) -> Result<Vec<u32>, NoMemory>
-    requires { All (λ s. commands + s.var.0 < 2 ^ 32) sinks.now }
-    ensures { IfOk result (λ nodes. nodes.items ≡ map (sink_node commands) sinks.now) }
+fn sink_nodes(
+    alloc: Global,
+    commands: u32,
+    names: &Names,
+    sinks: &[SinkUse],
+) -> Result<Vec<u32>, NoMemory>
+    requires rise { AllPairs (λ x y. x < y) names.now }
+    requires has { All (λ s. Contains names.now s.var.0 × (commands + place_of names.now s.var.0 < 2 ^ 32)) sinks.now }
+    ensures { IfOk result (λ nodes. nodes.items ≡ map (sink_node names.now commands) sinks.now) }
 {
     let mut nodes = Vec::with_capacity(alloc, sinks.len())?;
     for sink in sinks {
-        nodes.push(commands + sink.var.0)?;
+        nodes.push(commands + names.number_of(sink.var.0))?;
     }
     Ok(nodes)
 }

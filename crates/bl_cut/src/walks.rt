@@ -1,25 +1,27 @@
 //! Walks in the network, read back as chains of sites.
-ghost use Rattle.std.specs.Prelude.{◌≡◌, ◌<◌, All, IfOk, length, map};
+ghost use Rattle.std.specs.Prelude.{◌≡◌, ◌<◌, ◌^◌, All, AllPairs, Contains, IfOk, length, map};
 ghost use Rattle.bl_cut.specs.Choices.{EndsAtVar, KnowsIn, path_of, positions, sites_in};
 
 use bl_base::{List, NoMemory, Pos};
 use bl_flow::NodePath;
-use bl_graph::{FlowPath, SinkUse};
+use bl_graph::{FlowPath, Names, SinkUse};
 use std::alloc::Global;
 
-/// For each variable the position of a sink that reads it; 0 where none does.
+/// For each name, by its number, the position of a sink that reads it; 0 where none does.
 pub(crate) fn sinks_by_variable(
     alloc: Global,
-    count: u32,
+    names: &Names,
     sinks: &[SinkUse],
 ) -> Result<Vec<u32>, NoMemory>
-    requires { All (λ s. s.var.0 < count) sinks.now }
-    ensures places { IfOk result (λ found. length found.items ≡ count) }
-    ensures some { IfOk result (λ found. KnowsIn sinks.now found.items) }
+    requires few { length names.now < 2 ^ 32 }
+    requires rise { AllPairs (λ x y. x < y) names.now }
+    requires has { All (λ s. Contains names.now s.var.0) sinks.now }
+    ensures places { IfOk result (λ found. length found.items ≡ length names.now) }
+    ensures some { IfOk result (λ found. KnowsIn names.now sinks.now found.items) }
 {
-    let mut found = vec![in alloc; 0u32; count as usize]?;
+    let mut found = vec![in alloc; 0u32; names.len() as usize]?;
     for sink in sinks {
-        found[sink.var.0 as usize] = sink.at.0;
+        found[names.number_of(sink.var.0) as usize] = sink.at.0;
     }
     Ok(found)
 }

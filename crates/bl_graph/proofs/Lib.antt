@@ -3,6 +3,7 @@ pub mod Counting
 pub mod Firsts
 pub mod Flowing
 pub mod Members
+pub mod Naming
 pub mod Placing
 pub mod Ranging
 pub mod Reasons

@@ -4,6 +4,7 @@ pub mod Chains
 pub mod Firsts
 pub mod Graphs
 pub mod Labels
+pub mod Names
 pub mod Ranges
 pub mod Rows
 pub mod SecretChains

@@ -1,11 +1,11 @@
 -- A drive: the machine with directives that a predictor chooses, and a cache.
-use Rattle.std.specs.Prelude.{◌≡◌, ℕ, zero, suc, ◌+◌, ◌-◌, ◌%◌, ◌<◌, ◌≤◌, ◌^◌, min, not, nat_le, Bool, true, false, if◌then◌else◌, List, [], ◌∷◌, ◌++◌, replicate, set, Option, Some, None, slice_get, slice_index, get_or}
+use Rattle.std.specs.Prelude.{◌≡◌, ℕ, zero, suc, ◌+◌, ◌-◌, ◌%◌, ◌<◌, ◌≤◌, ◌^◌, ◌&&◌, min, not, nat_le, Bool, true, false, if◌then◌else◌, List, [], ◌∷◌, ◌++◌, replicate, set, Option, Some, None, slice_get, slice_index, get_or}
 use Rattle.std.specs.List.{find, range_with_len}
 use Rattle.bl_base.specs.Runs.{outcome_of}
 use Rattle.bl_base.specs.declared.start.Start.{Start}
 use Rattle.bl_cmd.specs.declared.definitions.ProgramParts.{ProgramParts as Program}
-use Rattle.bl_rob.specs.CallResults.{is_enabled, outcome_in, position_of, shown}
-use Rattle.bl_rob.specs.Machines.{State, opening, directive_step, end_in}
+use Rattle.bl_rob.specs.CallResults.{is_enabled, is_some, outcome_in, position_of, shown}
+use Rattle.bl_rob.specs.Machines.{State, opening, directive_step, end_in, exec_entry}
 use Rattle.bl_rob.specs.declared.directive.Directive.{Directive}
 use Rattle.bl_rob.specs.declared.directive.Directive.TheVariants.{Fetch, Predict, Exec, Retire}
 use Rattle.bl_rob.specs.declared.directive.End.{End}
@@ -189,6 +189,15 @@ execution_of true enabled = execution.Reading
 execution_of false true = execution.Enabled
 execution_of false false = execution.Disabled
 
+-- what is told of it, where one that doesn't read is wanted or isn't
+abbrev pub execution_by : Bool → Option (State × Observation) → Execution
+execution_by wanted step = execution_of (shows_read step) (wanted && is_some step)
+
+-- the same of the entry at a place, where there is one
+abbrev pub execution_at : Program → State → ℕ → Bool → Option Entry → Execution
+execution_at program s n wanted None = execution.Absent
+execution_at program s n wanted (Some entry) = execution_by wanted (exec_entry program n s (Some entry))
+
 -- what a driver has come to
 abbrev pub driving_in : Driver → Driving
 driving_in driver = record {
@@ -239,3 +248,15 @@ is_load kind.Store = false
 is_load kind.Ready = false
 is_load (kind.Guard predicted) = false
 is_load kind.Fail = false
+
+-- an entry of that kind is looked at, where one that doesn't read is wanted or isn't: not what has nothing left to execute
+abbrev pub is_asked : Kind → Bool → Bool
+is_asked kind.Load wanted = true
+is_asked kind.Nop wanted = false
+is_asked kind.Assign wanted = wanted
+is_asked kind.Held wanted = wanted
+is_asked kind.Done wanted = false
+is_asked kind.Store wanted = wanted
+is_asked kind.Ready wanted = false
+is_asked (kind.Guard predicted) wanted = wanted
+is_asked kind.Fail wanted = false

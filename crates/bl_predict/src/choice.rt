@@ -1,17 +1,19 @@
 //! What a drive does next.
-ghost use Rattle.std.specs.Prelude.{◌≡◌, length};
+ghost use Rattle.std.specs.Prelude.{◌≡◌, length, slice_get};
 ghost use Rattle.std.specs.Option.{option_or};
 ghost use Rattle.bl_rob.specs.CallResults.{is_enabled, position_of, shown};
 ghost use Rattle.bl_rob.specs.Machines.{directive_step};
 ghost use Rattle.bl_rob.specs.declared.directive.Directive.TheVariants.{Exec};
-ghost use Rattle.bl_predict.specs.Drives.{chosen, guess_at, is_load, least, execution_of, shows_read};
+ghost use Rattle.bl_predict.specs.Drives.{chosen, execution_at, guess_at, is_asked, is_load, least, shows_read};
 
 use bl_rob::{Directive, Kind, Rob};
 
 /// What the execution of an entry would be.
 #[derive(Clone, Copy)]
 pub(crate) enum Execution {
-    /// It isn't enabled.
+    /// There is no such entry.
+    Absent,
+    /// It isn't enabled, or it doesn't read and isn't wanted.
     Disabled,
     /// It is enabled.
     Enabled,
@@ -26,40 +28,49 @@ fn is_load(kind: Kind) -> bool
     matches!(kind, Kind::Load)
 }
 
-/// Whether the execution of an entry is enabled and observed as a read.
-fn reads(rob: &Rob<'_, 64>, n: u32) -> bool
-    ensures { result ≡ shows_read (directive_step 64 rob.now.program (shown rob.now.machine) (Exec n)) }
+/// Whether to ask what the execution of an entry of that kind would be, where one that doesn't read is wanted or isn't: what
+/// has nothing left to execute isn't asked.
+fn is_asked(kind: Kind, wanted: bool) -> bool
+    ensures { result ≡ is_asked kind wanted }
 {
-    match rob.entry(n) {
-        Some((_, kind)) => is_load(kind) && rob.enabled(Directive::Exec(n)),
-        None => false,
+    match kind {
+        Kind::Load => true,
+        Kind::Assign | Kind::Held | Kind::Store | Kind::Guard(_) => wanted,
+        Kind::Nop | Kind::Done | Kind::Ready | Kind::Fail => false,
     }
 }
 
-/// What the execution of an entry would be.
-fn look_at(rob: &Rob<'_, 64>, n: u32) -> Execution
-    ensures { result ≡ execution_of (shows_read (directive_step 64 rob.now.program (shown rob.now.machine) (Exec n)))
-        (is_enabled 64 rob.now.program (shown rob.now.machine) (Exec n)) }
+/// What the execution of an entry would be, where one that doesn't read is wanted or isn't.
+fn look_at(rob: &Rob<'_, 64>, n: u32, wanted: bool) -> Execution
+    ensures { result ≡ execution_at rob.now.program (shown rob.now.machine) n wanted (slice_get (shown rob.now.machine).buffer n) }
 {
-    if reads(rob, n) {
+    let Some((_, kind)) = rob.entry(n) else {
+        return Execution::Absent;
+    };
+    if !is_asked(kind, wanted) {
+        return Execution::Disabled;
+    }
+    if !rob.enabled(Directive::Exec(n)) {
+        return Execution::Disabled;
+    }
+    if is_load(kind) {
         Execution::Reading
-    } else if rob.enabled(Directive::Exec(n)) {
-        Execution::Enabled
     } else {
-        Execution::Disabled
+        Execution::Enabled
     }
 }
 
-/// The least entry whose execution reads, else the least one that can be executed: one pass over the buffer.
+/// The least entry whose execution reads, else the least one that can be executed: one pass over the buffer, to its end.
 fn next_execution(rob: &Rob<'_, 64>, count: u32) -> Option<u32>
     ensures { result ≡ option_or (least (λ n. shows_read (directive_step 64 rob.now.program (shown rob.now.machine) (Exec n))) count)
         (least (λ n. is_enabled 64 rob.now.program (shown rob.now.machine) (Exec n)) count) }
 {
     let mut first = None;
     for n in 0..count {
-        match look_at(rob, n) {
+        match look_at(rob, n, first.is_none()) {
+            Execution::Absent => return first,
             Execution::Reading => return Some(n),
-            Execution::Enabled => first = first.or(Some(n)),
+            Execution::Enabled => first = Some(n),
             Execution::Disabled => {}
         }
     }
@@ -77,7 +88,8 @@ fn guess(counters: &[u8], rob: &Rob<'_, 64>) -> bool
     }
 }
 
-/// The next directive; None where none is enabled. At most 64 tests, each of at most 64 entries.
+/// The next directive; None where none is enabled. One pass over the entries: those with something left to execute are tested, each
+/// against the entries before it, and behind the first that can be executed loads alone are.
 pub(crate) fn choose(counters: &[u8], rob: &Rob<'_, 64>) -> Option<Directive>
     requires { length counters.now ≡ 1024 }
     ensures { result ≡ chosen rob.now.program counters.now (shown rob.now.machine) }

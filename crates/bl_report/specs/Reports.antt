@@ -1,5 +1,5 @@
 -- The report of a program with protects, and of a certificate that shows them to be the least. Every line ends with a line feed.
-use Rattle.std.specs.Prelude.{◌≡◌, ℕ, Bool, IsTrue, List, [], ◌∷◌, ◌++◌, length, codes, count_by, nat_eq, unwrap_or, Option, Some}
+use Rattle.std.specs.Prelude.{◌≡◌, ℕ, Bool, IsTrue, List, [], ◌∷◌, ◌++◌, length, codes, count_by, nat_eq, unwrap_or, Option, Some, None}
 use Rattle.std.specs.Fmt.{decimal}
 use Rattle.std.specs.List.{Contains, filter, find, flat_map, list_any, range_with_len}
 use Rattle.std.specs.Option.{is_some, option_map_or}
@@ -14,7 +14,7 @@ use Rattle.bl_graph.specs.declared.secret.Origin.{Origin}
 use Rattle.bl_graph.specs.declared.secret.Origin.TheVariants.{Parameter, Global, Memory}
 use Rattle.bl_graph.specs.declared.secret.SecretChain.{SecretChain}
 use Rattle.bl_ct.specs.declared.verdict.CtVerdict.{CtVerdict}
-use Rattle.bl_ct.specs.declared.verdict.CtVerdict.TheVariants.{Yes, No}
+use Rattle.bl_ct.specs.Verdicts.{chain_in}
 use Rattle.bl_outcome.specs.Lines.{line}
 
 -- ---- sites and protects
@@ -93,15 +93,24 @@ abbrev pub chain_text : SecretChain → List ℕ
 chain_text chain = origin_text chain.origin ++ through_text chain.through ++ codes " end " ++ decimal chain.end.0
 
 -- the line on constant time: that the program is so, or the way of a secret that shows that it isn't
+abbrev pub chain_line : Option SecretChain → List ℕ
+chain_line None = line (codes "constant-time yes")
+chain_line (Some chain) = line (codes "constant-time no " ++ chain_text chain)
+
 abbrev pub constant_time_text : CtVerdict → List ℕ
-constant_time_text (Yes labels) = line (codes "constant-time yes")
-constant_time_text (No chain) = line (codes "constant-time no " ++ chain_text chain)
+constant_time_text verdict = chain_line (chain_in verdict)
 
 -- the report: the counts, a line for each protect, and the line on constant time
+abbrev pub report_of : Program → Certificate → Option SecretChain → List ℕ
+report_of program certificate chain =
+    counts_text program ++ flat_map (protect_text program certificate.paths) (protects program) ++ chain_line chain
+
 abbrev pub report_text : Program → Certificate → CtVerdict → List ℕ
-report_text program certificate verdict =
-    counts_text program ++ flat_map (protect_text program certificate.paths) (protects program) ++ constant_time_text verdict
+report_text program certificate verdict = report_of program certificate (chain_in verdict)
 
 -- the report without its lines of protects
+abbrev pub summary_of : Program → Option SecretChain → List ℕ
+summary_of program chain = counts_text program ++ chain_line chain
+
 abbrev pub summary_text : Program → CtVerdict → List ℕ
-summary_text program verdict = counts_text program ++ constant_time_text verdict
+summary_text program verdict = summary_of program (chain_in verdict)

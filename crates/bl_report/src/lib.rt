@@ -9,5 +9,5 @@ mod sites;
 mod text;
 mod verdicts;
 
-pub use text::{report, summary};
-pub use verdicts::verdicts_text;
+pub use text::{report, report_of, summary, summary_of};
+pub use verdicts::{verdicts_text, verdicts_text_of};

@@ -1,12 +1,11 @@
 //! The line on constant time.
-ghost use Rattle.std.specs.Prelude.{◌≡◌, ◌++◌, IfOk, codes};
+ghost use Rattle.std.specs.Prelude.{◌≡◌, ◌++◌, IfOk, codes, option_map};
 ghost use Rattle.std.specs.Fmt.{decimal};
 ghost use Rattle.bl_outcome.specs.Lines.{line};
-ghost use Rattle.bl_report.specs.Reports.{chain_text, constant_time_text, origin_text, through_text};
+ghost use Rattle.bl_report.specs.Reports.{chain_line, chain_text, origin_text, through_text};
 
 use crate::lines::push_places;
 use bl_base::{NoMemory, Pos};
-use bl_ct::CtVerdict;
 use bl_graph::{Origin, SecretChain};
 use std::alloc::Global;
 
@@ -15,13 +14,13 @@ use std::alloc::Global;
 pub(crate) fn push_constant_time(
     alloc: Global,
     text: &mut Vec<u8>,
-    verdict: &CtVerdict,
+    chain: Option<&SecretChain>,
 ) -> Result<(), NoMemory>
-    ensures { IfOk result (λ _. text.new.items ≡ text.old.items ++ constant_time_text verdict.now) }
+    ensures { IfOk result (λ _. text.new.items ≡ text.old.items ++ chain_line (option_map (λ chain. chain.now) chain.entry)) }
 {
-    match verdict {
-        CtVerdict::Yes(_) => text.extend_from_slice(b"constant-time yes\n")?,
-        CtVerdict::No(chain) => push_chain(alloc, text, chain)?,
+    match chain {
+        None => text.extend_from_slice(b"constant-time yes\n")?,
+        Some(chain) => push_chain(alloc, text, chain)?,
     }
     Ok(())
 }

@@ -1,10 +1,11 @@
 //! The text of the verdicts on a program and a certificate.
-ghost use Rattle.std.specs.Prelude.{◌≡◌, IfOk};
-ghost use Rattle.bl_report.specs.Verdicts.{certificate_line, safe_line, stable_line, verdicts_text};
+ghost use Rattle.std.specs.Prelude.{◌≡◌, IfOk, option_map};
+ghost use Rattle.bl_report.specs.Verdicts.{both_line, certificate_line, leak_line, verdicts_of, verdicts_text};
 
 use crate::secrets::push_constant_time;
-use bl_base::{NoMemory, Text};
+use bl_base::{NoMemory, Pos, Text};
 use bl_ct::CtVerdict;
+use bl_graph::SecretChain;
 use bl_transient::FlowVerdict;
 use bl_witness::CertVerdict;
 use std::alloc::Global;
@@ -20,11 +21,28 @@ pub fn verdicts_text(
 ) -> Result<Text, NoMemory>
     ensures { IfOk result (λ text. text ≡ verdicts_text rules.now flow.now labels.now) }
 {
+    let leak = match flow {
+        FlowVerdict::Yes(_) => None,
+        FlowVerdict::No(position) => Some(*position),
+    };
+    verdicts_text_of(alloc, rules, leak, labels.chain())
+}
+
+/// The same by the first sink that reads a transient variable, or by none where the protects pass, and by a secret chain, or by none
+/// where the program is constant-time.
+pub fn verdicts_text_of(
+    alloc: Global,
+    rules: &CertVerdict,
+    leak: Option<Pos>,
+    chain: Option<&SecretChain>,
+) -> Result<Text, NoMemory>
+    ensures { IfOk result (λ text. text ≡ verdicts_of rules.now leak (option_map (λ chain. chain.now) chain.entry)) }
+{
     let mut text = certificate_line(alloc, rules)?;
-    let stable = stable_line(alloc, flow)?;
+    let stable = stable_line(alloc, leak)?;
     text.extend_from_slice(&stable)?;
-    push_constant_time(alloc, &mut text, labels)?;
-    text.extend_from_slice(safe_line(flow, labels))?;
+    push_constant_time(alloc, &mut text, chain)?;
+    text.extend_from_slice(safe_line(leak, chain))?;
     Ok(Text::of(text))
 }
 
@@ -41,24 +59,21 @@ fn certificate_line(alloc: Global, rules: &CertVerdict) -> Result<Vec<u8>, NoMem
 }
 
 /// The line on the transient rules.
-fn stable_line(alloc: Global, flow: &FlowVerdict) -> Result<Vec<u8>, NoMemory>
-    ensures { IfOk result (λ text. text.items ≡ stable_line flow.now) }
+fn stable_line(alloc: Global, leak: Option<Pos>) -> Result<Vec<u8>, NoMemory>
+    ensures { IfOk result (λ text. text.items ≡ leak_line leak) }
 {
-    match flow {
-        FlowVerdict::Yes(_) => Ok(b"stable yes\n".to_vec(alloc)?),
-        FlowVerdict::No(position) => Ok(format!(in alloc;
-            "stable no {}\n",
-            position.0
-        )?.into_bytes()),
+    match leak {
+        None => Ok(b"stable yes\n".to_vec(alloc)?),
+        Some(position) => Ok(format!(in alloc; "stable no {}\n", position.0)?.into_bytes()),
     }
 }
 
 /// The line on both the transient rules and the label rules.
-fn safe_line(flow: &FlowVerdict, labels: &CtVerdict) -> &'static [u8]
-    ensures { result.now ≡ safe_line flow.now labels.now }
+fn safe_line(leak: Option<Pos>, chain: Option<&SecretChain>) -> &'static [u8]
+    ensures { result.now ≡ both_line leak (option_map (λ chain. chain.now) chain.entry) }
 {
-    match (flow, labels) {
-        (FlowVerdict::Yes(_), CtVerdict::Yes(_)) => b"safe yes\n",
+    match (leak, chain) {
+        (None, None) => b"safe yes\n",
         _ => b"safe no\n",
     }
 }

@@ -1,8 +1,9 @@
 -- What is visible is what the last writer has.
-use Rattle.std.proofs.Common.{◌≡◌, ◌↔◌, ◌⊎◌, ℕ, Bool, true, false, List, [], ◌∷◌, ◌++◌, Option, Some, None, refl, sym, ap, subst, ◌∙◌, inl, inr}
+use Rattle.std.proofs.Common.{◌≡◌, ◌↔◌, ◌⊎◌, ◌-◌, ◌<◌, ◌≤◌, ℕ, suc, Bool, true, false, List, [], ◌∷◌, ◌++◌, length, take, drop, get_or, Option, Some, None, refl, sym, ap, subst, ◌∙◌, inl, inr, arith}
 use Rattle.std.specs.List.{fold}
 use Rattle.std.proofs.lemmas.Bool.{cond-true, cond-false}
 use Rattle.std.proofs.lemmas.List.Elements.{All-cons, All-head, All-nil, All-tail}
+use Rattle.std.proofs.Math.Seq.{drop-cons, split_at}
 use Rattle.bl_cmd.specs.Steps.{Registers}
 use Rattle.bl_rob.specs.LastWriters.{NoneWrites, Sees, is_target, target_of, unwritten, value_of, writes, written}
 use Rattle.bl_rob.specs.Machines.{behind, is_at, visible}
@@ -97,3 +98,47 @@ sees_last registers entries x answer = (
   λ is. subst (Sees registers entries x) is (sees x registers entries (last_writer x entries)),
   seen x registers entries answer,
 )
+
+-- ---- found from the last entry on
+
+-- none of the entries from a place on writes a register
+pub record Unwritten (entries : List Entry) (x : Register) (left : ℕ) : Type 0 where
+  pub within : left ≤ length entries
+  pub none : NoneWrites (drop left entries) x
+
+module _ (entries : List Entry) (x : Register) where
+  drop_all : (entries : List Entry) → drop (length entries) entries ≡ []
+  drop_all [] = refl
+  drop_all (entry ∷ entries) = drop_all entries
+
+  pub unwritten_begins : Unwritten entries x (length entries)
+  unwritten_begins = record {
+    within = omega arith;
+    none = subst (λ es. NoneWrites es x) (sym (drop_all entries)) (All-nil (λ entry. writes entry x ≡ false));
+  }
+
+  module _ (left : ℕ) (entry : Entry) (u : Unwritten entries x left) (some : 0 < left) (is : entry ≡ get_or entries (left - 1) entry) where
+    next : suc (left - 1) ≡ left
+    next = omega (arith, some)
+
+    inside : left - 1 < length entries
+    inside = omega (arith, some, u.within)
+
+    behind_it : drop (left - 1) entries ≡ entry ∷ drop left entries
+    behind_it = drop-cons entries (left - 1) entry inside ∙ (λ i. sym is i ∷ drop (next i) entries)
+
+    cut : entries ≡ take (left - 1) entries ++ entry ∷ drop left entries
+    cut = split_at entries (left - 1) entry inside ∙ (λ i. take (left - 1) entries ++ sym is i ∷ drop (next i) entries)
+
+    pub unwritten_more : writes entry x ≡ false → Unwritten entries x (left - 1)
+    unwritten_more other = record {
+      within = omega (arith, u.within);
+      none = subst (λ es. NoneWrites es x) (sym behind_it) (All-cons (λ entry. writes entry x ≡ false) entry (drop left entries) other u.none);
+    }
+
+    pub written_here : (registers : Registers) → writes entry x ≡ true → value_of entry.work ≡ visible registers entries x
+    written_here registers here = sym (seen x registers entries (value_of entry.work) (written (take (left - 1) entries) entry (drop left entries) cut here u.none))
+
+  pub unwritten_whole : (registers : Registers) (left : ℕ) → left ≡ 0 → Unwritten entries x left → Some (registers x.depth x.var) ≡ visible registers entries x
+  unwritten_whole registers left none u =
+      sym (seen x registers entries (Some (registers x.depth x.var)) (unwritten (subst (λ k. NoneWrites (drop k entries) x) none u.none)))

@@ -1,5 +1,5 @@
 //! The machine between two steps, and what executing an entry of it comes to.
-ghost use Rattle.std.specs.Prelude.{◌≡◌, ◌≤◌, ◌<◌, ◌^◌, IfOk, length};
+ghost use Rattle.std.specs.Prelude.{◌≡◌, ◌≤◌, ◌<◌, ◌^◌, IfOk, Some, length};
 ghost use Rattle.bl_cmd.specs.Outcomes.{IsStart};
 ghost use Rattle.bl_cmd.specs.Sites.{is_division};
 ghost use Rattle.bl_cmd.specs.Steps.{effective};
@@ -195,9 +195,15 @@ impl Machine {
         ensures { result ≡ assigns (guards before.now) protect op to (visible_of (shown self.now).registers before.now a)
             (visible_of (shown self.now).registers before.now b) (visible_of (shown self.now).registers before.now c) }
     {
-        let a = visible_of(&self.registers, before, a);
-        let b = visible_of(&self.registers, before, b);
-        let c = visible_of(&self.registers, before, c);
+        let Some(a) = visible_of(&self.registers, before, a) else {
+            return Act::Idle;
+        };
+        let Some(b) = visible_of(&self.registers, before, b) else {
+            return Act::Idle;
+        };
+        let Some(c) = visible_of(&self.registers, before, c) else {
+            return Act::Idle;
+        };
         assign(before, protect, op, to, a, b, c)
     }
 
@@ -217,8 +223,12 @@ impl Machine {
         ensures { result ≡ stores layout.now.parts.now (guards before.now) kind memory offset
             (visible_of (shown self.now).registers before.now address) (visible_of (shown self.now).registers before.now value) }
     {
-        let address = visible_of(&self.registers, before, address);
-        let value = visible_of(&self.registers, before, value);
+        let Some(address) = visible_of(&self.registers, before, address) else {
+            return Act::Idle;
+        };
+        let Some(value) = visible_of(&self.registers, before, value) else {
+            return Act::Idle;
+        };
         store(layout, before, kind, memory, offset, address, value)
     }
 
@@ -255,28 +265,11 @@ impl Machine {
     }
 }
 
-/// A pending assignment behind those entries, where its operands are visible or aren't.
-fn assign(
-    before: &[Entry],
-    protect: bool,
-    op: Op,
-    to: Register,
-    a: Option<u64>,
-    b: Option<u64>,
-    c: Option<u64>,
-) -> Act
+/// A pending assignment behind those entries, with operands that are visible.
+fn assign(before: &[Entry], protect: bool, op: Op, to: Register, a: u64, b: u64, c: u64) -> Act
     requires { length before.now ≤ 64 }
-    ensures { result ≡ assigns (guards before.now) protect op to a b c }
+    ensures { result ≡ assigns (guards before.now) protect op to (Some a) (Some b) (Some c) }
 {
-    let Some(a) = a else {
-        return Act::Idle;
-    };
-    let Some(b) = b else {
-        return Act::Idle;
-    };
-    let Some(c) = c else {
-        return Act::Idle;
-    };
     let work = valued(protect, to, eval(op, a, b, c));
     if !is_division(op) {
         return Act::Becomes(work, Observation::Nothing);
@@ -289,26 +282,20 @@ fn assign(
     Act::Becomes(work, observation)
 }
 
-/// A pending store behind those entries, where its address and its value are visible or aren't.
+/// A pending store behind those entries, with an address and a value that are visible.
 fn store(
     layout: &Layout,
     before: &[Entry],
     kind: AccessKind,
     memory: u32,
     offset: u32,
-    address: Option<u64>,
-    value: Option<u64>,
+    address: u64,
+    value: u64,
 ) -> Act
     requires layout { IsLayout layout.now }
     requires few { length before.now ≤ 64 }
-    ensures { result ≡ stores layout.now.parts.now (guards before.now) kind memory offset address value }
+    ensures { result ≡ stores layout.now.parts.now (guards before.now) kind memory offset (Some address) (Some value) }
 {
-    let Some(address) = address else {
-        return Act::Idle;
-    };
-    let Some(value) = value else {
-        return Act::Idle;
-    };
     let from = effective(layout, memory, offset, address);
     Act::Becomes(
         Work::Ready {

@@ -1,7 +1,8 @@
 //! What is visible behind entries of the buffer.
 ghost use Rattle.std.specs.Prelude.{◌≡◌, ◌≤◌, length};
 ghost use Rattle.bl_seq.specs.Filled.{register_at};
-ghost use Rattle.bl_rob.specs.Machines.{behind, guards, has_guard, has_store, is_at, is_guard, is_store, visible, visible_of};
+ghost use Rattle.bl_rob.specs.LastWriters.{is_target, target_of, value_of};
+ghost use Rattle.bl_rob.specs.Machines.{guards, has_guard, has_store, is_at, is_guard, is_store, visible, visible_of};
 
 use crate::entry::{Entry, Register, Source, Work};
 use bl_seq::Registers;
@@ -16,20 +17,37 @@ impl Register {
 }
 
 impl Work {
-    /// The value of a register behind it, where it has that value before it; None where the value isn't visible.
-    fn behind(&self, x: Register, found: Option<u64>) -> Option<u64>
-        ensures { result ≡ behind x found self.now }
+    /// Whether it writes a register.
+    fn writes(&self, x: Register) -> bool
+        ensures { result ≡ is_target (target_of self.now) x }
     {
         match self {
-            Work::Assign { to, .. } => if to.is(x) { None } else { found },
-            Work::Load { to, .. } => if to.is(x) { None } else { found },
-            Work::Held { to, .. } => if to.is(x) { None } else { found },
-            Work::Done { to, value } => if to.is(x) { Some(*value) } else { found },
+            Work::Assign { to, .. }
+            | Work::Load { to, .. }
+            | Work::Held { to, .. }
+            | Work::Done { to, .. } => to.is(x),
             Work::Nop
             | Work::Store { .. }
             | Work::Ready { .. }
             | Work::Guard { .. }
-            | Work::Fail(_) => found,
+            | Work::Fail(_) => false,
+        }
+    }
+
+    /// Its value, where it is done; a held one isn't.
+    fn value(&self) -> Option<u64>
+        ensures { result ≡ value_of self.now }
+    {
+        match self {
+            Work::Done { value, .. } => Some(*value),
+            Work::Held { .. } => None,
+            Work::Nop
+            | Work::Assign { .. }
+            | Work::Load { .. }
+            | Work::Store { .. }
+            | Work::Ready { .. }
+            | Work::Guard { .. }
+            | Work::Fail(_) => None,
         }
     }
 
@@ -48,15 +66,19 @@ impl Work {
     }
 }
 
-/// The value of a register behind these entries, where it is visible.
+/// The value of a register behind these entries, where it is visible: the last one that writes it decides, and none before it is looked at.
 pub fn visible(registers: &Registers, entries: &[Entry], x: Register) -> Option<u64>
     ensures { result ≡ visible (λ depth v. register_at registers.now depth v) entries.now x }
 {
-    let mut found = Some(registers.at(x.depth as usize, x.var));
-    for entry in entries {
-        found = entry.work.behind(x, found);
+    let mut left = entries.len();
+    while left > 0 {
+        left -= 1;
+        let entry = &entries[left];
+        if entry.work.writes(x) {
+            return entry.work.value();
+        }
     }
-    found
+    Some(registers.at(x.depth as usize, x.var))
 }
 
 /// The value of a source behind these entries, where it is visible.

@@ -5,13 +5,13 @@ ghost use Rattle.bl_cmd.specs.Sites.{is_protected};
 ghost use Rattle.bl_graph.specs.Graphs.{IsGraph};
 ghost use Rattle.bl_graph.specs.Labels.{ConstantTime};
 ghost use Rattle.bl_sct.specs.Verdicts.{Assesses};
-ghost use Rattle.bl_transient.specs.Verdicts.{Judges};
+ghost use Rattle.bl_transient.specs.Verdicts.{IsFirstLeak, Judges};
 
 use bl_base::{NoMemory, Pos, SiteSet};
 use bl_cmd::{ProgramParts, WellFormed};
-use bl_ct::{CtVerdict, constant_time};
+use bl_ct::secret_chain_of;
 use bl_graph::{Graph, SecretChain, graph};
-use bl_transient::{FlowVerdict, flows_of};
+use bl_transient::{FlowVerdict, first_leak_of, flows_of};
 use bl_witness::is_protected;
 use std::alloc::Global;
 
@@ -28,15 +28,15 @@ pub enum Verdict {
 }
 
 /// The verdict on a program with its own marks. Where it is `Safe`, two runs from starts that agree in public are observed
-/// alike, whatever the directives and the size of the buffer. Linear in the program and in the number of its declared
-/// variables. Want of memory is the only error.
+/// alike, whatever the directives and the size of the buffer. Linear in the program, up to a sort where it declares many more
+/// variables than it has commands; takes no memory for a variable that is declared alone. Want of memory is the only error.
 pub fn assess(alloc: Global, program: &WellFormed) -> Result<Verdict, NoMemory>
     ensures { IfOk result (λ verdict. Assesses program.now verdict) }
 {
     let graph = graph(alloc, program)?;
-    match constant_time(alloc, program, &graph)? {
-        CtVerdict::Yes(_) => assess_labelled(alloc, program, &graph),
-        CtVerdict::No(chain) => Ok(Verdict::NotConstantTime(chain)),
+    match secret_chain_of(alloc, program, &graph)? {
+        None => assess_labelled(alloc, program, &graph),
+        Some(chain) => Ok(Verdict::NotConstantTime(chain)),
     }
 }
 
@@ -48,11 +48,27 @@ fn assess_labelled(alloc: Global, program: &WellFormed, graph: &Graph) -> Result
 {
     // What is known of the program is read with it.
     let _parts = program.program().parts();
-    let flow = stability_of(alloc, program, graph)?;
-    match flow {
-        FlowVerdict::Yes(_) => Ok(Verdict::Safe),
-        FlowVerdict::No(position) => Ok(Verdict::NotStable(position)),
+    let leak = own_leak_of(alloc, program, graph)?;
+    match leak {
+        None => Ok(Verdict::Safe),
+        Some(position) => Ok(Verdict::NotStable(position)),
     }
+}
+
+/// The least position of a sink that reads a variable which is transient by a program's own marks, if there is one. It takes the
+/// program's graph, which callers need as well. Linear in the program; where its commands name few of its variables it costs a
+/// sort of the graph's lists instead of what is linear in the variables. Want of memory is the only error.
+pub fn own_leak_of(
+    alloc: Global,
+    program: &WellFormed,
+    graph: &Graph,
+) -> Result<Option<Pos>, NoMemory>
+    requires { IsGraph program.now graph.now }
+    ensures { IfOk result (λ leak. IsFirstLeak program.now (is_protected program.now) leak) }
+{
+    let parts = program.program().parts();
+    let protects = own_protects(alloc, parts, parts.commands.len() as u32)?;
+    first_leak_of(alloc, program, graph, &protects)
 }
 
 /// Whether a program's own marks pass the transient rules: the least flow typing, or the least position of a sink that reads a

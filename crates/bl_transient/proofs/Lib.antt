@@ -3,5 +3,6 @@ pub mod Free
 pub mod Judging
 pub mod Marks
 pub mod Meeting
+pub mod Named
 pub mod Tests
 pub mod Typings

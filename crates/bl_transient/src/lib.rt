@@ -6,4 +6,4 @@ mod moves;
 mod search;
 mod transient;
 
-pub use transient::{FlowVerdict, flows, flows_of};
+pub use transient::{FlowVerdict, first_leak_of, flows, flows_of};

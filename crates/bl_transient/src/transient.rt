@@ -1,18 +1,19 @@
 //! Which variables are transient, where a set of sites is protected.
-ghost use Rattle.std.specs.Prelude.{◌≡◌, ◌<◌, ◌↔◌, ℕ, All, IsTrue, IfOk, length, map};
+ghost use Rattle.std.specs.Prelude.{◌≡◌, ◌<◌, ◌↔◌, ℕ, All, IsTrue, IfOk, Some, length, map, slice_get};
 ghost use Rattle.std.specs.FinSet as fin;
 ghost use Rattle.bl_graph.specs.Graphs.{IsGraph};
+ghost use Rattle.bl_graph.specs.Names.{AreNames};
 ghost use Rattle.bl_graph.specs.Ranges.{variables};
 ghost use Rattle.bl_graph.specs.Arcs.{is_in};
 ghost use Rattle.bl_transient.specs.Reaching.{FirstSink, IsLower, flow_type};
 ghost use Rattle.bl_transient.specs.Transient.{Trans};
-ghost use Rattle.bl_transient.specs.Verdicts.{Judges};
+ghost use Rattle.bl_transient.specs.Verdicts.{IsFirstLeak, Judges};
 
 use crate::moves::{moves_of, roots_of, written_free};
 use crate::search::reached;
 use bl_base::{Flow, List, NoMemory, Pos, SiteSet};
 use bl_cmd::WellFormed;
-use bl_graph::{Graph, SinkUse, graph, ranges, rows_of, variables};
+use bl_graph::{Graph, Names, SinkUse, graph, names_of, ranges, rows_of, variables};
 use std::alloc::Global;
 
 /// Whether a set of protected sites keeps transient values from every sink.
@@ -55,6 +56,52 @@ pub fn flows_of(
     }
     let flows = flow_types(alloc, &marks)?;
     Ok(FlowVerdict::Yes(flows))
+}
+
+/// The least position of a sink that reads a variable which is transient where the sites of the set are protected, if there is
+/// one. Linear in the program; where its commands name few of its variables it costs a sort of the graph's lists instead of what
+/// is linear in the variables. Want of memory is the only error.
+pub fn first_leak_of(
+    alloc: Global,
+    program: &WellFormed,
+    graph: &Graph,
+    protects: &SiteSet,
+) -> Result<Option<Pos>, NoMemory>
+    requires { IsGraph program.now graph.now }
+    ensures { IfOk result (λ leak. IsFirstLeak program.now (fin.contains protects.now) leak) }
+{
+    let names = names_of(alloc, program, graph, &[])?;
+    let sinks = names.numbered(alloc, graph.sinks.as_slice())?;
+    let marks = named_transients(alloc, program, graph, &names, protects)?;
+    match first_sink(&marks, &sinks) {
+        Some(position) => Ok(Some(Pos(position))),
+        None => Ok(None),
+    }
+}
+
+/// For each name, by its number, whether it is that of a transient variable.
+fn named_transients(
+    alloc: Global,
+    program: &WellFormed,
+    graph: &Graph,
+    names: &Names,
+    protects: &SiteSet,
+) -> Result<Vec<bool>, NoMemory>
+    requires graph { IsGraph program.now graph.now }
+    requires names { AreNames program.now names.now }
+    ensures places { IfOk result (λ marks. length marks.items ≡ length names.now) }
+    ensures exact { IfOk result (λ marks. (i x : ℕ) → slice_get names.now i ≡ Some x → IsTrue (is_in marks.items i) ↔ Trans program.now (fin.contains protects.now) x) }
+{
+    ranges(program);
+    let count = program.program().parts().commands.len();
+    let writes = names.numbered(alloc, graph.writes.as_slice())?;
+    let reads = names.numbered(alloc, graph.reads.as_slice())?;
+    let written = written_free(alloc, count, &writes, protects)?;
+    let roots = roots_of(alloc, graph.loads.as_slice(), &written)?;
+    let moves = moves_of(alloc, &reads, &written)?;
+    let rows = rows_of(alloc, &moves, names.len())?;
+    let marks = reached(alloc, &rows, &roots)?;
+    Ok(marks)
 }
 
 /// For each variable whether it is transient.

@@ -9,7 +9,7 @@ use std::alloc::Global;
 use std::test::Fail;
 
 /// The set of those positions.
-fn sites_of(alloc: Global, positions: &[u32]) -> Result<SiteSet, NoMemory> {
+pub(crate) fn sites_of(alloc: Global, positions: &[u32]) -> Result<SiteSet, NoMemory> {
     let mut sites = SiteSet::new(alloc);
     for position in positions {
         sites.insert(Pos(*position))?;

@@ -84,6 +84,17 @@ fn are(sites: &SiteSet, positions: &[u32]) -> bool {
     next == positions.len()
 }
 
+/// Whether the least protects are those positions, with that weight.
+pub(crate) fn is_chosen(
+    alloc: Global,
+    image: &[u8],
+    protects: &[u32],
+    weight: u64,
+) -> Result<bool, NoMemory> {
+    let choice = choice_of(alloc, image)?;
+    Ok(choice.weight == weight && are(&choice.protects, protects))
+}
+
 /// Whether the least protects are those positions, with that weight, are certified and pass.
 pub(crate) fn is_least(
     alloc: Global,

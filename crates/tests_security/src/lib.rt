@@ -1,6 +1,7 @@
 //! Tests of what programs give away: least protects and certificates, the check of constant time and the verdict on two runs, each from an
 //! image's bytes on; agreement of starts, comparisons of two runs, the buffer machine with room for one entry, and the machine that
-//! forwards stores; weights by counted runs; the lines of a cache.
+//! forwards stores; weights by counted runs; the lines of a cache; programs that declare more variables than
+//! their commands name.
 #![tactic(auto)]
 
 #[cfg(test)]
@@ -31,6 +32,8 @@ mod labels;
 mod least;
 #[cfg(test)]
 mod lines;
+#[cfg(test)]
+mod named;
 #[cfg(test)]
 mod pairs;
 #[cfg(test)]

@@ -5,5 +5,5 @@ use Rattle.bl_ct.proofs.ends.giving_sites.Given as goal
 abbrev pub invariant-loop-write : goal.invariant-loop-write
 invariant-loop-write l = record {
   places : length l.giving.items ≡ l.count;
-  exact : Gives (take l.write-index l.writes) l.demanded l.giving.items;
+  exact : Gives (take l.write-index l.writes) l.names l.demanded l.giving.items;
 }

@@ -1,11 +1,28 @@
-use Rattle.std.proofs.Common.{◌≡◌, true, false, sym, subst, ◌∙◌}
-use Rattle.std.specs.Prelude.{slice_set}
-use Rattle.bl_ct.specs.Finding.{Visits}
+use Rattle.std.proofs.Common.{◌≡◌, ◌<◌, ℕ, List, Bool, true, false, length, arith, sym, subst, ◌∙◌}
+use Rattle.bl_graph.specs.Arcs.{is_in}
+use Rattle.bl_graph.specs.Names.{place_of}
 use Rattle.std.proofs.lemmas.List.{get_or_default}
-use Rattle.bl_ct.proofs.Visiting.{visits_yes}
+use Rattle.bl_ct.proofs.Tabling.{table_within}
+use Rattle.bl_ct.proofs.Visiting.{visits_no, visits_yes}
 use Rattle.bl_ct.proofs.search.find.Goals as goal
+
+pub returns-else-not-index : goal.returns-else-not-index
+returns-else-not-index c =
+    let names : List ℕ = c.args.names.now in
+    let marks : List Bool = c.args.marks.now.items in
+    let place : ℕ = c.number_of-place.result in
+    let is : place ≡ place_of names c.args.step.var = c.number_of-place.ensures.is in
+    let within : place < length marks = let inside = table_within names marks c.requires.table c.args.step.var c.requires.named in omega arith in
+    let marked : is_in marks place ≡ true = sym (c.index.ensures ∙ get_or_default marks place _ false within) ∙ c.if-not-index.false in
+    visits_no names c.args.step marks c.args.queue.now.items (subst (λ n. is_in marks n ≡ true) is marked)
 
 pub returns-in_ok-push : goal.returns-in_ok-push
 returns-in_ok-push c =
-    subst (λ q. Visits (λ s. s ≡ c.args.step) (λ v. v ≡ c.args.step.var) c.args.marks.now.items (slice_set c.args.marks.now.items c.args.step.var true) c.args.queue.now.items q) (sym c.in_ok-push.ensures.items)
-    (visits_yes c.args.step c.args.marks.now.items c.args.queue.now.items (sym (c.index.ensures ∙ get_or_default c.args.marks.now.items c.args.step.var _ false c.requires) ∙ c.if-not-index.true) c.requires)
+    let names : List ℕ = c.args.names.now in
+    let marks : List Bool = c.args.marks.now.items in
+    let place : ℕ = c.number_of-place.result in
+    let is : place ≡ place_of names c.args.step.var = c.number_of-place.ensures.is in
+    let within : place < length marks = let inside = table_within names marks c.requires.table c.args.step.var c.requires.named in omega arith in
+    let fresh : is_in marks place ≡ false = sym (c.index.ensures ∙ get_or_default marks place _ false within) ∙ c.if-not-index.true in
+    rw (c.in_ok-push.ensures.items, is)
+    (visits_yes names c.args.step marks c.args.queue.now.items (subst (λ n. is_in marks n ≡ false) is fresh) c.requires.table c.requires.named)

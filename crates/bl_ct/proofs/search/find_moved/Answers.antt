@@ -6,13 +6,13 @@ use Rattle.bl_ct.specs.Finding.{Visits, IsFoundBy, Some_fits, Some_asks, entry_a
 use Rattle.bl_ct.proofs.Visiting.{visits_push}
 use Rattle.bl_ct.proofs.search.find_moved.Goals as goal
 
-pub find_written-requires : goal.find_written-requires
-find_written-requires c = λ x e.
-    let loop = c.loop-site in
-    let x0 : ℕ = slice_index_or c.args.sites.now loop.site-index 0 in
-    let inside = c.requires x0 x (sym c.written_at.ensures ∙ e) in
-    let places = loop.invariant.places in
-    omega arith
+pub find_written-requires-clause-table : goal.find_written-requires-clause-table
+find_written-requires-clause-table c = record { rise = c.requires.table.rise; places = c.loop-site.invariant.places ∙ c.requires.table.places }
+
+pub find_written-requires-clause-named : goal.find_written-requires-clause-named
+find_written-requires-clause-named c = λ x e.
+    let x0 : ℕ = slice_index_or c.args.sites.now c.loop-site.site-index 0 in
+    c.requires.named x0 x (sym c.written_at.ensures ∙ e)
 
 pub loop-site-preserved : goal.loop-site-preserved
 loop-site-preserved c =
@@ -20,10 +20,10 @@ loop-site-preserved c =
     let lt = c.loop-site-test.true in
     let x0 : ℕ = slice_index_or c.args.sites.now loop.site-index 0 in
     let more : take (loop.site-index + 1) c.args.sites.now ≡ take loop.site-index c.args.sites.now ++ x0 ∷ [] = take_more c.args.sites.now loop.site-index 0 lt in
-    rw more (visits_push (λ s. IsFoundBy (entry_at c.args.written.now s) (cause_.Moved s c.args.before)) (λ s v. entry_at c.args.written.now s ≡ Some v) (take loop.site-index c.args.sites.now) x0 c.args.marks.now.items loop.marks.items c.find_written.new.marks.items c.args.queue.now.items loop.queue.items c.find_written.new.queue.items loop.invariant
-    (subst (λ o. Visits (IsFoundBy o (cause_.Moved x0 c.args.before)) (λ v. o ≡ Some v) loop.marks.items c.find_written.new.marks.items loop.queue.items c.find_written.new.queue.items) c.written_at.ensures c.in_ok-find_written.ensures))
+    rw more (visits_push c.args.names.now (λ s. IsFoundBy (entry_at c.args.written.now s) (cause_.Moved s c.args.before)) (λ s v. entry_at c.args.written.now s ≡ Some v) (take loop.site-index c.args.sites.now) x0 c.args.marks.now.items loop.marks.items c.find_written.new.marks.items c.args.queue.now.items loop.queue.items c.find_written.new.queue.items loop.invariant
+    (subst (λ o. Visits c.args.names.now (IsFoundBy o (cause_.Moved x0 c.args.before)) (λ v. o ≡ Some v) loop.marks.items c.find_written.new.marks.items loop.queue.items c.find_written.new.queue.items) c.written_at.ensures c.in_ok-find_written.ensures))
 
 pub returns : goal.returns
 returns c =
     let past = c.loop-site-test.false in
-    subst (λ l. Visits (Some_fits l (λ s. IsFoundBy (entry_at c.args.written.now s) (cause_.Moved s c.args.before))) (Some_asks l (λ s v. entry_at c.args.written.now s ≡ Some v)) c.args.marks.now.items c.loop-site.marks.items c.args.queue.now.items c.loop-site.queue.items) (take_all c.loop-site.site-index c.args.sites.now (omega arith)) c.loop-site.invariant
+    subst (λ l. Visits c.args.names.now (Some_fits l (λ s. IsFoundBy (entry_at c.args.written.now s) (cause_.Moved s c.args.before))) (Some_asks l (λ s v. entry_at c.args.written.now s ≡ Some v)) c.args.marks.now.items c.loop-site.marks.items c.args.queue.now.items c.loop-site.queue.items) (take_all c.loop-site.site-index c.args.sites.now (omega arith)) c.loop-site.invariant

@@ -4,4 +4,4 @@ use Rattle.bl_ct.specs.declared.search.Cause.TheVariants as cause_
 use Rattle.bl_ct.proofs.search.find_moved.Given as goal
 
 abbrev pub invariant-loop-site : goal.invariant-loop-site
-invariant-loop-site l = Visits (Some_fits (take l.site-index l.sites) (λ s. IsFoundBy (entry_at l.written s) (cause_.Moved s l.before))) (Some_asks (take l.site-index l.sites) (λ s v. entry_at l.written s ≡ Some v)) l.fn.marks.items l.marks.items l.fn.queue.items l.queue.items
+invariant-loop-site l = Visits l.names (Some_fits (take l.site-index l.sites) (λ s. IsFoundBy (entry_at l.written s) (cause_.Moved s l.before))) (Some_asks (take l.site-index l.sites) (λ s v. entry_at l.written s ≡ Some v)) l.fn.marks.items l.marks.items l.fn.queue.items l.queue.items

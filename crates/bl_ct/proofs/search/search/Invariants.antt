@@ -4,7 +4,7 @@ use Rattle.bl_ct.specs.Finding.{Searching}
 use Rattle.bl_ct.proofs.search.search.Given as goal
 
 abbrev pub invariant-loop-next : goal.invariant-loop-next
-invariant-loop-next l = Searching l.known.program.now l.marks.items l.queue.items l.next
+invariant-loop-next l = Searching l.known.program.now l.known.names.now l.marks.items l.queue.items l.next
 
 abbrev pub decreases-loop-next : goal.decreases-loop-next
 decreases-loop-next l = unmarked l.marks.items + length l.queue.items - l.next

@@ -1,21 +1,21 @@
-use Rattle.std.proofs.Common.{◌∙◌, subst}
-use Rattle.bl_cmd.specs.Programs.{IsProgram}
-use Rattle.bl_ct.specs.Facts.{AreFacts, HasNoSecrets}
-use Rattle.bl_ct.proofs.Nothing.{all_public_labels}
+use Rattle.std.proofs.Common.{◌<◌, ◌∙◌, ap, sym, subst, arith}
+use Rattle.std.specs.List.{All}
+use Rattle.bl_graph.specs.Ranges.{variables}
+use Rattle.bl_ct.specs.declared.search.Step.{Step}
+use Rattle.bl_ct.specs.Finding.{is_found}
+use Rattle.bl_ct.specs.Verdicts.{AreSecrets, FindsSecrets}
+use Rattle.bl_ct.proofs.Judging.{labels_are}
 use Rattle.bl_ct.proofs.verdict.constant_time.Goals as goal
 
-pub judge-requires : goal.judge-requires
-judge-requires c =
-    let same = c.parts-parts.ensures.same ∙ c.program.ensures.same in
-    record {
-      is_program = subst IsProgram c.program.ensures.same c.parts-parts.ensures.facts;
-      rules = c.program.ensures.rules;
-      graph = c.requires;
-      facts = subst (λ p. AreFacts p c.in_ok-facts.facts) same c.in_ok-facts.ensures;
-    }
+pub labels_of-requires : goal.labels_of-requires
+labels_of-requires c = λ k d lt.
+    let secrets : AreSecrets c.args.program.now c.in-Keeps.steps.items = subst (FindsSecrets c.args.program.now) c.in-Keeps.is c.in_ok-steps.ensures in
+    let small = subst (All (λ (step : Step). step.var < variables c.args.program.now)) (sym c.deref.ensures.value) secrets.small k d lt in
+    let count = c.variables.ensures in
+    omega arith
 
-pub returns-then-has_no_secrets : goal.returns-then-has_no_secrets
-returns-then-has_no_secrets c =
-    let none : HasNoSecrets c.args.program.now =
-    subst HasNoSecrets (c.parts-parts.ensures.same ∙ c.program.ensures.same) (c.has_no_secrets.ensures.0 c.if-has_no_secrets.true) in
-    all_public_labels c.args.program.now none c.variables.result c.in_ok-labels.labels c.in_ok-labels.ensures c.variables.ensures
+pub returns-in_ok-labels-in-Keeps : goal.returns-in_ok-labels-in-Keeps
+returns-in_ok-labels-in-Keeps c =
+    let secrets : AreSecrets c.args.program.now c.in-Keeps.steps.items = subst (FindsSecrets c.args.program.now) c.in-Keeps.is c.in_ok-steps.ensures in
+    labels_are c.args.program.now c.in-Keeps.steps.items c.in_ok-labels-in-Keeps.labels secrets (c.in_ok-labels-in-Keeps.ensures.places ∙ c.variables.ensures)
+    (λ x. c.in_ok-labels-in-Keeps.ensures.exact x ∙ ap (λ l. is_found l x) c.deref.ensures.value)

@@ -17,13 +17,13 @@ loop-place-preserved c =
     let more : take (loop.place + 1) c.args.queue.now ≡ take loop.place c.args.queue.now ++ s0 ∷ [] = take_more c.args.queue.now loop.place d lt in
     record {
       within = omega arith;
-      none = λ step h. elim (Contains-push_cases (take loop.place c.args.queue.now) s0 step (subst (λ l. Contains l step) more h)) as (λ _. LeakOf c.args.ends.now c.args.demanded.now step None) [
+      none = λ step h. elim (Contains-push_cases (take loop.place c.args.queue.now) s0 step (subst (λ l. Contains l step) more h)) as (λ _. LeakOf c.args.names.now c.args.ends.now c.args.demanded.now step None) [
         | inl there ↦ loop.invariant.none step there
-        | inr e ↦ subst (λ s. LeakOf c.args.ends.now c.args.demanded.now s None) e c.in_default.ensures
+        | inr e ↦ subst (λ s. LeakOf c.args.names.now c.args.ends.now c.args.demanded.now s None) e c.in_default.ensures
       ];
     }
 
 pub returns : goal.returns
 returns c =
     let past = c.loop-place-test.false in
-    subst (λ l. LeakFound l c.args.ends.now c.args.demanded.now None) (take_all c.loop-place.place c.args.queue.now (omega arith)) c.loop-place.invariant.none
+    subst (λ l. LeakFound c.args.names.now l c.args.ends.now c.args.demanded.now None) (take_all c.loop-place.place c.args.queue.now (omega arith)) c.loop-place.invariant.none

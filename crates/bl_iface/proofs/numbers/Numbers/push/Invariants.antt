@@ -1,0 +1,7 @@
+use Rattle.std.proofs.Common.{◌≡◌, ◌++◌, map, take}
+use Rattle.bl_iface.specs.Joining.{renamed}
+use Rattle.bl_iface.specs.Numbering.{numbers_by}
+use Rattle.bl_iface.proofs.numbers.Numbers.push.Given as goal
+
+abbrev pub invariant-loop-command : goal.invariant-loop-command
+invariant-loop-command l = l.to ≡ l.initial.to ++ map (renamed (numbers_by l.self)) (take l.command-index l.commands)

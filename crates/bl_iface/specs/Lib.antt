@@ -1,0 +1,10 @@
+pub mod Answers
+pub mod Example
+pub mod Files
+pub mod Joining
+pub mod Matching
+pub mod Moves
+pub mod Names
+pub mod Numbering
+pub mod Roles
+pub mod Under

@@ -1,0 +1,68 @@
+//! Laws of interfaces and of joined programs. Each function is its contract alone.
+ghost use Rattle.std.specs.Prelude.{◌≡◌, ◌↔◌, ℕ, Bool as Truth, Err, IsTrue, List as Listed, Result as Answer};
+ghost use Rattle.bl_cmd.specs.Programs.{IsProgram};
+ghost use Rattle.bl_cmd.specs.Rules.{IsWellFormed};
+ghost use Rattle.bl_cmd.specs.Sites.{is_protected};
+ghost use Rattle.bl_cmd.specs.declared.definitions.ProgramParts.{ProgramParts};
+ghost use Rattle.bl_transient.specs.Transient.{Passes};
+ghost use Rattle.bl_iface.specs.Answers.{JoinAnswers};
+ghost use Rattle.bl_iface.specs.Example.{client, iface, library, whole};
+ghost use Rattle.bl_iface.specs.Files.{IsIface};
+ghost use Rattle.bl_iface.specs.Joining.{CanJoin, joined};
+ghost use Rattle.bl_iface.specs.Matching.{Matches};
+ghost use Rattle.bl_iface.specs.Roles.{FlowsAs, PassesAs};
+ghost use Rattle.bl_iface.specs.Under.{FlowsUnder, IsBad, TransUnder, asked};
+ghost use Rattle.bl_iface.specs.declared.error.IfaceError.{IfaceError};
+ghost use Rattle.bl_iface.specs.declared.error.IfaceError.TheVariants.{Memory as IfaceMemory};
+ghost use Rattle.bl_iface.specs.declared.error.JoinError.{JoinError};
+ghost use Rattle.bl_iface.specs.declared.error.JoinError.TheVariants.{Memory};
+ghost use Rattle.bl_iface.specs.declared.iface.Iface.{Iface};
+ghost use Rattle.bl_iface.specs.declared.iface.Role.{Role};
+ghost use Rattle.bl_iface.specs.declared.iface.Role.TheVariants.{Client, Library};
+
+/// Two programs that can be joined are joined to a program that keeps all rules.
+pub fn joins()
+    ensures { (client library : ProgramParts) (iface : Iface) → IsProgram client → IsWellFormed client → IsProgram library → IsWellFormed library
+        → CanJoin client library iface → IsProgram (joined client library iface) × IsWellFormed (joined client library iface) }
+{}
+
+/// Where a client passes and a library passes, each with its own marks under the interface, the joined program passes with its own.
+pub fn passes()
+    ensures { (client library : ProgramParts) (iface : Iface) → IsProgram client → IsWellFormed client → IsProgram library → IsWellFormed library
+        → CanJoin client library iface → Matches client iface
+        → PassesAs Client iface client (is_protected client) → PassesAs Library iface library (is_protected library)
+        → Passes (joined client library iface) (is_protected (joined client library iface)) }
+{}
+
+/// What a role asks of parameters and results is what it asks of variables.
+pub fn asks()
+    ensures { (role : Role) (iface : Iface) (program : ProgramParts) (typing set : ℕ → Truth)
+        → FlowsAs role iface program typing set ↔ FlowsUnder (asked role iface program) program typing set }
+{}
+
+/// Where a set passes under an interface, no position is bad; where none is, and a typing is exactly what must be transient, it passes.
+pub fn tells()
+    ensures fails { (role : Role) (iface : Iface) (program : ProgramParts) (typing set : ℕ → Truth) (position : ℕ)
+        → FlowsAs role iface program typing set → IsBad (asked role iface program) program set position → ⊥ }
+    ensures passes { (role : Role) (iface : Iface) (program : ProgramParts) (typing set : ℕ → Truth) → IsWellFormed program → Matches program iface
+        → ((x : ℕ) → IsTrue (typing x) ↔ TransUnder (asked role iface program) program set x)
+        → ((position : ℕ) → IsBad (asked role iface program) program set position → ⊥) → FlowsAs role iface program typing set }
+{}
+
+/// The definition gives the program that an independent program makes of two small ones.
+pub fn example()
+    ensures { joined client library iface ≡ whole }
+{}
+
+/// But for want of memory, `read_iface` has one answer.
+pub fn one_file()
+    ensures { (lines : Listed (Listed ℕ)) (one other : Answer Iface IfaceError) → IsIface lines one → IsIface lines other
+        → (one ≡ Err IfaceMemory → ⊥) → (other ≡ Err IfaceMemory → ⊥) → one ≡ other }
+{}
+
+/// But for want of memory, `join` has one answer.
+pub fn one_answer()
+    ensures { (client library : ProgramParts) (iface : Iface) (one other : Answer ProgramParts JoinError)
+        → JoinAnswers client library iface one → JoinAnswers client library iface other
+        → (one ≡ Err Memory → ⊥) → (other ≡ Err Memory → ⊥) → one ≡ other }
+{}

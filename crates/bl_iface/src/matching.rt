@@ -1,0 +1,82 @@
+//! The functions of an interface in a program.
+ghost use Rattle.std.specs.Prelude.{◌≡◌, ◌↔◌, ◌<◌, IfOk, IfErr, IfSome, IsSomeAnd, IsTrue, MatchOption, Some, length};
+ghost use Rattle.bl_iface.specs.Answers.{IsFirstWithout};
+ghost use Rattle.bl_iface.specs.Joining.{exported};
+ghost use Rattle.bl_iface.specs.Matching.{AreTargets, Fits, IsMatched, IsTargetsError, Matches};
+
+use crate::error::TargetsError;
+use crate::iface::{FnIface, Iface};
+use crate::names::numbers_of;
+use bl_base::List;
+use bl_cmd::{ExportDef, ProgramParts, WellFormed};
+use std::alloc::Global;
+
+/// The functions of an interface in a program, by their numbers in the interface's order. Unmatched exactly where one isn't an export of the
+/// program with as many parameters and results: the first such one's index. Costs the interface and the exports, each times the logarithm of
+/// how many exports there are.
+pub fn targets(alloc: Global, p: &WellFormed, i: &Iface) -> Result<List<u32>, TargetsError>
+    ensures found { IfOk result (AreTargets p.now i.now) }
+    ensures matched { IfOk result (λ _. Matches p.now i.now) }
+    ensures refused { IfErr result (IsTargetsError p.now i.now) }
+{
+    let parts = p.program().parts();
+    let numbers = numbers_of(alloc, parts.exports.as_slice())?;
+    let mut targets = List::new(alloc);
+    for (index, one) in i.functions.as_slice().iter().enumerate() {
+        let found = numbers.get(&one.name.as_slice()).copied();
+        let Some(target) = fitting(parts, found, one) else {
+            return Err(TargetsError::Unmatched(index as u64));
+        };
+        targets.push(target)?;
+    }
+    Ok(targets)
+}
+
+/// The first function of the interface, by its index from 0, that isn't an export of the program with as many parameters and results; None
+/// exactly where each is. Looks each name up among all exports; takes no memory.
+pub fn unmatched(p: &WellFormed, i: &Iface) -> Option<u64>
+    ensures { MatchOption result (Matches p.now i.now) (IsFirstWithout (IsMatched p.now) i.now.functions) }
+{
+    let parts = p.program().parts();
+    for (index, one) in i.functions.as_slice().iter().enumerate() {
+        let found = function_named(parts.exports.as_slice(), one.name.as_slice());
+        let Some(_target) = fitting(parts, found, one) else {
+            return Some(index as u64);
+        };
+    }
+    None
+}
+
+/// The function that is exported under a name.
+fn function_named(exports: &[ExportDef], name: &[u8]) -> Option<u32>
+    ensures { result ≡ exported exports.now name.now }
+{
+    for export in exports {
+        if export.name.as_slice() == name {
+            return Some(export.function);
+        }
+    }
+    None
+}
+
+/// The function, if there is one and it has as many parameters and results as are agreed.
+fn fitting(parts: &ProgramParts, found: Option<u32>, one: &FnIface) -> Option<u32>
+    requires { IfSome found (λ target. target < length parts.now.functions) }
+    ensures { MatchOption result (IsSomeAnd found (Fits parts.now one.now) → ⊥) (λ target. (found ≡ Some target) × Fits parts.now one.now target) }
+{
+    let target = found?;
+    if fits(parts, target, one) {
+        Some(target)
+    } else {
+        None
+    }
+}
+
+/// Whether the function has as many parameters and results as are agreed.
+fn fits(parts: &ProgramParts, target: u32, one: &FnIface) -> bool
+    requires { target < length parts.now.functions }
+    ensures { IsTrue result ↔ Fits parts.now one.now target }
+{
+    let function = &parts.functions.as_slice()[target as usize];
+    function.params.len() == one.params.len() && function.results.len() == one.results.len()
+}

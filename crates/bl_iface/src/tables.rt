@@ -1,0 +1,62 @@
+//! The tables by which a client and a library are joined.
+ghost use Rattle.std.specs.Prelude.{◌≡◌, IfOk, length, replicate, None};
+ghost use Rattle.bl_cmd.specs.Layout.{first_of};
+ghost use Rattle.bl_cmd.specs.Rules.{Rule2};
+ghost use Rattle.bl_cmd.specs.Tables.{AreValues};
+ghost use Rattle.bl_iface.specs.Matching.{AreTargets};
+ghost use Rattle.bl_iface.specs.Numbering.{LeadsTo};
+
+use crate::iface::Iface;
+use bl_base::{List, NoMemory};
+use bl_cmd::{ProgramParts, WellFormed};
+use std::alloc::Global;
+
+/// The first variable of each function, and the number of all variables.
+pub(crate) fn firsts_of(alloc: Global, parts: &ProgramParts) -> Result<List<u32>, NoMemory>
+    requires { Rule2 parts.now }
+    ensures { IfOk result (λ firsts. AreValues (first_of parts.now) (length parts.now.functions) firsts) }
+{
+    let mut firsts = List::new(alloc);
+    let mut first = (parts.globals.len() + parts.memories.len()) as u32;
+    firsts.push(first)?;
+    for function in parts.functions.as_slice() {
+        first += function.vars;
+        firsts.push(first)?;
+    }
+    Ok(firsts)
+}
+
+/// For each function of the client the library's that it goes to, by the functions of the interface in both: the first name that stands for it
+/// counts.
+pub(crate) fn goals_of(
+    alloc: Global,
+    client: &WellFormed,
+    library: &WellFormed,
+    i: &Iface,
+    ours: &[u32],
+    theirs: &[u32],
+) -> Result<List<Option<u32>>, NoMemory>
+    requires ours { AreTargets client.now i.now ours.now }
+    requires theirs { AreTargets library.now i.now theirs.now }
+    ensures { IfOk result (LeadsTo i.now client.now library.now) }
+{
+    let mut goals = no_goals(alloc, client.program().parts().functions.len())?;
+    let _functions = i.functions.as_slice();
+    let mut left = ours.len();
+    while left > 0 {
+        left -= 1;
+        goals[ours[left] as usize] = Some(theirs[left]);
+    }
+    Ok(List::of(goals))
+}
+
+/// Nothing for so many functions.
+fn no_goals(alloc: Global, functions: usize) -> Result<Vec<Option<u32>>, NoMemory>
+    ensures { IfOk result (λ goals. goals.items ≡ replicate functions None) }
+{
+    let mut goals = Vec::new(alloc);
+    for done in 0..functions {
+        goals.push(None)?;
+    }
+    Ok(goals)
+}
