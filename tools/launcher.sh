@@ -15,6 +15,8 @@ blade $(cat "$here/VERSION"): hardens WebAssembly modules against speculative le
   blade twin IMAGE EXPORT TRACE START START2                 does so from two start files, and says whether they are observed alike
   blade forward IMAGE EXPORT TRACE START START2              does so where loads take values of stores, and says whether the program is safe there
   blade predict IMAGE EXPORT TRACE START [--steps N]         drives the machine by a predictor and a cache, and writes the trace that it chose
+  blade part ROLE IMAGE IFACE MODULE...                      hardens modules on one side of an interface, as client or library
+  blade join IMAGE IFACE CLIENT LIBRARY                      joins a client and a library that were hardened apart
   blade verify IMAGE CERT                                    checks a certificate against an image, and the image's protects and labels
   blade gen SEED SIZE                                        makes a module by a number, and hardens it
 Words, files, texts and exit statuses: $here/docs/CLI.md
@@ -37,11 +39,11 @@ answer() {
     return 1
 }
 
-# Warns where a file that harden, lower, predict or run writes is another of its files: the program compares names as words, and the last one written
-# stays. Links and other paths of one file count.
+# Warns where a file that harden, lower, part, join, predict or run writes is another of its files: the program compares names as words, and the
+# last one written stays. Links and other paths of one file count.
 warn() {
     local command=${1-} written=1 words=() counts=() files=() kinds=() paths=() file i j
-    case $command in harden | lower | predict | run) shift ;; *) return 0 ;; esac
+    case $command in harden | lower | part | join | predict | run) shift ;; *) return 0 ;; esac
     while [ $# -gt 0 ] && [ "$1" != -- ]; do
         case $1 in
             --counts=*) counts=("${1#*=}") ;;
@@ -56,6 +58,8 @@ warn() {
     case $command in
         harden) written=2 kinds=(IMAGE CERT) ;;
         lower) kinds=(IMAGE) ;;
+        part) words=("${words[@]:1}") kinds=(IMAGE IFACE) ;;
+        join) kinds=(IMAGE IFACE CLIENT LIBRARY) ;;
         predict)
             [ ${#words[@]} -ge 4 ] || return 0
             files=("${words[2]}") kinds=(TRACE IMAGE START) words=("${words[0]}" "${words[3]}")

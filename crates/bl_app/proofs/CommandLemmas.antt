@@ -9,7 +9,7 @@ use Rattle.bl_words.proofs.WordsLemmas.{gen_in_range, run_in_range}
 use Rattle.bl_app.specs.Commands.{HasOnePlan, IsSized, Row, command, job_of, row_of, work_of}
 use Rattle.bl_job.specs.Jobs.{AreRead, FirstRefusal, IsLawful, IsSmall, IsTotal, Plan}
 use Rattle.bl_job.specs.Refusals.{Refusal}
-use Rattle.bl_words.specs.Requests.{Request, forward, gen, harden, interp, lower, modules_in, predict, request_of, run, spec, twin, verify}
+use Rattle.bl_words.specs.Requests.{Request, forward, gen, harden, interp, join, lower, modules_in, part, predict, request_of, run, spec, twin, verify}
 use Rattle.bl_job.specs.Worlds.{World}
 use Rattle.bl_job.specs.Status.{reason_number, status_number, kind_of, of_deed}
 use Rattle.bl_job.specs.declared.status.Reason.{Reason}
@@ -21,7 +21,9 @@ use Rattle.bl_app.proofs.ForwardLemmas.{forward_staged_is, one_forward_plan}
 use Rattle.bl_app.proofs.GenLemmas.{gen_staged_is}
 use Rattle.bl_app.proofs.HardenLemmas.{harden_staged_is, lower_staged_is}
 use Rattle.bl_app.proofs.InterpLemmas.{interp_staged_is, one_interp_plan}
+use Rattle.bl_app.proofs.JoinLemmas.{join_staged_is}
 use Rattle.bl_job.proofs.JobLemmas.{done_not_refused, one_first}
+use Rattle.bl_app.proofs.PartLemmas.{part_staged_is}
 use Rattle.bl_app.proofs.PredictLemmas.{one_predict_plan, predict_staged_is}
 use Rattle.bl_app.proofs.RunLemmas.{one_run_plan, run_staged_is}
 use Rattle.bl_app.proofs.SpecLemmas.{spec_staged_is}
@@ -31,7 +33,9 @@ use Rattle.bl_app.specs.Forwarding.{forward_staged}
 use Rattle.bl_app.specs.Generating.{gen_staged}
 use Rattle.bl_app.specs.Hardening.{harden_staged}
 use Rattle.bl_app.specs.Interpreting.{interp_staged}
+use Rattle.bl_app.specs.Joining.{join_staged}
 use Rattle.bl_app.specs.Lowering.{lower_staged}
+use Rattle.bl_app.specs.Parting.{part_staged}
 use Rattle.bl_app.specs.Predicting.{predict_staged}
 use Rattle.bl_app.specs.Speculating.{spec_staged}
 use Rattle.bl_job.specs.Staged.{Did, Staged, WasDone}
@@ -69,6 +73,9 @@ commands (spec request) = staged (spec_staged request) (spec_staged_is request) 
 commands (twin request) = staged (twin_staged request) (twin_staged_is request) (λ few given. tt) (λ has. one_twin_plan)
 commands (forward request) = staged (forward_staged request) (forward_staged_is request) (λ few given. tt) (λ has. one_forward_plan)
 commands (predict request) = staged (predict_staged request) (predict_staged_is request) (λ few given. tt) (λ has. one_predict_plan request.steps request.trace)
+commands (part request) =
+    staged (part_staged request) (part_staged_is request) (λ few given. record { few = few; apart = given.0; texts = given.1 }) (λ has made p q h k. h ∙ sym k)
+commands (join request) = staged (join_staged request) (join_staged_is request) (λ few given. tt) (λ has made p q h k. h ∙ sym k)
 commands (verify request) = staged (verify_staged request) (verify_staged_is request) (λ few given. tt) (λ has. absurd has)
 commands (gen request) = staged (gen_staged request) (gen_staged_is request) (λ few given. given) (λ has. absurd has)
 

@@ -7,6 +7,7 @@ use Rattle.bl_cmd.specs.declared.definitions.ProgramParts.{ProgramParts as Progr
 use Rattle.bl_graph.proofs.Ranging.{in_range}
 use Rattle.bl_ct.specs.Verdicts.{FindsChain}
 use Rattle.bl_report.specs.Verdicts.{verdicts_of}
+use Rattle.bl_sct.proofs.OtherSecrets.{hides}
 use Rattle.bl_sct.proofs.Whole.{equal}
 use Rattle.bl_transient.specs.Verdicts.{IsFirstLeak}
 use Rattle.bl_transient.specs.declared.transient.FlowVerdict.{FlowVerdict}
@@ -54,6 +55,7 @@ module _ (certified : Certified) where
     constant_time = (yes_labelled program v.labels a.labels, labelled_yes program v.labels a.labels);
     assessed = assessed_so program v.flow v.labels a.flow a.labels;
     safe = λ stable says. equal program facts rules (yes_labelled program v.labels a.labels says) (stable_in program v.flow a.flow stable);
+    hides = λ stable says. hides program facts rules (yes_labelled program v.labels a.labels says) (stable_in program v.flow a.flow stable);
   }
 
 -- ---- what is found

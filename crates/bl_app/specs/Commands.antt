@@ -7,9 +7,11 @@ use Rattle.bl_app.specs.Generating.{gen_staged}
 use Rattle.bl_app.specs.Hardening.{harden_staged}
 use Rattle.bl_app.specs.Interpreting.{interp_staged}
 use Rattle.bl_job.specs.Jobs.{Job}
+use Rattle.bl_app.specs.Joining.{join_staged}
 use Rattle.bl_app.specs.Lowering.{lower_staged}
+use Rattle.bl_app.specs.Parting.{part_staged}
 use Rattle.bl_text.specs.Names.{AreNamedApart}
-use Rattle.bl_words.specs.Requests.{AreInRange, IsGenInRange, Request, forward, gen, harden, interp, lower, modules_in, predict, run, spec, twin, verify}
+use Rattle.bl_words.specs.Requests.{AreInRange, IsGenInRange, Request, forward, gen, harden, interp, join, lower, modules_in, part, predict, run, spec, twin, verify}
 use Rattle.bl_app.specs.Predicting.{predict_staged}
 use Rattle.bl_app.specs.Speculating.{spec_staged}
 use Rattle.bl_job.specs.Staged.{Staged, staged_job}
@@ -27,7 +29,7 @@ abbrev pub command : {B : Type 0} → Type 0 → Staged B → Row
 command {B = B} Given staged = record { Made = B; Given = Given; staged = staged; job = staged_job staged }
 
 -- the command of each request, for modules that are few enough. The status of a deed is 0, and of `interp`, `run` and `predict` also 16 or 17, of `spec` also 18,
--- of `twin` and `forward` also 1 or 18, of `verify` also 1
+-- of `twin` and `forward` also 1 or 18, of `verify` and `join` also 1
 abbrev pub row_of : Request → Row
 row_of (harden request) = command (AreNamedApart request.modules × AreTexts request.modules) (harden_staged request)
 row_of (lower request) = command (AreNamedApart request.modules × AreTexts request.modules) (lower_staged request)
@@ -37,6 +39,8 @@ row_of (spec request) = command (Unit {0}) (spec_staged request)
 row_of (twin request) = command (Unit {0}) (twin_staged request)
 row_of (forward request) = command (Unit {0}) (forward_staged request)
 row_of (predict request) = command (Unit {0}) (predict_staged request)
+row_of (part request) = command (AreNamedApart request.modules × AreTexts request.modules) (part_staged request)
+row_of (join request) = command (Unit {0}) (join_staged request)
 row_of (verify request) = command (Unit {0}) (verify_staged request)
 row_of (gen request) = command (IsGenInRange request) (gen_staged request)
 

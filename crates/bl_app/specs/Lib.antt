@@ -5,9 +5,11 @@ pub mod Forwarding
 pub mod Generating
 pub mod Hardening
 pub mod Interpreting
+pub mod Joining
 pub mod Leaving
 pub mod Lowering
 pub mod Outcomes
+pub mod Parting
 pub mod Predicting
 pub mod Speculating
 pub mod Texts

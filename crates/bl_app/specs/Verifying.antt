@@ -11,6 +11,7 @@ use Rattle.bl_graph.specs.Labels.{ConstantTime}
 use Rattle.bl_graph.specs.declared.certificate.Certificate.{Certificate}
 use Rattle.bl_report.specs.Verdicts.{leak_in, verdicts_of, verdicts_text}
 use Rattle.bl_rob.specs.Observed.{HasEqualObservations}
+use Rattle.bl_sct.specs.OtherSecrets.{HidesGlobals}
 use Rattle.bl_sct.specs.Verdicts.{Assesses, IsStable}
 use Rattle.bl_sct.specs.declared.verdict.Verdict.{Verdict}
 use Rattle.bl_sct.specs.declared.verdict.Verdict.TheVariants.{Safe}
@@ -81,14 +82,15 @@ certificate_read word = record { name = word; quantity = quantity.Certificate }
 
 -- what the verdicts say of a program and a certificate: each yes stands exactly where its rules are kept. Where the certificate keeps its
 -- rules, no passing set of sites weighs less than the program's protects; where the program is stable and constant-time, two runs from
--- starts that agree in public are observed alike, whatever the directives and the size of the buffer; and exactly there any verdict on
--- such runs is that the program is safe
+-- starts that agree in public are observed alike, whatever the directives and the size of the buffer, also where one of them is of the same
+-- program with other first values of its secret globals; and exactly there any verdict on such runs is that the program is safe
 pub record Say (certified : Certified) (verdicts : Verdicts) : Type 0 where
   pub certifies : Certain verdicts.rules ↔ Certifies certified.program certified.certificate
   pub lightest : Certain verdicts.rules → AreLightest certified.program
   pub stable : Stable verdicts.flow ↔ IsStable certified.program
   pub constant_time : IsYes verdicts.labels ↔ ConstantTime certified.program
   pub safe : Stable verdicts.flow → IsYes verdicts.labels → HasEqualObservations certified.program
+  pub hides : Stable verdicts.flow → IsYes verdicts.labels → HidesGlobals certified.program
   pub assessed : (verdict : Verdict) → Assesses certified.program verdict → verdict ≡ Safe ↔ Stable verdicts.flow × IsYes verdicts.labels
 
 -- ---- the command

@@ -13,8 +13,10 @@ use crate::forward::forward;
 use crate::generate::generate;
 use crate::harden::{harden, harden_reads};
 use crate::interp::{interp_reads, interpret};
+use crate::join::{join, join_reads};
 use crate::lower::lower;
 use crate::module::module_reads;
+use crate::part::{part, part_reads};
 use crate::predict::{predict, predict_reads};
 use crate::run::{execute, run_reads};
 use crate::spec::{spec_reads, speculate};
@@ -38,6 +40,8 @@ pub fn reads_of<'a>(alloc: Global, request: &Request<'a>) -> Result<Vec<Read<'a>
         Request::Twin(words) | Request::Forward(words) => twin_reads(alloc, words),
         Request::Verify(words) => verify_reads(alloc, words),
         Request::Predict(words) => predict_reads(alloc, words),
+        Request::Part(words) => part_reads(alloc, words),
+        Request::Join(words) => join_reads(alloc, words),
         Request::Gen(_) => Ok(Vec::new(alloc)),
     }
 }
@@ -64,6 +68,8 @@ pub fn work<'a>(
         Request::Forward(words) => forward(alloc, words, contents.as_slice()),
         Request::Verify(words) => verify(alloc, words, contents.as_slice()),
         Request::Predict(words) => predict(alloc, words, contents.as_slice()),
+        Request::Part(words) => part(alloc, words, contents),
+        Request::Join(words) => join(alloc, words, contents.as_slice()),
         Request::Gen(words) => generate(alloc, words),
     }
 }

@@ -23,12 +23,13 @@ use bl_words::{Request, modules_in, read_words};
 use std::alloc::Global;
 
 /// Runs the program on its words, the program's own name first, and answers its exit status: 0 done; 1 the rules of a certificate or the
-/// transient rules are broken, or two runs are observed differently; 2 no request; 3 a file could not be read; 4 a file or the sink
+/// transient rules are broken, also under an interface, or two runs are observed differently; 2 no request; 3 a file could not be read; 4 a file or the sink
 /// could not be written; 5 a module's bytes spell none; 6 a module has no typing; 7 it has something that isn't supported; 8 a quantity
 /// exceeds its number; 9 an import of a module has no match or a segment is out of range; 10 the labels of a module break a rule; 11
 /// memory ran out; 12 the bytes are no image or the image isn't well-formed; 13 the bytes are no certificate; 14 a line of the trace file
 /// is no directive; 15 the export is absent, a line of the start file is bad, or there are too few arguments; 16 the run trapped; 17 its
-/// steps were spent; 18 a directive isn't enabled; 19 a count file has a bad line or doesn't fit the program. All text goes to the sink.
+/// steps were spent; 18 a directive isn't enabled; 19 a count file has a bad line or doesn't fit the program; 20 an interface file has a bad line
+/// or doesn't fit a program, or two programs don't fit each other by it. All text goes to the sink.
 pub fn blade<F: Shelf, O: Sink>(alloc: Global, words: &[String], files: &mut F, out: &mut O) -> u8
     // How the call ends, whatever fails.
     ensures ends { IsStatus result (Ends job_of (request_of (map string_bytes words.now))

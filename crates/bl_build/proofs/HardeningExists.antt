@@ -1,9 +1,9 @@
 -- Each well-formed program that has an image can be hardened: its network has a maximum flow, whose cut and walks are the choice of
 -- protects and their certificate.
-use Rattle.std.proofs.Common.{◌≡◌, ◌↔◌, ℕ, zero, suc, ◌+◌, ◌<◌, ◌≤◌, Bool, cond, List, [], ◌∷◌, ◌++◌, length, map, Option, Some, None, slice_get, slice_index, unwrap_or, nat_eq, inl, inr, refl, sym, ap, ◌∙◌, subst, arith}
+use Rattle.std.proofs.Common.{◌≡◌, ◌↔◌, ℕ, zero, suc, ◌+◌, ◌<◌, ◌≤◌, Bool, cond, List, [], ◌∷◌, ◌++◌, length, map, Option, Some, None, slice_get, slice_index, unwrap_or, nat_eq, ◌⊎◌, inl, inr, refl, sym, ap, ◌∙◌, subst, arith}
 use Rattle.std.specs.Prelude.{IsSome}
 use Rattle.std.specs.List.{Contains, range_with_len}
-use Rattle.std.proofs.lemmas.Bool.{cases_eq, cases_lt, eq-eqb, ne_eqb}
+use Rattle.std.proofs.lemmas.Bool.{cases_eq, cases_lt, eq-eqb, false≢true, ne_eqb}
 use Rattle.std.proofs.lemmas.List.Elements.{Contains-append_cases, Contains-append_left, Contains-append_right}
 use Rattle.bl_cmd.specs.Programs.{IsProgram}
 use Rattle.bl_cmd.specs.Rules.{IsWellFormed}
@@ -25,10 +25,12 @@ use Rattle.bl_graph.proofs.Members.{first_in, from_map, in_cases, in_map, later_
 use Rattle.bl_graph.proofs.Naming.{all_are_names, place_in_range}
 use Rattle.bl_graph.proofs.Ranging.{in_range}
 use Rattle.bl_ct.proofs.Listing.{Lists, lists_of}
-use Rattle.bl_cut.specs.Choices.{IsMaxFlow, KnowsSinks, path_of}
+use Rattle.bl_transient.specs.Transient.{nothing}
+use Rattle.bl_flow.specs.MaxFlow.{IsMaxFlow}
+use Rattle.bl_cut.specs.Choices.{KnowsSinks, path_of}
 use Rattle.bl_cut.specs.Least.{Least}
 use Rattle.bl_cut.specs.Marks.{protected}
-use Rattle.bl_cut.specs.Network.{ArcKind, IsEnd, IsNetwork, node_of, read, read_arc, sink_node, write, write_arc}
+use Rattle.bl_cut.specs.Network.{ArcKind, IsBarred, IsEndUnder, IsHotNode, IsNetwork, node_of, read, read_arc, sink_node, write, write_arc}
 use Rattle.bl_cut.proofs.Choosing.{certified, is_least}
 use Rattle.bl_cut.proofs.Cutting.{bounded, in_range as network_in_range, total}
 use Rattle.bl_cut.proofs.Marked.{certifies_on, is_program, is_well_formed}
@@ -149,15 +151,20 @@ module _ (program : Program) (facts : IsProgram program) (rules : IsWellFormed p
   ends : List ℕ
   ends = map (sink_node names (commands program)) lists.sinks
 
-  end_kind : (v : ℕ) → Contains ends v → IsEnd program names v
+  end_kind : (v : ℕ) → Contains ends v → IsEndUnder nothing program names v
   unfolding ends
   end_kind v h =
       let found = from_map (sink_node names (commands program)) lists.sinks v h in
-      (found.0.var.0, sym found.2, (found.0.at.0, (lists.sinks_are found.0.at.0 found.0.var.0).0 found.1))
+      let sink = (lists.sinks_are found.0.at.0 found.0.var.0).0 found.1 in
+      (found.0.var.0, sym found.2, named.sinks found.0.at.0 found.0.var.0 sink, inl (found.0.at.0, sink))
 
-  end_of : (v : ℕ) → IsEnd program names v → Contains ends v
+  barred_in : (x : ℕ) → IsBarred nothing program x → Contains ends (node_of program names x)
   unfolding ends
-  end_of v end = subst (Contains ends) (sym end.1) (in_map (sink_node names (commands program)) lists.sinks (use_of end.2.0 end.0) ((lists.sinks_are end.2.0 end.0).1 end.2.1))
+  barred_in x (inl sink) = in_map (sink_node names (commands program)) lists.sinks (use_of sink.0 x) ((lists.sinks_are sink.0 x).1 sink.1)
+  barred_in x (inr firm) = absurd (false≢true firm)
+
+  end_of : (v : ℕ) → IsEndUnder nothing program names v → Contains ends v
+  end_of v end = subst (Contains ends) (sym end.1) (barred_in end.0 end.3)
 
   weights : List (Option ℕ)
   weights = table (commands program + length names) (site_weight program)
@@ -193,6 +200,10 @@ module _ (program : Program) (facts : IsProgram program) (rules : IsWellFormed p
   }
 
   module _ (starts : List ℕ) (begin : (s : ℕ) → Contains starts s ↔ ((s < commands program) × IsLoad program s)) where
+    start_in : (s : ℕ) → IsLoad program s ⊎ IsHotNode nothing program names s → Contains starts s
+    start_in s (inl load) = (begin s).1 (is.sites s (is.loads s load), load)
+    start_in s (inr hot) = absurd (false≢true hot.3)
+
     network : Network
     network = record { weights = weights; arcs = arcs; starts = starts; ends = ends }
 
@@ -200,15 +211,17 @@ module _ (program : Program) (facts : IsProgram program) (rules : IsWellFormed p
     unfolding network
     is_network = record {
       named = named;
+      hot_named = λ x hot. absurd (false≢true hot);
+      firm_named = λ x firm. absurd (false≢true firm);
       size_is = many;
       weights = weighed;
       arcs = λ u v. (arc_kind u v, arc_of u v);
-      starts = λ s. ((λ h. ((begin s).0 h).1), (λ load. (begin s).1 (is.sites s (is.loads s load), load)));
+      starts = λ s. ((λ h. inl ((begin s).0 h).1), start_in s);
       ends = λ v. (end_kind v, end_of v);
     }
 
     flow : SomeFlow network
-    flow = some_flow network (network_in_range program names is network is_network) (bounded program names is network is_network) (total program names is network is_network)
+    flow = some_flow network (network_in_range nothing program names is network is_network) (bounded nothing program names is network is_network (λ x hot. absurd (false≢true hot))) (total nothing program names is network is_network)
 
     is_flow : IsMaxFlow network flow.result
     is_flow = record { paths = flow.paths; loads = flow.loads; cut = flow.cut; weight = flow.weight; least = flow.least; near = flow.near; nearest = flow.nearest }

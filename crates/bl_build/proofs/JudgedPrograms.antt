@@ -10,6 +10,7 @@ use Rattle.bl_graph.specs.Labels.{ConstantTime}
 use Rattle.bl_graph.specs.SecretChains.{IsSecretChain}
 use Rattle.bl_graph.specs.declared.secret.SecretChain.{SecretChain}
 use Rattle.bl_cut.proofs.Marked.{is_program}
+use Rattle.bl_sct.proofs.OtherSecrets.{hides}
 use Rattle.bl_sct.proofs.Whole.{equal}
 use Rattle.bl_build.specs.Hardening.{Hardened, IsHardened, IsJudged, IsYes}
 use Rattle.bl_build.proofs.FewestLemmas.{are_fewest, well_formed}
@@ -37,5 +38,8 @@ module _ (bare : Program) (facts : IsProgram bare) (rules : IsWellFormed bare) (
     chain = λ chain e. chain_of hardened.program hardened.verdict chain is.judged e;
     equal = λ says.
         equal hardened.program of_program (well_formed bare facts rules hardened is) (yes_labelled hardened.program hardened.verdict is.judged says)
+        (are_fewest bare facts rules hardened is).passes;
+    hides = λ says.
+        hides hardened.program of_program (well_formed bare facts rules hardened is) (yes_labelled hardened.program hardened.verdict is.judged says)
         (are_fewest bare facts rules hardened is).passes;
   }

@@ -6,9 +6,14 @@ pub mod EnteringLemmas
 pub mod EntryLemmas
 pub mod FewestLemmas
 pub mod HardeningExists
+pub mod ImageWidths
 pub mod ImagesExist
 pub mod ImagesTotal
+pub mod InterfaceLemmas
+pub mod InterfaceTotal
+pub mod InterfaceWork
 pub mod InvokingLemmas
+pub mod JoinedImages
 pub mod JudgedCertificates
 pub mod JudgedPrograms
 pub mod LabelLemmas

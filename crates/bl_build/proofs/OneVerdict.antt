@@ -15,6 +15,7 @@ use Rattle.bl_transient.specs.declared.transient.FlowVerdict.{FlowVerdict}
 use Rattle.bl_transient.specs.declared.transient.FlowVerdict.TheVariants as flow
 use Rattle.bl_ct.specs.declared.verdict.CtVerdict.{CtVerdict}
 use Rattle.bl_ct.specs.Verdicts.{Judges as JudgesLabels}
+use Rattle.bl_transient.specs.Transient.{nothing}
 use Rattle.bl_cut.specs.Marks.{protected}
 use Rattle.bl_cut.proofs.Leaving.{only_one}
 use Rattle.bl_witness.specs.Verdicts.{Checks}
@@ -76,7 +77,7 @@ one_yes program v w a b = (λ says. labelled_yes program w b (yes_labelled progr
 
 module _ (bare : Program) (range : AreInRange bare) (one other : Hardened) (a : IsHardened bare one) (b : IsHardened bare other) where
   pub one_program : one.program ≡ other.program
-  one_program = a.is_program ∙ ap (λ set. protected set bare) (fun_ext (λ s. only_one bare range a.set b.set a.least b.least s)) ∙ sym b.is_program
+  one_program = a.is_program ∙ ap (λ set. protected set bare) (fun_ext (λ s. only_one nothing bare range a.set b.set a.least b.least s)) ∙ sym b.is_program
 
   pub one_bytes : one.image ≡ other.image
   one_bytes = one_image other.program one.image other.image (subst (λ p. Image p one.image) one_program a.image) b.image

@@ -30,7 +30,7 @@ use Rattle.bl_graph.specs.declared.certificate.Certificate.{Certificate}
 use Rattle.bl_graph.specs.declared.certificate.FlowPath.{FlowPath}
 use Rattle.bl_graph.specs.declared.secret.SecretChain.{SecretChain}
 use Rattle.bl_graph.proofs.Ranging.{in_range}
-use Rattle.bl_transient.specs.Transient.{Assigns, Passes, Trans}
+use Rattle.bl_transient.specs.Transient.{Assigns, Passes, Trans, nothing}
 use Rattle.bl_transient.specs.Verdicts.{IsFirstLeak, IsLeastTyping, Judges as JudgesFlow, typing_of}
 use Rattle.bl_report.specs.Verdicts.{leak_in}
 use Rattle.bl_sct.proofs.Assessing.{hot}
@@ -127,20 +127,21 @@ module _ (program : Program) (set : ℕ → Bool) (is : AreInRange program) wher
   trans_within : (x : ℕ) → Trans program set x → x < variables program
   trans_within x (Rattle.bl_transient.specs.Transient.loaded s _ load writes may) = (is.writes s x writes).1
   trans_within x (Rattle.bl_transient.specs.Transient.moved s y _ reads writes may t) = (is.writes s x writes).1
+  trans_within x (Rattle.bl_transient.specs.Transient.given _ hot) = absurd (false≢true hot)
 
   flows : List Flow
-  flows = table (variables program) (λ x. flow_of_mark (least_typing program set x))
+  flows = table (variables program) (λ x. flow_of_mark (least_typing nothing program set x))
 
-  same_typing : (x : ℕ) → typing_of flows x ≡ least_typing program set x
+  same_typing : (x : ℕ) → typing_of flows x ≡ least_typing nothing program set x
   unfolding flows flow_of_mark
   same_typing x =
-      elim (cases_lt x (variables program)) as (λ _. typing_of flows x ≡ least_typing program set x) [
+      elim (cases_lt x (variables program)) as (λ _. typing_of flows x ≡ least_typing nothing program set x) [
         | inl lt ↦
-            ap Rattle.bl_transient.specs.Verdicts.is_transient (table_at (variables program) (λ x. flow_of_mark (least_typing program set x)) x lt) ∙ marked (least_typing program set x)
+            ap Rattle.bl_transient.specs.Verdicts.is_transient (table_at (variables program) (λ x. flow_of_mark (least_typing nothing program set x)) x lt) ∙ marked (least_typing nothing program set x)
         | inr past ↦
-            ap Rattle.bl_transient.specs.Verdicts.is_transient (table_past (variables program) (λ x. flow_of_mark (least_typing program set x)) x past)
-            ∙ elim (cases_Bool (least_typing program set x)) as (λ _. false ≡ least_typing program set x) [
-              | inl e ↦ let lt = trans_within x (typing_trans program set x e) in absurd (omega arith)
+            ap Rattle.bl_transient.specs.Verdicts.is_transient (table_past (variables program) (λ x. flow_of_mark (least_typing nothing program set x)) x past)
+            ∙ elim (cases_Bool (least_typing nothing program set x)) as (λ _. false ≡ least_typing nothing program set x) [
+              | inl e ↦ let lt = trans_within x (typing_trans nothing program set x e) in absurd (omega arith)
               | inr e ↦ sym e
             ]
       ]
@@ -151,27 +152,28 @@ module _ (program : Program) (set : ℕ → Bool) (is : AreInRange program) wher
 
   many_flows : length flows ≡ variables program
   unfolding flows
-  many_flows = table_length (variables program) (λ x. flow_of_mark (least_typing program set x))
+  many_flows = table_length (variables program) (λ x. flow_of_mark (least_typing nothing program set x))
 
-  same_typings : typing_of flows ≡ least_typing program set
+  same_typings : typing_of flows ≡ least_typing nothing program set
   same_typings = λ i x. same_typing x i
 
-  least_flows : ((position x : ℕ) → SinkReads program position x → not (least_typing program set x) ≡ true) → IsLeastTyping program set flows
+  least_flows : ((position x : ℕ) → SinkReads program position x → not (least_typing nothing program set x) ≡ true) → IsLeastTyping program set flows
   least_flows stable = record {
     places = many_flows;
     flows_hold = record {
-      assigns = subst (λ typing. Assigns program typing set) (sym same_typings) (least_assigns program set);
+      assigns = subst (λ typing. Assigns program typing set) (sym same_typings) (least_assigns nothing program set);
       sinks = λ position x reads. subst (λ b. not b ≡ true) (sym (same_typing x)) (stable position x reads);
+      firm = λ x is. absurd (false≢true is);
     };
-    trans = λ x. ((λ h. typing_trans program set x (sym (same_typing x) ∙ h)), (λ t. same_typing x ∙ is_trans program set x t));
+    trans = λ x. ((λ h. typing_trans nothing program set x (sym (same_typing x) ∙ h)), (λ t. same_typing x ∙ is_trans nothing program set x t));
   }
 
   -- what a sink reads is stable in the least typing where it is in some that keeps the rules
-  stays_stable : Passes program set → (position x : ℕ) → SinkReads program position x → not (least_typing program set x) ≡ true
+  stays_stable : Passes program set → (position x : ℕ) → SinkReads program position x → not (least_typing nothing program set x) ≡ true
   stays_stable p position x reads =
-      elim (cases_Bool (least_typing program set x)) as (λ _. not (least_typing program set x) ≡ true) [
-        | inl e ↦ absurd (never_both (p.0 x) (hot program set p.0 p.1.assigns x (typing_trans program set x e)) (p.1.sinks position x reads))
-        | inr e ↦ not_from_false (least_typing program set x) e
+      elim (cases_Bool (least_typing nothing program set x)) as (λ _. not (least_typing nothing program set x) ≡ true) [
+        | inl e ↦ absurd (never_both (p.0 x) (hot program set p.0 p.1.assigns x (typing_trans nothing program set x e)) (p.1.sinks position x reads))
+        | inr e ↦ not_from_false (least_typing nothing program set x) e
       ]
 
   -- the first leak is that of a verdict
@@ -182,14 +184,14 @@ module _ (program : Program) (set : ℕ → Bool) (is : AreInRange program) wher
   pub some_flow_verdict : ((verdict : FlowVerdict) → JudgesFlow program set verdict → ⊥) → ⊥
   some_flow_verdict none = none (flow.Yes flows) (least_flows stable)
     where
-      stable : (position x : ℕ) → SinkReads program position x → not (least_typing program set x) ≡ true
+      stable : (position x : ℕ) → SinkReads program position x → not (least_typing nothing program set x) ≡ true
       stable position x reads =
-          elim (cases_Bool (least_typing program set x)) as (λ _. not (least_typing program set x) ≡ true) [
+          elim (cases_Bool (least_typing nothing program set x)) as (λ _. not (least_typing nothing program set x) ≡ true) [
             | inl e ↦
-                absurd (some_first (λ place. (y : ℕ) × SinkReads program place y × Trans program set y) position (x, reads, typing_trans program set x e) (λ first.
+                absurd (some_first (λ place. (y : ℕ) × SinkReads program place y × Trans program set y) position (x, reads, typing_trans nothing program set x e) (λ first.
                 none (flow.No (record { 0 = first.0 }))
                 (record { var = first.1.is.0; sink = first.1.is.1; hot = first.1.is.2; least = λ other y sink t. first.1.least other (y, sink, t) })))
-            | inr e ↦ not_from_false (least_typing program set x) e
+            | inr e ↦ not_from_false (least_typing nothing program set x) e
           ]
 
 -- ---- labels

@@ -16,6 +16,7 @@ use Rattle.bl_graph.specs.Labels.{ConstantTime}
 use Rattle.bl_graph.specs.SecretChains.{IsSecretChain}
 use Rattle.bl_graph.specs.declared.secret.SecretChain.{SecretChain}
 use Rattle.bl_rob.specs.Observed.{HasEqualObservations}
+use Rattle.bl_sct.specs.OtherSecrets.{HidesGlobals}
 use Rattle.bl_report.specs.Reports.{HasReason}
 use Rattle.bl_build.specs.Building.{Built, compiling}
 use Rattle.bl_build.specs.Loading.{Part}
@@ -59,8 +60,9 @@ IsYes (No chain) = ⊥
 
 -- the verdict says that a program is constant-time exactly where some labelling keeps the label rules; else it has a secret chain.
 -- Where it says so, an observer of the buffer machine can't tell two runs apart whose starts agree in public, whatever the directives
--- and the size of the buffer
+-- and the size of the buffer; nor where the one run is of the same program with other first values of its secret globals
 pub record IsJudged (hardened : Hardened) : Type 0 where
   pub exact : IsYes hardened.verdict ↔ ConstantTime hardened.program
   pub chain : (chain : SecretChain) → hardened.verdict ≡ No chain → IsSecretChain hardened.program chain
   pub equal : IsYes hardened.verdict → HasEqualObservations hardened.program
+  pub hides : IsYes hardened.verdict → HidesGlobals hardened.program

@@ -2,6 +2,8 @@ pub mod Building
 pub mod Certifying
 pub mod Entering
 pub mod Hardening
+pub mod Interfacing
+pub mod Joining
 pub mod Loading
 pub mod Meaning
 pub mod Running

@@ -5,6 +5,17 @@ use Rattle.bl_base.specs.Quantity.{limit_of}
 use Rattle.bl_base.specs.declared.quantity.Quantity.TheVariants as quantity
 use Rattle.bl_base.specs.declared.start.Start.{Start}
 use Rattle.bl_cmd.specs.declared.definitions.ProgramParts.{ProgramParts as Program}
+use Rattle.bl_base.specs.declared.number.Pos.{Pos}
+use Rattle.bl_iface.specs.declared.choice.UnderError.{UnderError}
+use Rattle.bl_iface.specs.declared.choice.UnderError.TheVariants as under
+use Rattle.bl_iface.specs.declared.error.IfaceError.{IfaceError}
+use Rattle.bl_iface.specs.declared.error.IfaceError.TheVariants as interface
+use Rattle.bl_iface.specs.declared.error.JoinError.{JoinError}
+use Rattle.bl_iface.specs.declared.error.JoinError.TheVariants as join
+use Rattle.bl_iface.specs.declared.error.TargetsError.{TargetsError}
+use Rattle.bl_iface.specs.declared.error.TargetsError.TheVariants as targets
+use Rattle.bl_iface.specs.declared.iface.Iface.{Iface}
+use Rattle.bl_iface.specs.declared.iface.Role.{Role}
 use Rattle.bl_image.specs.declared.error.ImageError.{ImageError}
 use Rattle.bl_image.specs.declared.error.ImageError.TheVariants as image
 use Rattle.bl_decode.specs.declared.error.DecodeError.{DecodeError}
@@ -22,9 +33,11 @@ use Rattle.bl_trace.specs.declared.error.StartError.TheVariants as start
 use Rattle.bl_trace.specs.declared.error.TraceError.{TraceError}
 use Rattle.bl_trace.specs.declared.error.TraceError.TheVariants as trace
 use Rattle.bl_wasm.specs.declared.linked.Tree.{Tree}
-use Rattle.bl_build.specs.Building.{Built}
+use Rattle.bl_build.specs.Building.{Built, sizing}
 use Rattle.bl_build.specs.Entering.{Entered, Entry, bad_line, broken_rule, few_arguments, not_an_image}
 use Rattle.bl_build.specs.Hardening.{Hardened}
+use Rattle.bl_build.specs.Interfacing.{Parted, bad_interface_line, given_sink, unmatched_function}
+use Rattle.bl_build.specs.Joining.{BothPass, Sides, Union, Unites, fails, other_types, taken_export, whole}
 use Rattle.bl_build.specs.Loading.{LabelledModule, Named, bad_labels, data_range, element_range, fault_of, invalid_function, invalid_module, malformed, mismatched_import, unknown_import, unsupported}
 use Rattle.bl_job.specs.Refusals.{Refusal, limit}
 use Rattle.bl_build.specs.Running.{Invoked}
@@ -39,9 +52,12 @@ use Rattle.bl_build.specs.declared.build.Built.{Built as BuiltMade}
 use Rattle.bl_build.specs.declared.entry.Entry.{Entry as EntryFound}
 use Rattle.bl_build.specs.declared.harden.Hardened.{Hardened as HardenedMade}
 use Rattle.bl_build.specs.declared.invocation.Invocation.{Invocation}
+use Rattle.bl_build.specs.declared.join.Union.{Union as UnionMade}
+use Rattle.bl_build.specs.declared.join.Union.TheVariants as union
 use Rattle.bl_build.specs.declared.loading.Checked.{Checked}
 use Rattle.bl_build.specs.declared.loading.Ready.{Ready}
 use Rattle.bl_build.specs.declared.loading.Spelled.{Spelled}
+use Rattle.bl_build.specs.declared.part.Parted.{Parted as PartedMade}
 use Rattle.bl_job.specs.declared.refusal.WorkError.{WorkError}
 use Rattle.bl_build.specs.declared.speculation.Speculation.{Speculation}
 
@@ -103,6 +119,24 @@ cert_told cert.NotJson = Some not_json
 cert_told cert.Shape = Some other_shape
 cert_told cert.Memory = None
 
+abbrev pub iface_told : IfaceError → Option Refusal
+iface_told (interface.Line number) = Some (bad_interface_line number)
+iface_told interface.Memory = None
+
+abbrev pub targets_told : TargetsError → Option Refusal
+targets_told (targets.Unmatched index) = Some (unmatched_function index)
+targets_told targets.Memory = None
+
+abbrev pub under_told : UnderError → Option Refusal
+under_told (under.Sink position) = Some (given_sink position.0)
+under_told under.Memory = None
+
+abbrev pub join_told : JoinError → Option Refusal
+join_told (join.Types index) = Some (other_types index)
+join_told (join.Export index) = Some (taken_export index)
+join_told (join.Limit which value) = Some (limit which value)
+join_told join.Memory = None
+
 -- ---- values
 
 -- a function of a tree, its type and its start
@@ -147,3 +181,30 @@ IsTraced bytes (Err e) = Tells (TracingRefuses bytes) e
 abbrev pub IsCertificateOf : List ℕ → Result Certificate WorkError → Type 0
 IsCertificateOf bytes (Ok certificate) = Reads bytes (Ok certificate)
 IsCertificateOf bytes (Err e) = Tells (ReadingRefuses bytes) e
+
+-- ---- interfaces
+
+-- a program with its protects on one side of an interface
+abbrev pub parted_in : PartedMade → Parted
+parted_in parted = record { program = parted.program; image = parted.image }
+
+-- two programs and an interface
+abbrev pub sides_in : Program → Program → Iface → Sides
+sides_in client library iface = record { client = client; library = library; iface = iface }
+
+-- what comes of two programs
+abbrev pub union_in : UnionMade → Union
+union_in (union.Fails role position) = fails role position.0
+union_in (union.Whole built) = whole (built_in built)
+
+-- which of two programs doesn't pass, and the position that tells why; or both pass
+abbrev pub FindsFailing : Sides → Option (Role × Pos) → Type 0
+FindsFailing sides None = BothPass sides
+FindsFailing sides (Some found) = Unites sides (fails found.0 found.1.0)
+
+-- what comes of a joined program, or of why there is none
+abbrev pub IsWhole : Result Program JoinError → Result UnionMade WorkError → Type 0
+IsWhole (Ok program) (Ok made) = (built : Built) × sizing.Passes program built × (union_in made ≡ whole built)
+IsWhole (Ok program) (Err e) = Tells (sizing.Refuses program) e
+IsWhole (Err error) (Ok made) = ⊥
+IsWhole (Err error) (Err e) = IsTold (join_told error) e

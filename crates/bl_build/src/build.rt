@@ -135,7 +135,7 @@ fn program_of(alloc: Global, linked: &Linked) -> Result<WellFormed, WorkError>
 }
 
 /// A program with its image; Refused exactly where the image has too many bytes.
-fn sized(alloc: Global, program: WellFormed) -> Result<Built, WorkError>
+pub(crate) fn sized(alloc: Global, program: WellFormed) -> Result<Built, WorkError>
     ensures { IsStaged sizing built_in program result }
 {
     let image = encode(alloc, &program)?;

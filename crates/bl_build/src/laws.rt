@@ -15,6 +15,9 @@ ghost use Rattle.bl_wasm.specs.Linked.{IsLinked};
 ghost use Rattle.bl_build.specs.Building.{AreCompilable, compiling, lowering, sizing};
 ghost use Rattle.bl_build.specs.Certifying.{certifying};
 ghost use Rattle.bl_build.specs.Entering.{finding, imaging, starting};
+ghost use Rattle.bl_build.specs.Interfacing.{IsMatchable, choosing, matching, reading};
+ghost use Rattle.bl_build.specs.Joining.{AreMatchable, typing, uniting};
+ghost use Rattle.bl_iface.specs.declared.iface.Role.{Role};
 ghost use Rattle.bl_build.specs.Hardening.{Hardened, IsHardened};
 ghost use Rattle.bl_build.specs.Loading.{AreLoadable, decoding, labelling, linking, loading, validation};
 ghost use Rattle.bl_build.specs.Running.{invoking};
@@ -37,11 +40,17 @@ pub fn stages_are_lawful()
     ensures starting { (start : Listed ℕ) → IsLawfulStage (starting start) }
     ensures tracing { (trace : Listed ℕ) → IsLawfulStage (tracing trace) }
     ensures certifying { (certificate : Listed ℕ) → IsLawfulStage (certifying certificate) }
+    ensures reading { IsLawfulStage reading }
+    ensures matching { IsLawfulStage matching }
+    ensures choosing { (role : Role) → IsLawfulStage (choosing role) }
+    ensures typing { IsLawfulStage typing }
+    ensures uniting { IsLawfulStage uniting }
 {}
 
 /// Each of these stages makes something of a value, or refuses it: it can't be that neither is so. Of modules this is said where
-/// they can be loaded, of compiling them where their names are texts too, of linked trees and programs where they can be run, and of the bytes of
-/// other files without a condition. So do chains of stages.
+/// they can be loaded, of compiling them where their names are texts too, of linked trees and programs where they can be run, of sides of an
+/// interface where their programs are those of images and have all its functions, and of the bytes of other files without a condition. So do
+/// chains of stages.
 pub fn stages_are_total()
     ensures loading { IsTotalStage AreLoadable loading }
     ensures compiling { IsTotalStage AreCompilable compiling }
@@ -52,6 +61,11 @@ pub fn stages_are_total()
     ensures starting { (start : Listed ℕ) → IsTotalStage Anything (starting start) }
     ensures tracing { (trace : Listed ℕ) → IsTotalStage Anything (tracing trace) }
     ensures certifying { (certificate : Listed ℕ) → IsTotalStage IsWellFormed (certifying certificate) }
+    ensures reading { IsTotalStage Anything reading }
+    ensures matching { IsTotalStage Anything matching }
+    ensures choosing { (role : Role) → IsTotalStage IsMatchable (choosing role) }
+    ensures typing { IsTotalStage Anything typing }
+    ensures uniting { IsTotalStage AreMatchable uniting }
 {}
 
 /// Well-formed programs have verdicts: by the rules of certificates on each certificate, by the transient rules on each set of sites,

@@ -128,10 +128,10 @@ module _ (program other : Program) (same : bare other ≡ bare program) (functio
           (count_is (times positions) 0 s other.commands (is_site_same other program same s ∙ right_of (set s) (is_site program s) h))
 
   passes_back : (set : ℕ → Bool) → Passes (weighed counts program) set → Passes program set
-  passes_back set h = (h.0, record { assigns = record { loads = h.1.assigns.loads; moves = h.1.assigns.moves }; sinks = h.1.sinks })
+  passes_back set h = (h.0, record { assigns = record { loads = h.1.assigns.loads; moves = h.1.assigns.moves; given = h.1.assigns.given }; sinks = h.1.sinks; firm = h.1.firm })
 
   passes_on : (set : ℕ → Bool) → Passes program set → Passes (weighed counts program) set
-  passes_on set h = (h.0, record { assigns = record { loads = h.1.assigns.loads; moves = h.1.assigns.moves }; sinks = h.1.sinks })
+  passes_on set h = (h.0, record { assigns = record { loads = h.1.assigns.loads; moves = h.1.assigns.moves; given = h.1.assigns.given }; sinks = h.1.sinks; firm = h.1.firm })
 
   sites_on : (set : ℕ → Bool) → AreSites program set → AreSites (weighed counts program) set
   sites_on set h s chosen = subst IsSome (sym (weight_is (count_in counts) program s)) (by (mark_at program s) (h s chosen))

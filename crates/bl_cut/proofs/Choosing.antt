@@ -1,11 +1,11 @@
--- The cut nearest the starts is the least choice, and its paths certify it.
-use Rattle.std.proofs.Common.{◌≡◌, ℕ, ◌-◌, ◌*◌, ◌<◌, ◌≤◌, List, [], ◌∷◌, ◌++◌, length, Some, refl, sym, ap, subst, ◌∙◌, arith, nat_eq, nat_lt, slice_index}
+-- The cut nearest the starts is the least choice, also where something is asked of variables; its paths certify it where nothing is.
+use Rattle.std.proofs.Common.{◌≡◌, ℕ, ◌-◌, ◌*◌, ◌<◌, ◌≤◌, List, [], ◌∷◌, ◌++◌, length, Some, refl, sym, ap, subst, ◌∙◌, arith, ◌⊎◌, inl, inr, nat_eq, nat_lt, slice_index}
 use Rattle.std.specs.Prelude.{IsSome, map}
 use Rattle.std.specs.List.{All, count_by}
-use Rattle.std.proofs.lemmas.Bool.{eqb-true, lt-ltb}
+use Rattle.std.proofs.lemmas.Bool.{eqb-true, false≢true, lt-ltb}
 use Rattle.std.proofs.lemmas.List.Elements.{All-contains}
 use Rattle.bl_base.specs.declared.number.Pos.{Pos}
-use Rattle.bl_cmd.specs.Sites.{site_weight, weight_of}
+use Rattle.bl_cmd.specs.Sites.{IsLoad, SinkReads, site_weight, weight_of}
 use Rattle.bl_cmd.specs.declared.definitions.ProgramParts.{ProgramParts as Program}
 use Rattle.bl_flow.specs.declared.network.NodePath.{NodePath}
 use Rattle.bl_flow.specs.declared.network.FlowResult.{FlowResult}
@@ -19,11 +19,13 @@ use Rattle.bl_graph.specs.declared.certificate.FlowPath.{FlowPath}
 use Rattle.bl_graph.proofs.Chaining.{all_from, amount_of, chain_sites, crossed_most}
 use Rattle.bl_graph.proofs.Counting.{crossed_once, any_counted, count_filter, sum_map, sum_alike}
 use Rattle.bl_graph.proofs.Members.{from_map}
+use Rattle.bl_transient.specs.Transient.{Asked, nothing}
 use Rattle.bl_transient.proofs.Meeting.{chain_met}
-use Rattle.bl_cut.specs.Choices.{IsMaxFlow, KnowsSinks, sites_in, positions, last_var, path_of}
-use Rattle.bl_cut.specs.Least.{Least}
+use Rattle.bl_flow.specs.MaxFlow.{IsMaxFlow}
+use Rattle.bl_cut.specs.Choices.{KnowsSinks, sites_in, positions, last_var, path_of}
+use Rattle.bl_cut.specs.Least.{Least, LeastUnder}
 use Rattle.bl_graph.specs.Names.{place_of}
-use Rattle.bl_cut.specs.Network.{node_of, IsNetwork}
+use Rattle.bl_cut.specs.Network.{node_of, IsBarred, IsHotNode, IsNetwork, IsNetworkUnder}
 use Rattle.bl_cut.proofs.Cutting.{cut_weighs, passing_cut, cut_sites, cut_passes}
 use Rattle.bl_cut.proofs.Hot.{named_trans}
 use Rattle.bl_cut.proofs.Walking.{near_trans, near_var, walk_chain}
@@ -39,29 +41,44 @@ pub numbers_back : (xs : List ℕ) → map (λ (s : Pos). s.0) (positions xs) �
 numbers_back [] = refl
 numbers_back (x ∷ xs) = ap (λ l. x ∷ l) (numbers_back xs)
 
-module _ (program : Program) (names : List ℕ) (is : AreInRange program) (n : Network) (net : IsNetwork program names n) (r : FlowResult) (flow : IsMaxFlow n r) where
-  sites_ : AreSites program (cut_of r)
-  sites_ = cut_sites program names is n net (cut_of r) flow.cut
+module _ (asked : Asked) (program : Program) (names : List ℕ) (is : AreInRange program) (n : Network) (net : IsNetworkUnder asked program names n) (r : FlowResult) (flow : IsMaxFlow n r) where
+  pub nearest_sites : AreSites program (cut_of r)
+  nearest_sites = cut_sites asked program names is n net (cut_of r) flow.cut
+
+  pub nearest_weighs : weight_of program (cut_of r) ≡ carried r.paths
+  nearest_weighs = sym (cut_weighs asked program names is n net (cut_of r)) ∙ flow.weight
 
   -- the cut is the least choice
-  pub is_least : Least program (cut_of r)
-  is_least =
-      let own = cut_weighs program names is n net (cut_of r) in
-      let worth = flow.weight in
+  pub nearest_least : LeastUnder asked program (cut_of r)
+  nearest_least =
+      let worth = nearest_weighs in
       record {
-        sites = sites_;
-        passes = cut_passes program names is n net (cut_of r) flow.cut;
+        sites = nearest_sites;
+        passes = cut_passes asked program names is n net (cut_of r) flow.cut;
         lightest = λ other are passes.
-            let theirs = cut_weighs program names is n net other in
-            let most = flow.least other (passing_cut program names is n net other are passes) in
+            let theirs = cut_weighs asked program names is n net other in
+            let most = flow.least other (passing_cut asked program names is n net other are passes) in
             omega arith;
         nearest = λ other are passes same x t.
-            let theirs = cut_weighs program names is n net other in
+            let theirs = cut_weighs asked program names is n net other in
             let weighs : cut_weight n other ≡ carried r.paths = omega arith in
-            let lies = flow.nearest other (passing_cut program names is n net other are passes) weighs in
-            near_var program names is n net other x (named_trans program names net.named (cut_of r) x t)
-            (lies.in_parts (node_of program names x) ((flow.near.in_parts (node_of program names x)).1 (near_trans program names is n net (cut_of r) sites_ x t)));
+            let lies = flow.nearest other (passing_cut asked program names is n net other are passes) weighs in
+            near_var asked program names is n net other x (named_trans asked program names net.named net.hot_named (cut_of r) x t)
+            (lies.in_parts (node_of program names x) ((flow.near.in_parts (node_of program names x)).1 (near_trans asked program names is n net (cut_of r) nearest_sites x t)));
       }
+
+module _ (program : Program) (names : List ℕ) (is : AreInRange program) (n : Network) (net : IsNetwork program names n) (r : FlowResult) (flow : IsMaxFlow n r) where
+  pub is_least : Least program (cut_of r)
+  is_least = nearest_least nothing program names is n net r flow
+
+  -- where nothing is asked, starts are loads and ends are variables that sinks read
+  start_load : (s : ℕ) → IsLoad program s ⊎ IsHotNode nothing program names s → IsLoad program s
+  start_load s (inl load) = load
+  start_load s (inr hot) = absurd (false≢true hot.3)
+
+  end_sink : (x : ℕ) → IsBarred nothing program x → (position : ℕ) × SinkReads program position x
+  end_sink x (inl sink) = sink
+  end_sink x (inr firm) = absurd (false≢true firm)
 
   module _ (sink_of : List ℕ) (knows : KnowsSinks program names sink_of) where
     abbrev back : NodePath → FlowPath
@@ -76,10 +93,11 @@ module _ (program : Program) (names : List ℕ) (is : AreInRange program) (n : N
         let end = (net.ends p.last).0 p.to_an_end in
         let z : ℕ = end.0 in
         let e : p.last ≡ node_of program names z = end.1 in
+        let sink = end_sink z end.3 in
         let last_node : slice_index path.nodes (length path.nodes - 1) ≡ p.last =
         ap (λ nodes. slice_index nodes (length nodes - 1)) p.nodes ∙ (ap (slice_index (p.before ++ p.last ∷ [])) (last_place p.before p.last) ∙ last_at p.before p.last) in
         let last : last_var (commands program) path.nodes ≡ place_of names z = omega arith in
-        let chain = walk_chain program names is n net (slice_index sink_of (place_of names z)) p.start p.last z p.before ((net.starts p.start).0 p.from_a_start) e (knows.each end.2.0 z end.2.1) p.walk in
+        let chain = walk_chain program names is n net (slice_index sink_of (place_of names z)) p.start p.last z p.before (start_load p.start ((net.starts p.start).0 p.from_a_start)) e (knows.each sink.0 z sink.1) p.walk in
         subst (λ l. IsChain program l (back path).sink.0) (sym (same_sites path))
         (subst (λ x. IsChain program (sites_in (commands program) path.nodes) (slice_index sink_of x)) (sym last)
         (subst (λ nodes. IsChain program (sites_in (commands program) nodes) (slice_index sink_of (place_of names z))) (sym p.nodes) chain))
@@ -117,17 +135,17 @@ module _ (program : Program) (names : List ℕ) (is : AreInRange program) (n : N
     met : All (λ p. 1 ≤ count_by (cut_of r) (sites_of p)) paths
     met = each_back (λ p. 1 ≤ count_by (cut_of r) (sites_of p)) (λ path p.
         any_counted (cut_of r) (sites_of (back path))
-        (chain_met program (cut_of r) (cut_passes program names is n net (cut_of r) flow.cut) (sites_of (back path)) (back path).sink.0 (back_chain path p)))
+        (chain_met program (cut_of r) (cut_passes nothing program names is n net (cut_of r) flow.cut) (sites_of (back path)) (back path).sink.0 (back_chain path p)))
 
     some : All (λ p. 0 < p.amount) paths
     some = each_back (λ p. 0 < p.amount) (λ path p. p.amount)
 
     worth : weight_of program (cut_of r) ≡ flow_of paths
-    worth = sym (cut_weighs program names is n net (cut_of r)) ∙ (flow.weight ∙ sym same_flow)
+    worth = nearest_weighs nothing program names is n net r flow ∙ sym same_flow
 
     once : All (λ p. count_by (cut_of r) (sites_of p) ≡ 1) paths
     once =
-        let most = crossed_most program (cut_of r) sites_ paths fits within in
+        let most = crossed_most program (cut_of r) (nearest_sites nothing program names is n net r flow) paths fits within in
         let same = worth in
         crossed_once amount_of sites_of (cut_of r) paths some met (omega arith)
 

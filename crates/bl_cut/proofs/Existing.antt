@@ -1,22 +1,23 @@
--- Some set is least: that of a typing of least weight with the fewest transient variables.
+-- Some set is least: that of a typing of least weight with the fewest transient variables; also where something is asked of variables.
 use Rattle.std.proofs.Common.{◌≡◌, ℕ, zero, suc, ◌+◌, ◌*◌, ◌<◌, ◌≤◌, Bool, true, false, List, [], ◌∷◌, ◌++◌, length, get_or, unwrap_or, refl, sym, ap, subst, ◌∙◌, arith, ◌⊎◌, inl, inr, not, ◌&&◌, ◌||◌}
 use Rattle.std.specs.Prelude.{IsTrue, map}
 use Rattle.std.specs.List.{Contains}
-use Rattle.std.proofs.lemmas.Bool.{cases_Bool, cases_lt, false≢true, not_from_false, false_from_ne_true, and_from, and_parts, and_left, or_cases}
+use Rattle.std.proofs.lemmas.Bool.{cases_Bool, cases_lt, false≢true, not_from_false, false_from_ne_true, and_from, and_parts, and_left, or_cases, or_from, or_left, or_right}
 use Rattle.std.proofs.Math.Nat.{suc-mul}
 use Rattle.std.proofs.lemmas.List.Elements.{Contains-append_left, Contains-append_right, Contains-append_cases}
 use Rattle.bl_base.specs.Sums.{sum_below}
 use Rattle.bl_base.proofs.Sums.{sum_le, sum_plus, sum_tight, sum_bound}
 use Rattle.bl_base.proofs.BoolLemmas.{never_both}
-use Rattle.bl_cmd.specs.Sites.{site_weight, IsSite, Writes, Reads, SinkReads, weight_of}
+use Rattle.bl_cmd.specs.Sites.{site_weight, IsSite, Writes, SinkReads, weight_of}
 use Rattle.bl_cmd.specs.declared.definitions.ProgramParts.{ProgramParts as Program}
 use Rattle.bl_graph.specs.Ranges.{commands, variables, AreSites, AreInRange}
 use Rattle.bl_graph.proofs.Counting.{amount_if, once}
 use Rattle.bl_graph.proofs.Members.{first_in, later_in, in_cases, in_map, from_map, none_in}
-use Rattle.bl_transient.specs.Transient.{Assigns, Passes, Trans, loaded, moved}
+use Rattle.bl_transient.specs.Transient.{Asked, AssignsUnder, PassesUnder, TransUnder, loaded, moved, given}
 use Rattle.bl_transient.proofs.Tests.{any_below, below_has, below_if, within, sinks_some, sinks_then, sinks_so}
-use Rattle.bl_transient.proofs.Typings.{trans_least, passing_sinks, least_typing, least_assigns, typing_trans}
-use Rattle.bl_cut.specs.Least.{Least}
+use Rattle.bl_transient.proofs.Typings.{is_trans, trans_least, passing_firm, passing_sinks, least_typing, least_assigns, typing_trans}
+use Rattle.bl_cut.specs.Least.{LeastUnder}
+use Rattle.bl_cut.specs.Network.{IsBarred}
 use Rattle.bl_cut.proofs.Feeding.{feeds, cools, crossed_by, fed_load, fed_read, fed_how, cool_write, cool_how}
 
 -- a list's answer at a place; no past its end
@@ -128,9 +129,13 @@ crossing a b p q c d true true w f g h i =
     let two = ap (λ x. amount_if x w) (and_from b q fed.1 cold.1) in
     omega arith
 
-module _ (program : Program) (is : AreInRange program) where
-  abbrev Valid : (ℕ → Bool) → Type 0
-  Valid t = (position x : ℕ) → SinkReads program position x → t x ≡ false
+-- what is asked to be transient is a variable, and may be transient
+module _ (asked : Asked) (program : Program) (is : AreInRange program) (hots : (x : ℕ) → IsTrue (asked.hot x) → x < variables program) (apart : (x : ℕ) → IsTrue (asked.hot x) → IsBarred asked program x → ⊥) where
+  -- a typing has what is asked, and nothing that a sink reads
+  record Valid (t : ℕ → Bool) : Type 0 where
+    sinks : (position x : ℕ) → SinkReads program position x → t x ≡ false
+    hot : (x : ℕ) → IsTrue (asked.hot x) → t x ≡ true
+    firm : (x : ℕ) → IsTrue (asked.firm x) → t x ≡ false
 
   fed_site : (t : ℕ → Bool) (s : ℕ) → feeds program t s ≡ true → IsSite program s
   fed_site t s h = elim (fed_how program t s h) as (λ _. IsSite program s) [ inl load ↦ is.loads s load | inr r ↦ (is.reads s r.0 r.1).0 ]
@@ -138,11 +143,12 @@ module _ (program : Program) (is : AreInRange program) where
   crossed_sites : (t : ℕ → Bool) → AreSites program (crossed_by program t)
   crossed_sites t = λ s h. fed_site t s (and_parts (feeds program t s) (cools program t s) h).0
 
-  -- with these sites protected a typing without sinks passes
-  crossed_assigns : (t : ℕ → Bool) → Assigns program t (crossed_by program t)
-  crossed_assigns t = record {
+  -- with these sites protected such a typing passes
+  crossed_assigns : (t : ℕ → Bool) → Valid t → AssignsUnder asked program t (crossed_by program t)
+  crossed_assigns t valid = record {
     loads = λ s x load writes may. written s x writes may (fed_load program t s load);
     moves = λ s x y reads writes may e. written s y writes may (fed_read program t s x reads e);
+    given = valid.hot;
   }
     where
       written : (s x : ℕ) → Writes program s x → IsTrue (not (crossed_by program t s)) → feeds program t s ≡ true → IsTrue (t x)
@@ -152,8 +158,15 @@ module _ (program : Program) (is : AreInRange program) where
             | inr e ↦ absurd (never_both (crossed_by program t s) (and_from (feeds program t s) (cools program t s) fed (cool_write program t s x writes e)) may)
           ]
 
-  crossed_passes : (t : ℕ → Bool) → Valid t → Passes program (crossed_by program t)
-  crossed_passes t valid = (t, record { assigns = crossed_assigns t; sinks = λ position x sink. not_from_false (t x) (valid position x sink) })
+  crossed_passes : (t : ℕ → Bool) → Valid t → PassesUnder asked program (crossed_by program t)
+  crossed_passes t valid = (
+    t,
+    record {
+      assigns = crossed_assigns t valid;
+      sinks = λ position x sink. not_from_false (t x) (valid.sinks position x sink);
+      firm = λ x firm. not_from_false (t x) (valid.firm x firm);
+    },
+  )
 
   abbrev both : (ℕ → Bool) → (ℕ → Bool) → ℕ → Bool
   both t u x = t x && u x
@@ -220,21 +233,56 @@ module _ (program : Program) (is : AreInRange program) where
   count_most : (t : ℕ → Bool) → count t ≤ (variables program)
   count_most t = let bound = sum_bound (variables program) (λ x. once (t x)) 1 (λ k _. once_most (t k)) in let e = Rattle.std.proofs.Math.Nat.mul-one (variables program) in omega arith
 
-  is_valid : List Bool → Bool
-  is_valid l = not (any_below (commands program) (λ position. sinks_some program (is_in l) position))
+  -- a variable isn't as it is asked to be
+  abbrev misses : (ℕ → Bool) → ℕ → Bool
+  misses t x = (asked.hot x && not (t x)) || (asked.firm x && t x)
 
-  valid_if : (l : List Bool) → is_valid l ≡ true → Valid (is_in l)
+  is_valid : List Bool → Bool
+  is_valid l = not (any_below (commands program) (λ position. sinks_some program (is_in l) position) || any_below (variables program) (misses (is_in l)))
+
+  listed_within : (l : List Bool) → length l ≡ variables program → (x : ℕ) → is_in l x ≡ true → x < variables program
+  listed_within l long x e =
+      elim (cases_lt x (variables program)) as (λ _. x < variables program) [
+        | inl lt ↦ lt
+        | inr past ↦ absurd (false≢true (sym (Rattle.std.proofs.lemmas.List.get_or_past l x false (omega arith)) ∙ e))
+      ]
+
+  valid_if : (l : List Bool) → length l ≡ variables program → is_valid l ≡ true → Valid (is_in l)
   unfolding is_valid
-  valid_if l h position x sink = false_from_ne_true (is_in l x) (λ e.
-      never_both (any_below (commands program) (λ p. sinks_some program (is_in l) p))
-      (below_if (commands program) (λ p. sinks_some program (is_in l) p) position (within program position _ sink) (sinks_then program (is_in l) position x sink e)) h)
+  valid_if l long h =
+      let sunk : Bool = any_below (commands program) (λ p. sinks_some program (is_in l) p) in
+      let missed : Bool = any_below (variables program) (misses (is_in l)) in
+      let none : (sunk ≡ false) × (missed ≡ false) = both_not sunk missed (false_from_ne_true (sunk || missed) (λ e. never_both (sunk || missed) e h)) in
+      record {
+        sinks = λ position x sink. false_from_ne_true (is_in l x) (λ e.
+            false≢true (sym none.0 ∙ below_if (commands program) (λ p. sinks_some program (is_in l) p) position (within program position _ sink) (sinks_then program (is_in l) position x sink e)));
+        hot = λ x hot. elim (cases_Bool (is_in l x)) as (λ _. is_in l x ≡ true) [
+          | inl e ↦ e
+          | inr e ↦ absurd (false≢true (sym none.1 ∙ below_if (variables program) (misses (is_in l)) x (hots x hot)
+              (or_left (asked.hot x && not (is_in l x)) (asked.firm x && is_in l x) (and_from (asked.hot x) (not (is_in l x)) hot (not_from_false (is_in l x) e)))))
+        ];
+        firm = λ x firm. false_from_ne_true (is_in l x) (λ e.
+            false≢true (sym none.1 ∙ below_if (variables program) (misses (is_in l)) x (listed_within l long x e)
+            (or_right (asked.hot x && not (is_in l x)) (asked.firm x && is_in l x) (and_from (asked.firm x) (is_in l x) firm e))));
+      }
 
   valid_then : (l : List Bool) → Valid (is_in l) → is_valid l ≡ true
   unfolding is_valid
-  valid_then l valid = not_from_false _ (false_from_ne_true _ (λ h.
+  valid_then l valid =
+      let sunk : Bool = any_below (commands program) (λ p. sinks_some program (is_in l) p) in
+      let missed : Bool = any_below (variables program) (misses (is_in l)) in
+      not_from_false (sunk || missed) (or_from sunk missed
+      (false_from_ne_true sunk (λ h.
       let found = below_has (commands program) (λ p. sinks_some program (is_in l) p) h in
       let read = sinks_so program (is_in l) found.0 found.2 in
-      false≢true (sym (valid found.0 read.0 read.1) ∙ read.2)))
+      false≢true (sym (valid.sinks found.0 read.0 read.1) ∙ read.2)))
+      (false_from_ne_true missed (λ h.
+      let found = below_has (variables program) (misses (is_in l)) h in
+      let x : ℕ = found.0 in
+      elim (or_cases (asked.hot x && not (is_in l x)) (asked.firm x && is_in l x) found.2) as (λ _. ⊥) [
+        | inl e ↦ let parts = and_parts (asked.hot x) (not (is_in l x)) e in never_both (is_in l x) (valid.hot x parts.0) parts.1
+        | inr e ↦ let parts = and_parts (asked.firm x) (is_in l x) e in false≢true (sym (valid.firm x parts.0) ∙ parts.1)
+      ])))
 
   -- a typing of least measure
   record IsBest (t : ℕ → Bool) : Type 0 where
@@ -252,7 +300,7 @@ module _ (program : Program) (is : AreInRange program) where
           is_in found.0,
           record {
             tight = λ x past. Rattle.std.proofs.lemmas.List.get_or_past found.0 x false (let e = listed_length (variables program) found.0 found.1.2 in omega arith);
-            valid = valid_if found.0 found.1.0;
+            valid = valid_if found.0 (listed_length (variables program) found.0 found.1.2) found.1.0;
             least = λ u small valid.
                 let table : List Bool = tabulate (variables program) u in
                 let same = same_table u small in
@@ -260,30 +308,44 @@ module _ (program : Program) (is : AreInRange program) where
           },
         )
         | inr none ↦
-            let nothing : ℕ → Bool = λ x. false in
-            let table : List Bool = tabulate (variables program) nothing in
-            absurd (none table (listed_table (variables program) nothing) (valid_then table (subst Valid (sym (same_table nothing (λ x _. refl))) (λ position x sink. refl))))
+            let table : List Bool = tabulate (variables program) asked.hot in
+            absurd (none table (listed_table (variables program) asked.hot) (valid_then table (subst Valid (sym (same_table asked.hot asked_small)) asked_valid)))
       ]
+    where
+      asked_small : Small asked.hot
+      asked_small x past = false_from_ne_true (asked.hot x) (λ hot. let lt = hots x hot in omega arith)
 
-  module _ (t : ℕ → Bool) (is_best : IsBest t) (other : ℕ → Bool) (sites : AreSites program other) (passes : Passes program other) where
+      asked_valid : Valid asked.hot
+      asked_valid = record {
+        sinks = λ position x sink. false_from_ne_true (asked.hot x) (λ hot. apart x hot (inl (position, sink)));
+        hot = λ x hot. hot;
+        firm = λ x firm. false_from_ne_true (asked.hot x) (λ hot. apart x hot (inr firm));
+      }
+
+  module _ (t : ℕ → Bool) (is_best : IsBest t) (other : ℕ → Bool) (sites : AreSites program other) (passes : PassesUnder asked program other) where
     abbrev theirs : ℕ → Bool
-    theirs = least_typing program other
+    theirs = least_typing asked program other
 
-    trans_small : (x : ℕ) → Trans program other x → x < (variables program)
+    trans_small : (x : ℕ) → TransUnder asked program other x → x < (variables program)
     trans_small x (loaded s _ load writes may) = (is.writes s x writes).1
     trans_small x (moved s y _ reads writes may before) = (is.writes s x writes).1
+    trans_small x (given _ hot) = hots x hot
 
     small : Small theirs
-    small x past = false_from_ne_true (theirs x) (λ h. let lt = trans_small x (typing_trans program other x h) in omega arith)
+    small x past = false_from_ne_true (theirs x) (λ h. let lt = trans_small x (typing_trans asked program other x h) in omega arith)
 
     valid : Valid theirs
-    valid position x sink = false_from_ne_true (theirs x) (λ h. passing_sinks program other passes position x sink (typing_trans program other x h))
+    valid = record {
+      sinks = λ position x sink. false_from_ne_true (theirs x) (λ h. passing_sinks asked program other passes position x sink (typing_trans asked program other x h));
+      hot = λ x hot. is_trans asked program other x (given x hot);
+      firm = λ x firm. false_from_ne_true (theirs x) (λ h. passing_firm asked program other passes x firm (typing_trans asked program other x h));
+    }
 
     crossed_in : (s : ℕ) → crossed_by program theirs s ≡ true → other s ≡ true
     crossed_in s h =
         let parts = and_parts (feeds program theirs s) (cools program theirs s) h in
         let how = cool_how program theirs s parts.1 in
-        let keeps = least_assigns program other in
+        let keeps = least_assigns asked program other in
         elim (cases_Bool (other s)) as (λ _. other s ≡ true) [
           | inl e ↦ e
           | inr e ↦
@@ -309,13 +371,21 @@ module _ (program : Program) (is : AreInRange program) where
       both_small x past = and_left (t x) (theirs x) (is_best.tight x past)
 
       both_valid : Valid (both t theirs)
-      both_valid position x sink = and_left (t x) (theirs x) (is_best.valid position x sink)
+      both_valid = record {
+        sinks = λ position x sink. and_left (t x) (theirs x) (is_best.valid.sinks position x sink);
+        hot = λ x hot. and_from (t x) (theirs x) (is_best.valid.hot x hot) (valid.hot x hot);
+        firm = λ x firm. and_left (t x) (theirs x) (is_best.valid.firm x firm);
+      }
 
       either_small : Small (either t theirs)
-      either_small x past = Rattle.std.proofs.lemmas.Bool.or_from (t x) (theirs x) (is_best.tight x past) (small x past)
+      either_small x past = or_from (t x) (theirs x) (is_best.tight x past) (small x past)
 
       either_valid : Valid (either t theirs)
-      either_valid position x sink = Rattle.std.proofs.lemmas.Bool.or_from (t x) (theirs x) (is_best.valid position x sink) (valid position x sink)
+      either_valid = record {
+        sinks = λ position x sink. or_from (t x) (theirs x) (is_best.valid.sinks position x sink) (valid.sinks position x sink);
+        hot = λ x hot. or_left (t x) (theirs x) (is_best.valid.hot x hot);
+        firm = λ x firm. or_from (t x) (theirs x) (is_best.valid.firm x firm) (valid.firm x firm);
+      }
 
       both_weigh : weight_of program (crossed_by program t) ≡ weight_of program (crossed_by program (both t theirs))
       both_weigh =
@@ -345,7 +415,7 @@ module _ (program : Program) (is : AreInRange program) where
           ]
 
   -- some set is least
-  pub some_least : (set : ℕ → Bool) × Least program set
+  pub some_least : (set : ℕ → Bool) × LeastUnder asked program set
   some_least =
       let t : ℕ → Bool = best.0 in
       let is_best : IsBest t = best.1 in (
@@ -355,6 +425,6 @@ module _ (program : Program) (is : AreInRange program) where
           passes = crossed_passes t is_best.valid;
           lightest = λ other sites passes. lightest t is_best other sites passes;
           nearest = λ other sites passes same x trans.
-              typing_trans program other x (contained t is_best other sites passes same x (trans_least program t (crossed_by program t) x (crossed_assigns t) trans));
+              typing_trans asked program other x (contained t is_best other sites passes same x (trans_least asked program t (crossed_by program t) x (crossed_assigns t is_best.valid) trans));
         },
       )

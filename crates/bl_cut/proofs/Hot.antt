@@ -6,44 +6,45 @@ use Rattle.std.proofs.lemmas.Bool.{not_from_false, false_from_ne_true}
 use Rattle.bl_cmd.specs.Sites.{IsLoad, Writes, Reads}
 use Rattle.bl_cmd.specs.declared.definitions.ProgramParts.{ProgramParts as Program}
 use Rattle.bl_graph.specs.Ranges.{commands, AreSites, AreInRange}
-use Rattle.bl_transient.specs.Transient.{Trans, loaded, moved, IsFed}
+use Rattle.bl_transient.specs.Transient.{Asked, TransUnder, loaded, moved, given, IsFedUnder}
 use Rattle.bl_transient.proofs.Typings.{fed_writes}
 use Rattle.bl_graph.specs.Names.{AreNames}
 use Rattle.bl_cut.specs.Network.{node_of, ArcKind, write, read}
 use Rattle.bl_graph.proofs.Naming.{place_inj}
 
 -- a node is fed, or a transient variable
-pub data Hot (program : Program) (names : List ℕ) (set : ℕ → Bool) (v : ℕ) : Type 0 where
-  site : v < commands program → IsFed program set v → Hot program names set v
-  variable : (x : ℕ) → v ≡ node_of program names x → Trans program set x → Hot program names set v
+pub data Hot (asked : Asked) (program : Program) (names : List ℕ) (set : ℕ → Bool) (v : ℕ) : Type 0 where
+  site : v < commands program → IsFedUnder asked program set v → Hot asked program names set v
+  variable : (x : ℕ) → v ≡ node_of program names x → TransUnder asked program set x → Hot asked program names set v
 
-pub hot_site : (program : Program) (names : List ℕ) (set : ℕ → Bool) (s : ℕ) → s < commands program → Hot program names set s → IsFed program set s
-hot_site program names set s lt (site _ fed) = fed
-hot_site program names set s lt (variable x e t) = absurd (omega arith)
+module _ (asked : Asked) (program : Program) (names : List ℕ) (are : AreNames program names) (hots : (x : ℕ) → IsTrue (asked.hot x) → Contains names x) (set : ℕ → Bool) where
+  hot_site : (s : ℕ) → s < commands program → Hot asked program names set s → IsFedUnder asked program set s
+  hot_site s lt (site _ fed) = fed
+  hot_site s lt (variable x e t) = absurd (omega arith)
 
-pub named_trans : (program : Program) (names : List ℕ) → AreNames program names → (set : ℕ → Bool) (x : ℕ) → Trans program set x → Contains names x
-named_trans program names are set x (loaded s _ load writes may) = are.writes s x writes
-named_trans program names are set x (moved s y _ reads writes may t) = are.writes s x writes
+  pub named_trans : (x : ℕ) → TransUnder asked program set x → Contains names x
+  named_trans x (loaded s _ load writes may) = are.writes s x writes
+  named_trans x (moved s y _ reads writes may t) = are.writes s x writes
+  named_trans x (given _ hot) = hots x hot
 
-pub hot_var : (program : Program) (names : List ℕ) → AreNames program names → (set : ℕ → Bool) (x v : ℕ) → Contains names x → v ≡ node_of program names x → Hot program names set v
-    → Trans program set x
-hot_var program names are set x v has e (site lt _) = absurd (omega arith)
-hot_var program names are set x v has e (variable y f t) =
-    subst (Trans program set) (place_inj names y x are.rise (named_trans program names are set y t) has (omega arith)) t
+  pub hot_var : (x v : ℕ) → Contains names x → v ≡ node_of program names x → Hot asked program names set v → TransUnder asked program set x
+  hot_var x v has e (site lt _) = absurd (omega arith)
+  hot_var x v has e (variable y f t) = subst (TransUnder asked program set) (place_inj names y x are.rise (named_trans y t) has (omega arith)) t
 
-module _ (program : Program) (names : List ℕ) (are : AreNames program names) (is : AreInRange program) (set : ℕ → Bool) where
-  after_write : (u v x : ℕ) → Writes program u x → v ≡ node_of program names x → IsTrue (not (set u)) → Hot program names set u → Hot program names set v
-  after_write u v x writes e may hot = variable x e (fed_writes program set u x (hot_site program names set u (is.sites u (is.writes u x writes).0) hot) writes may)
+  module _ (is : AreInRange program) where
+    after_write : (u v x : ℕ) → Writes program u x → v ≡ node_of program names x → IsTrue (not (set u)) → Hot asked program names set u → Hot asked program names set v
+    after_write u v x writes e may hot = variable x e (fed_writes asked program set u x (hot_site u (is.sites u (is.writes u x writes).0) hot) writes may)
 
-  after_read : (u v x : ℕ) → Reads program v x → u ≡ node_of program names x → Hot program names set u → Hot program names set v
-  after_read u v x reads e hot = site (is.sites v (is.reads v x reads).0) (inr (x, reads, hot_var program names are set x u (are.reads v x reads) e hot))
+    after_read : (u v x : ℕ) → Reads program v x → u ≡ node_of program names x → Hot asked program names set u → Hot asked program names set v
+    after_read u v x reads e hot = site (is.sites v (is.reads v x reads).0) (inr (x, reads, hot_var x u (are.reads v x reads) e hot))
 
-  pub hot_on : (u v : ℕ) → ArcKind program names u v → IsTrue (not (set u)) → Hot program names set u → Hot program names set v
-  hot_on u v (write x writes e) may hot = after_write u v x writes e may hot
-  hot_on u v (read x reads e) may hot = after_read u v x reads e hot
+    pub hot_on : (u v : ℕ) → ArcKind program names u v → IsTrue (not (set u)) → Hot asked program names set u → Hot asked program names set v
+    hot_on u v (write x writes e) may hot = after_write u v x writes e may hot
+    hot_on u v (read x reads e) may hot = after_read u v x reads e hot
 
-  pub hot_load : (s : ℕ) → IsLoad program s → Hot program names set s
-  hot_load s load = site (is.sites s (is.loads s load)) (inl load)
+    pub hot_load : (s : ℕ) → IsLoad program s → Hot asked program names set s
+    hot_load s load = site (is.sites s (is.loads s load)) (inl load)
 
-  pub no_var : AreSites program set → (x : ℕ) → IsTrue (not (set (node_of program names x)))
-  no_var sites x = not_from_false _ (false_from_ne_true _ (λ h. let lt = is.sites (node_of program names x) (sites (node_of program names x) h) in omega arith))
+pub no_var : (program : Program) (names : List ℕ) → AreInRange program → (set : ℕ → Bool) → AreSites program set → (x : ℕ) → IsTrue (not (set (node_of program names x)))
+no_var program names is set sites x =
+    not_from_false _ (false_from_ne_true _ (λ h. let lt = is.sites (node_of program names x) (sites (node_of program names x) h) in omega arith))

@@ -9,9 +9,9 @@ use Rattle.bl_cmd.specs.Sites.{site_weight, Writes, weight_of}
 use Rattle.bl_cmd.specs.declared.definitions.ProgramParts.{ProgramParts as Program}
 use Rattle.bl_graph.specs.Ranges.{commands, AreSites, AreInRange}
 use Rattle.bl_graph.proofs.Counting.{amount_if}
-use Rattle.bl_transient.specs.Transient.{Passes, Trans, IsFed}
-use Rattle.bl_transient.proofs.Typings.{is_trans, typing_trans, least_typing, least_assigns, fed_writes, passing_sinks}
-use Rattle.bl_cut.specs.Least.{Least}
+use Rattle.bl_transient.specs.Transient.{Asked, PassesUnder, TransUnder, IsFedUnder}
+use Rattle.bl_transient.proofs.Typings.{is_trans, typing_trans, least_typing, least_assigns, fed_writes, passing_firm, passing_sinks}
+use Rattle.bl_cut.specs.Least.{LeastUnder}
 use Rattle.bl_cut.proofs.Feeding.{feeds, cools, crossed_by, fed_load, fed_read, fed_how, cool_write, cool_how}
 
 -- a set without one site
@@ -29,7 +29,7 @@ left_or_it set s t h =
           ]
     ]
 
-module _ (program : Program) (is : AreInRange program) (set : ℕ → Bool) (sites : AreSites program set) where
+module _ (asked : Asked) (program : Program) (is : AreInRange program) (set : ℕ → Bool) (sites : AreSites program set) where
   without_sites : (s : ℕ) → AreSites program (without set s)
   without_sites s t h = sites t (and_parts (set t) (not (nat_eq t s)) h).0
 
@@ -54,25 +54,25 @@ module _ (program : Program) (is : AreInRange program) (set : ℕ → Bool) (sit
       omega arith
 
   abbrev hot : ℕ → Bool
-  hot = least_typing program set
+  hot = least_typing asked program set
 
   -- a fed site that writes a stable variable
   abbrev pub IsNeeded : ℕ → Type 0
-  IsNeeded s = IsFed program set s × ((x : ℕ) × Writes program s x × (Trans program set x → ⊥))
+  IsNeeded s = IsFedUnder asked program set s × ((x : ℕ) × Writes program s x × (TransUnder asked program set x → ⊥))
 
-  fed_is : (s : ℕ) → feeds program hot s ≡ true → IsFed program set s
+  fed_is : (s : ℕ) → feeds program hot s ≡ true → IsFedUnder asked program set s
   fed_is s h =
-      elim (fed_how program hot s h) as (λ _. IsFed program set s) [
+      elim (fed_how program hot s h) as (λ _. IsFedUnder asked program set s) [
         | inl load ↦ inl load
-        | inr r ↦ inr (r.0, r.1, typing_trans program set r.0 r.2)
+        | inr r ↦ inr (r.0, r.1, typing_trans asked program set r.0 r.2)
       ]
 
   needed_if : (s : ℕ) → feeds program hot s ≡ true → cools program hot s ≡ true → IsNeeded s
   needed_if s fed cool =
       let how = cool_how program hot s cool in
-      (fed_is s fed, (how.0, how.1, λ t. false≢true (sym how.2 ∙ is_trans program set how.0 t)))
+      (fed_is s fed, (how.0, how.1, λ t. false≢true (sym how.2 ∙ is_trans asked program set how.0 t)))
 
-  module _ (passes : Passes program set) (s : ℕ) (idle : crossed_by program hot s ≡ false) where
+  module _ (passes : PassesUnder asked program set) (s : ℕ) (idle : crossed_by program hot s ≡ false) where
     all_trans : (x : ℕ) → Writes program s x → feeds program hot s ≡ true → hot x ≡ true
     all_trans x writes fed =
         elim (cases_Bool (hot x)) as (λ _. hot x ≡ true) [
@@ -81,9 +81,9 @@ module _ (program : Program) (is : AreInRange program) (set : ℕ → Bool) (sit
         ]
 
     -- without such a site the set passes
-    still_passes : Passes program (without set s)
+    still_passes : PassesUnder asked program (without set s)
     still_passes =
-        let keeps = least_assigns program set in (
+        let keeps = least_assigns asked program set in (
           hot,
           record {
             assigns = record {
@@ -95,13 +95,15 @@ module _ (program : Program) (is : AreInRange program) (set : ℕ → Bool) (sit
                 | inl free ↦ keeps.moves t x y reads writes free h
                 | inr e ↦ all_trans y (subst (λ u. Writes program u y) e writes) (subst (λ u. feeds program hot u ≡ true) e (fed_read program hot t x reads h))
               ];
+              given = keeps.given;
             };
-            sinks = λ position x sink. not_from_false _ (false_from_ne_true _ (λ h. passing_sinks program set passes position x sink (typing_trans program set x h)));
+            sinks = λ position x sink. not_from_false _ (false_from_ne_true _ (λ h. passing_sinks asked program set passes position x sink (typing_trans asked program set x h)));
+            firm = λ x firm. not_from_false _ (false_from_ne_true _ (λ h. passing_firm asked program set passes x firm (typing_trans asked program set x h)));
           },
         )
 
   -- each site of a lightest passing set is needed
-  pub each_needed : Passes program set → ((other : ℕ → Bool) → AreSites program other → Passes program other → weight_of program set ≤ weight_of program other) → (s : ℕ) → IsTrue (set s) → IsNeeded s
+  pub each_needed : PassesUnder asked program set → ((other : ℕ → Bool) → AreSites program other → PassesUnder asked program other → weight_of program set ≤ weight_of program other) → (s : ℕ) → IsTrue (set s) → IsNeeded s
   each_needed passes lightest s h =
       elim (cases_Bool (crossed_by program hot s)) as (λ _. IsNeeded s) [
         | inl e ↦ let parts = and_parts (feeds program hot s) (cools program hot s) e in needed_if s parts.0 parts.1
@@ -116,35 +118,35 @@ module _ (program : Program) (is : AreInRange program) (set : ℕ → Bool) (sit
   needed_in s needed =
       elim (cases_Bool (set s)) as (λ _. IsTrue (set s)) [
         | inl e ↦ e
-        | inr e ↦ absurd (needed.1.2 (fed_writes program set s needed.1.0 needed.0 needed.1.1 (not_from_false (set s) e)))
+        | inr e ↦ absurd (needed.1.2 (fed_writes asked program set s needed.1.0 needed.0 needed.1.1 (not_from_false (set s) e)))
       ]
 
-module _ (program : Program) (is : AreInRange program) where
+module _ (asked : Asked) (program : Program) (is : AreInRange program) where
   -- what a least set holds
-  pub holds_needed : (set : ℕ → Bool) → Least program set → (s : ℕ) → IsTrue (set s) ↔ (IsFed program set s × ((x : ℕ) × Writes program s x × (Trans program set x → ⊥)))
-  holds_needed set least s = (each_needed program is set least.sites least.passes least.lightest s, needed_in program is set least.sites s)
+  pub holds_needed : (set : ℕ → Bool) → LeastUnder asked program set → (s : ℕ) → IsTrue (set s) ↔ (IsFedUnder asked program set s × ((x : ℕ) × Writes program s x × (TransUnder asked program set x → ⊥)))
+  holds_needed set least s = (each_needed asked program is set least.sites least.passes least.lightest s, needed_in asked program is set least.sites s)
 
-  abbrev same_weight : (one two : ℕ → Bool) → Least program one → Least program two → weight_of program one ≡ weight_of program two
+  abbrev same_weight : (one two : ℕ → Bool) → LeastUnder asked program one → LeastUnder asked program two → weight_of program one ≡ weight_of program two
   same_weight one two a b =
       let most = a.lightest two b.sites b.passes in
       let least = b.lightest one a.sites a.passes in
       omega arith
 
-  fed_too : (one two : ℕ → Bool) → ((x : ℕ) → Trans program one x → Trans program two x) → (s : ℕ) → IsFed program one s → IsFed program two s
+  fed_too : (one two : ℕ → Bool) → ((x : ℕ) → TransUnder asked program one x → TransUnder asked program two x) → (s : ℕ) → IsFedUnder asked program one s → IsFedUnder asked program two s
   fed_too one two on s (inl load) = inl load
   fed_too one two on s (inr r) = inr (r.0, r.1, on r.0 r.2)
 
-  into : (one two : ℕ → Bool) → Least program one → Least program two → (s : ℕ) → IsTrue (one s) → IsTrue (two s)
+  into : (one two : ℕ → Bool) → LeastUnder asked program one → LeastUnder asked program two → (s : ℕ) → IsTrue (one s) → IsTrue (two s)
   into one two a b s h =
-      let needed = each_needed program is one a.sites a.passes a.lightest s h in
+      let needed = each_needed asked program is one a.sites a.passes a.lightest s h in
       let same = same_weight one two a b in
-      needed_in program is two b.sites s (
+      needed_in asked program is two b.sites s (
         fed_too one two (a.nearest two b.sites b.passes same) s needed.0,
         (needed.1.0, needed.1.1, λ t. needed.1.2 (b.nearest one a.sites a.passes (sym same) needed.1.0 t)),
       )
 
   -- no two sets are least
-  pub only_one : (one two : ℕ → Bool) → Least program one → Least program two → (s : ℕ) → one s ≡ two s
+  pub only_one : (one two : ℕ → Bool) → LeastUnder asked program one → LeastUnder asked program two → (s : ℕ) → one s ≡ two s
   only_one one two a b s =
       elim (cases_Bool (one s)) as (λ _. one s ≡ two s) [
         | inl e ↦ e ∙ sym (into one two a b s e)

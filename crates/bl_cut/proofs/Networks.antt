@@ -4,7 +4,7 @@ use Rattle.std.specs.Prelude.{IsSome, map}
 use Rattle.std.specs.List.{All, Contains, slice_index_or}
 use Rattle.std.proofs.lemmas.Bool.{cases_eq, cases_lt}
 use Rattle.std.proofs.lemmas.List.{take_more, get_or-set_same, get_or-set_other, get_or-replicate, get_or_past, length-replicate, take_all}
-use Rattle.std.proofs.lemmas.List.Elements.{Contains-append_left, Contains-append_right, Contains-append_cases, Contains-push_cases}
+use Rattle.std.proofs.lemmas.List.Elements.{All-contains, Contains-append_left, Contains-append_right, Contains-append_cases, Contains-push_cases}
 use Rattle.bl_base.specs.declared.number.Pos.{Pos}
 use Rattle.bl_cmd.specs.Sites.{site_weight, IsSite, IsLoad, Writes, Reads}
 use Rattle.bl_cmd.specs.declared.definitions.ProgramParts.{ProgramParts as Program}
@@ -18,7 +18,10 @@ use Rattle.bl_graph.proofs.Chaining.{all_from}
 use Rattle.bl_graph.proofs.Members.{in_map, from_map, none_in}
 use Rattle.bl_graph.proofs.Naming.{few_names, place_within}
 use Rattle.bl_graph.proofs.Ranging.{site_writes}
-use Rattle.bl_cut.specs.Network.{node_of, ArcKind, write, read, IsEnd, IsNetwork, write_arc, read_arc, sink_node, noted}
+use Rattle.bl_transient.specs.Transient.{Asked}
+use Rattle.bl_transient.specs.Verdicts.{asked_of}
+use Rattle.bl_transient.proofs.Asking.{asked_in, in_asked}
+use Rattle.bl_cut.specs.Network.{node_of, ArcKind, write, read, IsBarred, IsEndUnder, IsHotNode, IsNetworkUnder, write_arc, read_arc, sink_node, var_node, noted}
 
 module _ (program : Program) (g : Graph) (lists : IsGraph program g) (names : List ℕ) (are : AreNames program names) where
   arc_kind : (u v : ℕ) → Contains (map (write_arc names (commands program)) g.writes ++ map (read_arc names (commands program)) g.reads) (record { from = u; to = v }) → ArcKind program names u v
@@ -46,36 +49,67 @@ module _ (program : Program) (g : Graph) (lists : IsGraph program g) (names : Li
       (Contains-append_right (map (write_arc names (commands program)) g.writes) (map (read_arc names (commands program)) g.reads) (record { from = node_of program names x; to = v })
       (in_map (read_arc names (commands program)) g.reads (use_of v x) ((lists.reads.each v x).1 reads)))
 
-  end_kind : (v : ℕ) → Contains (map (sink_node names (commands program)) g.sinks) v → IsEnd program names v
-  end_kind v h =
-      let found = from_map (sink_node names (commands program)) g.sinks v h in
-      (found.0.var.0, sym found.2, (found.0.at.0, (lists.sinks.each found.0.at.0 found.0.var.0).0 found.1))
+  module _ (hot firm : List ℕ) (hots : All (λ x. Contains names x) hot) (firms : All (λ x. Contains names x) firm) where
+    abbrev asked : Asked
+    asked = asked_of (record { hot = hot; firm = firm })
 
-  end_of : (v : ℕ) → IsEnd program names v → Contains (map (sink_node names (commands program)) g.sinks) v
-  end_of v end =
-      subst (Contains (map (sink_node names (commands program)) g.sinks)) (sym end.1)
-      (in_map (sink_node names (commands program)) g.sinks (use_of end.2.0 end.0) ((lists.sinks.each end.2.0 end.0).1 end.2.1))
+    end_kind : (v : ℕ) → Contains (map (sink_node names (commands program)) g.sinks ++ map (var_node names (commands program)) firm) v → IsEndUnder asked program names v
+    end_kind v h =
+        elim (Contains-append_cases (map (sink_node names (commands program)) g.sinks) (map (var_node names (commands program)) firm) v h) as (λ _. IsEndUnder asked program names v) [
+          | inl s ↦
+              let found = from_map (sink_node names (commands program)) g.sinks v s in
+              let sink = (lists.sinks.each found.0.at.0 found.0.var.0).0 found.1 in
+              (found.0.var.0, sym found.2, are.sinks found.0.at.0 found.0.var.0 sink, inl (found.0.at.0, sink))
+          | inr f ↦
+              let found = from_map (var_node names (commands program)) firm v f in
+              (found.0, sym found.2, All-contains (λ x. Contains names x) firm found.0 firms found.1, inr (in_asked firm found.0 found.1))
+        ]
 
-  start_kind : (s : ℕ) → Contains (map (λ (load : Pos). load.0) g.loads) s → IsLoad program s
-  start_kind s h = let found = from_map (λ (load : Pos). load.0) g.loads s h in subst (IsLoad program) found.2 ((lists.loads found.0.0).0 found.1)
+    barred_in : (x : ℕ) → IsBarred asked program x → Contains (map (sink_node names (commands program)) g.sinks ++ map (var_node names (commands program)) firm) (node_of program names x)
+    barred_in x (inl sink) =
+        Contains-append_left (map (sink_node names (commands program)) g.sinks) (map (var_node names (commands program)) firm) (node_of program names x)
+        (in_map (sink_node names (commands program)) g.sinks (use_of sink.0 x) ((lists.sinks.each sink.0 x).1 sink.1))
+    barred_in x (inr is_firm) =
+        Contains-append_right (map (sink_node names (commands program)) g.sinks) (map (var_node names (commands program)) firm) (node_of program names x)
+        (in_map (var_node names (commands program)) firm x (asked_in firm x is_firm))
 
-  pub made_network : (n : ℕ) (weights : List (Option ℕ)) (arcs : List Arc) (starts ends : List ℕ) → n ≡ commands program → length weights ≡ n + length names
-      → ((v : ℕ) → noted weights v ≡ site_weight program v) → arcs ≡ map (write_arc names n) g.writes ++ map (read_arc names n) g.reads → starts ≡ map (λ (load : Pos). load.0) g.loads
-      → ends ≡ map (sink_node names n) g.sinks → IsNetwork program names (record { weights = weights; arcs = arcs; starts = starts; ends = ends })
-  made_network n weights arcs starts ends e places weigh arcs_are starts_are ends_are =
-      let all : arcs ≡ map (write_arc names (commands program)) g.writes ++ map (read_arc names (commands program)) g.reads = arcs_are ∙ ap (λ m. map (write_arc names m) g.writes ++ map (read_arc names m) g.reads) e in
-      let last : ends ≡ map (sink_node names (commands program)) g.sinks = ends_are ∙ ap (λ m. map (sink_node names m) g.sinks) e in
-      record {
-        named = are;
-        size_is = places ∙ ap (λ m. m + length names) e;
-        weights = weigh;
-        arcs = λ u v. ((λ h. arc_kind u v (subst (λ l. Contains l (record { from = u; to = v })) all h)), (λ h. subst (λ l. Contains l (record { from = u; to = v })) (sym all) (arc_of u v h)));
-        starts = λ s. (
-          (λ h. start_kind s (subst (λ l. Contains l s) starts_are h)),
-          (λ h. subst (λ l. Contains l s) (sym starts_are) (in_map (λ (load : Pos). load.0) g.loads (record { 0 = s }) ((lists.loads s).1 h))),
-        );
-        ends = λ v. ((λ h. end_kind v (subst (λ l. Contains l v) last h)), (λ h. subst (λ l. Contains l v) (sym last) (end_of v h)));
-      }
+    end_of : (v : ℕ) → IsEndUnder asked program names v → Contains (map (sink_node names (commands program)) g.sinks ++ map (var_node names (commands program)) firm) v
+    end_of v end = subst (Contains (map (sink_node names (commands program)) g.sinks ++ map (var_node names (commands program)) firm)) (sym end.1) (barred_in end.0 end.3)
+
+    start_kind : (s : ℕ) → Contains (map (λ (load : Pos). load.0) g.loads ++ map (var_node names (commands program)) hot) s → IsLoad program s ⊎ IsHotNode asked program names s
+    start_kind s h =
+        elim (Contains-append_cases (map (λ (load : Pos). load.0) g.loads) (map (var_node names (commands program)) hot) s h) as (λ _. IsLoad program s ⊎ IsHotNode asked program names s) [
+          | inl l ↦ let found = from_map (λ (load : Pos). load.0) g.loads s l in inl (subst (IsLoad program) found.2 ((lists.loads found.0.0).0 found.1))
+          | inr v ↦
+              let found = from_map (var_node names (commands program)) hot s v in
+              inr (found.0, sym found.2, All-contains (λ x. Contains names x) hot found.0 hots found.1, in_asked hot found.0 found.1)
+        ]
+
+    start_in : (s : ℕ) → IsLoad program s ⊎ IsHotNode asked program names s → Contains (map (λ (load : Pos). load.0) g.loads ++ map (var_node names (commands program)) hot) s
+    start_in s (inl load) =
+        Contains-append_left (map (λ (load : Pos). load.0) g.loads) (map (var_node names (commands program)) hot) s (in_map (λ (load : Pos). load.0) g.loads (record { 0 = s }) ((lists.loads s).1 load))
+    start_in s (inr node) =
+        Contains-append_right (map (λ (load : Pos). load.0) g.loads) (map (var_node names (commands program)) hot) s
+        (subst (Contains (map (var_node names (commands program)) hot)) (sym node.1) (in_map (var_node names (commands program)) hot node.0 (asked_in hot node.0 node.3)))
+
+    pub made_network : (n : ℕ) (weights : List (Option ℕ)) (arcs : List Arc) (starts ends : List ℕ) → n ≡ commands program → length weights ≡ n + length names
+        → ((v : ℕ) → noted weights v ≡ site_weight program v) → arcs ≡ map (write_arc names n) g.writes ++ map (read_arc names n) g.reads
+        → starts ≡ map (λ (load : Pos). load.0) g.loads ++ map (var_node names n) hot → ends ≡ map (sink_node names n) g.sinks ++ map (var_node names n) firm
+        → IsNetworkUnder asked program names (record { weights = weights; arcs = arcs; starts = starts; ends = ends })
+    made_network n weights arcs starts ends e places weigh arcs_are starts_are ends_are =
+        let all : arcs ≡ map (write_arc names (commands program)) g.writes ++ map (read_arc names (commands program)) g.reads = arcs_are ∙ ap (λ m. map (write_arc names m) g.writes ++ map (read_arc names m) g.reads) e in
+        let first : starts ≡ map (λ (load : Pos). load.0) g.loads ++ map (var_node names (commands program)) hot = starts_are ∙ ap (λ m. map (λ (load : Pos). load.0) g.loads ++ map (var_node names m) hot) e in
+        let last : ends ≡ map (sink_node names (commands program)) g.sinks ++ map (var_node names (commands program)) firm = ends_are ∙ ap (λ m. map (sink_node names m) g.sinks ++ map (var_node names m) firm) e in
+        record {
+          named = are;
+          hot_named = λ x is_hot. All-contains (λ y. Contains names y) hot x hots (asked_in hot x is_hot);
+          firm_named = λ x is_firm. All-contains (λ y. Contains names y) firm x firms (asked_in firm x is_firm);
+          size_is = places ∙ ap (λ m. m + length names) e;
+          weights = weigh;
+          arcs = λ u v. ((λ h. arc_kind u v (subst (λ l. Contains l (record { from = u; to = v })) all h)), (λ h. subst (λ l. Contains l (record { from = u; to = v })) (sym all) (arc_of u v h)));
+          starts = λ s. ((λ h. start_kind s (subst (λ l. Contains l s) first h)), (λ h. subst (λ l. Contains l s) (sym first) (start_in s h)));
+          ends = λ v. ((λ h. end_kind v (subst (λ l. Contains l v) last h)), (λ h. subst (λ l. Contains l v) (sym last) (end_of v h)));
+        }
 
   module _ (is : AreInRange program) (n : ℕ) (e : n ≡ commands program) where
     pub write_nodes : All (λ w. Contains names w.var.0 × (n + place_of names w.var.0 < 2 ^ 32)) g.writes
@@ -92,6 +126,11 @@ module _ (program : Program) (g : Graph) (lists : IsGraph program g) (names : Li
     sink_numbers = all_from (λ s. Contains names s.var.0 × (n + place_of names s.var.0 < 2 ^ 32)) g.sinks (λ s h.
         let has = are.sinks s.at.0 s.var.0 ((lists.sinks.each s.at.0 s.var.0).0 h) in
         let lt = place_within names s.var.0 are.rise has in let few = few_names program names is are in (has, omega arith))
+
+    pub var_nodes : (vars : List ℕ) → All (λ x. Contains names x) vars → All (λ x. Contains names x × (n + place_of names x < 2 ^ 32)) vars
+    var_nodes vars has = all_from (λ x. Contains names x × (n + place_of names x < 2 ^ 32)) vars (λ x h.
+        let there = All-contains (λ y. Contains names y) vars x has h in
+        let lt = place_within names x are.rise there in let few = few_names program names is are in (there, omega arith))
 
     pub write_sites : All (λ w. IsSite program w.at.0) g.writes
     write_sites = all_from (λ w. IsSite program w.at.0) g.writes (λ w h. (is.writes w.at.0 w.var.0 ((lists.writes.each w.at.0 w.var.0).0 h)).0)

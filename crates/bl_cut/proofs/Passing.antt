@@ -6,7 +6,7 @@ use Rattle.bl_cmd.specs.Sites.{Among, Loads, moved_by, sunk_by, written_by, IsLo
 use Rattle.bl_cmd.specs.declared.command.Command.{Command}
 use Rattle.bl_cmd.specs.declared.command.Command.TheVariants.{Set, Load, Store, Test, Jump, Arg, Call, Out, Ret, Trap}
 use Rattle.bl_cmd.specs.declared.definitions.ProgramParts.{ProgramParts as Program}
-use Rattle.bl_transient.specs.Transient.{Assigns, Passes}
+use Rattle.bl_transient.specs.Transient.{Asked, FlowsUnder, Passes, nothing}
 use Rattle.bl_cut.specs.Marks.{marked, protected}
 use Rattle.bl_cut.proofs.Marked.{moved_same, sunk_same, written_same}
 use Rattle.bl_cut.proofs.Marking.{command_is}
@@ -50,14 +50,16 @@ module _ (set : ℕ → Bool) (program : Program) where
   sinks_back s x h =
       at_position (λ command. Among (sunk_by command) x) (λ command. Among (sunk_by command) x) s (λ command e. subst (λ l. Among l x) (sunk_same (set s) command) e) h
 
+  pub flows_on : (asked : Asked) (typing chosen : ℕ → Bool) → FlowsUnder asked program typing chosen → FlowsUnder asked after typing chosen
+  flows_on asked typing chosen flows = record {
+    assigns = record {
+      loads = λ s x load writes free. flows.assigns.loads s x (load_back s load) (writes_back s x writes) free;
+      moves = λ s x y reads writes free hot. flows.assigns.moves s x y (reads_back s x reads) (writes_back s y writes) free hot;
+      given = flows.assigns.given;
+    };
+    sinks = λ position x reads. flows.sinks position x (sinks_back position x reads);
+    firm = flows.firm;
+  }
+
   pub passes_on : (chosen : ℕ → Bool) → Passes program chosen → Passes after chosen
-  passes_on chosen p = (
-    p.0,
-    record {
-      assigns = record {
-        loads = λ s x load writes free. p.1.assigns.loads s x (load_back s load) (writes_back s x writes) free;
-        moves = λ s x y reads writes free hot. p.1.assigns.moves s x y (reads_back s x reads) (writes_back s y writes) free hot;
-      };
-      sinks = λ position x reads. p.1.sinks position x (sinks_back position x reads);
-    },
-  )
+  passes_on chosen p = (p.0, flows_on nothing p.0 chosen p.1)

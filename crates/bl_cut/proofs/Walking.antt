@@ -13,11 +13,11 @@ use Rattle.bl_graph.specs.Chains.{Carries, IsChain}
 use Rattle.bl_graph.specs.Ranges.{commands, AreSites, AreInRange}
 use Rattle.bl_graph.proofs.Counting.{all_head, all_tail}
 use Rattle.bl_graph.proofs.Members.{first_in, later_in, in_cases, none_in}
-use Rattle.bl_transient.specs.Transient.{Trans, loaded, moved}
+use Rattle.bl_transient.specs.Transient.{Asked, TransUnder, loaded, moved, given}
 use Rattle.bl_cut.specs.Choices.{sites_in}
-use Rattle.bl_cut.specs.Network.{node_of, ArcKind, write, read, IsNetwork}
+use Rattle.bl_cut.specs.Network.{node_of, ArcKind, write, read, IsNetwork, IsNetworkUnder}
 use Rattle.bl_graph.proofs.Naming.{place_inj}
-use Rattle.bl_cut.proofs.Hot.{Hot, hot_on, hot_load, hot_var, no_var}
+use Rattle.bl_cut.proofs.Hot.{Hot, variable, hot_on, hot_load, hot_var, no_var}
 
 abbrev pub Free : (ℕ → Bool) → List ℕ → Type 0
 Free set nodes = All (λ u. IsTrue (not (set u))) nodes
@@ -27,30 +27,41 @@ walk_on : (n : Network) (u v w : ℕ) (before : List ℕ) → Walk n u before v 
 walk_on n u v w before (here _) arc = along u w w [] arc (here w)
 walk_on n u v w before (along _ x _ rest first walk) arc = along u x w (rest ++ v ∷ []) first (walk_on n x v w rest walk arc)
 
-module _ (program : Program) (names : List ℕ) (is : AreInRange program) (n : Network) (net : IsNetwork program names n) (set : ℕ → Bool) where
-  walk_hot : (u v : ℕ) (before : List ℕ) → Walk n u before v → Free set before → Hot program names set u → Hot program names set v
+module _ (asked : Asked) (program : Program) (names : List ℕ) (is : AreInRange program) (n : Network) (net : IsNetworkUnder asked program names n) (set : ℕ → Bool) where
+  pub walk_hot : (u v : ℕ) (before : List ℕ) → Walk n u before v → Free set before → Hot asked program names set u → Hot asked program names set v
   walk_hot u v before (here _) free hot = hot
   walk_hot u v before (along _ w _ rest arc walk) free hot =
-      walk_hot w v rest walk (all_tail (λ t. IsTrue (not (set t))) u rest free) (hot_on program names net.named is set u w ((net.arcs u w).0 arc) (all_head (λ t. IsTrue (not (set t))) u rest free) hot)
+      walk_hot w v rest walk (all_tail (λ t. IsTrue (not (set t))) u rest free)
+      (hot_on asked program names net.named net.hot_named set is u w ((net.arcs u w).0 arc) (all_head (λ t. IsTrue (not (set t))) u rest free) hot)
+
+  -- a start is fed, or a transient variable
+  pub start_hot : (s : ℕ) → Contains n.starts s → Hot asked program names set s
+  start_hot s h =
+      elim ((net.starts s).0 h) as (λ _. Hot asked program names set s) [
+        | inl load ↦ hot_load asked program names net.named net.hot_named set is s load
+        | inr node ↦ variable node.0 node.1 (given node.0 node.3)
+      ]
 
   -- the near side holds what is fed and what is transient, and nothing else
-  pub near_var : (x : ℕ) → Contains names x → NearIn n set (node_of program names x) → Trans program set x
+  pub near_var : (x : ℕ) → Contains names x → NearIn n set (node_of program names x) → TransUnder asked program set x
   near_var x has near =
-      hot_var program names net.named set x (node_of program names x) has refl
-      (walk_hot near.0 (node_of program names x) near.1 near.3 near.4 (hot_load program names net.named is set near.0 ((net.starts near.0).0 near.2)))
+      hot_var asked program names net.named net.hot_named set x (node_of program names x) has refl
+      (walk_hot near.0 (node_of program names x) near.1 near.3 near.4 (start_hot near.0 near.2))
 
   near_on : (u v : ℕ) → HasArc n u v → IsTrue (not (set u)) → NearIn n set u → NearIn n set v
   near_on u v arc may near =
       (near.0, near.1 ++ u ∷ [], near.2, walk_on n near.0 u v near.1 near.3 arc, All-push (λ w. IsTrue (not (set w))) near.1 u near.4 may)
 
-  near_load : (s : ℕ) → IsLoad program s → NearIn n set s
-  near_load s load = (s, [], (net.starts s).1 load, here s, All-nil (λ w. IsTrue (not (set w))))
+  near_start : (s : ℕ) → Contains n.starts s → NearIn n set s
+  near_start s start = (s, [], start, here s, All-nil (λ w. IsTrue (not (set w))))
 
-  pub near_trans : AreSites program set → (x : ℕ) → Trans program set x → NearIn n set (node_of program names x)
-  near_trans sites x (loaded s _ load writes may) = near_on s (node_of program names x) ((net.arcs s (node_of program names x)).1 (write x writes refl)) may (near_load s load)
+  pub near_trans : AreSites program set → (x : ℕ) → TransUnder asked program set x → NearIn n set (node_of program names x)
+  near_trans sites x (loaded s _ load writes may) =
+      near_on s (node_of program names x) ((net.arcs s (node_of program names x)).1 (write x writes refl)) may (near_start s ((net.starts s).1 (inl load)))
   near_trans sites x (moved s y _ reads writes may t) =
       near_on s (node_of program names x) ((net.arcs s (node_of program names x)).1 (write x writes refl)) may
-      (near_on (node_of program names y) s ((net.arcs (node_of program names y) s).1 (read y reads refl)) (no_var program names net.named is set sites y) (near_trans sites y t))
+      (near_on (node_of program names y) s ((net.arcs (node_of program names y) s).1 (read y reads refl)) (no_var program names is set sites y) (near_trans sites y t))
+  near_trans sites x (given _ hot) = near_start (node_of program names x) ((net.starts (node_of program names x)).1 (inr (x, refl, net.hot_named x hot, hot)))
 
 -- what is left of a walk to a sink's variable, read back as sites
 data Ahead (program : Program) (names : List ℕ) (sink u : ℕ) (sites : List ℕ) : Type 0 where

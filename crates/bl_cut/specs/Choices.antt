@@ -4,8 +4,7 @@ use Rattle.std.specs.List.{All, Contains}
 use Rattle.bl_base.specs.declared.number.Pos.{Pos}
 use Rattle.bl_cmd.specs.Sites.{SinkReads}
 use Rattle.bl_cmd.specs.declared.definitions.ProgramParts.{ProgramParts as Program}
-use Rattle.bl_flow.specs.Networks.{weight_at, IsPath, load, carried}
-use Rattle.bl_flow.specs.Cuts.{IsCut, IsNearSide, LiesNear, cut_of, cut_weight}
+use Rattle.bl_flow.specs.MaxFlow.{IsMaxFlow}
 use Rattle.bl_flow.specs.declared.network.FlowResult.{FlowResult}
 use Rattle.bl_flow.specs.declared.network.Network.{Network}
 use Rattle.bl_flow.specs.declared.network.NodePath.{NodePath}
@@ -14,16 +13,6 @@ use Rattle.bl_graph.specs.Names.{place_of}
 use Rattle.bl_graph.specs.declared.certificate.FlowPath.{FlowPath}
 use Rattle.bl_graph.specs.declared.facts.Use.{Use}
 use Rattle.bl_cut.specs.Network.{IsNetwork}
-
--- a maximum flow with the cut nearest the starts
-pub record IsMaxFlow (n : Network) (r : FlowResult) : Type 0 where
-  pub paths : All (IsPath n) r.paths
-  pub loads : (v w : ℕ) → weight_at n v ≡ Some w → load r.paths v ≤ w
-  pub cut : IsCut n (cut_of r)
-  pub weight : cut_weight n (cut_of r) ≡ carried r.paths
-  pub least : (cut : ℕ → Bool) → IsCut n cut → carried r.paths ≤ cut_weight n cut
-  pub near : IsNearSide n (cut_of r) r.near_in r.near_out
-  pub nearest : (cut : ℕ → Bool) → IsCut n cut → cut_weight n cut ≡ carried r.paths → LiesNear n cut r.near_in r.near_out
 
 -- for each variable that a sink reads the position of such a sink
 pub record KnowsSinks (program : Program) (names sink_of : List ℕ) : Type 0 where

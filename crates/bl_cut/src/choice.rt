@@ -5,15 +5,16 @@ ghost use Rattle.bl_cmd.specs.Sites.{weight_of};
 ghost use Rattle.bl_flow.specs.Cuts.{at_place};
 ghost use Rattle.bl_graph.specs.Certificates.{Certifies};
 ghost use Rattle.bl_graph.specs.Graphs.{IsGraph};
-ghost use Rattle.bl_cut.specs.Choices.{IsFlowOf};
+ghost use Rattle.bl_cut.specs.Choices.{IsFlowOf, KnowsSinks};
 ghost use Rattle.bl_cut.specs.Least.{Least};
 ghost use Rattle.bl_cut.specs.Marks.{protected};
+ghost use Rattle.bl_cut.specs.Network.{IsNetwork};
 
 use crate::network::network;
 use crate::walks::{read_back, sinks_by_variable};
 use bl_base::{List, NoMemory, Pos, SiteSet};
 use bl_cmd::WellFormed;
-use bl_flow::{FlowResult, max_flow};
+use bl_flow::{FlowResult, Network, max_flow_of};
 use bl_graph::{Certificate, Graph, Names, flow_sum, graph, names_of, ranges};
 use std::alloc::Global;
 
@@ -37,44 +38,77 @@ pub fn least_protects(alloc: Global, program: &WellFormed) -> Result<Choice, NoM
     ensures certificate { IfOk result (λ choice. Certifies (protected (fin.contains choice.protects) program.now) choice.certificate) }
 {
     let graph = graph(alloc, program)?;
-    least_protects_of(alloc, program, &graph)
+    let laid = lay_out(alloc, program, &graph)?;
+    // The search can take the graph's memory.
+    drop(graph);
+    choose(alloc, program, laid)
 }
 
-/// The same by the program's graph, for callers that need the graph as well.
-pub fn least_protects_of(
-    alloc: Global,
-    program: &WellFormed,
-    graph: &Graph,
-) -> Result<Choice, NoMemory>
+/// A program's network, and what is known of its graph beside it.
+#[derive(Drop)]
+struct Laid {
+    /// The variables that its commands name.
+    names: Names,
+    /// The network over them.
+    network: Network,
+    /// For each name, by its number, the position of a sink that reads it; 0 where none does.
+    sink_of: Vec<u32>,
+}
+
+/// The network of a program.
+fn lay_out(alloc: Global, program: &WellFormed, graph: &Graph) -> Result<Laid, NoMemory>
     requires { IsGraph program.now graph.now }
+    ensures network { IfOk result (λ laid. IsNetwork program.now laid.names laid.network) }
+    ensures places { IfOk result (λ laid. length laid.sink_of.items ≡ length laid.names) }
+    ensures knows { IfOk result (λ laid. KnowsSinks program.now laid.names laid.sink_of.items) }
+{
+    ranges(program);
+    let names = names_of(alloc, program, graph, &[])?;
+    let network = network(alloc, program, graph, &names, &[], &[])?;
+    let sink_of = sinks_by_variable(alloc, &names, graph.sinks.as_slice())?;
+    Ok(Laid {
+        names,
+        network,
+        sink_of,
+    })
+}
+
+/// The choice that the program's network shows.
+fn choose(alloc: Global, program: &WellFormed, laid: Laid) -> Result<Choice, NoMemory>
+    requires network { IsNetwork program.now laid.names laid.network }
+    requires places { length laid.sink_of.items ≡ length laid.names }
+    requires knows { KnowsSinks program.now laid.names laid.sink_of.items }
     ensures least { IfOk result (λ choice. Least program.now (fin.contains choice.protects)) }
     ensures weight { IfOk result (λ choice. choice.weight ≡ weight_of program.now (fin.contains choice.protects)) }
     ensures certificate { IfOk result (λ choice. Certifies (protected (fin.contains choice.protects) program.now) choice.certificate) }
 {
     ranges(program);
-    let names = names_of(alloc, program, graph, &[])?;
-    let network = network(alloc, program, graph, &names)?;
-    let flow = max_flow(alloc, &network)?;
-    choice_of(alloc, program, graph, &names, &flow)
+    let Laid {
+        names,
+        network,
+        sink_of,
+    } = laid;
+    let flow = max_flow_of(alloc, network)?;
+    choice_of(alloc, program, &names, &sink_of, &flow)
 }
 
 /// The choice that a maximum flow in the program's network shows.
 fn choice_of(
     alloc: Global,
     program: &WellFormed,
-    graph: &Graph,
     names: &Names,
+    sink_of: &[u32],
     flow: &FlowResult,
 ) -> Result<Choice, NoMemory>
-    requires graph { IsGraph program.now graph.now }
+    requires places { length sink_of.now ≡ length names.now }
+    requires knows { KnowsSinks program.now names.now sink_of.now }
     requires flow { IsFlowOf program.now names.now flow.now }
     ensures least { IfOk result (λ choice. Least program.now (fin.contains choice.protects)) }
     ensures weight { IfOk result (λ choice. choice.weight ≡ weight_of program.now (fin.contains choice.protects)) }
     ensures certificate { IfOk result (λ choice. Certifies (protected (fin.contains choice.protects) program.now) choice.certificate) }
 {
     let commands = program.program().parts().commands.len() as u32;
-    let sink_of = sinks_by_variable(alloc, names, graph.sinks.as_slice())?;
-    let paths = read_back(alloc, commands, &sink_of, flow.paths.as_slice())?;
+    let paths = read_back(alloc, commands, sink_of, flow.paths.as_slice())?;
     let weight = flow_sum(&paths);
     let protects = cut_sites(
         alloc,
@@ -93,7 +127,7 @@ fn choice_of(
 }
 
 /// The sites whose in part is near and whose out part isn't.
-fn cut_sites(
+pub(crate) fn cut_sites(
     alloc: Global,
     commands: u32,
     near_in: &[bool],

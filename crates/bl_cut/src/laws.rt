@@ -1,5 +1,5 @@
 //! Laws of least sets, of cuts and of marks. Each function is its contract alone.
-ghost use Rattle.std.specs.Prelude.{◌≡◌, ◌↔◌, ℕ, Bool, Contains, IsTrue, List, false};
+ghost use Rattle.std.specs.Prelude.{◌≡◌, ◌↔◌, ◌<◌, ℕ, Bool, Contains, IsTrue, List, false};
 ghost use Rattle.bl_base.specs.Runs.{Outcome};
 ghost use Rattle.bl_base.specs.declared.start.Start.{Start};
 ghost use Rattle.bl_cmd.specs.Outcomes.{plain};
@@ -9,11 +9,11 @@ ghost use Rattle.bl_flow.specs.Cuts.{IsCut, NearIn, cut_weight};
 ghost use Rattle.bl_flow.specs.declared.network.Network.{Network as Net};
 ghost use Rattle.bl_graph.specs.Graphs.{IsGraph};
 ghost use Rattle.bl_graph.specs.declared.facts.Graph.{Graph as Lists};
-ghost use Rattle.bl_graph.specs.Ranges.{AreInRange, AreSites};
-ghost use Rattle.bl_transient.specs.Transient.{IsFed, Passes, Trans};
-ghost use Rattle.bl_cut.specs.Least.{Least};
+ghost use Rattle.bl_graph.specs.Ranges.{AreInRange, AreSites, variables};
+ghost use Rattle.bl_transient.specs.Transient.{Asked, IsFed, Passes, Trans};
+ghost use Rattle.bl_cut.specs.Least.{Least, LeastUnder};
 ghost use Rattle.bl_cut.specs.Marks.{protected};
-ghost use Rattle.bl_cut.specs.Network.{IsNetwork, node_of};
+ghost use Rattle.bl_cut.specs.Network.{IsBarred, IsNetwork, node_of};
 
 /// A least set holds exactly the loads, and the sites that read a transient variable, that write one which isn't transient.
 pub fn least_by_trans()
@@ -21,14 +21,19 @@ pub fn least_by_trans()
         → IsTrue (set s) ↔ (IsFed program set s × ((x : ℕ) × Writes program s x × (Trans program set x → ⊥))) }
 {}
 
-/// No two sets are least.
+/// No two sets are least, also where something is asked of variables.
 pub fn at_most_one_least()
-    ensures { (program : ProgramParts) (one other : ℕ → Bool) → AreInRange program → Least program one → Least program other → (s : ℕ) → one s ≡ other s }
+    ensures least { (program : ProgramParts) (one other : ℕ → Bool) → AreInRange program → Least program one → Least program other → (s : ℕ) → one s ≡ other s }
+    ensures under { (asked : Asked) (program : ProgramParts) (one other : ℕ → Bool) → AreInRange program → LeastUnder asked program one
+        → LeastUnder asked program other → (s : ℕ) → one s ≡ other s }
 {}
 
-/// Some set is least. So exactly one is.
+/// Some set is least. So exactly one is. The same holds where something is asked of variables, if what is asked to be transient
+/// isn't asked to be stable too, and no sink reads it.
 pub fn some_set_is_least()
-    ensures { (program : ProgramParts) → AreInRange program → (set : ℕ → Bool) × Least program set }
+    ensures least { (program : ProgramParts) → AreInRange program → (set : ℕ → Bool) × Least program set }
+    ensures under { (asked : Asked) (program : ProgramParts) → AreInRange program → ((x : ℕ) → IsTrue (asked.hot x) → x < variables program)
+        → ((x : ℕ) → IsTrue (asked.hot x) → IsBarred asked program x → ⊥) → (set : ℕ → Bool) × LeastUnder asked program set }
 {}
 
 /// The cuts of a program's network over names are the passing sets of sites, with the same weights; the near side of a cut holds

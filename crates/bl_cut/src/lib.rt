@@ -6,7 +6,9 @@ mod choice;
 pub mod laws;
 mod marks;
 mod network;
+mod under;
 mod walks;
 
-pub use choice::{Choice, least_protects, least_protects_of};
+pub use choice::{Choice, least_protects};
 pub use marks::protect;
+pub use under::{ChoiceUnder, least_under_of};

@@ -3,7 +3,8 @@ ghost use Rattle.std.specs.Prelude.{◌≡◌, ◌+◌, ◌++◌, ◌<◌, ◌^�
 ghost use Rattle.bl_cmd.specs.Sites.{IsSite, site_weight};
 ghost use Rattle.bl_graph.specs.Graphs.{IsGraph, use_of};
 ghost use Rattle.bl_graph.specs.Names.{AreNames, place_of};
-ghost use Rattle.bl_cut.specs.Network.{IsNetwork, noted, read_arc, sink_node, write_arc};
+ghost use Rattle.bl_transient.specs.Verdicts.{asked_of};
+ghost use Rattle.bl_cut.specs.Network.{IsNetworkUnder, noted, read_arc, sink_node, var_node, write_arc};
 
 use bl_base::{List, NoMemory, Pos};
 use bl_cmd::{WellFormed, site_weight};
@@ -12,17 +13,21 @@ use bl_graph::{Graph, Names, Read, SinkUse, Write, ranges};
 use std::alloc::Global;
 
 /// A node for each position, with the weight of its site, and behind them one without weight for each name, by its number. An
-/// arc leads from a site to what it writes, and from a variable to each site that reads it. Walks begin at the loads, and end at
-/// the variables that sinks read.
+/// arc leads from a site to what it writes, and from a variable to each site that reads it. Walks begin at the loads and at what
+/// is asked to be transient, and end at the variables that sinks read and at what is asked to be stable.
 pub(crate) fn network(
     alloc: Global,
     program: &WellFormed,
     graph: &Graph,
     names: &Names,
+    hot: &[u32],
+    firm: &[u32],
 ) -> Result<Network, NoMemory>
     requires graph { IsGraph program.now graph.now }
     requires names { AreNames program.now names.now }
-    ensures { IfOk result (λ network. IsNetwork program.now names.now network) }
+    requires hot { All (λ x. Contains names.now x) hot.now }
+    requires firm { All (λ x. Contains names.now x) firm.now }
+    ensures { IfOk result (λ network. IsNetworkUnder (asked_of (record { hot = hot.now; firm = firm.now })) program.now names.now network) }
 {
     ranges(program);
     let commands = program.program().parts().commands.len() as u32;
@@ -32,8 +37,8 @@ pub(crate) fn network(
     push_writes(&mut arcs, commands, names, graph.writes.as_slice())?;
     push_reads(&mut arcs, commands, names, graph.reads.as_slice())?;
     let weights = node_weights(alloc, program, graph.writes.as_slice(), nodes)?;
-    let starts = load_nodes(alloc, graph.loads.as_slice())?;
-    let ends = sink_nodes(alloc, commands, names, graph.sinks.as_slice())?;
+    let starts = start_nodes(alloc, commands, names, graph.loads.as_slice(), hot)?;
+    let ends = end_nodes(alloc, commands, names, graph.sinks.as_slice(), firm)?;
     Ok(Network {
         weights: List::of(weights),
         arcs: List::of(arcs),
@@ -113,31 +118,60 @@ fn push_reads(
     Ok(())
 }
 
-/// The nodes of the loads.
-fn load_nodes(alloc: Global, loads: &[Pos]) -> Result<Vec<u32>, NoMemory>
-    ensures { IfOk result (λ nodes. nodes.items ≡ map (λ load. load.0) loads.now) }
+/// The nodes of the loads, and those of further variables.
+fn start_nodes(
+    alloc: Global,
+    commands: u32,
+    names: &Names,
+    loads: &[Pos],
+    vars: &[u32],
+) -> Result<Vec<u32>, NoMemory>
+    requires rise { AllPairs (λ x y. x < y) names.now }
+    requires has { All (λ x. Contains names.now x × (commands + place_of names.now x < 2 ^ 32)) vars.now }
+    ensures { IfOk result (λ nodes. nodes.items ≡ map (λ load. load.0) loads.now ++ map (var_node names.now commands) vars.now) }
 {
-    let mut nodes = Vec::with_capacity(alloc, loads.len())?;
+    let mut nodes = Vec::with_capacity(alloc, loads.len().saturating_add(vars.len()))?;
     for load in loads {
         nodes.push(load.0)?;
     }
+    push_vars(&mut nodes, commands, names, vars)?;
     Ok(nodes)
 }
 
-/// The nodes of the variables that sinks read.
-fn sink_nodes(
+/// The nodes of the variables that sinks read, and those of further ones.
+fn end_nodes(
     alloc: Global,
     commands: u32,
     names: &Names,
     sinks: &[SinkUse],
+    vars: &[u32],
 ) -> Result<Vec<u32>, NoMemory>
     requires rise { AllPairs (λ x y. x < y) names.now }
     requires has { All (λ s. Contains names.now s.var.0 × (commands + place_of names.now s.var.0 < 2 ^ 32)) sinks.now }
-    ensures { IfOk result (λ nodes. nodes.items ≡ map (sink_node names.now commands) sinks.now) }
+    requires more { All (λ x. Contains names.now x × (commands + place_of names.now x < 2 ^ 32)) vars.now }
+    ensures { IfOk result (λ nodes. nodes.items ≡ map (sink_node names.now commands) sinks.now ++ map (var_node names.now commands) vars.now) }
 {
-    let mut nodes = Vec::with_capacity(alloc, sinks.len())?;
+    let mut nodes = Vec::with_capacity(alloc, sinks.len().saturating_add(vars.len()))?;
     for sink in sinks {
         nodes.push(commands + names.number_of(sink.var.0))?;
     }
+    push_vars(&mut nodes, commands, names, vars)?;
     Ok(nodes)
+}
+
+/// Appends the nodes of variables.
+fn push_vars(
+    nodes: &mut Vec<u32>,
+    commands: u32,
+    names: &Names,
+    vars: &[u32],
+) -> Result<(), NoMemory>
+    requires rise { AllPairs (λ x y. x < y) names.now }
+    requires has { All (λ x. Contains names.now x × (commands + place_of names.now x < 2 ^ 32)) vars.now }
+    ensures { OnOk result (nodes.new.items ≡ nodes.old.items ++ map (var_node names.now commands) vars.now) }
+{
+    for x in vars {
+        nodes.push(commands + names.number_of(*x))?;
+    }
+    Ok(())
 }

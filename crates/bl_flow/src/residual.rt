@@ -228,7 +228,8 @@ fn flow_on(
     ensures advanced { IfOk result (IsAdvanced n.now capacities.old capacities.new amount) }
     ensures unchanged { OnErr result (capacities.new ≡ capacities.old) }
 {
-    let source = 2 * n.weights.as_slice().len();
+    let nodes = n.weights.as_slice().len();
+    let source = 2 * nodes;
     let levels = part_levels(alloc, links, rows, capacities, source, source + 1, false)?;
-    block_graph(alloc, n, links, rows, capacities, &levels, amount)
+    block_graph(alloc, nodes, links, rows, capacities, &levels, amount)
 }

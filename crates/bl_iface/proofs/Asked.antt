@@ -8,10 +8,11 @@ use Rattle.std.proofs.lemmas.Option.{slice_get_within}
 use Rattle.bl_base.proofs.BoolLemmas.{never_both}
 use Rattle.bl_base.specs.declared.names.Flow.{Flow}
 use Rattle.bl_base.specs.declared.names.Flow.TheVariants.{Stable, Transient}
-use Rattle.bl_cmd.specs.Layout.{param, params_of, result, results_of}
+use Rattle.bl_cmd.specs.Layout.{first_of, param, params_of, result, results_of}
 use Rattle.bl_cmd.specs.Rules.{IsOwn, Rule2, Rule3}
 use Rattle.bl_cmd.proofs.Layouts.{own_apart, result_own}
 use Rattle.bl_iface.proofs.Reading.{exported_exists}
+use Rattle.bl_iface.proofs.Small.{own_small}
 use Rattle.bl_iface.proofs.Typed.{known}
 use Rattle.bl_iface.proofs.Typing.{param_own}
 use Rattle.bl_cmd.specs.declared.definitions.ProgramParts.{ProgramParts as Program}
@@ -19,7 +20,9 @@ use Rattle.bl_transient.specs.Transient.{Flows}
 use Rattle.bl_iface.specs.Joining.{exported}
 use Rattle.bl_iface.specs.Matching.{Matches}
 use Rattle.bl_iface.specs.Roles.{FlowsAs}
-use Rattle.bl_iface.specs.Under.{Asked, AssignsUnder, FlowsUnder, IsBad, TransUnder, asked, is_called, is_flow, load, loaded, moved, given, params_called, results_called, sink, site}
+use Rattle.bl_transient.specs.Transient.{Asked, AssignsUnder, FlowsUnder, TransUnder, loaded, moved, given}
+use Rattle.bl_transient.specs.Verdicts.{IsBad, load, sink, site}
+use Rattle.bl_iface.specs.Under.{asked, is_called, is_flow, params_called, results_called}
 use Rattle.bl_iface.specs.declared.iface.FnIface.{FnIface}
 use Rattle.bl_iface.specs.declared.iface.Iface.{Iface}
 use Rattle.bl_iface.specs.declared.iface.Role.{Role}
@@ -124,7 +127,7 @@ module _ (iface : Iface) (program : Program) (typing set : ℕ → Bool) where
   }
 
   flows_of : (role : Role) → FlowsUnder (asked role iface program) program typing set → Flows program typing set
-  flows_of role h = record { assigns = record { loads = h.assigns.loads; moves = h.assigns.moves }; sinks = h.sinks }
+  flows_of role h = record { assigns = record { loads = h.assigns.loads; moves = h.assigns.moves; given = λ x h. cc }; sinks = h.sinks; firm = λ x h. cc }
 
   pub as_from_under : (role : Role) → FlowsUnder (asked role iface program) program typing set → FlowsAs role iface program typing set
   as_from_under Library h =
@@ -200,12 +203,18 @@ module _ (iface : Iface) (program : Program) (rule2 : Rule2 program) (rule3 : Ru
       let within = slice_get_within (get_or iface.functions k d).results i flow is in
       (f, i, omega (arith, many.1), omega arith))
 
+  param_in : (x : ℕ) → (h : IsParam x) → IsOwn program h.0 x
+  param_in x h = subst (IsOwn program h.0) (sym h.4) (param_own program h.0 h.1 rule2 h.2 h.3)
+
+  result_in : (x : ℕ) → (h : IsSomeResult x) → IsOwn program h.0 x
+  result_in x h = subst (IsOwn program h.0) (sym h.3) (result_own program h.0 (result program h.0 h.1) rule2 (let lt = h.2 in (omega arith, omega arith)))
+
   no_both : (x : ℕ) → IsParam x → IsSomeResult x → ⊥
   no_both x p r =
       let f : ℕ = p.0 in
       let g : ℕ = r.0 in
-      let mine : IsOwn program f x = subst (IsOwn program f) (sym p.4) (param_own program f p.1 rule2 p.2 p.3) in
-      let its : IsOwn program g x = subst (IsOwn program g) (sym r.3) (result_own program g (result program g r.1) rule2 (let lt = r.2 in (omega arith, omega arith))) in
+      let mine : IsOwn program f x = param_in x p in
+      let its : IsOwn program g x = result_in x r in
       let same : g ≡ f = own_apart program g f x its mine in
       let at : x ≡ result program f r.1 = r.3 ∙ ap (λ k. result program k r.1) same in
       let lt = p.3 in let is = p.4 in
@@ -214,3 +223,18 @@ module _ (iface : Iface) (program : Program) (rule2 : Rule2 program) (rule3 : Ru
   pub asked_apart : (role : Role) (x : ℕ) → IsTrue ((asked role iface program).hot x) → IsTrue ((asked role iface program).firm x) → ⊥
   asked_apart Library x hot firm = no_both x (param_is Transient x hot) (result_is Stable x firm)
   asked_apart Client x hot firm = no_both x (param_is Stable x firm) (result_is Transient x hot)
+
+  -- both are variables of the program
+  param_small : (x : ℕ) → IsParam x → x < first_of program (length program.functions)
+  param_small x h = own_small program rule2 h.0 x (param_in x h)
+
+  result_small : (x : ℕ) → IsSomeResult x → x < first_of program (length program.functions)
+  result_small x h = own_small program rule2 h.0 x (result_in x h)
+
+  pub hot_small : (role : Role) (x : ℕ) → IsTrue ((asked role iface program).hot x) → x < first_of program (length program.functions)
+  hot_small Library x hot = param_small x (param_is Transient x hot)
+  hot_small Client x hot = result_small x (result_is Transient x hot)
+
+  pub firm_small : (role : Role) (x : ℕ) → IsTrue ((asked role iface program).firm x) → x < first_of program (length program.functions)
+  firm_small Library x firm = result_small x (result_is Stable x firm)
+  firm_small Client x firm = param_small x (param_is Stable x firm)

@@ -1,11 +1,15 @@
 pub mod Alike
 pub mod Appended
 pub mod Asked
+pub mod Choosing
 pub mod Demanded
 pub mod Embedding
+pub mod Given
 pub mod Goals
+pub mod Guarded
 pub mod Keeping
 pub mod Linking
+pub mod Listing
 pub mod Loops
 pub mod Matched
 pub mod Movable
@@ -15,6 +19,7 @@ pub mod OneAnswer
 pub mod Pairs
 pub mod Reading
 pub mod Shifted
+pub mod Sides
 pub mod Small
 pub mod Standing
 pub mod Typed
@@ -24,3 +29,4 @@ pub mod Weighing
 pub mod Whole
 pub mod FileLines
 pub mod OneFile
+pub mod OneVerdict

@@ -16,13 +16,13 @@ use Rattle.bl_iface.specs.declared.error.JoinError.TheVariants.{Types, Export, L
 use Rattle.bl_iface.proofs.Appended.{get_take}
 
 module _ {X : Type 0} (P : X → Type 0) (xs : List X) where
-  none_of_all : (i : ℕ) → IsFirstWithout P xs i → All P xs → ⊥
+  pub none_of_all : (i : ℕ) → IsFirstWithout P xs i → All P xs → ⊥
   none_of_all i h all = h.without (all_get P xs i h.item all h.stands)
 
   not_before : (i j : ℕ) → IsFirstWithout P xs i → IsFirstWithout P xs j → i < j → ⊥
   not_before i j h k lt = h.without (all_get P (take j xs) i h.item k.before (get_take j xs i lt ∙ h.stands))
 
-  first_one : (i j : ℕ) → IsFirstWithout P xs i → IsFirstWithout P xs j → i ≡ j
+  pub first_one : (i j : ℕ) → IsFirstWithout P xs i → IsFirstWithout P xs j → i ≡ j
   first_one i j h k = elim (cases_order i j) as (λ _. i ≡ j) [
     | inl same ↦ same
     | inr apart ↦ absurd (elim apart as (λ _. ⊥) [ inl less ↦ not_before i j h k less | inr more ↦ not_before j i k h more ])
@@ -38,7 +38,7 @@ module _ (client library : Program) (iface : Iface) where
   no_export : (i : ℕ) → IsFirstWithout (IsNew (kept iface client)) library.exports i → All (IsNew (kept iface client)) library.exports → ⊥
   no_export = none_of_all (IsNew (kept iface client)) library.exports
 
-  limits_one : (p q : Quantity) (m n : ℕ) → StandsAgainst client library iface (Limit p m) → StandsAgainst client library iface (Limit q n) → Limit p m ≡ Limit q n
+  pub limits_one : (p q : Quantity) (m n : ℕ) → StandsAgainst client library iface (Limit p m) → StandsAgainst client library iface (Limit q n) → Limit p m ≡ Limit q n
   limits_one p q m n a b =
       let one = a.2 in
       let other = b.2 in

@@ -59,10 +59,12 @@ flows_from program typing set each = record {
     moves = λ s x y reads writes bare t.
         let c = some_and (command_at program s) (λ k. Among (moved_by k) x) reads in
         (each s c.0 c.1).moves x y c.2 (known (command_at program s) c.0 (λ k. written_by program s k ≡ Some y) writes c.1) bare t;
+    given = λ x h. cc;
   };
   sinks = λ s x reads.
       let c = some_and (command_at program s) (λ k. Among (sunk_by k) x) reads in
       (each s c.0 c.1).sinks x c.2;
+  firm = λ x h. cc;
 }
 
 -- ---- renamed commands

@@ -1,4 +1,5 @@
 pub mod Answers
+pub mod Asking
 pub mod Example
 pub mod Files
 pub mod Joining

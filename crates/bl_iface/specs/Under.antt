@@ -1,40 +1,23 @@
--- What an interface asks of a role, as tests of variables; the verdict on a set of sites under it.
-use Rattle.std.specs.Prelude.{◌≤◌, ◌-◌, ℕ, Bool, true, false, IsTrue, not, nat_le, ◌&&◌, List, Option, Some, option_map, slice_get, unwrap_or}
+-- What an interface asks of a role, as tests of variables; the least choice of protects and the verdict on a set of sites under it.
+use Rattle.std.specs.Prelude.{◌≡◌, ◌≤◌, ◌-◌, ℕ, Bool, true, false, IsTrue, nat_le, ◌&&◌, List, Option, Some, option_map, slice_get, unwrap_or}
 use Rattle.std.specs.List.{list_any}
 use Rattle.bl_base.specs.declared.names.Flow.{Flow}
 use Rattle.bl_base.specs.declared.names.Flow.TheVariants.{Stable, Transient}
 use Rattle.bl_cmd.specs.Layout.{param, result}
-use Rattle.bl_cmd.specs.Sites.{IsLoad, Writes, Reads, SinkReads}
+use Rattle.bl_cmd.specs.Sites.{SinkReads, weight_of}
 use Rattle.bl_cmd.specs.declared.definitions.ProgramParts.{ProgramParts as Program}
+use Rattle.bl_graph.specs.Ranges.{AreSites}
+use Rattle.bl_transient.specs.Transient.{Asked, TransUnder}
+use Rattle.bl_transient.specs.Verdicts.{IsFirstBad}
 use Rattle.bl_iface.specs.Joining.{exported}
+use Rattle.bl_iface.specs.Roles.{PassesAs}
+use Rattle.bl_iface.specs.declared.choice.UnderError.{UnderError}
+use Rattle.bl_iface.specs.declared.choice.UnderError.TheVariants.{Sink, Memory}
 use Rattle.bl_iface.specs.declared.iface.Iface.{Iface}
 use Rattle.bl_iface.specs.declared.iface.Role.{Role}
 use Rattle.bl_iface.specs.declared.iface.Role.TheVariants.{Client, Library}
-
--- ---- rules under what is asked of variables
-
--- what is asked of variables beside the rules: that some be transient, and that some be stable
-pub record Asked : Type 0 where
-  pub hot : ℕ → Bool
-  pub firm : ℕ → Bool
-
--- a typing keeps the rules on what sites write, where those of a set are protected, and has as transient what is asked to be
-pub record AssignsUnder (asked : Asked) (program : Program) (typing set : ℕ → Bool) : Type 0 where
-  pub loads : (s x : ℕ) → IsLoad program s → Writes program s x → IsTrue (not (set s)) → IsTrue (typing x)
-  pub moves : (s x y : ℕ) → Reads program s x → Writes program s y → IsTrue (not (set s)) → IsTrue (typing x) → IsTrue (typing y)
-  pub given : (x : ℕ) → IsTrue (asked.hot x) → IsTrue (typing x)
-
--- a typing keeps all transient rules, and has as stable what is asked to be
-pub record FlowsUnder (asked : Asked) (program : Program) (typing set : ℕ → Bool) : Type 0 where
-  pub assigns : AssignsUnder asked program typing set
-  pub sinks : (position x : ℕ) → SinkReads program position x → IsTrue (not (typing x))
-  pub firm : (x : ℕ) → IsTrue (asked.firm x) → IsTrue (not (typing x))
-
--- the least set of variables that keeps the rules on what sites write, and has what is asked to be transient
-pub data TransUnder (asked : Asked) (program : Program) (set : ℕ → Bool) : ℕ → Type 0 where
-  loaded : (s x : ℕ) → IsLoad program s → Writes program s x → IsTrue (not (set s)) → TransUnder asked program set x
-  moved : (s x y : ℕ) → Reads program s x → Writes program s y → IsTrue (not (set s)) → TransUnder asked program set x → TransUnder asked program set y
-  given : (x : ℕ) → IsTrue (asked.hot x) → TransUnder asked program set x
+use Rattle.bl_iface.specs.declared.verdict.UnderVerdict.{UnderVerdict}
+use Rattle.bl_iface.specs.declared.verdict.UnderVerdict.TheVariants.{Yes, No}
 
 -- ---- what a role asks
 
@@ -60,16 +43,34 @@ abbrev pub asked : Role → Iface → Program → Asked
 asked Library iface program = record { hot = params_called Transient iface program; firm = results_called Stable iface program }
 asked Client iface program = record { hot = results_called Transient iface program; firm = params_called Stable iface program }
 
--- ---- the verdict
+-- ---- the least choice
 
--- a sink there reads a transient variable, or a site that isn't protected is a Load or reads one, and writes what must be stable
-pub data IsBad (asked : Asked) (program : Program) (set : ℕ → Bool) (position : ℕ) : Type 0 where
-  sink : (x : ℕ) → SinkReads program position x → TransUnder asked program set x → IsBad asked program set position
-  load : (y : ℕ) → IsLoad program position → Writes program position y → IsTrue (not (set position)) → IsTrue (asked.firm y) → IsBad asked program set position
-  site : (x y : ℕ) → Reads program position x → TransUnder asked program set x → Writes program position y → IsTrue (not (set position)) → IsTrue (asked.firm y)
-      → IsBad asked program set position
+-- a sink there reads directly what is asked to be transient
+abbrev pub IsGiven : Asked → Program → ℕ → Type 0
+IsGiven asked program position = (x : ℕ) × SinkReads program position x × IsTrue (asked.hot x)
 
 -- the least such position
-pub record IsFirstBad (asked : Asked) (program : Program) (set : ℕ → Bool) (position : ℕ) : Type 0 where
-  pub bad : IsBad asked program set position
-  pub least : (other : ℕ) → IsBad asked program set other → position ≤ other
+pub record IsFirstGiven (asked : Asked) (program : Program) (position : ℕ) : Type 0 where
+  pub given : IsGiven asked program position
+  pub least : (other : ℕ) → IsGiven asked program other → position ≤ other
+
+-- a set of sites of least weight that passes on that side of the interface, whose transient variables are contained in those of every other one
+-- of that weight
+pub record LeastAs (role : Role) (iface : Iface) (program : Program) (set : ℕ → Bool) : Type 0 where
+  pub sites : AreSites program set
+  pub passes : PassesAs role iface program set
+  pub lightest : (other : ℕ → Bool) → AreSites program other → PassesAs role iface program other → weight_of program set ≤ weight_of program other
+  pub nearest : (other : ℕ → Bool) → AreSites program other → PassesAs role iface program other → weight_of program set ≡ weight_of program other
+      → (x : ℕ) → TransUnder (asked role iface program) program set x → TransUnder (asked role iface program) program other x
+
+-- why nothing is chosen: such a sink, the first one, or memory ran out, which no clause rules out
+abbrev pub IsUnderError : Asked → Program → UnderError → Type 0
+IsUnderError asked program (Sink position) = IsFirstGiven asked program position.0
+IsUnderError asked program Memory = Unit {0}
+
+-- ---- the verdict
+
+-- the set passes on that side of the interface; or it doesn't, and the least position tells why
+abbrev pub JudgesAs : Role → Iface → Program → (ℕ → Bool) → UnderVerdict → Type 0
+JudgesAs role iface program set Yes = PassesAs role iface program set
+JudgesAs role iface program set (No position) = (PassesAs role iface program set → ⊥) × IsFirstBad (asked role iface program) program set position.0

@@ -11,10 +11,10 @@ use crate::copies::{
     both, kept_exports, push_all, push_exports, push_functions, push_globals, push_memories,
     push_results, push_weights,
 };
-use crate::error::{JoinError, TargetsError};
+use crate::error::JoinError;
 use crate::iface::Iface;
 use crate::limits::{first_over, sums, vars_of};
-use crate::matching::targets;
+use crate::matching::matched;
 use crate::numbers::Numbers;
 use crate::obstacles::{first_taken, first_unlike};
 use crate::shift::Shift;
@@ -73,18 +73,6 @@ pub fn join(
     )?;
     let parts = joined_parts(alloc, client, library, i, goals.as_slice(), kept)?;
     Ok(assembled(client, library, i, parts))
-}
-
-/// The functions of an interface in a program that has them.
-fn matched(alloc: Global, program: &WellFormed, i: &Iface) -> Result<List<u32>, NoMemory>
-    requires { Matches program.now i.now }
-    ensures { IfOk result (AreTargets program.now i.now) }
-{
-    match targets(alloc, program, i) {
-        Ok(targets) => Ok(targets),
-        Err(TargetsError::Unmatched(_)) => unreachable!(),
-        Err(TargetsError::Memory) => Err(NoMemory),
-    }
 }
 
 /// Tests whether the two can be joined; the first thing that stands against it is the error.

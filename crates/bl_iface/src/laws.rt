@@ -4,14 +4,17 @@ ghost use Rattle.bl_cmd.specs.Programs.{IsProgram};
 ghost use Rattle.bl_cmd.specs.Rules.{IsWellFormed};
 ghost use Rattle.bl_cmd.specs.Sites.{is_protected};
 ghost use Rattle.bl_cmd.specs.declared.definitions.ProgramParts.{ProgramParts};
-ghost use Rattle.bl_transient.specs.Transient.{Passes};
+ghost use Rattle.bl_cut.specs.Least.{LeastUnder};
+ghost use Rattle.bl_graph.specs.Ranges.{AreInRange};
+ghost use Rattle.bl_transient.specs.Transient.{FlowsUnder, Passes, TransUnder};
+ghost use Rattle.bl_transient.specs.Verdicts.{IsBad};
 ghost use Rattle.bl_iface.specs.Answers.{JoinAnswers};
 ghost use Rattle.bl_iface.specs.Example.{client, iface, library, whole};
 ghost use Rattle.bl_iface.specs.Files.{IsIface};
 ghost use Rattle.bl_iface.specs.Joining.{CanJoin, joined};
 ghost use Rattle.bl_iface.specs.Matching.{Matches};
 ghost use Rattle.bl_iface.specs.Roles.{FlowsAs, PassesAs};
-ghost use Rattle.bl_iface.specs.Under.{FlowsUnder, IsBad, TransUnder, asked};
+ghost use Rattle.bl_iface.specs.Under.{IsFirstGiven, IsGiven, JudgesAs, LeastAs, asked};
 ghost use Rattle.bl_iface.specs.declared.error.IfaceError.{IfaceError};
 ghost use Rattle.bl_iface.specs.declared.error.IfaceError.TheVariants.{Memory as IfaceMemory};
 ghost use Rattle.bl_iface.specs.declared.error.JoinError.{JoinError};
@@ -19,6 +22,7 @@ ghost use Rattle.bl_iface.specs.declared.error.JoinError.TheVariants.{Memory};
 ghost use Rattle.bl_iface.specs.declared.iface.Iface.{Iface};
 ghost use Rattle.bl_iface.specs.declared.iface.Role.{Role};
 ghost use Rattle.bl_iface.specs.declared.iface.Role.TheVariants.{Client, Library};
+ghost use Rattle.bl_iface.specs.declared.verdict.UnderVerdict.{UnderVerdict};
 
 /// Two programs that can be joined are joined to a program that keeps all rules.
 pub fn joins()
@@ -49,6 +53,12 @@ pub fn tells()
         → ((position : ℕ) → IsBad (asked role iface program) program set position → ⊥) → FlowsAs role iface program typing set }
 {}
 
+/// What is least under what a role asks is least among the sets that pass on that side of the interface.
+pub fn chooses()
+    ensures { (role : Role) (iface : Iface) (program : ProgramParts) (set : ℕ → Truth)
+        → LeastUnder (asked role iface program) program set ↔ LeastAs role iface program set }
+{}
+
 /// The definition gives the program that an independent program makes of two small ones.
 pub fn example()
     ensures { joined client library iface ≡ whole }
@@ -65,4 +75,22 @@ pub fn one_answer()
     ensures { (client library : ProgramParts) (iface : Iface) (one other : Answer ProgramParts JoinError)
         → JoinAnswers client library iface one → JoinAnswers client library iface other
         → (one ≡ Err Memory → ⊥) → (other ≡ Err Memory → ⊥) → one ≡ other }
+{}
+
+/// But for want of memory, `least_under` has one answer, and there is one: a set or a position.
+pub fn one_choice()
+    ensures sets { (role : Role) (iface : Iface) (program : ProgramParts) (one other : ℕ → Truth) → AreInRange program
+        → LeastUnder (asked role iface program) program one → LeastUnder (asked role iface program) program other → (s : ℕ) → one s ≡ other s }
+    ensures positions { (role : Role) (iface : Iface) (program : ProgramParts) (one other : ℕ)
+        → IsFirstGiven (asked role iface program) program one → IsFirstGiven (asked role iface program) program other → one ≡ other }
+    ensures apart { (role : Role) (iface : Iface) (program : ProgramParts) (set : ℕ → Truth) (position : ℕ)
+        → LeastUnder (asked role iface program) program set → IsFirstGiven (asked role iface program) program position → ⊥ }
+    ensures some { (role : Role) (iface : Iface) (program : ProgramParts) → AreInRange program → IsWellFormed program → Matches program iface
+        → ((position : ℕ) → IsGiven (asked role iface program) program position → ⊥) → (set : ℕ → Truth) × LeastUnder (asked role iface program) program set }
+{}
+
+/// But for want of memory, `passes_under` has one answer.
+pub fn one_verdict()
+    ensures { (role : Role) (iface : Iface) (program : ProgramParts) (set : ℕ → Truth) (one other : UnderVerdict)
+        → JudgesAs role iface program set one → JudgesAs role iface program set other → one ≡ other }
 {}

@@ -7,7 +7,7 @@ ghost use Rattle.bl_iface.specs.Matching.{AreTargets, Fits, IsMatched, IsTargets
 use crate::error::TargetsError;
 use crate::iface::{FnIface, Iface};
 use crate::names::numbers_of;
-use bl_base::List;
+use bl_base::{List, NoMemory};
 use bl_cmd::{ExportDef, ProgramParts, WellFormed};
 use std::alloc::Global;
 
@@ -30,6 +30,18 @@ pub fn targets(alloc: Global, p: &WellFormed, i: &Iface) -> Result<List<u32>, Ta
         targets.push(target)?;
     }
     Ok(targets)
+}
+
+/// The functions of an interface in a program that has them.
+pub(crate) fn matched(alloc: Global, program: &WellFormed, i: &Iface) -> Result<List<u32>, NoMemory>
+    requires { Matches program.now i.now }
+    ensures { IfOk result (AreTargets program.now i.now) }
+{
+    match targets(alloc, program, i) {
+        Ok(targets) => Ok(targets),
+        Err(TargetsError::Unmatched(_)) => unreachable!(),
+        Err(TargetsError::Memory) => Err(NoMemory),
+    }
 }
 
 /// The first function of the interface, by its index from 0, that isn't an export of the program with as many parameters and results; None

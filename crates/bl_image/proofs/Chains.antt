@@ -194,6 +194,32 @@ no_rest B start s m all some p q ys h =
     let f = first_of B parts.0 m some parts.2 in
     q.none f.here f.front f.rest f.spelled f.whole
 
+-- where something is left, more things are spelled than were read
+pub more_left : {A : Type 0} (B : A → Spellings) (start : List A) (s m : List ℕ) (all : List A) → 0 < length m → SoFar B start s m all → (ys : List A) → each B ys s → length all < length start + length ys
+more_left B start s m all some p ys h =
+    let parts = p.splits ys h in
+    let f = first_of B parts.0 m some parts.2 in
+    omega (arith, ap length p.list, length-append start p.read, ap length parts.1, length-append p.read parts.0, ap length f.list)
+
+-- what was read of so many things, of which none is kept
+pub record Counted {A : Type 0} (B : A → Spellings) (s m : List ℕ) (count : ℕ) : Type 0 where
+  pub read : List A
+  pub long : length read ≡ count
+  pub so_far : SoFar B [] s m read
+
+pub counted_none : {A : Type 0} (B : A → Spellings) (s : List ℕ) → Counted B s s 0
+counted_none B s = record { read = []; long = refl; so_far = at_start B [] s }
+
+pub counted_further : {A : Type 0} (B : A → Spellings) (s m r : List ℕ) (count : ℕ) (x : A) → 0 < length m → Counted B s m count → Begins B m x r → Counted B s r (count + 1)
+counted_further B s m r count x some p q = record {
+  read = p.read ++ x ∷ [];
+  long = length-append p.read (x ∷ []) ∙ ap (λ n. n + 1) p.long;
+  so_far = one_further B [] s m r p.read x some p.so_far q;
+}
+
+pub counted_end : {A : Type 0} (B : A → Spellings) (s m : List ℕ) (count : ℕ) → ((x : A) → B x [] → ⊥) → length m ≡ 0 → Counted B s m count → (xs : List A) × (length xs ≡ count) × Fills B s xs
+counted_end B s m count never none p = let e = at_end B [] s m p.read never none p.so_far in (e.0, sym (ap length e.1) ∙ p.long, e.2)
+
 -- what is left behind a thing of a byte or more is shorter
 pub shorter : {A : Type 0} (B : A → Spellings) (m r : List ℕ) (x : A) → ((y : A) → B y [] → ⊥) → Begins B m x r → length r < length m
 shorter B m r x never p = by_front p.front p.spelled p.whole

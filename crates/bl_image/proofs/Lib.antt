@@ -5,6 +5,7 @@ pub mod Chains
 pub mod Exists
 pub mod Fits
 pub mod Images
+pub mod Large
 pub mod Numbers
 pub mod Operands
 pub mod Prefixes

@@ -1,5 +1,5 @@
 -- The whole image, from its parts.
-use Rattle.std.proofs.Common.{◌≡◌, ℕ, ◌+◌, ◌<◌, ◌≤◌, zero, suc, List, [], ◌∷◌, ◌++◌, length, take, drop, slice_get, append_assoc, ap, ap₂, sym, ◌∙◌, refl, subst, arith, Option, Some, None, Result, Ok, Err, length-append, length-drop}
+use Rattle.std.proofs.Common.{◌≡◌, ℕ, ◌<◌, suc, List, [], ◌∷◌, ◌++◌, length, drop, slice_get, append_assoc, ap, ap₂, sym, ◌∙◌, refl, subst, arith, Some, Result, length-append}
 use Rattle.std.specs.Result.{IsErrAnd}
 use Rattle.std.proofs.lemmas.Result.{err_from_is_err_and}
 use Rattle.std.proofs.lemmas.Option.{slice_get_within}
@@ -20,11 +20,11 @@ use Rattle.bl_image.specs.declared.rising.Weights.{Weights}
 use Rattle.bl_image.specs.declared.error.Malformed.{Malformed}
 use Rattle.bl_image.specs.declared.error.ReadError.{ReadError}
 use Rattle.bl_image.specs.declared.error.ReadError.TheVariants.{NotAnImage, Memory}
-use Rattle.bl_leb.specs.Grammar.{Spellings, ◌⨾◌, byte, given, exactly}
+use Rattle.bl_leb.specs.Grammar.{Spellings, ◌⨾◌, byte, given}
 use Rattle.bl_image.specs.Grammar.{each, vec}
-use Rattle.bl_image.specs.Image.{magic, header, version, definitions, additions, weights, demand, command, image, Image}
-use Rattle.bl_image.specs.Reading.{Begins, NoneBegins, Fills, Spells, Finds, Reads, ReadsAll, ReadsProgram, Refuses, RefusesAll, additions_of, traps}
-use Rattle.bl_image.proofs.Begins.{begins_via, none_via, begins_given, none_unless, finds_as}
+use Rattle.bl_image.specs.Image.{magic, header, version, definitions, additions, weights, demand, command, Image}
+use Rattle.bl_image.specs.Reading.{Begins, NoneBegins, Fills, Spells, Finds, Fronts, ReadsAll, ReadsFront, Refuses, RefusesAll, RefusesProgram, additions_of, traps, with_commands}
+use Rattle.bl_image.proofs.Begins.{begins_via, none_via, none_unless, finds_as}
 
 -- ---- the magic and the version
 
@@ -146,61 +146,57 @@ no_additions bytes m n v d first second p q h =
     let two = second.only (definitions_of q) i.second.front i.second.rest i.second.first (sym one.1 ∙ i.second.whole) in
     p.none (listed_of q) i.second.second.front i.second.second.rest (one.0, i.second.second.first) (sym two.1 ∙ i.second.second.whole)
 
-pub no_commands : (bytes m n o : List ℕ) (v : ℕ) (d : Definitions) (l : Listed) → Begins header bytes v m → Begins defined m d n → Begins (additions_of v) n l o → ((xs : List Command) → each command xs o → ⊥) → (program : Program) → Image program bytes → ⊥
-no_commands bytes m n o v d l first second third p q h =
-    let i = h.spelled in
-    let one = first.only (version q.demands q.weights) i.front i.rest i.first i.whole in
-    let two = second.only (definitions_of q) i.second.front i.second.rest i.second.first (sym one.1 ∙ i.second.whole) in
-    let three = third.only (listed_of q) i.second.second.front i.second.second.rest (one.0, i.second.second.first) (sym two.1 ∙ i.second.second.whole) in
-    p (drop 7 q.commands) (subst (each command (drop 7 q.commands)) three.1 i.second.second.second)
-
-pub whole_found : (bytes m n o : List ℕ) (v : ℕ) (d : Definitions) (l : Listed) (xs : List Command) → Begins header bytes v m → Begins defined m d n → Begins (additions_of v) n l o → Fills command o xs → Spells bytes (program_with d l (traps ++ xs))
-whole_found bytes m n o v d l xs first second third last = record {
-  spelled = record {
-    front = first.front;
-    rest = m;
-    whole = first.whole;
-    first = subst (λ k. header k first.front) (sym third.spelled.0) first.spelled;
-    second = record {
-      front = second.front;
-      rest = n;
-      whole = second.whole;
-      first = second.spelled;
-      second = record { front = third.front; rest = o; whole = third.whole; first = third.spelled.1; second = last.spelled };
-    };
-  };
-  only = λ q h.
+-- all that stands in front of the commands
+pub fronts_found : (bytes m n o : List ℕ) (v : ℕ) (d : Definitions) (l : Listed) → Begins header bytes v m → Begins defined m d n → Begins (additions_of v) n l o → Fronts bytes (program_with d l traps) o
+fronts_found bytes m n o v d l first second third = record {
+  commands = refl;
+  joins = λ xs h.
+      record {
+        front = first.front;
+        rest = m;
+        whole = first.whole;
+        first = subst (λ k. header k first.front) (sym third.spelled.0) first.spelled;
+        second = record {
+          front = second.front;
+          rest = n;
+          whole = second.whole;
+          first = second.spelled;
+          second = record { front = third.front; rest = o; whole = third.whole; first = third.spelled.1; second = h };
+        };
+      };
+  splits = λ q h.
       let i = h.spelled in
       let one = first.only (version q.demands q.weights) i.front i.rest i.first i.whole in
       let two = second.only (definitions_of q) i.second.front i.second.rest i.second.first (sym one.1 ∙ i.second.whole) in
-      let three = third.only (listed_of q) i.second.second.front i.second.second.rest (one.0, i.second.second.first) (sym two.1 ∙ i.second.second.whole) in
-      let four = last.only (drop 7 q.commands) (subst (each command (drop 7 q.commands)) three.1 i.second.second.second) in
-      let commands = traps_first q h.is_program ∙ ap (λ t. traps ++ t) four in
-      ap (λ e. program_with e (listed_of q) q.commands) two.0 ∙ ap (λ e. program_with d e q.commands) three.0 ∙ ap (λ e. program_with d l e) commands;
+      let three = third.only (listed_of q) i.second.second.front i.second.second.rest (one.0, i.second.second.first) (sym two.1 ∙ i.second.second.whole) in (
+        drop 7 q.commands,
+        ap (λ e. program_with e (listed_of q) q.commands) two.0 ∙ ap (λ e. program_with d e q.commands) three.0 ∙ ap (λ e. program_with d l e) (traps_first q h.is_program),
+        subst (each command (drop 7 q.commands)) three.1 i.second.second.second,
+      );
+}
+
+-- and the commands behind it
+pub whole_found : (bytes o : List ℕ) (front : Program) (xs : List Command) → Fronts bytes front o → Fills command o xs → Spells bytes (with_commands front xs)
+whole_found bytes o front xs p last = record {
+  spelled = p.joins xs last.spelled;
+  only = λ q h. let parts = p.splits q h in parts.1 ∙ ap (with_commands front) (last.only parts.0 parts.2);
 }
 
 -- ---- where nothing is read
 
 -- a `?` hands on why a part of a program wasn't read
-pub program_refused : {A : Type 0} (F : A → Spellings) (bytes : List ℕ) (i : ℕ) (r : Result Program ReadError) (e : ReadError) → IsErrAnd r (λ y. y ≡ e) → (NoneBegins F (drop i bytes) → (program : Program) → Image program bytes → ⊥) → Refuses F bytes i e → ReadsProgram bytes r
-program_refused F bytes i r e gives along h = let p = err_from_is_err_and r gives in rw (p.1, p.2) (refused e h)
+pub front_refused : {A : Type 0} (F : A → Spellings) (bytes : List ℕ) (i : ℕ) (r : Result (Program × ℕ) ReadError) (e : ReadError) → IsErrAnd r (λ y. y ≡ e) → (NoneBegins F (drop i bytes) → (program : Program) → Image program bytes → ⊥) → Refuses F bytes i e → ReadsFront bytes r
+front_refused F bytes i r e gives along h = let p = err_from_is_err_and r gives in rw (p.1, p.2) (refused e h)
   where
-    refused : (k : ReadError) → Refuses F bytes i k → ReadsProgram bytes (Err k)
+    refused : (k : ReadError) → Refuses F bytes i k → RefusesProgram bytes k
     refused NotAnImage h = along h
     refused Memory h = tt
 
-pub commands_refused : (bytes s : List ℕ) (r : Result Program ReadError) (e : ReadError) → IsErrAnd r (λ y. y ≡ e) → (((xs : List Command) → each command xs s → ⊥) → (program : Program) → Image program bytes → ⊥) → RefusesAll command s e → ReadsProgram bytes r
-commands_refused bytes s r e gives along h = let p = err_from_is_err_and r gives in rw (p.1, p.2) (refused e h)
+pub all_refused : (start : List Command) (most : ℕ) (s bytes : List ℕ) (i : ℕ) (r : Result (List Command) ReadError) (e : ReadError) → IsErrAnd r (λ y. y ≡ e) → (NoneBegins command (drop i bytes) → (xs : List Command) → each command xs s → ⊥) → Refuses command bytes i e → ReadsAll command start most s r
+all_refused start most s bytes i r e gives along h = let p = err_from_is_err_and r gives in rw (p.1, p.2) (refused e h)
   where
-    refused : (k : ReadError) → RefusesAll command s k → ReadsProgram bytes (Err k)
-    refused NotAnImage h = along h
-    refused Memory h = tt
-
-pub all_refused : (start : List Command) (s bytes : List ℕ) (i : ℕ) (r : Result (List Command) ReadError) (e : ReadError) → IsErrAnd r (λ y. y ≡ e) → (NoneBegins command (drop i bytes) → (xs : List Command) → each command xs s → ⊥) → Refuses command bytes i e → ReadsAll command start s r
-all_refused start s bytes i r e gives along h = let p = err_from_is_err_and r gives in rw (p.1, p.2) (refused e h)
-  where
-    refused : (k : ReadError) → Refuses command bytes i k → ReadsAll command start s (Err k)
-    refused NotAnImage h = along h
+    refused : (k : ReadError) → Refuses command bytes i k → RefusesAll command most s k
+    refused NotAnImage h = λ xs few spelled. along h xs spelled
     refused Memory h = tt
 
 -- a command has a byte

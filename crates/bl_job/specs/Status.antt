@@ -19,6 +19,7 @@ reason_number reason.Certificate = 13
 reason_number reason.Trace = 14
 reason_number reason.Start = 15
 reason_number reason.Counts = 19
+reason_number reason.Interface = 20
 
 abbrev pub status_number : Status → ℕ
 status_number Done = 0

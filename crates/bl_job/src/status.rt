@@ -7,7 +7,7 @@ ghost use Rattle.bl_job.specs.Status.{reason_number, status_number};
 pub enum Status {
     /// The work is done and all its text is written.
     Done,
-    /// A certificate's rules or the transient rules are broken, or two runs are observed differently.
+    /// A certificate's rules or the transient rules are broken, also under an interface, or two runs are observed differently.
     No,
     /// The words are no request.
     Usage,
@@ -52,6 +52,8 @@ pub enum Reason {
     Start,
     /// A count file has a bad line, or doesn't fit the program.
     Counts,
+    /// An interface file has a bad line, or doesn't fit a program, or two programs don't fit each other by it.
+    Interface,
 }
 
 impl Status {
@@ -91,6 +93,7 @@ impl Reason {
             Reason::Trace => 14,
             Reason::Start => 15,
             Reason::Counts => 19,
+            Reason::Interface => 20,
         }
     }
 }

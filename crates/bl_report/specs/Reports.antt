@@ -108,6 +108,17 @@ report_of program certificate chain =
 abbrev pub report_text : Program → Certificate → CtVerdict → List ℕ
 report_text program certificate verdict = report_of program certificate (chain_in verdict)
 
+-- the line of a protect, with the site's weight alone
+abbrev pub bare_protect_line : ℕ → ℕ → List ℕ
+bare_protect_line s weight = line (codes "protect " ++ decimal s ++ codes " weight " ++ decimal weight)
+
+abbrev pub bare_protect_text : Program → ℕ → List ℕ
+bare_protect_text program s = bare_protect_line s (unwrap_or (site_weight program s) 0)
+
+-- the counts, and a line for each protect with its weight alone
+abbrev pub protects_text : Program → List ℕ
+protects_text program = counts_text program ++ flat_map (bare_protect_text program) (protects program)
+
 -- the report without its lines of protects
 abbrev pub summary_of : Program → Option SecretChain → List ℕ
 summary_of program chain = counts_text program ++ chain_line chain

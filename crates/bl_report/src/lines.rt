@@ -4,7 +4,7 @@ ghost use Rattle.std.specs.Fmt.{decimal};
 ghost use Rattle.std.specs.List.{flat_map};
 ghost use Rattle.bl_cmd.specs.Sites.{IsSite};
 ghost use Rattle.bl_report.specs.Noting.{IsFirst};
-ghost use Rattle.bl_report.specs.Reports.{place_text, protect_line, protect_text};
+ghost use Rattle.bl_report.specs.Reports.{bare_protect_line, bare_protect_text, place_text, protect_line, protect_text};
 
 use crate::first::first_paths;
 use bl_base::{NoMemory, Pos};
@@ -66,6 +66,33 @@ fn push_line(text: &mut Vec<u8>, site: u32, weight: u64, path: &FlowPath) -> Res
     push_places(text, path.sites.as_slice())?;
     text.extend_from_slice(b" sink ")?;
     push_number(text, u64::from(path.sink.0))?;
+    text.extend_from_slice(b"\n")?;
+    Ok(())
+}
+
+/// Puts the lines of the protects at these sites behind a text, each with its weight alone.
+pub(crate) fn push_bare_protects(
+    text: &mut Vec<u8>,
+    program: &WellFormed,
+    sites: &[u32],
+) -> Result<(), NoMemory>
+    requires { All (IsSite program.now) sites.now }
+    ensures { IfOk result (λ _. text.new.items ≡ text.old.items ++ flat_map (bare_protect_text program.now) sites.now) }
+{
+    for site in sites {
+        push_bare_protect(text, *site, site_weight(program, Pos(*site)))?;
+    }
+    Ok(())
+}
+
+/// Puts the line of a protect behind a text, with the site's weight alone.
+fn push_bare_protect(text: &mut Vec<u8>, site: u32, weight: u64) -> Result<(), NoMemory>
+    ensures { IfOk result (λ _. text.new.items ≡ text.old.items ++ bare_protect_line site weight) }
+{
+    text.extend_from_slice(b"protect ")?;
+    push_number(text, u64::from(site))?;
+    text.extend_from_slice(b" weight ")?;
+    push_number(text, weight)?;
     text.extend_from_slice(b"\n")?;
     Ok(())
 }

@@ -3,9 +3,9 @@ ghost use Rattle.std.specs.Prelude.{◌≡◌, IfOk, option_map};
 ghost use Rattle.bl_cmd.specs.Sites.{is_protected, weight_of};
 ghost use Rattle.bl_graph.specs.Certificates.{Certifies};
 ghost use Rattle.bl_ct.specs.Verdicts.{FindsChain, Judges};
-ghost use Rattle.bl_report.specs.Reports.{counts_text, protects, report_of, report_text, site_count, summary_of, summary_text};
+ghost use Rattle.bl_report.specs.Reports.{counts_text, protects, protects_text, report_of, report_text, site_count, summary_of, summary_text};
 
-use crate::lines::push_protects;
+use crate::lines::{push_bare_protects, push_protects};
 use crate::secrets::push_constant_time;
 use crate::sites::{Sites, sites_of};
 use bl_base::{NoMemory, Text};
@@ -86,6 +86,19 @@ pub fn summary_of(
     let sites = sites_of(alloc, parts)?;
     let mut text = counts(alloc, parts, &sites, certificate.weight)?;
     push_constant_time(alloc, &mut text, chain)?;
+    Ok(Text::of(text))
+}
+
+/// How many functions, commands, sites and protects a program has, and the protects' weight; and for each protect, rising, its weight. Linear in
+/// the program, but for the logarithm of the number of listed weights. Want of memory is the only error.
+pub fn protects_report(alloc: Global, program: &WellFormed, weight: u64) -> Result<Text, NoMemory>
+    requires { weight ≡ weight_of program.now (is_protected program.now) }
+    ensures { IfOk result (λ text. text ≡ protects_text program.now) }
+{
+    let parts = program.program().parts();
+    let sites = sites_of(alloc, parts)?;
+    let mut text = counts(alloc, parts, &sites, weight)?;
+    push_bare_protects(&mut text, program, &sites.protects)?;
     Ok(Text::of(text))
 }
 

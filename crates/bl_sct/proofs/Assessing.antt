@@ -6,7 +6,7 @@ use Rattle.bl_cmd.specs.Rules.{IsWellFormed}
 use Rattle.bl_cmd.specs.Sites.{is_protected}
 use Rattle.bl_cmd.specs.declared.definitions.ProgramParts.{ProgramParts as Program}
 use Rattle.bl_graph.specs.Labels.{ConstantTime}
-use Rattle.bl_transient.specs.Transient.{Assigns, Trans, loaded, moved}
+use Rattle.bl_transient.specs.Transient.{Assigns, Trans, loaded, moved, given}
 use Rattle.bl_transient.specs.Verdicts.{IsFirstLeak}
 use Rattle.bl_base.specs.declared.number.Pos.{Pos}
 use Rattle.bl_base.proofs.BoolLemmas.{never_both}
@@ -18,6 +18,7 @@ use Rattle.bl_sct.proofs.Whole.{equal}
 pub hot : (program : Program) (set typing : ℕ → Bool) → Assigns program typing set → (x : ℕ) → Trans program set x → IsTrue (typing x)
 hot program set typing a x (loaded s _ l w f) = a.loads s x l w f
 hot program set typing a x (moved s y _ r w f t) = a.moves s y x r w f (hot program set typing a y t)
+hot program set typing a x (given _ h) = a.given x h
 
 module _ (program : Program) (constant : ConstantTime program) (leak : Option Pos) (judged : IsFirstLeak program (is_protected program) leak) where
   pub safe : IsProgram program → IsWellFormed program → leak ≡ None → Assesses program Safe

@@ -4,4 +4,4 @@
 pub mod laws;
 mod verdict;
 
-pub use verdict::{Verdict, assess, own_leak_of, stability_of};
+pub use verdict::{Verdict, assess, own_leak_of};

@@ -5,13 +5,13 @@ ghost use Rattle.bl_cmd.specs.Sites.{is_protected};
 ghost use Rattle.bl_graph.specs.Graphs.{IsGraph};
 ghost use Rattle.bl_graph.specs.Labels.{ConstantTime};
 ghost use Rattle.bl_sct.specs.Verdicts.{Assesses};
-ghost use Rattle.bl_transient.specs.Verdicts.{IsFirstLeak, Judges};
+ghost use Rattle.bl_transient.specs.Verdicts.{IsFirstLeak};
 
 use bl_base::{NoMemory, Pos, SiteSet};
 use bl_cmd::{ProgramParts, WellFormed};
 use bl_ct::secret_chain_of;
 use bl_graph::{Graph, SecretChain, graph};
-use bl_transient::{FlowVerdict, first_leak_of, flows_of};
+use bl_transient::first_leak_of;
 use bl_witness::is_protected;
 use std::alloc::Global;
 
@@ -69,22 +69,6 @@ pub fn own_leak_of(
     let parts = program.program().parts();
     let protects = own_protects(alloc, parts, parts.commands.len() as u32)?;
     first_leak_of(alloc, program, graph, &protects)
-}
-
-/// Whether a program's own marks pass the transient rules: the least flow typing, or the least position of a sink that reads a
-/// transient variable. It takes the program's graph, which callers need as well. Linear in the program and in the number of its declared
-/// variables. Want of memory is the only error.
-pub fn stability_of(
-    alloc: Global,
-    program: &WellFormed,
-    graph: &Graph,
-) -> Result<FlowVerdict, NoMemory>
-    requires { IsGraph program.now graph.now }
-    ensures { IfOk result (λ verdict. Judges program.now (is_protected program.now) verdict) }
-{
-    let parts = program.program().parts();
-    let protects = own_protects(alloc, parts, parts.commands.len() as u32)?;
-    flows_of(alloc, program, graph, &protects)
 }
 
 /// The protected sites of a program of so many commands.

@@ -1,10 +1,9 @@
 -- What the search finds are the transient variables.
-use Rattle.std.proofs.Common.{◌≡◌, ℕ, zero, suc, ◌+◌, ◌<◌, Bool, true, false, List, [], ◌∷◌, length, get_or, map, Option, Some, None, slice_get, refl, sym, ap, subst, ◌∙◌, arith, not}
+use Rattle.std.proofs.Common.{◌≡◌, ℕ, zero, suc, ◌<◌, Bool, true, false, List, [], ◌∷◌, length, map, Option, Some, None, refl, sym, ap, ◌∙◌, arith}
 use Rattle.std.specs.Prelude.{IsTrue, ◌↔◌}
 use Rattle.std.specs.List.{Contains, All}
-use Rattle.std.proofs.lemmas.Bool.{not_from_false, false_from_ne_true}
+use Rattle.std.proofs.lemmas.Bool.{not_from_false, false_from_ne_true, false≢true}
 use Rattle.bl_base.specs.declared.names.Flow.{Flow}
-use Rattle.bl_base.specs.declared.names.Flow.TheVariants.{Stable, Transient}
 use Rattle.bl_cmd.specs.declared.definitions.ProgramParts.{ProgramParts as Program}
 use Rattle.bl_graph.specs.Graphs.{use_of, IsGraph}
 use Rattle.bl_graph.specs.Ranges.{commands, variables, AreInRange}
@@ -13,9 +12,8 @@ use Rattle.bl_graph.proofs.Chaining.{all_from}
 use Rattle.bl_graph.proofs.Ranging.{writes_one}
 use Rattle.bl_graph.specs.Arcs.{is_in, row_at, RowsOf}
 use Rattle.bl_transient.specs.Reaching.{Reached, root, step, FirstSink, AreFree, roots_from, moves_from, flow_type}
-use Rattle.bl_transient.specs.Transient.{Trans, loaded, moved}
-use Rattle.bl_transient.specs.Verdicts.{is_transient, typing_of, IsLeastTyping, IsFirstSink}
-use Rattle.bl_graph.specs.declared.arcs.Arc.{Arc}
+use Rattle.bl_transient.specs.Transient.{Trans, loaded, moved, given}
+use Rattle.bl_transient.specs.Verdicts.{typing_of, IsLeastTyping, IsFirstSink}
 use Rattle.bl_transient.proofs.Free.{root_from, root_in, move_from, move_in}
 
 module _ (program : Program) (g : Graph) (lists : IsGraph program g) (set : ℕ → Bool) (written : List (Option ℕ)) (free : AreFree g.writes set written) where
@@ -34,6 +32,7 @@ module _ (program : Program) (g : Graph) (lists : IsGraph program g) (set : ℕ 
     trans_reached x (loaded s _ load writes may) = root x (root_in written g.loads s x ((lists.loads s).1 load) ((free.each s x).1 ((lists.writes.each s x).1 writes, may)))
     trans_reached x (moved s y _ reads writes may t) =
         step y x (trans_reached y t) (hold.full y x (move_in written g.reads s y x ((lists.reads.each s y).1 reads) ((free.each s x).1 ((lists.writes.each s x).1 writes, may))))
+    trans_reached x (given _ hot) = absurd (false≢true hot)
 
     pub marks_are : (marks : List Bool) → ((v : ℕ) → IsTrue (is_in marks v) ↔ Reached rows (roots_from written g.loads) v) → (x : ℕ) → IsTrue (is_in marks x) ↔ Trans program set x
     marks_are marks exact x = ((λ h. reached_trans x ((exact x).0 h)), (λ t. (exact x).1 (trans_reached x t)))
@@ -89,9 +88,11 @@ module _ (program : Program) (g : Graph) (lists : IsGraph program g) (set : ℕ 
           assigns = record {
             loads = λ s x load writes may. at x ∙ (exact x).1 (loaded s x load writes may);
             moves = λ s x y reads writes may h. at y ∙ (exact y).1 (moved s x y reads writes may ((exact x).0 (sym (at x) ∙ h)));
+            given = λ x hot. absurd (false≢true hot);
           };
           sinks = λ position x sink.
               not_from_false (typing_of flows x) (false_from_ne_true (typing_of flows x) (λ h. none position x ((lists.sinks.each position x).1 sink) (sym (at x) ∙ h)));
+          firm = λ x is. absurd (false≢true is);
         };
         trans = λ x. ((λ h. (exact x).0 (sym (at x) ∙ h)), (λ t. at x ∙ (exact x).1 t));
       }

@@ -1,3 +1,5 @@
+pub mod Asking
+pub mod Barring
 pub mod Firsts
 pub mod Free
 pub mod Judging

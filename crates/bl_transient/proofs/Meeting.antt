@@ -2,6 +2,7 @@
 use Rattle.std.proofs.Common.{ℕ, Bool, List, [], ◌∷◌, ◌++◌, sym, subst, not}
 use Rattle.std.specs.Prelude.{IsTrue}
 use Rattle.std.specs.List.{All}
+use Rattle.std.proofs.lemmas.Bool.{false≢true}
 use Rattle.std.proofs.lemmas.List.Elements.{All-push, All-contains, All-cons, All-nil}
 use Rattle.std.proofs.lemmas.List.{append_assoc, append-nil}
 use Rattle.bl_base.proofs.BoolLemmas.{never_both}
@@ -9,7 +10,7 @@ use Rattle.bl_cmd.specs.declared.definitions.ProgramParts.{ProgramParts as Progr
 use Rattle.bl_graph.specs.Chains.{Carries, IsChain}
 use Rattle.bl_graph.proofs.Chaining.{Protected, chain_met as typed_met}
 use Rattle.bl_graph.proofs.Members.{in_any}
-use Rattle.bl_transient.specs.Transient.{Passes, Trans, loaded, moved}
+use Rattle.bl_transient.specs.Transient.{Passes, Trans, loaded, moved, given}
 use Rattle.bl_transient.proofs.Typings.{passes_if}
 
 module _ (program : Program) (set : ℕ → Bool) where
@@ -36,6 +37,7 @@ module _ (program : Program) (set : ℕ → Bool) where
         free = All-push (λ t. IsTrue (not (set t))) before.sites s before.free may;
         on = λ rest sink carries. subst (λ sites. IsChain program sites sink) (sym (append_assoc before.sites (s ∷ []) rest)) (before.on (s ∷ rest) sink (reads, (x, writes, carries)));
       }
+  way x (given _ hot) = absurd (false≢true hot)
 
   no_both : (sites : List ℕ) → All (λ s. IsTrue (not (set s))) sites → Protected set sites → ⊥
   no_both sites free met =

@@ -1,5 +1,5 @@
 -- What a list of roots reaches by rows, and a search for it.
-use Rattle.std.specs.Prelude.{◌≡◌, ◌↔◌, ℕ, ◌+◌, ◌<◌, ◌≤◌, ◌⊎◌, Bool, true, false, not, List, [], ◌∷◌, ◌++◌, length, map, slice_index, IsTrue, min, Option, Some, None, slice_get, unwrap_or, if◌then◌else◌}
+use Rattle.std.specs.Prelude.{◌≡◌, ◌↔◌, ℕ, ◌+◌, ◌<◌, ◌≤◌, ◌⊎◌, Bool, true, false, not, List, [], ◌∷◌, ◌++◌, length, slice_index, IsTrue, min, Option, Some, None, slice_get, unwrap_or, if◌then◌else◌}
 use Rattle.std.specs.List.{Contains}
 use Rattle.bl_base.specs.declared.names.Flow.{Flow}
 use Rattle.bl_base.specs.declared.names.Flow.TheVariants.{Stable, Transient}
@@ -84,3 +84,37 @@ pub record AreFree (writes : List Use) (set : ℕ → Bool) (written : List (Opt
 -- the flow type of a mark
 abbrev pub flow_type : Bool → Flow
 flow_type mark = if mark then Transient else Stable
+
+-- ---- what may not be read, and not be written by loads
+
+-- the marked variable that is noted for a position
+abbrev pub kept_if : Bool → ℕ → Option ℕ
+kept_if true x = Some x
+kept_if false x = None
+
+abbrev pub firm_one : List Bool → Option ℕ → Option ℕ
+firm_one firm None = None
+firm_one firm (Some x) = kept_if (is_in firm x) x
+
+abbrev pub firm_noted : List (Option ℕ) → List Bool → ℕ → Option ℕ
+firm_noted written firm s = firm_one firm (noted written s)
+
+-- a read, where its site writes such a variable
+abbrev pub noted_read : Use → Option ℕ → List Use
+noted_read read None = []
+noted_read read (Some x) = read ∷ []
+
+-- a load with what it writes, where it is such a variable
+abbrev pub noted_load : ℕ → Option ℕ → List Use
+noted_load s None = []
+noted_load s (Some x) = use_of s x ∷ []
+
+-- the reads of the sites that write a marked variable
+abbrev pub firm_reads : List (Option ℕ) → List Bool → List Use → List Use
+firm_reads written firm [] = []
+firm_reads written firm (read ∷ reads) = noted_read read (firm_noted written firm read.at.0) ++ firm_reads written firm reads
+
+-- the loads that write one, each with it
+abbrev pub firm_loads : List (Option ℕ) → List Bool → List Pos → List Use
+firm_loads written firm [] = []
+firm_loads written firm (load ∷ loads) = noted_load load.0 (firm_noted written firm load.0) ++ firm_loads written firm loads

@@ -40,7 +40,7 @@ fn no_variables(alloc: Global, count: usize) -> Result<Vec<Option<u32>>, NoMemor
 }
 
 /// What is noted for a position.
-fn noted_at(written: &[Option<u32>], at: Pos) -> Option<u32>
+pub(crate) fn noted_at(written: &[Option<u32>], at: Pos) -> Option<u32>
     ensures { result ≡ noted written.now at.0 }
 {
     match written.get(at.0 as usize) {
@@ -49,15 +49,17 @@ fn noted_at(written: &[Option<u32>], at: Pos) -> Option<u32>
     }
 }
 
-/// What the loads that aren't protected write.
+/// These variables, and what the loads that aren't protected write.
 pub(crate) fn roots_of(
     alloc: Global,
+    hot: &[u32],
     loads: &[Pos],
     written: &[Option<u32>],
 ) -> Result<Vec<u32>, NoMemory>
-    ensures { IfOk result (λ roots. roots.items ≡ roots_from written.now loads.now) }
+    ensures { IfOk result (λ roots. roots.items ≡ hot.now ++ roots_from written.now loads.now) }
 {
     let mut roots = Vec::new(alloc);
+    roots.extend_from_slice(hot)?;
     for load in loads {
         push_root(&mut roots, noted_at(written, *load))?;
     }

@@ -1,14 +1,15 @@
 //! Which variables are transient, where a set of sites is protected.
-ghost use Rattle.std.specs.Prelude.{◌≡◌, ◌<◌, ◌↔◌, ℕ, All, IsTrue, IfOk, Some, length, map, slice_get};
+ghost use Rattle.std.specs.Prelude.{◌≡◌, ◌<◌, ◌↔◌, ℕ, All, Contains, IsTrue, IfOk, Some, length, map, slice_get};
 ghost use Rattle.std.specs.FinSet as fin;
 ghost use Rattle.bl_graph.specs.Graphs.{IsGraph};
 ghost use Rattle.bl_graph.specs.Names.{AreNames};
 ghost use Rattle.bl_graph.specs.Ranges.{variables};
 ghost use Rattle.bl_graph.specs.Arcs.{is_in};
 ghost use Rattle.bl_transient.specs.Reaching.{FirstSink, IsLower, flow_type};
-ghost use Rattle.bl_transient.specs.Transient.{Trans};
-ghost use Rattle.bl_transient.specs.Verdicts.{IsFirstLeak, Judges};
+ghost use Rattle.bl_transient.specs.Transient.{Trans, TransUnder};
+ghost use Rattle.bl_transient.specs.Verdicts.{IsFirstLeak, Judges, asked_of};
 
+use crate::asked::{AskedOf, numbers_of};
 use crate::moves::{moves_of, roots_of, written_free};
 use crate::search::reached;
 use bl_base::{Flow, List, NoMemory, Pos, SiteSet};
@@ -72,7 +73,8 @@ pub fn first_leak_of(
 {
     let names = names_of(alloc, program, graph, &[])?;
     let sinks = names.numbered(alloc, graph.sinks.as_slice())?;
-    let marks = named_transients(alloc, program, graph, &names, protects)?;
+    let asked = AskedOf::nothing(alloc);
+    let marks = named_transients(alloc, program, graph, &names, &asked, protects)?;
     match first_sink(&marks, &sinks) {
         Some(position) => Ok(Some(Pos(position))),
         None => Ok(None),
@@ -80,24 +82,27 @@ pub fn first_leak_of(
 }
 
 /// For each name, by its number, whether it is that of a transient variable.
-fn named_transients(
+pub(crate) fn named_transients(
     alloc: Global,
     program: &WellFormed,
     graph: &Graph,
     names: &Names,
+    asked: &AskedOf,
     protects: &SiteSet,
 ) -> Result<Vec<bool>, NoMemory>
     requires graph { IsGraph program.now graph.now }
     requires names { AreNames program.now names.now }
+    requires hot { All (λ x. Contains names.now x) asked.now.hot }
     ensures places { IfOk result (λ marks. length marks.items ≡ length names.now) }
-    ensures exact { IfOk result (λ marks. (i x : ℕ) → slice_get names.now i ≡ Some x → IsTrue (is_in marks.items i) ↔ Trans program.now (fin.contains protects.now) x) }
+    ensures exact { IfOk result (λ marks. (i x : ℕ) → slice_get names.now i ≡ Some x → IsTrue (is_in marks.items i) ↔ TransUnder (asked_of asked.now) program.now (fin.contains protects.now) x) }
 {
     ranges(program);
     let count = program.program().parts().commands.len();
     let writes = names.numbered(alloc, graph.writes.as_slice())?;
     let reads = names.numbered(alloc, graph.reads.as_slice())?;
     let written = written_free(alloc, count, &writes, protects)?;
-    let roots = roots_of(alloc, graph.loads.as_slice(), &written)?;
+    let hot = numbers_of(alloc, names, asked.hot.as_slice())?;
+    let roots = roots_of(alloc, &hot, graph.loads.as_slice(), &written)?;
     let moves = moves_of(alloc, &reads, &written)?;
     let rows = rows_of(alloc, &moves, names.len())?;
     let marks = reached(alloc, &rows, &roots)?;
@@ -117,7 +122,7 @@ fn transients(
 {
     let count = program.program().parts().commands.len();
     let written = written_free(alloc, count, graph.writes.as_slice(), protects)?;
-    let roots = roots_of(alloc, graph.loads.as_slice(), &written)?;
+    let roots = roots_of(alloc, &[], graph.loads.as_slice(), &written)?;
     let moves = moves_of(alloc, graph.reads.as_slice(), &written)?;
     let rows = rows_of(alloc, &moves, variables(program))?;
     let marks = reached(alloc, &rows, &roots)?;
@@ -136,7 +141,7 @@ fn flow_types(alloc: Global, marks: &[bool]) -> Result<List<Flow>, NoMemory>
 }
 
 /// The least position of a sink that reads a marked variable.
-fn first_sink(marks: &[bool], sinks: &[SinkUse]) -> Option<u32>
+pub(crate) fn first_sink(marks: &[bool], sinks: &[SinkUse]) -> Option<u32>
     requires { All (λ s. s.var.0 < length marks.now) sinks.now }
     ensures { FirstSink marks.now sinks.now result }
 {

@@ -7,6 +7,8 @@ use Rattle.bl_base.specs.Quantity.{limit_of}
 use Rattle.bl_base.specs.declared.quantity.Quantity.TheVariants as quantity
 use Rattle.bl_text.specs.Digits.{decimal_below}
 use Rattle.bl_text.specs.Names.{module_name}
+use Rattle.bl_iface.specs.declared.iface.Role.{Role}
+use Rattle.bl_iface.specs.declared.iface.Role.TheVariants.{Client, Library}
 
 -- `harden`: the files that are written, the modules that are read, and the count file that is read, where one is named
 pub record HardenRequest : Type 0 where
@@ -66,6 +68,20 @@ pub record PredictRequest : Type 0 where
   pub start : List ℕ
   pub steps : ℕ
 
+-- `part`: the side of an interface on which the modules stand, the image that is written, and the interface and the modules that are read
+pub record PartRequest : Type 0 where
+  pub role : Role
+  pub image : List ℕ
+  pub iface : List ℕ
+  pub modules : List (List ℕ)
+
+-- `join`: the image that is written, and the interface and the images of a client and of a library that are read
+pub record JoinRequest : Type 0 where
+  pub image : List ℕ
+  pub iface : List ℕ
+  pub client : List ℕ
+  pub library : List ℕ
+
 -- `gen`: the number that a module is made from, and its size
 pub record GenRequest : Type 0 where
   pub seed : ℕ
@@ -82,6 +98,8 @@ pub data Request : Type 0 where
   twin : TwinRequest → Request
   forward : TwinRequest → Request
   predict : PredictRequest → Request
+  part : PartRequest → Request
+  join : JoinRequest → Request
   gen : GenRequest → Request
 
 -- the modules that a request reads
@@ -89,6 +107,7 @@ abbrev pub modules_in : Request → List (List ℕ)
 modules_in (harden request) = request.modules
 modules_in (lower request) = request.modules
 modules_in (interp request) = request.modules
+modules_in (part request) = request.modules
 modules_in _ = []
 
 -- a file that may be named
@@ -101,6 +120,7 @@ abbrev pub files_in : Request → List (List ℕ)
 files_in (harden request) = request.image ∷ request.certificate ∷ file_named request.counts
 files_in (run request) = request.image ∷ file_named request.counts
 files_in (verify request) = request.image ∷ request.certificate ∷ []
+files_in (part request) = request.image ∷ request.iface ∷ []
 files_in _ = []
 
 -- a word that begins with `-`
@@ -278,9 +298,10 @@ are_distinct [] = true
 are_distinct (name ∷ names) = not (list_any (bytes_eq name) names) && are_distinct names
 
 -- whether no two files of a request that must differ are one: the trace file of a `predict` is neither of the files that are read, which
--- may be one
+-- may be one, and the image of a `join` is none of those that are read, which may be one too
 abbrev pub are_files_unlike : Request → Bool
 are_files_unlike (predict request) = are_distinct (request.image ∷ request.trace ∷ []) && are_distinct (request.trace ∷ request.start ∷ [])
+are_files_unlike (join request) = not (list_any (bytes_eq request.image) (request.iface ∷ request.client ∷ request.library ∷ []))
 are_files_unlike request = are_distinct (files_in request)
 
 -- the modules of a request: at least one
@@ -335,6 +356,23 @@ predict_of (image ∷ export ∷ trace ∷ start ∷ []) steps =
     option_map (λ steps. record { image = image; export = export; trace = trace; start = start; steps = steps }) (turns_of steps)
 predict_of arguments steps = None
 
+-- the side that a word names
+abbrev pub role_of : List ℕ → Option Role
+role_of word = if bytes_eq word (codes "client") then Some Client else if bytes_eq word (codes "library") then Some Library else None
+
+-- what `part` asks for: a side, an image, an interface, and modules
+abbrev pub part_of : List (List ℕ) → Option (List ℕ) → Option PartRequest
+part_of (role_word ∷ image ∷ iface ∷ words) None =
+    option_and_then
+    (λ role. option_map (λ modules. record { role = role; image = image; iface = iface; modules = modules }) (modules_of words))
+    (role_of role_word)
+part_of arguments steps = None
+
+-- what `join` asks for: an image, an interface, and the images of a client and of a library
+abbrev pub join_of : List (List ℕ) → Option (List ℕ) → Option JoinRequest
+join_of (image ∷ iface ∷ client ∷ library ∷ []) None = Some (record { image = image; iface = iface; client = client; library = library })
+join_of arguments steps = None
+
 -- what `gen` asks for: a seed and a size
 abbrev pub gen_of : List (List ℕ) → Option (List ℕ) → Option GenRequest
 gen_of (seed_word ∷ size_word ∷ []) None =
@@ -361,6 +399,8 @@ commands =
     ∷ row (codes "twin") twin twin_of
     ∷ row (codes "forward") forward twin_of
     ∷ row (codes "predict") predict predict_of
+    ∷ row (codes "part") part part_of
+    ∷ row (codes "join") join join_of
     ∷ row (codes "gen") gen gen_of
     ∷ []
 

@@ -1,19 +1,21 @@
 -- The words of a call as the code keeps them.
 use Rattle.std.specs.Prelude.{List, ℕ, map, Option, option_map}
 use Rattle.std.specs.Borrow.{Bor}
-use Rattle.bl_words.specs.Requests.{Request, GenRequest, HardenRequest, InterpRequest, LowerRequest, PredictRequest, RunRequest, SpecRequest, TwinRequest, VerifyRequest}
-use Rattle.bl_words.specs.Requests.{Parts, forward, gen, harden, interp, lower, predict, run, spec, twin, verify}
+use Rattle.bl_words.specs.Requests.{Request, GenRequest, HardenRequest, InterpRequest, JoinRequest, LowerRequest, PartRequest, PredictRequest, RunRequest, SpecRequest, TwinRequest, VerifyRequest}
+use Rattle.bl_words.specs.Requests.{Parts, forward, gen, harden, interp, join, lower, part, predict, run, spec, twin, verify}
 use Rattle.bl_words.specs.declared.words.GenWords.{GenWords}
 use Rattle.bl_words.specs.declared.words.HardenWords.{HardenWords}
 use Rattle.bl_words.specs.declared.words.InterpWords.{InterpWords}
+use Rattle.bl_words.specs.declared.words.JoinWords.{JoinWords}
 use Rattle.bl_words.specs.declared.words.LowerWords.{LowerWords}
+use Rattle.bl_words.specs.declared.words.PartWords.{PartWords}
 use Rattle.bl_words.specs.declared.words.PredictWords.{PredictWords}
 use Rattle.bl_words.specs.declared.words.RunWords.{RunWords}
 use Rattle.bl_words.specs.declared.words.SpecWords.{SpecWords}
 use Rattle.bl_words.specs.declared.words.TwinWords.{TwinWords}
 use Rattle.bl_words.specs.declared.words.VerifyWords.{VerifyWords}
 use Rattle.bl_words.specs.declared.words.Request.{Request as RequestWords}
-use Rattle.bl_words.specs.declared.words.Request.TheVariants.{Forward, Gen, Harden, Interp, Lower, Predict, Run, Spec, Twin, Verify}
+use Rattle.bl_words.specs.declared.words.Request.TheVariants.{Forward, Gen, Harden, Interp, Join, Lower, Part, Predict, Run, Spec, Twin, Verify}
 
 -- the parts that borrowed words are
 abbrev pub parts_in : (arguments steps counts : List (Bor (List ℕ))) → Parts
@@ -74,6 +76,12 @@ twin_in words = record {
 abbrev pub predict_in : PredictWords → PredictRequest
 predict_in words = record { image = words.image.now; export = words.export.now; trace = words.trace.now; start = words.start.now; steps = words.steps }
 
+abbrev pub part_in : PartWords → PartRequest
+part_in words = record { role = words.role; image = words.image.now; iface = words.iface.now; modules = map (λ word. word.now) words.modules }
+
+abbrev pub join_in : JoinWords → JoinRequest
+join_in words = record { image = words.image.now; iface = words.iface.now; client = words.client.now; library = words.library.now }
+
 abbrev pub gen_in : GenWords → GenRequest
 gen_in words = record { seed = words.seed; size = words.size }
 
@@ -87,4 +95,6 @@ request_in (Verify words) = verify (verify_in words)
 request_in (Twin words) = twin (twin_in words)
 request_in (Forward words) = forward (twin_in words)
 request_in (Predict words) = predict (predict_in words)
+request_in (Part words) = part (part_in words)
+request_in (Join words) = join (join_in words)
 request_in (Gen words) = gen (gen_in words)

@@ -52,7 +52,7 @@ fn command_line<'a>(alloc: Global) -> Result<Command<'a>, AllocError>
         bare(alloc),
         &[
             "harden", "lower", "interp", "run", "spec", "verify", "twin", "forward", "predict",
-            "gen",
+            "part", "join", "gen",
         ],
     )
 }

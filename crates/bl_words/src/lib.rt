@@ -8,11 +8,12 @@ mod modules;
 mod numbers;
 mod options;
 mod read;
+mod roles;
 mod steps;
 mod words;
 
 pub use read::{modules_in, read_words};
 pub use words::{
-    GenWords, HardenWords, InterpWords, LowerWords, PredictWords, Request, RunWords, SpecWords,
-    TwinWords, VerifyWords,
+    GenWords, HardenWords, InterpWords, JoinWords, LowerWords, PartWords, PredictWords, Request,
+    RunWords, SpecWords, TwinWords, VerifyWords,
 };

@@ -4,17 +4,18 @@ ghost use Rattle.std.specs.List.{list_any};
 ghost use Rattle.std.specs.Option.{option_map};
 ghost use Rattle.std.specs.Str.{bytes_eq};
 ghost use Rattle.clap.specs.Walk.{texts};
-ghost use Rattle.bl_words.specs.Requests.{are_distinct, are_files_unlike, asked_among, command_of, commands, file_named, files_in, forward, gen, gen_of, harden, harden_of, interp, interp_of, kept, lower, lower_of, modules_in, predict, predict_of, request_of, run, run_of, spec, spec_of, twin, twin_of, verify, verify_of, with_counts};
-ghost use Rattle.bl_words.specs.Words.{harden_in, parts_in, predict_in, request_in, text_in};
+ghost use Rattle.bl_words.specs.Requests.{are_distinct, are_files_unlike, asked_among, command_of, commands, file_named, files_in, forward, gen, gen_of, harden, harden_of, interp, interp_of, join, join_of, kept, lower, lower_of, modules_in, part, part_of, predict, predict_of, request_of, run, run_of, spec, spec_of, twin, twin_of, verify, verify_of, with_counts};
+ghost use Rattle.bl_words.specs.Words.{harden_in, join_in, parts_in, predict_in, request_in, text_in};
 
 use crate::command_line::{Unmatched, matches_of};
 use crate::modules::{are_named_apart, modules_of};
 use crate::numbers::{read_seed, read_size};
 use crate::options::value_of;
+use crate::roles::read_role;
 use crate::steps::{most_steps, most_turns};
 use crate::words::{
-    GenWords, HardenWords, InterpWords, LowerWords, PredictWords, Request, RunWords, SpecWords,
-    TwinWords, VerifyWords,
+    GenWords, HardenWords, InterpWords, JoinWords, LowerWords, PartWords, PredictWords, Request,
+    RunWords, SpecWords, TwinWords, VerifyWords,
 };
 use bl_base::NoMemory;
 use std::alloc::Global;
@@ -110,6 +111,8 @@ fn are_files_unlike(request: &Request) -> bool
         Request::Run(words) => !is_named(words.counts, words.image),
         Request::Verify(words) => words.image != words.certificate,
         Request::Predict(words) => is_trace_apart(words),
+        Request::Part(words) => words.image != words.iface,
+        Request::Join(words) => is_image_apart(words),
         _ => true,
     }
 }
@@ -137,6 +140,19 @@ fn is_trace_apart(words: &PredictWords) -> bool
     words.trace != words.start
 }
 
+/// Whether the image of a `join` is none of the files that are read.
+fn is_image_apart(words: &JoinWords) -> bool
+    ensures { result ≡ are_files_unlike (join (join_in words.now)) }
+{
+    if words.image == words.iface {
+        return false;
+    }
+    if words.image == words.client {
+        return false;
+    }
+    words.image != words.library
+}
+
 /// Whether a file is named, by this word.
 fn is_named(file: Option<&str>, word: &str) -> bool
     ensures { result ≡ list_any (bytes_eq word.now) (file_named (text_in file.entry)) }
@@ -155,6 +171,7 @@ pub fn modules_in<'r, 'a>(request: &'r Request<'a>) -> &'r [&'a str]
         Request::Harden(words) => words.modules.as_slice(),
         Request::Lower(words) => words.modules.as_slice(),
         Request::Interp(words) => words.modules.as_slice(),
+        Request::Part(words) => words.modules.as_slice(),
         _ => &[],
     }
 }
@@ -178,6 +195,8 @@ fn asked_by<'a>(
         "twin" => Ok(twin_words(arguments, steps)),
         "forward" => Ok(forward_words(arguments, steps)),
         "predict" => Ok(predict_words(arguments, steps)),
+        "part" => part_words(alloc, arguments, steps),
+        "join" => Ok(join_words(arguments, steps)),
         "gen" => Ok(gen_words(arguments, steps)),
         _ => Ok(None),
     }
@@ -342,6 +361,46 @@ fn predict_words<'a>(arguments: &[&'a str], steps: Option<&'a str>) -> Option<Re
         start: *start,
         steps,
     }))
+}
+
+/// What `part` asks for with these parts: the word of a side, two arguments, then modules, and no option.
+fn part_words<'a>(
+    alloc: Global,
+    arguments: &[&'a str],
+    steps: Option<&'a str>,
+) -> Result<Option<Request<'a>>, NoMemory>
+    ensures { IfOk result (λ request. option_map request_in request ≡ option_map part (part_of (texts arguments.now) (text_in steps.entry))) }
+{
+    let ([role, image, iface, words @ ..], None) = (arguments, steps) else {
+        return Ok(None);
+    };
+    let Some(role) = read_role(*role) else {
+        return Ok(None);
+    };
+    match modules_of(alloc, words)? {
+        Some(modules) => Ok(Some(Request::Part(PartWords {
+            role,
+            image: *image,
+            iface: *iface,
+            modules,
+        }))),
+        None => Ok(None),
+    }
+}
+
+/// What `join` asks for with these parts: four arguments, and no option.
+fn join_words<'a>(arguments: &[&'a str], steps: Option<&'a str>) -> Option<Request<'a>>
+    ensures { option_map request_in result ≡ option_map join (join_of (texts arguments.now) (text_in steps.entry)) }
+{
+    match (arguments, steps) {
+        ([image, iface, client, library], None) => Some(Request::Join(JoinWords {
+            image: *image,
+            iface: *iface,
+            client: *client,
+            library: *library,
+        })),
+        _ => None,
+    }
 }
 
 /// What `gen` asks for with these parts: two arguments, which are a seed and a size, and no option.

@@ -1,5 +1,6 @@
 //! What the words of a call ask for.
 use bl_base::List;
+use bl_iface::Role;
 
 /// What the words of a call ask for.
 ///
@@ -29,6 +30,10 @@ pub enum Request<'a> {
     Forward(TwinWords<'a>),
     /// To drive an exported function of an image by a predictor, and write the trace file of the directives that it chooses.
     Predict(PredictWords<'a>),
+    /// To write the image of modules that are hardened on one side of an interface.
+    Part(PartWords<'a>),
+    /// To write the image of a client and a library that are joined.
+    Join(JoinWords<'a>),
     /// To make a module from a number, and harden it.
     Gen(GenWords),
 }
@@ -133,6 +138,32 @@ pub struct PredictWords<'a> {
     pub start: &'a str,
     /// The most turns that are taken, from 1 to as many as a trace file may have lines.
     pub steps: u64,
+}
+
+/// The words of a `part`.
+#[derive(Drop)]
+pub struct PartWords<'a> {
+    /// The side of the interface on which the modules stand.
+    pub role: Role,
+    /// The file of the image, which is written; another word than the interface's.
+    pub image: &'a str,
+    /// The interface file, which is read.
+    pub iface: &'a str,
+    /// The files of the modules, which are read: at least one, and no two modules have one name.
+    pub modules: List<&'a str>,
+}
+
+/// The words of a `join`.
+#[derive(Clone, Copy)]
+pub struct JoinWords<'a> {
+    /// The file of the image, which is written; another word than each of the others.
+    pub image: &'a str,
+    /// The interface file, which is read.
+    pub iface: &'a str,
+    /// The file of the client's image, which is read.
+    pub client: &'a str,
+    /// The file of the library's image, which is read.
+    pub library: &'a str,
 }
 
 /// The words of a `gen`.

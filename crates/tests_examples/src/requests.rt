@@ -1,8 +1,9 @@
 //! What the words of calls ask for.
 use bl_base::NoMemory;
+use bl_iface::Role;
 use bl_words::{
-    HardenWords, InterpWords, LowerWords, PredictWords, Request, RunWords, SpecWords, TwinWords,
-    read_words,
+    HardenWords, InterpWords, JoinWords, LowerWords, PartWords, PredictWords, Request, RunWords,
+    SpecWords, TwinWords, read_words,
 };
 use std::alloc::Global;
 use std::test::Fail;
@@ -161,6 +162,23 @@ static OF_PREDICTIONS: [(&str, &str); 9] = [
 ];
 
 /// The words of a line behind the program's name, and what they ask for.
+static OF_SIDES: [(&str, &str); 13] = [
+    ("part client i f a.wasm", "part client i f: a.wasm"),
+    ("part library i f a b", "part library i f: a b"),
+    ("part Client i f a", "none"),
+    ("part - i f a", "none"),
+    ("part client i i a", "none"),
+    ("part client i f", "none"),
+    ("part client i f a --steps 7", "none"),
+    ("join i f c l", "join i f c l"),
+    ("join i f c c", "join i f c c"),
+    ("join i i c l", "none"),
+    ("join i f i l", "none"),
+    ("join i f c i", "none"),
+    ("join i f c", "none"),
+];
+
+/// The words of a line behind the program's name, and what they ask for.
 static OF_RUNS: [(&str, &str); 14] = [
     ("run i e s --steps=7", "run i e s 7"),
     ("run --steps 7 i e s", "run i e s 7"),
@@ -228,6 +246,22 @@ fn predict_line(alloc: Global, words: &PredictWords<'_>) -> Result<String, NoMem
     Ok(format!(in alloc; "predict {image} {export} {trace} {start} {steps}")?)
 }
 
+fn part_line(alloc: Global, words: &PartWords<'_>) -> Result<String, NoMemory> {
+    let modules = joined(alloc, words.modules.as_slice())?;
+    let role = match words.role {
+        Role::Client => "client",
+        Role::Library => "library",
+    };
+    let (image, iface) = (words.image, words.iface);
+    Ok(format!(in alloc; "part {role} {image} {iface}:{modules}")?)
+}
+
+fn join_line(alloc: Global, words: &JoinWords<'_>) -> Result<String, NoMemory> {
+    let (image, iface) = (words.image, words.iface);
+    let (client, library) = (words.client, words.library);
+    Ok(format!(in alloc; "join {image} {iface} {client} {library}")?)
+}
+
 /// What is asked for, as a line.
 fn line_of(alloc: Global, request: &Request<'_>) -> Result<String, NoMemory> {
     match request {
@@ -243,6 +277,8 @@ fn line_of(alloc: Global, request: &Request<'_>) -> Result<String, NoMemory> {
         Request::Twin(words) => twin_line(alloc, "twin", words),
         Request::Forward(words) => twin_line(alloc, "forward", words),
         Request::Predict(words) => predict_line(alloc, words),
+        Request::Part(words) => part_line(alloc, words),
+        Request::Join(words) => join_line(alloc, words),
         Request::Gen(words) => Ok(format!(in alloc; "gen {} {}", words.seed, words.size)?),
     }
 }
@@ -336,5 +372,11 @@ fn no_words_are_no_request(rt: HostRuntime) -> Result<(), Fail> {
 #[test]
 fn a_predict_has_its_turns_and_a_trace_of_its_own(rt: HostRuntime) -> Result<(), Fail> {
     assert_eq!(rt; told(rt.alloc(), &OF_PREDICTIONS)?, 9);
+    Ok(())
+}
+
+#[test]
+fn an_image_of_sides_is_no_file_that_is_read(rt: HostRuntime) -> Result<(), Fail> {
+    assert_eq!(rt; told(rt.alloc(), &OF_SIDES)?, 13);
     Ok(())
 }

@@ -54,3 +54,37 @@ pub(crate) fn shelf_of(alloc: Global, files: &[(&str, &[u8])]) -> Result<MemoryS
     }
     Ok(shelf)
 }
+
+/// How many of these words are no request, before the first that are one.
+pub(crate) fn are_no_requests(alloc: Global, lines: &[&str]) -> Result<u32, NoMemory> {
+    let mut shelf = shelf_of(alloc, &[])?;
+    let mut passed = 0u32;
+    for line in lines {
+        if !ends(
+            alloc,
+            &mut shelf,
+            *line,
+            2,
+            "usage: blade COMMAND ARGUMENTS\n",
+        )? {
+            break;
+        }
+        passed = passed.wrapping_add(1);
+    }
+    Ok(passed)
+}
+
+/// Whether each of these calls ends with status 0.
+pub(crate) fn are_done(
+    alloc: Global,
+    shelf: &mut MemoryShelf,
+    lines: &[&str],
+) -> Result<bool, NoMemory> {
+    let mut out = MemorySink::new(alloc, None);
+    for line in lines {
+        if say(alloc, shelf, *line, &mut out)? != 0 {
+            return Ok(false);
+        }
+    }
+    Ok(true)
+}

@@ -1,6 +1,6 @@
 //! `predict` on images: the directives that are chosen, what is met on the way, and what `spec` makes of the trace file that is kept. The traces
 //! and the counts are those that `drives.py`, beside this crate's `src`, prints.
-use crate::calls::{ends, holds, say, shelf_of};
+use crate::calls::{are_no_requests, ends, holds, say, shelf_of};
 use bl_base::NoMemory;
 use bl_outside::{MemoryShelf, MemorySink};
 use std::alloc::Global;
@@ -239,28 +239,9 @@ static OTHERS: [&str; 6] = [
     "blade predict i m/f t",
 ];
 
-/// How many of these words are no request, before the first that are one.
-fn refused(alloc: Global, lines: &[&str]) -> Result<u32, NoMemory> {
-    let mut shelf = shelf_of(alloc, &[])?;
-    let mut passed = 0u32;
-    for line in lines {
-        if !ends(
-            alloc,
-            &mut shelf,
-            *line,
-            2,
-            "usage: blade COMMAND ARGUMENTS\n",
-        )? {
-            break;
-        }
-        passed = passed.wrapping_add(1);
-    }
-    Ok(passed)
-}
-
 #[test]
 fn traces_are_files_of_their_own(rt: HostRuntime) -> Result<(), Fail> {
-    assert_eq!(rt; refused(rt.alloc(), &OTHERS)?, 6);
+    assert_eq!(rt; are_no_requests(rt.alloc(), &OTHERS)?, 6);
     Ok(())
 }
 

@@ -291,3 +291,65 @@ fn version_2_without_demands_and_weights_is_no_image(rt: HostRuntime) -> Result<
     assert!(rt; is_refused(rt.alloc(), &NEEDLESS, ImageError::NotAnImage));
     Ok(())
 }
+
+/// What stands in front of the commands where a function has 1,048,570: one more than the limit, with the traps.
+static MANY: [u8; 15] = [
+    0x42, 0x4C, 0x49, 0x4D, 0x01, 0x00, 0x00, 0x01, 0x00, 0x00, 0x00, 0xFA, 0xFF, 0x3F, 0x00,
+];
+
+/// The same behind a memory whose reserve is of 512 pages.
+static MANY_AND_RESERVE: [u8; 20] = [
+    0x42, 0x4C, 0x49, 0x4D, 0x01, 0x00, 0x01, 0x00, 0x80, 0x04, 0x00, 0x00, 0x01, 0x00, 0x00, 0x00,
+    0xFA, 0xFF, 0x3F, 0x00,
+];
+
+/// The bytes with so many returns and a last command of that code behind them.
+fn with_returns(alloc: Global, front: &[u8], count: u32, last: u8) -> Result<Vec<u8>, NoMemory> {
+    let mut bytes = front.to_vec(alloc)?;
+    for _ in 0..count {
+        bytes.push(0x08)?;
+    }
+    bytes.push(last)?;
+    Ok(bytes)
+}
+
+/// Whether such bytes are refused for that rule at 0, or as no image.
+fn are_refused(
+    alloc: Global,
+    front: &[u8],
+    count: u32,
+    last: u8,
+    rule: Option<u8>,
+) -> Result<bool, NoMemory> {
+    let bytes = with_returns(alloc, front, count, last)?;
+    let error = match rule {
+        Some(rule) => error_of(Some((rule, 0))),
+        None => ImageError::NotAnImage,
+    };
+    Ok(is_refused(alloc, &bytes, error))
+}
+
+/// How many images of more commands than the limit are answered so before the first that isn't.
+fn many_answered(alloc: Global) -> Result<u32, NoMemory> {
+    let cases: [(&[u8], u32, u8, Option<u8>); 4] = [
+        (&MANY, 1_048_569, 0x08, Some(2)),
+        (&MANY_AND_RESERVE, 1_048_569, 0x08, Some(1)),
+        // a jump without its target, and a command that isn't declared
+        (&MANY, 1_048_569, 0x04, None),
+        (&MANY, 1_048_570, 0x08, None),
+    ];
+    let mut passed = 0u32;
+    for (front, count, last, rule) in cases {
+        if !are_refused(alloc, front, count, last, rule)? {
+            break;
+        }
+        passed = passed.wrapping_add(1);
+    }
+    Ok(passed)
+}
+
+#[test]
+fn more_commands_than_the_limit(rt: HostRuntime) -> Result<(), Fail> {
+    assert_eq!(rt; many_answered(rt.alloc())?, 4);
+    Ok(())
+}

@@ -1,6 +1,7 @@
 use Rattle.bl_build.proofs.BuildLemmas.{lowering_lawful, sizing_lawful}
 use Rattle.bl_build.proofs.CertifyingLemmas.{certifying_lawful}
 use Rattle.bl_build.proofs.EnteringLemmas.{finding_lawful, imaging_lawful, starting_lawful}
+use Rattle.bl_build.proofs.InterfaceLemmas.{choosing_lawful, matching_lawful, reading_lawful, typing_lawful, uniting_lawful}
 use Rattle.bl_build.proofs.InvokingLemmas.{invoking_lawful}
 use Rattle.bl_build.proofs.LoadingLemmas.{decoding_lawful, labelling_lawful, linking_lawful, validation_lawful}
 use Rattle.bl_build.proofs.TracingLemmas.{tracing_lawful}
@@ -45,3 +46,18 @@ returns-clause-tracing c = tracing_lawful
 
 pub returns-clause-certifying : goal.returns-clause-certifying
 returns-clause-certifying c = certifying_lawful
+
+pub returns-clause-reading : goal.returns-clause-reading
+returns-clause-reading c = reading_lawful
+
+pub returns-clause-matching : goal.returns-clause-matching
+returns-clause-matching c = matching_lawful
+
+pub returns-clause-choosing : goal.returns-clause-choosing
+returns-clause-choosing c = choosing_lawful
+
+pub returns-clause-typing : goal.returns-clause-typing
+returns-clause-typing c = typing_lawful
+
+pub returns-clause-uniting : goal.returns-clause-uniting
+returns-clause-uniting c = uniting_lawful

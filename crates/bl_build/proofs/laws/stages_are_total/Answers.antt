@@ -1,5 +1,6 @@
 use Rattle.bl_build.proofs.BuildLemmas.{compiling_total}
 use Rattle.bl_build.proofs.ImagesTotal.{certifying_total, finding_total, imaging_total, starting_total, tracing_total}
+use Rattle.bl_build.proofs.InterfaceTotal.{choosing_total, matching_total, reading_total, typing_total, uniting_total}
 use Rattle.bl_build.proofs.LoadingTotal.{invoking_total, loading_total}
 use Rattle.bl_build.proofs.WeighingLemmas.{compiling_by_total}
 use Rattle.bl_build.proofs.laws.stages_are_total.Goals as goal
@@ -30,3 +31,18 @@ returns-clause-tracing c = tracing_total
 
 pub returns-clause-certifying : goal.returns-clause-certifying
 returns-clause-certifying c = certifying_total
+
+pub returns-clause-reading : goal.returns-clause-reading
+returns-clause-reading c = reading_total
+
+pub returns-clause-matching : goal.returns-clause-matching
+returns-clause-matching c = matching_total
+
+pub returns-clause-choosing : goal.returns-clause-choosing
+returns-clause-choosing c = choosing_total
+
+pub returns-clause-typing : goal.returns-clause-typing
+returns-clause-typing c = typing_total
+
+pub returns-clause-uniting : goal.returns-clause-uniting
+returns-clause-uniting c = uniting_total

@@ -1,5 +1,10 @@
+use Rattle.std.proofs.lemmas.Bool.{false≢true}
+use Rattle.bl_transient.specs.Transient.{nothing}
 use Rattle.bl_cut.proofs.Existing.{some_least}
 use Rattle.bl_cut.proofs.laws.some_set_is_least.Goals as goal
 
-pub returns : goal.returns
-returns c = λ program is. some_least program is
+pub returns-clause-least : goal.returns-clause-least
+returns-clause-least c = λ program is. some_least nothing program is (λ x hot. absurd (false≢true hot)) (λ x hot barred. absurd (false≢true hot))
+
+pub returns-clause-under : goal.returns-clause-under
+returns-clause-under c = λ asked program is hots apart. some_least asked program is hots apart

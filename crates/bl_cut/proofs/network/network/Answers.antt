@@ -7,8 +7,8 @@ use Rattle.bl_graph.specs.Graphs.{use_of}
 use Rattle.bl_graph.specs.Names.{place_of}
 use Rattle.bl_graph.specs.Ranges.{commands}
 use Rattle.bl_graph.proofs.Naming.{few_names}
-use Rattle.bl_cut.specs.Network.{write_arc, read_arc, sink_node}
-use Rattle.bl_cut.proofs.Networks.{made_network, write_nodes, read_nodes, sink_numbers, write_sites, write_places, each_writes}
+use Rattle.bl_cut.specs.Network.{write_arc, read_arc, sink_node, var_node}
+use Rattle.bl_cut.proofs.Networks.{made_network, write_nodes, read_nodes, sink_numbers, var_nodes, write_sites, write_places, each_writes}
 use Rattle.bl_cut.proofs.network.network.Goals as goal
 
 pub len-requires : goal.len-requires
@@ -52,11 +52,21 @@ node_weights-requires-clause-all c =
     subst (λ l. (s : ℕ) → IsSite c.args.program.now s → (x : ℕ) × Contains l (use_of s x)) (sym c.as_slice-3.ensures)
     (each_writes c.args.program.now c.args.graph.now c.requires.graph c.args.names.now c.requires.names)
 
-pub sink_nodes-requires-clause-has : goal.sink_nodes-requires-clause-has
-sink_nodes-requires-clause-has c =
+pub start_nodes-requires-clause-has : goal.start_nodes-requires-clause-has
+start_nodes-requires-clause-has c =
+    let count = c.len-commands.ensures ∙ ap (λ (p : ProgramParts). commands p) (c.parts.ensures.same ∙ c.program.ensures.same) in
+    var_nodes c.args.program.now c.args.graph.now c.requires.graph c.args.names.now c.requires.names c.ranges-2.ensures c.len-commands.result count c.args.hot.now c.requires.hot
+
+pub end_nodes-requires-clause-has : goal.end_nodes-requires-clause-has
+end_nodes-requires-clause-has c =
     let count = c.len-commands.ensures ∙ ap (λ (p : ProgramParts). commands p) (c.parts.ensures.same ∙ c.program.ensures.same) in
     subst (λ l. All (λ w. Contains c.args.names.now w.var.0 × (c.len-commands.result + place_of c.args.names.now w.var.0 < 2 ^ 32)) l) (sym c.as_slice-5.ensures)
     (sink_numbers c.args.program.now c.args.graph.now c.requires.graph c.args.names.now c.requires.names c.ranges-2.ensures c.len-commands.result count)
+
+pub end_nodes-requires-clause-more : goal.end_nodes-requires-clause-more
+end_nodes-requires-clause-more c =
+    let count = c.len-commands.ensures ∙ ap (λ (p : ProgramParts). commands p) (c.parts.ensures.same ∙ c.program.ensures.same) in
+    var_nodes c.args.program.now c.args.graph.now c.requires.graph c.args.names.now c.requires.names c.ranges-2.ensures c.len-commands.result count c.args.firm.now c.requires.firm
 
 pub returns : goal.returns
 returns c =
@@ -64,10 +74,11 @@ returns c =
     let count = c.len-commands.ensures ∙ ap (λ (p : ProgramParts). commands p) (c.parts.ensures.same ∙ c.program.ensures.same) in
     let reads = ap (map (read_arc c.args.names.now n)) c.as_slice-2.ensures in
     let writes = ap (map (write_arc c.args.names.now n)) c.as_slice.ensures in
-    made_network c.args.program.now c.args.graph.now c.requires.graph c.args.names.now c.requires.names n c.of.result c.of-2.result c.of-3.result c.of-4.result count
+    made_network c.args.program.now c.args.graph.now c.requires.graph c.args.names.now c.requires.names c.args.hot.now c.args.firm.now c.requires.hot c.requires.firm
+    n c.of.result c.of-2.result c.of-3.result c.of-4.result count
     (ap length c.of.ensures ∙ c.in_ok-weights.ensures.places ∙ ap (λ k. n + k) c.len.ensures)
     (λ v. ap (λ l. Rattle.bl_cut.specs.Network.noted l v) c.of.ensures ∙ c.in_ok-weights.ensures.weights v)
     (c.of-2.ensures ∙ (c.in_ok-push_reads.ensures ∙ (ap (λ l. l ++ map (read_arc c.args.names.now n) c.as_slice-2.result.now) (c.in_ok-push_writes.ensures ∙ ap (λ l. l ++ map (write_arc c.args.names.now n) c.as_slice.result.now) c.in_ok-arcs.ensures.items)
     ∙ (ap (λ l. map (write_arc c.args.names.now n) c.as_slice.result.now ++ l) reads ∙ ap (λ l. l ++ map (read_arc c.args.names.now n) c.args.graph.now.reads) writes))))
-    (c.of-3.ensures ∙ (c.in_ok-starts.ensures ∙ ap (map (λ (load : Pos). load.0)) c.as_slice-4.ensures))
-    (c.of-4.ensures ∙ (c.in_ok-ends.ensures ∙ ap (map (sink_node c.args.names.now n)) c.as_slice-5.ensures))
+    (c.of-3.ensures ∙ (c.in_ok-starts.ensures ∙ ap (λ l. map (λ (load : Pos). load.0) l ++ map (var_node c.args.names.now n) c.args.hot.now) c.as_slice-4.ensures))
+    (c.of-4.ensures ∙ (c.in_ok-ends.ensures ∙ ap (λ l. map (sink_node c.args.names.now n) l ++ map (var_node c.args.names.now n) c.args.firm.now) c.as_slice-5.ensures))

@@ -6,13 +6,13 @@ use Rattle.bl_flow.specs.Traces.{ArePassedOver, OnTrace}
 use Rattle.bl_flow.proofs.paths.trace.Given as goal
 
 abbrev pub invariant-loop-at : goal.invariant-loop-at
-invariant-loop-at l = record {
+invariant-loop-at g l = record {
   inside : l.at < length l.rows;
-  carried_ : IsCarried l.n l.carries l.left;
+  carried_ : IsCarried g.n l.carries l.left;
   less : (k : ℕ) → slice_index l.carries k ≤ slice_index l.fn.carries k;
-  passed_ : ArePassedOver l.carries (reversed (link_count l.n) l.rows) l.passed;
-  trace : OnTrace l.links (link_count l.n) l.carries l.places l.trail.items (l.source + 1) l.at;
+  passed_ : ArePassedOver l.carries (reversed (link_count g.n) l.rows) l.passed;
+  trace : OnTrace l.links (link_count g.n) l.carries l.places l.trail.items (l.source + 1) l.at;
 }
 
 abbrev pub decreases-loop-at : goal.decreases-loop-at
-decreases-loop-at l = sum_below (link_count l.n) (λ k. slice_index l.carries k)
+decreases-loop-at g l = sum_below (link_count g.n) (λ k. slice_index l.carries k)

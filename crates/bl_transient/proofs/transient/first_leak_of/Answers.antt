@@ -1,9 +1,14 @@
 use Rattle.std.proofs.Common.{◌≡◌, ◌<◌, ◌∙◌, Some, None, ap, map, sym, subst, length}
+use Rattle.std.proofs.Common.{ℕ, slice_get}
+use Rattle.std.specs.Prelude.{IsTrue, ◌↔◌}
 use Rattle.std.specs.FinSet as fin
 use Rattle.std.specs.List.{All, Contains}
 use Rattle.bl_graph.specs.Names.{numbered}
 use Rattle.bl_graph.proofs.Naming.{sinks_named}
 use Rattle.bl_transient.specs.Reaching.{FirstSink}
+use Rattle.bl_graph.specs.Arcs.{is_in}
+use Rattle.bl_transient.specs.Transient.{TransUnder}
+use Rattle.bl_transient.specs.Verdicts.{asked_of}
 use Rattle.bl_transient.proofs.Named.{sinks_within, first_leak, no_leak}
 use Rattle.bl_transient.proofs.transient.first_leak_of.Goals as goal
 
@@ -26,7 +31,8 @@ returns-in-Some c =
     let sinks : c.deref-2.result.now ≡ map (numbered c.in_ok-names.names) c.args.graph.now.sinks =
     c.deref-2.ensures.value ∙ c.in_ok-sinks.ensures ∙ ap (map (numbered c.in_ok-names.names)) c.as_slice.ensures in
     first_leak c.args.program.now c.args.graph.now c.requires c.in_ok-names.names c.in_ok-names.ensures.names (fin.contains c.args.protects.now) c.in_ok-marks.marks.items
-    c.in_ok-marks.ensures.exact c.in-Some.position
+    (subst (λ a. (i x : ℕ) → slice_get c.in_ok-names.names i ≡ Some x → IsTrue (is_in c.in_ok-marks.marks.items i) ↔ TransUnder (asked_of a) c.args.program.now (fin.contains c.args.protects.now) x)
+    c.nothing-asked.ensures c.in_ok-marks.ensures.exact) c.in-Some.position
     (subst (λ m. FirstSink m (map (numbered c.in_ok-names.names) c.args.graph.now.sinks) (Some c.in-Some.position)) c.deref.ensures.value
     (subst (λ l. FirstSink c.deref.result.now l (Some c.in-Some.position)) sinks c.in-Some.ensures))
 
@@ -35,6 +41,7 @@ returns c =
     let sinks : c.deref-2.result.now ≡ map (numbered c.in_ok-names.names) c.args.graph.now.sinks =
     c.deref-2.ensures.value ∙ c.in_ok-sinks.ensures ∙ ap (map (numbered c.in_ok-names.names)) c.as_slice.ensures in
     no_leak c.args.program.now c.args.graph.now c.requires c.in_ok-names.names c.in_ok-names.ensures.names (fin.contains c.args.protects.now) c.in_ok-marks.marks.items
-    c.in_ok-marks.ensures.exact
+    (subst (λ a. (i x : ℕ) → slice_get c.in_ok-names.names i ≡ Some x → IsTrue (is_in c.in_ok-marks.marks.items i) ↔ TransUnder (asked_of a) c.args.program.now (fin.contains c.args.protects.now) x)
+    c.nothing-asked.ensures c.in_ok-marks.ensures.exact)
     (subst (λ m. FirstSink m (map (numbered c.in_ok-names.names) c.args.graph.now.sinks) None) c.deref.ensures.value
     (subst (λ l. FirstSink c.deref.result.now l None) sinks c.in-None.ensures))

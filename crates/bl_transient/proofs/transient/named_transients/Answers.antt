@@ -1,4 +1,4 @@
-use Rattle.std.proofs.Common.{arith, ◌≡◌, ◌<◌, ◌∙◌, ℕ, Bool, List, Option, ap, map, sym, subst, length}
+use Rattle.std.proofs.Common.{arith, ◌≡◌, ◌<◌, ◌∙◌, ◌++◌, ℕ, Bool, List, Option, ap, map, sym, subst, length}
 use Rattle.std.specs.Prelude.{IsTrue, ◌↔◌}
 use Rattle.std.specs.FinSet as fin
 use Rattle.std.specs.List.{All, Contains}
@@ -9,8 +9,10 @@ use Rattle.bl_graph.proofs.Naming.{few_names, reads_named, writes_named}
 use Rattle.bl_graph.specs.Arcs.{RowsOf, is_in, row_at, rows_in}
 use Rattle.bl_graph.specs.declared.arcs.Arc.{Arc}
 use Rattle.bl_graph.specs.declared.facts.Use.{Use}
-use Rattle.bl_graph.specs.Names.{numbered}
+use Rattle.bl_graph.specs.Names.{numbered, place_of}
 use Rattle.bl_transient.specs.Reaching.{AreFree, Reached, moves_from, roots_from}
+use Rattle.bl_transient.specs.Verdicts.{asked_of}
+use Rattle.bl_transient.proofs.Asking.{asked_back, asked_there}
 use Rattle.bl_transient.proofs.Named.{writes_within, one_write, moves_within, rows_within, roots_within, marks_are}
 use Rattle.bl_transient.proofs.transient.named_transients.Goals as goal
 
@@ -47,10 +49,10 @@ rows_of-requires c =
     let again : (List Use → List Use) = map (numbered c.args.names.now) in
     let free : AreFree (again c.args.graph.now.writes) set written =
     subst (λ l. AreFree l set written) (c.deref.ensures.value ∙ c.in_ok-writes.ensures ∙ ap again c.as_slice.ensures) c.in_ok-written.ensures in
-    let moves : c.deref-5.result.now ≡ moves_from written (again c.args.graph.now.reads) =
-    c.deref-5.ensures.value ∙ c.in_ok-moves.ensures ∙ ap (λ w. moves_from w c.deref-3.result.now) c.deref-4.ensures.value
-    ∙ ap (moves_from written) (c.deref-3.ensures.value ∙ c.in_ok-reads.ensures ∙ ap again c.as_slice-2.ensures) in
-    subst (λ n. All (λ (m : Arc). m.from < n) c.deref-5.result.now) (sym c.len.ensures)
+    let moves : c.deref-6.result.now ≡ moves_from written (again c.args.graph.now.reads) =
+    c.deref-6.ensures.value ∙ c.in_ok-moves.ensures ∙ ap (λ w. moves_from w c.deref-4.result.now) c.deref-5.ensures.value
+    ∙ ap (moves_from written) (c.deref-4.ensures.value ∙ c.in_ok-reads.ensures ∙ ap again c.as_slice-2.ensures) in
+    subst (λ n. All (λ (m : Arc). m.from < n) c.deref-6.result.now) (sym c.len.ensures)
     (subst (λ l. All (λ (m : Arc). m.from < length c.args.names.now) l) (sym moves) (moves_within c.args.program.now c.args.graph.now c.requires.graph c.args.names.now c.requires.names set written free))
 
 pub reached-requires-clause-within : goal.reached-requires-clause-within
@@ -60,14 +62,14 @@ reached-requires-clause-within c =
     let again : (List Use → List Use) = map (numbered c.args.names.now) in
     let free : AreFree (again c.args.graph.now.writes) set written =
     subst (λ l. AreFree l set written) (c.deref.ensures.value ∙ c.in_ok-writes.ensures ∙ ap again c.as_slice.ensures) c.in_ok-written.ensures in
-    let moves : c.deref-5.result.now ≡ moves_from written (again c.args.graph.now.reads) =
-    c.deref-5.ensures.value ∙ c.in_ok-moves.ensures ∙ ap (λ w. moves_from w c.deref-3.result.now) c.deref-4.ensures.value
-    ∙ ap (moves_from written) (c.deref-3.ensures.value ∙ c.in_ok-reads.ensures ∙ ap again c.as_slice-2.ensures) in
-    let hold : RowsOf (moves_from written (again c.args.graph.now.reads)) (rows_in c.deref-6.result.now) =
-    subst (λ m. RowsOf m (rows_in c.deref-6.result.now)) moves (subst (λ r. RowsOf c.deref-5.result.now (rows_in r)) (sym c.deref-6.ensures.value) c.in_ok-rows.ensures.rows) in
-    let places = ap length c.deref-6.ensures.value ∙ c.in_ok-rows.ensures.places ∙ c.len.ensures in
-    subst (λ n. (u v : ℕ) → Contains (row_at (rows_in c.deref-6.result.now) u) v → v < n) (sym places)
-    (rows_within c.args.program.now c.args.graph.now c.requires.graph c.args.names.now c.requires.names set written free (rows_in c.deref-6.result.now) hold)
+    let moves : c.deref-6.result.now ≡ moves_from written (again c.args.graph.now.reads) =
+    c.deref-6.ensures.value ∙ c.in_ok-moves.ensures ∙ ap (λ w. moves_from w c.deref-4.result.now) c.deref-5.ensures.value
+    ∙ ap (moves_from written) (c.deref-4.ensures.value ∙ c.in_ok-reads.ensures ∙ ap again c.as_slice-2.ensures) in
+    let hold : RowsOf (moves_from written (again c.args.graph.now.reads)) (rows_in c.deref-7.result.now) =
+    subst (λ m. RowsOf m (rows_in c.deref-7.result.now)) moves (subst (λ r. RowsOf c.deref-6.result.now (rows_in r)) (sym c.deref-7.ensures.value) c.in_ok-rows.ensures.rows) in
+    let places = ap length c.deref-7.ensures.value ∙ c.in_ok-rows.ensures.places ∙ c.len.ensures in
+    subst (λ n. (u v : ℕ) → Contains (row_at (rows_in c.deref-7.result.now) u) v → v < n) (sym places)
+    (rows_within c.args.program.now c.args.graph.now c.requires.graph c.args.names.now c.requires.names set written free (rows_in c.deref-7.result.now) hold)
 
 pub reached-requires-clause-roots_in : goal.reached-requires-clause-roots_in
 reached-requires-clause-roots_in c =
@@ -76,11 +78,16 @@ reached-requires-clause-roots_in c =
     let again : (List Use → List Use) = map (numbered c.args.names.now) in
     let free : AreFree (again c.args.graph.now.writes) set written =
     subst (λ l. AreFree l set written) (c.deref.ensures.value ∙ c.in_ok-writes.ensures ∙ ap again c.as_slice.ensures) c.in_ok-written.ensures in
-    let places = ap length c.deref-6.ensures.value ∙ c.in_ok-rows.ensures.places ∙ c.len.ensures in
-    let roots : c.deref-7.result.now ≡ roots_from written c.args.graph.now.loads =
-    c.deref-7.ensures.value ∙ c.in_ok-roots.ensures ∙ ap (λ w. roots_from w c.as_slice-3.result.now) c.deref-2.ensures.value ∙ ap (roots_from written) c.as_slice-3.ensures in
-    subst (λ l. All (λ v. v < length c.deref-6.result.now) l) (sym roots)
-    (subst (λ n. All (λ v. v < n) (roots_from written c.args.graph.now.loads)) (sym places) (roots_within c.args.program.now c.args.graph.now c.requires.graph c.args.names.now c.requires.names set written free))
+    let places = ap length c.deref-7.ensures.value ∙ c.in_ok-rows.ensures.places ∙ c.len.ensures in
+    let hots : List ℕ = map (place_of c.args.names.now) c.args.asked.now.hot in
+    let roots : c.deref-8.result.now ≡ hots ++ roots_from written c.args.graph.now.loads =
+    c.deref-8.ensures.value ∙ c.in_ok-roots.ensures
+    ∙ ap (λ l. l ++ roots_from c.deref-3.result.now c.as_slice-4.result.now) (c.deref-2.ensures.value ∙ c.in_ok-hot.ensures ∙ ap (map (place_of c.args.names.now)) c.as_slice-3.ensures)
+    ∙ ap (λ w. hots ++ roots_from w c.as_slice-4.result.now) c.deref-3.ensures.value ∙ ap (λ l. hots ++ roots_from written l) c.as_slice-4.ensures in
+    subst (λ l. All (λ v. v < length c.deref-7.result.now) l) (sym roots)
+    (subst (λ n. All (λ v. v < n) (hots ++ roots_from written c.args.graph.now.loads)) (sym places)
+    (roots_within c.args.program.now c.args.graph.now c.requires.graph c.args.names.now c.requires.names (asked_of c.args.asked.now) hots
+    (asked_back c.args.names.now c.requires.names.rise c.args.asked.now.hot c.requires.hot) (asked_there c.args.names.now c.requires.names.rise c.args.asked.now.hot c.requires.hot) set written free))
 
 pub returns-clause-exact : goal.returns-clause-exact
 returns-clause-exact c =
@@ -89,13 +96,17 @@ returns-clause-exact c =
     let again : (List Use → List Use) = map (numbered c.args.names.now) in
     let free : AreFree (again c.args.graph.now.writes) set written =
     subst (λ l. AreFree l set written) (c.deref.ensures.value ∙ c.in_ok-writes.ensures ∙ ap again c.as_slice.ensures) c.in_ok-written.ensures in
-    let moves : c.deref-5.result.now ≡ moves_from written (again c.args.graph.now.reads) =
-    c.deref-5.ensures.value ∙ c.in_ok-moves.ensures ∙ ap (λ w. moves_from w c.deref-3.result.now) c.deref-4.ensures.value
-    ∙ ap (moves_from written) (c.deref-3.ensures.value ∙ c.in_ok-reads.ensures ∙ ap again c.as_slice-2.ensures) in
-    let hold : RowsOf (moves_from written (again c.args.graph.now.reads)) (rows_in c.deref-6.result.now) =
-    subst (λ m. RowsOf m (rows_in c.deref-6.result.now)) moves (subst (λ r. RowsOf c.deref-5.result.now (rows_in r)) (sym c.deref-6.ensures.value) c.in_ok-rows.ensures.rows) in
-    let roots : c.deref-7.result.now ≡ roots_from written c.args.graph.now.loads =
-    c.deref-7.ensures.value ∙ c.in_ok-roots.ensures ∙ ap (λ w. roots_from w c.as_slice-3.result.now) c.deref-2.ensures.value ∙ ap (roots_from written) c.as_slice-3.ensures in
-    let exact : (v : ℕ) → IsTrue (is_in c.in_ok-marks.marks.items v) ↔ Reached (rows_in c.deref-6.result.now) (roots_from written c.args.graph.now.loads) v =
-    subst (λ l. (v : ℕ) → IsTrue (is_in c.in_ok-marks.marks.items v) ↔ Reached (rows_in c.deref-6.result.now) l v) roots c.in_ok-marks.ensures.exact in
-    marks_are c.args.program.now c.args.graph.now c.requires.graph c.args.names.now c.requires.names set written free (rows_in c.deref-6.result.now) hold c.in_ok-marks.marks.items exact
+    let moves : c.deref-6.result.now ≡ moves_from written (again c.args.graph.now.reads) =
+    c.deref-6.ensures.value ∙ c.in_ok-moves.ensures ∙ ap (λ w. moves_from w c.deref-4.result.now) c.deref-5.ensures.value
+    ∙ ap (moves_from written) (c.deref-4.ensures.value ∙ c.in_ok-reads.ensures ∙ ap again c.as_slice-2.ensures) in
+    let hold : RowsOf (moves_from written (again c.args.graph.now.reads)) (rows_in c.deref-7.result.now) =
+    subst (λ m. RowsOf m (rows_in c.deref-7.result.now)) moves (subst (λ r. RowsOf c.deref-6.result.now (rows_in r)) (sym c.deref-7.ensures.value) c.in_ok-rows.ensures.rows) in
+    let hots : List ℕ = map (place_of c.args.names.now) c.args.asked.now.hot in
+    let roots : c.deref-8.result.now ≡ hots ++ roots_from written c.args.graph.now.loads =
+    c.deref-8.ensures.value ∙ c.in_ok-roots.ensures
+    ∙ ap (λ l. l ++ roots_from c.deref-3.result.now c.as_slice-4.result.now) (c.deref-2.ensures.value ∙ c.in_ok-hot.ensures ∙ ap (map (place_of c.args.names.now)) c.as_slice-3.ensures)
+    ∙ ap (λ w. hots ++ roots_from w c.as_slice-4.result.now) c.deref-3.ensures.value ∙ ap (λ l. hots ++ roots_from written l) c.as_slice-4.ensures in
+    let exact : (v : ℕ) → IsTrue (is_in c.in_ok-marks.marks.items v) ↔ Reached (rows_in c.deref-7.result.now) (hots ++ roots_from written c.args.graph.now.loads) v =
+    subst (λ l. (v : ℕ) → IsTrue (is_in c.in_ok-marks.marks.items v) ↔ Reached (rows_in c.deref-7.result.now) l v) roots c.in_ok-marks.ensures.exact in
+    marks_are c.args.program.now c.args.graph.now c.requires.graph c.args.names.now c.requires.names (asked_of c.args.asked.now) hots
+    (asked_back c.args.names.now c.requires.names.rise c.args.asked.now.hot c.requires.hot) (asked_there c.args.names.now c.requires.names.rise c.args.asked.now.hot c.requires.hot) set written free (rows_in c.deref-7.result.now) hold c.in_ok-marks.marks.items exact

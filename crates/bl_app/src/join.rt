@@ -1,0 +1,107 @@
+//! `join`: from the bytes of an interface file and of a client's and a library's image to the image of the program that they are joined to.
+ghost use Rattle.std.specs.Prelude.{◌≡◌, None, IfOk, map, string_bytes};
+ghost use Rattle.bl_app.specs.Joining.{fails_text, join_job, join_plan, joined_text, role_text};
+ghost use Rattle.bl_build.specs.Joining.{whole};
+ghost use Rattle.bl_build.specs.Working.{built_in, union_in};
+ghost use Rattle.bl_job.specs.Jobs.{AreRead, saying};
+ghost use Rattle.bl_job.specs.Working.{IsWork, contents_in, plan_in, read_in};
+ghost use Rattle.bl_job.specs.declared.status.Status.TheVariants.{No};
+ghost use Rattle.bl_words.specs.Words.{join_in};
+
+use bl_base::{NoMemory, Pos, Quantity};
+use bl_build::{Built, Union, join_images};
+use bl_cmd::WellFormed;
+use bl_iface::Role;
+use bl_job::{Content, Plan, Read, Status, WorkError, list_reads, one_kept, three_files};
+use bl_words::JoinWords;
+use std::alloc::Global;
+
+/// The files that `join` reads: the interface file, the client's image, and then the library's.
+pub fn join_reads<'a>(alloc: Global, words: &JoinWords<'a>) -> Result<Vec<Read<'a>>, NoMemory>
+    ensures { IfOk result (λ reads. map read_in reads.items ≡ (join_job (join_in words.now)).reads) }
+{
+    list_reads(
+        alloc,
+        &[
+            (words.iface, Quantity::Interface),
+            (words.client, Quantity::Image),
+            (words.library, Quantity::Image),
+        ],
+    )
+}
+
+/// Keeping the image of the program that a client and a library are joined to, by the bytes of an interface file and of their images, and printing
+/// its size; or printing which one doesn't pass on its side of the interface. Refused exactly where the bytes are refused. Linear in the
+/// bytes, but for logarithms of how many names there are.
+pub fn join<'a>(
+    alloc: Global,
+    words: &JoinWords<'a>,
+    contents: &[Content],
+) -> Result<Plan<'a>, WorkError>
+    requires { AreRead None (join_job (join_in words.now)).reads (contents_in contents.now) }
+    ensures { IsWork (join_job (join_in words.now)) (contents_in contents.now) result }
+{
+    let (iface, client, library) = three_files(contents);
+    match join_images(alloc, iface, client, library) {
+        Ok(union) => Ok(plan_of(alloc, words, union)?),
+        Err(error) => Err(error),
+    }
+}
+
+/// The plan for what comes of a client and a library.
+fn plan_of<'a>(alloc: Global, words: &JoinWords<'a>, union: Union) -> Result<Plan<'a>, NoMemory>
+    ensures { IfOk result (λ plan. plan_in plan ≡ join_plan (join_in words.now) (union_in union)) }
+{
+    match union {
+        Union::Fails(role, position) => tell_failing(alloc, role, position),
+        Union::Whole(built) => keep_joined(alloc, words, built),
+    }
+}
+
+/// Printing which one doesn't pass, and the position that tells why.
+fn tell_failing<'a>(alloc: Global, role: Role, position: Pos) -> Result<Plan<'a>, NoMemory>
+    ensures { IfOk result (λ plan. plan_in plan ≡ saying No (fails_text role position.0)) }
+{
+    let word = role_word(role);
+    let at = position.0;
+    let text = format!(in alloc; "{word} no {at}\n")?;
+    Ok(Plan {
+        status: Status::No,
+        keeps: Vec::new(alloc),
+        text: text.into_bytes(),
+    })
+}
+
+/// The word of a side.
+fn role_word(role: Role) -> &'static str
+    ensures { result.now ≡ role_text role }
+{
+    match role {
+        Role::Client => "client",
+        Role::Library => "library",
+    }
+}
+
+/// Keeping the image of a joined program, and printing its size.
+fn keep_joined<'a>(alloc: Global, words: &JoinWords<'a>, built: Built) -> Result<Plan<'a>, NoMemory>
+    ensures { IfOk result (λ plan. plan_in plan ≡ join_plan (join_in words.now) (whole (built_in built))) }
+{
+    let text = joined_line(alloc, &built.program)?;
+    let keeps = one_kept(alloc, words.image, built.into_image())?;
+    Ok(Plan {
+        status: Status::Done,
+        keeps,
+        text: text.into_bytes(),
+    })
+}
+
+/// The line of how many functions and commands a joined program has.
+fn joined_line(alloc: Global, program: &WellFormed) -> Result<String, NoMemory>
+    ensures { IfOk result (λ text. string_bytes text ≡ joined_text program.now) }
+{
+    let parts = program.program().parts();
+    let functions = parts.functions.len();
+    let commands = parts.commands.len();
+    let text = format!(in alloc; "joined functions {functions} commands {commands}\n")?;
+    Ok(text)
+}

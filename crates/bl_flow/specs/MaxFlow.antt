@@ -1,0 +1,23 @@
+-- What a maximum flow is, and what a search for one is given.
+use Rattle.std.specs.Prelude.{◌≡◌, ℕ, ◌≤◌, Bool, Some, All}
+use Rattle.bl_flow.specs.declared.layout.Layout.{Layout}
+use Rattle.bl_flow.specs.declared.network.FlowResult.{FlowResult}
+use Rattle.bl_flow.specs.declared.network.Network.{Network}
+use Rattle.bl_flow.specs.Networks.{size, weight_at, IsPath, load, carried}
+use Rattle.bl_flow.specs.Cuts.{IsCut, IsNearSide, LiesNear, cut_of, cut_weight}
+use Rattle.bl_flow.specs.Packed.{IsPacked}
+
+-- a maximum flow with the cut nearest the starts
+pub record IsMaxFlow (n : Network) (r : FlowResult) : Type 0 where
+  pub paths : All (IsPath n) r.paths
+  pub loads : (v w : ℕ) → weight_at n v ≡ Some w → load r.paths v ≤ w
+  pub cut : IsCut n (cut_of r)
+  pub weight : cut_weight n (cut_of r) ≡ carried r.paths
+  pub least : (cut : ℕ → Bool) → IsCut n cut → carried r.paths ≤ cut_weight n cut
+  pub near : IsNearSide n (cut_of r) r.near_in r.near_out
+  pub nearest : (cut : ℕ → Bool) → IsCut n cut → cut_weight n cut ≡ carried r.paths → LiesNear n cut r.near_in r.near_out
+
+-- a network's links both ways, row by row, with what each can take before anything flows
+pub record IsLaidOut (n : Network) (layout : Layout) : Type 0 where
+  pub nodes_ : layout.nodes ≡ size n
+  pub packed : IsPacked n layout.links layout.rows layout.capacities.items 0
