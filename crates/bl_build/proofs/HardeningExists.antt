@@ -30,7 +30,7 @@ use Rattle.bl_flow.specs.MaxFlow.{IsMaxFlow}
 use Rattle.bl_cut.specs.Choices.{KnowsSinks, path_of}
 use Rattle.bl_cut.specs.Least.{Least}
 use Rattle.bl_cut.specs.Marks.{protected}
-use Rattle.bl_cut.specs.Network.{ArcKind, IsBarred, IsEndUnder, IsHotNode, IsNetwork, node_of, read, read_arc, sink_node, write, write_arc}
+use Rattle.bl_cut.specs.Network.{ArcKind, IsBarred, IsEndUnder, IsFirstSite, IsHotNode, IsNetwork, node_of, read, read_arc, sink_node, write, write_arc}
 use Rattle.bl_cut.proofs.Choosing.{certified, is_least}
 use Rattle.bl_cut.proofs.Cutting.{bounded, in_range as network_in_range, total}
 use Rattle.bl_cut.proofs.Marked.{certifies_on, is_program, is_well_formed}
@@ -200,8 +200,9 @@ module _ (program : Program) (facts : IsProgram program) (rules : IsWellFormed p
   }
 
   module _ (starts : List ℕ) (begin : (s : ℕ) → Contains starts s ↔ ((s < commands program) × IsLoad program s)) where
-    start_in : (s : ℕ) → IsLoad program s ⊎ IsHotNode nothing program names s → Contains starts s
-    start_in s (inl load) = (begin s).1 (is.sites s (is.loads s load), load)
+    start_in : (s : ℕ) → IsFirstSite nothing program s ⊎ IsHotNode nothing program names s → Contains starts s
+    start_in s (inl (inl load)) = (begin s).1 (is.sites s (is.loads s load), load)
+    start_in s (inl (inr one)) = absurd (false≢true one.2)
     start_in s (inr hot) = absurd (false≢true hot.3)
 
     network : Network
@@ -216,7 +217,7 @@ module _ (program : Program) (facts : IsProgram program) (rules : IsWellFormed p
       size_is = many;
       weights = weighed;
       arcs = λ u v. (arc_kind u v, arc_of u v);
-      starts = λ s. ((λ h. inl ((begin s).0 h).1), start_in s);
+      starts = λ s. ((λ h. inl (inl ((begin s).0 h).1)), start_in s);
       ends = λ v. (end_kind v, end_of v);
     }
 

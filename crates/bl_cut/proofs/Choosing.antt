@@ -25,7 +25,7 @@ use Rattle.bl_flow.specs.MaxFlow.{IsMaxFlow}
 use Rattle.bl_cut.specs.Choices.{KnowsSinks, sites_in, positions, last_var, path_of}
 use Rattle.bl_cut.specs.Least.{Least, LeastUnder}
 use Rattle.bl_graph.specs.Names.{place_of}
-use Rattle.bl_cut.specs.Network.{node_of, IsBarred, IsHotNode, IsNetwork, IsNetworkUnder}
+use Rattle.bl_cut.specs.Network.{node_of, IsBarred, IsFirstSite, IsHotNode, IsNetwork, IsNetworkUnder}
 use Rattle.bl_cut.proofs.Cutting.{cut_weighs, passing_cut, cut_sites, cut_passes}
 use Rattle.bl_cut.proofs.Hot.{named_trans}
 use Rattle.bl_cut.proofs.Walking.{near_trans, near_var, walk_chain}
@@ -72,8 +72,9 @@ module _ (program : Program) (names : List ℕ) (is : AreInRange program) (n : N
   is_least = nearest_least nothing program names is n net r flow
 
   -- where nothing is asked, starts are loads and ends are variables that sinks read
-  start_load : (s : ℕ) → IsLoad program s ⊎ IsHotNode nothing program names s → IsLoad program s
-  start_load s (inl load) = load
+  start_load : (s : ℕ) → IsFirstSite nothing program s ⊎ IsHotNode nothing program names s → IsLoad program s
+  start_load s (inl (inl load)) = load
+  start_load s (inl (inr one)) = absurd (false≢true one.2)
   start_load s (inr hot) = absurd (false≢true hot.3)
 
   end_sink : (x : ℕ) → IsBarred nothing program x → (position : ℕ) × SinkReads program position x

@@ -19,7 +19,7 @@ use Rattle.bl_graph.proofs.Counting.{amount_if}
 use Rattle.bl_graph.proofs.Members.{any_here, any_in, any_later, in_any}
 use Rattle.bl_transient.specs.Transient.{Asked, PassesUnder, TransUnder}
 use Rattle.bl_transient.proofs.Typings.{passes_under_if, passing_firm, passing_sinks}
-use Rattle.bl_cut.specs.Network.{node_of, ArcKind, write, read, IsBarred, IsEndUnder, IsHotNode, IsNetworkUnder}
+use Rattle.bl_cut.specs.Network.{node_of, ArcKind, write, read, IsBarred, IsEndUnder, IsFirstSite, IsHotNode, IsNetworkUnder}
 use Rattle.bl_cut.proofs.Hot.{hot_var, no_var}
 use Rattle.bl_graph.proofs.Naming.{place_inj, place_within}
 use Rattle.bl_cut.proofs.Walking.{Free, near_trans, start_hot, walk_hot}
@@ -50,6 +50,10 @@ module _ (asked : Asked) (program : Program) (names : List ℕ) (is : AreInRange
       let less = place_within names x net.named.rise (net.named.reads arc.to x reads) in
       (omega arith, omega arith)
 
+  first_site : (s : ℕ) → IsFirstSite asked program s → IsSite program s
+  first_site s (inl load) = is.loads s load
+  first_site s (inr one) = (is.reads s one.0 one.1).0
+
   pub in_range : InRange n
   in_range = record {
     arcs = all_from (λ arc. (arc.from < size n) × (arc.to < size n)) n.arcs (λ arc h.
@@ -57,7 +61,7 @@ module _ (asked : Asked) (program : Program) (names : List ℕ) (is : AreInRange
     starts = all_from (λ v. v < size n) n.starts (λ s h.
         let e = net.size_is in
         elim ((net.starts s).0 h) as (λ _. s < size n) [
-          | inl load ↦ let lt = is.sites s (is.loads s load) in omega arith
+          | inl first ↦ let lt = is.sites s (first_site s first) in omega arith
           | inr node ↦ let at = node.1 in let lt = place_within names node.0 net.named.rise node.2 in omega arith
         ]);
     ends = all_from (λ v. v < size n) n.ends (λ v h.
@@ -96,7 +100,7 @@ module _ (asked : Asked) (program : Program) (names : List ℕ) (is : AreInRange
   pub bounded : Apart → Meets n (λ v. IsSome (weight_at n v))
   bounded apart s e before start last walk =
       elim ((net.starts s).0 start) as (λ _. Any (λ v. IsSome (weight_at n v)) (before ++ e ∷ [])) [
-        | inl load ↦ first_of (λ v. IsSome (weight_at n v)) s e before walk (some_weight s (is.loads s load))
+        | inl first ↦ first_of (λ v. IsSome (weight_at n v)) s e before walk (some_weight s (first_site s first))
         | inr hot ↦ through_site apart s e before hot ((net.ends e).0 last) walk
       ]
 

@@ -10,7 +10,7 @@ pub mod Marked
 pub mod Marking
 pub mod Networks
 pub mod Passing
+pub mod Readers
 pub mod Remarking
-pub mod Sets
 pub mod Sinks
 pub mod Walking

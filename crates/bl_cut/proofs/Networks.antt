@@ -1,6 +1,6 @@
 -- The network that is made of a graph's lists is the program's.
 use Rattle.std.proofs.Common.{◌≡◌, ℕ, zero, suc, ◌+◌, ◌^◌, ◌<◌, ◌≤◌, List, [], ◌∷◌, ◌++◌, length, take, set, get_or, replicate, Option, Some, None, refl, sym, ap, subst, ◌∙◌, arith, ◌⊎◌, inl, inr}
-use Rattle.std.specs.Prelude.{IsSome, map}
+use Rattle.std.specs.Prelude.{◌↔◌, IsSome, map}
 use Rattle.std.specs.List.{All, Contains, slice_index_or}
 use Rattle.std.proofs.lemmas.Bool.{cases_eq, cases_lt}
 use Rattle.std.proofs.lemmas.List.{take_more, get_or-set_same, get_or-set_other, get_or-replicate, get_or_past, length-replicate, take_all}
@@ -21,7 +21,7 @@ use Rattle.bl_graph.proofs.Ranging.{site_writes}
 use Rattle.bl_transient.specs.Transient.{Asked}
 use Rattle.bl_transient.specs.Verdicts.{asked_of}
 use Rattle.bl_transient.proofs.Asking.{asked_in, in_asked}
-use Rattle.bl_cut.specs.Network.{node_of, ArcKind, write, read, IsBarred, IsEndUnder, IsHotNode, IsNetworkUnder, write_arc, read_arc, sink_node, var_node, noted}
+use Rattle.bl_cut.specs.Network.{node_of, ArcKind, write, read, IsBarred, IsEndUnder, IsHotNode, IsFirstSite, IsNetworkUnder, Begins, write_arc, read_arc, sink_node, var_node, noted}
 
 module _ (program : Program) (g : Graph) (lists : IsGraph program g) (names : List ℕ) (are : AreNames program names) where
   arc_kind : (u v : ℕ) → Contains (map (write_arc names (commands program)) g.writes ++ map (read_arc names (commands program)) g.reads) (record { from = u; to = v }) → ArcKind program names u v
@@ -76,29 +76,27 @@ module _ (program : Program) (g : Graph) (lists : IsGraph program g) (names : Li
     end_of : (v : ℕ) → IsEndUnder asked program names v → Contains (map (sink_node names (commands program)) g.sinks ++ map (var_node names (commands program)) firm) v
     end_of v end = subst (Contains (map (sink_node names (commands program)) g.sinks ++ map (var_node names (commands program)) firm)) (sym end.1) (barred_in end.0 end.3)
 
-    start_kind : (s : ℕ) → Contains (map (λ (load : Pos). load.0) g.loads ++ map (var_node names (commands program)) hot) s → IsLoad program s ⊎ IsHotNode asked program names s
-    start_kind s h =
-        elim (Contains-append_cases (map (λ (load : Pos). load.0) g.loads) (map (var_node names (commands program)) hot) s h) as (λ _. IsLoad program s ⊎ IsHotNode asked program names s) [
-          | inl l ↦ let found = from_map (λ (load : Pos). load.0) g.loads s l in inl (subst (IsLoad program) found.2 ((lists.loads found.0.0).0 found.1))
-          | inr v ↦
-              let found = from_map (var_node names (commands program)) hot s v in
-              inr (found.0, sym found.2, All-contains (λ x. Contains names x) hot found.0 hots found.1, in_asked hot found.0 found.1)
-        ]
+    start_kind : (s : ℕ) → Begins names (commands program) g hot s → IsFirstSite asked program s ⊎ IsHotNode asked program names s
+    start_kind s (inl (inl load)) =
+        let found = from_map (λ (load : Pos). load.0) g.loads s load in inl (inl (subst (IsLoad program) found.2 ((lists.loads found.0.0).0 found.1)))
+    start_kind s (inl (inr one)) = inl (inr (one.0, (lists.reads.each s one.0).0 one.1, in_asked hot one.0 one.2))
+    start_kind s (inr node) =
+        let found = from_map (var_node names (commands program)) hot s node in
+        inr (found.0, sym found.2, All-contains (λ x. Contains names x) hot found.0 hots found.1, in_asked hot found.0 found.1)
 
-    start_in : (s : ℕ) → IsLoad program s ⊎ IsHotNode asked program names s → Contains (map (λ (load : Pos). load.0) g.loads ++ map (var_node names (commands program)) hot) s
-    start_in s (inl load) =
-        Contains-append_left (map (λ (load : Pos). load.0) g.loads) (map (var_node names (commands program)) hot) s (in_map (λ (load : Pos). load.0) g.loads (record { 0 = s }) ((lists.loads s).1 load))
+    start_in : (s : ℕ) → IsFirstSite asked program s ⊎ IsHotNode asked program names s → Begins names (commands program) g hot s
+    start_in s (inl (inl load)) = inl (inl (in_map (λ (load : Pos). load.0) g.loads (record { 0 = s }) ((lists.loads s).1 load)))
+    start_in s (inl (inr one)) = inl (inr (one.0, (lists.reads.each s one.0).1 one.1, asked_in hot one.0 one.2))
     start_in s (inr node) =
-        Contains-append_right (map (λ (load : Pos). load.0) g.loads) (map (var_node names (commands program)) hot) s
-        (subst (Contains (map (var_node names (commands program)) hot)) (sym node.1) (in_map (var_node names (commands program)) hot node.0 (asked_in hot node.0 node.3)))
+        inr (subst (Contains (map (var_node names (commands program)) hot)) (sym node.1) (in_map (var_node names (commands program)) hot node.0 (asked_in hot node.0 node.3)))
 
     pub made_network : (n : ℕ) (weights : List (Option ℕ)) (arcs : List Arc) (starts ends : List ℕ) → n ≡ commands program → length weights ≡ n + length names
         → ((v : ℕ) → noted weights v ≡ site_weight program v) → arcs ≡ map (write_arc names n) g.writes ++ map (read_arc names n) g.reads
-        → starts ≡ map (λ (load : Pos). load.0) g.loads ++ map (var_node names n) hot → ends ≡ map (sink_node names n) g.sinks ++ map (var_node names n) firm
+        → ((s : ℕ) → Contains starts s ↔ Begins names n g hot s) → ends ≡ map (sink_node names n) g.sinks ++ map (var_node names n) firm
         → IsNetworkUnder asked program names (record { weights = weights; arcs = arcs; starts = starts; ends = ends })
     made_network n weights arcs starts ends e places weigh arcs_are starts_are ends_are =
         let all : arcs ≡ map (write_arc names (commands program)) g.writes ++ map (read_arc names (commands program)) g.reads = arcs_are ∙ ap (λ m. map (write_arc names m) g.writes ++ map (read_arc names m) g.reads) e in
-        let first : starts ≡ map (λ (load : Pos). load.0) g.loads ++ map (var_node names (commands program)) hot = starts_are ∙ ap (λ m. map (λ (load : Pos). load.0) g.loads ++ map (var_node names m) hot) e in
+        let first = subst (λ m. (s : ℕ) → Contains starts s ↔ Begins names m g hot s) e starts_are in
         let last : ends ≡ map (sink_node names (commands program)) g.sinks ++ map (var_node names (commands program)) firm = ends_are ∙ ap (λ m. map (sink_node names m) g.sinks ++ map (var_node names m) firm) e in
         record {
           named = are;
@@ -107,9 +105,12 @@ module _ (program : Program) (g : Graph) (lists : IsGraph program g) (names : Li
           size_is = places ∙ ap (λ m. m + length names) e;
           weights = weigh;
           arcs = λ u v. ((λ h. arc_kind u v (subst (λ l. Contains l (record { from = u; to = v })) all h)), (λ h. subst (λ l. Contains l (record { from = u; to = v })) (sym all) (arc_of u v h)));
-          starts = λ s. ((λ h. start_kind s (subst (λ l. Contains l s) first h)), (λ h. subst (λ l. Contains l s) (sym first) (start_in s h)));
+          starts = λ s. ((λ h. start_kind s ((first s).0 h)), (λ h. (first s).1 (start_in s h)));
           ends = λ v. ((λ h. end_kind v (subst (λ l. Contains l v) last h)), (λ h. subst (λ l. Contains l v) (sym last) (end_of v h)));
         }
+
+  pub read_names : All (λ r. Contains names r.var.0) g.reads
+  read_names = all_from (λ r. Contains names r.var.0) g.reads (λ r h. are.reads r.at.0 r.var.0 ((lists.reads.each r.at.0 r.var.0).0 h))
 
   module _ (is : AreInRange program) (n : ℕ) (e : n ≡ commands program) where
     pub write_nodes : All (λ w. Contains names w.var.0 × (n + place_of names w.var.0 < 2 ^ 32)) g.writes

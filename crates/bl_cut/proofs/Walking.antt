@@ -15,9 +15,9 @@ use Rattle.bl_graph.proofs.Counting.{all_head, all_tail}
 use Rattle.bl_graph.proofs.Members.{first_in, later_in, in_cases, none_in}
 use Rattle.bl_transient.specs.Transient.{Asked, TransUnder, loaded, moved, given}
 use Rattle.bl_cut.specs.Choices.{sites_in}
-use Rattle.bl_cut.specs.Network.{node_of, ArcKind, write, read, IsNetwork, IsNetworkUnder}
+use Rattle.bl_cut.specs.Network.{node_of, ArcKind, write, read, IsFirstSite, IsNetwork, IsNetworkUnder}
 use Rattle.bl_graph.proofs.Naming.{place_inj}
-use Rattle.bl_cut.proofs.Hot.{Hot, variable, hot_on, hot_load, hot_var, no_var}
+use Rattle.bl_cut.proofs.Hot.{Hot, site, variable, hot_on, hot_load, hot_var, no_var}
 
 abbrev pub Free : (ℕ → Bool) → List ℕ → Type 0
 Free set nodes = All (λ u. IsTrue (not (set u))) nodes
@@ -34,11 +34,15 @@ module _ (asked : Asked) (program : Program) (names : List ℕ) (is : AreInRange
       walk_hot w v rest walk (all_tail (λ t. IsTrue (not (set t))) u rest free)
       (hot_on asked program names net.named net.hot_named set is u w ((net.arcs u w).0 arc) (all_head (λ t. IsTrue (not (set t))) u rest free) hot)
 
+  first_hot : (s : ℕ) → IsFirstSite asked program s → Hot asked program names set s
+  first_hot s (inl load) = hot_load asked program names net.named net.hot_named set is s load
+  first_hot s (inr one) = site (is.sites s (is.reads s one.0 one.1).0) (inr (one.0, one.1, given one.0 one.2))
+
   -- a start is fed, or a transient variable
   pub start_hot : (s : ℕ) → Contains n.starts s → Hot asked program names set s
   start_hot s h =
       elim ((net.starts s).0 h) as (λ _. Hot asked program names set s) [
-        | inl load ↦ hot_load asked program names net.named net.hot_named set is s load
+        | inl first ↦ first_hot s first
         | inr node ↦ variable node.0 node.1 (given node.0 node.3)
       ]
 
@@ -57,7 +61,7 @@ module _ (asked : Asked) (program : Program) (names : List ℕ) (is : AreInRange
 
   pub near_trans : AreSites program set → (x : ℕ) → TransUnder asked program set x → NearIn n set (node_of program names x)
   near_trans sites x (loaded s _ load writes may) =
-      near_on s (node_of program names x) ((net.arcs s (node_of program names x)).1 (write x writes refl)) may (near_start s ((net.starts s).1 (inl load)))
+      near_on s (node_of program names x) ((net.arcs s (node_of program names x)).1 (write x writes refl)) may (near_start s ((net.starts s).1 (inl (inl load))))
   near_trans sites x (moved s y _ reads writes may t) =
       near_on s (node_of program names x) ((net.arcs s (node_of program names x)).1 (write x writes refl)) may
       (near_on (node_of program names y) s ((net.arcs (node_of program names y) s).1 (read y reads refl)) (no_var program names is set sites y) (near_trans sites y t))

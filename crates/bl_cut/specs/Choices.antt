@@ -1,6 +1,6 @@
 -- What a maximum flow in a program's network says, and how its walks are read back.
-use Rattle.std.specs.Prelude.{◌≡◌, ◌-◌, ◌<◌, ◌≤◌, ℕ, Bool, Some, List, length, filter, map, nat_lt, slice_index}
-use Rattle.std.specs.List.{All, Contains}
+use Rattle.std.specs.Prelude.{◌-◌, ◌<◌, ◌≤◌, ℕ, List, length, filter, map, nat_lt, slice_index}
+use Rattle.std.specs.List.{Contains}
 use Rattle.bl_base.specs.declared.number.Pos.{Pos}
 use Rattle.bl_cmd.specs.Sites.{SinkReads}
 use Rattle.bl_cmd.specs.declared.definitions.ProgramParts.{ProgramParts as Program}

@@ -1,20 +1,23 @@
 //! The network of a program.
-ghost use Rattle.std.specs.Prelude.{◌≡◌, ◌+◌, ◌++◌, ◌<◌, ◌^◌, ℕ, All, AllPairs, Contains, IfOk, None, OnOk, length, map, replicate};
+ghost use Rattle.std.specs.Prelude.{◌≡◌, ◌+◌, ◌++◌, ◌<◌, ◌^◌, ◌↔◌, ℕ, All, AllPairs, Contains, IfOk, None, OnOk, length, map, replicate};
 ghost use Rattle.bl_cmd.specs.Sites.{IsSite, site_weight};
 ghost use Rattle.bl_graph.specs.Graphs.{IsGraph, use_of};
 ghost use Rattle.bl_graph.specs.Names.{AreNames, place_of};
 ghost use Rattle.bl_transient.specs.Verdicts.{asked_of};
-ghost use Rattle.bl_cut.specs.Network.{IsNetworkUnder, noted, read_arc, sink_node, var_node, write_arc};
+ghost use Rattle.bl_cut.specs.Network.{AreReaders, Begins, IsNetworkUnder, noted, read_arc, sink_node, var_node, write_arc};
 
-use bl_base::{List, NoMemory, Pos};
+use bl_base::{List, NoMemory};
 use bl_cmd::{WellFormed, site_weight};
 use bl_flow::{Arc, Network};
 use bl_graph::{Graph, Names, Read, SinkUse, Write, ranges};
+use bl_transient::{marked, numbers_of};
 use std::alloc::Global;
 
 /// A node for each position, with the weight of its site, and behind them one without weight for each name, by its number. An
-/// arc leads from a site to what it writes, and from a variable to each site that reads it. Walks begin at the loads and at what
-/// is asked to be transient, and end at the variables that sinks read and at what is asked to be stable.
+/// arc leads from a site to what it writes, and from a variable to each site that reads it. Walks begin at the loads, at what
+/// is asked to be transient and at the sites that read it, and end at the variables that sinks read and at what is asked to be
+/// stable. A search that begins at the readers of one variable, in the order of their positions, stays in one part of memory at a
+/// time; one that begins at the variable alone goes through all of them side by side.
 pub(crate) fn network(
     alloc: Global,
     program: &WellFormed,
@@ -37,7 +40,7 @@ pub(crate) fn network(
     push_writes(&mut arcs, commands, names, graph.writes.as_slice())?;
     push_reads(&mut arcs, commands, names, graph.reads.as_slice())?;
     let weights = node_weights(alloc, program, graph.writes.as_slice(), nodes)?;
-    let starts = start_nodes(alloc, commands, names, graph.loads.as_slice(), hot)?;
+    let starts = start_nodes(alloc, commands, names, graph, hot)?;
     let ends = end_nodes(alloc, commands, names, graph.sinks.as_slice(), firm)?;
     Ok(Network {
         weights: List::of(weights),
@@ -118,24 +121,56 @@ fn push_reads(
     Ok(())
 }
 
-/// The nodes of the loads, and those of further variables.
+/// The nodes of the loads, those of the sites that read one of these variables, and those of the variables.
 fn start_nodes(
     alloc: Global,
     commands: u32,
     names: &Names,
-    loads: &[Pos],
+    graph: &Graph,
     vars: &[u32],
 ) -> Result<Vec<u32>, NoMemory>
     requires rise { AllPairs (λ x y. x < y) names.now }
+    requires reads { All (λ r. Contains names.now r.var.0) graph.now.reads }
     requires has { All (λ x. Contains names.now x × (commands + place_of names.now x < 2 ^ 32)) vars.now }
-    ensures { IfOk result (λ nodes. nodes.items ≡ map (λ load. load.0) loads.now ++ map (var_node names.now commands) vars.now) }
+    requires named { All (λ x. Contains names.now x) vars.now }
+    requires few { length names.now < 2 ^ 32 }
+    ensures { IfOk result (λ nodes. (s : ℕ) → Contains nodes.items s ↔ Begins names.now commands graph.now vars.now s) }
 {
+    let loads = graph.loads.as_slice();
     let mut nodes = Vec::with_capacity(alloc, loads.len().saturating_add(vars.len()))?;
     for load in loads {
         nodes.push(load.0)?;
     }
+    push_readers(alloc, &mut nodes, names, graph.reads.as_slice(), vars)?;
     push_vars(&mut nodes, commands, names, vars)?;
     Ok(nodes)
+}
+
+/// Appends the sites that read one of these variables.
+fn push_readers(
+    alloc: Global,
+    nodes: &mut Vec<u32>,
+    names: &Names,
+    reads: &[Read],
+    vars: &[u32],
+) -> Result<(), NoMemory>
+    requires rise { AllPairs (λ x y. x < y) names.now }
+    requires reads { All (λ r. Contains names.now r.var.0) reads.now }
+    requires named { All (λ x. Contains names.now x) vars.now }
+    requires few { length names.now < 2 ^ 32 }
+    ensures { OnOk result (AreReaders nodes.old.items reads.now vars.now nodes.new.items) }
+{
+    if vars.is_empty() {
+        return Ok(());
+    }
+    let numbers = numbers_of(alloc, names, vars)?;
+    let marks = marked(alloc, names.len(), &numbers)?;
+    for read in reads {
+        if marks[names.number_of(read.var.0) as usize] {
+            nodes.push(read.at.0)?;
+        }
+    }
+    Ok(())
 }
 
 /// The nodes of the variables that sinks read, and those of further ones.

@@ -1,5 +1,5 @@
 -- The level of the part behind all ends, and the levels of the ends' out places.
-use Rattle.std.proofs.Common.{◌≡◌, ◌↔◌, ◌++◌, take, drop, ℕ, suc, ◌+◌, ◌-◌, ◌^◌, ◌<◌, ◌≤◌, List, length, Option, Some, None, refl, sym, ap, subst, ◌∙◌, arith, inl, inr}
+use Rattle.std.proofs.Common.{◌≡◌, ◌↔◌, ℕ, suc, ◌+◌, ◌-◌, ◌^◌, ◌<◌, ◌≤◌, List, Option, Some, None, refl, sym, ap, subst, ◌∙◌, arith, inl, inr}
 use Rattle.std.specs.List.{Contains}
 use Rattle.std.proofs.lemmas.List.Elements.{All-contains}
 use Rattle.bl_flow.specs.declared.network.Network.{Network}
@@ -12,7 +12,6 @@ use Rattle.bl_flow.specs.Packed.{IsPacked, IsAdvanced}
 use Rattle.bl_flow.specs.Residuals.{Loaded, loaded_by, arc_at, ResidualWalk, AreLevelsOf, ReachesAnEnd, EndsHaveRisen, IsLawful, amount_of}
 use Rattle.bl_flow.proofs.Filling.{at_most_total}
 use Rattle.bl_flow.proofs.Lawful.{lawful, amount_is}
-use Rattle.bl_flow.proofs.Wiring.{given_back}
 use Rattle.bl_flow.proofs.Links.{unbounded_behind, end_place}
 use Rattle.bl_flow.proofs.BothWays.{forward_at, reverse_at, place_cases}
 use Rattle.bl_flow.proofs.Residuals.{to_start, from_end, KindAt, is_node, is_arc, is_behind, kind_at, arc_ends, walk_out, walk_in, by_link, always_capacity}
@@ -148,10 +147,8 @@ module _ (n : Network) (links : List Link) (rows : List (List ℕ)) (old new : L
         risen = ends_risen n is.in_range old new before after is.flow small_before more.flow (packed_small n links rows new after packed_after) levels more.levels_ public_ more.least more.risen;
       }
 
-pub advance_is : (r : Loaded) (n : Network) (links : List Link) (rows : List (List ℕ)) (old lent new : List ℕ) (len before after : ℕ) (levels : List (Option ℕ))
-    → loaded_by n old ≡ r → lent ≡ old → len ≡ length new → IsPacked n links rows old before → IsAdvanced n lent new before after → AreLevelsOf r levels
-    → Advance r n links rows (take len (new ++ drop (length new) old)) before after levels
-advance_is r n links rows old lent new len before after levels view given size_ is more public_ =
-    subst (λ x. Advance x n links rows (take len (new ++ drop (length new) old)) before after levels) view
-    (subst (λ x. Advance (loaded_by n old) n links rows x before after levels) (sym (given_back new (drop (length new) old) len size_))
-    (advance_plain n links rows old new before after levels is (subst (λ x. IsAdvanced n x new before after) given more) (subst (λ x. AreLevelsOf x levels) (sym view) public_)))
+pub advance_is : (r : Loaded) (n : Network) (links : List Link) (rows : List (List ℕ)) (old new : List ℕ) (before after : ℕ) (levels : List (Option ℕ))
+    → loaded_by n old ≡ r → IsPacked n links rows old before → IsAdvanced n old new before after → AreLevelsOf r levels → Advance r n links rows new before after levels
+advance_is r n links rows old new before after levels view is more public_ =
+    subst (λ x. Advance x n links rows new before after levels) view
+    (advance_plain n links rows old new before after levels is more (subst (λ x. AreLevelsOf x levels) (sym view) public_))

@@ -316,19 +316,19 @@ module _ (n : Network) (range : InRange n) where
           | inr none ↦ let nothing = none_left none in absurd (omega arith)
         ]
 
-  module _ (capacities : List ℕ) (total : ℕ) where
+  module _ (first : List ℕ) (total : ℕ) where
     abbrev IsSplit : Type 0
-    IsSplit = (all : List NodePath) × (rest : List ℕ) × Splitting n capacities total all rest 0
+    IsSplit = (all : List NodePath) × (rest : List ℕ) × Splitting n first total all rest 0
 
-    split_on : (fuel : ℕ) (paths : List NodePath) (carries : List ℕ) (left : ℕ) → left ≤ fuel → Splitting n capacities total paths carries left → IsSplit
-    split_on zero paths carries left le so_far = let none : left ≡ 0 = omega arith in (paths, carries, subst (Splitting n capacities total paths carries) none so_far)
+    split_on : (fuel : ℕ) (paths : List NodePath) (carries : List ℕ) (left : ℕ) → left ≤ fuel → Splitting n first total paths carries left → IsSplit
+    split_on zero paths carries left le so_far = let none : left ≡ 0 = omega arith in (paths, carries, subst (Splitting n first total paths carries) none so_far)
     split_on (suc fuel) paths carries left le so_far =
         elim (cases_lt 0 left) as (λ _. IsSplit) [
           | inl some ↦
               let next = next_walk carries left so_far.rest some in
               let one = next.2 in
-              split_on fuel (paths ++ next.0 ∷ []) next.1 (left - next.0.amount) (omega arith) (splitting_more n capacities total paths carries left so_far next.0 next.1 next.3)
-          | inr past ↦ let none : left ≡ 0 = omega arith in (paths, carries, subst (Splitting n capacities total paths carries) none so_far)
+              split_on fuel (paths ++ next.0 ∷ []) next.1 (left - next.0.amount) (omega arith) (splitting_more n first total paths carries left so_far next.0 next.1 next.3)
+          | inr past ↦ let none : left ≡ 0 = omega arith in (paths, carries, subst (Splitting n first total paths carries) none so_far)
         ]
 
 -- ---- the whole
@@ -357,13 +357,14 @@ module _ (n : Network) (range : InRange n) (bounded : Meets n (λ v. IsSome (wei
       let same : link_count n + k ≡ k + half = omega arith in
       get_or-drop (link_count n) found.capacities k 0 ∙ ap (slice_index found.capacities) same
 
-  split : IsSplit n range found.capacities found.amount
+  abbrev carries : List ℕ
+  carries = drop (link_count n) found.capacities
+
+  split : IsSplit n range carries found.amount
   split =
       let places = found.flow.places in
-      let carries = drop (link_count n) found.capacities in
       let is = carries_first n found.capacities carries found.amount found.flow (λ half e. omega (arith, places, e, length-drop (link_count n) found.capacities)) (λ half k e lt. carried_at half k e) in
-      split_on n range found.capacities found.amount found.amount [] carries found.amount (omega arith)
-      (splitting_begins n found.capacities found.amount carries is (λ k lt. carried_at (link_count n) k (sym places)))
+      split_on n range carries found.amount found.amount [] carries found.amount (omega arith) (splitting_begins n carries found.amount is)
 
   near_in : List Bool
   near_in = table (size n) (λ v. there (in_part v))
@@ -387,7 +388,7 @@ module _ (n : Network) (range : InRange n) (bounded : Meets n (λ v. IsSome (wei
       record {
         result = record { paths = split.0; near_in = near_in; near_out = near_out };
         paths = split.2.walks;
-        loads = λ v w e. load_fits n found.capacities a v w (load split.0 v) found.flow e (λ lt. let less = split.2.loads v lt in omega arith);
+        loads = λ v w e. load_fits n found.capacities a v w (load split.0 v) found.flow e (λ lt. let less = split.2.loads v lt in let same = carried_at (link_count n) v (sym found.flow.places) in omega arith);
         cut = is_cut n found.capacities a found.flow range few there begins found.last is_closed near_in near_out in_length out_length ins outs;
         weight = weighs n found.capacities a found.flow range few there begins found.last is_closed near_in near_out in_length out_length ins outs ∙ sym worth;
         least = λ cut is. let most = worth_at_most n found.capacities a found.flow range cut is in omega arith;

@@ -1,6 +1,6 @@
 -- A network is known by its links and what they can take; so a proof can name it where no code holds it.
 use Rattle.std.proofs.Common.{◌≡◌, ℕ, ◌+◌, ◌*◌, ◌/◌, ◌^◌, ◌<◌, List, [], ◌∷◌, ◌++◌, length, Option, Some, None, false, map, take, drop, slice_index, unwrap_or, if◌then◌else◌, nat_lt, nat_eq, refl, sym, ap, subst, ◌∙◌, arith}
-use Rattle.std.specs.Prelude.{Result, Ok, Err, IfOk, OnOk}
+use Rattle.std.specs.Prelude.{Result, Ok, Err, IfOk, IsSome, OnOk}
 use Rattle.std.specs.List.{filter_map, cons_option, range_with_len}
 use Rattle.std.proofs.lemmas.Bool.{lt-ltb, le-ltb, eq-eqb, ne_eqb}
 use Rattle.std.proofs.lemmas.List.{ext_get_or, append-nil}
@@ -11,16 +11,20 @@ use Rattle.std.proofs.Math.Seq.{take-append_seam, drop-append_seam}
 use Rattle.bl_base.proofs.Sums.{sum_term}
 use Rattle.bl_flow.specs.declared.network.Arc.{Arc}
 use Rattle.bl_flow.specs.declared.layout.Layout.{Layout}
+use Rattle.bl_flow.specs.declared.layout.Split.{Split}
 use Rattle.bl_flow.specs.declared.network.FlowResult.{FlowResult}
 use Rattle.bl_flow.specs.declared.network.Network.{Network}
 use Rattle.bl_flow.specs.declared.split.Link.{Link}
-use Rattle.bl_flow.specs.Networks.{size, weight_at, total_weight}
-use Rattle.bl_flow.specs.Split.{in_part, out_part, arc_link, start_link, end_link, links_of, both_ways, reverse_link}
+use Rattle.bl_flow.specs.Networks.{InRange, size, weight_at, total_weight}
+use Rattle.bl_flow.specs.Split.{in_part, out_part, arc_link, start_link, end_link, links_of, link_at, both_ways, reverse_link}
 use Rattle.bl_flow.specs.Flows.{link_count, IsFlow}
 use Rattle.bl_flow.specs.Levels.{level_at, AreLevels, HasRisen}
-use Rattle.bl_flow.specs.MaxFlow.{IsLaidOut, IsMaxFlow}
+use Rattle.bl_flow.specs.Cuts.{Meets}
+use Rattle.bl_flow.specs.Searches.{AreRows}
+use Rattle.bl_flow.specs.MaxFlow.{IsSplit, IsSorted, IsLaidOut, IsMaxFlow}
 use Rattle.bl_flow.specs.Packed.{IsPacked, IsAdvanced}
 use Rattle.bl_flow.proofs.Links.{count_of, nodes_part, outer_part, nodes_length}
+use Rattle.bl_flow.proofs.LinksWithin.{from_within}
 use Rattle.bl_flow.proofs.Wiring.{half_count}
 
 -- the arc, the start or the end that a link behind those through the nodes is of
@@ -210,14 +214,37 @@ advanced_again n m links old new amount levels seen (Ok now) is both same are fl
       (subst (λ x. HasRisen links new (in_part (size x)) levels (out_part (size x))) (sym is) (subst (λ l. HasRisen links new (in_part (size m)) l (out_part (size m))) same risen));
 }
 
-laid_out_is : (n : Network) (layout : Layout) → IsLaidOut n layout → n ≡ network_of layout.nodes layout.links layout.capacities.items
-laid_out_is n layout laid = is_rebuilt n layout.nodes layout.links layout.rows layout.capacities.items 0 laid.nodes_ laid.packed
+-- where the links lead that are to be sorted, and what comes of it
+pub split_within : (n : Network) (split : Split) → InRange n → IsSplit n split
+    → (2 * split.nodes + 2 < 2 ^ 64) × ((k : ℕ) → k < length split.links → (link_at split.links k).from < 2 * split.nodes + 2)
+split_within n split range is =
+    let nodes = is.nodes_ in let small = is.small in
+    (omega arith, from_within n range (2 * split.nodes + 2) (omega arith) split.links is.links_)
 
-pub laid_out_again : (n : Network) (layout : Layout) → IsLaidOut n layout → IsLaidOut (network_of layout.nodes layout.links layout.capacities.items) layout
+pub sorted_is_laid : (n : Network) (split : Split) (layout : Layout) → InRange n → Meets n (λ v. IsSome (weight_at n v)) → total_weight n < 2 ^ 63 → IsSplit n split
+    → IsSorted split layout → IsLaidOut n layout
+sorted_is_laid n split layout range bounded total is sorted = record {
+  nodes_ = sorted.nodes_ ∙ is.nodes_;
+  small = let same = sorted.nodes_ in let small = is.small in omega arith;
+  packed = record {
+    in_range = range;
+    bounded = bounded;
+    total = total;
+    links_ = sorted.links_ ∙ is.links_;
+    rows_ = subst (λ links. AreRows links layout.rows) (sym sorted.links_) sorted.rows_;
+    parts = sorted.parts ∙ ap (λ nodes. 2 * nodes + 2) is.nodes_;
+    flow = subst (λ capacities. IsFlow n capacities 0) (sym sorted.capacities_) is.flow;
+  };
+}
+
+laid_out_is : (n : Network) (layout : Layout) → IsLaidOut n layout → n ≡ network_of layout.nodes layout.links layout.capacities
+laid_out_is n layout laid = is_rebuilt n layout.nodes layout.links layout.rows layout.capacities 0 laid.nodes_ laid.packed
+
+pub laid_out_again : (n : Network) (layout : Layout) → IsLaidOut n layout → IsLaidOut (network_of layout.nodes layout.links layout.capacities) layout
 laid_out_again n layout laid = subst (λ m. IsLaidOut m layout) (laid_out_is n layout laid) laid
 
 pub greatest_again : {E : Type 0} (n : Network) (layout : Layout) (result : Result FlowResult E) → IsLaidOut n layout
-    → IfOk result (IsMaxFlow (network_of layout.nodes layout.links layout.capacities.items)) → IfOk result (IsMaxFlow n)
+    → IfOk result (IsMaxFlow (network_of layout.nodes layout.links layout.capacities)) → IfOk result (IsMaxFlow n)
 greatest_again n layout result laid told = subst (λ m. IfOk result (IsMaxFlow m)) (sym (laid_out_is n layout laid)) told
 
 -- what a maximum flow has, a result that is one has

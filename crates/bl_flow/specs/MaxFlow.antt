@@ -1,11 +1,15 @@
 -- What a maximum flow is, and what a search for one is given.
-use Rattle.std.specs.Prelude.{◌≡◌, ℕ, ◌≤◌, Bool, Some, All}
+use Rattle.std.specs.Prelude.{◌≡◌, ℕ, ◌≤◌, ◌+◌, ◌*◌, ◌^◌, ◌<◌, Bool, Some, All, length}
 use Rattle.bl_flow.specs.declared.layout.Layout.{Layout}
+use Rattle.bl_flow.specs.declared.layout.Split.{Split}
 use Rattle.bl_flow.specs.declared.network.FlowResult.{FlowResult}
 use Rattle.bl_flow.specs.declared.network.Network.{Network}
 use Rattle.bl_flow.specs.Networks.{size, weight_at, IsPath, load, carried}
 use Rattle.bl_flow.specs.Cuts.{IsCut, IsNearSide, LiesNear, cut_of, cut_weight}
 use Rattle.bl_flow.specs.Packed.{IsPacked}
+use Rattle.bl_flow.specs.Split.{both_ways, links_of}
+use Rattle.bl_flow.specs.Flows.{IsFlow}
+use Rattle.bl_flow.specs.Searches.{AreRows}
 
 -- a maximum flow with the cut nearest the starts
 pub record IsMaxFlow (n : Network) (r : FlowResult) : Type 0 where
@@ -17,7 +21,23 @@ pub record IsMaxFlow (n : Network) (r : FlowResult) : Type 0 where
   pub near : IsNearSide n (cut_of r) r.near_in r.near_out
   pub nearest : (cut : ℕ → Bool) → IsCut n cut → cut_weight n cut ≡ carried r.paths → LiesNear n cut r.near_in r.near_out
 
+-- a network's links both ways, with what each can take before anything flows
+pub record IsSplit (n : Network) (split : Split) : Type 0 where
+  pub nodes_ : split.nodes ≡ size n
+  pub small : split.nodes < 2 ^ 60
+  pub links_ : split.links ≡ both_ways (links_of n)
+  pub flow : IsFlow n split.capacities 0
+
+-- the same, sorted by rows
+pub record IsSorted (split : Split) (layout : Layout) : Type 0 where
+  pub nodes_ : layout.nodes ≡ split.nodes
+  pub links_ : layout.links ≡ split.links
+  pub capacities_ : layout.capacities ≡ split.capacities
+  pub rows_ : AreRows split.links layout.rows
+  pub parts : length layout.rows ≡ 2 * split.nodes + 2
+
 -- a network's links both ways, row by row, with what each can take before anything flows
 pub record IsLaidOut (n : Network) (layout : Layout) : Type 0 where
   pub nodes_ : layout.nodes ≡ size n
-  pub packed : IsPacked n layout.links layout.rows layout.capacities.items 0
+  pub small : layout.nodes < 2 ^ 60
+  pub packed : IsPacked n layout.links layout.rows layout.capacities 0

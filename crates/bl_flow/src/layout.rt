@@ -1,16 +1,28 @@
 //! What a search for a flow needs of a network.
-ghost use Rattle.std.specs.Prelude.{◌<◌, ◌^◌, IsSome, IfOk};
+ghost use Rattle.std.specs.Prelude.{◌<◌, ◌+◌, ◌*◌, ◌^◌, ℕ, length, IsSome, IfOk};
 ghost use Rattle.bl_flow.specs.Networks.{InRange, weight_at, total_weight};
 ghost use Rattle.bl_flow.specs.Cuts.{Meets};
-ghost use Rattle.bl_flow.specs.MaxFlow.{IsLaidOut};
+ghost use Rattle.bl_flow.specs.Split.{link_at};
+ghost use Rattle.bl_flow.specs.MaxFlow.{IsSplit, IsSorted, IsLaidOut};
 
+use crate::capacities::Capacities;
 use crate::network::Network;
 use crate::rows::{Rows, rows_of};
-use crate::split::{Links, empty_capacities, links_both_ways};
+use crate::split::{Links, links_both_ways};
 use bl_base::NoMemory;
 use std::alloc::Global;
 
-/// All that a search needs of a network. The network itself can go.
+/// The links of a network's split network. The network itself can go.
+#[derive(Debug, Drop)]
+pub struct Split {
+    /// The number of the network's nodes.
+    pub nodes: usize,
+    pub links: Links,
+    /// What each link can take.
+    pub capacities: Capacities,
+}
+
+/// All that a search needs of a network.
 #[derive(Debug, Drop)]
 pub struct Layout {
     /// The number of its nodes.
@@ -20,7 +32,7 @@ pub struct Layout {
     /// The links from each part.
     pub rows: Rows,
     /// What each link can take.
-    pub capacities: Vec<u64>,
+    pub capacities: Capacities,
 }
 
 /// A network's links, their rows, and what each link can take before anything flows.
@@ -30,10 +42,38 @@ pub fn lay_out(alloc: Global, n: &Network) -> Result<Layout, NoMemory>
     requires total { total_weight n.now < 2 ^ 63 }
     ensures { IfOk result (IsLaidOut n.now) }
 {
+    let split = split_of(alloc, n)?;
+    let layout = with_rows(alloc, split)?;
+    Ok(layout)
+}
+
+/// A network's links, and what each can take before anything flows.
+pub fn split_of(alloc: Global, n: &Network) -> Result<Split, NoMemory>
+    requires { InRange n.now }
+    ensures { IfOk result (IsSplit n.now) }
+{
     let nodes = n.weights.as_slice().len();
     let links = links_both_ways(alloc, n)?;
+    let capacities = Capacities::of(alloc, n, links.half())?;
+    Ok(Split {
+        nodes,
+        links,
+        capacities,
+    })
+}
+
+/// The same with the links sorted by rows.
+pub fn with_rows(alloc: Global, split: Split) -> Result<Layout, NoMemory>
+    requires small { 2 * split.nodes + 2 < 2 ^ 64 }
+    requires inside { (k : ℕ) → k < length split.links → (link_at split.links k).from < 2 * split.nodes + 2 }
+    ensures { IfOk result (IsSorted split) }
+{
+    let Split {
+        nodes,
+        links,
+        capacities,
+    } = split;
     let rows = rows_of(alloc, &links, 2 * nodes + 2)?;
-    let capacities = empty_capacities(alloc, n, links.half())?;
     Ok(Layout {
         nodes,
         links,

@@ -1,17 +1,19 @@
 //! Residual networks: where more can flow beside what flows.
-ghost use Rattle.std.specs.Prelude.{◌≡◌, ◌↔◌, ◌<◌, ◌≤◌, ◌+◌, ◌*◌, ◌^◌, ℕ, Any, IsSome, IsTrue, length, replicate, IfOk, IfErr, OnOk, OnErr};
+ghost use Rattle.std.specs.Prelude.{◌≡◌, ◌↔◌, ◌<◌, ◌≤◌, ◌+◌, ◌*◌, ◌^◌, ℕ, Any, IsSome, IsTrue, length, replicate, IfOk, IfErr, OnErr};
 ghost use Rattle.bl_flow.specs.Networks.{InRange, weight_at, total_weight, size};
 ghost use Rattle.bl_flow.specs.Cuts.{Meets};
 ghost use Rattle.bl_flow.specs.Levels.{level_at};
 ghost use Rattle.bl_flow.specs.Packed.{lowered, IsPacked, IsAdvanced};
 ghost use Rattle.bl_flow.specs.Residuals.{IsLawful, amount_of, AreLevelsOf, ReachesAnEnd, EndsHaveRisen};
 
+use crate::capacities::Capacities;
+use crate::layout::lay_out;
 use crate::level_graph::block_graph;
 use crate::network::Network;
 use crate::optional::OptionalNumber;
-use crate::rows::{Rows, rows_of};
+use crate::rows::Rows;
 use crate::search::part_levels;
-use crate::split::{Links, empty_capacities, links_both_ways};
+use crate::split::Links;
 use bl_base::{List, NoMemory};
 use std::alloc::Global;
 use std::marker::Model;
@@ -24,7 +26,7 @@ pub struct Residual {
     links: Links,
     rows: Rows,
     /// What each link can still take.
-    capacities: Vec<u64>,
+    capacities: Capacities,
     /// How much flows.
     amount: u64,
 }
@@ -35,9 +37,9 @@ impl Model for Residual {
 
     ghost Value = { Loaded };
 
-    ghost view = { λ r. loaded_by r.network r.capacities.items };
+    ghost view = { λ r. loaded_by r.network r.capacities };
 
-    ghost invariant = { λ r. IsPacked r.network r.links r.rows r.capacities.items r.amount };
+    ghost invariant = { λ r. IsPacked r.network r.links r.rows r.capacities r.amount };
 }
 
 impl Residual {
@@ -61,16 +63,13 @@ pub fn pack(alloc: Global, n: &Network) -> Result<Residual, NoMemory>
     ensures carried { IfOk result (λ r. r.carried ≡ replicate (length n.now.arcs) 0) }
     ensures loads { IfOk result (λ r. r.loads ≡ replicate (size n.now) 0) }
 {
-    let nodes = n.weights.as_slice().len();
-    let links = links_both_ways(alloc, n)?;
-    let rows = rows_of(alloc, &links, 2 * nodes + 2)?;
-    let capacities = empty_capacities(alloc, n, links.half())?;
+    let layout = lay_out(alloc, n)?;
     let network = copy_of(alloc, n)?;
     Ok(Residual {
         network,
-        links,
-        rows,
-        capacities,
+        links: layout.links,
+        rows: layout.rows,
+        capacities: layout.capacities,
         amount: 0,
     })
 }
@@ -221,7 +220,7 @@ fn flow_on(
     n: &Network,
     links: &Links,
     rows: &Rows,
-    capacities: &mut [u64],
+    capacities: &mut Capacities,
     amount: u64,
 ) -> Result<u64, NoMemory>
     requires { IsPacked n.now links.now rows.now capacities.old amount }

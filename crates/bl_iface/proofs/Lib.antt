@@ -6,7 +6,6 @@ pub mod Demanded
 pub mod Embedding
 pub mod Given
 pub mod Goals
-pub mod Guarded
 pub mod Keeping
 pub mod Linking
 pub mod Listing

@@ -1,16 +1,15 @@
 //! Whether a program's own marks pass on one side of an interface.
-ghost use Rattle.std.specs.Prelude.{◌≡◌, ℕ, IfOk, false, length, option_map, unwrap_or};
-ghost use Rattle.std.specs.FinSet as fin;
+ghost use Rattle.std.specs.Prelude.{IfOk};
 ghost use Rattle.bl_cmd.specs.Sites.{is_protected};
 ghost use Rattle.bl_iface.specs.Matching.{Matches};
 ghost use Rattle.bl_iface.specs.Under.{JudgesAs};
 
 use crate::iface::{Iface, Role};
 use crate::lists::asked_of;
-use bl_base::{NoMemory, Pos, SiteSet};
-use bl_cmd::{Mark, ProgramParts, WellFormed, mark_at};
+use bl_base::{NoMemory, Pos};
+use bl_cmd::WellFormed;
 use bl_graph::graph;
-use bl_transient::first_bad_of;
+use bl_transient::{first_bad_of, own_protects};
 use std::alloc::Global;
 
 /// Whether a program's own marks pass on one side of an interface.
@@ -43,29 +42,5 @@ pub fn passes_under(
     match bad {
         None => Ok(UnderVerdict::Yes),
         Some(position) => Ok(UnderVerdict::No(position)),
-    }
-}
-
-/// The protected sites of a program of so many commands.
-fn own_protects(alloc: Global, parts: &ProgramParts, commands: u32) -> Result<SiteSet, NoMemory>
-    requires { commands ≡ length parts.now.commands }
-    ensures { IfOk result (λ set. (s : ℕ) → fin.contains set s ≡ is_protected parts.now s) }
-{
-    let mut set = SiteSet::new(alloc);
-    for s in 0..commands {
-        if is_guarded(mark_at(parts, s as usize)) {
-            set.insert(Pos(s))?;
-        }
-    }
-    Ok(set)
-}
-
-/// Whether a mark, if there is one, protects.
-fn is_guarded(mark: Option<Mark>) -> bool
-    ensures { result ≡ unwrap_or (option_map (λ mark. mark.protect) mark) false }
-{
-    match mark {
-        Some(mark) => mark.protect,
-        None => false,
     }
 }

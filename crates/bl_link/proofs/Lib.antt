@@ -18,5 +18,6 @@ pub mod Room
 pub mod SlotLemmas
 pub mod PartLemmas
 pub mod SpelledParts
+pub mod Qualified
 pub mod Reading
 pub mod TreeParts

@@ -11,9 +11,11 @@ use Rattle.bl_wasm.specs.declared.module.Export.{Export}
 use Rattle.bl_wasm.specs.declared.module.ExportKind.TheVariants as export
 use Rattle.bl_link.specs.Links.{exported, pair}
 use Rattle.bl_link.specs.Named.{qualified, value_named}
+use Rattle.bl_link.specs.OwnNames.{own}
 use Rattle.bl_link.specs.NamedPairs.{Values}
 use Rattle.bl_link.specs.IndexSpaces.{External, Spaces, number, space}
 use Rattle.bl_link.specs.Stores.{AreApart}
+use Rattle.bl_link.proofs.NameLemmas.{apart_map}
 use Rattle.bl_link.proofs.Numbering.{get_left, get_right}
 
 -- of a name that no value before has there is no value
@@ -48,24 +50,26 @@ not_before name before x later apart i other found same =
 split_at : {A : Type 0} (f : Export → A) (entries : List Export) (i : ℕ) (entry : Export) → i < length entries → entry ≡ get_or entries i entry → map f (drop i entries) ≡ f entry ∷ map f (drop (i + 1) entries)
 split_at f entries i entry below is = ap (map f) (drop_more entries i entry below) ∙ ap (λ e. f e ∷ map f (drop (i + 1) entries)) (sym is)
 
-pub value_is_new : (part : List ℕ) (spaces : Spaces) (entries : List Export) (i : ℕ) (entry : Export) (before now : Values) (whole these : List ℕ) → i < length entries → entry ≡ get_or entries i entry
-    → now ++ map (exported part spaces) (drop i entries) ≡ before ++ map (exported part spaces) entries
-    → AreApart (λ (value : List ℕ × External). value.0) (before ++ map (exported part spaces) entries) → these ≡ entry.name → whole ≡ qualified part these → value_named whole now ≡ None
-value_is_new part spaces entries i entry before now whole these below is so_far apart named spelled =
-    let split : now ++ exported part spaces entry ∷ map (exported part spaces) (drop (i + 1) entries) ≡ before ++ map (exported part spaces) entries =
-    ap (λ l. now ++ l) (sym (split_at (exported part spaces) entries i entry below is)) ∙ so_far in
-    let none : value_named (qualified part entry.name) now ≡ None = value_none (qualified part entry.name) now
-    (not_before (λ (value : List ℕ × External). value.0) now (exported part spaces entry) (map (exported part spaces) (drop (i + 1) entries)) (subst (AreApart (λ (value : List ℕ × External). value.0)) (sym split) apart)) in
-    rw (spelled, named) none
+pub value_is_new : (spaces : Spaces) (entries : List Export) (i : ℕ) (entry : Export) (now : Values) (these : List ℕ) → i < length entries → entry ≡ get_or entries i entry
+    → now ++ map (own spaces) (drop i entries) ≡ map (own spaces) entries
+    → AreApart (λ (entry : Export). entry.name) entries → these ≡ entry.name → value_named these now ≡ None
+value_is_new spaces entries i entry now these below is so_far apart named =
+    let split : now ++ own spaces entry ∷ map (own spaces) (drop (i + 1) entries) ≡ map (own spaces) entries =
+    ap (λ l. now ++ l) (sym (split_at (own spaces) entries i entry below is)) ∙ so_far in
+    let all : AreApart (λ (value : List ℕ × External). value.0) (map (own spaces) entries) =
+    apart_map (λ (entry : Export). entry.name) (λ (value : List ℕ × External). value.0) (own spaces) entries (λ x y e. e) apart in
+    let none : value_named entry.name now ≡ None = value_none entry.name now
+    (not_before (λ (value : List ℕ × External). value.0) now (own spaces entry) (map (own spaces) (drop (i + 1) entries)) (subst (AreApart (λ (value : List ℕ × External). value.0)) (sym split) all)) in
+    rw named none
 
-pub values_more : (part : List ℕ) (spaces : Spaces) (entries : List Export) (i : ℕ) (entry : Export) (before now new : Values) (whole these : List ℕ) (value : External) → i < length entries → entry ≡ get_or entries i entry
-    → now ++ map (exported part spaces) (drop i entries) ≡ before ++ map (exported part spaces) entries → these ≡ entry.name → whole ≡ qualified part these → (exported part spaces entry).1 ≡ value
-    → new ≡ now ++ (whole, value) ∷ [] → new ++ map (exported part spaces) (drop (i + 1) entries) ≡ before ++ map (exported part spaces) entries
-values_more part spaces entries i entry before now new whole these value below is so_far named spelled valued added =
-    let one : ◌≡◌ {A = List ℕ × External} (whole, value) (exported part spaces entry) = rw (spelled, named) (ap (λ (v : External). (qualified part entry.name, v)) (sym valued)) in
-    ap (λ l. l ++ map (exported part spaces) (drop (i + 1) entries)) (added ∙ ap (λ v. now ++ v ∷ []) one)
-    ∙ append_assoc now (exported part spaces entry ∷ []) (map (exported part spaces) (drop (i + 1) entries))
-    ∙ ap (λ l. now ++ l) (sym (split_at (exported part spaces) entries i entry below is))
+pub values_more : (spaces : Spaces) (entries : List Export) (i : ℕ) (entry : Export) (now new : Values) (these : List ℕ) (value : External) → i < length entries → entry ≡ get_or entries i entry
+    → now ++ map (own spaces) (drop i entries) ≡ map (own spaces) entries → these ≡ entry.name → (own spaces entry).1 ≡ value
+    → new ≡ now ++ (these, value) ∷ [] → new ++ map (own spaces) (drop (i + 1) entries) ≡ map (own spaces) entries
+values_more spaces entries i entry now new these value below is so_far named valued added =
+    let one : ◌≡◌ {A = List ℕ × External} (these, value) (own spaces entry) = rw named (ap (λ (v : External). (entry.name, v)) (sym valued)) in
+    ap (λ l. l ++ map (own spaces) (drop (i + 1) entries)) (added ∙ ap (λ v. now ++ v ∷ []) one)
+    ∙ append_assoc now (own spaces entry ∷ []) (map (own spaces) (drop (i + 1) entries))
+    ∙ ap (λ l. now ++ l) (sym (split_at (own spaces) entries i entry below is))
     ∙ so_far
 
 -- ---- exported functions

@@ -1,3 +1,4 @@
+pub mod AllNames
 pub mod CanLink
 pub mod Faults
 pub mod Giving
@@ -9,5 +10,6 @@ pub mod Matching
 pub mod Named
 pub mod NamedPairs
 pub mod IndexSpaces
+pub mod OwnNames
 pub mod Signatures
 pub mod Stores

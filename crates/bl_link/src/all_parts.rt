@@ -14,11 +14,11 @@ ghost use Rattle.bl_link.specs.Stores.{AreApart};
 ghost use Rattle.bl_link.specs.Linkable.{AreParts};
 ghost use Rattle.bl_link.specs.Links.{data_fits, element_fits, initialised as initialised_of, exported, function, global, indexed, links, memory, nothing as nothing_of, pair, part_of, reserves as reserves_of, table, with_code, with_next, with_part as with_part_of, with_segments as with_segments_of, within_reserve as within_of};
 
+use crate::all_names::AllNames;
 use crate::bodies::with_bodies;
 use crate::defined::{with_globals, with_limits, with_memories, with_tables, with_types};
 use crate::error::LinkError;
 use crate::given::given;
-use crate::named::Named;
 use crate::names::{with_functions, with_names};
 use crate::part::Part;
 use crate::segments::{data_fit, elements_fit, with_data, with_elements};
@@ -65,7 +65,7 @@ fn nothing(alloc: Global) -> Store
             tables: List::new(alloc),
             exports: Exports::new(alloc),
         },
-        exports: Named::new(alloc),
+        exports: AllNames::new(alloc),
         tables: List::new(alloc),
         memories: List::new(alloc),
     }
@@ -276,7 +276,7 @@ fn with_names_of(
     requires { AreApart (λ value. value.0) (store.old.exports ++ map (exported name.now spaces.now) wasm.now.exports) }
     ensures { OnOk result (store.new ≡ record store.old { exports = store.old.exports ++ map (exported name.now spaces.now) wasm.now.exports }) }
 {
-    let before = mem::replace(&mut store.exports, Named::new(alloc));
+    let before = mem::replace(&mut store.exports, AllNames::new(alloc));
     store.exports = with_names(alloc, before, name, spaces, wasm.exports.as_slice())?;
     Ok(())
 }

@@ -1,6 +1,7 @@
 //! Linking: the modules of a request as one program (WebAssembly 1.0, section 4.5.4).
 #![tactic(auto)]
 
+mod all_names;
 mod all_parts;
 mod bodies;
 mod defined;

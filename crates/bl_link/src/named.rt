@@ -1,4 +1,4 @@
-//! The exports of all parts that are linked, by their names.
+//! The exports of a part by their own names.
 ghost use Rattle.std.specs.Prelude.{◌≡◌, [], ◌∷◌, ◌++◌, None, OnOk, OnErr};
 ghost use Rattle.bl_link.specs.Named.{value_named};
 
@@ -8,7 +8,7 @@ use indexmap::IndexMap;
 use std::alloc::Global;
 use std::marker::Model;
 
-/// Exports by their names in the tree, in order. Contracts see the list of the pairs of a name and a value.
+/// Exports by their own names, in order. Contracts see the list of the pairs of a name and a value.
 #[derive(Drop)]
 pub(crate) struct Named {
     map: IndexMap<Vec<u8>, External>,

@@ -3,21 +3,24 @@ ghost use Rattle.std.specs.Prelude.{◌≡◌, ◌++◌, ℕ, List as Listed, fi
 ghost use Rattle.bl_wasm.specs.Exports.{AreDistinct};
 ghost use Rattle.bl_link.specs.Links.{exported as exported_of, pair};
 ghost use Rattle.bl_link.specs.Named.{qualified as qualified_of};
+ghost use Rattle.bl_link.specs.OwnNames.{own};
 ghost use Rattle.bl_link.specs.IndexSpaces.{space as space_of};
 ghost use Rattle.bl_link.specs.Stores.{AreApart};
 
+use crate::all_names::AllNames;
 use crate::named::Named;
 use crate::rename::number;
 use crate::store::{External, Spaces};
-use bl_base::{List, NoMemory};
+use bl_base::{List, NoMemory, Text};
 use bl_wasm::{Export, ExportKind, Exports};
 use std::alloc::Global;
 
-/// The name of an export behind its part's: a solidus parts them.
+/// The name of an export behind its part's: a solidus parts them. Takes as many bytes as it has.
 pub(crate) fn qualified(alloc: Global, part: &[u8], name: &[u8]) -> Result<Vec<u8>, NoMemory>
     ensures { IfOk result (λ whole. whole.items ≡ qualified_of part.now name.now) }
 {
-    let mut whole = Vec::new(alloc);
+    let room = part.len().saturating_add(name.len()).saturating_add(1);
+    let mut whole = Vec::with_capacity(alloc, room)?;
     whole.extend_from_slice(part)?;
     whole.push(b'/')?;
     whole.extend_from_slice(name)?;
@@ -46,22 +49,33 @@ fn external(spaces: &Spaces, entry: &Export) -> External
     }
 }
 
+/// The exports of a part by their own names.
+fn own_names(alloc: Global, spaces: &Spaces, entries: &[Export]) -> Result<Named, NoMemory>
+    requires { AreApart (λ entry. entry.name) entries.now }
+    ensures { IfOk result (λ names. names ≡ map (own spaces.now) entries.now) }
+{
+    let mut names = Named::new(alloc);
+    for entry in entries {
+        let name = Text::copy_of(alloc, entry.name.as_slice())?.into_vec();
+        names.add(name, external(spaces, entry))?;
+    }
+    Ok(names)
+}
+
 /// The exports of all parts, behind those of the parts before.
 pub(crate) fn with_names(
     alloc: Global,
-    before: Named,
+    before: AllNames,
     part: &[u8],
     spaces: &Spaces,
     entries: &[Export],
-) -> Result<Named, NoMemory>
+) -> Result<AllNames, NoMemory>
     requires { AreApart (λ value. value.0) (before ++ map (exported_of part.now spaces.now) entries.now) }
     ensures { IfOk result (λ names. names ≡ before ++ map (exported_of part.now spaces.now) entries.now) }
 {
     let mut names = before;
-    for entry in entries {
-        let name = qualified(alloc, part, entry.name.as_slice())?;
-        names.add(name, external(spaces, entry))?;
-    }
+    let own = own_names(alloc, spaces, entries)?;
+    names.add(Text::copy_of(alloc, part)?, own)?;
     Ok(names)
 }
 

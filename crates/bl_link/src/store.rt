@@ -1,5 +1,5 @@
 //! What is linked so far (WebAssembly 1.0, section 4.2.3).
-use crate::named::Named;
+use crate::all_names::AllNames;
 use bl_base::List;
 use bl_wasm::{ExportKind, Limits, Tree};
 
@@ -33,7 +33,7 @@ pub(crate) struct Store {
     /// The tree.
     pub tree: Tree,
     /// The exports of its parts, by their names in the tree.
-    pub exports: Named,
+    pub exports: AllNames,
     /// The limits of each table, as its definition has them.
     pub tables: List<Limits>,
     /// The limits of each memory, as its definition has them.

@@ -1,18 +1,16 @@
 //! Whether a program is safe under speculation.
-ghost use Rattle.std.specs.Prelude.{◌≡◌, ℕ, IfOk, length};
-ghost use Rattle.std.specs.FinSet as fin;
+ghost use Rattle.std.specs.Prelude.{IfOk};
 ghost use Rattle.bl_cmd.specs.Sites.{is_protected};
 ghost use Rattle.bl_graph.specs.Graphs.{IsGraph};
 ghost use Rattle.bl_graph.specs.Labels.{ConstantTime};
 ghost use Rattle.bl_sct.specs.Verdicts.{Assesses};
 ghost use Rattle.bl_transient.specs.Verdicts.{IsFirstLeak};
 
-use bl_base::{NoMemory, Pos, SiteSet};
-use bl_cmd::{ProgramParts, WellFormed};
+use bl_base::{NoMemory, Pos};
+use bl_cmd::WellFormed;
 use bl_ct::secret_chain_of;
 use bl_graph::{Graph, SecretChain, graph};
-use bl_transient::first_leak_of;
-use bl_witness::is_protected;
+use bl_transient::{first_leak_of, own_protects};
 use std::alloc::Global;
 
 /// What two runs of a program from starts that agree in public show of what is secret.
@@ -69,18 +67,4 @@ pub fn own_leak_of(
     let parts = program.program().parts();
     let protects = own_protects(alloc, parts, parts.commands.len() as u32)?;
     first_leak_of(alloc, program, graph, &protects)
-}
-
-/// The protected sites of a program of so many commands.
-fn own_protects(alloc: Global, parts: &ProgramParts, commands: u32) -> Result<SiteSet, NoMemory>
-    requires { commands ≡ length parts.now.commands }
-    ensures { IfOk result (λ set. (s : ℕ) → fin.contains set s ≡ is_protected parts.now s) }
-{
-    let mut set = SiteSet::new(alloc);
-    for s in 0..commands {
-        if is_protected(parts, s as usize) {
-            set.insert(Pos(s))?;
-        }
-    }
-    Ok(set)
 }

@@ -9,12 +9,12 @@ use Rattle.bl_base.proofs.RunLemmas.{comes_then, comes_to_end, run_after, run_po
 use Rattle.bl_cmd.specs.Outcomes.{IsStart, opening, plain}
 use Rattle.bl_cmd.specs.Steps.{Plain, on, plain_step, written}
 use Rattle.bl_cmd.specs.declared.definitions.ProgramParts.{ProgramParts as Program}
-use Rattle.bl_seq.specs.Filled.{Tree, register_at}
+use Rattle.bl_seq.specs.Filled.{File, register_at}
 use Rattle.bl_seq.specs.Machines.{RunsTo, next_of, told}
 use Rattle.bl_seq.specs.declared.state.Progress.{Progress}
 
 -- on behind a write
-pub on_written : {E : Type 0} (r : Result (Unit {0}) E) (s : Plain) (position depth x number : ℕ) (file : List Tree) → position ≡ s.position + 1
+pub on_written : {E : Type 0} (r : Result (Unit {0}) E) (s : Plain) (position depth x number : ℕ) (file : File) → position ≡ s.position + 1
     → OnOk r ((d v : ℕ) → register_at file d v ≡ written s.registers depth x number d v)
     → OnOk r (on s (written s.registers depth x number) ≡ goes (record { position = position; chain = s.chain; registers = λ d v. register_at file d v; space = s.space }))
 on_written (Ok y) s position depth x number file at e =
@@ -28,7 +28,7 @@ on_written (Err y) s position depth x number file at e = tt
 abbrev pub state_of : ℕ → List ℕ → List ℕ → (ℕ → ℕ → ℕ) → Plain
 state_of position chain space registers = record { position = position; chain = chain; registers = registers; space = space }
 
-pub shown_same : (position : ℕ) (chain space : List ℕ) (old new : List Tree) → ((d v : ℕ) → register_at new d v ≡ register_at old d v)
+pub shown_same : (position : ℕ) (chain space : List ℕ) (old new : File) → ((d v : ℕ) → register_at new d v ≡ register_at old d v)
     → state_of position chain space (λ d v. register_at new d v) ≡ state_of position chain space (λ d v. register_at old d v)
 shown_same position chain space old new e = ap (λ r. state_of position chain space r) (fun_ext (λ d. fun_ext (λ v. e d v)))
 

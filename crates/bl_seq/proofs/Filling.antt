@@ -1,14 +1,19 @@
 -- Registers after writes.
-use Rattle.std.proofs.Common.{◌≡◌, ◌≢◌, ◌⊎◌, inl, inr, ℕ, zero, suc, ◌+◌, ◌-◌, ◌<◌, ◌≤◌, Bool, true, false, List, [], ◌∷◌, ◌++◌, length, drop, replicate, set, get_or, refl, sym, ap, ◌∙◌, subst, arith, add-one}
-use Rattle.std.specs.Prelude.{◌&&◌, nat_eq, if◌then◌else◌, OnErr, OnOk, Result, Ok, Err}
+use Rattle.std.proofs.Common.{◌≡◌, ◌≢◌, inl, inr, ℕ, zero, suc, ◌+◌, ◌-◌, ◌/◌, ◌%◌, ◌<◌, ◌≤◌, Bool, true, false, List, [], ◌∷◌, ◌++◌, length, drop, replicate, set, get_or, refl, sym, ap, ◌∙◌, subst, arith}
+use Rattle.std.specs.Prelude.{◌&&◌, nat_eq, if◌then◌else◌, OnErr, OnOk, Result, Ok, Err, Some, unwrap_or}
+use Rattle.std.specs.Map.{lookup}
+use Rattle.std.specs.Ordering.{MatchOrdering, is_eq, nat_cmp}
+use Rattle.std.specs.declared.cmp.Ordering.{Ordering}
+use Rattle.std.specs.declared.cmp.Ordering.TheVariants.{Less, Equal, Greater}
 use Rattle.std.proofs.Math.Path.{fun_ext}
 use Rattle.std.proofs.lemmas.Bool.{cases_lt, eqb-true, eqb-false, eq-eqb}
 use Rattle.std.proofs.lemmas.Bool.Decides.{eqb_tells}
-use Rattle.std.proofs.lemmas.List.{get_or-set_same, get_or-set_other, get_or_append_left, get_or-append_right, get_or_default, get_or-replicate, get_or_past, length-append, length-replicate}
+use Rattle.std.proofs.lemmas.Cmp.{ranked}
+use Rattle.std.proofs.lemmas.List.{get_or-set_same, get_or-set_other, get_or_append_left, get_or-append_right, get_or_default, get_or-replicate, get_or_past, length-replicate, set-get_or}
 use Rattle.bl_cmd.specs.Steps.{written}
-use Rattle.bl_seq.specs.Filled.{AreSame, IsSameLeaf, IsSameBranch, IsSameTree, put, Tree, branch_of, leaf_of, cell_of, in_tree, put_in, register_at, filled}
+use Rattle.bl_seq.specs.Filled.{AreSame, Deepens, IsSameTree, Puts, SetsBranch, SetsPages, SetsTree, Tree, Writes, bare, cell_of, filled, in_tree, number_at, page_in, page_of, put_page, stray_at}
 
--- ---- a list with an item put at a place
+-- ---- lists with blanks behind their ends, and with another item
 
 module _ {A : Type 0} (blank : A) where
   of_blanks : (n k : ℕ) → get_or (replicate n blank) k blank ≡ blank
@@ -23,101 +28,128 @@ module _ {A : Type 0} (blank : A) where
     | inr more ↦ get_or-append_right list (replicate n blank) (length list) j blank refl more ∙ of_blanks n (j - length list) ∙ sym (get_or_past list j blank more)
   ]
 
-  pub got_put : (list : List A) (i j : ℕ) (x : A) → j ≡ i → get_or (put blank list i x) j blank ≡ x
-  got_put list i j x e =
-      let room : i < length (list ++ replicate (i + 1 - length list) blank) = simp (length-append, length-replicate) (omega arith) in
-      subst (λ k. get_or (put blank list i x) k blank ≡ x) (sym e) (get_or-set_same (list ++ replicate (i + 1 - length list) blank) i x blank room)
+  -- an item that looks like the one before it
+  pub look_same : {X : Type 0} (look : A → X) (list : List A) (i : ℕ) (item : A) → i < length list → look item ≡ look (get_or list i blank)
+      → (j : ℕ) → look (get_or (set list i item) j blank) ≡ look (get_or list j blank)
+  look_same look list i item room e j = elim (eqb_tells j i) as (λ _. look (get_or (set list i item) j blank) ≡ look (get_or list j blank)) [
+    | inl here ↦ ap (λ k. look (get_or (set list i item) k blank)) here.1 ∙ ap look (get_or-set_same list i item blank room) ∙ e ∙ ap (λ k. look (get_or list k blank)) (sym here.1)
+    | inr other ↦ ap look (get_or-set_other list i j item blank other.1)
+  ]
 
-  pub got_other : (list : List A) (i j : ℕ) (x : A) → j ≢ i → get_or (put blank list i x) j blank ≡ get_or list j blank
-  got_other list i j x ne = get_or-set_other (list ++ replicate (i + 1 - length list) blank) i j x blank ne ∙ with_blanks list (i + 1 - length list) j
+-- ---- pages
 
--- ---- what is the same where a write was refused
+page_whole : (p page : ℕ) → p / 64 ≡ page / 64 → p % 64 ≡ page % 64 → p ≡ page
+page_whole p page a b = omega arith
 
--- a list with blanks behind its end, and that with another item at a place, where items are compared by a relation
-module _ {A : Type 0} (blank : A) (Same : A → A → Type 0) (same : (x : A) → Same x x) where
-  pub grown_same : (old new : List A) (n : ℕ) → new ≡ old ++ replicate n blank → (j : ℕ) → Same (get_or old j blank) (get_or new j blank)
-  grown_same old new n e j =
-      subst (λ x. Same (get_or old j blank) x) (sym (ap (λ l. get_or l j blank) e ∙ with_blanks blank old n j)) (same (get_or old j blank))
+variable_whole : (v x : ℕ) → page_of v ≡ page_of x → cell_of v ≡ cell_of x → v ≡ x
+variable_whole v x a b = omega arith
 
-  pub set_same : (old mid new : List A) (n i : ℕ) (x : A) → mid ≡ old ++ replicate n blank → i < length mid → new ≡ set mid i x → Same (get_or mid i blank) x
-      → (j : ℕ) → Same (get_or old j blank) (get_or new j blank)
-  set_same old mid new n i x e lt is h j =
-      let before : get_or mid j blank ≡ get_or old j blank = ap (λ l. get_or l j blank) e ∙ with_blanks blank old n j in
-      elim (eqb_tells j i) as (λ _. Same (get_or old j blank) (get_or new j blank)) [
-        | inl here ↦
-            subst (λ y. Same y (get_or new j blank)) before
-            (subst (λ y. Same (get_or mid j blank) y) (sym (ap (λ l. get_or l j blank) is ∙ ap (λ k. get_or (set mid i x) k blank) here.1 ∙ get_or-set_same mid i x blank lt))
-            (subst (λ k. Same (get_or mid k blank) x) (sym here.1) h))
-        | inr other ↦
-            subst (λ y. Same (get_or old j blank) y) (sym (ap (λ l. get_or l j blank) is ∙ get_or-set_other mid i j x blank other.1 ∙ before)) (same (get_or old j blank))
+module _ (branches : List (List (List ℕ))) (page : ℕ) (leaf : List ℕ) (high : page / 64 < length branches) where
+  pub page_put : page % 64 < length (get_or branches (page / 64) []) → (p : ℕ) → p ≡ page → page_in (put_page branches page leaf) p ≡ leaf
+  page_put low p e =
+      let branch = get_or branches (page / 64) [] in
+      ap (λ k. page_in (put_page branches page leaf) k) e
+      ∙ ap (λ b. get_or b (page % 64) []) (get_or-set_same branches (page / 64) (set branch (page % 64) leaf) [] high)
+      ∙ get_or-set_same branch (page % 64) leaf [] low
+
+  pub page_apart : (p : ℕ) → p ≢ page → page_in (put_page branches page leaf) p ≡ page_in branches p
+  page_apart p ne =
+      let branch = get_or branches (page / 64) [] in
+      elim (eqb_tells (p / 64) (page / 64)) as (λ _. page_in (put_page branches page leaf) p ≡ page_in branches p) [
+        | inr other ↦ ap (λ b. get_or b (p % 64) []) (get_or-set_other branches (page / 64) (p / 64) (set branch (page % 64) leaf) [] other.1)
+        | inl same ↦
+            ap (λ k. get_or (get_or (put_page branches page leaf) k []) (p % 64) []) same.1
+            ∙ ap (λ b. get_or b (p % 64) []) (get_or-set_same branches (page / 64) (set branch (page % 64) leaf) [] high)
+            ∙ get_or-set_other branch (page % 64) (p % 64) leaf [] (λ e. ne (page_whole p page same.1 e))
+            ∙ ap (λ k. get_or (get_or branches k []) (p % 64) []) (sym same.1)
       ]
-
-module _ {A : Type 0} (blank : A) (Same : A → A → Type 0) (same : (x : A) → Same x x) where
-  -- a list that was made to reach a place, with an item put there that is the same as the one before
-  pub put_same : (old mid : List A) (i : ℕ) (y x : A) → mid ≡ old ++ replicate (i + 1 - length old) blank → y ≡ get_or mid i y → Same y x
-      → (j : ℕ) → Same (get_or old j blank) (get_or (set mid i x) j blank)
-  put_same old mid i y x e is h =
-      let size : length mid ≡ length (old ++ replicate (i + 1 - length old) blank) = ap length e in
-      let all : length (old ++ replicate (i + 1 - length old) blank) ≡ length old + (i + 1 - length old) = simp (length-append, length-replicate) refl in
-      let room : i < length mid = omega arith in
-      set_same blank Same same old mid (set mid i x) (i + 1 - length old) i x e room refl (subst (λ z. Same z x) (is ∙ get_or_default mid i y blank room) h)
-
-pub on_err : {X E : Type 0} (r : Result X E) (P : Type 0) → P → OnErr r P
-on_err (Ok y) P h = tt
-on_err (Err e) P h = h
-
-pub when_err : {X E : Type 0} (r : Result X E) (P Q : Type 0) → (P → Q) → OnErr r P → OnErr r Q
-when_err (Ok y) P Q f h = tt
-when_err (Err e) P Q f h = f h
-
-pub same_number : (x : ℕ) → x ≡ x
-same_number x = refl
-
-pub same_leaf : (x : List ℕ) → IsSameLeaf x x
-same_leaf x cell = refl
-
-pub same_branch : (x : List (List ℕ)) → IsSameBranch x x
-same_branch x leaf cell = refl
-
-pub same_tree : (x : Tree) → IsSameTree x x
-same_tree x branch leaf cell = refl
 
 -- ---- a variable written at a depth
 
-in_put : (tree : Tree) (x v value : ℕ) → v ≡ x → in_tree (put_in tree x value) v ≡ value
-unfolding put_in
-in_put tree x v value e =
-    let branch = get_or tree (branch_of x) [] in
-    let leaf = get_or branch (leaf_of x) [] in
-    ap (λ t. get_or (get_or t (leaf_of v) []) (cell_of v) 0) (got_put [] tree (branch_of x) (branch_of v) (put [] branch (leaf_of x) (put 0 leaf (cell_of x) value)) (ap branch_of e))
-    ∙ ap (λ t. get_or t (cell_of v) 0) (got_put [] branch (leaf_of x) (leaf_of v) (put 0 leaf (cell_of x) value) (ap leaf_of e))
-    ∙ got_put 0 leaf (cell_of x) (cell_of v) value (ap cell_of e)
+pub chosen_yes : (v x new old : ℕ) → v ≡ x → (if nat_eq v x then new else old) ≡ new
+chosen_yes v x new old e = rw (eq-eqb v x e)
 
-in_other : (tree : Tree) (x v value : ℕ) → v ≢ x → in_tree (put_in tree x value) v ≡ in_tree tree v
-unfolding put_in
-in_other tree x v value ne =
-    let branch = get_or tree (branch_of x) [] in
-    let leaf = get_or branch (leaf_of x) [] in
-    let new = put 0 leaf (cell_of x) value in
-    let new_branch = put [] branch (leaf_of x) new in
-    elim (eqb_tells (branch_of v) (branch_of x)) as (λ _. in_tree (put_in tree x value) v ≡ in_tree tree v) [
-      | inr other ↦ ap (λ t. get_or (get_or t (leaf_of v) []) (cell_of v) 0) (got_other [] tree (branch_of x) (branch_of v) new_branch other.1)
+pub chosen_no : (v x new old : ℕ) → v ≢ x → (if nat_eq v x then new else old) ≡ old
+chosen_no v x new old ne = elim (eqb_tells v x) as (λ _. (if nat_eq v x then new else old) ≡ old) [ inl same ↦ absurd (ne same.1) | inr other ↦ rw other.0 ]
+
+-- a cell that a variable has
+pub set_cell : (branches : List (List (List ℕ))) (strays : List (ℕ × ℕ)) (x number : ℕ) → page_of x / 64 < length branches
+    → page_of x % 64 < length (get_or branches (page_of x / 64) []) → cell_of x < length (page_in branches (page_of x))
+    → Puts (record { branches = branches; strays = strays }) (record { branches = put_page branches (page_of x) (set (page_in branches (page_of x)) (cell_of x) number); strays = strays }) x number
+set_cell branches strays x number high low room v =
+    let leaf = page_in branches (page_of x) in
+    let new = set leaf (cell_of x) number in
+    let old_number = get_or (page_in branches (page_of v)) (cell_of v) (stray_at strays v) in
+    let new_number = get_or (page_in (put_page branches (page_of x) new) (page_of v)) (cell_of v) (stray_at strays v) in
+    elim (eqb_tells v x) as (λ _. new_number ≡ (if nat_eq v x then number else old_number)) [
       | inl same ↦
-          ap (λ t. get_or (get_or t (leaf_of v) []) (cell_of v) 0) (got_put [] tree (branch_of x) (branch_of v) new_branch same.1)
-          ∙ elim (eqb_tells (leaf_of v) (leaf_of x)) as (λ _. get_or (get_or new_branch (leaf_of v) []) (cell_of v) 0 ≡ in_tree tree v) [
-            | inr other ↦
-                ap (λ t. get_or t (cell_of v) 0) (got_other [] branch (leaf_of x) (leaf_of v) new other.1)
-                ∙ ap (λ b. get_or (get_or (get_or tree b []) (leaf_of v) []) (cell_of v) 0) (sym same.1)
+          ap (λ l. get_or l (cell_of v) (stray_at strays v)) (page_put branches (page_of x) new high low (page_of v) (ap page_of same.1))
+          ∙ ap (λ k. get_or new k (stray_at strays v)) (ap cell_of same.1) ∙ get_or-set_same leaf (cell_of x) number (stray_at strays v) room
+          ∙ sym (chosen_yes v x number old_number same.1)
+      | inr other ↦
+          elim (eqb_tells (page_of v) (page_of x)) as (λ _. new_number ≡ old_number) [
+            | inr apart ↦ ap (λ l. get_or l (cell_of v) (stray_at strays v)) (page_apart branches (page_of x) new high (page_of v) apart.1)
             | inl also ↦
-                ap (λ t. get_or t (cell_of v) 0) (got_put [] branch (leaf_of x) (leaf_of v) new also.1)
-                ∙ got_other 0 leaf (cell_of x) (cell_of v) value (λ cell. ne (whole v x same.1 also.1 cell))
-                ∙ ap (λ l. get_or (get_or branch l []) (cell_of v) 0) (sym also.1)
-                ∙ ap (λ b. get_or (get_or (get_or tree b []) (leaf_of v) []) (cell_of v) 0) (sym same.1)
+                ap (λ l. get_or l (cell_of v) (stray_at strays v)) (page_put branches (page_of x) new high low (page_of v) also.1)
+                ∙ get_or-set_other leaf (cell_of x) (cell_of v) number (stray_at strays v) (λ e. other.1 (variable_whole v x also.1 e))
+                ∙ ap (λ p. get_or (page_in branches p) (cell_of v) (stray_at strays v)) (sym also.1)
           ]
+          ∙ sym (chosen_no v x number old_number other.1)
     ]
+
+-- a variable written in its branch, if it has a cell there
+pub set_tree : (r : Bool) (tree : Tree) (branches : List (List (List ℕ))) (strays : List (ℕ × ℕ)) (x number : ℕ) (before after : List (List ℕ))
+    → (let it : Tree = record { branches = branches; strays = strays } in it) ≡ tree → page_of x / 64 < length branches
+    → before ≡ get_or branches (page_of x / 64) before → SetsBranch r before after (page_of x % 64) (cell_of x) number
+    → SetsTree r tree (record { branches = set branches (page_of x / 64) after; strays = strays }) x number
+set_tree r tree branches strays x number before after e high is sets =
+    subst (λ t. SetsTree r t (record { branches = set branches (page_of x / 64) after; strays = strays }) x number) e
+    (by r (subst (λ b. SetsBranch r b after (page_of x % 64) (cell_of x) number) (is ∙ get_or_default branches (page_of x / 64) before [] high) sets))
   where
-    whole : (v x : ℕ) → branch_of v ≡ branch_of x → leaf_of v ≡ leaf_of x → cell_of v ≡ cell_of x → v ≡ x
-    whole v x a b c = omega arith
+    low : (leaves : List (List ℕ)) (l i : ℕ) → i < length (get_or leaves l []) → l < length leaves
+    low leaves l i lt = elim (cases_lt l (length leaves)) as (λ _. l < length leaves) [
+      | inl less ↦ less
+      | inr more ↦ absurd (let none = subst (λ leaf. i < length leaf) (get_or_past leaves l [] more) lt in omega arith)
+    ]
+
+    by : (r : Bool) → SetsBranch r (get_or branches (page_of x / 64) []) after (page_of x % 64) (cell_of x) number
+        → SetsTree r (record { branches = branches; strays = strays }) (record { branches = set branches (page_of x / 64) after; strays = strays }) x number
+    by true h =
+        subst (λ b. Puts (record { branches = branches; strays = strays }) (record { branches = set branches (page_of x / 64) b; strays = strays }) x number) (sym h.1)
+        (set_cell branches strays x number high (low (get_or branches (page_of x / 64) []) (page_of x % 64) (cell_of x) h.0) h.0)
+    by false h = (
+      h.0,
+      ap (λ b. record { branches = set branches (page_of x / 64) b; strays = strays }) h.1
+          ∙ ap (λ b. record { branches = b; strays = strays }) (set-get_or branches (page_of x / 64) []),
+    )
+
+cmp_apart : (x v : ℕ) → x ≢ v → is_eq (nat_cmp x v) ≡ false
+cmp_apart x v ne = by (nat_cmp x v) (ranked x v (nat_cmp x v) refl)
+  where
+    by : (r : Ordering) → MatchOrdering r (x < v) (x ≡ v) (v < x) → is_eq r ≡ false
+    by Less h = refl
+    by Equal h = absurd (ne h)
+    by Greater h = refl
+
+-- a stray of a variable that has no cell
+pub put_stray : (tree : Tree) (branches : List (List (List ℕ))) (old new : List (ℕ × ℕ)) (x number : ℕ) → (let it : Tree = record { branches = branches; strays = old } in it) ≡ tree
+    → length (page_in tree.branches (page_of x)) ≤ cell_of x → lookup (λ k. is_eq (nat_cmp x k)) new ≡ Some number
+    → ((q : ℕ) → is_eq (nat_cmp x q) ≡ false → lookup (λ k. is_eq (nat_cmp q k)) new ≡ lookup (λ k. is_eq (nat_cmp q k)) old)
+    → Puts tree (record { branches = branches; strays = new }) x number
+put_stray tree branches old new x number e lacks here there =
+    subst (λ t. length (page_in t.branches (page_of x)) ≤ cell_of x → Puts t (record { branches = branches; strays = new }) x number) e
+    (λ room v.
+    elim (eqb_tells v x) as (λ _. number_of new v ≡ (if nat_eq v x then number else number_of old v)) [
+      | inl same ↦
+          ap (λ y. number_of new y) same.1 ∙ get_or_past (page_in branches (page_of x)) (cell_of x) (stray_at new x) room ∙ ap (λ o. unwrap_or o 0) here
+          ∙ sym (chosen_yes v x number (number_of old v) same.1)
+      | inr other ↦
+          ap (λ o. get_or (page_in branches (page_of v)) (cell_of v) (unwrap_or o 0)) (there v (cmp_apart x v (λ e. other.1 (sym e))))
+          ∙ sym (chosen_no v x number (number_of old v) other.1)
+    ]) lacks
+  where
+    number_of : List (ℕ × ℕ) → ℕ → ℕ
+    number_of strays y = get_or (page_in branches (page_of y)) (cell_of y) (stray_at strays y)
 
 -- a number is another one where both tests hold, and else what it was
 pub by_tests : (b c : Bool) (new value old : ℕ) → (b ≡ true → c ≡ true → new ≡ value) → (b ≡ false → new ≡ old) → (b ≡ true → c ≡ false → new ≡ old)
@@ -126,15 +158,41 @@ by_tests true true new value old both first second = both refl refl
 by_tests true false new value old both first second = second refl refl
 by_tests false c new value old both first second = first refl
 
-pub register_put : (file : List Tree) (depth x value d v : ℕ)
-    → register_at (put [] file depth (put_in (get_or file depth []) x value)) d v ≡ written (λ d v. register_at file d v) depth x value d v
-register_put file depth x value d v =
-    let tree = put_in (get_or file depth []) x value in
-    by_tests (nat_eq d depth) (nat_eq v x) (register_at (put [] file depth tree) d v) value (register_at file d v)
-    (λ e f. ap (λ t. in_tree t v) (got_put [] file depth d tree (eqb-true d depth e)) ∙ in_put (get_or file depth []) x v value (eqb-true v x f))
-    (λ e. ap (λ t. in_tree t v) (got_other [] file depth d tree (eqb-false d depth e)))
-    (λ e f. ap (λ t. in_tree t v) (got_put [] file depth d tree (eqb-true d depth e)) ∙ in_other (get_or file depth []) x v value (eqb-false v x f)
-    ∙ ap (λ k. in_tree (get_or file k []) v) (sym (eqb-true d depth e)))
+pub write_tree : (trees : List Tree) (tree : Tree) (depth x number : ℕ) → depth < length trees → Puts (get_or trees depth bare) tree x number → Writes trees (set trees depth tree) depth x number
+write_tree trees tree depth x number room puts d v =
+    let there : nat_eq d depth ≡ true → number_at (set trees depth tree) d v ≡ in_tree tree v =
+    λ e. ap (λ k. in_tree (get_or (set trees depth tree) k bare) v) (eqb-true d depth e) ∙ ap (λ t. in_tree t v) (get_or-set_same trees depth tree bare room) in
+    by_tests (nat_eq d depth) (nat_eq v x) (number_at (set trees depth tree) d v) number (number_at trees d v)
+    (λ e f. there e ∙ puts v ∙ chosen_yes v x number (in_tree (get_or trees depth bare) v) (eqb-true v x f))
+    (λ e. ap (λ t. in_tree t v) (get_or-set_other trees depth d tree bare (eqb-false d depth e)))
+    (λ e f. there e ∙ puts v ∙ chosen_no v x number (in_tree (get_or trees depth bare) v) (eqb-false v x f) ∙ ap (λ k. in_tree (get_or trees k bare) v) (sym (eqb-true d depth e)))
+
+-- a tree among those of all depths, in which a variable is written, if it has a cell there
+pub set_pages : (r : Bool) (old trees : List Tree) (depth x number : ℕ) (before after : Tree) → trees ≡ old → depth < length trees → before ≡ get_or trees depth before
+    → SetsTree r before after x number → SetsPages r old (set trees depth after) depth x number
+set_pages r old trees depth x number before after e room is sets =
+    subst (λ ts. SetsPages r ts (set trees depth after) depth x number) e
+    (by r (subst (λ t. SetsTree r t after x number) (is ∙ get_or_default trees depth before bare room) sets))
+  where
+    by : (r : Bool) → SetsTree r (get_or trees depth bare) after x number → SetsPages r trees (set trees depth after) depth x number
+    by true h = write_tree trees after depth x number room h
+    by false h = ap (λ t. set trees depth t) h.1 ∙ set-get_or trees depth bare
+
+-- a tree in which a variable is written, or none, where there may be more depths than before
+module _ (old trees : List Tree) (depth x number : ℕ) (before after : Tree) (deep : Deepens old trees) (room : depth < length trees) (is : before ≡ get_or trees depth before) where
+  was : before ≡ get_or trees depth bare
+  was = is ∙ get_or_default trees depth before bare room
+
+  pub write_pages : {X E : Type 0} (r : Result X E) → OnOk r (Puts before after x number) → OnOk r (Writes old (set trees depth after) depth x number)
+  write_pages (Ok y) puts = λ d v.
+      write_tree trees after depth x number room (subst (λ t. Puts t after x number) was puts) d v
+      ∙ ap (λ z. if nat_eq d depth && nat_eq v x then number else z) (ap (λ t. in_tree t v) (deep d))
+  write_pages (Err y) puts = tt
+
+  pub keep_pages : {X E : Type 0} (r : Result X E) → OnErr r (IsSameTree before after) → OnErr r (AreSame old (set trees depth after))
+  keep_pages (Ok y) same = tt
+  keep_pages (Err y) same = λ d v.
+      look_same bare (λ t. in_tree t v) trees depth after room (same v ∙ ap (λ t. in_tree t v) was) d ∙ ap (λ t. in_tree t v) (deep d)
 
 -- ---- variables in a row
 
@@ -198,13 +256,3 @@ fill_next old new depth from i numbers number lt is e =
     drop_more [] k lt = absurd (omega arith)
     drop_more (x ∷ xs) zero lt = refl
     drop_more (x ∷ xs) (suc k) lt = let next : suc k + 1 ≡ suc (k + 1) = omega arith in rw next (drop_more xs k (omega arith))
-
--- what a write leaves where it was done
-pub wrote : {X E : Type 0} (old new : List Tree) (r : Result X E) (depth x number : ℕ) → OnOk r (new ≡ put [] old depth (put_in (get_or old depth []) x number))
-    → OnOk r ((d v : ℕ) → register_at new d v ≡ written (λ d v. register_at old d v) depth x number d v)
-wrote old new (Ok y) depth x number e = λ d v. ap (λ file. register_at file d v) e ∙ register_put old depth x number d v
-wrote old new (Err y) depth x number e = tt
-
--- what a write leaves where it was refused
-pub refused : {X E : Type 0} (old new : List Tree) (r : Result X E) → OnErr r (AreSame old new) → OnErr r ((d v : ℕ) → register_at new d v ≡ register_at old d v)
-refused old new r h = when_err r (AreSame old new) _ (λ same d v. same d (branch_of v) (leaf_of v) (cell_of v)) h

@@ -19,7 +19,7 @@ use Rattle.bl_cmd.specs.Steps.{overlay, Plain}
 use Rattle.bl_cmd.specs.declared.definitions.MemRow.{MemRow}
 use Rattle.bl_cmd.specs.declared.definitions.MemoryDef.{MemoryDef}
 use Rattle.bl_cmd.specs.declared.definitions.ProgramParts.{ProgramParts as Program}
-use Rattle.bl_seq.specs.Filled.{Tree, register_at, filled}
+use Rattle.bl_seq.specs.Filled.{File, register_at, filled}
 use Rattle.bl_seq.specs.Openings.{IsSized, AreSized, LiesInside}
 use Rattle.bl_seq.proofs.Filling.{fill_before, fill_apart, fill_behind}
 use Rattle.bl_seq.proofs.Spaces.{overlay_length}
@@ -86,7 +86,7 @@ overlay_inside state from new le = take_all (length state.bytes) (write state fr
 
 -- ---- registers
 
-module _ (program : Program) (function : ℕ) (start : Start) (one two : List Tree) (statics : List ℕ)
+module _ (program : Program) (function : ℕ) (start : Start) (one two : File) (statics : List ℕ)
     (are : statics ≡ map (λ global. global.first) program.globals ++ map (λ memory. memory.pages) program.memories)
     (first : (d v : ℕ) → register_at one d v ≡ filled (λ d v. 0) 0 0 statics d v)
     (second : (d v : ℕ) → register_at two d v ≡ filled (λ d v. register_at one d v) 1 (first_of program function) start.args d v) where
@@ -106,7 +106,7 @@ module _ (program : Program) (function : ℕ) (start : Start) (one two : List Tr
   registers_at (suc (suc d)) v =
       second (suc (suc d)) v ∙ fill_apart (λ d v. register_at one d v) 1 (first_of program function) start.args (suc (suc d)) v (λ e. omega arith) ∙ beside (suc (suc d)) v (λ e. omega arith)
 
-pub registers_of : (program : Program) (function : ℕ) (start : Start) {E : Type 0} (r : Result (List Tree) E) (one : List Tree) (first : ℕ) (arguments : List ℕ)
+pub registers_of : (program : Program) (function : ℕ) (start : Start) {E : Type 0} (r : Result File E) (one : File) (first : ℕ) (arguments : List ℕ)
     → first ≡ first_of program function → arguments ≡ start.args
     → ((d v : ℕ) → register_at one d v ≡ filled (λ d v. 0) 0 0 (map (λ global. global.first) program.globals ++ map (λ memory. memory.pages) program.memories) d v)
     → IfOk r (λ two. (d v : ℕ) → register_at two d v ≡ filled (λ d v. register_at one d v) 1 first arguments d v)
@@ -116,7 +116,7 @@ registers_of program function start (Ok two) one first arguments is are begun e 
     (λ d v. e d v ∙ ap (λ n. filled (λ d v. register_at one d v) 1 n arguments d v) is ∙ ap (λ l. filled (λ d v. register_at one d v) 1 (first_of program function) l d v) are)
 registers_of program function start (Err y) one first arguments is are begun e = tt
 
-pub opens : (program : Program) (function : ℕ) (start : Start) (position : ℕ) (chain : List ℕ) (file : List Tree) (space : List ℕ)
+pub opens : (program : Program) (function : ℕ) (start : Start) (position : ℕ) (chain : List ℕ) (file : File) (space : List ℕ)
     → position ≡ entry_of program function → chain ≡ [] → ((d v : ℕ) → register_at file d v ≡ first_registers program function start d v)
     → space ≡ space_of program.memories (first_memories program start)
     → (let s : Plain = record { position = position; chain = chain; registers = λ d v. register_at file d v; space = space } in s) ≡ opening program function start

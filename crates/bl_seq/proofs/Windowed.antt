@@ -1,230 +1,143 @@
--- A page that is held beside the others.
-use Rattle.std.proofs.Common.{◌≡◌, ◌≢◌, ◌⊎◌, inl, inr, ℕ, ◌+◌, ◌-◌, ◌/◌, ◌%◌, ◌<◌, ◌≤◌, Bool, true, false, List, [], ◌∷◌, ◌++◌, length, replicate, set, get_or, refl, sym, ap, ◌∙◌, subst, arith}
-use Rattle.std.specs.Prelude.{nat_eq, OnErr, OnOk, Result, Ok, Err}
-use Rattle.std.proofs.lemmas.Bool.{eqb-true, eqb-false}
-use Rattle.std.proofs.lemmas.List.{nil_from_length, get_or-set_same, get_or-set_other, length-set, length-append, length-replicate}
-use Rattle.bl_cmd.specs.Steps.{written}
+-- A page that is held before the others.
+use Rattle.std.proofs.Common.{◌≡◌, ◌⊎◌, inl, inr, ℕ, ◌+◌, ◌-◌, ◌%◌, ◌≤◌, Bool, true, false, List, [], ◌∷◌, ◌++◌, length, set, get_or, refl, sym, ap, ◌∙◌, subst, arith}
+use Rattle.std.specs.Prelude.{◌&&◌, nat_eq, if◌then◌else◌, OnErr, OnOk, Result, Ok, Err, None, slice_get, unwrap_or}
+use Rattle.std.proofs.lemmas.Bool.{cases_lt, eqb-true, eqb-false, eq-eqb}
 use Rattle.std.proofs.lemmas.Bool.Decides.{eqb_tells}
-use Rattle.bl_seq.specs.Filled.{AreSame, IsSameLeaf, Tree, branch_of, leaf_of, cell_of, in_tree, put, register_at}
-use Rattle.bl_seq.specs.Windows.{AreEqual, Holds, Sets, leaf_at, put_leaf, put_page, seen, with_page}
+use Rattle.std.proofs.lemmas.List.{get_or-set_same, get_or-set_other, get_or_append_left, get_or-append_right, get_or_past}
+use Rattle.std.proofs.lemmas.Option.{unwrap_or-slice_get}
+use Rattle.bl_cmd.specs.Steps.{written}
+use Rattle.bl_seq.specs.Filled.{AreSame, File, Tree, Writes, behind, cell_of, number_at, page_of, register_at}
+use Rattle.bl_seq.specs.Windows.{Lacks, Sets, found, seen}
 use Rattle.bl_seq.specs.declared.registers.Window.{Window}
-use Rattle.bl_seq.proofs.Filling.{by_tests, with_blanks, got_put, got_other, written_beside, written_apart, written_here}
+use Rattle.bl_seq.proofs.Filling.{by_tests}
 
-branch_is : (x page : ℕ) → x / 1024 ≡ page → branch_of x ≡ page / 1024
-branch_is x page e = omega arith
+-- where both tests hold, and where one fails
+both_hold : (a b : ℕ) (c d : ℕ) (new old : ℕ) → a ≡ b → c ≡ d → (if nat_eq a b && nat_eq c d then new else old) ≡ new
+both_hold a b c d new old e f = rw (eq-eqb a b e, eq-eqb c d f) refl
 
-page_whole : (x page : ℕ) → branch_of x ≡ page / 1024 → leaf_of x ≡ page % 1024 → x / 1024 ≡ page
-page_whole x page a b = omega arith
+one_fails : (a b c d : ℕ) (new old : ℕ) → (a ≡ b → c ≡ d → ⊥) → (if nat_eq a b && nat_eq c d then new else old) ≡ old
+one_fails a b c d new old ne = by (nat_eq a b) (nat_eq c d) (λ e f. ne (eqb-true a b e) (eqb-true c d f))
+  where
+    by : (p q : Bool) → (p ≡ true → q ≡ true → ⊥) → (if p && q then new else old) ≡ old
+    by true true h = absurd (h refl refl)
+    by true false h = refl
+    by false q h = refl
 
-pub inside : (file : List Tree) (depth page : ℕ) (leaf : List ℕ) (d x : ℕ) → d ≡ depth → x / 1024 ≡ page
-    → register_at (put_leaf file depth page leaf) d x ≡ get_or leaf (cell_of x) 0
-unfolding put_leaf put_page
-inside file depth page leaf d x e f =
-    let tree = get_or file depth [] in
-    let branch = get_or tree (page / 1024) [] in
-    ap (λ t. in_tree t x) (got_put [] file depth d (put_page tree page leaf) e)
-    ∙ ap (λ b. get_or (get_or b (leaf_of x) []) (cell_of x) 0) (got_put [] tree (page / 1024) (branch_of x) (put [] branch (page % 1024) leaf) (branch_is x page f))
-    ∙ ap (λ l. get_or l (cell_of x) 0) (got_put [] branch (page % 1024) (leaf_of x) leaf (ap (λ p. p % 1024) f))
+-- the two, by cases
+cases_at : (a b c d : ℕ) → ((a ≡ b) × (c ≡ d)) ⊎ (a ≡ b → c ≡ d → ⊥)
+cases_at a b c d = elim (eqb_tells a b) as (λ _. ((a ≡ b) × (c ≡ d)) ⊎ (a ≡ b → c ≡ d → ⊥)) [
+  | inr other ↦ inr (λ e f. other.1 e)
+  | inl same ↦ elim (eqb_tells c d) as (λ _. ((a ≡ b) × (c ≡ d)) ⊎ (a ≡ b → c ≡ d → ⊥)) [
+    | inr other ↦ inr (λ e f. other.1 f)
+    | inl also ↦ inl (same.1, also.1)
+  ]
+]
 
-pub outside : (file : List Tree) (depth page : ℕ) (leaf : List ℕ) (d x : ℕ) → (d ≡ depth → x / 1024 ≡ page → ⊥)
-    → register_at (put_leaf file depth page leaf) d x ≡ register_at file d x
-unfolding put_leaf put_page
-outside file depth page leaf d x ne =
-    let tree = get_or file depth [] in
-    let branch = get_or tree (page / 1024) [] in
-    let new = put [] branch (page % 1024) leaf in
-    let new_tree = put [] tree (page / 1024) new in
-    elim (eqb_tells d depth) as (λ _. register_at (put [] file depth new_tree) d x ≡ register_at file d x) [
-      | inr other ↦ ap (λ t. in_tree t x) (got_other [] file depth d new_tree other.1)
-      | inl same ↦
-          ap (λ t. in_tree t x) (got_put [] file depth d new_tree same.1)
-          ∙ elim (eqb_tells (branch_of x) (page / 1024)) as (λ _. in_tree new_tree x ≡ in_tree tree x) [
-            | inr apart ↦ ap (λ b. get_or (get_or b (leaf_of x) []) (cell_of x) 0) (got_other [] tree (page / 1024) (branch_of x) new apart.1)
-            | inl also ↦
-                ap (λ b. get_or (get_or b (leaf_of x) []) (cell_of x) 0) (got_put [] tree (page / 1024) (branch_of x) new also.1)
-                ∙ ap (λ l. get_or l (cell_of x) 0) (got_other [] branch (page % 1024) (leaf_of x) leaf (λ e. ne same.1 (page_whole x page also.1 e)))
-                ∙ ap (λ b. get_or (get_or (get_or tree b []) (leaf_of x) []) (cell_of x) 0) (sym also.1)
+module _ (depth page : ℕ) (leaf : List ℕ) (d x : ℕ) where
+  pub behind_in : (z : ℕ) → depth ≡ d → page ≡ page_of x → behind depth page leaf d x z ≡ get_or leaf (cell_of x) z
+  behind_in z e f = both_hold depth d page (page_of x) (get_or leaf (cell_of x) z) z e f
+
+  pub behind_out : (z : ℕ) → (depth ≡ d → page ≡ page_of x → ⊥) → behind depth page leaf d x z ≡ z
+  behind_out z ne = one_fails depth d page (page_of x) (get_or leaf (cell_of x) z) z ne
+
+  -- where the leaf has no such cell
+  pub behind_past : (z : ℕ) → (depth ≡ d → page ≡ page_of x → length leaf ≤ cell_of x) → behind depth page leaf d x z ≡ z
+  behind_past z lacks = elim (cases_at depth d page (page_of x)) as (λ _. behind depth page leaf d x z ≡ z) [
+    | inl at ↦ behind_in z at.0 at.1 ∙ get_or_past leaf (cell_of x) z (lacks at.0 at.1)
+    | inr out ↦ behind_out z out
+  ]
+
+-- ---- what is seen of a page that is held
+
+pub found_number : (w : Window) (d x z : ℕ) → unwrap_or (found w d x) z ≡ behind w.depth w.page w.leaf d x z
+found_number w d x z = by (nat_eq w.depth d) (nat_eq w.page (page_of x))
+  where
+    by : (p q : Bool) → unwrap_or (if p && q then slice_get w.leaf (cell_of x) else None) z ≡ (if p && q then get_or w.leaf (cell_of x) z else z)
+    by true true = unwrap_or-slice_get w.leaf (cell_of x) z
+    by true false = refl
+    by false q = refl
+
+-- ---- writes
+
+-- a write to a cell that is held
+pub held_set : (trees : List Tree) (old new : Window) (depth x number d v : ℕ) → Sets old new depth x number
+    → register_at (seen trees new) d v ≡ written (λ d v. register_at (seen trees old) d v) depth x number d v
+held_set trees old new depth x number d v sets =
+    let w : Window = record old { leaf = set old.leaf (cell_of x) number } in
+    ap (λ w. register_at (seen trees w) d v) sets.new_is
+    ∙ by_tests (nat_eq d depth) (nat_eq v x) (register_at (seen trees w) d v) number (register_at (seen trees old) d v)
+    (λ e f. hit (eqb-true d depth e) (eqb-true v x f))
+    (λ e. away (λ h g. eqb-false d depth e (sym h ∙ sets.holds.depth_is)))
+    (λ e f. elim (cases_at old.depth d old.page (page_of v)) as (λ _. register_at (seen trees w) d v ≡ register_at (seen trees old) d v) [
+      | inr out ↦ away out
+      | inl at ↦
+          behind_in old.depth old.page w.leaf d v (number_at trees d v) at.0 at.1
+          ∙ get_or-set_other old.leaf (cell_of x) (cell_of v) number (number_at trees d v) (λ h. eqb-false v x f (whole v x (sym at.1 ∙ sets.holds.page_is) h))
+          ∙ sym (behind_in old.depth old.page old.leaf d v (number_at trees d v) at.0 at.1)
+    ])
+  where
+    whole : (v x : ℕ) → page_of v ≡ page_of x → cell_of v ≡ cell_of x → v ≡ x
+    whole v x a b = omega arith
+
+    hit : d ≡ depth → v ≡ x → register_at (seen trees (record old { leaf = set old.leaf (cell_of x) number })) d v ≡ number
+    hit e f =
+        behind_in old.depth old.page (set old.leaf (cell_of x) number) d v (number_at trees d v) (sets.holds.depth_is ∙ sym e) (sets.holds.page_is ∙ ap page_of (sym f))
+        ∙ ap (λ y. get_or (set old.leaf (cell_of x) number) (cell_of y) (number_at trees d v)) f
+        ∙ get_or-set_same old.leaf (cell_of x) number (number_at trees d v) sets.room
+
+    away : (old.depth ≡ d → old.page ≡ page_of v → ⊥)
+        → register_at (seen trees (record old { leaf = set old.leaf (cell_of x) number })) d v ≡ register_at (seen trees old) d v
+    away out = behind_out old.depth old.page (set old.leaf (cell_of x) number) d v (number_at trees d v) out ∙ sym (behind_out old.depth old.page old.leaf d v (number_at trees d v) out)
+
+-- a write behind a window without that cell
+pub far_write : (old new : List Tree) (w : Window) (depth x number : ℕ) → Lacks w depth x → Writes old new depth x number → (d v : ℕ)
+    → register_at (seen new w) d v ≡ written (λ d v. register_at (seen old w) d v) depth x number d v
+far_write old new w depth x number lacks writes d v =
+    by_tests (nat_eq d depth) (nat_eq v x) (register_at (seen new w) d v) number (register_at (seen old w) d v)
+    (λ e f. behind_past w.depth w.page w.leaf d v (number_at new d v)
+    (λ h g. subst (λ y. length w.leaf ≤ cell_of y) (sym (eqb-true v x f)) (lacks.lacks (record { depth_is = h ∙ eqb-true d depth e; page_is = g ∙ ap page_of (eqb-true v x f) })))
+    ∙ writes d v ∙ both_hold d depth v x number (number_at old d v) (eqb-true d depth e) (eqb-true v x f))
+    (λ e. ap (λ z. behind w.depth w.page w.leaf d v z) (writes d v ∙ one_fails d depth v x number (number_at old d v) (λ h g. eqb-false d depth e h)))
+    (λ e f. ap (λ z. behind w.depth w.page w.leaf d v z) (writes d v ∙ one_fails d depth v x number (number_at old d v) (λ h g. eqb-false v x f g)))
+
+-- the same, for registers that are refused by memory alone
+module _ (file : File) (old new : List Tree) (w same : Window) (depth x number : ℕ) (is : seen old w ≡ file) (at : same ≡ w) where
+  pub placed : {X E : Type 0} (r : Result X E) → Lacks w depth x → OnOk r (Writes old new depth x number)
+      → OnOk r ((d v : ℕ) → register_at (seen new same) d v ≡ written (λ d v. register_at file d v) depth x number d v)
+  placed (Ok y) lacks writes = λ d v.
+      ap (λ u. register_at (seen new u) d v) at ∙ subst (λ f. register_at (seen new w) d v ≡ written (λ d v. register_at f d v) depth x number d v) is
+      (far_write old new w depth x number lacks writes d v)
+  placed (Err y) lacks writes = tt
+
+  pub kept : {X E : Type 0} (r : Result X E) → OnErr r (AreSame old new) → OnErr r ((d v : ℕ) → register_at (seen new same) d v ≡ register_at file d v)
+  kept (Ok y) e = tt
+  kept (Err y) e = λ d v.
+      ap (λ u. register_at (seen new u) d v) at ∙ ap (λ z. behind w.depth w.page w.leaf d v z) (e d v) ∙ ap (λ f. register_at f d v) is
+
+-- a cell more, with the number that its variable has
+pub filled_more : (trees : List Tree) (w : Window) (x number d v : ℕ) → w.page ≡ page_of x → length w.leaf ≤ cell_of x → number ≡ number_at trees w.depth (x - x % 512 + length w.leaf)
+    → register_at (seen trees (record w { leaf = w.leaf ++ (number ∷ []) })) d v ≡ register_at (seen trees w) d v
+filled_more trees w x number d v at low is =
+    let z = number_at trees d v in
+    elim (cases_at w.depth d w.page (page_of v)) as (λ _. behind w.depth w.page (w.leaf ++ (number ∷ [])) d v z ≡ behind w.depth w.page w.leaf d v z) [
+      | inr out ↦ behind_out w.depth w.page (w.leaf ++ (number ∷ [])) d v z out ∙ sym (behind_out w.depth w.page w.leaf d v z out)
+      | inl on ↦
+          behind_in w.depth w.page (w.leaf ++ (number ∷ [])) d v z on.0 on.1
+          ∙ one_more w.leaf (cell_of v) (λ e. is ∙ ap (λ k. number_at trees k (x - x % 512 + length w.leaf)) on.0 ∙ ap (λ y. number_at trees d y) (named x v (length w.leaf) (sym at ∙ on.1) e))
+          ∙ sym (behind_in w.depth w.page w.leaf d v z on.0 on.1)
+    ]
+  where
+    named : (x v n : ℕ) → page_of x ≡ page_of v → cell_of v ≡ n → x - x % 512 + n ≡ v
+    named x v n a b = omega arith
+
+    one_more : (l : List ℕ) (i : ℕ) → (i ≡ length l → number ≡ number_at trees d v) → get_or (l ++ (number ∷ [])) i (number_at trees d v) ≡ get_or l i (number_at trees d v)
+    one_more l i e = elim (cases_lt i (length l)) as (λ _. get_or (l ++ (number ∷ [])) i (number_at trees d v) ≡ get_or l i (number_at trees d v)) [
+      | inl less ↦ get_or_append_left l (number ∷ []) (number_at trees d v) i less
+      | inr more ↦
+          get_or-append_right l (number ∷ []) (length l) i (number_at trees d v) refl more
+          ∙ elim (eqb_tells i (length l)) as (λ _. get_or (number ∷ []) (i - length l) (number_at trees d v) ≡ number_at trees d v) [
+            | inl same ↦ (let none : i - length l ≡ 0 = omega (arith, same.1) in rw none (e same.1))
+            | inr other ↦ get_or_past (number ∷ []) (i - length l) (number_at trees d v) (omega (arith, more, other.1))
           ]
-          ∙ ap (λ k. in_tree (get_or file k []) x) (sym same.1)
+          ∙ sym (get_or_past l i (number_at trees d v) more)
     ]
-
-with_in : (file : List Tree) (depth page : ℕ) (leaf : List ℕ) (d x : ℕ) → leaf ≢ [] → d ≡ depth → x / 1024 ≡ page
-    → register_at (with_page file depth page leaf) d x ≡ get_or leaf (cell_of x) 0
-with_in file depth page [] d x some e f = absurd (some refl)
-with_in file depth page (n ∷ ns) d x some e f = inside file depth page (n ∷ ns) d x e f
-
-some_more : (n : ℕ) (ns : List ℕ) → (n ∷ ns) ≢ []
-some_more n ns e = cc
-
-with_out : (file : List Tree) (depth page : ℕ) (leaf : List ℕ) (d x : ℕ) → (leaf ≢ [] → d ≡ depth → x / 1024 ≡ page → ⊥)
-    → register_at (with_page file depth page leaf) d x ≡ register_at file d x
-with_out file depth page [] d x ne = refl
-with_out file depth page (n ∷ ns) d x ne = outside file depth page (n ∷ ns) d x (ne (some_more n ns))
-
--- what is seen of a page that is held
-pub seen_in : (file : List Tree) (w : Window) (d x : ℕ) → Holds w d x → register_at (seen file w) d x ≡ get_or w.leaf (cell_of x) 0
-seen_in file w d x h = with_in file w.depth w.page w.leaf d x h.some (sym h.depth_is) (sym h.page_is)
-
--- and of the others
-pub seen_out : (file : List Tree) (w : Window) (d x : ℕ) → (Holds w d x → ⊥) → register_at (seen file w) d x ≡ register_at file d x
-seen_out file w d x ne = with_out file w.depth w.page w.leaf d x (λ some e f. ne (record { depth_is = sym e; page_is = sym f; some = some }))
-
--- ---- what a change leaves
-
--- a window with another leaf that isn't shorter
-abbrev pub with_leaf : Window → List ℕ → Window
-with_leaf w leaf = record w { leaf = leaf }
-
-none_short : (leaf new : List ℕ) → length leaf ≤ length new → new ≡ [] → leaf ≡ []
-none_short leaf new le e = nil_from_length leaf (let zero_is : length new ≡ 0 = ap length e in omega arith)
-
-holds_with : (w : Window) (new : List ℕ) (d x : ℕ) → length w.leaf ≤ length new → Holds w d x → Holds (with_leaf w new) d x
-holds_with w new d x le h = record { depth_is = h.depth_is; page_is = h.page_is; some = λ e. h.some (none_short w.leaf new le e) }
-
--- the registers behind a window's page change in one place: seen through the window it changes in the same way, or not at all
-pub seen_change : (file new : List Tree) (w : Window) (d x : ℕ) → register_at new d x ≡ register_at file d x
-    → register_at (seen new w) d x ≡ register_at (seen file w) d x
-seen_change file new w d x e = with_change w.leaf
-  where
-    with_change : (leaf : List ℕ) → register_at (with_page new w.depth w.page leaf) d x ≡ register_at (with_page file w.depth w.page leaf) d x
-    with_change [] = e
-    with_change (n ∷ ns) =
-        elim (eqb_tells d w.depth) as (λ _. register_at (put_leaf new w.depth w.page (n ∷ ns)) d x ≡ register_at (put_leaf file w.depth w.page (n ∷ ns)) d x) [
-          | inr other ↦
-              outside new w.depth w.page (n ∷ ns) d x (λ f g. other.1 f) ∙ e ∙ sym (outside file w.depth w.page (n ∷ ns) d x (λ f g. other.1 f))
-          | inl same ↦
-              elim (eqb_tells (x / 1024) w.page) as (λ _. register_at (put_leaf new w.depth w.page (n ∷ ns)) d x ≡ register_at (put_leaf file w.depth w.page (n ∷ ns)) d x) [
-                | inr apart ↦
-                    outside new w.depth w.page (n ∷ ns) d x (λ f g. apart.1 g) ∙ e ∙ sym (outside file w.depth w.page (n ∷ ns) d x (λ f g. apart.1 g))
-                | inl also ↦
-                    inside new w.depth w.page (n ∷ ns) d x same.1 also.1 ∙ sym (inside file w.depth w.page (n ∷ ns) d x same.1 also.1)
-              ]
-        ]
-
--- a leaf that is held changes at one place
-pub leaf_change : (file : List Tree) (w : Window) (new : List ℕ) (d x : ℕ) → w.leaf ≢ [] → length w.leaf ≤ length new
-    → get_or new (cell_of x) 0 ≡ get_or w.leaf (cell_of x) 0 → register_at (seen file (with_leaf w new)) d x ≡ register_at (seen file w) d x
-leaf_change file w new d x some le e =
-    elim (eqb_tells d w.depth) as (λ _. register_at (seen file (with_leaf w new)) d x ≡ register_at (seen file w) d x) [
-      | inr other ↦ seen_out file (with_leaf w new) d x (λ h. other.1 (sym h.depth_is)) ∙ sym (seen_out file w d x (λ h. other.1 (sym h.depth_is)))
-      | inl same ↦
-          elim (eqb_tells (x / 1024) w.page) as (λ _. register_at (seen file (with_leaf w new)) d x ≡ register_at (seen file w) d x) [
-            | inr apart ↦ seen_out file (with_leaf w new) d x (λ h. apart.1 (sym h.page_is)) ∙ sym (seen_out file w d x (λ h. apart.1 (sym h.page_is)))
-            | inl also ↦
-                let h : Holds w d x = record { depth_is = sym same.1; page_is = sym also.1; some = some } in
-                seen_in file (with_leaf w new) d x (holds_with w new d x le h) ∙ e ∙ sym (seen_in file w d x h)
-          ]
-    ]
-
--- a variable written to a leaf that holds it
-pub held_write : (file : List Tree) (w : Window) (new : List ℕ) (depth x number : ℕ) → Holds w depth x → length w.leaf ≤ length new
-    → get_or new (cell_of x) 0 ≡ number → ((k : ℕ) → k ≢ cell_of x → get_or new k 0 ≡ get_or w.leaf k 0)
-    → (d v : ℕ) → register_at (seen file (with_leaf w new)) d v ≡ written (λ d v. register_at (seen file w) d v) depth x number d v
-held_write file w new depth x number h le here beside d v =
-    by_tests (nat_eq d depth) (nat_eq v x) (register_at (seen file (with_leaf w new)) d v) number (register_at (seen file w) d v)
-    (λ e f. at_it (eqb-true d depth e) (eqb-true v x f))
-    (λ e. apart (eqb-false d depth e))
-    (λ e f. near (eqb-true d depth e) (eqb-false v x f))
-  where
-    at_it : d ≡ depth → v ≡ x → register_at (seen file (with_leaf w new)) d v ≡ number
-    at_it e f =
-        subst (λ k. register_at (seen file (with_leaf w new)) k v ≡ number) (sym e)
-        (subst (λ k. register_at (seen file (with_leaf w new)) depth k ≡ number) (sym f)
-        (seen_in file (with_leaf w new) depth x (holds_with w new depth x le h) ∙ here))
-
-    apart : d ≢ depth → register_at (seen file (with_leaf w new)) d v ≡ register_at (seen file w) d v
-    apart ne =
-        seen_out file (with_leaf w new) d v (λ g. ne (sym g.depth_is ∙ h.depth_is)) ∙ sym (seen_out file w d v (λ g. ne (sym g.depth_is ∙ h.depth_is)))
-
-    cells : v ≢ x → v / 1024 ≡ w.page → cell_of v ≡ cell_of x → ⊥
-    cells ne same e = let page = h.page_is in ne (omega arith)
-
-    near : d ≡ depth → v ≢ x → register_at (seen file (with_leaf w new)) d v ≡ register_at (seen file w) d v
-    near e ne = elim (eqb_tells (v / 1024) w.page) as (λ _. register_at (seen file (with_leaf w new)) d v ≡ register_at (seen file w) d v) [
-      | inr other ↦ seen_out file (with_leaf w new) d v (λ g. other.1 (sym g.page_is)) ∙ sym (seen_out file w d v (λ g. other.1 (sym g.page_is)))
-      | inl same ↦ leaf_change file w new d v h.some le (beside (cell_of v) (λ f. cells ne same.1 f))
-    ]
-
--- a variable written behind a window that doesn't hold it
-pub far_write : (file new : List Tree) (w : Window) (depth x number : ℕ) → (Holds w depth x → ⊥)
-    → ((d v : ℕ) → register_at new d v ≡ written (λ d v. register_at file d v) depth x number d v)
-    → (d v : ℕ) → register_at (seen new w) d v ≡ written (λ d v. register_at (seen file w) d v) depth x number d v
-far_write file new w depth x number out e d v =
-    by_tests (nat_eq d depth) (nat_eq v x) (register_at (seen new w) d v) number (register_at (seen file w) d v)
-    (λ f g. at_it (eqb-true d depth f) (eqb-true v x g))
-    (λ f. seen_change file new w d v (e d v ∙ written_apart (λ d v. register_at file d v) depth x number d v (eqb-false d depth f)))
-    (λ f g. seen_change file new w d v (e d v ∙ written_beside (λ d v. register_at file d v) depth x number d v (eqb-false v x g)))
-  where
-    at_it : d ≡ depth → v ≡ x → register_at (seen new w) d v ≡ number
-    at_it f g =
-        subst (λ k. register_at (seen new w) k v ≡ number) (sym f)
-        (subst (λ k. register_at (seen new w) depth k ≡ number) (sym g)
-        (seen_out new w depth x out ∙ e depth x ∙ written_here (λ d v. register_at file d v) depth x number x refl))
-
--- ---- the same behind calls that may want memory
-
-pub on_ok : {X E : Type 0} (r : Result X E) (P Q : Type 0) → (P → Q) → OnOk r P → OnOk r Q
-on_ok (Ok y) P Q f h = f h
-on_ok (Err e) P Q f h = tt
-
-put_len : (leaf : List ℕ) (place number : ℕ) → length leaf ≤ length (put 0 leaf place number)
-put_len leaf place number = simp (length-set, length-append, length-replicate) (omega arith)
-
-pub held_put : (file : List Tree) (w : Window) (new : List ℕ) (depth x number : ℕ) → Holds w depth x → new ≡ put 0 w.leaf (cell_of x) number
-    → (d v : ℕ) → register_at (seen file (with_leaf w new)) d v ≡ written (λ d v. register_at (seen file w) d v) depth x number d v
-held_put file w new depth x number h e =
-    held_write file w new depth x number h (subst (λ l. length w.leaf ≤ length l) (sym e) (put_len w.leaf (cell_of x) number))
-    (ap (λ l. get_or l (cell_of x) 0) e ∙ got_put 0 w.leaf (cell_of x) (cell_of x) number refl)
-    (λ k ne. ap (λ l. get_or l k 0) e ∙ got_other 0 w.leaf (cell_of x) k number ne)
-
-pub held_set : (file : List Tree) (w new : Window) (depth x number : ℕ) → Sets w new depth x number
-    → (d v : ℕ) → register_at (seen file new) d v ≡ written (λ d v. register_at (seen file w) d v) depth x number d v
-held_set file w new depth x number s =
-    subst (λ n. (d v : ℕ) → register_at (seen file n) d v ≡ written (λ d v. register_at (seen file w) d v) depth x number d v) (sym s.new_is)
-    (held_write file w (set w.leaf (cell_of x) number) depth x number s.holds (simp length-set (omega arith))
-    (get_or-set_same w.leaf (cell_of x) number 0 s.room) (λ k ne. get_or-set_other w.leaf (cell_of x) k number 0 ne))
-
--- ---- a window is shut and opened
-
-pub same_seen : (file new : List Tree) (w : Window) (leaf : List ℕ) → AreSame file new → leaf ≡ w.leaf → AreEqual (seen file w) (seen new (with_leaf w leaf))
-same_seen file new w leaf same e = λ d x.
-    subst (λ l. register_at (seen new (with_leaf w l)) d x ≡ register_at (seen file w) d x) (sym e)
-    (seen_change file new w d x (same d (branch_of x) (leaf_of x) (cell_of x)))
-
-module _ (file : List Tree) (depth page d x : ℕ) where
-  in_page : d ≡ depth → x / 1024 ≡ page → register_at file d x ≡ get_or (leaf_at file depth page) (cell_of x) 0
-  in_page e f =
-      ap (λ k. in_tree (get_or file k []) x) e
-      ∙ ap (λ b. get_or (get_or (get_or (get_or file depth []) b []) (leaf_of x) []) (cell_of x) 0) (branch_is x page f)
-      ∙ ap (λ p. get_or (get_or (get_or (get_or file depth []) (page / 1024) []) (p % 1024) []) (cell_of x) 0) f
-
-  again_in : (after : List ℕ) → d ≡ depth → x / 1024 ≡ page
-      → register_at (with_page (put_leaf file depth page []) depth page after) d x ≡ get_or after (cell_of x) 0
-  again_in [] e f = inside file depth page [] d x e f
-  again_in (n ∷ ns) e f = inside (put_leaf file depth page []) depth page (n ∷ ns) d x e f
-
-  again_out : (after : List ℕ) → (d ≡ depth → x / 1024 ≡ page → ⊥)
-      → register_at (with_page (put_leaf file depth page []) depth page after) d x ≡ register_at file d x
-  again_out [] ne = outside file depth page [] d x ne
-  again_out (n ∷ ns) ne = outside (put_leaf file depth page []) depth page (n ∷ ns) d x ne ∙ outside file depth page [] d x ne
-
-  again : (after : List ℕ) → IsSameLeaf (leaf_at file depth page) after
-      → register_at (with_page (put_leaf file depth page []) depth page after) d x ≡ register_at file d x
-  again after same =
-      elim (eqb_tells d depth) as (λ _. register_at (with_page (put_leaf file depth page []) depth page after) d x ≡ register_at file d x) [
-        | inr other ↦ again_out after (λ e f. other.1 e)
-        | inl here ↦
-            elim (eqb_tells (x / 1024) page) as (λ _. register_at (with_page (put_leaf file depth page []) depth page after) d x ≡ register_at file d x) [
-              | inr apart ↦ again_out after (λ e f. apart.1 f)
-              | inl also ↦ again_in after here.1 also.1 ∙ same (cell_of x) ∙ sym (in_page here.1 also.1)
-            ]
-      ]
-
-pub taken : (file new : List Tree) (depth page : ℕ) (first after : List ℕ) → first ≡ [] → new ≡ put_leaf file depth page first
-    → IsSameLeaf (leaf_at file depth page) after → (d x : ℕ) → register_at (with_page new depth page after) d x ≡ register_at file d x
-taken file new depth page first after none is same d x =
-    ap (λ f. register_at (with_page f depth page after) d x) (is ∙ ap (λ l. put_leaf file depth page l) none) ∙ again file depth page d x after same
-
-pub reached_same : {X E : Type 0} (r : Result X E) (old new : List ℕ) (n : ℕ) → OnOk r (new ≡ old ++ replicate n 0) → OnErr r (IsSameLeaf old new) → IsSameLeaf old new
-reached_same (Ok y) old new n e h = λ k. ap (λ l. get_or l k 0) e ∙ with_blanks 0 old n k
-reached_same (Err y) old new n e h = h

@@ -2,9 +2,11 @@ pub mod Asking
 pub mod Barring
 pub mod Firsts
 pub mod Free
+pub mod Guarded
 pub mod Judging
 pub mod Marks
 pub mod Meeting
 pub mod Named
+pub mod Sets
 pub mod Tests
 pub mod Typings

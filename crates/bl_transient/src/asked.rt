@@ -54,7 +54,7 @@ pub fn names_under(
 }
 
 /// The numbers of variables.
-pub(crate) fn numbers_of(alloc: Global, names: &Names, vars: &[u32]) -> Result<Vec<u32>, NoMemory>
+pub fn numbers_of(alloc: Global, names: &Names, vars: &[u32]) -> Result<Vec<u32>, NoMemory>
     requires rise { AllPairs (λ x y. x < y) names.now }
     requires has { All (λ x. Contains names.now x) vars.now }
     ensures { IfOk result (λ numbers. numbers.items ≡ map (place_of names.now) vars.now) }
@@ -67,7 +67,7 @@ pub(crate) fn numbers_of(alloc: Global, names: &Names, vars: &[u32]) -> Result<V
 }
 
 /// For each of so many numbers whether it is one of these.
-pub(crate) fn marked(alloc: Global, count: u32, numbers: &[u32]) -> Result<Vec<bool>, NoMemory>
+pub fn marked(alloc: Global, count: u32, numbers: &[u32]) -> Result<Vec<bool>, NoMemory>
     requires { All (λ i. i < count) numbers.now }
     ensures places { IfOk result (λ marks. length marks.items ≡ count) }
     ensures exact { IfOk result (λ marks. (i : ℕ) → IsTrue (is_in marks.items i) ↔ Contains numbers.now i) }

@@ -6,9 +6,11 @@ mod asked;
 mod bad;
 pub mod laws;
 mod moves;
+mod protects;
 mod search;
 mod transient;
 
-pub use asked::{AskedOf, names_under};
+pub use asked::{AskedOf, marked, names_under, numbers_of};
 pub use bad::first_bad_of;
+pub use protects::{is_protected, own_protects};
 pub use transient::{FlowVerdict, first_leak_of, flows, flows_of};

@@ -11,7 +11,6 @@ mod verdict;
 mod write;
 
 pub use error::CertError;
-pub use protects::is_protected;
 pub use read::from_json;
 pub use verdict::{CertVerdict, check_certificate, check_certificate_of};
 pub use write::to_json;

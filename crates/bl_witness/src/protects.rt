@@ -3,7 +3,8 @@ ghost use Rattle.std.specs.Prelude.{◌≡◌, ◌<◌, ◌^◌, if◌then◌els
 ghost use Rattle.bl_cmd.specs.Sites.{is_protected, site_weight, weight_of};
 
 use bl_base::Pos;
-use bl_cmd::{ProgramParts, WellFormed, mark_at, site_weight};
+use bl_cmd::{WellFormed, site_weight};
+use bl_transient::is_protected;
 
 /// The sum of the weights of the program's protected sites.
 pub(crate) fn protect_weight(program: &WellFormed) -> u64
@@ -26,15 +27,5 @@ fn weight_within(program: &WellFormed, at: usize) -> u64
         site_weight(program, Pos(at as u32))
     } else {
         0
-    }
-}
-
-/// Whether a protect stands at a position. Takes no memory.
-pub fn is_protected(parts: &ProgramParts, at: usize) -> bool
-    ensures { result ≡ is_protected parts.now at }
-{
-    match mark_at(parts, at) {
-        Some(mark) => mark.protect,
-        None => false,
     }
 }

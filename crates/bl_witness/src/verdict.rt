@@ -7,10 +7,11 @@ ghost use Rattle.bl_witness.specs.Verdicts.{Checks, Means};
 
 use crate::chains::is_chain;
 use crate::loads::overloaded;
-use crate::protects::{is_protected, protect_weight};
+use crate::protects::protect_weight;
 use bl_base::{NoMemory, Pos};
 use bl_cmd::{ProgramParts, WellFormed};
 use bl_graph::{Certificate, FlowPath, Graph, flow_sum, flows_through, graph, ranges};
+use bl_transient::is_protected;
 use std::alloc::Global;
 
 /// Whether a certificate keeps its rules.

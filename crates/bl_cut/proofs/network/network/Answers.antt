@@ -1,14 +1,14 @@
 use Rattle.std.proofs.Common.{◌+◌, ◌++◌, ◌<◌, ◌^◌, ◌∙◌, ℕ, ap, arith, sym, subst, length, map}
 use Rattle.std.specs.List.{All, Contains}
-use Rattle.bl_base.specs.declared.number.Pos.{Pos}
+use Rattle.std.specs.Prelude.{◌↔◌}
 use Rattle.bl_cmd.specs.Sites.{IsSite}
 use Rattle.bl_cmd.specs.declared.definitions.ProgramParts.{ProgramParts}
 use Rattle.bl_graph.specs.Graphs.{use_of}
 use Rattle.bl_graph.specs.Names.{place_of}
 use Rattle.bl_graph.specs.Ranges.{commands}
 use Rattle.bl_graph.proofs.Naming.{few_names}
-use Rattle.bl_cut.specs.Network.{write_arc, read_arc, sink_node, var_node}
-use Rattle.bl_cut.proofs.Networks.{made_network, write_nodes, read_nodes, sink_numbers, var_nodes, write_sites, write_places, each_writes}
+use Rattle.bl_cut.specs.Network.{Begins, write_arc, read_arc, sink_node, var_node}
+use Rattle.bl_cut.proofs.Networks.{made_network, write_nodes, read_names, read_nodes, sink_numbers, var_nodes, write_sites, write_places, each_writes}
 use Rattle.bl_cut.proofs.network.network.Goals as goal
 
 pub len-requires : goal.len-requires
@@ -60,7 +60,7 @@ start_nodes-requires-clause-has c =
 pub end_nodes-requires-clause-has : goal.end_nodes-requires-clause-has
 end_nodes-requires-clause-has c =
     let count = c.len-commands.ensures ∙ ap (λ (p : ProgramParts). commands p) (c.parts.ensures.same ∙ c.program.ensures.same) in
-    subst (λ l. All (λ w. Contains c.args.names.now w.var.0 × (c.len-commands.result + place_of c.args.names.now w.var.0 < 2 ^ 32)) l) (sym c.as_slice-5.ensures)
+    subst (λ l. All (λ w. Contains c.args.names.now w.var.0 × (c.len-commands.result + place_of c.args.names.now w.var.0 < 2 ^ 32)) l) (sym c.as_slice-4.ensures)
     (sink_numbers c.args.program.now c.args.graph.now c.requires.graph c.args.names.now c.requires.names c.ranges-2.ensures c.len-commands.result count)
 
 pub end_nodes-requires-clause-more : goal.end_nodes-requires-clause-more
@@ -80,5 +80,11 @@ returns c =
     (λ v. ap (λ l. Rattle.bl_cut.specs.Network.noted l v) c.of.ensures ∙ c.in_ok-weights.ensures.weights v)
     (c.of-2.ensures ∙ (c.in_ok-push_reads.ensures ∙ (ap (λ l. l ++ map (read_arc c.args.names.now n) c.as_slice-2.result.now) (c.in_ok-push_writes.ensures ∙ ap (λ l. l ++ map (write_arc c.args.names.now n) c.as_slice.result.now) c.in_ok-arcs.ensures.items)
     ∙ (ap (λ l. map (write_arc c.args.names.now n) c.as_slice.result.now ++ l) reads ∙ ap (λ l. l ++ map (read_arc c.args.names.now n) c.args.graph.now.reads) writes))))
-    (c.of-3.ensures ∙ (c.in_ok-starts.ensures ∙ ap (λ l. map (λ (load : Pos). load.0) l ++ map (var_node c.args.names.now n) c.args.hot.now) c.as_slice-4.ensures))
-    (c.of-4.ensures ∙ (c.in_ok-ends.ensures ∙ ap (λ l. map (sink_node c.args.names.now n) l ++ map (var_node c.args.names.now n) c.args.firm.now) c.as_slice-5.ensures))
+    (subst (λ l. (s : ℕ) → Contains l s ↔ Begins c.args.names.now n c.args.graph.now c.args.hot.now s) (sym c.of-3.ensures) c.in_ok-starts.ensures)
+    (c.of-4.ensures ∙ (c.in_ok-ends.ensures ∙ ap (λ l. map (sink_node c.args.names.now n) l ++ map (var_node c.args.names.now n) c.args.firm.now) c.as_slice-4.ensures))
+
+pub start_nodes-requires-clause-reads : goal.start_nodes-requires-clause-reads
+start_nodes-requires-clause-reads c = read_names c.args.program.now c.args.graph.now c.requires.graph c.args.names.now c.requires.names
+
+pub start_nodes-requires-clause-few : goal.start_nodes-requires-clause-few
+start_nodes-requires-clause-few c = let few = few_names c.args.program.now c.args.names.now c.ranges-2.ensures c.requires.names in omega arith

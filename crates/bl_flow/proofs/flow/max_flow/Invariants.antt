@@ -2,4 +2,4 @@ use Rattle.bl_flow.proofs.Rebuilt.{network_of}
 use Rattle.bl_flow.proofs.flow.max_flow.Given as goal
 
 abbrev pub ghost-flow_through : goal.ghost-flow_through
-ghost-flow_through a = network_of a.layout.nodes a.layout.links a.layout.capacities.items
+ghost-flow_through a = network_of a.layout.nodes a.layout.links a.layout.capacities

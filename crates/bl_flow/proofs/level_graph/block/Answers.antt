@@ -1,13 +1,13 @@
 use Rattle.std.proofs.Common.{arith, ◌≡◌, ◌<◌, ◌≤◌, ◌+◌, ◌-◌, ◌*◌, ◌/◌, ℕ, length, take, sym, ap, subst, ◌∙◌, refl}
 use Rattle.bl_flow.specs.Networks.{size, total_weight}
 use Rattle.bl_flow.specs.Rows.{reversed}
-use Rattle.bl_flow.specs.Levels.{AreLevelsToEnd, IsShortest}
+use Rattle.bl_flow.specs.Levels.{AreLevelsToEnd}
 use Rattle.bl_flow.proofs.LinksWithin.{from_within, to_within}
 use Rattle.bl_flow.proofs.Filling.{at_most_total, halves_fit, capacities_of}
 use Rattle.bl_flow.proofs.Wiring.{rows_both, all_to}
 use Rattle.bl_flow.proofs.Phases.{Phase, IsBlocked, phase_begins, phase_more, phase_ends}
 use Rattle.bl_flow.proofs.level_graph.block.Goals as goal
-use Rattle.bl_flow.proofs.level_graph.block.Goals.{In_default, After-slice_known-in-loop-count-3-1}
+use Rattle.bl_flow.proofs.level_graph.block.Goals.{In_default, After-push}
 
 pub loop-count-init : goal.loop-count-init
 loop-count-init g c =
@@ -64,7 +64,7 @@ pub push-requires-clause-halves : goal.push-requires-clause-halves
 push-requires-clause-halves g c =
     halves_fit g.n c.loop-count.capacities c.loop-count.total c.loop-count.invariant.phase.flow c.requires.1.1.1.0
 
-after : (g : _) (c : After-slice_known-in-loop-count-3-1 g) → Phase g.n c.args.links.now (reversed (length c.args.links.now / 2) c.args.rows.now) c.args.levels.now (2 * c.args.nodes) (2 * c.args.nodes + 1) (length c.args.rows.now) c.args.amount c.args.capacities.now c.push.new.capacities (c.loop-count.total + c.least_capacity-capacity.result) c.next_augmenting_path.new.passed
+after : (g : _) (c : After-push g) → Phase g.n c.args.links.now (reversed (length c.args.links.now / 2) c.args.rows.now) c.args.levels.now (2 * c.args.nodes) (2 * c.args.nodes + 1) (length c.args.rows.now) c.args.amount c.args.capacities.now c.push.new.capacities (c.loop-count.total + c.least_capacity-capacity.result) c.next_augmenting_path.new.passed
 after g c =
     let short = c.in-Some.ensures.trail in
     phase_more g.n c.args.links.now (reversed (length c.args.links.now / 2) c.args.rows.now) c.args.levels.now (length c.args.rows.now) c.args.amount c.args.capacities.now c.args.nodes c.loop-count.capacities c.push.new.capacities c.loop-count.total c.least_capacity-capacity.result c.loop-count.passed c.next_augmenting_path.new.passed (take c.in-Some.count c.next_augmenting_path.new.trail) (take c.in-Some.count c.next_augmenting_path.new.trail)

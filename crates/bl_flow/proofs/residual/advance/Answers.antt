@@ -1,44 +1,36 @@
-use Rattle.std.proofs.Common.{arith, length, drop, sym, subst, ◌∙◌}
+use Rattle.std.proofs.Common.{sym, subst}
 use Rattle.bl_flow.specs.Packed.{IsPacked}
-use Rattle.bl_flow.proofs.Wiring.{given_back}
 use Rattle.bl_flow.proofs.Advancing.{packed_lawful, advance_is}
 use Rattle.bl_flow.proofs.residual.advance.Goals as goal
 
 pub returns-then-not-reaches_an_end-clause-lawful : goal.returns-then-not-reaches_an_end-clause-lawful
-returns-then-not-reaches_an_end-clause-lawful c = (packed_lawful c.args.r c.r.inside.network c.r.inside.links c.r.inside.rows c.r.inside.capacities.items c.r.inside.amount c.r.view_is c.r.invariant).0
+returns-then-not-reaches_an_end-clause-lawful c = (packed_lawful c.args.r c.r.inside.network c.r.inside.links c.r.inside.rows c.r.inside.capacities c.r.inside.amount c.r.view_is c.r.invariant).0
 
 pub invariant_of-r-in-Err : goal.invariant_of-r-in-Err
 invariant_of-r-in-Err c =
-    let new = c.flow_on.new.capacities in let size_ = c.flow_on.auto.capacities in let lent = c.deref_mut.ensures.len in
-    subst (λ capacities. IsPacked c.r.inside.network c.r.inside.links c.r.inside.rows capacities c.r.inside.amount)
-    (sym (given_back new (drop (length new) c.r.inside.capacities.items) c.r.inside.capacities.len (omega arith) ∙ c.in-Err.ensures.unchanged ∙ c.deref_mut.ensures.value)) c.r.invariant
+    subst (λ capacities. IsPacked c.r.inside.network c.r.inside.links c.r.inside.rows capacities c.r.inside.amount) (sym c.in-Err.ensures.unchanged) c.r.invariant
 
 pub invariant_of-r : goal.invariant_of-r
 invariant_of-r c =
-    let size_ = c.flow_on.auto.capacities in let lent = c.deref_mut.ensures.len in
-    (advance_is c.args.r c.r.inside.network c.r.inside.links c.r.inside.rows c.r.inside.capacities.items c.deref_mut.result.now c.flow_on.new.capacities c.r.inside.capacities.len
-    c.r.inside.amount c.in-Ok.now c.args.levels.now c.r.view_is c.deref_mut.ensures.value (omega arith) c.r.invariant c.in-Ok.ensures.advanced c.requires).packed
+    (advance_is c.args.r c.r.inside.network c.r.inside.links c.r.inside.rows c.r.inside.capacities c.flow_on.new.capacities
+    c.r.inside.amount c.in-Ok.now c.args.levels.now c.r.view_is c.r.invariant c.in-Ok.ensures.advanced c.requires).packed
 
 pub returns-in-Ok-clause-lawful : goal.returns-in-Ok-clause-lawful
 returns-in-Ok-clause-lawful c =
-    let size_ = c.flow_on.auto.capacities in let lent = c.deref_mut.ensures.len in
-    (advance_is c.args.r c.r.inside.network c.r.inside.links c.r.inside.rows c.r.inside.capacities.items c.deref_mut.result.now c.flow_on.new.capacities c.r.inside.capacities.len
-    c.r.inside.amount c.in-Ok.now c.args.levels.now c.r.view_is c.deref_mut.ensures.value (omega arith) c.r.invariant c.in-Ok.ensures.advanced c.requires).lawful_
+    (advance_is c.args.r c.r.inside.network c.r.inside.links c.r.inside.rows c.r.inside.capacities c.flow_on.new.capacities
+    c.r.inside.amount c.in-Ok.now c.args.levels.now c.r.view_is c.r.invariant c.in-Ok.ensures.advanced c.requires).lawful_
 
 pub returns-in-Ok-clause-amount : goal.returns-in-Ok-clause-amount
 returns-in-Ok-clause-amount c =
-    let size_ = c.flow_on.auto.capacities in let lent = c.deref_mut.ensures.len in
-    (advance_is c.args.r c.r.inside.network c.r.inside.links c.r.inside.rows c.r.inside.capacities.items c.deref_mut.result.now c.flow_on.new.capacities c.r.inside.capacities.len
-    c.r.inside.amount c.in-Ok.now c.args.levels.now c.r.view_is c.deref_mut.ensures.value (omega arith) c.r.invariant c.in-Ok.ensures.advanced c.requires).amount_
+    (advance_is c.args.r c.r.inside.network c.r.inside.links c.r.inside.rows c.r.inside.capacities c.flow_on.new.capacities
+    c.r.inside.amount c.in-Ok.now c.args.levels.now c.r.view_is c.r.invariant c.in-Ok.ensures.advanced c.requires).amount_
 
 pub returns-in-Ok-clause-some : goal.returns-in-Ok-clause-some
 returns-in-Ok-clause-some c =
-    let size_ = c.flow_on.auto.capacities in let lent = c.deref_mut.ensures.len in
-    (advance_is c.args.r c.r.inside.network c.r.inside.links c.r.inside.rows c.r.inside.capacities.items c.deref_mut.result.now c.flow_on.new.capacities c.r.inside.capacities.len
-    c.r.inside.amount c.in-Ok.now c.args.levels.now c.r.view_is c.deref_mut.ensures.value (omega arith) c.r.invariant c.in-Ok.ensures.advanced c.requires).some
+    (advance_is c.args.r c.r.inside.network c.r.inside.links c.r.inside.rows c.r.inside.capacities c.flow_on.new.capacities
+    c.r.inside.amount c.in-Ok.now c.args.levels.now c.r.view_is c.r.invariant c.in-Ok.ensures.advanced c.requires).some
 
 pub returns-in-Ok-clause-risen : goal.returns-in-Ok-clause-risen
 returns-in-Ok-clause-risen c =
-    let size_ = c.flow_on.auto.capacities in let lent = c.deref_mut.ensures.len in
-    (advance_is c.args.r c.r.inside.network c.r.inside.links c.r.inside.rows c.r.inside.capacities.items c.deref_mut.result.now c.flow_on.new.capacities c.r.inside.capacities.len
-    c.r.inside.amount c.in-Ok.now c.args.levels.now c.r.view_is c.deref_mut.ensures.value (omega arith) c.r.invariant c.in-Ok.ensures.advanced c.requires).risen
+    (advance_is c.args.r c.r.inside.network c.r.inside.links c.r.inside.rows c.r.inside.capacities c.flow_on.new.capacities
+    c.r.inside.amount c.in-Ok.now c.args.levels.now c.r.view_is c.r.invariant c.in-Ok.ensures.advanced c.requires).risen

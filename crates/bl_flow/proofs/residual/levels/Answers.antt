@@ -17,12 +17,11 @@ pub returns : goal.returns
 returns c =
     let n = c.r.inside.network in
     let len : length c.as_slice.result.now ≡ size c.r.inside.network = ap length c.as_slice.ensures in
-    let are : AreLevels (both_ways (links_of c.r.inside.network)) c.r.inside.capacities.items (in_part (size c.r.inside.network)) (out_part (size c.r.inside.network)) c.in_ok-found.found.items =
-    subst (λ p. AreLevels (both_ways (links_of c.r.inside.network)) c.r.inside.capacities.items (2 * p) (2 * p + 1) c.in_ok-found.found.items) len
-    (subst (λ capacities. AreLevels (both_ways (links_of c.r.inside.network)) capacities (2 * length c.as_slice.result.now) (2 * length c.as_slice.result.now + 1) c.in_ok-found.found.items) c.deref.ensures.value
-    (subst (λ l. AreLevels l c.deref.result.now (2 * length c.as_slice.result.now) (2 * length c.as_slice.result.now + 1) c.in_ok-found.found.items) c.r.invariant.links_ (c.in_ok-found.ensures.least refl))) in
+    let are : AreLevels (both_ways (links_of c.r.inside.network)) c.r.inside.capacities (in_part (size c.r.inside.network)) (out_part (size c.r.inside.network)) c.in_ok-found.found.items =
+    subst (λ p. AreLevels (both_ways (links_of c.r.inside.network)) c.r.inside.capacities (2 * p) (2 * p + 1) c.in_ok-found.found.items) len
+    (subst (λ l. AreLevels l c.r.inside.capacities (2 * length c.as_slice.result.now) (2 * length c.as_slice.result.now + 1) c.in_ok-found.found.items) c.r.invariant.links_ (c.in_ok-found.ensures.least refl)) in
     subst (λ v. AreLevelsOf v c.in_ok-list.list) c.r.view_is
-    (levels_out c.r.inside.network c.r.invariant.in_range c.r.inside.capacities.items c.r.inside.amount c.r.invariant.flow
-    (packed_small c.r.inside.network c.r.inside.links c.r.inside.rows c.r.inside.capacities.items c.r.inside.amount c.r.invariant) c.in_ok-found.found.items c.in_ok-list.list are
+    (levels_out c.r.inside.network c.r.invariant.in_range c.r.inside.capacities c.r.inside.amount c.r.invariant.flow
+    (packed_small c.r.inside.network c.r.inside.links c.r.inside.rows c.r.inside.capacities c.r.inside.amount c.r.invariant) c.in_ok-found.found.items c.in_ok-list.list are
     (let count = c.in_ok-list.ensures.places in omega arith)
-    (λ p lt. c.in_ok-list.ensures.each p (omega arith) ∙ ap (λ l. lowered (level_at l p)) c.deref-2.ensures.value))
+    (λ p lt. c.in_ok-list.ensures.each p (omega arith) ∙ ap (λ l. lowered (level_at l p)) c.deref.ensures.value))

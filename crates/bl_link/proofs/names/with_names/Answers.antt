@@ -1,11 +1,14 @@
-use Rattle.bl_link.proofs.Naming.{value_is_new, values_more}
+use Rattle.std.proofs.Common.{◌++◌, ◌∙◌, ap, map}
+use Rattle.bl_link.specs.AllNames.{behind}
+use Rattle.bl_link.proofs.Qualified.{entries_apart, exported_all}
 use Rattle.bl_link.proofs.names.with_names.Goals as goal
 
-pub add-requires : goal.add-requires
-add-requires c =
-    value_is_new c.args.part.now c.args.spaces.now c.args.entries.now c.loop-entry.entry-index c.entry-item.result c.args.before _ _ _ c.loop-entry-test.true c.entry-item.is c.loop-entry.invariant c.requires c.as_slice.ensures c.in_ok-name.ensures
+pub own_names-requires : goal.own_names-requires
+own_names-requires c = entries_apart c.args.part.now c.args.spaces.now c.args.before c.args.entries.now c.requires
 
-pub loop-entry-preserved : goal.loop-entry-preserved
-loop-entry-preserved c =
-    values_more c.args.part.now c.args.spaces.now c.args.entries.now c.loop-entry.entry-index c.entry-item.result c.args.before _ _ _ _ c.external.result c.loop-entry-test.true c.entry-item.is c.loop-entry.invariant
-    c.as_slice.ensures c.in_ok-name.ensures (c.external.ensures c.args.part.now) c.in_ok-add.ensures.ok
+pub returns : goal.returns
+returns c =
+    c.in_ok-add.ensures.ok
+    ∙ ap (λ part. c.args.before ++ map (behind part) c.in_ok-own.own) c.in_ok-copy_of.ensures
+    ∙ ap (λ own. c.args.before ++ map (behind c.args.part.now) own) c.in_ok-own.ensures
+    ∙ ap (λ all. c.args.before ++ all) (exported_all c.args.part.now c.args.spaces.now c.args.entries.now)

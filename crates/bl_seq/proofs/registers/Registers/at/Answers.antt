@@ -1,11 +1,11 @@
-use Rattle.std.proofs.Common.{◌≡◌, ◌∙◌, ap, get_or, sym}
-use Rattle.bl_seq.specs.Filled.{cell_of, register_at}
-use Rattle.bl_seq.specs.Windows.{Holds}
-use Rattle.bl_seq.proofs.Windowed.{seen_in}
+use Rattle.std.proofs.Common.{◌∙◌, ap, sym}
+use Rattle.std.specs.Prelude.{unwrap_or}
+use Rattle.bl_seq.specs.Filled.{number_at, register_at}
+use Rattle.bl_seq.proofs.Windowed.{found_number}
 use Rattle.bl_seq.proofs.registers.Registers.at.Goals as goal
 
-pub returns-in-Some : goal.returns-in-Some
-returns-in-Some c =
-    let w = c.self.inside.window in
-    let got : Holds w c.args.depth c.args.x × (c.in-Some.number ≡ get_or w.leaf (cell_of c.args.x) 0) = c.in-Some.ensures in
-    got.1 ∙ sym (seen_in c.self.inside.pages w c.args.depth c.args.x got.0) ∙ ap (λ f. register_at f c.args.depth c.args.x) c.self.view_is
+pub returns-in-None : goal.returns-in-None
+returns-in-None c =
+    let number = number_at c.self.inside.pages c.args.depth c.args.x in
+    c.at.ensures ∙ ap (λ o. unwrap_or o number) (sym c.in-None.is ∙ c.get.ensures) ∙ found_number c.self.inside.window c.args.depth c.args.x number
+    ∙ ap (λ f. register_at f c.args.depth c.args.x) c.self.view_is

@@ -7,9 +7,9 @@ use Rattle.bl_seq.proofs.registers.Registers.write.Goals as goal
 
 pub returns-then-set-clause-ok : goal.returns-then-set-clause-ok
 returns-then-set-clause-ok c =
-    let file = c.self.inside.pages in
-    let w = c.self.inside.window in
+    let pages = c.self.inside.pages in
+    let old = c.self.inside.window in
     let new = c.set.new.self in
-    let sets : Sets w new c.args.depth c.args.x c.args.number = subst (λ b. MaySet b w new c.args.depth c.args.x c.args.number) c.if-set.true c.set.ensures in
-    subst (λ f. (d v : ℕ) → register_at (seen file new) d v ≡ written (λ d v. register_at f d v) c.args.depth c.args.x c.args.number d v)
-    c.self.view_is (held_set file w new c.args.depth c.args.x c.args.number sets)
+    let sets : Sets old new c.args.depth c.args.x c.args.number = subst (λ b. MaySet b old new c.args.depth c.args.x c.args.number) c.if-set.true c.set.ensures in
+    subst (λ f. (d v : ℕ) → register_at (seen pages new) d v ≡ written (λ d v. register_at f d v) c.args.depth c.args.x c.args.number d v)
+    c.self.view_is (λ d v. held_set pages old new c.args.depth c.args.x c.args.number d v sets)

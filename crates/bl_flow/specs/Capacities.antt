@@ -1,0 +1,31 @@
+-- What links can take, as it is kept.
+use Rattle.std.specs.Prelude.{◌≡◌, ℕ, ◌+◌, ◌-◌, ◌^◌, ◌≤◌, List, length, map, slice_index, if◌then◌else◌, nat_lt}
+use Rattle.std.specs.List.{range_with_len}
+use Rattle.bl_flow.specs.Flows.{AreReverse}
+
+-- what a link both ways can still take: its reverse what it carries, and it what is left of its bound, which is known by its place behind
+-- the links through the nodes
+abbrev pub capacity_at : List ℕ → List ℕ → ℕ → ℕ
+capacity_at through carried k =
+    (if nat_lt k (length carried) then (if nat_lt k (length through) then slice_index through k else 2 ^ 63 - slice_index carried k)
+    else slice_index carried (k - length carried))
+
+-- the same of all links
+abbrev pub both_capacities : List ℕ → List ℕ → List ℕ
+both_capacities through carried = map (capacity_at through carried) (range_with_len 0 (length carried + length carried))
+
+-- the links are at least so many, and none behind them carries more than its bound
+pub record AreCarried (nodes : ℕ) (carried : List ℕ) : Type 0 where
+  pub all : nodes ≤ length carried
+  pub fit : (k : ℕ) → nodes ≤ k → slice_index carried k ≤ 2 ^ 63
+
+-- a link can take so much less, and its reverse so much more
+pub record Moved (now after : List ℕ) (j t d : ℕ) : Type 0 where
+  pub here_ : slice_index after j + d ≡ slice_index now j
+  pub there : slice_index after t ≡ slice_index now t + d
+  pub others : (p : ℕ) → (p ≡ j → ⊥) → (p ≡ t → ⊥) → slice_index after p ≡ slice_index now p
+
+-- so much more flows over a link
+pub record IsMoved (now after : List ℕ) (link amount : ℕ) : Type 0 where
+  pub places : length after ≡ length now
+  pub moved : (half t : ℕ) → half + half ≡ length now → AreReverse half link t → Moved now after link t amount

@@ -1,0 +1,108 @@
+//! What links can take.
+ghost use Rattle.std.specs.Prelude.{◌≡◌, ◌<◌, ◌≤◌, ◌+◌, ◌^◌, ◌/◌, ℕ, None, length, slice_get, slice_index, unwrap_or, IfOk};
+ghost use Rattle.bl_flow.specs.Networks.{size};
+ghost use Rattle.bl_flow.specs.Flows.{AreReverse, HasCapacities};
+ghost use Rattle.bl_flow.specs.Capacities.{IsMoved};
+
+use crate::network::Network;
+use bl_base::NoMemory;
+use std::alloc::Global;
+use std::marker::Model;
+
+/// The capacity of a link through which any amount fits, above each sum of weights.
+const UNBOUNDED: u64 = 1 << 63;
+
+/// How much each link can still take, and then how much the reverse of each can: what the link carries. Behind the links
+/// through the nodes no link has a bound, so that the one follows from the other and takes no memory. Contracts see one
+/// list.
+#[derive(Debug, Drop)]
+pub struct Capacities {
+    /// What the links through the nodes can still take; they come first.
+    through: Vec<u64>,
+    /// What each link carries.
+    carried: Vec<u64>,
+}
+
+impl Model for Capacities {
+    ghost use Rattle.std.specs.Prelude.{List, ℕ, length};
+    ghost use Rattle.bl_flow.specs.Capacities.{AreCarried, both_capacities};
+
+    ghost Value = { List ℕ };
+
+    ghost view = { λ c. both_capacities c.through.items c.carried.items };
+
+    ghost invariant = { λ c. AreCarried (length c.through.items) c.carried.items };
+}
+
+impl Capacities {
+    /// What so many links can take before anything flows.
+    pub fn of(alloc: Global, n: &Network, links: usize) -> Result<Capacities, NoMemory>
+        requires { size n.now ≤ links }
+        ensures { IfOk result (HasCapacities n.now links) }
+    {
+        let weights = n.weights.as_slice();
+        let mut through = Vec::with_capacity(alloc, weights.len())?;
+        for v in 0..weights.len() {
+            through.push(capacity_of(weights, v))?;
+        }
+        let carried = vec![in alloc; 0u64; links]?;
+        Ok(Capacities { through, carried })
+    }
+
+    /// How much a link can still take.
+    pub fn at(&self, link: usize) -> u64
+        requires { link < length self.now }
+        ensures { result ≡ slice_index self.now link }
+    {
+        let half = self.carried.len();
+        if link >= half {
+            self.carried[link - half]
+        } else if link < self.through.len() {
+            self.through[link]
+        } else {
+            UNBOUNDED - self.carried[link]
+        }
+    }
+
+    /// Lets so much more flow over a link.
+    pub fn let_flow(&mut self, link: usize, amount: u64)
+        requires within { link < length self.old }
+        requires enough { amount ≤ slice_index self.old link }
+        requires fits { (half t : ℕ) → half + half ≡ length self.old → AreReverse half link t
+            → slice_index self.old t + amount < 2 ^ 64 }
+        ensures { IsMoved self.old self.new link amount }
+    {
+        let half = self.carried.len();
+        if link < half {
+            self.carried[link] += amount;
+            if link < self.through.len() {
+                self.through[link] -= amount;
+            }
+        } else {
+            let forth = link - half;
+            self.carried[forth] -= amount;
+            if forth < self.through.len() {
+                self.through[forth] += amount;
+            }
+        }
+    }
+
+    /// What each link carries.
+    pub fn into_carried(self) -> Vec<u64>
+        ensures places { (half : ℕ) → half + half ≡ length self → length result.items ≡ half }
+        ensures amounts { (half k : ℕ) → half + half ≡ length self → k < half
+            → slice_index result.items k ≡ slice_index self (k + half) }
+    {
+        self.carried
+    }
+}
+
+/// How much a link can take: what its node's weight allows, where it leads through a node that has one.
+fn capacity_of(weights: &[Option<u64>], link: usize) -> u64
+    ensures { result ≡ unwrap_or (unwrap_or (slice_get weights.now link) None) (2 ^ 63) }
+{
+    match weights.get(link) {
+        Some(Some(weight)) => *weight,
+        _ => UNBOUNDED,
+    }
+}

@@ -1,5 +1,0 @@
-use Rattle.std.proofs.Common.{◌≡◌, ◌++◌, [], replicate}
-use Rattle.bl_seq.proofs.registers.Pages.reach.Given as goal
-
-abbrev pub invariant-loop : goal.invariant-loop
-invariant-loop l = l.self-inside.depths.items ≡ l.initial.self-inside.depths.items ++ replicate l.counter []

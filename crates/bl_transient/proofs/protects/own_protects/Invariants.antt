@@ -1,0 +1,6 @@
+use Rattle.bl_cmd.specs.Sites.{is_protected}
+use Rattle.bl_transient.proofs.Sets.{HoldsBelow}
+use Rattle.bl_transient.proofs.protects.own_protects.Given as goal
+
+abbrev pub invariant-loop-s : goal.invariant-loop-s
+invariant-loop-s l = HoldsBelow (is_protected l.parts) l.set l.s
