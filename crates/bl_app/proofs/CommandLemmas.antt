@@ -16,7 +16,7 @@ use Rattle.bl_job.specs.declared.status.Reason.{Reason}
 use Rattle.bl_job.specs.declared.status.Reason.TheVariants as reason
 use Rattle.bl_job.specs.declared.status.Status.{Status}
 use Rattle.bl_job.specs.declared.status.Status.TheVariants as status
-use Rattle.bl_job.proofs.CountLemmas.{with_modules_lawful, with_modules_total, work_done}
+use Rattle.bl_job.proofs.ModuleCountLemmas.{with_modules_lawful, with_modules_total, work_done}
 use Rattle.bl_app.proofs.ForwardLemmas.{forward_staged_is, one_forward_plan}
 use Rattle.bl_app.proofs.GenLemmas.{gen_staged_is}
 use Rattle.bl_app.proofs.HardenLemmas.{harden_staged_is, lower_staged_is}
@@ -27,20 +27,20 @@ use Rattle.bl_app.proofs.PartLemmas.{part_staged_is}
 use Rattle.bl_app.proofs.PredictLemmas.{one_predict_plan, predict_staged_is}
 use Rattle.bl_app.proofs.RunLemmas.{one_run_plan, run_staged_is}
 use Rattle.bl_app.proofs.SpecLemmas.{spec_staged_is}
-use Rattle.bl_job.proofs.Staging.{IsStagedCommand, did, one_done, staged_lawful, staged_total}
-use Rattle.bl_app.specs.Executing.{run_staged}
-use Rattle.bl_app.specs.Forwarding.{forward_staged}
-use Rattle.bl_app.specs.Generating.{gen_staged}
-use Rattle.bl_app.specs.Hardening.{harden_staged}
-use Rattle.bl_app.specs.Interpreting.{interp_staged}
-use Rattle.bl_app.specs.Joining.{join_staged}
-use Rattle.bl_app.specs.Lowering.{lower_staged}
-use Rattle.bl_app.specs.Parting.{part_staged}
-use Rattle.bl_app.specs.Predicting.{predict_staged}
-use Rattle.bl_app.specs.Speculating.{spec_staged}
-use Rattle.bl_job.specs.Staged.{Did, Staged, WasDone}
-use Rattle.bl_app.specs.Twinning.{twin_staged}
-use Rattle.bl_app.specs.Verifying.{verify_staged}
+use Rattle.bl_job.proofs.StagedJobLemmas.{IsStagedCommand, did, one_done, staged_lawful, staged_total}
+use Rattle.bl_app.specs.RunJob.{run_staged}
+use Rattle.bl_app.specs.ForwardJob.{forward_staged}
+use Rattle.bl_app.specs.GenJob.{gen_staged}
+use Rattle.bl_app.specs.HardenJob.{harden_staged}
+use Rattle.bl_app.specs.InterpJob.{interp_staged}
+use Rattle.bl_app.specs.JoinJob.{join_staged}
+use Rattle.bl_app.specs.LowerJob.{lower_staged}
+use Rattle.bl_app.specs.PartJob.{part_staged}
+use Rattle.bl_app.specs.PredictJob.{predict_staged}
+use Rattle.bl_app.specs.SpecJob.{spec_staged}
+use Rattle.bl_job.specs.StagedJobs.{Did, Staged, WasDone}
+use Rattle.bl_app.specs.TwinJob.{twin_staged}
+use Rattle.bl_app.specs.VerifyJob.{verify_staged}
 use Rattle.bl_app.proofs.TwinLemmas.{one_twin_plan, twin_staged_is}
 use Rattle.bl_app.proofs.VerifyLemmas.{verify_staged_is}
 

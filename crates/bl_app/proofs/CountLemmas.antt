@@ -12,12 +12,12 @@ use Rattle.bl_transient.specs.Transient.{Passes}
 use Rattle.bl_cut.specs.Least.{Least}
 use Rattle.bl_lower.specs.Trees.{low_tree}
 use Rattle.bl_lower.proofs.WellFormed.{rules}
-use Rattle.bl_counts.specs.Counting.{IsFewer, bare, counts_of, executed, weighed as weighed_with}
-use Rattle.bl_counts.proofs.Fewest.{least_is_fewest, least_passes}
-use Rattle.bl_build.specs.Building.{command_count}
-use Rattle.bl_build.specs.Hardening.{Hardened, IsHardened}
-use Rattle.bl_build.specs.Weighing.{IsWeighed, IsWeighedBy}
-use Rattle.bl_build.proofs.WeighingLemmas.{weighed_rules}
+use Rattle.bl_counts.specs.RunCounts.{IsFewer, bare, counts_of, executed, weighed as weighed_with}
+use Rattle.bl_counts.proofs.FewestExecuted.{least_is_fewest, least_passes}
+use Rattle.bl_build.specs.BuildStages.{command_count}
+use Rattle.bl_build.specs.HardenStage.{Hardened, IsHardened}
+use Rattle.bl_build.specs.WeightStages.{IsWeighed, IsWeighedBy}
+use Rattle.bl_build.proofs.WeightLemmas.{weighed_rules}
 
 pub weighed_by_rules : (counts : Option (List ℕ)) (tree : Tree) (program : Program) → IsLinked tree → command_count tree ≤ limit_of quantity.Commands
     → IsWeighedBy counts (low_tree tree) program → IsWellFormed program

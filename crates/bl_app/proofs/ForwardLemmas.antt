@@ -1,25 +1,25 @@
 -- The command `forward` keeps the laws and answers all contents that are there.
 use Rattle.std.proofs.Common.{◌≡◌, ◌↔◌, ◌++◌, ℕ, Bool, true, false, List, get_or, refl, ap, sym, ◌∙◌, arith, inl, inr, IsTrue}
 use Rattle.std.proofs.lemmas.Bool.{false≢true}
-use Rattle.bl_forward.proofs.Forwarded.{forwards_equal}
-use Rattle.bl_forward.specs.Forwarding.{forward_step}
-use Rattle.bl_forward.specs.Laws.{seen_decided}
-use Rattle.bl_forward.specs.Sights.{are_same, seen_text}
+use Rattle.bl_forward.proofs.ForwardPairs.{forwards_equal}
+use Rattle.bl_forward.specs.ForwardMachines.{forward_step}
+use Rattle.bl_forward.specs.SameSights.{seen_decided}
+use Rattle.bl_forward.specs.SightTexts.{are_same, seen_text}
 use Rattle.bl_forward.specs.Verdicts.{AssessesForward}
 use Rattle.bl_forward.specs.declared.verdict.ForwardVerdict.{ForwardVerdict}
 use Rattle.bl_forward.specs.declared.verdict.ForwardVerdict.TheVariants.{Safe, NotConstantTime, NotStable}
-use Rattle.bl_twin.specs.Comparing.{agreement_text, comparison_text, twin_text_by}
+use Rattle.bl_twin.specs.TwinComparisons.{agreement_text, comparison_text, twin_text_by}
 use Rattle.bl_twin.proofs.Comparisons.{never_by, told_by}
 use Rattle.bl_twin.specs.declared.comparison.Comparison.TheVariants as compared
 use Rattle.bl_words.specs.Requests.{TwinRequest}
-use Rattle.bl_build.specs.Tracing.{Twinned, entry_of}
+use Rattle.bl_build.specs.TraceStages.{Twinned, entry_of}
 use Rattle.bl_build.proofs.Classical.{either}
 use Rattle.bl_job.specs.Jobs.{Plan, saying}
 use Rattle.bl_job.specs.Status.{kind_of}
 use Rattle.bl_job.specs.declared.status.Status.TheVariants.{No}
-use Rattle.bl_job.proofs.Staging.{IsStagedCommand}
-use Rattle.bl_app.specs.Forwarding.{BeginsWith, ForwardPlans, IsSafe, forward_comparison, forward_staged, forwarded_of, other_forwarded, safe_text}
-use Rattle.bl_app.specs.Twinning.{StartsAgree, twin_status}
+use Rattle.bl_job.proofs.StagedJobLemmas.{IsStagedCommand}
+use Rattle.bl_app.specs.ForwardJob.{BeginsWith, ForwardPlans, IsSafe, forward_comparison, forward_staged, forwarded_of, other_forwarded, safe_text}
+use Rattle.bl_app.specs.TwinJob.{StartsAgree, twin_status}
 use Rattle.bl_app.proofs.TwinLemmas.{IsOfImage, deed_of_twin, no_differs, of_image, one_bool, twinning_lawful, twinning_total}
 
 -- ---- one plan

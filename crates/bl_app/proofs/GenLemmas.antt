@@ -3,20 +3,20 @@ use Rattle.std.proofs.Common.{[], ◌∷◌, ap, sym, ◌∙◌, codes, refl, ar
 use Rattle.std.proofs.lemmas.List.Elements.{All-cons, All-nil}
 use Rattle.std.proofs.lemmas.Option.{slice_get_within}
 use Rattle.bl_gen.proofs.Lengths.{made_short}
-use Rattle.bl_gen.proofs.OfBytes.{of_bytes}
+use Rattle.bl_gen.proofs.ByteRanges.{of_bytes}
 use Rattle.bl_text.proofs.ModuleNames.{no_solidus}
 use Rattle.bl_words.specs.Requests.{GenRequest, IsGenInRange}
-use Rattle.bl_build.specs.Building.{AreCompilable}
-use Rattle.bl_build.specs.Loading.{IsLoadable}
+use Rattle.bl_build.specs.BuildStages.{AreCompilable}
+use Rattle.bl_build.specs.LoadStages.{IsLoadable}
 use Rattle.bl_build.proofs.BuildLemmas.{compiling_lawful, compiling_total}
 use Rattle.bl_build.proofs.FewestLemmas.{are_fewest}
-use Rattle.bl_build.proofs.HardeningExists.{some_hardened}
-use Rattle.bl_build.proofs.JudgedPrograms.{is_judged}
+use Rattle.bl_build.proofs.HardenExists.{some_hardened}
+use Rattle.bl_build.proofs.ProgramVerdicts.{is_judged}
 use Rattle.bl_build.proofs.ModuleFiles.{HasBytes, IsShort}
-use Rattle.bl_app.specs.Generating.{gen_staged, made_part}
+use Rattle.bl_app.specs.GenJob.{gen_staged, made_part}
 use Rattle.bl_job.specs.Status.{kind_of}
 use Rattle.bl_app.proofs.HardenLemmas.{own_of, wells_of}
-use Rattle.bl_job.proofs.Staging.{IsStagedCommand}
+use Rattle.bl_job.proofs.StagedJobLemmas.{IsStagedCommand}
 
 made_compilable : (request : GenRequest) → IsGenInRange request → AreCompilable (made_part request ∷ [])
 made_compilable request sized = record {

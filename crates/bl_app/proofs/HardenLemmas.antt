@@ -1,5 +1,5 @@
 -- The commands `harden` and `lower` keep the laws; what is said of `harden`.
-use Rattle.std.proofs.Common.{◌≡◌, ℕ, List, [], ◌∷◌, ◌++◌, append-nil, Option, Some, None, Result, Ok, Err, refl, ap, sym, ◌∙◌, subst, map, arith, inl, length, slice_get, take, ◌≤◌}
+use Rattle.std.proofs.Common.{◌≡◌, ℕ, List, [], ◌∷◌, ◌++◌, append-nil, Option, Some, None, refl, ap, sym, ◌∙◌, subst, map, arith, inl, length, slice_get, take, ◌≤◌}
 use Rattle.std.proofs.lemmas.List.{length-append}
 use Rattle.std.proofs.lemmas.List.Elements.{All-take}
 use Rattle.bl_base.specs.Fits.{AreBytes}
@@ -9,34 +9,29 @@ use Rattle.bl_base.specs.declared.quantity.Quantity.TheVariants as quantity
 use Rattle.bl_cmd.specs.Rules.{IsWellFormed}
 use Rattle.bl_image.specs.Image.{Image}
 use Rattle.bl_lower.proofs.WellFormed.{rules}
-use Rattle.bl_build.specs.Building.{AreCompilable, AreCompiled, Built, compiling}
-use Rattle.bl_build.specs.Hardening.{hardening}
-use Rattle.bl_build.specs.Weighing.{compiling_by, counted_sources, hardening_by}
-use Rattle.bl_build.specs.Working.{hardened_in}
-use Rattle.bl_build.specs.declared.harden.Hardened.{Hardened as HardenedMade}
-use Rattle.bl_job.specs.Working.{IsStaged}
-use Rattle.bl_job.specs.declared.refusal.WorkError.{WorkError}
-use Rattle.bl_build.specs.Loading.{AreShort, Part, parts_of}
-use Rattle.bl_app.specs.Compiling.{AreTexts, compiling_staged, module_read}
-use Rattle.bl_app.specs.Hardening.{HardenMeans, HardenPlans, Hardens, counts_among, counts_in, counts_read, harden_staged, sources_in}
+use Rattle.bl_build.specs.BuildStages.{AreCompilable, AreCompiled, Built, compiling}
+use Rattle.bl_build.specs.WeightStages.{compiling_by, counted_sources}
+use Rattle.bl_build.specs.LoadStages.{AreShort, Part, parts_of}
+use Rattle.bl_app.specs.CompileJobs.{AreTexts, compiling_staged, module_read}
+use Rattle.bl_app.specs.HardenJob.{HardenMeans, HardenPlans, Hardens, counts_among, counts_in, counts_read, harden_staged, sources_in}
 use Rattle.bl_job.specs.Jobs.{AreRead, IsSmall, Plan, Read}
-use Rattle.bl_app.specs.Lowering.{LowerPlans, lower_staged}
-use Rattle.bl_build.specs.Meaning.{SameOutcomes}
+use Rattle.bl_app.specs.LowerJob.{LowerPlans, lower_staged}
+use Rattle.bl_build.specs.ProgramMeaning.{SameOutcomes}
 use Rattle.bl_text.specs.Names.{AreNamedApart, module_name}
 use Rattle.bl_words.specs.Requests.{HardenRequest, LowerRequest, file_named, harden, request_of}
-use Rattle.bl_job.specs.Staged.{Did, Stand}
+use Rattle.bl_job.specs.StagedJobs.{Did, Stand}
 use Rattle.bl_job.specs.Status.{kind_of}
 use Rattle.bl_job.specs.Worlds.{World, took, with_files}
 use Rattle.bl_job.specs.declared.status.Status.{Status}
 use Rattle.bl_job.specs.declared.status.Status.TheVariants.{Done}
 use Rattle.bl_build.proofs.BuildLemmas.{are_compiled, builds_of, compiling_lawful, compiling_total}
-use Rattle.bl_job.proofs.Staging.{IsStagedCommand}
-use Rattle.bl_build.proofs.HardeningExists.{some_hardened}
+use Rattle.bl_job.proofs.StagedJobLemmas.{IsStagedCommand}
+use Rattle.bl_build.proofs.HardenExists.{some_hardened}
 use Rattle.bl_build.proofs.ModuleFiles.{are_compilable}
-use Rattle.bl_build.proofs.WeighingLemmas.{are_built, are_well_formed, compiling_by_lawful, compiling_by_total}
+use Rattle.bl_build.proofs.WeightLemmas.{are_built, are_well_formed, compiling_by_lawful, compiling_by_total}
 use Rattle.bl_build.proofs.FewestLemmas.{are_fewest, ends_alike}
-use Rattle.bl_build.proofs.MarkedImages.{as_long}
-use Rattle.bl_build.proofs.JudgedPrograms.{is_judged}
+use Rattle.bl_build.proofs.ProtectedImages.{as_long}
+use Rattle.bl_build.proofs.ProgramVerdicts.{is_judged}
 use Rattle.bl_words.proofs.WordsLemmas.{request_differs}
 
 -- ---- the files of modules
@@ -119,17 +114,6 @@ sources_behind words counts word contents front bytes some are short =
     λ i. record { parts = parts i; counts = behind i } in
     whole ∙ (λ i. record { parts = parts_of words (sym are i); counts = counts_among (length words) (sym some i) (sym are i) })
 
--- without one, hardening is that of the modules
-pub hardened_alone : (words contents : List (List ℕ)) (counts : Option (List ℕ)) → counts ≡ None → (result : Result HardenedMade WorkError) → IsStaged hardening hardened_in (parts_of words contents) result
-    → IsStaged hardening_by hardened_in (record { parts = parts_of words contents; counts = counts_among (length words) counts contents }) result
-hardened_alone words contents counts none result h =
-    subst (λ (o : Option (List ℕ)). IsStaged hardening_by hardened_in (record { parts = parts_of words contents; counts = counts_among (length words) o contents }) result) (sym none) (same result h)
-  where
-    same : (result : Result HardenedMade WorkError) → IsStaged hardening hardened_in (parts_of words contents) result
-        → IsStaged hardening_by hardened_in (record { parts = parts_of words contents; counts = None }) result
-    same (Ok x) h = h
-    same (Err e) h = h
-
 -- ---- the laws
 
 -- what is given of modules that are few enough, named apart by texts
@@ -166,7 +150,7 @@ compiled_is words keeps Plans Means done named means planned = record {
   planned = planned;
 }
 
-harden_means : (request : HardenRequest) (contents : List (List ℕ)) (built : Built) → compiling_by.Passes (sources_in request contents) built → (plan : Plan) → HardenMeans request contents built plan
+pub harden_means : (request : HardenRequest) (contents : List (List ℕ)) (built : Built) → compiling_by.Passes (sources_in request contents) built → (plan : Plan) → HardenMeans request contents built plan
 harden_means request contents built passes plan =
     let is = are_built request.modules contents (counts_in request contents) built passes in
     let wells = are_well_formed request.modules contents (counts_in request contents) built is in

@@ -15,25 +15,25 @@ use Rattle.bl_cmd.specs.Outcomes.{first_memories, plain}
 use Rattle.bl_image.specs.Image.{Image}
 use Rattle.bl_image.proofs.Prefixes.{one_program}
 use Rattle.bl_lower.specs.Trees.{export_def, low_tree, memory_def, step_bound}
-use Rattle.bl_lower.proofs.Defined.{IsDefined, has_type, is_defined}
-use Rattle.bl_lower.proofs.Opening.{memories_first}
+use Rattle.bl_lower.proofs.DefinedFunctions.{IsDefined, has_type, is_defined}
+use Rattle.bl_lower.proofs.InitialStates.{memories_first}
 use Rattle.bl_lower.proofs.TreeLayout.{map_map}
 use Rattle.bl_trace.specs.StartFiles.{answer_of}
 use Rattle.bl_outcome.specs.Outcomes.{outcome_text}
-use Rattle.bl_build.specs.Building.{AreCompiled, Built}
-use Rattle.bl_build.specs.Weighing.{AreBuilt, IsWeighedBy}
-use Rattle.bl_build.proofs.WeighingLemmas.{are_well_formed}
-use Rattle.bl_build.specs.Entering.{Entered, entering, function_named, kinds_of, pages_of}
-use Rattle.bl_app.specs.Executing.{HasPlainOutcome, RunDoes, plain_text}
-use Rattle.bl_app.specs.Interpreting.{HasOutcome, InterpDoes, printed_of}
+use Rattle.bl_build.specs.BuildStages.{AreCompiled, Built}
+use Rattle.bl_build.specs.WeightStages.{AreBuilt, IsWeighedBy}
+use Rattle.bl_build.proofs.WeightLemmas.{are_well_formed}
+use Rattle.bl_build.specs.EntryStages.{Entered, entering, function_named, kinds_of, pages_of}
+use Rattle.bl_app.specs.RunJob.{HasPlainOutcome, RunDoes, plain_text}
+use Rattle.bl_app.specs.InterpJob.{HasOutcome, InterpDoes, printed_of}
 use Rattle.bl_job.specs.Jobs.{Plan, saying}
-use Rattle.bl_build.specs.Loading.{parts_of}
+use Rattle.bl_build.specs.LoadStages.{parts_of}
 use Rattle.bl_app.specs.Outcomes.{outcome_status}
 use Rattle.bl_words.specs.Requests.{InterpRequest, RunRequest}
 use Rattle.bl_wasm.specs.Linked.{type_of}
-use Rattle.bl_build.specs.Running.{Invoked, Invokes, sizes_of}
+use Rattle.bl_build.specs.InvocationStages.{Invoked, Invokes, sizes_of}
 use Rattle.bl_job.specs.declared.status.Status.TheVariants.{Spent}
-use Rattle.bl_build.proofs.LoadingLemmas.{loading_lawful}
+use Rattle.bl_build.proofs.LoadLemmas.{loading_lawful}
 use Rattle.bl_app.proofs.RunLemmas.{entering_lawful}
 
 -- ---- exports

@@ -6,20 +6,20 @@ use Rattle.bl_base.specs.Runs.{Outcome}
 use Rattle.bl_base.proofs.RunLemmas.{run_unique}
 use Rattle.bl_reduce.specs.Outcomes.{opening as opening_of, source}
 use Rattle.bl_reduce.specs.Steps.{source_step}
-use Rattle.bl_app.specs.Interpreting.{HasOutcome, InterpPlans, interp_staged, printed_of}
+use Rattle.bl_app.specs.InterpJob.{HasOutcome, InterpPlans, interp_staged, printed_of}
 use Rattle.bl_job.specs.Jobs.{Plan, saying}
-use Rattle.bl_build.specs.Loading.{parts_of}
+use Rattle.bl_build.specs.LoadStages.{parts_of}
 use Rattle.bl_app.specs.Outcomes.{outcome_status}
 use Rattle.bl_text.specs.Names.{AreNamedApart}
 use Rattle.bl_words.specs.Requests.{InterpRequest}
-use Rattle.bl_build.specs.Running.{Invoked}
+use Rattle.bl_build.specs.InvocationStages.{Invoked}
 use Rattle.bl_job.specs.Status.{kind_of}
 use Rattle.bl_app.proofs.HardenLemmas.{short_modules, small_modules}
 use Rattle.bl_app.proofs.RunLemmas.{deed_of_run, one_within, some_within}
-use Rattle.bl_job.proofs.Staging.{IsStagedCommand}
-use Rattle.bl_build.proofs.LoadingTotal.{preparing_total}
+use Rattle.bl_job.proofs.StagedJobLemmas.{IsStagedCommand}
+use Rattle.bl_build.proofs.LoadTotal.{preparing_total}
 use Rattle.bl_build.proofs.ModuleFiles.{are_loadable}
-use Rattle.bl_build.proofs.InvokingLemmas.{preparing_lawful}
+use Rattle.bl_build.proofs.InvocationLemmas.{preparing_lawful}
 
 -- the outcome within so many steps is one
 one_outcome : (invoked : Invoked) (steps : ℕ) (a b : Option Outcome) → HasOutcome invoked steps a → HasOutcome invoked steps b → a ≡ b

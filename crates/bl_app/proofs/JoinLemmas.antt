@@ -4,29 +4,29 @@ use Rattle.bl_cmd.specs.Programs.{IsProgram}
 use Rattle.bl_cmd.specs.Rules.{IsWellFormed}
 use Rattle.bl_cmd.specs.Sites.{is_protected}
 use Rattle.bl_cmd.specs.declared.definitions.ProgramParts.{ProgramParts as Program}
-use Rattle.bl_iface.specs.Joining.{CanJoin, joined}
-use Rattle.bl_iface.specs.Matching.{Matches}
+use Rattle.bl_iface.specs.JoinedProgram.{CanJoin, joined}
+use Rattle.bl_iface.specs.InterfaceFunctions.{Matches}
 use Rattle.bl_iface.specs.declared.iface.Iface.{Iface}
 use Rattle.bl_iface.specs.declared.iface.Role.TheVariants.{Client, Library}
-use Rattle.bl_iface.proofs.Typing.{joined_flows, joint}
-use Rattle.bl_iface.proofs.Whole.{joined_well}
+use Rattle.bl_iface.proofs.JoinedTyping.{joined_flows, joint}
+use Rattle.bl_iface.proofs.JoinedWellFormed.{joined_well}
 use Rattle.bl_image.specs.Image.{Image}
 use Rattle.bl_transient.specs.Transient.{Passes}
 use Rattle.bl_words.specs.Requests.{JoinRequest}
-use Rattle.bl_build.specs.Building.{Built, IsSized}
-use Rattle.bl_build.specs.Entering.{IsImaged}
-use Rattle.bl_build.specs.Interfacing.{IsFileOf}
-use Rattle.bl_build.specs.Joining.{BothPass, Pair, Sides, Union, Unites, are_joined, client_fails, fails, joining, library_fails, pair_of, sides_of, whole}
+use Rattle.bl_build.specs.BuildStages.{Built, IsSized}
+use Rattle.bl_build.specs.EntryStages.{IsImaged}
+use Rattle.bl_build.specs.InterfaceStages.{IsFileOf}
+use Rattle.bl_build.specs.JoinStages.{BothPass, Pair, Sides, Union, Unites, are_joined, client_fails, fails, joining, library_fails, pair_of, sides_of, whole}
 use Rattle.bl_build.proofs.InterfaceLemmas.{joining_lawful}
 use Rattle.bl_build.proofs.InterfaceTotal.{joining_total}
 use Rattle.bl_job.specs.Jobs.{AreThere, KeepsNamed, Plan, Read}
 use Rattle.bl_job.specs.Refusals.{Refusal}
-use Rattle.bl_job.specs.Staged.{ReadPasses, ReadRefuses, contents_stage}
+use Rattle.bl_job.specs.StagedJobs.{ReadPasses, ReadRefuses, contents_stage}
 use Rattle.bl_job.specs.Stages.{IsLawfulStage}
 use Rattle.bl_job.specs.Status.{kind_of, of_deed}
-use Rattle.bl_job.proofs.Staging.{Answers, IsStagedCommand, read_result}
-use Rattle.bl_app.specs.Executing.{image_read}
-use Rattle.bl_app.specs.Joining.{AreJoined, JoinMeans, JoinSays, both_images, join_plan, join_staged}
+use Rattle.bl_job.proofs.StagedJobLemmas.{Answers, IsStagedCommand, read_result}
+use Rattle.bl_app.specs.RunJob.{image_read}
+use Rattle.bl_app.specs.JoinJob.{AreJoined, JoinMeans, JoinSays, both_images, join_plan, join_staged}
 
 -- ---- what is meant
 

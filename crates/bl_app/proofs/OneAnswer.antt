@@ -4,7 +4,7 @@ use Rattle.bl_cmd.specs.Sites.{is_protected}
 use Rattle.bl_cmd.specs.declared.definitions.ProgramParts.{ProgramParts as Program}
 use Rattle.bl_graph.specs.Ranges.{AreInRange}
 use Rattle.bl_graph.specs.declared.certificate.Certificate.{Certificate}
-use Rattle.bl_graph.proofs.Ranging.{in_range}
+use Rattle.bl_graph.proofs.RangeLemmas.{in_range}
 use Rattle.bl_transient.specs.declared.transient.FlowVerdict.{FlowVerdict}
 use Rattle.bl_transient.specs.declared.transient.FlowVerdict.TheVariants as flow
 use Rattle.bl_ct.specs.declared.verdict.CtVerdict.{CtVerdict}
@@ -13,12 +13,12 @@ use Rattle.bl_witness.specs.Texts.{certificate_text}
 use Rattle.bl_report.specs.Reports.{constant_time_text, counts_text, protect_text, protects}
 use Rattle.bl_report.specs.Verdicts.{certificate_line, safe_line, stable_line}
 use Rattle.bl_words.specs.Requests.{HardenRequest}
-use Rattle.bl_app.specs.Hardening.{HardenDoes, counts_in, sources_in}
-use Rattle.bl_build.specs.Hardening.{IsHardened, IsYes}
+use Rattle.bl_app.specs.HardenJob.{HardenDoes, counts_in, sources_in}
+use Rattle.bl_build.specs.HardenStage.{IsHardened, IsYes}
 use Rattle.bl_job.specs.Jobs.{Plan, saying}
-use Rattle.bl_app.specs.Verifying.{AreVerdicts, VerifyDoes, verify_status}
+use Rattle.bl_app.specs.VerifyJob.{AreVerdicts, VerifyDoes, verify_status}
 use Rattle.bl_job.specs.declared.status.Status.TheVariants.{Done}
-use Rattle.bl_build.proofs.WeighingLemmas.{are_built, are_well_formed, compiling_by_lawful}
+use Rattle.bl_build.proofs.WeightLemmas.{are_built, are_well_formed, compiling_by_lawful}
 use Rattle.bl_app.proofs.VerifyLemmas.{one_certified}
 use Rattle.bl_build.proofs.OneVerdict.{one_rules, one_flow, one_yes, one_program, one_bytes, one_answer}
 

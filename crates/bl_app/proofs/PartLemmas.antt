@@ -3,38 +3,38 @@ use Rattle.std.proofs.Common.{◌≡◌, ℕ, Bool, List, ◌∷◌, Result, Ok,
 use Rattle.bl_cmd.specs.Sites.{is_protected}
 use Rattle.bl_cmd.specs.declared.definitions.ProgramParts.{ProgramParts as Program}
 use Rattle.bl_cut.specs.Marks.{protected}
-use Rattle.bl_cut.proofs.Marked.{marks_are}
-use Rattle.bl_cut.proofs.Passing.{flows_on}
-use Rattle.bl_iface.specs.Matching.{Matches}
+use Rattle.bl_cut.proofs.MarkedPrograms.{marks_are}
+use Rattle.bl_cut.proofs.MarksAndPassing.{flows_on}
+use Rattle.bl_iface.specs.InterfaceFunctions.{Matches}
 use Rattle.bl_iface.specs.Roles.{KeepsRole, PassesAs}
-use Rattle.bl_iface.specs.Under.{asked}
+use Rattle.bl_iface.specs.RoleTests.{asked}
 use Rattle.bl_iface.specs.declared.iface.FnIface.{FnIface}
 use Rattle.bl_iface.specs.declared.iface.Iface.{Iface}
 use Rattle.bl_iface.specs.declared.iface.Role.{Role}
 use Rattle.bl_iface.specs.declared.iface.Role.TheVariants.{Client, Library}
-use Rattle.bl_iface.proofs.Asked.{as_from_under}
+use Rattle.bl_iface.proofs.RoleTestLemmas.{as_from_under}
 use Rattle.bl_image.specs.Image.{Image}
 use Rattle.bl_transient.specs.Transient.{PassesUnder, nothing}
 use Rattle.bl_words.specs.Requests.{PartRequest}
-use Rattle.bl_build.specs.Building.{AreCompiled, Built, compiling}
-use Rattle.bl_build.specs.Interfacing.{IsFileOf, IsParted, Parted, Side, parting, side_of}
-use Rattle.bl_build.specs.Loading.{parts_of}
-use Rattle.bl_build.specs.Meaning.{SameOutcomes}
-use Rattle.bl_build.specs.Working.{parted_in}
+use Rattle.bl_build.specs.BuildStages.{AreCompiled, Built, compiling}
+use Rattle.bl_build.specs.InterfaceStages.{IsFileOf, IsParted, Parted, Side, parting, side_of}
+use Rattle.bl_build.specs.LoadStages.{parts_of}
+use Rattle.bl_build.specs.ProgramMeaning.{SameOutcomes}
+use Rattle.bl_build.specs.StageAnswers.{parted_in}
 use Rattle.bl_build.specs.declared.part.Parted.{Parted as PartedMade}
 use Rattle.bl_build.proofs.BuildLemmas.{are_compiled}
 use Rattle.bl_build.proofs.FewestLemmas.{ends_alike}
 use Rattle.bl_build.proofs.InterfaceLemmas.{parting_lawful}
 use Rattle.bl_build.proofs.InterfaceTotal.{parting_total}
-use Rattle.bl_build.proofs.MarkedImages.{as_long}
+use Rattle.bl_build.proofs.ProtectedImages.{as_long}
 use Rattle.bl_build.proofs.ModuleFiles.{are_compilable}
 use Rattle.bl_job.specs.Jobs.{Plan}
-use Rattle.bl_job.specs.Staged.{contents_stage}
+use Rattle.bl_job.specs.StagedJobs.{contents_stage}
 use Rattle.bl_job.specs.Status.{kind_of}
-use Rattle.bl_job.specs.Working.{IsStaged}
+use Rattle.bl_job.specs.WorkAnswers.{IsStaged}
 use Rattle.bl_job.specs.declared.refusal.WorkError.{WorkError}
-use Rattle.bl_job.proofs.Staging.{IsStagedCommand}
-use Rattle.bl_app.specs.Parting.{PartMeans, part_staged}
+use Rattle.bl_job.proofs.StagedJobLemmas.{IsStagedCommand}
+use Rattle.bl_app.specs.PartJob.{PartMeans, part_staged}
 use Rattle.bl_app.proofs.HardenLemmas.{AreModules, own_of, short_modules, small_modules}
 
 -- ---- what is meant

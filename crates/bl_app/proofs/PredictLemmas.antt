@@ -16,38 +16,38 @@ use Rattle.bl_cmd.specs.Outcomes.{Agree, IsStart, opening as plain_opening, plai
 use Rattle.bl_cmd.specs.Programs.{IsProgram}
 use Rattle.bl_cmd.specs.Rules.{IsWellFormed}
 use Rattle.bl_cmd.specs.declared.definitions.ProgramParts.{ProgramParts as Program}
-use Rattle.bl_predict.specs.Drives.{Driving, IsDriven}
+use Rattle.bl_predict.specs.Drives.{DriveState, IsDriven}
 use Rattle.bl_predict.specs.declared.driver.Driven.{Driven}
-use Rattle.bl_predict.specs.Takings.{IsNear, IsTaken}
-use Rattle.bl_predict.proofs.Paired.{two_drives}
-use Rattle.bl_predict.proofs.Taken.{each_taken}
+use Rattle.bl_predict.specs.DriveDirectives.{IsNear, IsTaken}
+use Rattle.bl_predict.proofs.DrivePairs.{two_drives}
+use Rattle.bl_predict.proofs.EnabledChoices.{each_taken}
 use Rattle.bl_rob.specs.CallResults.{outcome_in}
-use Rattle.bl_rob.specs.Observed.{IsConsistent, reached}
+use Rattle.bl_rob.specs.Observations.{IsConsistent, reached}
 use Rattle.bl_rob.specs.declared.directive.Directive.{Directive}
 use Rattle.bl_rob.specs.declared.directive.Directive.TheVariants.{Fetch, Predict, Exec, Retire}
-use Rattle.bl_rob.proofs.Keeps.{consistent}
-use Rattle.bl_sct.proofs.Whole.{equal}
+use Rattle.bl_rob.proofs.BufferInvariant.{consistent}
+use Rattle.bl_sct.proofs.EqualObservations.{equal}
 use Rattle.bl_sct.specs.Verdicts.{Assesses}
 use Rattle.bl_sct.specs.declared.verdict.Verdict.{Verdict}
 use Rattle.bl_sct.specs.declared.verdict.Verdict.TheVariants.{Safe, NotConstantTime, NotStable}
-use Rattle.bl_trace.proofs.Fitting.{answered_fits}
+use Rattle.bl_trace.proofs.StartFits.{answered_fits}
 use Rattle.bl_trace.proofs.LineTexts.{all_read, lines_counted}
 use Rattle.bl_trace.proofs.WrittenTraces.{no_feeds, reads_back}
 use Rattle.bl_trace.specs.Lines.{lines_of}
 use Rattle.bl_trace.specs.Observations.{observation_text}
 use Rattle.bl_trace.specs.Traces.{IsWritten, directive_of, directive_text, trace_of, trace_text}
 use Rattle.bl_words.specs.Requests.{AreTurnsInRange, PredictRequest}
-use Rattle.bl_build.specs.Entering.{Entered, Entry, Finds, IsImaged, Starts, entering, kinds_of, pages_of}
-use Rattle.bl_build.specs.Tracing.{Speculated, Traced}
+use Rattle.bl_build.specs.EntryStages.{Entered, Entry, Finds, IsImaged, Starts, entering, kinds_of, pages_of}
+use Rattle.bl_build.specs.TraceStages.{Speculated, Traced}
 use Rattle.bl_build.proofs.Classical.{either}
 use Rattle.bl_job.specs.Jobs.{Plan}
 use Rattle.bl_job.specs.Status.{kind_of}
-use Rattle.bl_job.proofs.Staging.{IsStagedCommand, one_done}
-use Rattle.bl_app.specs.Executing.{plain_text}
-use Rattle.bl_app.specs.Forwarding.{BeginsWith, IsSafe}
+use Rattle.bl_job.proofs.StagedJobLemmas.{IsStagedCommand, one_done}
+use Rattle.bl_app.specs.RunJob.{plain_text}
+use Rattle.bl_app.specs.ForwardJob.{BeginsWith, IsSafe}
 use Rattle.bl_app.specs.Outcomes.{outcome_status}
-use Rattle.bl_app.specs.Predicting.{IsFollowed, PredictMeans, PredictPlans, alike_text, drive_outcome, driven_of, following, met, met_by, met_text, predict_job, predict_plan, predict_staged, with_start}
-use Rattle.bl_app.specs.Speculating.{end_text, last_text, seen_of, spec_job, spec_plan, spec_staged, spec_status}
+use Rattle.bl_app.specs.PredictJob.{IsFollowed, PredictMeans, PredictPlans, alike_text, drive_outcome, driven_of, following, met, met_by, met_text, predict_job, predict_plan, predict_staged, with_start}
+use Rattle.bl_app.specs.SpecJob.{end_text, last_text, seen_of, spec_job, spec_plan, spec_staged, spec_status}
 use Rattle.bl_app.proofs.RunLemmas.{deed_of_run, entering_lawful, entering_total}
 use Rattle.bl_app.proofs.SpecLemmas.{ended_so, spec_staged_is}
 use Rattle.bl_app.proofs.TwinLemmas.{one_bool}
@@ -135,7 +135,7 @@ says_behind front alike behind rest e =
     ∙ drop-append_seam front (alike_text true ++ rest))
 
 module _ (turns : ℕ) (word : List ℕ) (entered : Entered) (plan : Plan) (h : PredictPlans turns word entered plan) where
-  abbrev drive : Driving
+  abbrev drive : DriveState
   drive = driven_of turns entered
 
   abbrev Alike : Type 0

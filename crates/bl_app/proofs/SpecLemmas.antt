@@ -9,20 +9,20 @@ use Rattle.bl_cmd.specs.declared.definitions.ProgramParts.{ProgramParts as Progr
 use Rattle.bl_cmd.specs.Outcomes.{IsStart, opening, plain}
 use Rattle.bl_cmd.specs.Steps.{plain_step}
 use Rattle.bl_rob.specs.Machines.{State, end_in, outcome_by}
-use Rattle.bl_rob.specs.Observed.{IsConsistent, IsConsistent_by}
+use Rattle.bl_rob.specs.Observations.{IsConsistent, IsConsistentBy}
 use Rattle.bl_rob.specs.declared.directive.End.{End}
-use Rattle.bl_rob.proofs.Keeps.{consistent}
-use Rattle.bl_rob.specs.CallResults.{Told, outcome_in}
-use Rattle.bl_build.specs.Entering.{Entered, Entry}
-use Rattle.bl_app.specs.Executing.{plain_text}
+use Rattle.bl_rob.proofs.BufferInvariant.{consistent}
+use Rattle.bl_rob.specs.CallResults.{IsRunOf, outcome_in}
+use Rattle.bl_build.specs.EntryStages.{Entered, Entry}
+use Rattle.bl_app.specs.RunJob.{plain_text}
 use Rattle.bl_words.specs.Requests.{SpecRequest}
-use Rattle.bl_app.specs.Speculating.{end_text, ended_of, last_text, seen_of, spec_plan, spec_staged, spec_status, state_of}
-use Rattle.bl_build.specs.Tracing.{Speculated, program_speculating, speculating}
+use Rattle.bl_app.specs.SpecJob.{end_text, ended_of, last_text, seen_of, spec_plan, spec_staged, spec_status, state_of}
+use Rattle.bl_build.specs.TraceStages.{Speculated, program_speculating, speculating}
 use Rattle.bl_job.specs.Status.{kind_of, of_deed}
-use Rattle.bl_build.proofs.EnteringLemmas.{imaged_lawful}
+use Rattle.bl_build.proofs.EntryStageLemmas.{imaged_lawful}
 use Rattle.bl_build.proofs.ImagesTotal.{imaged_total, program_speculating_total}
-use Rattle.bl_build.proofs.TracingLemmas.{program_speculating_lawful, start_fits}
-use Rattle.bl_job.proofs.Staging.{IsStagedCommand}
+use Rattle.bl_build.proofs.TraceLemmas.{program_speculating_lawful, start_fits}
+use Rattle.bl_job.proofs.StagedJobLemmas.{IsStagedCommand}
 
 -- ---- the outcome of a machine that has ended
 
@@ -31,7 +31,7 @@ pub ended_so : (program : Program) (function : ℕ) (start : Start) → IsStart 
     → IsConsistent program (opening program function start) s → (outcome : Outcome) → outcome_in program s ≡ Some outcome → plain program function start s.retired outcome
 ended_so program function start fits s agrees outcome e = by_end (end_in s) agrees e
   where
-    by_end : (end : Option End) → IsConsistent_by program (opening program function start) s end → option_map (outcome_by program s) end ≡ Some outcome
+    by_end : (end : Option End) → IsConsistentBy program (opening program function start) s end → option_map (outcome_by program s) end ≡ Some outcome
         → plain program function start s.retired outcome
     by_end None c e = cc
     by_end (Some end) c e =
@@ -74,7 +74,7 @@ said_of entered None some = cc
 
 -- the text of a run that is told is what is said last, where each directive is enabled
 pub said_run : {E : Type 0} (result : Result (Vec ℕ Global) E) (entered : Entered) (outcome : Option Outcome) (run : Run) (refused : Option ℕ) → refused ≡ None
-    → Told outcome (Some run) → IfOk result (λ text. text.items ≡ plain_text entered 0 (outcome_of run)) → IfOk result (λ text. text.items ≡ last_text entered outcome refused)
+    → IsRunOf outcome (Some run) → IfOk result (λ text. text.items ≡ plain_text entered 0 (outcome_of run)) → IfOk result (λ text. text.items ≡ last_text entered outcome refused)
 said_run (Err e) entered outcome run refused none told h = tt
 said_run (Ok text) entered outcome run refused none told h =
     h ∙ ap (plain_text entered 0) told.0 ∙ said_of entered outcome told.1 ∙ ap (last_text entered outcome) (sym none)

@@ -5,26 +5,26 @@ use Rattle.bl_cmd.specs.Programs.{IsProgram}
 use Rattle.bl_cmd.specs.Rules.{IsWellFormed}
 use Rattle.bl_graph.specs.Labels.{ConstantTime}
 use Rattle.bl_sct.specs.Verdicts.{IsStable}
-use Rattle.bl_sct.proofs.Whole.{equal}
-use Rattle.bl_twin.specs.Comparing.{twin_text}
+use Rattle.bl_sct.proofs.EqualObservations.{equal}
+use Rattle.bl_twin.specs.TwinComparisons.{twin_text}
 use Rattle.bl_twin.proofs.Comparisons.{never, told}
 use Rattle.bl_twin.specs.declared.comparison.Comparison.{Comparison}
 use Rattle.bl_twin.specs.declared.comparison.Comparison.TheVariants as compared
 use Rattle.bl_words.specs.Requests.{TwinRequest}
-use Rattle.bl_build.specs.Entering.{Entry, Finds, IsImaged, Starts, starting}
-use Rattle.bl_build.specs.Tracing.{Speculated, Traces, Twinned, entry_of, program_speculating, program_twinning, starting_other, twinning}
+use Rattle.bl_build.specs.EntryStages.{Entry, Finds, IsImaged, Starts, starting}
+use Rattle.bl_build.specs.TraceStages.{Speculated, Traces, Twinned, entry_of, program_speculating, program_twinning, starting_other, twinning}
 use Rattle.bl_build.proofs.Classical.{either}
-use Rattle.bl_build.proofs.EnteringLemmas.{imaged_lawful, starting_lawful}
+use Rattle.bl_build.proofs.EntryStageLemmas.{imaged_lawful, starting_lawful}
 use Rattle.bl_build.proofs.ImagesTotal.{imaged_total, program_speculating_total, starting_total}
-use Rattle.bl_build.proofs.TracingLemmas.{program_speculating_lawful}
+use Rattle.bl_build.proofs.TraceLemmas.{program_speculating_lawful}
 use Rattle.bl_job.specs.Stages.{Anything, IsLawfulStage, IsTotalStage}
 use Rattle.bl_job.proofs.StageLemmas.{beside_lawful, beside_total, chain_lawful, chain_total}
 use Rattle.bl_job.specs.Jobs.{Plan, saying}
-use Rattle.bl_app.specs.Speculating.{seen_of}
+use Rattle.bl_app.specs.SpecJob.{seen_of}
 use Rattle.bl_job.specs.Status.{kind_of, of_deed}
-use Rattle.bl_app.specs.Twinning.{StartsAgree, TwinPlans, comparison_of, other_seen, twin_staged, twin_status}
+use Rattle.bl_app.specs.TwinJob.{StartsAgree, TwinPlans, comparison_of, other_seen, twin_staged, twin_status}
 use Rattle.bl_job.specs.declared.status.Status.TheVariants.{No}
-use Rattle.bl_job.proofs.Staging.{IsStagedCommand}
+use Rattle.bl_job.proofs.StagedJobLemmas.{IsStagedCommand}
 
 pub deed_of_twin : (comparison : Comparison) → kind_of (twin_status comparison) ≡ of_deed
 deed_of_twin compared.Equal = refl

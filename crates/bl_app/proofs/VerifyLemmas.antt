@@ -4,11 +4,11 @@ use Rattle.bl_cmd.specs.Programs.{IsProgram}
 use Rattle.bl_cmd.specs.Rules.{IsWellFormed}
 use Rattle.bl_cmd.specs.Sites.{is_protected}
 use Rattle.bl_cmd.specs.declared.definitions.ProgramParts.{ProgramParts as Program}
-use Rattle.bl_graph.proofs.Ranging.{in_range}
+use Rattle.bl_graph.proofs.RangeLemmas.{in_range}
 use Rattle.bl_ct.specs.Verdicts.{FindsChain}
 use Rattle.bl_report.specs.Verdicts.{verdicts_of}
 use Rattle.bl_sct.proofs.OtherSecrets.{hides}
-use Rattle.bl_sct.proofs.Whole.{equal}
+use Rattle.bl_sct.proofs.EqualObservations.{equal}
 use Rattle.bl_transient.specs.Verdicts.{IsFirstLeak}
 use Rattle.bl_transient.specs.declared.transient.FlowVerdict.{FlowVerdict}
 use Rattle.bl_transient.specs.declared.transient.FlowVerdict.TheVariants as flow
@@ -18,14 +18,14 @@ use Rattle.bl_witness.specs.declared.verdict.CertVerdict.TheVariants as rules
 use Rattle.bl_words.specs.Requests.{VerifyRequest}
 use Rattle.bl_job.specs.Jobs.{Plan, saying}
 use Rattle.bl_job.specs.Status.{kind_of, of_deed}
-use Rattle.bl_app.specs.Verifying.{AreVerdicts, Say, Shows, Verdicts, VerifyDoes, VerifyPlans, found_plan, found_status, verify_reading, verify_staged, verify_status}
+use Rattle.bl_app.specs.VerifyJob.{AreVerdicts, Say, Shows, Verdicts, VerifyDoes, VerifyPlans, found_plan, found_status, verify_reading, verify_staged, verify_status}
 use Rattle.bl_app.specs.declared.verify.Found.{Found}
-use Rattle.bl_build.specs.Certifying.{Certified, certifying, verifying}
-use Rattle.bl_build.proofs.JudgedCertificates.{assessed_so, certain_back, certain_in, none_is_lighter, stable_back, stable_in}
-use Rattle.bl_build.proofs.JudgedPrograms.{labelled_yes, yes_labelled}
-use Rattle.bl_job.proofs.Staging.{IsStagedCommand, read_result}
-use Rattle.bl_build.proofs.CertifyingLemmas.{certifying_lawful}
-use Rattle.bl_build.proofs.EnteringLemmas.{imaged_lawful}
+use Rattle.bl_build.specs.CertificateStages.{Certified, certifying, verifying}
+use Rattle.bl_build.proofs.CertificateVerdicts.{assessed_so, certain_back, certain_in, none_is_lighter, stable_back, stable_in}
+use Rattle.bl_build.proofs.ProgramVerdicts.{labelled_yes, yes_labelled}
+use Rattle.bl_job.proofs.StagedJobLemmas.{IsStagedCommand, read_result}
+use Rattle.bl_build.proofs.CertificateLemmas.{certifying_lawful}
+use Rattle.bl_build.proofs.EntryStageLemmas.{imaged_lawful}
 use Rattle.bl_build.proofs.ImagesTotal.{certifying_total, imaged_total}
 use Rattle.bl_job.specs.Stages.{IsLawfulStage}
 use Rattle.bl_build.proofs.OneVerdict.{one_flow, one_rules}
@@ -91,7 +91,7 @@ module _ (image certificate : List ℕ) (c : Certified) (prepared : (verifying c
   rules_of : IsWellFormed c.program
   rules_of = subst IsWellFormed (sym prepared.2.same_program) prepared.1.rules
 
-  some_verdicts : ((plan : Plan) → VerifyPlans c plan → ⊥) → ⊥
+  pub some_verdicts : ((plan : Plan) → VerifyPlans c plan → ⊥) → ⊥
   some_verdicts none =
       let range = in_range c.program facts_of rules_of in
       let labels = some_label_verdict c.program facts_of rules_of in
@@ -107,7 +107,7 @@ one_verify_status : (certified : Certified) (p q : Plan) → VerifyPlans certifi
 one_verify_status certified p q h k =
     ap (λ plan. plan.status) h.is_plan ∙ one_status_of certified h.verdicts k.verdicts h.are_verdicts k.are_verdicts ∙ sym (ap (λ plan. plan.status) k.is_plan)
 
-verifying_lawful : (certificate : List ℕ) → IsLawfulStage (verifying certificate)
+pub verifying_lawful : (certificate : List ℕ) → IsLawfulStage (verifying certificate)
 verifying_lawful certificate = imaged_lawful (certifying certificate) (certifying_lawful certificate)
 
 pub verify_staged_is : (request : VerifyRequest) → IsStagedCommand (Unit {0}) (verify_staged request)

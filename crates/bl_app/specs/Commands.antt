@@ -1,22 +1,22 @@
 -- The jobs of all commands.
-use Rattle.bl_app.specs.Compiling.{AreTexts}
-use Rattle.bl_job.specs.Counting.{with_modules}
-use Rattle.bl_app.specs.Executing.{run_staged}
-use Rattle.bl_app.specs.Forwarding.{forward_staged}
-use Rattle.bl_app.specs.Generating.{gen_staged}
-use Rattle.bl_app.specs.Hardening.{harden_staged}
-use Rattle.bl_app.specs.Interpreting.{interp_staged}
+use Rattle.bl_app.specs.CompileJobs.{AreTexts}
+use Rattle.bl_job.specs.ModuleCount.{with_modules}
+use Rattle.bl_app.specs.RunJob.{run_staged}
+use Rattle.bl_app.specs.ForwardJob.{forward_staged}
+use Rattle.bl_app.specs.GenJob.{gen_staged}
+use Rattle.bl_app.specs.HardenJob.{harden_staged}
+use Rattle.bl_app.specs.InterpJob.{interp_staged}
 use Rattle.bl_job.specs.Jobs.{Job}
-use Rattle.bl_app.specs.Joining.{join_staged}
-use Rattle.bl_app.specs.Lowering.{lower_staged}
-use Rattle.bl_app.specs.Parting.{part_staged}
+use Rattle.bl_app.specs.JoinJob.{join_staged}
+use Rattle.bl_app.specs.LowerJob.{lower_staged}
+use Rattle.bl_app.specs.PartJob.{part_staged}
 use Rattle.bl_text.specs.Names.{AreNamedApart}
 use Rattle.bl_words.specs.Requests.{AreInRange, IsGenInRange, Request, forward, gen, harden, interp, join, lower, modules_in, part, predict, run, spec, twin, verify}
-use Rattle.bl_app.specs.Predicting.{predict_staged}
-use Rattle.bl_app.specs.Speculating.{spec_staged}
-use Rattle.bl_job.specs.Staged.{Staged, staged_job}
-use Rattle.bl_app.specs.Twinning.{twin_staged}
-use Rattle.bl_app.specs.Verifying.{verify_staged}
+use Rattle.bl_app.specs.PredictJob.{predict_staged}
+use Rattle.bl_app.specs.SpecJob.{spec_staged}
+use Rattle.bl_job.specs.StagedJobs.{Staged, staged_job}
+use Rattle.bl_app.specs.TwinJob.{twin_staged}
+use Rattle.bl_app.specs.VerifyJob.{verify_staged}
 
 -- a command of a request: what is made on the way, what is given where it is said that its job answers all contents that are there, and the job
 pub record Row : Type 1 where

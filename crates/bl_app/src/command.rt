@@ -7,7 +7,7 @@ ghost use Rattle.bl_job.specs.Jobs.{AreRead};
 ghost use Rattle.bl_text.specs.Names.{AreNamedApart};
 ghost use Rattle.bl_words.specs.Requests.{modules_in};
 ghost use Rattle.bl_words.specs.Words.{request_in};
-ghost use Rattle.bl_job.specs.Working.{IsWork, read_in, contents_in};
+ghost use Rattle.bl_job.specs.WorkAnswers.{IsWork, read_in, contents_in};
 
 use crate::forward::forward;
 use crate::generate::generate;

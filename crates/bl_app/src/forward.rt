@@ -3,11 +3,11 @@
 ghost use Rattle.std.specs.Prelude.{◌≡◌, ◌↔◌, None, IfOk, IsTrue};
 ghost use Rattle.bl_cmd.specs.Outcomes.{IsStart};
 ghost use Rattle.bl_job.specs.Jobs.{AreRead};
-ghost use Rattle.bl_app.specs.Forwarding.{ForwardPlans, IsSafe, is_verdict_safe, forward_job, safe_text};
-ghost use Rattle.bl_app.specs.Twinning.{twinned_in};
-ghost use Rattle.bl_job.specs.Working.{IsDoneBehind, IsWork, plan_in, contents_in};
-ghost use Rattle.bl_build.specs.Tracing.{program_twinning};
-ghost use Rattle.bl_build.specs.Working.{speculated_in};
+ghost use Rattle.bl_app.specs.ForwardJob.{ForwardPlans, IsSafe, is_verdict_safe, forward_job, safe_text};
+ghost use Rattle.bl_app.specs.TwinJob.{twinned_in};
+ghost use Rattle.bl_job.specs.WorkAnswers.{IsDoneBehind, IsWork, plan_in, contents_in};
+ghost use Rattle.bl_build.specs.TraceStages.{program_twinning};
+ghost use Rattle.bl_build.specs.StageAnswers.{speculated_in};
 ghost use Rattle.bl_words.specs.Words.{twin_in};
 
 use crate::twin::twin_status;

@@ -2,13 +2,13 @@
 ghost use Rattle.std.specs.Prelude.{◌≡◌, ◌≤◌, [], ◌∷◌, IfOk, codes, length};
 ghost use Rattle.bl_base.specs.Quantity.{limit_of};
 ghost use Rattle.bl_base.specs.declared.quantity.Quantity.TheVariants as quantity;
-ghost use Rattle.bl_app.specs.Generating.{gen_job, summary_of};
+ghost use Rattle.bl_app.specs.GenJob.{gen_job, summary_of};
 ghost use Rattle.bl_job.specs.Jobs.{saying};
 ghost use Rattle.bl_job.specs.declared.status.Status.TheVariants.{Done};
-ghost use Rattle.bl_job.specs.Working.{IsWork, plan_in, IsStaged};
-ghost use Rattle.bl_build.specs.Hardening.{hardening};
-ghost use Rattle.bl_build.specs.Loading.{parts_of};
-ghost use Rattle.bl_build.specs.Working.{hardened_in};
+ghost use Rattle.bl_job.specs.WorkAnswers.{IsWork, plan_in, IsStaged};
+ghost use Rattle.bl_build.specs.HardenStage.{hardening};
+ghost use Rattle.bl_build.specs.LoadStages.{parts_of};
+ghost use Rattle.bl_build.specs.StageAnswers.{hardened_in};
 ghost use Rattle.bl_graph.specs.Certificates.{Certifies};
 ghost use Rattle.bl_ct.specs.Verdicts.{Judges};
 ghost use Rattle.bl_words.specs.Words.{gen_in};

@@ -6,13 +6,13 @@ ghost use Rattle.bl_graph.specs.Certificates.{Certifies};
 ghost use Rattle.bl_report.specs.Reports.{report_text};
 ghost use Rattle.bl_witness.specs.Texts.{certificate_text};
 ghost use Rattle.bl_ct.specs.Verdicts.{Judges};
-ghost use Rattle.bl_app.specs.Hardening.{harden_job, harden_plan, sources_in};
-ghost use Rattle.bl_build.specs.Weighing.{hardening_by};
+ghost use Rattle.bl_app.specs.HardenJob.{harden_job, harden_plan, sources_in};
+ghost use Rattle.bl_build.specs.WeightStages.{hardening_by};
 ghost use Rattle.bl_job.specs.Jobs.{AreRead};
 ghost use Rattle.bl_text.specs.Names.{AreNamedApart};
 ghost use Rattle.bl_words.specs.Words.{harden_in};
-ghost use Rattle.bl_job.specs.Working.{IsStaged, IsWork, keep_in, plan_in, read_in, contents_in};
-ghost use Rattle.bl_build.specs.Working.{hardened_in};
+ghost use Rattle.bl_job.specs.WorkAnswers.{IsStaged, IsWork, keep_in, plan_in, read_in, contents_in};
+ghost use Rattle.bl_build.specs.StageAnswers.{hardened_in};
 
 use crate::module::module_reads;
 use bl_base::{NoMemory, Quantity, Text};

@@ -3,13 +3,13 @@ ghost use Rattle.std.specs.Prelude.{◌≡◌, ◌≤◌, None, IfOk, length, ma
 ghost use Rattle.bl_base.specs.Quantity.{limit_of};
 ghost use Rattle.bl_base.specs.declared.quantity.Quantity.TheVariants as quantity;
 ghost use Rattle.bl_reduce.specs.Outcomes.{IsStart};
-ghost use Rattle.bl_app.specs.Interpreting.{InterpPlans, interp_job};
+ghost use Rattle.bl_app.specs.InterpJob.{InterpPlans, interp_job};
 ghost use Rattle.bl_job.specs.Jobs.{AreRead};
 ghost use Rattle.bl_text.specs.Names.{AreNamedApart};
 ghost use Rattle.bl_words.specs.Words.{interp_in};
-ghost use Rattle.bl_job.specs.Working.{IsDoneBehind, IsWork, plan_in, read_in, contents_in};
-ghost use Rattle.bl_build.specs.Running.{invoking};
-ghost use Rattle.bl_build.specs.Working.{invoked_in};
+ghost use Rattle.bl_job.specs.WorkAnswers.{IsDoneBehind, IsWork, plan_in, read_in, contents_in};
+ghost use Rattle.bl_build.specs.InvocationStages.{invoking};
+ghost use Rattle.bl_build.specs.StageAnswers.{invoked_in};
 
 use crate::module::read_modules;
 use crate::outcome::outcome_status;

@@ -1,10 +1,10 @@
 //! `join`: from the bytes of an interface file and of a client's and a library's image to the image of the program that they are joined to.
 ghost use Rattle.std.specs.Prelude.{◌≡◌, None, IfOk, map, string_bytes};
-ghost use Rattle.bl_app.specs.Joining.{fails_text, join_job, join_plan, joined_text, role_text};
-ghost use Rattle.bl_build.specs.Joining.{whole};
-ghost use Rattle.bl_build.specs.Working.{built_in, union_in};
+ghost use Rattle.bl_app.specs.JoinJob.{fails_text, join_job, join_plan, joined_text, role_text};
+ghost use Rattle.bl_build.specs.JoinStages.{whole};
+ghost use Rattle.bl_build.specs.StageAnswers.{built_in, union_in};
 ghost use Rattle.bl_job.specs.Jobs.{AreRead, saying};
-ghost use Rattle.bl_job.specs.Working.{IsWork, contents_in, plan_in, read_in};
+ghost use Rattle.bl_job.specs.WorkAnswers.{IsWork, contents_in, plan_in, read_in};
 ghost use Rattle.bl_job.specs.declared.status.Status.TheVariants.{No};
 ghost use Rattle.bl_words.specs.Words.{join_in};
 

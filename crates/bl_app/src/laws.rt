@@ -11,21 +11,21 @@ ghost use Rattle.bl_cmd.specs.declared.definitions.ProgramParts.{ProgramParts as
 ghost use Rattle.bl_graph.specs.Ranges.{AreSites};
 ghost use Rattle.bl_transient.specs.Transient.{Passes};
 ghost use Rattle.bl_image.specs.Image.{Image};
-ghost use Rattle.bl_counts.specs.Counting.{IsFewer, bare, counts_of, executed};
+ghost use Rattle.bl_counts.specs.RunCounts.{IsFewer, bare, counts_of, executed};
 ghost use Rattle.bl_report.specs.Verdicts.{safe_line};
-ghost use Rattle.bl_build.specs.Building.{AreCompiled, Built, command_count};
-ghost use Rattle.bl_build.specs.Weighing.{AreBuilt, IsWeighed, IsWeighedBy};
+ghost use Rattle.bl_build.specs.BuildStages.{AreCompiled, Built, command_count};
+ghost use Rattle.bl_build.specs.WeightStages.{AreBuilt, IsWeighed, IsWeighedBy};
 ghost use Rattle.bl_job.specs.Causes.{Causes, NoneRose};
 ghost use Rattle.bl_app.specs.Commands.{HasOnePlan, job_of, row_of, work_of};
-ghost use Rattle.bl_app.specs.Executing.{RunDoes};
-ghost use Rattle.bl_app.specs.Hardening.{HardenDoes, harden_job};
-ghost use Rattle.bl_build.specs.Hardening.{Hardened, IsHardened, IsYes};
-ghost use Rattle.bl_app.specs.Interpreting.{InterpDoes};
+ghost use Rattle.bl_app.specs.RunJob.{RunDoes};
+ghost use Rattle.bl_app.specs.HardenJob.{HardenDoes, harden_job};
+ghost use Rattle.bl_build.specs.HardenStage.{Hardened, IsHardened, IsYes};
+ghost use Rattle.bl_app.specs.InterpJob.{InterpDoes};
 ghost use Rattle.bl_job.specs.Jobs.{AreRead, FirstRefusal, IsLawful, IsTotal, Plan};
 ghost use Rattle.bl_job.specs.Refusals.{Refusal};
-ghost use Rattle.bl_app.specs.Predicting.{IsFollowed, predict_job};
+ghost use Rattle.bl_app.specs.PredictJob.{IsFollowed, predict_job};
 ghost use Rattle.bl_words.specs.Requests.{AreTurnsInRange, HardenRequest, InterpRequest, PredictRequest, Request, RunRequest};
-ghost use Rattle.bl_app.specs.Verifying.{VerifyDoes};
+ghost use Rattle.bl_app.specs.VerifyJob.{IsVerified, VerifyDoes};
 ghost use Rattle.bl_job.specs.Worlds.{World};
 ghost use Rattle.bl_job.specs.declared.status.Status.{Status};
 ghost use Rattle.bl_job.specs.declared.status.Status.TheVariants as status;
@@ -145,4 +145,10 @@ pub fn no_status_answers_all()
 pub fn kept_traces_run()
     ensures { (request : PredictRequest) → AreTurnsInRange request.steps → (image start : Listed ℕ) (plan : Plan)
         → (predict_job request).Does (image ∷ start ∷ []) plan → IsFollowed request image start plan }
+{}
+
+/// What `harden` keeps is what `verify` takes: the bytes of the image and of the certificate are never refused, `verify` of them has status 0, and all of its lines
+/// say yes exactly where `harden` told that the program is constant-time. The image is no longer than is read; nothing is said of the certificate's length.
+pub fn what_is_hardened_is_verified()
+    ensures { (request : HardenRequest) (contents : Listed (Listed ℕ)) (plan : Plan) → (harden_job request).Does contents plan → IsVerified request plan }
 {}

@@ -1,7 +1,7 @@
 //! The files of a request's modules.
 ghost use Rattle.std.specs.Prelude.{◌≡◌, ◌++◌, IfOk, map};
-ghost use Rattle.bl_app.specs.Compiling.{module_read};
-ghost use Rattle.bl_job.specs.Working.{read_in};
+ghost use Rattle.bl_app.specs.CompileJobs.{module_read};
+ghost use Rattle.bl_job.specs.WorkAnswers.{read_in};
 
 use bl_base::{NoMemory, Quantity};
 use bl_job::Read;

@@ -2,9 +2,9 @@
 ghost use Rattle.std.specs.Prelude.{◌≡◌, IfOk};
 ghost use Rattle.bl_base.specs.Runs.{outcome_of};
 ghost use Rattle.bl_cmd.specs.Outcomes.{IsStart};
-ghost use Rattle.bl_app.specs.Executing.{plain_text};
+ghost use Rattle.bl_app.specs.RunJob.{plain_text};
 ghost use Rattle.bl_app.specs.Outcomes.{outcome_status};
-ghost use Rattle.bl_build.specs.Working.{entered_in, entry_in};
+ghost use Rattle.bl_build.specs.StageAnswers.{entered_in, entry_in};
 
 use bl_base::{NoMemory, Run, Start};
 use bl_build::Entry;

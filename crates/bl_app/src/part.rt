@@ -2,12 +2,12 @@
 ghost use Rattle.std.specs.Prelude.{◌≡◌, ◌≤◌, None, IfOk, length, map};
 ghost use Rattle.bl_base.specs.Quantity.{limit_of};
 ghost use Rattle.bl_base.specs.declared.quantity.Quantity.TheVariants as quantity;
-ghost use Rattle.bl_app.specs.Parting.{part_job, part_plan, part_staged};
-ghost use Rattle.bl_build.specs.Working.{parted_in};
+ghost use Rattle.bl_app.specs.PartJob.{part_job, part_plan, part_staged};
+ghost use Rattle.bl_build.specs.StageAnswers.{parted_in};
 ghost use Rattle.bl_cmd.specs.Sites.{is_protected, weight_of};
 ghost use Rattle.bl_job.specs.Jobs.{AreRead};
-ghost use Rattle.bl_job.specs.Staged.{contents_stage};
-ghost use Rattle.bl_job.specs.Working.{IsStaged, IsWork, contents_in, plan_in, read_in};
+ghost use Rattle.bl_job.specs.StagedJobs.{contents_stage};
+ghost use Rattle.bl_job.specs.WorkAnswers.{IsStaged, IsWork, contents_in, plan_in, read_in};
 ghost use Rattle.bl_text.specs.Names.{AreNamedApart};
 ghost use Rattle.bl_words.specs.Words.{part_in};
 

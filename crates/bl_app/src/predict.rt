@@ -4,13 +4,13 @@ ghost use Rattle.std.specs.Prelude.{◌≡◌, ◌↔◌, ◌++◌, None, IfOk, 
 ghost use Rattle.std.specs.Fmt.{decimal};
 ghost use Rattle.bl_cmd.specs.Outcomes.{IsStart};
 ghost use Rattle.bl_predict.specs.Drives.{IsDriven};
-ghost use Rattle.bl_app.specs.Forwarding.{IsSafe};
-ghost use Rattle.bl_app.specs.Predicting.{PredictPlans, alike_text, driven_of, is_verdict_alike, met_by, predict_job};
+ghost use Rattle.bl_app.specs.ForwardJob.{IsSafe};
+ghost use Rattle.bl_app.specs.PredictJob.{PredictPlans, alike_text, driven_of, is_verdict_alike, met_by, predict_job};
 ghost use Rattle.bl_job.specs.Jobs.{AreRead};
 ghost use Rattle.bl_words.specs.Words.{predict_in};
-ghost use Rattle.bl_build.specs.Entering.{program_entering};
-ghost use Rattle.bl_job.specs.Working.{IsDoneBehind, IsWork, plan_in, read_in, contents_in};
-ghost use Rattle.bl_build.specs.Working.{entered_in, entry_in};
+ghost use Rattle.bl_build.specs.EntryStages.{program_entering};
+ghost use Rattle.bl_job.specs.WorkAnswers.{IsDoneBehind, IsWork, plan_in, read_in, contents_in};
+ghost use Rattle.bl_build.specs.StageAnswers.{entered_in, entry_in};
 
 use crate::outcome::{outcome_status, plain_text};
 use bl_base::{NoMemory, Quantity, Start};

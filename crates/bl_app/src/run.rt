@@ -1,13 +1,13 @@
 //! `run`: from an image's bytes and a start file's to the text of the outcome of a plain run.
 ghost use Rattle.std.specs.Prelude.{◌≡◌, None, Some, IfOk, map};
 ghost use Rattle.bl_cmd.specs.Outcomes.{IsStart};
-ghost use Rattle.bl_app.specs.Executing.{RunPlans, run_job};
+ghost use Rattle.bl_app.specs.RunJob.{RunPlans, run_job};
 ghost use Rattle.bl_job.specs.Jobs.{AreRead};
 ghost use Rattle.bl_words.specs.Requests.{AreInRange};
 ghost use Rattle.bl_words.specs.Words.{run_in, text_in};
-ghost use Rattle.bl_build.specs.Entering.{program_entering};
-ghost use Rattle.bl_job.specs.Working.{IsDoneBehind, IsWork, plan_in, read_in, contents_in};
-ghost use Rattle.bl_build.specs.Working.{entered_in, entry_in};
+ghost use Rattle.bl_build.specs.EntryStages.{program_entering};
+ghost use Rattle.bl_job.specs.WorkAnswers.{IsDoneBehind, IsWork, plan_in, read_in, contents_in};
+ghost use Rattle.bl_build.specs.StageAnswers.{entered_in, entry_in};
 
 use crate::outcome::{outcome_status, plain_text};
 use bl_base::{NoMemory, Quantity, Start};

@@ -8,18 +8,18 @@ ghost use Rattle.bl_rob.specs.CallResults.{outcome_in, shown};
 ghost use Rattle.bl_rob.specs.Machines.{opening};
 ghost use Rattle.bl_trace.specs.Observations.{observation_text};
 ghost use Rattle.bl_job.specs.Jobs.{AreRead};
-ghost use Rattle.bl_app.specs.Speculating.{SpecPlans, last_text, spec_job, spec_status};
+ghost use Rattle.bl_app.specs.SpecJob.{SpecPlans, last_text, spec_job, spec_status};
 ghost use Rattle.bl_words.specs.Words.{spec_in};
-ghost use Rattle.bl_build.specs.Tracing.{program_speculating};
-ghost use Rattle.bl_job.specs.Working.{contents_in, IsDoneBehind, IsWork, plan_in, read_in};
-ghost use Rattle.bl_build.specs.Working.{entered_in, entry_in, speculated_in};
+ghost use Rattle.bl_build.specs.TraceStages.{program_speculating};
+ghost use Rattle.bl_job.specs.WorkAnswers.{contents_in, IsDoneBehind, IsWork, plan_in, read_in};
+ghost use Rattle.bl_build.specs.StageAnswers.{entered_in, entry_in, speculated_in};
 
 use crate::outcome::plain_text;
 use bl_base::{NoMemory, Quantity, Start};
 use bl_build::{Entry, Speculation, prepare_speculation, read_image};
 use bl_cmd::WellFormed;
 use bl_job::{Content, Plan, Read, Status, WorkError, list_reads, three_files};
-use bl_rob::{Observation, Rob, Seen};
+use bl_rob::{Observation, Observed, Rob};
 use bl_trace::print_observation;
 use bl_words::SpecWords;
 use std::alloc::Global;
@@ -122,7 +122,7 @@ fn seen_text(
     entry: &Entry<'_>,
     start: &Start,
     rob: &Rob<'_, 64>,
-    seen: &Seen,
+    seen: &Observed<Observation>,
 ) -> Result<Vec<u8>, NoMemory>
     requires { IsStart program.now entry.now.function start.now }
     ensures { IfOk result (λ text. text.items ≡ flat_map observation_text seen.now.made

@@ -5,12 +5,12 @@ ghost use Rattle.bl_base.specs.declared.quantity.Quantity.TheVariants as quantit
 ghost use Rattle.bl_job.specs.Causes.{Causes};
 ghost use Rattle.bl_app.specs.Commands.{IsSized, job_of, row_of};
 ghost use Rattle.bl_job.specs.Ends.{Ends};
-ghost use Rattle.bl_job.specs.Leaving.{Leaves};
-ghost use Rattle.bl_app.specs.Hardening.{Hardens};
-ghost use Rattle.bl_app.specs.Leaving.{HardenLeaves};
+ghost use Rattle.bl_job.specs.CallEffects.{Leaves};
+ghost use Rattle.bl_app.specs.HardenJob.{Hardens};
+ghost use Rattle.bl_app.specs.HardenEffects.{HardenLeaves};
 ghost use Rattle.bl_text.specs.Names.{AreNamedApart};
 ghost use Rattle.bl_words.specs.Requests.{HardenRequest, Request as Asked, harden, modules_in, request_of};
-ghost use Rattle.bl_job.specs.Staged.{Did};
+ghost use Rattle.bl_job.specs.StagedJobs.{Did};
 ghost use Rattle.bl_job.specs.Status.{IsStatus, kind_of, of_deed};
 ghost use Rattle.bl_words.specs.Words.{request_in};
 ghost use Rattle.bl_job.specs.Worlds.{world};

@@ -2,10 +2,10 @@
 ghost use Rattle.std.specs.Prelude.{◌≡◌, None, IfOk, map};
 ghost use Rattle.bl_cmd.specs.Outcomes.{IsStart};
 ghost use Rattle.bl_job.specs.Jobs.{AreRead};
-ghost use Rattle.bl_app.specs.Twinning.{TwinPlans, twin_job, twin_status, twinned_in};
-ghost use Rattle.bl_job.specs.Working.{IsDoneBehind, IsWork, plan_in, read_in, contents_in};
-ghost use Rattle.bl_build.specs.Tracing.{program_twinning};
-ghost use Rattle.bl_build.specs.Working.{speculated_in};
+ghost use Rattle.bl_app.specs.TwinJob.{TwinPlans, twin_job, twin_status, twinned_in};
+ghost use Rattle.bl_job.specs.WorkAnswers.{IsDoneBehind, IsWork, plan_in, read_in, contents_in};
+ghost use Rattle.bl_build.specs.TraceStages.{program_twinning};
+ghost use Rattle.bl_build.specs.StageAnswers.{speculated_in};
 ghost use Rattle.bl_words.specs.Words.{twin_in};
 
 use bl_base::{NoMemory, Quantity, Start};

@@ -1,9 +1,9 @@
 //! `verify`: from the bytes of an image and of a certificate to the verdicts on them.
 ghost use Rattle.std.specs.Prelude.{◌≡◌, None, IfOk, map};
 ghost use Rattle.bl_job.specs.Jobs.{AreRead};
-ghost use Rattle.bl_app.specs.Verifying.{Shows, VerifyPlans, certified_in, found_plan, found_status, verify_job};
-ghost use Rattle.bl_build.specs.Certifying.{certifying};
-ghost use Rattle.bl_job.specs.Working.{contents_in, IsDoneBehind, IsWork, plan_in, read_in};
+ghost use Rattle.bl_app.specs.VerifyJob.{Shows, VerifyPlans, certified_in, found_plan, found_status, verify_job};
+ghost use Rattle.bl_build.specs.CertificateStages.{certifying};
+ghost use Rattle.bl_job.specs.WorkAnswers.{contents_in, IsDoneBehind, IsWork, plan_in, read_in};
 ghost use Rattle.bl_graph.specs.Graphs.{IsGraph};
 ghost use Rattle.bl_words.specs.Words.{verify_in};
 

@@ -56,5 +56,5 @@ IsWithin ends_with steps (Some outcome) = (n : ℕ) × ends_with n outcome × (n
 IsWithin ends_with steps None = (n : ℕ) (outcome : Outcome) → ends_with n outcome → n ≤ steps → ⊥
 
 -- an answer that is true of these runs: the outcome within so many steps, and `Spent` exactly where there is none
-abbrev pub Tells : (ℕ → Outcome → Type 0) → ℕ → Run → Type 0
-Tells ends_with steps answer = IsWithin ends_with steps (outcome_of answer)
+abbrev pub AnswersRun : (ℕ → Outcome → Type 0) → ℕ → Run → Type 0
+AnswersRun ends_with steps answer = IsWithin ends_with steps (outcome_of answer)

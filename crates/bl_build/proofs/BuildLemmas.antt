@@ -15,18 +15,18 @@ use Rattle.bl_cmd.specs.declared.definitions.ProgramParts.{ProgramParts as Progr
 use Rattle.bl_image.specs.Image.{Image}
 use Rattle.bl_image.proofs.Prefixes.{one_image}
 use Rattle.bl_lower.specs.Trees.{low_tree}
-use Rattle.bl_lower.proofs.Opening.{ends_after, plain_ended}
-use Rattle.bl_build.specs.Building.{AreCompilable, AreCompiled, Builds, Built, HasLongImage, IsSized, building, command_count, compiling, lowering, sizing}
-use Rattle.bl_build.specs.Loading.{loading, parts_of}
-use Rattle.bl_build.specs.Meaning.{SameOutcomes}
+use Rattle.bl_lower.proofs.InitialStates.{ends_after, plain_ended}
+use Rattle.bl_build.specs.BuildStages.{AreCompilable, AreCompiled, Builds, Built, HasLongImage, IsSized, building, command_count, compiling, lowering, sizing}
+use Rattle.bl_build.specs.LoadStages.{loading, parts_of}
+use Rattle.bl_build.specs.ProgramMeaning.{SameOutcomes}
 use Rattle.bl_job.specs.Refusals.{Refusal, limit}
 use Rattle.bl_job.specs.Stages.{IsLawfulStage, IsTotalStage, Stage, at_second, chain}
-use Rattle.bl_job.specs.Working.{IsStaged, refusal_in}
+use Rattle.bl_job.specs.WorkAnswers.{IsStaged, refusal_in}
 use Rattle.bl_job.specs.declared.refusal.WorkError.{WorkError}
 use Rattle.bl_job.specs.declared.refusal.WorkError.TheVariants as error
 use Rattle.bl_build.proofs.ImagesExist.{IsOfParts, has_image, of_parts}
-use Rattle.bl_build.proofs.LoadingLemmas.{loading_lawful}
-use Rattle.bl_build.proofs.LoadingTotal.{loading_total}
+use Rattle.bl_build.proofs.LoadLemmas.{loading_lawful}
+use Rattle.bl_build.proofs.LoadTotal.{loading_total}
 use Rattle.bl_job.proofs.StageLemmas.{chain_lawful, chain_total}
 
 -- ---- the stages

@@ -5,7 +5,7 @@ use Rattle.std.proofs.lemmas.List.Elements.{All-cons, All-drop, All-head, All-ni
 use Rattle.bl_base.proofs.Lists.{all_get}
 use Rattle.bl_base.specs.Trap.{kinds}
 use Rattle.bl_base.specs.declared.trap.Trap.{Trap as TrapKind}
-use Rattle.bl_ops.specs.Table.{row_operands, row_of}
+use Rattle.bl_ops.specs.OperatorTable.{row_operands, row_of}
 use Rattle.bl_ops.specs.declared.op.Op.{Op}
 use Rattle.bl_ops.specs.declared.op.Op.TheVariants.{I32DivS, I64DivS}
 use Rattle.bl_ops.proofs.AccessLemmas.{width_small}
@@ -16,24 +16,24 @@ use Rattle.bl_wasm.specs.declared.linked.Function.{Function}
 use Rattle.bl_wasm.specs.declared.linked.Memory.{Memory}
 use Rattle.bl_wasm.specs.declared.linked.Tree.{Tree}
 use Rattle.bl_wasm.specs.declared.types.BlockType.{BlockType}
-use Rattle.bl_wasm.proofs.LeadingLemmas.{typing_nests}
-use Rattle.bl_wasm.proofs.NestingLemmas.{closes}
+use Rattle.bl_wasm.proofs.LeadsLemmas.{typing_nests}
+use Rattle.bl_wasm.proofs.OpenConstructLemmas.{closes}
 use Rattle.bl_cmd.specs.declared.command.Command.{Command}
 use Rattle.bl_cmd.specs.declared.command.Command.TheVariants as command
 use Rattle.bl_cmd.specs.declared.command.Operand.{Operand}
 use Rattle.bl_cmd.specs.declared.command.Operand.TheVariants.{Const}
 use Rattle.bl_access.specs.Templates.{chain_from, jump_to, shift, test_of}
 use Rattle.bl_image.specs.Widths.{HasConstants, HasWidth}
-use Rattle.bl_emit.specs.Shapes.{Counts, Shape, Slot, armed, bottom, result_reads, strange, vacant}
+use Rattle.bl_emit.specs.Shapes.{Counts, Shape, Slot, armed, bottom, result_reads, mistyped, uninitialized}
 use Rattle.bl_emit.specs.Constructs.{Point, Target, again, args, as_whole, behind, branched, first_to, inside, mark_of, moves, outs, pad, part, point, reads, start_of, taken, top, whole}
 use Rattle.bl_emit.specs.Items.{Check, after, arms, calls_in, check_of, checks, free, hits_from, leaving, left, nonzero, quotient, results_in, right, slot_arm, slot_arms, slot_head, template, to_label}
-use Rattle.bl_emit.specs.Low.{Body, Lowered, Reached, block, choice, closed, closed_size, done, leave, loop, low, next_in, off, on, size_in, step, takes_of}
+use Rattle.bl_emit.specs.LoweredBodies.{Body, Lowered, Reached, block, choice, closed, closed_size, done, leave, loop, low, next_in, off, on, size_in, step, takes_of}
 use Rattle.bl_emit.specs.Numbers.{blocks, body_of, reserve_in, shape, start_at}
 use Rattle.bl_lower.specs.Trees.{last, low_body, low_function, low_functions, low_tree}
-use Rattle.bl_lower.proofs.Nested.{nested_is}
-use Rattle.bl_lower.proofs.Sound.{Each, EachIn, each_in}
+use Rattle.bl_lower.proofs.NestedItems.{nested_is}
+use Rattle.bl_lower.proofs.TypedItems.{Each, EachIn, each_in}
 use Rattle.bl_lower.proofs.Typings.{nested_body}
-use Rattle.bl_lower.proofs.Walls.{reverse_step}
+use Rattle.bl_lower.proofs.OperandOrder.{reverse_step}
 
 zero_fits : 0 < 2 ^ 64
 zero_fits = omega arith
@@ -156,8 +156,8 @@ module _ (shapes : ℕ → Shape) (number : ℕ) (room : (shapes number).reserve
   fine_slot_arm depth stack first behind_it (armed f) h =
       fine_append (args depth f 0 (reverse (pad (shapes f).params stack))) _ (fine_args depth f 0 (reverse (pad (shapes f).params stack)) (padded (shapes f).params stack h))
       (tt, fine_moved depth first behind_it (result_reads (shapes f) 0 (shapes f).results) (wide_results (shapes f) 0 (shapes f).results))
-  fine_slot_arm depth stack first behind_it vacant h = tt
-  fine_slot_arm depth stack first behind_it strange h = tt
+  fine_slot_arm depth stack first behind_it uninitialized h = tt
+  fine_slot_arm depth stack first behind_it mistyped h = tt
 
   fine_slot_arms : (depth : ℕ) (stack : List Operand) (first behind_it : ℕ) (those : List Slot) → Wide stack → Fine (slot_arms shapes number depth stack first behind_it those)
   fine_slot_arms depth stack first behind_it [] h = tt

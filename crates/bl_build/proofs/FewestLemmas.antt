@@ -5,19 +5,19 @@ use Rattle.bl_cmd.specs.Rules.{IsWellFormed}
 use Rattle.bl_cmd.specs.Sites.{is_protected}
 use Rattle.bl_cmd.specs.declared.definitions.ProgramParts.{ProgramParts as Program}
 use Rattle.bl_graph.specs.Ranges.{AreInRange}
-use Rattle.bl_graph.proofs.Chaining.{none_lighter}
-use Rattle.bl_graph.proofs.Ranging.{in_range}
-use Rattle.bl_transient.proofs.Meeting.{chain_met}
+use Rattle.bl_graph.proofs.ChainLemmas.{none_lighter}
+use Rattle.bl_graph.proofs.RangeLemmas.{in_range}
+use Rattle.bl_transient.proofs.ChainsMet.{chain_met}
 use Rattle.bl_transient.specs.Transient.{Passes}
 use Rattle.bl_cut.specs.Marks.{protected}
-use Rattle.bl_cut.proofs.Marked.{is_program, is_well_formed, marks_are}
-use Rattle.bl_cut.proofs.Passing.{passes_on}
+use Rattle.bl_cut.proofs.MarkedPrograms.{is_program, is_well_formed, marks_are}
+use Rattle.bl_cut.proofs.MarksAndPassing.{passes_on}
 use Rattle.bl_witness.specs.Verdicts.{AreLightest}
 use Rattle.bl_report.proofs.ProtectReasons.{has_reason}
-use Rattle.bl_build.specs.Hardening.{AreFewest, Hardened, IsHardened}
+use Rattle.bl_build.specs.HardenStage.{AreFewest, Hardened, IsHardened}
 use Rattle.bl_wasm.specs.declared.linked.Tree.{Tree}
-use Rattle.bl_cut.proofs.Marking.{run_back, run_same}
-use Rattle.bl_build.specs.Meaning.{SameOutcomes}
+use Rattle.bl_cut.proofs.MarkedRuns.{run_back, run_same}
+use Rattle.bl_build.specs.ProgramMeaning.{SameOutcomes}
 
 module _ (bare : Program) (facts : IsProgram bare) (rules : IsWellFormed bare) (hardened : Hardened) (is : IsHardened bare hardened) where
   abbrev after : Program

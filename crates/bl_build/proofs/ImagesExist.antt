@@ -15,33 +15,33 @@ use Rattle.bl_cmd.specs.declared.definitions.MemoryDef.{MemoryDef}
 use Rattle.bl_cmd.specs.declared.definitions.SiteWeight.{SiteWeight}
 use Rattle.bl_image.specs.Image.{Image}
 use Rattle.bl_image.specs.Widths.{HasWidths}
-use Rattle.bl_image.proofs.Exists.{some_image}
+use Rattle.bl_image.proofs.ImageExistence.{some_image}
 use Rattle.bl_link.specs.Linkable.{AreFew, HasFewExports}
 use Rattle.bl_link.proofs.Exports.{of_links}
-use Rattle.bl_lower.specs.Trees.{export_def, is_filled, low_tree, memory_def, row_at, rows_of}
+use Rattle.bl_lower.specs.Trees.{export_def, is_filled, low_tree, memory_def, memory_row_at, rows_of}
 use Rattle.bl_lower.proofs.WellFormed.{facts, rules}
-use Rattle.bl_build.specs.Building.{AreCompilable, command_count}
-use Rattle.bl_build.specs.Loading.{Part, linked_parts, loading}
+use Rattle.bl_build.specs.BuildStages.{AreCompilable, command_count}
+use Rattle.bl_build.specs.LoadStages.{Part, linked_parts, loading}
 use Rattle.bl_build.proofs.Constants.{constants}
-use Rattle.bl_build.proofs.LoadingLemmas.{all_accepted}
-use Rattle.bl_build.proofs.LoadingTotal.{as_many, each_one, turned}
-use Rattle.bl_build.proofs.WidthsLemmas.{few_exports}
+use Rattle.bl_build.proofs.LoadLemmas.{all_accepted}
+use Rattle.bl_build.proofs.LoadTotal.{as_many, each_one, turned}
+use Rattle.bl_build.proofs.ModuleWidths.{few_exports}
 
 -- ---- rows
 
 abbrev IsWhole : MemRow → Type 0
 IsWhole row = length row.bytes ≡ 16
 
-whole_rows : (bytes : List ℕ) (from count : ℕ) → (from + count) * 16 ≤ length bytes → All IsWhole (map (row_at bytes) (range_with_len from count))
+whole_rows : (bytes : List ℕ) (from count : ℕ) → (from + count) * 16 ≤ length bytes → All IsWhole (map (memory_row_at bytes) (range_with_len from count))
 whole_rows bytes from zero le = All-nil IsWhole
 whole_rows bytes from (suc count) le =
-    All-cons IsWhole (row_at bytes from) (map (row_at bytes) (range_with_len (from + 1) count)) (omega (arith, le, length-take 16 (drop (from * 16) bytes), length-drop (from * 16) bytes))
+    All-cons IsWhole (memory_row_at bytes from) (map (memory_row_at bytes) (range_with_len (from + 1) count)) (omega (arith, le, length-take 16 (drop (from * 16) bytes), length-drop (from * 16) bytes))
     (whole_rows bytes (from + 1) count (omega (arith, le)))
 
 memory_rows : (memory : Memory) → All IsWhole (rows_of memory.bytes)
 memory_rows memory =
     let bytes = memory.bytes in
-    All-filter (λ row. is_filled row.bytes) IsWhole (map (row_at bytes) (range_with_len 0 (length bytes / 16))) (whole_rows bytes 0 (length bytes / 16) (omega arith))
+    All-filter (λ row. is_filled row.bytes) IsWhole (map (memory_row_at bytes) (range_with_len 0 (length bytes / 16))) (whole_rows bytes 0 (length bytes / 16) (omega arith))
 
 -- ---- linked trees
 

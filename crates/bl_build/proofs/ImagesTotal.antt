@@ -18,13 +18,13 @@ use Rattle.bl_trace.specs.Traces.{trace_of}
 use Rattle.bl_trace.specs.declared.error.StartError.{StartError}
 use Rattle.bl_trace.specs.declared.error.StartError.TheVariants.{Line, Count, Memory}
 use Rattle.bl_witness.specs.Shapes.{certificate_of}
-use Rattle.bl_build.specs.Certifying.{certifying, is_not_json, is_other_shape, not_json, other_shape}
-use Rattle.bl_build.specs.Entering.{Entry, FindingRefuses, Finds, bad_line, broken_rule, few_arguments, no_export, not_an_image, finding, function_named, ill_formed, imaging, kinds_of, line_is_bad, no_image, pages_of, starting, too_few}
-use Rattle.bl_build.specs.Tracing.{Traced, Traces, TracingRefuses, bad_directive, no_directive, program_speculating, starting_traced, too_many, tracing}
+use Rattle.bl_build.specs.CertificateStages.{certifying, is_not_json, is_other_shape, not_json, other_shape}
+use Rattle.bl_build.specs.EntryStages.{Entry, FindingRefuses, Finds, bad_line, broken_rule, few_arguments, no_export, not_an_image, finding, function_named, ill_formed, imaging, kinds_of, line_is_bad, no_image, pages_of, starting, too_few}
+use Rattle.bl_build.specs.TraceStages.{Traced, Traces, TracingRefuses, bad_directive, no_directive, program_speculating, starting_traced, too_many, tracing}
 use Rattle.bl_job.specs.Refusals.{Refusal, limit}
 use Rattle.bl_job.specs.Stages.{Anything, IsTotalStage, Stage, chain}
 use Rattle.bl_build.proofs.Classical.{NotFalse, all_of, some_first}
-use Rattle.bl_build.proofs.EntryLemmas.{named_exists}
+use Rattle.bl_build.proofs.ExportedFunctions.{named_exists}
 use Rattle.bl_job.proofs.StageLemmas.{beside_total, chain_total}
 
 module _ (program : Program) (fine : (rule position : ℕ) → Breaks rule position program → ⊥) where

@@ -9,13 +9,13 @@ use Rattle.bl_image.specs.Image.{Image}
 use Rattle.bl_image.proofs.Prefixes.{one_image}
 use Rattle.bl_transient.specs.Verdicts.{IsFirstBad}
 use Rattle.bl_cut.specs.Marks.{protected}
-use Rattle.bl_cut.proofs.Leaving.{only_one}
+use Rattle.bl_cut.proofs.LeastSites.{only_one}
 use Rattle.bl_iface.specs.Answers.{StandsAgainst}
 use Rattle.bl_iface.specs.Files.{IsIface}
-use Rattle.bl_iface.specs.Joining.{CanJoin, HasSameTypes, IsNew, IsWithin, joined, kept, sums}
-use Rattle.bl_iface.specs.Matching.{IsMatched}
+use Rattle.bl_iface.specs.JoinedProgram.{CanJoin, HasSameTypes, IsNew, IsWithin, joined, kept, sums}
+use Rattle.bl_iface.specs.InterfaceFunctions.{IsMatched}
 use Rattle.bl_iface.specs.Roles.{PassesAs}
-use Rattle.bl_iface.specs.Under.{asked}
+use Rattle.bl_iface.specs.RoleTests.{asked}
 use Rattle.bl_iface.specs.declared.error.IfaceError.{IfaceError}
 use Rattle.bl_iface.specs.declared.error.IfaceError.TheVariants.{Line, Memory as NoRoom}
 use Rattle.bl_iface.specs.declared.error.JoinError.{JoinError}
@@ -23,21 +23,21 @@ use Rattle.bl_iface.specs.declared.error.JoinError.TheVariants.{Export, Limit}
 use Rattle.bl_iface.specs.declared.iface.Iface.{Iface}
 use Rattle.bl_iface.specs.declared.iface.Role.{Role}
 use Rattle.bl_iface.specs.declared.iface.Role.TheVariants.{Client, Library}
-use Rattle.bl_iface.proofs.Asked.{bad_fails, under_from_as}
-use Rattle.bl_iface.proofs.Choosing.{none_given}
+use Rattle.bl_iface.proofs.RoleTestLemmas.{bad_fails, under_from_as}
+use Rattle.bl_iface.proofs.LeastChoice.{none_given}
 use Rattle.bl_iface.proofs.OneAnswer.{first_one, limits_one, none_of_all}
 use Rattle.bl_iface.proofs.OneFile.{one_file}
 use Rattle.bl_iface.proofs.OneVerdict.{one_given}
 use Rattle.bl_trace.specs.Lines.{lines_of}
-use Rattle.bl_build.specs.Building.{Built, compiling, sizing}
-use Rattle.bl_build.specs.Entering.{imaging}
-use Rattle.bl_build.specs.Interfacing.{HasBadLine, IsFileOf, IsGivenToSink, IsParted, Parted, Side, bad_interface_line, choosing, given_sink, interfacing, matching, reading, side_of, siding, unmatched_function, parting}
-use Rattle.bl_build.specs.Joining.{Pair, Sides, Union, Unites, UnitingRefuses, are_joined, client_fails, client_side, export_taken, fails, interfacing_both, joining, library_fails, library_side, matching_both, other_types, pair_joining, pair_of, pairing, sides_of, taken_export, too_large, too_long, typing, uniting, whole, with_library}
+use Rattle.bl_build.specs.BuildStages.{Built, compiling, sizing}
+use Rattle.bl_build.specs.EntryStages.{imaging}
+use Rattle.bl_build.specs.InterfaceStages.{HasBadLine, IsFileOf, IsGivenToSink, IsParted, Parted, Side, bad_interface_line, choosing, given_sink, interfacing, matching, reading, side_of, siding, unmatched_function, parting}
+use Rattle.bl_build.specs.JoinStages.{Pair, Sides, Union, Unites, UnitingRefuses, are_joined, client_fails, client_side, export_taken, fails, interfacing_both, joining, library_fails, library_side, matching_both, other_types, pair_joining, pair_of, pairing, sides_of, taken_export, too_large, too_long, typing, uniting, whole, with_library}
 use Rattle.bl_job.specs.Refusals.{Refusal, limit}
 use Rattle.bl_job.specs.Stages.{IsLawfulStage, beside, chain}
 use Rattle.bl_job.proofs.StageLemmas.{beside_lawful, chain_lawful}
 use Rattle.bl_build.proofs.BuildLemmas.{compiling_lawful, sizing_lawful}
-use Rattle.bl_build.proofs.EnteringLemmas.{imaging_lawful}
+use Rattle.bl_build.proofs.EntryStageLemmas.{imaging_lawful}
 
 -- ---- interface files
 

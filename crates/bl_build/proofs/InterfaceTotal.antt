@@ -1,16 +1,12 @@
 -- Stages by interfaces always answer: lines are an interface or there is a first bad one; functions are all there or a first one isn't; some set
 -- is least where no sink reads what is given; and two programs are joined, or something stands against it.
-use Rattle.std.proofs.Common.{◌≡◌, ℕ, suc, ◌+◌, ◌<◌, ◌≤◌, Bool, true, false, List, [], ◌∷◌, ◌++◌, length, map, take, Option, Some, None, slice_get, inl, inr, refl, sym, ap, ◌∙◌, subst, arith, append_assoc}
+use Rattle.std.proofs.Common.{◌≡◌, ℕ, suc, ◌+◌, ◌<◌, ◌≤◌, Bool, true, List, [], ◌∷◌, ◌++◌, length, take, Option, Some, None, slice_get, inl, inr, refl, sym, ap, ◌∙◌, subst, arith, append_assoc}
 use Rattle.std.specs.Prelude.{IsTrue}
 use Rattle.std.specs.List.{All}
-use Rattle.std.specs.Str.{bytes_eq}
-use Rattle.std.proofs.lemmas.Bool.{cases_Bool, false≢true}
+use Rattle.std.proofs.lemmas.Bool.{cases_Bool}
 use Rattle.std.proofs.Math.Seq.{take-append_seam}
-use Rattle.std.proofs.lemmas.List.{append-nil, length-take, map-append}
-use Rattle.std.proofs.lemmas.List.Folds.{list_any_at}
-use Rattle.std.proofs.lemmas.List.Quantifiers.{all_pairs_push}
+use Rattle.std.proofs.lemmas.List.{append-nil, length-take}
 use Rattle.std.proofs.lemmas.Option.{none-some, same_Some, slice_get_within}
-use Rattle.std.proofs.lemmas.Slice.Eq.{bytes_eq-Decides}
 use Rattle.bl_base.proofs.Lists.{all_from, within_get}
 use Rattle.bl_base.specs.Quantity.{limit_of}
 use Rattle.bl_base.specs.declared.quantity.Quantity.TheVariants as quantity
@@ -18,31 +14,32 @@ use Rattle.bl_cmd.specs.Rules.{IsWellFormed}
 use Rattle.bl_cmd.specs.Sites.{is_protected}
 use Rattle.bl_cmd.specs.declared.definitions.ProgramParts.{ProgramParts as Program}
 use Rattle.bl_graph.specs.Ranges.{AreInRange}
-use Rattle.bl_graph.proofs.Ranging.{in_range}
+use Rattle.bl_graph.proofs.RangeLemmas.{in_range}
 use Rattle.bl_transient.specs.Verdicts.{IsBad, IsFirstBad}
-use Rattle.bl_transient.proofs.Typings.{is_trans, least_typing, typing_trans}
+use Rattle.bl_transient.proofs.LeastTypings.{is_trans, least_typing, typing_trans}
 use Rattle.bl_cut.specs.Marks.{protected}
-use Rattle.bl_cut.proofs.Marked.{is_program}
+use Rattle.bl_cut.proofs.MarkedPrograms.{is_program}
 use Rattle.bl_image.specs.Image.{Image}
 use Rattle.bl_iface.specs.Answers.{IsFirstWithout}
 use Rattle.bl_iface.specs.Files.{IsFirstBadLine, Say, function_in}
-use Rattle.bl_iface.specs.Joining.{CanJoin, HasSameTypes, IsNew, IsWithin, is_named, joined, kept, sums}
-use Rattle.bl_iface.specs.Matching.{IsMatched, Matches}
+use Rattle.bl_iface.specs.JoinedProgram.{CanJoin, HasSameTypes, IsNew, IsWithin, is_named, joined, kept, sums}
+use Rattle.bl_iface.specs.InterfaceFunctions.{IsMatched, Matches}
 use Rattle.bl_iface.specs.Roles.{PassesAs}
-use Rattle.bl_iface.specs.Under.{IsGiven, asked}
+use Rattle.bl_iface.specs.RoleTests.{IsGiven, asked}
 use Rattle.bl_iface.specs.declared.iface.FnIface.{FnIface}
 use Rattle.bl_iface.specs.declared.iface.Iface.{Iface}
 use Rattle.bl_iface.specs.declared.iface.Role.{Role}
 use Rattle.bl_iface.specs.declared.iface.Role.TheVariants.{Client, Library}
-use Rattle.bl_iface.proofs.Appended.{get_right, get_take}
-use Rattle.bl_iface.proofs.Asked.{as_from_under, asked_apart, none_passes}
-use Rattle.bl_iface.proofs.Choosing.{some_choice}
+use Rattle.bl_iface.proofs.AppendLemmas.{get_right, get_take}
+use Rattle.bl_iface.proofs.RoleTestLemmas.{as_from_under, asked_apart, none_passes}
+use Rattle.bl_iface.proofs.FileLines.{said_more}
+use Rattle.bl_iface.proofs.LeastChoice.{some_choice}
 use Rattle.bl_trace.specs.Lines.{lines_of}
-use Rattle.bl_build.specs.Building.{AreCompilable, Built, compiling}
-use Rattle.bl_build.specs.Entering.{imaging}
-use Rattle.bl_build.specs.Interfacing.{IsGivenToSink, IsMatchable, IsParted, Parted, Side, bad_interface_line, choosing, given_sink, interfacing, matching, parting, reading, side_of, siding, unmatched_function}
-use Rattle.bl_build.specs.Joining.{AreMatchable, BothPass, Pair, Sides, Union, Unites, UnitingRefuses, are_joined, client_fails, client_side, export_taken, fails, interfacing_both, joining, library_fails, library_side, matching_both, other_types, pair_joining, pair_of, pairing, sides_of, taken_export, too_large, too_long, typing, uniting, whole, with_library}
-use Rattle.bl_build.specs.Loading.{Part}
+use Rattle.bl_build.specs.BuildStages.{AreCompilable, Built, compiling}
+use Rattle.bl_build.specs.EntryStages.{imaging}
+use Rattle.bl_build.specs.InterfaceStages.{IsGivenToSink, IsMatchable, IsParted, Parted, Side, bad_interface_line, choosing, given_sink, interfacing, matching, parting, reading, side_of, siding, unmatched_function}
+use Rattle.bl_build.specs.JoinStages.{AreMatchable, BothPass, Pair, Sides, Union, Unites, UnitingRefuses, are_joined, client_fails, client_side, export_taken, fails, interfacing_both, joining, library_fails, library_side, matching_both, other_types, pair_joining, pair_of, pairing, sides_of, taken_export, too_large, too_long, typing, uniting, whole, with_library}
+use Rattle.bl_build.specs.LoadStages.{Part}
 use Rattle.bl_job.specs.Refusals.{Refusal, limit}
 use Rattle.bl_job.specs.Stages.{Anything, IsTotalStage, beside, chain}
 use Rattle.bl_lower.proofs.WellFormed.{rules}
@@ -50,22 +47,13 @@ use Rattle.bl_job.proofs.StageLemmas.{beside_total, chain_total}
 use Rattle.bl_build.proofs.BuildLemmas.{builds_of, compiling_total, sizing_total}
 use Rattle.bl_build.proofs.Classical.{all_or_first, some_first}
 use Rattle.bl_build.proofs.ImagesTotal.{imaging_total}
-use Rattle.bl_build.proofs.JoinedImages.{joined_image}
-use Rattle.bl_build.proofs.MarkedImages.{protected_image}
+use Rattle.bl_build.proofs.JoinImages.{joined_image}
+use Rattle.bl_build.proofs.ProtectedImages.{protected_image}
 
 -- ---- interface files
 
 module _ (lines : List (List ℕ)) (made : (functions : List FnIface) → Say lines functions → ⊥) (bad : (number : ℕ) → IsFirstBadLine lines number → ⊥) where
   -- the line behind some that say functions says another one, or is bad
-  said_more : (front : List (List ℕ)) (functions : List FnIface) (line : List ℕ) (one : FnIface) → Say front functions → function_in line ≡ Some one → is_named functions one.name ≡ false
-      → Say (front ++ line ∷ []) (functions ++ one ∷ [])
-  said_more front functions line one say is none = record {
-    says = map-append function_in front (line ∷ []) ∙ ap (λ l. l ++ function_in line ∷ []) say.says ∙ ap (λ (o : Option FnIface). map Some functions ++ o ∷ []) is
-        ∙ sym (map-append Some functions (one ∷ []));
-    distinct = all_pairs_push (λ (a b : FnIface). a.name ≡ b.name → ⊥) functions one say.distinct (λ k d lt same.
-        false≢true (sym none ∙ list_any_at (λ (x : FnIface). bytes_eq one.name x.name) functions k d lt (ap (bytes_eq one.name) same ∙ (bytes_eq-Decides one.name one.name).1 refl)));
-  }
-
   bad_one : (front : List (List ℕ)) (functions : List FnIface) (line : List ℕ) (rest : List (List ℕ)) → lines ≡ front ++ line ∷ rest → Say front functions
       → ((one : FnIface) → function_in line ≡ Some one → IsTrue (is_named functions one.name)) → ⊥
   bad_one front functions line rest split say wrong = bad (suc (length front)) (record {

@@ -6,12 +6,12 @@ use Rattle.bl_cmd.specs.Sites.{is_protected, weight_of}
 use Rattle.bl_cmd.specs.declared.definitions.ProgramParts.{ProgramParts as Program}
 use Rattle.bl_graph.specs.Ranges.{AreSites}
 use Rattle.bl_cut.specs.Marks.{protected}
-use Rattle.bl_cut.proofs.Marked.{marks_are, weighs}
-use Rattle.bl_iface.specs.Answers.{JoinAnswers, StandsAgainst}
+use Rattle.bl_cut.proofs.MarkedPrograms.{marks_are, weighs}
+use Rattle.bl_iface.specs.Answers.{JoinAnswers}
 use Rattle.bl_iface.specs.Files.{IsIface}
-use Rattle.bl_iface.specs.Joining.{HasSameTypes, joined}
-use Rattle.bl_iface.specs.Matching.{IsTargetsError, Matches}
-use Rattle.bl_iface.specs.Under.{IsUnderError, asked}
+use Rattle.bl_iface.specs.JoinedProgram.{HasSameTypes, joined}
+use Rattle.bl_iface.specs.InterfaceFunctions.{IsTargetsError, Matches}
+use Rattle.bl_iface.specs.RoleTests.{IsUnderError, asked}
 use Rattle.bl_iface.specs.declared.choice.UnderError.{UnderError}
 use Rattle.bl_iface.specs.declared.choice.UnderError.TheVariants as under
 use Rattle.bl_iface.specs.declared.error.IfaceError.{IfaceError}
@@ -24,32 +24,32 @@ use Rattle.bl_iface.specs.declared.iface.Iface.{Iface}
 use Rattle.bl_iface.specs.declared.iface.Role.{Role}
 use Rattle.bl_iface.proofs.OneAnswer.{none_of_all}
 use Rattle.bl_trace.specs.Lines.{lines_of}
-use Rattle.bl_build.specs.Building.{Built, compiling, sizing}
-use Rattle.bl_build.specs.Entering.{imaging}
-use Rattle.bl_build.specs.Interfacing.{HasBadLine, IsFileOf, IsGivenToSink, IsUnmatched, Side, choosing, interfacing, matching, parting, reading, side_of, siding}
-use Rattle.bl_build.specs.Joining.{BothPass, Sides, Unites, UnitingRefuses, are_joined, client_side, export_taken, interfacing_both, joining, library_side, matching_both, other_types, pair_joining, pair_of, pairing, taken_export, too_large, too_long, typing, uniting, with_library}
-use Rattle.bl_build.specs.Loading.{Part}
-use Rattle.bl_build.specs.Working.{IsWhole, iface_told, join_told, parted_in, sides_in, targets_told, under_told, union_in}
+use Rattle.bl_build.specs.BuildStages.{Built, compiling, sizing}
+use Rattle.bl_build.specs.EntryStages.{imaging}
+use Rattle.bl_build.specs.InterfaceStages.{HasBadLine, IsFileOf, IsGivenToSink, IsUnmatched, Side, choosing, interfacing, matching, parting, reading, side_of, siding}
+use Rattle.bl_build.specs.JoinStages.{BothPass, Sides, Unites, UnitingRefuses, are_joined, client_side, export_taken, interfacing_both, joining, library_side, matching_both, pair_joining, pair_of, pairing, taken_export, too_large, too_long, typing, uniting, with_library}
+use Rattle.bl_build.specs.LoadStages.{Part}
+use Rattle.bl_build.specs.StageAnswers.{IsWhole, refusal_of_interface, parted_in, sides_in, refusal_of_targets, refusal_of_choice, union_in}
 use Rattle.bl_build.specs.declared.join.Union.{Union as UnionMade}
 use Rattle.bl_build.specs.declared.part.Parted.{Parted as PartedMade}
 use Rattle.bl_job.specs.Refusals.{Refusal, limit}
 use Rattle.bl_job.specs.Stages.{Stage, ThenRefuses, at_first, at_second, beside, chain}
-use Rattle.bl_job.specs.Working.{IsStaged, IsTold, Tells}
+use Rattle.bl_job.specs.WorkAnswers.{IsStaged, IsTold, Tells}
 use Rattle.bl_job.specs.declared.refusal.WorkError.{WorkError}
 use Rattle.bl_job.proofs.StageLemmas.{tells_on, told_as, told_memory}
 use Rattle.bl_build.proofs.BuildLemmas.{staged_behind}
 
 -- ---- why work is refused
 
-pub not_read : (bytes : List ℕ) (e : IfaceError) → IsIface (lines_of bytes) (Err e) → (w : WorkError) → IsTold (iface_told e) w → IsStaged reading (λ (iface : Iface). iface) bytes (Err w)
+pub not_read : (bytes : List ℕ) (e : IfaceError) → IsIface (lines_of bytes) (Err e) → (w : WorkError) → IsTold (refusal_of_interface e) w → IsStaged reading (λ (iface : Iface). iface) bytes (Err w)
 not_read bytes (interface.Line number) first = told_as _ (HasBadLine bytes) (record { number = number; first = first; is_refusal = refl })
 not_read bytes interface.Memory none = told_memory (HasBadLine bytes)
 
-pub not_matched : (side : Side) (e : TargetsError) → IsTargetsError side.program side.iface e → (w : WorkError) → IsTold (targets_told e) w → Tells (IsUnmatched side.program side.iface) w
+pub not_matched : (side : Side) (e : TargetsError) → IsTargetsError side.program side.iface e → (w : WorkError) → IsTold (refusal_of_targets e) w → Tells (IsUnmatched side.program side.iface) w
 not_matched side (targets.Unmatched index) first = told_as _ (IsUnmatched side.program side.iface) (record { index = index; first = first; is_refusal = refl })
 not_matched side targets.Memory none = told_memory (IsUnmatched side.program side.iface)
 
-pub not_chosen : (role : Role) (side : Side) (e : UnderError) → IsUnderError (asked role side.iface side.program) side.program e → (w : WorkError) → IsTold (under_told e) w → Tells (IsGivenToSink role side) w
+pub not_chosen : (role : Role) (side : Side) (e : UnderError) → IsUnderError (asked role side.iface side.program) side.program e → (w : WorkError) → IsTold (refusal_of_choice e) w → Tells (IsGivenToSink role side) w
 not_chosen role side (under.Sink position) first = told_as _ (IsGivenToSink role side) (record { position = position.0; first = first; is_refusal = refl })
 not_chosen role side under.Memory none = told_memory (IsGivenToSink role side)
 
@@ -139,10 +139,6 @@ module _ (sides : Sides) where
   pub sides_joined : (result : Result UnionMade WorkError) → matching_both.Passes sides sides → IsStaged (chain typing uniting) union_in sides result
       → IsStaged (chain matching_both (chain typing uniting)) union_in sides result
   sides_joined result matched h = staged_behind matching_both (chain typing uniting) union_in sides sides result matched h
-
-  pub types_refused : (index : ℕ) → StandsAgainst sides.client sides.library sides.iface (join.Types index) → (e : WorkError) → IsTold (join_told (join.Types index)) e
-      → Tells ((chain typing uniting).Refuses sides) e
-  types_refused index first = told_as (other_types index) ((chain typing uniting).Refuses sides) (at_first (record { index = index; first = first; is_refusal = refl }))
 
   pub typed : (result : Result UnionMade WorkError) → All (HasSameTypes sides.client sides.library) sides.iface.functions → IsStaged uniting union_in sides result
       → IsStaged (chain typing uniting) union_in sides result

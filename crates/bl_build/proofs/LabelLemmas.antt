@@ -5,11 +5,11 @@ use Rattle.bl_wasm.specs.declared.module.Module.{Module}
 use Rattle.bl_code.proofs.Unique.{byte_same, seq_same, vec_prefix_free}
 use Rattle.bl_labels.specs.EntryLaws.{entry_prefix_free}
 use Rattle.bl_labels.specs.Faults.{judged, sections_of}
-use Rattle.bl_labels.specs.Telling.{Answers, InSection, Tells}
+use Rattle.bl_labels.specs.LabelAnswers.{Answers, InSection, Tells}
 use Rattle.bl_labels.specs.declared.error.LabelError.{LabelError}
 use Rattle.bl_labels.specs.declared.error.LabelError.TheVariants as label
 use Rattle.bl_labels.specs.declared.labels.Labels.{Labels}
-use Rattle.bl_build.specs.Loading.{AreTold, fault_of}
+use Rattle.bl_build.specs.LoadStages.{AreTold, fault_of}
 
 -- an answer that isn't want of memory
 abbrev IsTold : Result Labels LabelError → Type 0

@@ -10,10 +10,10 @@ use Rattle.bl_link.specs.Linkable.{AreParts, IsPart, NoSolidus}
 use Rattle.bl_link.specs.Links.{part_of}
 use Rattle.bl_link.specs.declared.part.Part.{Part as LinkPart}
 use Rattle.bl_link.proofs.SpelledParts.{labelled_part}
-use Rattle.bl_build.specs.Loading.{Accepted, AreShort, LabelledModule, Named, decoding, labelling, linked_parts, parts_of, validation}
+use Rattle.bl_build.specs.LoadStages.{Accepted, AreShort, LabelledModule, Named, decoding, labelling, linked_parts, parts_of, validation}
 use Rattle.bl_text.specs.Names.{AreNamedApart, module_name}
 use Rattle.bl_job.specs.Stages.{AllPass}
-use Rattle.bl_build.proofs.LoadingLemmas.{IsAccepted, all_accepted}
+use Rattle.bl_build.proofs.LoadLemmas.{IsAccepted, all_accepted}
 use Rattle.bl_text.proofs.ModuleNames.{no_solidus}
 
 -- ---- each module beside the word of its file

@@ -5,11 +5,11 @@ use Rattle.std.specs.List.{All}
 use Rattle.std.proofs.lemmas.List.{drop_all, map-append}
 use Rattle.std.proofs.lemmas.List.Elements.{All-cons, All-head, All-nil, All-tail}
 use Rattle.bl_labels.specs.Faults.{IsConsistent}
-use Rattle.bl_build.specs.Loading.{Decodes, LabelledModule, Named, Part, decoding, parts_of}
+use Rattle.bl_build.specs.LoadStages.{Decodes, LabelledModule, Named, Part, decoding, parts_of}
 use Rattle.bl_text.specs.Names.{module_name}
 use Rattle.bl_job.specs.Stages.{Stage, at_first, at_second, chain, each}
-use Rattle.bl_job.specs.Working.{IsStaged, content_in, contents_in, refusal_in}
-use Rattle.bl_build.specs.Working.{ready_in, spelled_in}
+use Rattle.bl_job.specs.WorkAnswers.{IsStaged, content_in, contents_in, refusal_in}
+use Rattle.bl_build.specs.StageAnswers.{ready_in, spelled_in}
 use Rattle.bl_build.specs.declared.loading.Ready.{Ready}
 use Rattle.bl_build.specs.declared.loading.Spelled.{Spelled}
 use Rattle.bl_job.specs.declared.content.Content.{Content}

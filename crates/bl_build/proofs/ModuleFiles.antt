@@ -9,8 +9,8 @@ use Rattle.bl_base.specs.Quantity.{limit_of}
 use Rattle.bl_base.specs.declared.quantity.Quantity.TheVariants as quantity
 use Rattle.bl_text.proofs.ModuleNames.{no_solidus}
 use Rattle.bl_text.specs.Names.{AreNamedApart, module_name}
-use Rattle.bl_build.specs.Building.{AreCompilable}
-use Rattle.bl_build.specs.Loading.{AreLoadable, AreShort, IsLoadable, Part, parts_of}
+use Rattle.bl_build.specs.BuildStages.{AreCompilable}
+use Rattle.bl_build.specs.LoadStages.{AreLoadable, AreShort, IsLoadable, Part, parts_of}
 
 -- ---- modules in files can be loaded
 

@@ -8,13 +8,13 @@ use Rattle.bl_wasm.specs.declared.module.Module.{Module}
 use Rattle.bl_decode.specs.Supported.{IsSupported}
 use Rattle.bl_labels.specs.Entries.{section}
 use Rattle.bl_labels.specs.Faults.{judged, sections_of}
-use Rattle.bl_labels.specs.Marked.{unlabelled}
-use Rattle.bl_labels.specs.Telling.{Answers, InSection, Tells}
+use Rattle.bl_labels.specs.LabelledPlaces.{unlabelled}
+use Rattle.bl_labels.specs.LabelAnswers.{Answers, InSection, Tells}
 use Rattle.bl_labels.specs.declared.error.LabelError.{LabelError}
 use Rattle.bl_labels.specs.declared.error.LabelError.TheVariants as label_error
 use Rattle.bl_labels.specs.declared.labels.Labels.{Labels}
 use Rattle.bl_validate.specs.declared.verdict.Invalid.TheVariants as reason
-use Rattle.bl_build.specs.Loading.{DecodingRefuses, Decodes, Named, Part, bad_labels, invalid_function, invalid_module, malformed, unsupported, decoding, excess, fault_of, labelling, no_module, not_supported, validation}
+use Rattle.bl_build.specs.LoadStages.{DecodingRefuses, Decodes, Named, Part, bad_labels, invalid_function, invalid_module, malformed, unsupported, decoding, excess, fault_of, labelling, no_module, not_supported, validation}
 use Rattle.bl_job.specs.Refusals.{Refusal, limit}
 use Rattle.bl_job.specs.Stages.{Anything, IsTotalStage}
 use Rattle.bl_build.proofs.Classical.{all_or_first}

@@ -17,13 +17,13 @@ use Rattle.bl_ct.specs.declared.verdict.CtVerdict.{CtVerdict}
 use Rattle.bl_ct.specs.Verdicts.{Judges as JudgesLabels}
 use Rattle.bl_transient.specs.Transient.{nothing}
 use Rattle.bl_cut.specs.Marks.{protected}
-use Rattle.bl_cut.proofs.Leaving.{only_one}
+use Rattle.bl_cut.proofs.LeastSites.{only_one}
 use Rattle.bl_witness.specs.Verdicts.{Checks}
 use Rattle.bl_witness.specs.declared.verdict.CertVerdict.{CertVerdict}
 use Rattle.bl_witness.specs.declared.verdict.CertVerdict.TheVariants as rules
-use Rattle.bl_witness.proofs.Firsts.{broken, broken_once}
-use Rattle.bl_build.specs.Hardening.{Hardened, IsHardened, IsYes}
-use Rattle.bl_build.proofs.JudgedPrograms.{labelled_yes, yes_labelled}
+use Rattle.bl_witness.proofs.CertificateVerdicts.{broken, broken_once}
+use Rattle.bl_build.specs.HardenStage.{Hardened, IsHardened, IsYes}
+use Rattle.bl_build.proofs.ProgramVerdicts.{labelled_yes, yes_labelled}
 
 -- a certificate has one verdict
 pub one_rules : (program : Program) (certificate : Certificate) (v w : CertVerdict) → Checks program certificate v → Checks program certificate w → v ≡ w

@@ -4,12 +4,12 @@ use Rattle.std.specs.Prelude.{Ok, Err}
 use Rattle.bl_base.specs.declared.start.Start.{Start}
 use Rattle.bl_cmd.specs.declared.definitions.ProgramParts.{ProgramParts as Program}
 use Rattle.bl_rob.specs.declared.directive.Directive.{Directive}
-use Rattle.bl_build.specs.Entering.{Entry, Finds, Starts, function_named, no_export, starting}
+use Rattle.bl_build.specs.EntryStages.{Entry, Finds, Starts, function_named, no_export, starting}
 use Rattle.bl_job.specs.Stages.{at_first, at_second}
-use Rattle.bl_build.specs.Tracing.{Speculated, program_speculating}
-use Rattle.bl_job.specs.Working.{IsStaged, IsTold}
+use Rattle.bl_build.specs.TraceStages.{Speculated, program_speculating}
+use Rattle.bl_job.specs.WorkAnswers.{IsStaged, IsTold}
 use Rattle.bl_job.proofs.StageLemmas.{told_as}
-use Rattle.bl_build.specs.Working.{IsTraced, entered_in}
+use Rattle.bl_build.specs.StageAnswers.{IsTraced, entered_in}
 use Rattle.bl_job.specs.declared.refusal.WorkError.{WorkError}
 use Rattle.bl_job.specs.declared.refusal.WorkError.TheVariants as error
 

@@ -18,25 +18,24 @@ use Rattle.bl_cmd.specs.declared.definitions.ProgramParts.{ProgramParts as Progr
 use Rattle.bl_ct.specs.Verdicts.{FindsChain, IsLeastLabelling, Judges as JudgesLabels, chain_in, labelling_of}
 use Rattle.bl_ct.specs.declared.verdict.CtVerdict.{CtVerdict}
 use Rattle.bl_ct.specs.declared.verdict.CtVerdict.TheVariants as ct
-use Rattle.bl_ct.proofs.Deciding.{is_tested}
-use Rattle.bl_ct.proofs.Excluding.{chain_not, least}
-use Rattle.bl_ct.proofs.Existing.{assigns, labelling, labelling_or_chain}
-use Rattle.bl_ct.proofs.Knowing.{secrets_in_range}
-use Rattle.bl_ct.proofs.Listing.{lists_of}
+use Rattle.bl_ct.proofs.SecretTest.{is_tested, labelling}
+use Rattle.bl_ct.proofs.ChainExclusion.{chain_not, least}
+use Rattle.bl_ct.proofs.LabellingOrChain.{assigns, labelling_or_chain}
+use Rattle.bl_ct.proofs.KnownRanges.{secrets_in_range}
 use Rattle.bl_graph.specs.Certificates.{IsFlowPath, flow_through}
 use Rattle.bl_graph.specs.Labels.{KeepsLabelRules, Secret, declared, loaded, moved}
 use Rattle.bl_graph.specs.Ranges.{AreInRange, commands, variables}
 use Rattle.bl_graph.specs.declared.certificate.Certificate.{Certificate}
 use Rattle.bl_graph.specs.declared.certificate.FlowPath.{FlowPath}
 use Rattle.bl_graph.specs.declared.secret.SecretChain.{SecretChain}
-use Rattle.bl_graph.proofs.Ranging.{in_range}
+use Rattle.bl_graph.proofs.RangeLemmas.{in_range}
 use Rattle.bl_transient.specs.Transient.{Assigns, Passes, Trans, nothing}
 use Rattle.bl_transient.specs.Verdicts.{IsFirstLeak, IsLeastTyping, Judges as JudgesFlow, typing_of}
 use Rattle.bl_report.specs.Verdicts.{leak_in}
-use Rattle.bl_sct.proofs.Assessing.{hot}
+use Rattle.bl_sct.proofs.AssessLemmas.{hot}
 use Rattle.bl_transient.specs.declared.transient.FlowVerdict.{FlowVerdict}
 use Rattle.bl_transient.specs.declared.transient.FlowVerdict.TheVariants as flow
-use Rattle.bl_transient.proofs.Typings.{is_trans, least_assigns, least_typing, typing_trans}
+use Rattle.bl_transient.proofs.LeastTypings.{is_trans, least_assigns, least_typing, typing_trans}
 use Rattle.bl_witness.specs.Verdicts.{ArePaths, Breaks, BreaksPath, Checks, Fits, at_path, at_position, at_sums, no_amount, no_chain, not_once}
 use Rattle.bl_witness.specs.declared.verdict.CertVerdict.{CertVerdict}
 use Rattle.bl_witness.specs.declared.verdict.CertVerdict.TheVariants as cert
@@ -202,7 +201,7 @@ label_of_mark false = label.Public
 
 module _ (program : Program) (facts : IsProgram program) (rules : IsWellFormed program) where
   abbrev secret : ℕ → Bool
-  secret = labelling program (lists_of program)
+  secret = labelling program
 
   secret_within : (x : ℕ) → Secret program x → x < variables program
   secret_within x (declared _ origin h) = (secrets_in_range program facts rules).declared x origin h
@@ -220,7 +219,7 @@ module _ (program : Program) (facts : IsProgram program) (rules : IsWellFormed p
         | inr past ↦
             ap Rattle.bl_ct.specs.Verdicts.is_secret (table_past (variables program) (λ x. label_of_mark (secret x)) x past)
             ∙ elim (cases_Bool (secret x)) as (λ _. false ≡ secret x) [
-              | inl e ↦ let lt = secret_within x ((is_tested program (lists_of program) x).0 e) in absurd (omega arith)
+              | inl e ↦ let lt = secret_within x ((is_tested program x).0 e) in absurd (omega arith)
               | inr e ↦ sym e
             ]
       ]
@@ -240,7 +239,7 @@ module _ (program : Program) (facts : IsProgram program) (rules : IsWellFormed p
   stays_public : (other : ℕ → Bool) → KeepsLabelRules program other → (x : ℕ) → IsTrue (not (other x)) → IsTrue (not (secret x))
   stays_public other is x public =
       elim (cases_Bool (secret x)) as (λ _. IsTrue (not (secret x))) [
-        | inl e ↦ absurd (false≢true (sym (not_from_true (other x) (least program other x is.assigns ((is_tested program (lists_of program) x).0 e))) ∙ public))
+        | inl e ↦ absurd (false≢true (sym (not_from_true (other x) (least program other x is.assigns ((is_tested program x).0 e))) ∙ public))
         | inr e ↦ not_from_false (secret x) e
       ]
 
@@ -248,14 +247,14 @@ module _ (program : Program) (facts : IsProgram program) (rules : IsWellFormed p
   least_labels other is = record {
     places = many_labels;
     labelled = subst (KeepsLabelRules program) (sym same_labels) (record {
-      assigns = assigns program (lists_of program);
+      assigns = assigns program;
       sinks = λ position x h. stays_public other is x (is.sinks position x h);
       stores = λ position x h. stays_public other is x (is.stores position x h);
       demanded = λ x h. stays_public other is x (is.demanded x h);
     });
     least = λ x. (
-      (λ h. (is_tested program (lists_of program) x).0 (sym (same_label x) ∙ h)),
-      (λ t. same_label x ∙ (is_tested program (lists_of program) x).1 t),
+      (λ h. (is_tested program x).0 (sym (same_label x) ∙ h)),
+      (λ t. same_label x ∙ (is_tested program x).1 t),
     );
   }
 
@@ -266,7 +265,7 @@ module _ (program : Program) (facts : IsProgram program) (rules : IsWellFormed p
 
   pub some_label_verdict : (verdict : CtVerdict) × JudgesLabels program verdict
   some_label_verdict =
-      elim (labelling_or_chain program (secrets_in_range program facts rules) (lists_of program)) as (λ _. (verdict : CtVerdict) × JudgesLabels program verdict) [
+      elim (labelling_or_chain program (secrets_in_range program facts rules)) as (λ _. (verdict : CtVerdict) × JudgesLabels program verdict) [
         | inl constant ↦ (ct.Yes labels, least_labels constant.0 constant.1)
         | inr chain ↦ (
           ct.No chain.0,

@@ -2,13 +2,13 @@
 ghost use Rattle.std.specs.Prelude.{◌≡◌, ◌≤◌, Some, length, map};
 ghost use Rattle.bl_base.specs.Quantity.{limit_of};
 ghost use Rattle.bl_base.specs.declared.quantity.Quantity.TheVariants as quantity;
-ghost use Rattle.bl_build.specs.Building.{building, compiling, lowering, sizing};
-ghost use Rattle.bl_build.specs.Loading.{AreShort, parts_of};
+ghost use Rattle.bl_build.specs.BuildStages.{building, compiling, lowering, sizing};
+ghost use Rattle.bl_build.specs.LoadStages.{AreShort, parts_of};
 ghost use Rattle.bl_text.specs.Names.{AreNamedApart};
-ghost use Rattle.bl_build.specs.Weighing.{building_by, compiling_by, counted_sources, weighing};
+ghost use Rattle.bl_build.specs.WeightStages.{building_by, compiling_by, counted_sources, weighing};
 ghost use Rattle.bl_job.specs.Stages.{chain};
-ghost use Rattle.bl_job.specs.Working.{IsStaged, contents_in};
-ghost use Rattle.bl_build.specs.Working.{built_in};
+ghost use Rattle.bl_job.specs.WorkAnswers.{IsStaged, contents_in};
+ghost use Rattle.bl_build.specs.StageAnswers.{built_in};
 
 use crate::counts::weighed;
 use crate::loading::load;
@@ -110,18 +110,9 @@ fn weighed_built(alloc: Global, program: WellFormed, counts: &[u8]) -> Result<Bu
     }
 }
 
-/// The program of a linked tree, which is freed; Refused exactly where the program has too many commands.
+/// The program of a linked tree; Refused exactly where it has too many commands.
 fn lowered(alloc: Global, linked: Linked) -> Result<WellFormed, WorkError>
     ensures { IsStaged lowering (λ program. program) linked result }
-{
-    let program = program_of(alloc, &linked);
-    drop(linked);
-    program
-}
-
-/// The program of a linked tree; Refused exactly where it has too many commands.
-fn program_of(alloc: Global, linked: &Linked) -> Result<WellFormed, WorkError>
-    ensures { IsStaged lowering (λ program. program) linked.now result }
 {
     match lower(alloc, linked) {
         Ok(program) => {

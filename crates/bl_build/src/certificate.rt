@@ -1,6 +1,6 @@
 //! From the bytes of a certificate to the certificate.
-ghost use Rattle.bl_job.specs.Working.{IsTold};
-ghost use Rattle.bl_build.specs.Working.{IsCertificateOf, cert_told};
+ghost use Rattle.bl_job.specs.WorkAnswers.{IsTold};
+ghost use Rattle.bl_build.specs.StageAnswers.{IsCertificateOf, refusal_of_certificate};
 
 use bl_graph::Certificate;
 use bl_job::{Reason, WorkError, refused};
@@ -19,7 +19,7 @@ pub fn read_certificate(alloc: Global, bytes: &[u8]) -> Result<Certificate, Work
 
 /// Why there is no certificate.
 fn of_certificate(alloc: Global, error: CertError) -> WorkError
-    ensures { IsTold (cert_told error) result }
+    ensures { IsTold (refusal_of_certificate error) result }
 {
     match error {
         CertError::NotJson => {

@@ -1,7 +1,7 @@
 //! Programs that are weighed by the counts of recorded runs.
 ghost use Rattle.std.specs.Prelude.{◌≡◌, Some};
-ghost use Rattle.bl_build.specs.Weighing.{IsCounted, IsOfProgram, bad_counts, count_file_told, weigh_told, weighing};
-ghost use Rattle.bl_job.specs.Working.{IsStaged, IsTold};
+ghost use Rattle.bl_build.specs.WeightStages.{IsCounted, IsOfProgram, bad_counts, refusal_of_count_file, refusal_of_weighing, weighing};
+ghost use Rattle.bl_job.specs.WorkAnswers.{IsStaged, IsTold};
 
 use bl_base::List;
 use bl_cmd::WellFormed;
@@ -97,7 +97,7 @@ fn of_program(
 
 /// Why a count file isn't read.
 fn of_count_file(alloc: Global, error: CountFileError) -> WorkError
-    ensures { IsTold (count_file_told error) result }
+    ensures { IsTold (refusal_of_count_file error) result }
 {
     match error {
         CountFileError::Line(number) => bad_counts(alloc, CountFault::Line(number)),
@@ -107,7 +107,7 @@ fn of_count_file(alloc: Global, error: CountFileError) -> WorkError
 
 /// Why a program isn't weighed.
 fn of_weighing(alloc: Global, error: CountError) -> WorkError
-    ensures { IsTold (weigh_told error) result }
+    ensures { IsTold (refusal_of_weighing error) result }
 {
     match error {
         CountError::Site(at) => bad_counts(alloc, CountFault::Site(at.0)),

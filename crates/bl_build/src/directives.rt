@@ -1,6 +1,6 @@
 //! From the bytes of a trace file to its directives.
-ghost use Rattle.bl_job.specs.Working.{IsTold};
-ghost use Rattle.bl_build.specs.Working.{IsTraced, trace_told};
+ghost use Rattle.bl_job.specs.WorkAnswers.{IsTold};
+ghost use Rattle.bl_build.specs.StageAnswers.{IsTraced, refusal_of_trace};
 
 use bl_base::{List, Quantity};
 use bl_job::{Reason, WorkError, limit, refused_at};
@@ -24,7 +24,7 @@ pub(crate) fn read_directives(alloc: Global, bytes: &[u8]) -> Result<List<Direct
 
 /// Why there are no directives.
 fn of_trace(alloc: Global, error: TraceError) -> WorkError
-    ensures { IsTold (trace_told error) result }
+    ensures { IsTold (refusal_of_trace error) result }
 {
     match error {
         TraceError::Line(number) => refused_at(alloc, Reason::Trace, "trace: line ", "", number),

@@ -1,9 +1,9 @@
 //! From the bytes of an image to its program, to an exported function of it, and to a start of the function.
 ghost use Rattle.std.specs.Prelude.{◌≡◌, IfOk, MatchOption, None, Some, slice_get};
 ghost use Rattle.bl_cmd.specs.Outcomes.{IsStart};
-ghost use Rattle.bl_build.specs.Entering.{Finds, broken_rule, function_named, imaging, kinds_of, pages_of, starting};
-ghost use Rattle.bl_job.specs.Working.{IsStaged, IsTold};
-ghost use Rattle.bl_build.specs.Working.{entered_in, entry_in, image_told};
+ghost use Rattle.bl_build.specs.EntryStages.{Finds, broken_rule, function_named, imaging, kinds_of, pages_of, starting};
+ghost use Rattle.bl_job.specs.WorkAnswers.{IsStaged, IsTold};
+ghost use Rattle.bl_build.specs.StageAnswers.{entered_in, entry_in, refusal_of_image};
 
 use crate::start::of_start;
 use bl_base::{NoMemory, Start, ValueType};
@@ -38,7 +38,7 @@ pub fn read_image(alloc: Global, bytes: &[u8]) -> Result<WellFormed, WorkError>
 
 /// Why there is no program.
 fn of_image(alloc: Global, error: ImageError) -> WorkError
-    ensures { IsTold (image_told error) result }
+    ensures { IsTold (refusal_of_image error) result }
 {
     match error {
         ImageError::NotAnImage => refused(alloc, Reason::Image, "image: not an image", "", ""),

@@ -2,13 +2,13 @@
 ghost use Rattle.std.specs.Prelude.{◌≡◌, ◌≤◌, IfOk, length, map};
 ghost use Rattle.bl_base.specs.Quantity.{limit_of};
 ghost use Rattle.bl_base.specs.declared.quantity.Quantity.TheVariants as quantity;
-ghost use Rattle.bl_build.specs.Hardening.{IsHardened, hardening};
+ghost use Rattle.bl_build.specs.HardenStage.{IsHardened, hardening};
 ghost use Rattle.bl_ct.specs.Verdicts.{Judges};
-ghost use Rattle.bl_build.specs.Loading.{AreShort, parts_of};
+ghost use Rattle.bl_build.specs.LoadStages.{AreShort, parts_of};
 ghost use Rattle.bl_text.specs.Names.{AreNamedApart};
-ghost use Rattle.bl_build.specs.Weighing.{counted_sources, hardening_by};
-ghost use Rattle.bl_job.specs.Working.{IsStaged, contents_in};
-ghost use Rattle.bl_build.specs.Working.{hardened_in};
+ghost use Rattle.bl_build.specs.WeightStages.{counted_sources, hardening_by};
+ghost use Rattle.bl_job.specs.WorkAnswers.{IsStaged, contents_in};
+ghost use Rattle.bl_build.specs.StageAnswers.{hardened_in};
 
 use crate::build::{compile, compile_by};
 use bl_base::{NoMemory, Text};

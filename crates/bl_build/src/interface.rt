@@ -1,7 +1,7 @@
 //! Interface files, and the functions of an interface in a program.
-ghost use Rattle.bl_build.specs.Interfacing.{matching, reading, side_of};
-ghost use Rattle.bl_build.specs.Working.{iface_told, targets_told};
-ghost use Rattle.bl_job.specs.Working.{IsStaged, IsTold};
+ghost use Rattle.bl_build.specs.InterfaceStages.{matching, reading, side_of};
+ghost use Rattle.bl_build.specs.StageAnswers.{refusal_of_interface, refusal_of_targets};
+ghost use Rattle.bl_job.specs.WorkAnswers.{IsStaged, IsTold};
 
 use bl_cmd::WellFormed;
 use bl_iface::{Iface, IfaceError, TargetsError, read_iface, targets};
@@ -21,7 +21,7 @@ pub(crate) fn read_interface(alloc: Global, bytes: &[u8]) -> Result<Iface, WorkE
 
 /// Why a file is no interface.
 fn of_interface(alloc: Global, error: IfaceError) -> WorkError
-    ensures { IsTold (iface_told error) result }
+    ensures { IsTold (refusal_of_interface error) result }
 {
     match error {
         IfaceError::Line(number) => {
@@ -46,7 +46,7 @@ pub(crate) fn match_all(alloc: Global, program: &WellFormed, iface: &Iface) -> R
 
 /// Why a program doesn't have all functions of an interface.
 fn of_targets(alloc: Global, error: TargetsError) -> WorkError
-    ensures { IsTold (targets_told error) result }
+    ensures { IsTold (refusal_of_targets error) result }
 {
     match error {
         TargetsError::Unmatched(index) => {

@@ -1,13 +1,13 @@
 //! A client and a library joined by the bytes of their images and of an interface file.
 ghost use Rattle.std.specs.Prelude.{IfOk};
 ghost use Rattle.std.specs.List.{All};
-ghost use Rattle.bl_build.specs.Working.{FindsFailing, IsWhole, join_told, sides_in, union_in};
-ghost use Rattle.bl_build.specs.Joining.{joining, matching_both, pair_joining, pair_of, typing, uniting, with_library};
+ghost use Rattle.bl_build.specs.StageAnswers.{FindsFailing, IsWhole, refusal_of_join, sides_in, union_in};
+ghost use Rattle.bl_build.specs.JoinStages.{joining, matching_both, pair_joining, pair_of, typing, uniting, with_library};
 ghost use Rattle.bl_iface.specs.Answers.{JoinAnswers};
-ghost use Rattle.bl_iface.specs.Joining.{HasSameTypes};
-ghost use Rattle.bl_iface.specs.Matching.{Matches};
+ghost use Rattle.bl_iface.specs.JoinedProgram.{HasSameTypes};
+ghost use Rattle.bl_iface.specs.InterfaceFunctions.{Matches};
 ghost use Rattle.bl_job.specs.Stages.{chain};
-ghost use Rattle.bl_job.specs.Working.{IsStaged, IsTold};
+ghost use Rattle.bl_job.specs.WorkAnswers.{IsStaged, IsTold};
 
 use crate::build::{Built, sized};
 use crate::entry::read_image;
@@ -193,7 +193,7 @@ fn whole(alloc: Global, joined: Result<WellFormed, JoinError>) -> Result<Union, 
 
 /// Why two programs aren't joined.
 fn of_joining(alloc: Global, error: JoinError) -> WorkError
-    ensures { IsTold (join_told error) result }
+    ensures { IsTold (refusal_of_join error) result }
 {
     match error {
         JoinError::Types(index) => {

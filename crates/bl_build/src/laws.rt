@@ -8,22 +8,23 @@ ghost use Rattle.bl_ct.specs.declared.verdict.CtVerdict.{CtVerdict};
 ghost use Rattle.bl_graph.specs.declared.certificate.Certificate.{Certificate};
 ghost use Rattle.bl_transient.specs.Verdicts.{Judges as JudgesFlow};
 ghost use Rattle.bl_transient.specs.declared.transient.FlowVerdict.{FlowVerdict};
+ghost use Rattle.bl_witness.specs.Texts.{certificate_text};
 ghost use Rattle.bl_witness.specs.Verdicts.{Checks};
 ghost use Rattle.bl_witness.specs.declared.verdict.CertVerdict.{CertVerdict};
 ghost use Rattle.bl_image.specs.Image.{Image};
 ghost use Rattle.bl_wasm.specs.Linked.{IsLinked};
-ghost use Rattle.bl_build.specs.Building.{AreCompilable, compiling, lowering, sizing};
-ghost use Rattle.bl_build.specs.Certifying.{certifying};
-ghost use Rattle.bl_build.specs.Entering.{finding, imaging, starting};
-ghost use Rattle.bl_build.specs.Interfacing.{IsMatchable, choosing, matching, reading};
-ghost use Rattle.bl_build.specs.Joining.{AreMatchable, typing, uniting};
+ghost use Rattle.bl_build.specs.BuildStages.{AreCompilable, compiling, lowering, sizing};
+ghost use Rattle.bl_build.specs.CertificateStages.{certifying, verifying};
+ghost use Rattle.bl_build.specs.EntryStages.{finding, imaging, starting};
+ghost use Rattle.bl_build.specs.InterfaceStages.{IsMatchable, choosing, matching, reading};
+ghost use Rattle.bl_build.specs.JoinStages.{AreMatchable, typing, uniting};
 ghost use Rattle.bl_iface.specs.declared.iface.Role.{Role};
-ghost use Rattle.bl_build.specs.Hardening.{Hardened, IsHardened};
-ghost use Rattle.bl_build.specs.Loading.{AreLoadable, decoding, labelling, linking, loading, validation};
-ghost use Rattle.bl_build.specs.Running.{invoking};
+ghost use Rattle.bl_build.specs.HardenStage.{Hardened, IsHardened};
+ghost use Rattle.bl_build.specs.LoadStages.{AreLoadable, decoding, labelling, linking, loading, validation};
+ghost use Rattle.bl_build.specs.InvocationStages.{invoking};
 ghost use Rattle.bl_job.specs.Stages.{Anything, IsLawfulStage, IsTotalStage};
-ghost use Rattle.bl_build.specs.Tracing.{tracing};
-ghost use Rattle.bl_build.specs.Weighing.{compiling_by, weighing};
+ghost use Rattle.bl_build.specs.TraceStages.{tracing};
+ghost use Rattle.bl_build.specs.WeightStages.{compiling_by, weighing};
 
 /// Each stage makes one thing of a value, or refuses it for one reason, and never both. So do chains of stages and a stage on each of a list.
 pub fn stages_are_lawful()
@@ -80,4 +81,10 @@ pub fn programs_have_verdicts()
 /// constant time, and an image. It can't be that there is none.
 pub fn programs_are_hardened()
     ensures { (bare : Program) (image : Listed ℕ) → IsWellFormed bare → Image bare image → ((hardened : Hardened) → IsHardened bare hardened → ⊥) → ⊥ }
+{}
+
+/// The image of a hardened program and the text of its certificate pass the stages of `verify`, which read that program and that certificate.
+pub fn hardened_files_pass()
+    ensures { (bare : Program) → IsProgram bare → IsWellFormed bare → (hardened : Hardened) → IsHardened bare hardened
+        → (verifying (certificate_text hardened.certificate)).Passes hardened.image (record { program = hardened.program; certificate = hardened.certificate }) }
 {}

@@ -5,16 +5,16 @@ ghost use Rattle.std.specs.List.{All};
 ghost use Rattle.bl_base.specs.Quantity.{limit_of};
 ghost use Rattle.bl_base.specs.declared.quantity.Quantity.TheVariants as quantity;
 ghost use Rattle.bl_wasm.specs.Validity.{functions_of};
-ghost use Rattle.bl_decode.specs.Decoding.{Answers};
+ghost use Rattle.bl_decode.specs.DecoderAnswers.{Answers};
 ghost use Rattle.bl_labels.specs.Faults.{IsConsistent};
 ghost use Rattle.bl_link.specs.Faults.{NamesPart};
 ghost use Rattle.bl_link.specs.Linkable.{AreParts};
 ghost use Rattle.bl_link.specs.Links.{part_of};
-ghost use Rattle.bl_build.specs.Loading.{AreShort, bad_import, bad_labels, decoding, invalid_function, labelling, linked_parts, linking, loading, parts_of, validation};
+ghost use Rattle.bl_build.specs.LoadStages.{AreShort, bad_import, bad_labels, decoding, invalid_function, labelling, linked_parts, linking, loading, parts_of, validation};
 ghost use Rattle.bl_text.specs.Names.{AreNamedApart, module_name as name_of};
 ghost use Rattle.bl_job.specs.Stages.{each};
-ghost use Rattle.bl_job.specs.Working.{IsStaged, IsTold, content_in, contents_in};
-ghost use Rattle.bl_build.specs.Working.{IsLinkingError, checked_in, decoding_told, labels_told, ready_in, spelled_in, validation_told};
+ghost use Rattle.bl_job.specs.WorkAnswers.{IsStaged, IsTold, content_in, contents_in};
+ghost use Rattle.bl_build.specs.StageAnswers.{IsLinkingError, checked_in, refusal_of_decoding, refusal_of_labels, ready_in, spelled_in, refusal_of_validation};
 
 use bl_base::{List, NoMemory, Text};
 use bl_decode::{DecodeError, decode};
@@ -124,7 +124,7 @@ fn decoded(alloc: Global, content: Content) -> Result<Module, DecodeError>
 
 /// Why the bytes of a module of that name are refused that aren't decoded.
 fn of_decoding(alloc: Global, name: &str, error: DecodeError) -> WorkError
-    ensures { IsTold (decoding_told name.now error) result }
+    ensures { IsTold (refusal_of_decoding name.now error) result }
 {
     match error {
         DecodeError::Malformed => refused(alloc, Reason::Malformed, "malformed: ", name, ""),
@@ -167,7 +167,7 @@ fn validated<'a>(alloc: Global, one: Spelled<'a>) -> Result<Checked<'a>, WorkErr
 
 /// Why a module of that name is refused that isn't valid.
 fn of_validation(alloc: Global, name: &str, reason: Invalid) -> WorkError
-    ensures { IsTold (validation_told name.now reason) result }
+    ensures { IsTold (refusal_of_validation name.now reason) result }
 {
     match reason {
         Invalid::Function(index) => invalid_function(alloc, name, index),
@@ -223,7 +223,7 @@ fn labelled<'a>(alloc: Global, one: Checked<'a>) -> Result<Ready<'a>, WorkError>
 
 /// Why a module of that name is refused whose labels aren't read.
 fn of_labels(alloc: Global, name: &str, error: LabelError) -> WorkError
-    ensures { IsTold (labels_told name.now error) result }
+    ensures { IsTold (refusal_of_labels name.now error) result }
 {
     match error {
         LabelError::Malformed => bad_labels(alloc, name, " malformed"),

@@ -6,11 +6,11 @@ ghost use Rattle.std.specs.FinSet as fin;
 ghost use Rattle.bl_cmd.specs.Sites.{is_protected, weight_of};
 ghost use Rattle.bl_cut.specs.Marks.{protected};
 ghost use Rattle.bl_image.specs.Image.{Image};
-ghost use Rattle.bl_build.specs.Working.{parted_in, under_told};
-ghost use Rattle.bl_build.specs.Interfacing.{choosing, parting, side_of, siding};
-ghost use Rattle.bl_build.specs.Loading.{AreShort, parts_of};
-ghost use Rattle.bl_iface.specs.Matching.{Matches};
-ghost use Rattle.bl_job.specs.Working.{IsStaged, IsTold, contents_in};
+ghost use Rattle.bl_build.specs.StageAnswers.{parted_in, refusal_of_choice};
+ghost use Rattle.bl_build.specs.InterfaceStages.{choosing, parting, side_of, siding};
+ghost use Rattle.bl_build.specs.LoadStages.{AreShort, parts_of};
+ghost use Rattle.bl_iface.specs.InterfaceFunctions.{Matches};
+ghost use Rattle.bl_job.specs.WorkAnswers.{IsStaged, IsTold, contents_in};
 ghost use Rattle.bl_text.specs.Names.{AreNamedApart};
 
 use crate::build::compile;
@@ -123,7 +123,7 @@ fn protected(alloc: Global, bare: WellFormed, choice: UnderChoice) -> Result<Par
 
 /// Why nothing is chosen.
 fn of_choice(alloc: Global, error: UnderError) -> WorkError
-    ensures { IsTold (under_told error) result }
+    ensures { IsTold (refusal_of_choice error) result }
 {
     match error {
         UnderError::Sink(at) => refused_at(

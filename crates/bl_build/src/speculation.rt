@@ -1,9 +1,9 @@
 //! An exported function of a program, with the directives of a trace file and the start that a start file asks for.
 ghost use Rattle.std.specs.Prelude.{◌≡◌, IfOk, Some, slice_get};
 ghost use Rattle.bl_cmd.specs.Outcomes.{IsStart};
-ghost use Rattle.bl_build.specs.Tracing.{program_speculating};
-ghost use Rattle.bl_job.specs.Working.{IsStaged};
-ghost use Rattle.bl_build.specs.Working.{speculated_in};
+ghost use Rattle.bl_build.specs.TraceStages.{program_speculating};
+ghost use Rattle.bl_job.specs.WorkAnswers.{IsStaged};
+ghost use Rattle.bl_build.specs.StageAnswers.{speculated_in};
 
 use crate::directives::read_directives;
 use crate::entry::{Entry, find_entry, read_entry_start};

@@ -1,8 +1,8 @@
 //! Exports that are absent, and start files that give no start.
 ghost use Rattle.std.specs.Prelude.{Some};
-ghost use Rattle.bl_build.specs.Entering.{no_export};
-ghost use Rattle.bl_job.specs.Working.{IsTold};
-ghost use Rattle.bl_build.specs.Working.{start_told};
+ghost use Rattle.bl_build.specs.EntryStages.{no_export};
+ghost use Rattle.bl_job.specs.WorkAnswers.{IsTold};
+ghost use Rattle.bl_build.specs.StageAnswers.{refusal_of_start};
 
 use bl_job::{Reason, WorkError, refused, refused_at};
 use bl_trace::StartError;
@@ -10,7 +10,7 @@ use std::alloc::Global;
 
 /// Why a function isn't run whose start file gives no start.
 pub fn of_start(alloc: Global, error: StartError) -> WorkError
-    ensures { IsTold (start_told error) result }
+    ensures { IsTold (refusal_of_start error) result }
 {
     match error {
         StartError::Line(number) => refused_at(alloc, Reason::Start, "start: line ", "", number),

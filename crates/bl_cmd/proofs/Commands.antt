@@ -131,33 +131,7 @@ tested_is place address memory bytes set test t way answer good behind at_set at
           }),
     )
 
--- another variable than the one that its Set writes
-pub untested_by : (place : Place) (address : Operand) (memory bytes : ℕ) (set test : Command) (t : ℕ) (answer : Bool)
-    → entry_of place.parts.now place.function + 2 ≤ place.position
-    → command_at place.parts.now (place.position - 2) ≡ Some set → command_at place.parts.now (place.position - 1) ≡ Some test
-    → (mark : Mark) × (Some set ≡ assign mark Outside t address (variable (size_of place.parts.now memory)) (Const bytes))
-    → ((way : ℕ) → Some test ≡ branch t way place.position → ⊥)
-    → IsTested place.parts.now place.function place.position (record { address = address; memory = memory; bytes = bytes }) → ⊥
-untested_by place address memory bytes set test t answer behind at_set at_test sets none tested =
-    let here = tested.place in
-    let first_is : tested.first ≡ place.position - 2 = omega arith in
-    let one : suc tested.first ≡ place.position - 1 = omega arith in
-    let t_is : tested.t ≡ t = same_set _ _ _ _ _ _ _ _ _ _ _ _ (sym tested.set ∙ ap (command_at place.parts.now) first_is ∙ at_set ∙ sets.1) in
-    none tested.yes (sym at_test ∙ ap (command_at place.parts.now) (sym one) ∙ tested.test ∙ ap (λ (k : ℕ). branch k tested.yes place.position) t_is)
-
 -- ---- a growth
-
--- a position behind one that no function begins at, so many times, is behind the function's entry
-pub growth_behind : (place : Place) (memory : ℕ) (delta : Operand) → IsPlace place → IsGrowth place.parts.now place.function place.position memory delta → entry_of place.parts.now place.function + 4 ≤ place.position
-growth_behind place memory delta good growth =
-    let holds = good.holds in
-    let from = holds.from in
-    let here = growth.place in
-    let a = growth.passed_t.entries place.function holds.exists in
-    let b = growth.passed_test.entries place.function holds.exists in
-    let c = growth.guarded.entries place.function holds.exists in
-    let d = growth.passed_size.entries place.function holds.exists in
-    omega arith
 
 module _ (place : Place) (memory : ℕ) (delta : Operand) (behind : entry_of place.parts.now place.function + 4 ≤ place.position) where
   -- where the four commands of a growth stand

@@ -1,8 +1,8 @@
 pub mod Commands
-pub mod Entering
+pub mod EntrantLemmas
 pub mod Faults
 pub mod Layouts
-pub mod Rising
-mod Rows
-pub mod Tabled
+pub mod AscendingLists
+mod WorkedExamples
+pub mod TableLemmas
 pub mod Totals

@@ -30,18 +30,18 @@ joined None from = record { least = from; greatest = from }
 joined (Some entrants) from = record { least = entrants.least; greatest = from }
 
 -- with one more that goes to a position, if it is one of those that are kept
-abbrev pub noted : List (Option Entrants) → ℕ → ℕ → List (Option Entrants)
-noted entrants from to = set entrants to (Some (joined (unwrap_or (slice_get entrants to) None) from))
+abbrev pub with_entrant : List (Option Entrants) → ℕ → ℕ → List (Option Entrants)
+with_entrant entrants from to = set entrants to (Some (joined (unwrap_or (slice_get entrants to) None) from))
 
 -- with the command at a position
-abbrev pub noted_by : Command → List (Option Entrants) → ℕ → List (Option Entrants)
-noted_by (Set mark op to a b c) entrants from = entrants
-noted_by (Load mark kind memory to offset address) entrants from = entrants
-noted_by (Store kind memory offset address value) entrants from = entrants
-noted_by (Test cond one other) entrants from = noted (noted entrants from one.0) from other.0
-noted_by (Jump to) entrants from = noted entrants from to.0
-noted_by (Arg mark function index value) entrants from = entrants
-noted_by (Call function) entrants from = entrants
-noted_by (Out mark index value) entrants from = entrants
-noted_by Ret entrants from = entrants
-noted_by (Trap kind) entrants from = entrants
+abbrev pub with_entrants : Command → List (Option Entrants) → ℕ → List (Option Entrants)
+with_entrants (Set mark op to a b c) entrants from = entrants
+with_entrants (Load mark kind memory to offset address) entrants from = entrants
+with_entrants (Store kind memory offset address value) entrants from = entrants
+with_entrants (Test cond one other) entrants from = with_entrant (with_entrant entrants from one.0) from other.0
+with_entrants (Jump to) entrants from = with_entrant entrants from to.0
+with_entrants (Arg mark function index value) entrants from = entrants
+with_entrants (Call function) entrants from = entrants
+with_entrants (Out mark index value) entrants from = entrants
+with_entrants Ret entrants from = entrants
+with_entrants (Trap kind) entrants from = entrants

@@ -3,7 +3,7 @@ use Rattle.std.specs.Prelude.{◌≡◌, ◌<◌, ◌^◌, ℕ, IsTrue, not, Lis
 use Rattle.bl_base.specs.Trap.{trap_number}
 use Rattle.bl_base.specs.declared.trap.Trap.{Trap as TrapKind}
 use Rattle.bl_ops.specs.Access.{is_load}
-use Rattle.bl_ops.specs.Table.{row_of}
+use Rattle.bl_ops.specs.OperatorTable.{row_of}
 use Rattle.bl_ops.specs.declared.op.Op.{Op}
 use Rattle.bl_ops.specs.declared.op.Op.TheVariants.{Move}
 use Rattle.bl_ops.specs.declared.op.OpRow.{OpRow}

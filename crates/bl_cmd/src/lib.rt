@@ -19,7 +19,9 @@ pub use definitions::{
     Demand, ExportDef, FunctionDef, GlobalDef, MemRow, MemoryDef, ParamDef, ProgramParts,
     SiteWeight,
 };
+pub use place::owner_among;
 pub use program::{Program, arity};
+pub use tables::firsts_of;
 pub use verdict::{CheckError, check};
 pub use weights::{mark_at, site_weight, weight};
 pub use wellformed::WellFormed;

@@ -277,7 +277,7 @@ fn is_result(function: &FunctionDef, index: usize) -> bool
 
 /// Of numbers that begin ranges, where the last one ends the last range: the number of a range that holds x; None where none
 /// does. A binary search.
-fn owner_among(firsts: &[u32], x: u32) -> Option<usize>
+pub fn owner_among(firsts: &[u32], x: u32) -> Option<usize>
     requires { 0 < length firsts.now }
     ensures { MatchOption result ((x < slice_index firsts.now 0) ⊎ (slice_index firsts.now (length firsts.now - 1) ≤ x))
         (λ owner. (owner + 1 < length firsts.now) × (slice_index firsts.now owner ≤ x) × (x < slice_index firsts.now (owner + 1))) }

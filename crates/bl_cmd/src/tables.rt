@@ -4,7 +4,7 @@ ghost use Rattle.bl_cmd.specs.Layout.{first_of, entry_of};
 ghost use Rattle.bl_cmd.specs.Programs.{IsProgram};
 ghost use Rattle.bl_cmd.specs.Rules.{Rule2};
 ghost use Rattle.bl_cmd.specs.Tables.{AreTables, AreValues};
-ghost use Rattle.bl_cmd.specs.Entrants.{AreEntrants, joined, noted, noted_by};
+ghost use Rattle.bl_cmd.specs.Entrants.{AreEntrants, joined, with_entrant, with_entrants};
 
 use crate::command::Command;
 use crate::definitions::ProgramParts;
@@ -50,7 +50,7 @@ impl Tables {
 }
 
 /// The first variable of each function, and the number of all variables.
-fn firsts_of(alloc: Global, parts: &ProgramParts) -> Result<List<u32>, NoMemory>
+pub fn firsts_of(alloc: Global, parts: &ProgramParts) -> Result<List<u32>, NoMemory>
     requires { Rule2 parts.now }
     ensures { IfOk result (λ firsts. AreValues (first_of parts.now) (length parts.now.functions) firsts) }
 {
@@ -105,7 +105,7 @@ fn no_entrants(alloc: Global, count: usize) -> Result<Vec<Option<Entrants>>, NoM
 
 /// Notes the command at a position with those that it names.
 fn note_command(entrants: &mut Vec<Option<Entrants>>, from: u32, command: Command)
-    ensures { entrants.new.items ≡ noted_by command entrants.old.items from }
+    ensures { entrants.new.items ≡ with_entrants command entrants.old.items from }
 {
     match command {
         Command::Test { yes, no, .. } => {
@@ -119,7 +119,7 @@ fn note_command(entrants: &mut Vec<Option<Entrants>>, from: u32, command: Comman
 
 /// Notes the command at a position, behind all that stand before it, with one that it names.
 fn note(entrants: &mut Vec<Option<Entrants>>, from: u32, to: Pos)
-    ensures { entrants.new.items ≡ noted entrants.old.items from to.0 }
+    ensures { entrants.new.items ≡ with_entrant entrants.old.items from to.0 }
 {
     let to = to.0 as usize;
     if to < entrants.len() {

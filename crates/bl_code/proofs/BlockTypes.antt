@@ -10,7 +10,7 @@ use Rattle.bl_wasm.specs.declared.types.BlockType.{BlockType}
 use Rattle.bl_wasm.specs.declared.types.BlockType.TheVariants.{Empty, Value, Index}
 use Rattle.bl_wasm.specs.declared.types.WasmType.{WasmType}
 use Rattle.bl_wasm.specs.declared.types.WasmType.TheVariants.{I32, I64, F32, F64}
-use Rattle.bl_code.specs.Reading.{IsAt, NoneAt}
+use Rattle.bl_code.specs.ReaderAnswers.{IsAt, NoneAt}
 use Rattle.bl_code.specs.Types.{type_index}
 use Rattle.bl_code.specs.Unique.{PrefixFree}
 use Rattle.bl_code.proofs.Places.{stands, same_at, one_at, none_behind}

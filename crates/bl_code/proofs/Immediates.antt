@@ -2,7 +2,7 @@
 use Rattle.std.proofs.Common.{◌≡◌, ◌≢◌, ℕ, List, [], ◌∷◌, Some, refl, subst, arith}
 use Rattle.bl_ops.specs.Access.{access_code}
 use Rattle.bl_ops.specs.declared.access.AccessKind.{AccessKind}
-use Rattle.bl_ops.specs.Table.{operator_code}
+use Rattle.bl_ops.specs.OperatorTable.{operator_code}
 use Rattle.bl_ops.specs.declared.op.Op.{Op}
 use Rattle.bl_wasm.specs.Codes.{IsFloatCode, float_access_code}
 use Rattle.bl_wasm.specs.Types.{block_type}
@@ -16,7 +16,7 @@ use Rattle.bl_wasm.specs.declared.instruction.MemoryArgument.{MemoryArgument}
 use Rattle.bl_wasm.specs.declared.types.BlockType.{BlockType}
 use Rattle.bl_wasm.specs.declared.types.BlockType.TheVariants.{Empty}
 use Rattle.bl_code.specs.Laws.{u32_prefix_free}
-use Rattle.bl_code.specs.Reading.{IsAt, NoneAt, Refuses, behind}
+use Rattle.bl_code.specs.ReaderAnswers.{IsAt, NoneAt, Refuses, behind}
 use Rattle.bl_code.specs.Shapes.{Shape, Bare, Typed, Indexed, Labels, Indirect, Access, Zero, Int32, Int64, Float32, Float64, shape_of, IsCodeOf, immediates, IsTypedCode, IsIndexedCode, IsAccessCode, IsZeroCode, IsOtherCode, IsNumericCode}
 use Rattle.bl_code.specs.declared.error.CodeError.{CodeError}
 use Rattle.bl_code.proofs.Places.{stands, is_at, one_at, same_at, err_along}

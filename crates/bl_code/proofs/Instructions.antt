@@ -3,7 +3,7 @@ use Rattle.std.proofs.Common.{◌≡◌, ◌≢◌, ℕ, ◌≤◌, ◌<◌, Lis
 use Rattle.std.specs.Prelude.{Option, ◌==◌, nat_lt, if◌then◌else◌, find, IsTrue}
 use Rattle.std.proofs.lemmas.Bool.Decides.{nat_tests}
 use Rattle.bl_ops.specs.Access.{access_code, access_kind, is_load}
-use Rattle.bl_ops.specs.Table.{operator_code, operator_of, operators, image_code_of}
+use Rattle.bl_ops.specs.OperatorTable.{operator_code, operator_of, operators, image_code_of}
 use Rattle.bl_ops.specs.declared.access.AccessKind.{AccessKind}
 use Rattle.bl_ops.specs.declared.op.Op.{Op}
 use Rattle.bl_ops.specs.declared.op.Op.TheVariants.{I32Eqz, Move, Select as Selected, Outside}

@@ -2,7 +2,7 @@ pub mod BlockTypes
 pub mod Immediates
 pub mod Instructions
 pub mod Limits
-pub mod Nesting
+pub mod ExpressionLemmas
 pub mod Numbers
 pub mod Places
 pub mod Shapes

@@ -6,7 +6,7 @@ use Rattle.bl_leb.specs.Grammar.{Spellings, ◌⨾◌, byte}
 use Rattle.bl_wasm.specs.Values.{u32}
 use Rattle.bl_wasm.specs.declared.types.Limits.{Limits}
 use Rattle.bl_code.specs.Types.{maximum}
-use Rattle.bl_code.specs.Reading.{IsAt, NoneAt, Refuses, behind}
+use Rattle.bl_code.specs.ReaderAnswers.{IsAt, NoneAt, Refuses, behind}
 use Rattle.bl_code.specs.Unique.{Same, PrefixFree}
 use Rattle.bl_code.specs.declared.error.CodeError.{CodeError}
 use Rattle.bl_code.proofs.Places.{err_along, stands, is_at, join, as_other}
@@ -48,18 +48,6 @@ pub bounds_at : (form : ℕ) (bytes : List ℕ) (i j k min : ℕ) (max : Option 
 bounds_at form bytes i j k min max p q =
     let both = join bytes i j k (stands u32 bytes i j min p) (stands (maximum form) bytes j k max q) in
     is_at (behind limits form) bytes i k (record { min = min; max = max }) (as_other bytes i k (with_first min max form) both)
-
--- a maximum that isn't read
-pub err_maximum : (form : ℕ) (bytes : List ℕ) (j : ℕ) (e : CodeError) → form ≡ 0x01 → Refuses u32 bytes j e → Refuses (maximum form) bytes j e
-err_maximum form bytes j e is h = err_along u32 (maximum form) (λ o. unwrap_or o 0) bytes j e number h
-  where
-    number : (o : Option ℕ) (t : List ℕ) → maximum form o t → u32 (unwrap_or o 0) t
-    number None t p = absurd (omega (arith, p.0))
-    number (Some max) t p = p.1
-
-pub none_maximum : (form : ℕ) (bytes : List ℕ) (j : ℕ) → form ≢ 0x00 → form ≢ 0x01 → NoneAt (maximum form) bytes j
-none_maximum form bytes j a b None k h = a h.spelled.0
-none_maximum form bytes j a b (Some max) k h = b h.spelled.0
 
 -- no limits begin others
 abbrev made : ℕ → Option ℕ → Limits

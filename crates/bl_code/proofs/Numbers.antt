@@ -1,7 +1,7 @@
 -- Numbers that a byte spells alone.
 use Rattle.std.proofs.Common.{◌≡◌, ℕ, ◌+◌, ◌-◌, ◌^◌, ◌<◌, List, length, get_or, refl, pos, inl}
 use Rattle.bl_wasm.specs.Values.{int}
-use Rattle.bl_code.specs.Reading.{IsAt}
+use Rattle.bl_code.specs.ReaderAnswers.{IsAt}
 use Rattle.bl_leb.proofs.Places.{spelled_one}
 
 -- a byte below 64 spells the signed number that it is

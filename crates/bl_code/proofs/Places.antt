@@ -6,7 +6,7 @@ use Rattle.std.proofs.lemmas.Result.{err_from_is_err_and}
 use Rattle.std.proofs.lemmas.List.Folds.{drop_split}
 use Rattle.bl_base.proofs.Lists.{rest_same}
 use Rattle.bl_leb.specs.Grammar.{Spellings, ◌⨾◌, byte, given}
-use Rattle.bl_code.specs.Reading.{IsAt, NoneAt, Refuses, Reads, Finds, behind}
+use Rattle.bl_code.specs.ReaderAnswers.{IsAt, NoneAt, Refuses, Reads, Finds, behind}
 use Rattle.bl_code.specs.Unique.{Same, PrefixFree}
 use Rattle.bl_code.specs.declared.error.CodeError.{CodeError}
 use Rattle.bl_code.specs.declared.error.CodeError.TheVariants.{Malformed, Memory}

@@ -4,7 +4,7 @@ use Rattle.std.proofs.lemmas.List.{length-take-le, drop-take, take-take}
 use Rattle.bl_leb.specs.Grammar.{Spellings, ◌⨾◌}
 use Rattle.bl_wasm.specs.Values.{u32, sized}
 use Rattle.bl_code.specs.Laws.{u32_prefix_free}
-use Rattle.bl_code.specs.Reading.{IsAt, NoneAt, Refuses}
+use Rattle.bl_code.specs.ReaderAnswers.{IsAt, NoneAt, Refuses}
 use Rattle.bl_code.specs.Unique.{PrefixFree}
 use Rattle.bl_code.specs.declared.error.CodeError.{CodeError}
 use Rattle.bl_code.specs.declared.error.CodeError.TheVariants.{Malformed, Memory}

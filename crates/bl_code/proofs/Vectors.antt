@@ -3,7 +3,7 @@ use Rattle.std.proofs.Common.{◌≡◌, ℕ, ◌+◌, ◌<◌, ◌≤◌, List,
 use Rattle.bl_base.proofs.Lists.{rest_same}
 use Rattle.bl_leb.specs.Grammar.{Spellings, given}
 use Rattle.bl_wasm.specs.Values.{each}
-use Rattle.bl_code.specs.Reading.{IsAt, NoneAt, Refuses}
+use Rattle.bl_code.specs.ReaderAnswers.{IsAt, NoneAt, Refuses}
 use Rattle.bl_code.specs.Unique.{PrefixFree}
 use Rattle.bl_code.specs.declared.error.CodeError.{CodeError}
 use Rattle.bl_code.specs.declared.error.CodeError.TheVariants.{Malformed, Memory}

@@ -1,6 +1,6 @@
 -- What a reader of expressions keeps of the constructs that are open.
 use Rattle.std.specs.Prelude.{List, map}
-use Rattle.bl_wasm.specs.Nesting.{Construct, Kind, of_block, of_loop, then_part, else_part}
+use Rattle.bl_wasm.specs.OpenConstructs.{Construct, Kind, of_block, of_loop, then_part, else_part}
 use Rattle.bl_code.specs.declared.expression.Open.{Open}
 use Rattle.bl_code.specs.declared.expression.Open.TheVariants.{BeforeElse, Other}
 

@@ -1,6 +1,6 @@
 pub mod Constructs
 pub mod Laws
-pub mod Reading
+pub mod ReaderAnswers
 pub mod Shapes
 pub mod Types
 pub mod Unique

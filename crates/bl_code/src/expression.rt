@@ -3,9 +3,9 @@ ghost use Rattle.std.specs.Prelude.{◌≡◌, ◌≤◌, ◌↔◌, [], Some, N
 ghost use Rattle.std.specs.Option.{option_map};
 ghost use Rattle.bl_wasm.specs.Instructions.{expression};
 ghost use Rattle.bl_wasm.specs.declared.instruction.Instr.TheVariants.{End};
-ghost use Rattle.bl_wasm.specs.Nesting.{Construct, open_behind};
+ghost use Rattle.bl_wasm.specs.OpenConstructs.{Construct, open_behind};
 ghost use Rattle.bl_code.specs.Constructs.{kept};
-ghost use Rattle.bl_code.specs.Reading.{Reads};
+ghost use Rattle.bl_code.specs.ReaderAnswers.{Reads};
 
 use crate::error::CodeError;
 use crate::instruction::read_instr;

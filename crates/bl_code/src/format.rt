@@ -2,7 +2,7 @@
 ghost use Rattle.std.specs.Prelude.{◌≡◌, ◌≤◌, ℕ, List as Listed, length};
 ghost use Rattle.bl_leb.specs.Grammar.{given};
 ghost use Rattle.bl_wasm.specs.Values.{each, vec, sized};
-ghost use Rattle.bl_code.specs.Reading.{Reads};
+ghost use Rattle.bl_code.specs.ReaderAnswers.{Reads};
 ghost use Rattle.bl_code.specs.Unique.{PrefixFree};
 
 use crate::error::CodeError;

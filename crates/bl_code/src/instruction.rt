@@ -5,7 +5,7 @@ ghost use Rattle.bl_wasm.specs.Codes.{float_access_code};
 ghost use Rattle.bl_wasm.specs.Types.{block_type};
 ghost use Rattle.bl_wasm.specs.Values.{u32};
 ghost use Rattle.bl_wasm.specs.Instructions.{instruction, memory_argument};
-ghost use Rattle.bl_code.specs.Reading.{Finds, Reads, behind};
+ghost use Rattle.bl_code.specs.ReaderAnswers.{Finds, Reads, behind};
 ghost use Rattle.bl_code.specs.Shapes.{IsTypedCode, IsIndexedCode, IsAccessCode, IsZeroCode, IsOtherCode, IsNumericCode};
 ghost use Rattle.bl_wasm.specs.declared.instruction.Instr.{Instr};
 ghost use Rattle.bl_wasm.specs.declared.types.BlockType.{BlockType};

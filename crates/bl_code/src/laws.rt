@@ -2,7 +2,7 @@
 ghost use Rattle.std.specs.Prelude.{◌≡◌, ℕ, List};
 ghost use Rattle.bl_wasm.specs.Instructions.{instruction, expression};
 ghost use Rattle.bl_wasm.specs.declared.instruction.Instr.{Instr};
-ghost use Rattle.bl_code.specs.Reading.{IsAt};
+ghost use Rattle.bl_code.specs.ReaderAnswers.{IsAt};
 
 /// At a place of bytes at most one instruction begins, and it ends at one place.
 pub fn one_instruction()

@@ -2,7 +2,7 @@
 ghost use Rattle.std.specs.Prelude.{◌≡◌, ◌+◌, ◌≤◌, ◌<◌, ℕ, length, slice_range, IfOk, IfErr};
 ghost use Rattle.bl_leb.specs.Grammar.{byte, given, exactly};
 ghost use Rattle.bl_wasm.specs.Values.{u32, int, f32, f64, byte_vec, name};
-ghost use Rattle.bl_code.specs.Reading.{Finds, Reads};
+ghost use Rattle.bl_code.specs.ReaderAnswers.{Finds, Reads};
 
 use crate::error::{CodeError, Malformed};
 use bl_base::Text;

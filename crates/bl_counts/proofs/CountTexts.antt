@@ -11,7 +11,7 @@ use Rattle.bl_trace.specs.Items.{item_before, items_of}
 use Rattle.bl_trace.specs.Lines.{lines_of}
 use Rattle.bl_trace.proofs.LineTexts.{HasNoFeed, line_before, none_in_both, without_feeds}
 use Rattle.bl_counts.specs.CountFiles.{commands_of, count_file_of, counted, counted_by, counts_text, site_in, site_of, site_text, site_with, with_commands}
-use Rattle.bl_counts.specs.Recorded.{IsWritten}
+use Rattle.bl_counts.specs.RecordedRuns.{IsWritten}
 use Rattle.bl_counts.specs.declared.counts.SiteCount.{SiteCount}
 
 -- ---- lines

@@ -1,8 +1,8 @@
-pub mod Bare
+pub mod BarePrograms
 pub mod CountLines
 pub mod CountTexts
-pub mod Fewest
-pub mod Merging
-pub mod Recording
-pub mod Tallying
-pub mod Weights
+pub mod FewestExecuted
+pub mod RisingCounts
+pub mod RecordedCounts
+pub mod RunTallies
+pub mod WeightedPrograms

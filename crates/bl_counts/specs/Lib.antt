@@ -1,5 +1,5 @@
-pub mod Answers
+pub mod WeighAnswers
 pub mod CountFiles
-pub mod Counting
-pub mod Recorded
-pub mod Tallies
+pub mod RunCounts
+pub mod RecordedRuns
+pub mod PositionCounts

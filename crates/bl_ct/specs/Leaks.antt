@@ -3,7 +3,7 @@ use Rattle.std.specs.Prelude.{◌≡◌, ◌⊎◌, ℕ, Bool, Contains, IsTrue,
 use Rattle.bl_ct.specs.declared.search.Step.{Step}
 use Rattle.bl_ct.specs.declared.search.Cause.TheVariants.{Loaded}
 use Rattle.bl_ct.specs.declared.verdict.Leak.{Leak}
-use Rattle.bl_ct.specs.Finding.{Has, entry_of, mark_of}
+use Rattle.bl_ct.specs.SecretSearch.{Has, entry_of, mark_of}
 
 -- by a table of ends and one of demanded variables, the variable of a step may not be secret, or may
 abbrev pub LeakOf : List ℕ → List (Option ℕ) → List Bool → Step → Option ℕ → Type 0

@@ -1,4 +1,4 @@
 pub mod Facts
-pub mod Finding
+pub mod SecretSearch
 pub mod Leaks
 pub mod Verdicts

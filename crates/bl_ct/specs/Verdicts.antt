@@ -7,7 +7,7 @@ use Rattle.bl_graph.specs.Labels.{KeepsLabelRules, ConstantTime, Secret}
 use Rattle.bl_graph.specs.Ranges.{variables}
 use Rattle.bl_graph.specs.SecretChains.{IsSecretChain}
 use Rattle.bl_graph.specs.declared.secret.SecretChain.{SecretChain}
-use Rattle.bl_ct.specs.Finding.{is_found}
+use Rattle.bl_ct.specs.SecretSearch.{is_found}
 use Rattle.bl_ct.specs.declared.search.Step.{Step}
 use Rattle.bl_ct.specs.declared.verdict.CtVerdict.{CtVerdict}
 use Rattle.bl_ct.specs.declared.verdict.CtVerdict.TheVariants.{Yes, No}

@@ -3,7 +3,7 @@ ghost use Rattle.std.specs.Prelude.{◌≡◌, ◌<◌, ◌^◌, ◌↔◌, ℕ,
 ghost use Rattle.bl_graph.specs.Secrets.{Demands};
 ghost use Rattle.bl_ct.specs.Facts.{IsKnown};
 ghost use Rattle.bl_graph.specs.Arcs.{is_in};
-ghost use Rattle.bl_ct.specs.Finding.{AreEnds, Gives, IsNoted, IsTable, KeptAt, mark_of};
+ghost use Rattle.bl_ct.specs.SecretSearch.{AreEnds, MarksWriters, IsNoted, IsTable, KeptAt, mark_of};
 
 use crate::facts::{Known, command_count};
 use bl_base::NoMemory;
@@ -45,7 +45,7 @@ fn giving_sites(
     requires sites { All (λ w. w.at.0 < count) writes.now }
     requires named { All (λ w. Contains names.now w.var.0) writes.now }
     ensures places { IfOk result (λ giving. length giving.items ≡ count) }
-    ensures exact { IfOk result (λ giving. Gives writes.now names.now demanded.now giving.items) }
+    ensures exact { IfOk result (λ giving. MarksWriters writes.now names.now demanded.now giving.items) }
 {
     let mut giving = vec![in alloc; false; count as usize]?;
     for write in writes {

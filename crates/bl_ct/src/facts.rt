@@ -5,7 +5,7 @@ ghost use Rattle.bl_cmd.specs.Layout.{params_of, statics};
 ghost use Rattle.bl_cmd.specs.Programs.{IsProgram};
 ghost use Rattle.bl_cmd.specs.Rules.{IsDemand, IsWellFormed};
 ghost use Rattle.bl_cmd.specs.Sites.{Names};
-ghost use Rattle.bl_graph.specs.Firsts.{firsts_from};
+ghost use Rattle.bl_graph.specs.FirstVariables.{firsts_from};
 ghost use Rattle.bl_graph.specs.Ranges.{commands};
 ghost use Rattle.bl_graph.specs.Secrets.{GivesPublic, TakesSecret, demanded_by};
 ghost use Rattle.bl_ct.specs.Facts.{AreFacts, DeclaresOne, Gathers, GlobalFits, LoadFits, ParamFits, SomeAt, StoreFits, vars_of};

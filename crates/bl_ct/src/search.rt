@@ -5,7 +5,7 @@ ghost use Rattle.bl_graph.specs.Graphs.{use_of};
 ghost use Rattle.bl_graph.specs.Names.{place_of};
 ghost use Rattle.bl_ct.specs.Facts.{IsKnown};
 ghost use Rattle.bl_graph.specs.Arcs.{row_at, rows_in};
-ghost use Rattle.bl_ct.specs.Finding.{AreWritten, IsFoundBy, IsTable, Searched, Some_asks, Some_fits, Visits, entry_at, from_name};
+ghost use Rattle.bl_ct.specs.SecretSearch.{AreWritten, IsFoundBy, IsTable, Searched, Some_asks, Some_fits, Visits, entry_at, from_name};
 ghost use Rattle.bl_ct.specs.declared.search.Cause.TheVariants as cause_;
 
 use crate::ends::no_entries;

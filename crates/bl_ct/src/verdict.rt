@@ -4,7 +4,7 @@ ghost use Rattle.bl_base.specs.declared.names.Label.TheVariants as label;
 ghost use Rattle.bl_graph.specs.Graphs.{IsGraph};
 ghost use Rattle.bl_graph.specs.SecretChains.{IsSecretChain};
 ghost use Rattle.bl_ct.specs.Facts.{IsKnown};
-ghost use Rattle.bl_ct.specs.Finding.{AreJustified, Has, IsLeak, IsTable, is_found};
+ghost use Rattle.bl_ct.specs.SecretSearch.{AreJustified, Has, IsLeak, IsTable, is_found};
 ghost use Rattle.bl_ct.specs.Leaks.{LeakFound, LeakOf};
 ghost use Rattle.bl_ct.specs.Verdicts.{FindsChain, FindsSecrets, Judges, chain_in, labelling_of};
 ghost use Rattle.bl_ct.specs.declared.search.Step.{Step as StepOf};

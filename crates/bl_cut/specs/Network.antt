@@ -25,16 +25,16 @@ pub data ArcKind (program : Program) (names : List ℕ) (u v : ℕ) : Type 0 whe
   read : (x : ℕ) → Reads program v x → u ≡ node_of program names x → ArcKind program names u v
 
 -- a node is that of a variable that is asked to be transient
-abbrev pub IsHotNode : Asked → Program → List ℕ → ℕ → Type 0
-IsHotNode asked program names v = (x : ℕ) × (v ≡ node_of program names x) × Contains names x × IsTrue (asked.hot x)
+abbrev pub IsAskedNode : Asked → Program → List ℕ → ℕ → Type 0
+IsAskedNode asked program names v = (x : ℕ) × (v ≡ node_of program names x) × Contains names x × IsTrue (asked.hot x)
 
 -- a site reads a variable that is asked to be transient
-abbrev pub ReadsHot : Asked → Program → ℕ → Type 0
-ReadsHot asked program s = (x : ℕ) × Reads program s x × IsTrue (asked.hot x)
+abbrev pub ReadsAsked : Asked → Program → ℕ → Type 0
+ReadsAsked asked program s = (x : ℕ) × Reads program s x × IsTrue (asked.hot x)
 
 -- a site at which walks begin: a load, or a site that reads what is asked to be transient
 abbrev pub IsFirstSite : Asked → Program → ℕ → Type 0
-IsFirstSite asked program s = IsLoad program s ⊎ ReadsHot asked program s
+IsFirstSite asked program s = IsLoad program s ⊎ ReadsAsked asked program s
 
 -- a variable may not be transient: a sink reads it, or it is asked to be stable
 abbrev pub IsBarred : Asked → Program → ℕ → Type 0
@@ -52,7 +52,7 @@ pub record IsNetworkUnder (asked : Asked) (program : Program) (names : List ℕ)
   pub size_is : size n ≡ commands program + length names
   pub weights : (v : ℕ) → weight_at n v ≡ site_weight program v
   pub arcs : (u v : ℕ) → HasArc n u v ↔ ArcKind program names u v
-  pub starts : (s : ℕ) → Contains n.starts s ↔ (IsFirstSite asked program s ⊎ IsHotNode asked program names s)
+  pub starts : (s : ℕ) → Contains n.starts s ↔ (IsFirstSite asked program s ⊎ IsAskedNode asked program names s)
   pub ends : (v : ℕ) → Contains n.ends v ↔ IsEndUnder asked program names v
 
 -- the same where nothing is asked

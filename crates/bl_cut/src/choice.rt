@@ -46,7 +46,7 @@ pub fn least_protects(alloc: Global, program: &WellFormed) -> Result<Choice, NoM
 
 /// A program's network, and what is known of its graph beside it.
 #[derive(Drop)]
-struct Laid {
+struct ProgramNetwork {
     /// The variables that its commands name.
     names: Names,
     /// The network over them.
@@ -56,7 +56,7 @@ struct Laid {
 }
 
 /// The network of a program.
-fn lay_out(alloc: Global, program: &WellFormed, graph: &Graph) -> Result<Laid, NoMemory>
+fn lay_out(alloc: Global, program: &WellFormed, graph: &Graph) -> Result<ProgramNetwork, NoMemory>
     requires { IsGraph program.now graph.now }
     ensures network { IfOk result (λ laid. IsNetwork program.now laid.names laid.network) }
     ensures places { IfOk result (λ laid. length laid.sink_of.items ≡ length laid.names) }
@@ -66,7 +66,7 @@ fn lay_out(alloc: Global, program: &WellFormed, graph: &Graph) -> Result<Laid, N
     let names = names_of(alloc, program, graph, &[])?;
     let network = network(alloc, program, graph, &names, &[], &[])?;
     let sink_of = sinks_by_variable(alloc, &names, graph.sinks.as_slice())?;
-    Ok(Laid {
+    Ok(ProgramNetwork {
         names,
         network,
         sink_of,
@@ -74,7 +74,7 @@ fn lay_out(alloc: Global, program: &WellFormed, graph: &Graph) -> Result<Laid, N
 }
 
 /// The choice that the program's network shows.
-fn choose(alloc: Global, program: &WellFormed, laid: Laid) -> Result<Choice, NoMemory>
+fn choose(alloc: Global, program: &WellFormed, laid: ProgramNetwork) -> Result<Choice, NoMemory>
     requires network { IsNetwork program.now laid.names laid.network }
     requires places { length laid.sink_of.items ≡ length laid.names }
     requires knows { KnowsSinks program.now laid.names laid.sink_of.items }
@@ -83,7 +83,7 @@ fn choose(alloc: Global, program: &WellFormed, laid: Laid) -> Result<Choice, NoM
     ensures certificate { IfOk result (λ choice. Certifies (protected (fin.contains choice.protects) program.now) choice.certificate) }
 {
     ranges(program);
-    let Laid {
+    let ProgramNetwork {
         names,
         network,
         sink_of,

@@ -6,7 +6,7 @@ use Rattle.std.specs.List.{filter_map, zip}
 use Rattle.std.specs.Option.{option_or}
 use Rattle.bl_wasm.specs.declared.instruction.Instr.{Instr}
 use Rattle.bl_wasm.specs.Limits.{Excess, first_in, greatest_depth}
-use Rattle.bl_wasm.specs.Nesting.{depth_at}
+use Rattle.bl_wasm.specs.OpenConstructs.{depth_at}
 use Rattle.bl_wasm.specs.Validity.{function_of}
 use Rattle.bl_wasm.specs.declared.module.Import.{Import}
 use Rattle.bl_wasm.specs.declared.module.ImportKind.{ImportKind}

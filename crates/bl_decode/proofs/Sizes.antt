@@ -8,14 +8,14 @@ use Rattle.bl_leb.proofs.Places.{length_range}
 use Rattle.bl_leb.specs.Grammar.{Spellings, byte, exactly}
 use Rattle.bl_wasm.specs.Values.{u32, byte_vec, sized}
 use Rattle.bl_wasm.specs.Sections.{section}
-use Rattle.bl_code.specs.Reading.{IsAt, NoneAt, Refuses}
+use Rattle.bl_code.specs.ReaderAnswers.{IsAt, NoneAt, Refuses}
 use Rattle.bl_code.specs.declared.error.CodeError.{CodeError}
 use Rattle.bl_code.specs.declared.error.CodeError.TheVariants.{Malformed, Memory}
 use Rattle.bl_code.specs.Laws.{u32_prefix_free}
 use Rattle.bl_code.proofs.Unique.{byte_vec_prefix_free, byte_same}
 use Rattle.bl_code.proofs.Places.{Stands, stands, is_at, join, part, same_at, at_front, none_after, one_at}
-use Rattle.bl_decode.specs.Whole.{ReadsAll}
-use Rattle.bl_decode.proofs.Firsts.{begins_all, begins_at, at_begins, section_begins}
+use Rattle.bl_decode.specs.AllBytes.{ReadsAll}
+use Rattle.bl_decode.proofs.FirstBytes.{begins_all, begins_at, at_begins, section_begins}
 
 -- fewer bytes than the size says
 pub none_short : (bytes : List ℕ) (i j size : ℕ) → IsAt u32 bytes i j size → length bytes - j < size → NoneAt byte_vec bytes i

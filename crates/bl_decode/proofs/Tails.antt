@@ -10,14 +10,14 @@ use Rattle.bl_wasm.specs.Values.{each}
 use Rattle.bl_wasm.specs.Sections.{custom_section}
 use Rattle.bl_wasm.specs.Modules.{◌▷◌}
 use Rattle.bl_wasm.specs.declared.module.CustomSection.{CustomSection}
-use Rattle.bl_code.specs.Reading.{IsAt, Refuses}
+use Rattle.bl_code.specs.ReaderAnswers.{IsAt, Refuses}
 use Rattle.bl_code.specs.declared.error.CodeError.{CodeError}
 use Rattle.bl_code.specs.declared.error.CodeError.TheVariants.{Malformed, Memory}
 use Rattle.bl_code.proofs.Vectors.{each_more}
 use Rattle.bl_code.proofs.Places.{stands, is_at, at_front}
 use Rattle.bl_decode.specs.Chains.{Begins, IsSection, CustomFirst, IsTail, IsLink, CustomsRead, CustomsPassed, CustomMalformed, TailRead, ReadsCustoms, ReadsSection, ReadsTail}
-use Rattle.bl_decode.proofs.Firsts.{one_first, begins_all, begins_rest, begins_at, at_begins}
-use Rattle.bl_decode.proofs.Uniques.{custom_prefix_free, custom_begins}
+use Rattle.bl_decode.proofs.FirstBytes.{one_first, begins_all, begins_rest, begins_at, at_begins}
+use Rattle.bl_decode.proofs.PrefixFreeCustoms.{custom_prefix_free, custom_begins}
 
 -- custom sections alone
 custom_first : (customs : List CustomSection) (bytes : List ℕ) → each custom_section customs bytes → Begins 0 bytes → CustomFirst (each custom_section) customs bytes
@@ -334,9 +334,3 @@ none_end bytes i end old new read more customs h =
       | inl none ↦ omega (arith, length-drop end bytes, ap length none)
       | inr begun ↦ read.ended (at_begins bytes end 0 begun)
     ]
-
-pub end_read : (bytes : List ℕ) (i end : ℕ) (old new : List CustomSection) → CustomsRead bytes i end old new → length bytes ≤ end → TailRead (λ (x : Unit {0}). each custom_section) bytes i old new tt
-end_read bytes i end old new read all =
-    let p = stands (each custom_section) bytes i end read.customs read.there in
-    let whole : drop i bytes ≡ p.front = p.whole ∙ ap (λ t. p.front ++ t) (drop_all end bytes all) ∙ append-nil p.front in
-    record { customs = read.customs; appended = read.appended; spelled = subst (each custom_section read.customs) (sym whole) p.spelled }

@@ -26,8 +26,8 @@ use Rattle.bl_code.proofs.Limits.{limits_prefix_free}
 use Rattle.bl_decode.specs.Chains.{IsSection, IsTail, IsLink, ReadsTail}
 use Rattle.bl_decode.specs.Laws.{function_type_prefix_free, import_entry_prefix_free, table_type_prefix_free, global_entry_prefix_free, export_entry_prefix_free, element_entry_prefix_free, code_entry_prefix_free, data_entry_prefix_free}
 use Rattle.bl_decode.specs.Grammar.{IsInGrammar}
-use Rattle.bl_decode.specs.Whole.{ReadsAll}
-use Rattle.bl_decode.proofs.Optionals.{vectors_section, start_is_section}
+use Rattle.bl_decode.specs.AllBytes.{ReadsAll}
+use Rattle.bl_decode.proofs.OptionalSections.{vectors_section, start_is_section}
 use Rattle.bl_decode.proofs.Tails.{chain_tail, end_tail}
 
 -- one section more

@@ -4,7 +4,7 @@ use Rattle.bl_leb.specs.Grammar.{Spellings}
 use Rattle.bl_wasm.specs.Values.{each}
 use Rattle.bl_wasm.specs.Sections.{custom_section}
 use Rattle.bl_wasm.specs.declared.module.CustomSection.{CustomSection}
-use Rattle.bl_code.specs.Reading.{IsAt, NoneAt}
+use Rattle.bl_code.specs.ReaderAnswers.{IsAt, NoneAt}
 use Rattle.bl_code.specs.declared.error.CodeError.{CodeError}
 use Rattle.bl_code.specs.declared.error.CodeError.TheVariants.{Malformed, Memory}
 

@@ -24,7 +24,7 @@ use Rattle.bl_code.specs.Laws.{u32_prefix_free}
 use Rattle.bl_code.proofs.Unique.{byte_same, seq_same, given_same, then_same, vec_prefix_free, byte_vec_prefix_free, name_prefix_free, sized_prefix_free}
 use Rattle.bl_code.proofs.Limits.{limits_prefix_free}
 use Rattle.bl_code.proofs.BlockTypes.{value_type_prefix_free}
-use Rattle.bl_code.proofs.Nesting.{expression_prefix_free}
+use Rattle.bl_code.proofs.ExpressionLemmas.{expression_prefix_free}
 
 -- one after another
 pub seq_prefix_free : {A B : Type 0} {F : A → Spellings} {S : B → Spellings} → PrefixFree F → PrefixFree S

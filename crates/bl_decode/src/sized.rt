@@ -1,7 +1,7 @@
 //! What stands behind its size (WebAssembly 1.0, sections 5.5.2 and 5.5.13).
 ghost use Rattle.std.specs.Prelude.{◌≡◌, ◌≤◌, ◌<◌, ◌↔◌, IsTrue, length, slice_get, IfSome, IfNone};
 ghost use Rattle.bl_wasm.specs.Values.{byte_vec};
-ghost use Rattle.bl_code.specs.Reading.{IsAt, NoneAt};
+ghost use Rattle.bl_code.specs.ReaderAnswers.{IsAt, NoneAt};
 
 /// Whether that byte stands at that place.
 pub(crate) fn stands_at(bytes: &[u8], at: usize, byte: u8) -> bool

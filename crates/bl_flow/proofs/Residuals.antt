@@ -11,11 +11,11 @@ use Rattle.bl_flow.specs.Networks.{size, weight_at, HasArc, InRange}
 use Rattle.bl_flow.specs.Split.{in_part, out_part, node_link, arc_link, start_link, end_link, links_of, both_ways, link_at, reverse_link, full_capacity}
 use Rattle.bl_flow.specs.Flows.{link_count, carried_by, IsFlow}
 use Rattle.bl_flow.specs.Levels.{IsReached, here, onward, level_at, AreLevels}
-use Rattle.bl_flow.specs.Packed.{lowered}
-use Rattle.bl_flow.proofs.Levelling.{some_same, none_some, level_in}
+use Rattle.bl_flow.specs.PackedNetworks.{lowered}
+use Rattle.bl_flow.proofs.LevelSearch.{some_same, none_some, level_in}
 use Rattle.bl_flow.specs.Residuals.{Loaded, loaded_by, arc_at, IsResidualArc, through, back, along, against, ResidualWalk, at_start, go_on, AreLevelsOf}
 use Rattle.bl_flow.proofs.Links.{node_at, nodes_part, nodes_length, outer_part, count_of, unbounded_behind, arc_place, start_place}
-use Rattle.bl_flow.proofs.BothWays.{both_count, forward_at, reverse_at, place_cases}
+use Rattle.bl_flow.proofs.ReverseLinks.{both_count, forward_at, reverse_at, place_cases}
 
 module _ (n : Network) where
   abbrev pub borders : List Link

@@ -6,7 +6,7 @@ use Rattle.bl_flow.specs.declared.network.FlowResult.{FlowResult}
 use Rattle.bl_flow.specs.declared.network.Network.{Network}
 use Rattle.bl_flow.specs.Networks.{size, weight_at, IsPath, load, carried}
 use Rattle.bl_flow.specs.Cuts.{IsCut, IsNearSide, LiesNear, cut_of, cut_weight}
-use Rattle.bl_flow.specs.Packed.{IsPacked}
+use Rattle.bl_flow.specs.PackedNetworks.{IsPacked}
 use Rattle.bl_flow.specs.Split.{both_ways, links_of}
 use Rattle.bl_flow.specs.Flows.{IsFlow}
 use Rattle.bl_flow.specs.Searches.{AreRows}

@@ -3,13 +3,13 @@ use Rattle.std.specs.Prelude.{◌≡◌, ℕ, ◌<◌, ◌⊎◌, Bool, List, le
 use Rattle.bl_flow.specs.declared.split.Link.{Link}
 use Rattle.bl_flow.specs.Split.{link_at}
 use Rattle.bl_flow.specs.Flows.{LeadsBack}
-use Rattle.bl_flow.specs.Searches.{row_at}
+use Rattle.bl_flow.specs.Searches.{part_row}
 
 -- a link before its part's pointer carries nothing
 abbrev pub ArePassedOver : List ℕ → List (List ℕ) → List ℕ → Type 0
 ArePassedOver carries rows passed =
-    (part place : ℕ) → place < slice_index passed part → place < length (row_at rows part)
-    → slice_index carries (slice_index (row_at rows part) place) ≡ 0
+    (part place : ℕ) → place < slice_index passed part → place < length (part_row rows part)
+    → slice_index carries (slice_index (part_row rows part) place) ≡ 0
 
 -- a link of a part's row that carries something
 pub record Brings (carries row : List ℕ) : Type 0 where

@@ -3,7 +3,7 @@ ghost use Rattle.std.specs.Prelude.{◌≡◌, ◌↔◌, ◌<◌, ◌≤◌, �
 ghost use Rattle.bl_flow.specs.Networks.{InRange, weight_at, total_weight, size};
 ghost use Rattle.bl_flow.specs.Cuts.{Meets};
 ghost use Rattle.bl_flow.specs.Levels.{level_at};
-ghost use Rattle.bl_flow.specs.Packed.{lowered, IsPacked, IsAdvanced};
+ghost use Rattle.bl_flow.specs.PackedNetworks.{lowered, IsPacked, IsAdvanced};
 ghost use Rattle.bl_flow.specs.Residuals.{IsLawful, amount_of, AreLevelsOf, ReachesAnEnd, EndsHaveRisen};
 
 use crate::capacities::Capacities;
@@ -33,7 +33,7 @@ pub struct Residual {
 
 impl Model for Residual {
     ghost use Rattle.bl_flow.specs.Residuals.{Loaded, loaded_by};
-    ghost use Rattle.bl_flow.specs.Packed.{IsPacked};
+    ghost use Rattle.bl_flow.specs.PackedNetworks.{IsPacked};
 
     ghost Value = { Loaded };
 

@@ -2,8 +2,8 @@
 ghost use Rattle.std.specs.Prelude.{◌≡◌, ◌<◌, ◌+◌, ◌^◌, ℕ, suc, length, slice_get, slice_index, IfOk};
 ghost use Rattle.bl_base.specs.Sums.{sum_below};
 ghost use Rattle.bl_flow.specs.Split.{link_at};
-ghost use Rattle.bl_flow.specs.Searches.{AreRows, row_at};
-ghost use Rattle.bl_flow.specs.Rows.{reversed, AreCounts, AreRowEnds};
+ghost use Rattle.bl_flow.specs.Searches.{AreRows, part_row};
+ghost use Rattle.bl_flow.specs.AdjacencyLists.{reversed, AreCounts, AreRowEnds};
 
 use crate::split::{Link, Links, number_of, reverse_of};
 use bl_base::NoMemory;
@@ -21,7 +21,7 @@ pub struct Rows {
 
 impl Model for Rows {
     ghost use Rattle.std.specs.Prelude.{List, ℕ, length};
-    ghost use Rattle.bl_flow.specs.Rows.{AreOffsets, rows_from};
+    ghost use Rattle.bl_flow.specs.AdjacencyLists.{AreOffsets, rows_from};
 
     ghost Value = { List (List ℕ) };
 
@@ -41,8 +41,8 @@ impl Rows {
     /// The links from a part.
     pub fn row(&self, part: usize) -> &[u32]
         requires { part < length self.now }
-        ensures row { result.now ≡ row_at self.now part }
-        ensures small { (p : ℕ) → length (row_at self.now p) < 2 ^ 32 }
+        ensures row { result.now ≡ part_row self.now part }
+        ensures small { (p : ℕ) → length (part_row self.now p) < 2 ^ 32 }
     {
         let start = self.offsets[part];
         let end = self.offsets[part + 1];
@@ -53,7 +53,7 @@ impl Rows {
     pub fn row_before(&self, part: usize, end: usize) -> &[u32]
         requires { part < length self.now }
         ensures last { part ≡ end → length result.now ≡ 0 }
-        ensures before { (part ≡ end → ⊥) → result.now ≡ row_at self.now part }
+        ensures before { (part ≡ end → ⊥) → result.now ≡ part_row self.now part }
     {
         if part == end { &[] } else { self.row(part) }
     }
@@ -61,8 +61,8 @@ impl Rows {
     /// The link at a place of a part's row.
     pub fn link_from(&self, part: usize, place: usize) -> Option<usize>
         requires { part < length self.now }
-        ensures link { result ≡ slice_get (row_at self.now part) place }
-        ensures small { (p : ℕ) → length (row_at self.now p) < 2 ^ 32 }
+        ensures link { result ≡ slice_get (part_row self.now part) place }
+        ensures small { (p : ℕ) → length (part_row self.now p) < 2 ^ 32 }
     {
         let link = self.row(part).get(place)?;
         Some(*link as usize)
@@ -73,8 +73,8 @@ impl Rows {
     pub fn link_to(&self, half: usize, part: usize, place: usize) -> Option<usize>
         requires part { part < length self.now }
         requires half { half < 2 ^ 63 }
-        ensures link { result ≡ slice_get (row_at (reversed half self.now) part) place }
-        ensures small { (p : ℕ) → length (row_at (reversed half self.now) p) < 2 ^ 32 }
+        ensures link { result ≡ slice_get (part_row (reversed half self.now) part) place }
+        ensures small { (p : ℕ) → length (part_row (reversed half self.now) p) < 2 ^ 32 }
     {
         let link = self.link_from(part, place)?;
         Some(reverse_of(half, link))

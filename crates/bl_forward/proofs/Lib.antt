@@ -1,6 +1,6 @@
-pub mod Behind
-pub mod Finding
-pub mod Forwarded
-pub mod Keeping
+pub mod ReadyStores
+pub mod FindLemmas
+pub mod ForwardPairs
+pub mod ForwardInvariant
 pub mod Loads
-pub mod Turning
+pub mod TurnLemmas

@@ -1,6 +1,6 @@
-pub mod Calls
-pub mod Forwarding
+pub mod ForwardCalls
+pub mod ForwardMachines
 pub mod LastStores
-pub mod Laws
-pub mod Sights
+pub mod SameSights
+pub mod SightTexts
 pub mod Verdicts

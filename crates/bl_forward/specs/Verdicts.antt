@@ -3,7 +3,7 @@ use Rattle.bl_cmd.specs.declared.definitions.ProgramParts.{ProgramParts as Progr
 use Rattle.bl_graph.specs.Labels.{ConstantTime}
 use Rattle.bl_graph.specs.SecretChains.{IsSecretChain}
 use Rattle.bl_sct.specs.Verdicts.{IsStable, IsUnstable}
-use Rattle.bl_forward.specs.Forwarding.{HasEqualForwarding}
+use Rattle.bl_forward.specs.ForwardMachines.{HasEqualForwarding}
 use Rattle.bl_forward.specs.declared.verdict.ForwardVerdict.{ForwardVerdict}
 use Rattle.bl_forward.specs.declared.verdict.ForwardVerdict.TheVariants.{Safe, NotConstantTime, NotStable}
 

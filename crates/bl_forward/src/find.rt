@@ -1,8 +1,8 @@
 //! Where a load finds its bytes behind ready stores.
 ghost use Rattle.std.specs.Prelude.{◌≡◌, ◌<◌, ◌≤◌, ◌^◌};
 ghost use Rattle.bl_seq.specs.Layouts.{IsLayout};
-ghost use Rattle.bl_forward.specs.Calls.{found_behind};
-ghost use Rattle.bl_forward.specs.Forwarding.{supplied, supplies};
+ghost use Rattle.bl_forward.specs.ForwardCalls.{found_behind};
+ghost use Rattle.bl_forward.specs.ForwardMachines.{supplied, supplies};
 
 use bl_ops::narrow;
 use bl_rob::{Entry, Work, effective};

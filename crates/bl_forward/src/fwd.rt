@@ -1,10 +1,10 @@
 //! The machine that forwards stores, as its callers see it.
 ghost use Rattle.std.specs.Prelude.{◌≡◌, ◌≤◌, IfOk, slice_get, slice_index, option_map};
 ghost use Rattle.bl_cmd.specs.Outcomes.{IsStart};
-ghost use Rattle.bl_rob.specs.CallResults.{IsTold, Told, outcome_in, position_of, shown};
+ghost use Rattle.bl_rob.specs.CallResults.{IsEntryKind, IsRunOf, outcome_in, position_of, shown};
 ghost use Rattle.bl_rob.specs.Machines.{end_in, opening};
 ghost use Rattle.bl_rob.specs.declared.directive.Directive.TheVariants.{Exec, Fetch, Predict, Retire};
-ghost use Rattle.bl_forward.specs.Calls.{ForwardSteps, is_enabled};
+ghost use Rattle.bl_forward.specs.ForwardCalls.{ForwardSteps, is_enabled};
 
 use crate::load::{as_plain, exec, may_exec};
 use crate::seen::Seen;
@@ -26,9 +26,9 @@ impl<'p, const W: usize> Model for Fwd<'p, W> {
     ghost use Rattle.std.specs.Prelude.{◌≤◌, length};
     ghost use Rattle.bl_seq.specs.Layouts.{IsLayout};
     ghost use Rattle.bl_rob.specs.CallResults.{shown};
-    ghost use Rattle.bl_rob.specs.Reached.{IsReachedBy};
+    ghost use Rattle.bl_rob.specs.ReachableStates.{IsReachedBy};
     ghost use Rattle.bl_rob.specs.Robs.{RobView};
-    ghost use Rattle.bl_forward.specs.Forwarding.{forward_step};
+    ghost use Rattle.bl_forward.specs.ForwardMachines.{forward_step};
 
     ghost Value = { RobView };
 
@@ -127,7 +127,7 @@ impl<'p, const W: usize> Fwd<'p, W> {
 
     /// The outcome; None exactly where the machine hasn't ended.
     pub fn outcome(&self, alloc: Global) -> Result<Option<Run>, NoMemory>
-        ensures { IfOk result (Told (outcome_in self.now.program (shown self.now.machine))) }
+        ensures { IfOk result (IsRunOf (outcome_in self.now.program (shown self.now.machine))) }
     {
         self.machine.outcome(alloc, &self.layout)
     }
@@ -153,7 +153,7 @@ impl<'p, const W: usize> Fwd<'p, W> {
 
     /// The position and the kind of an entry; None exactly where the buffer has none of that index. Takes no memory.
     pub fn entry(&self, n: u32) -> Option<(Pos, Kind)>
-        ensures { IsTold (slice_get (shown self.now.machine).buffer n) result }
+        ensures { IsEntryKind (slice_get (shown self.now.machine).buffer n) result }
     {
         self.machine.entry(n)
     }

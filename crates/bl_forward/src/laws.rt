@@ -8,15 +8,15 @@ ghost use Rattle.bl_cmd.specs.Sites.{is_protected};
 ghost use Rattle.bl_cmd.specs.declared.definitions.ProgramParts.{ProgramParts};
 ghost use Rattle.bl_graph.specs.Labels.{ConstantTime};
 ghost use Rattle.bl_rob.specs.Machines.{opening};
-ghost use Rattle.bl_rob.specs.Observed.{IsConsistent, after_by};
+ghost use Rattle.bl_rob.specs.Observations.{IsConsistent, after_by};
 ghost use Rattle.bl_rob.specs.declared.directive.Directive.{Directive};
 ghost use Rattle.bl_rob.specs.declared.entry.Entry.{Entry};
 ghost use Rattle.bl_transient.specs.Transient.{Passes};
-ghost use Rattle.bl_twin.specs.Comparing.{comparison_by};
+ghost use Rattle.bl_twin.specs.TwinComparisons.{comparison_by};
 ghost use Rattle.bl_twin.specs.declared.comparison.Comparison.TheVariants as comparison_is;
-ghost use Rattle.bl_forward.specs.Forwarding.{observed_forwarding, HasEqualForwarding, found_in, forward_step};
+ghost use Rattle.bl_forward.specs.ForwardMachines.{observed_forwarding, HasEqualForwarding, found_in, forward_step};
 ghost use Rattle.bl_forward.specs.LastStores.{Finds};
-ghost use Rattle.bl_forward.specs.Sights.{are_same};
+ghost use Rattle.bl_forward.specs.SightTexts.{are_same};
 ghost use Rattle.bl_forward.specs.declared.find.Found.{Found};
 
 /// Where a load of so many bytes from a place on finds them behind entries: in memory, where no ready store among them meets its range; in

@@ -1,8 +1,8 @@
 //! Lists of directives.
 ghost use Rattle.std.specs.Prelude.{◌≡◌, IfOk};
 ghost use Rattle.bl_rob.specs.CallResults.{seen_in, shown};
-ghost use Rattle.bl_rob.specs.Observed.{ObservesBy};
-ghost use Rattle.bl_forward.specs.Forwarding.{forward_step};
+ghost use Rattle.bl_rob.specs.Observations.{ObservesBy};
+ghost use Rattle.bl_forward.specs.ForwardMachines.{forward_step};
 
 use crate::fwd::Fwd;
 use crate::seen::Seen;

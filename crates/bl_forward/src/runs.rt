@@ -2,8 +2,8 @@
 ghost use Rattle.std.specs.Prelude.{◌≡◌, IfOk};
 ghost use Rattle.bl_cmd.specs.Outcomes.{IsStart};
 ghost use Rattle.bl_rob.specs.CallResults.{seen_in};
-ghost use Rattle.bl_forward.specs.Forwarding.{observed_forwarding};
-ghost use Rattle.bl_forward.specs.Sights.{AreForwardedSideBySide};
+ghost use Rattle.bl_forward.specs.ForwardMachines.{observed_forwarding};
+ghost use Rattle.bl_forward.specs.SightTexts.{AreForwardedSideBySide};
 
 use crate::fwd::Fwd;
 use crate::seen::Seen;

@@ -7,8 +7,7 @@ use Rattle.std.proofs.lemmas.List.Elements.{All-append, All-cons, All-head, All-
 use Rattle.std.proofs.lemmas.List.FromFn.{get_or-range_with_len, length-range_with_len}
 use Rattle.bl_leb.specs.Grammar.{◌⨾◌}
 use Rattle.bl_wasm.specs.Values.{each, vec}
-use Rattle.bl_wasm.specs.Instructions.{Nests, instruction, expression}
-use Rattle.bl_wasm.specs.Instructions.{none as no_items, plain as plain_item}
+use Rattle.bl_wasm.specs.Instructions.{Nests, instruction, expression, none as no_items, plain as plain_item}
 use Rattle.bl_wasm.specs.Limits.{greatest_depth, nesting_of}
 use Rattle.bl_wasm.specs.Sections.{code_entry, function_code, local_run}
 use Rattle.bl_wasm.specs.Sequences.{Sequence, none}
@@ -17,8 +16,7 @@ use Rattle.bl_wasm.specs.declared.instruction.Instr.{Instr}
 use Rattle.bl_wasm.specs.declared.instruction.Instr.TheVariants.{LocalGet}
 use Rattle.bl_wasm.specs.declared.types.WasmType.{WasmType}
 use Rattle.bl_wasm.specs.declared.types.WasmType.TheVariants.{I32}
-use Rattle.bl_gen.specs.Made.{call_before, function, item, items, item_kind, leb}
-use Rattle.bl_gen.specs.Made.{sized as sized_bytes}
+use Rattle.bl_gen.specs.GeneratedModule.{call_before, function, item, items, item_kind, leb, sized as sized_bytes}
 use Rattle.bl_gen.proofs.Numbers.{number_short, number_spelled}
 use Rattle.bl_gen.proofs.Pieces.{IsHere, IsShallow, IsUsed, Piece, get, call_piece, each_append, get_spelled, get_typed, item_piece, pieces, two_pieces}
 use Rattle.bl_gen.proofs.Trees.{body, code_of, first_code, run}

@@ -3,9 +3,9 @@ use Rattle.std.proofs.Common.{◌≡◌, ℕ, ◌+◌, ◌-◌, ◌<◌, ◌≤�
 use Rattle.std.specs.Prelude.{◌^◌, replicate}
 use Rattle.std.specs.List.{flat_map, range_with_len}
 use Rattle.std.proofs.lemmas.List.{length-replicate}
-use Rattle.bl_gen.specs.Made.{code_section, export_section, function, function_section, leb, made, memory_section, section, sized, type_section, preamble}
+use Rattle.bl_gen.specs.GeneratedModule.{code_section, export_section, function, function_section, leb, made, memory_section, section, sized, type_section, preamble}
 use Rattle.bl_gen.proofs.Numbers.{number_short}
-use Rattle.bl_gen.proofs.Spelled.{code_short}
+use Rattle.bl_gen.proofs.SpelledModule.{code_short}
 
 section_short : (id : ℕ) (contents : List ℕ) → length contents < 2 ^ 32 → length (section id contents) ≤ 6 + length contents
 section_short id contents few =

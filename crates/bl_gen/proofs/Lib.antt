@@ -1,10 +1,10 @@
 pub mod Bodies
 pub mod Lengths
 pub mod Numbers
-pub mod OfBytes
+pub mod ByteRanges
 pub mod Pieces
 pub mod Ranges
-pub mod Spelled
-pub mod Supports
+pub mod SpelledModule
+pub mod SupportedTree
 pub mod Trees
 pub mod Typings

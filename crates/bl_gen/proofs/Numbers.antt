@@ -6,7 +6,7 @@ use Rattle.bl_leb.specs.Numbers.{IsUnsigned}
 use Rattle.bl_leb.specs.Spellings.{IsShortest, Appends}
 use Rattle.bl_leb.proofs.Bits.{power_grows}
 use Rattle.bl_leb.proofs.Unsigned.{length_bounded, one_shortest, power_split, shortest_one, shortest_more}
-use Rattle.bl_gen.specs.Made.{leb, leb_within}
+use Rattle.bl_gen.specs.GeneratedModule.{leb, leb_within}
 
 -- seven bits more hold 128 times as much
 seven_more : (most : ℕ) → 2 ^ (7 * suc (suc most)) ≡ 128 * 2 ^ (7 * suc most)

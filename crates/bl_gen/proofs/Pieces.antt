@@ -8,9 +8,8 @@ use Rattle.std.proofs.lemmas.List.Concat.{flat_map-cons}
 use Rattle.std.proofs.lemmas.List.Elements.{All-append, All-cons, All-nil}
 use Rattle.bl_leb.specs.Grammar.{Spellings, ◌⨾◌}
 use Rattle.bl_wasm.specs.Values.{each}
-use Rattle.bl_wasm.specs.Instructions.{Nests, instruction}
-use Rattle.bl_wasm.specs.Instructions.{none as no_items, plain as plain_item, loop as loop_items}
-use Rattle.bl_wasm.specs.Nesting.{depth_at}
+use Rattle.bl_wasm.specs.Instructions.{Nests, instruction, none as no_items, plain as plain_item, loop as loop_items}
+use Rattle.bl_wasm.specs.OpenConstructs.{depth_at}
 use Rattle.bl_wasm.specs.Sequences.{Sequence, none, plain, loop}
 use Rattle.bl_wasm.specs.Typing.{Context}
 use Rattle.bl_wasm.specs.declared.instruction.Instr.{Instr}
@@ -20,7 +19,7 @@ use Rattle.bl_wasm.specs.declared.types.FuncType.{FuncType}
 use Rattle.bl_wasm.specs.declared.types.WasmType.{WasmType}
 use Rattle.bl_wasm.specs.declared.types.WasmType.TheVariants.{I32}
 use Rattle.bl_ops.specs.declared.op.Op.TheVariants.{I32Add}
-use Rattle.bl_gen.specs.Made.{call_before, item, leb}
+use Rattle.bl_gen.specs.GeneratedModule.{call_before, item, leb}
 use Rattle.bl_gen.proofs.Numbers.{number_spelled}
 use Rattle.bl_gen.proofs.Trees.{call_code, code_2, code_3, code_of, inside_2, load, type}
 use Rattle.bl_wasm.proofs.SpellingLemmas.{both, after, small}

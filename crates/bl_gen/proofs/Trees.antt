@@ -15,7 +15,7 @@ use Rattle.bl_wasm.specs.declared.types.BlockType.TheVariants.{Empty}
 use Rattle.bl_wasm.specs.declared.types.FuncType.{FuncType}
 use Rattle.bl_wasm.specs.declared.types.Limits.{Limits}
 use Rattle.bl_wasm.specs.declared.types.WasmType.TheVariants.{I32}
-use Rattle.bl_gen.specs.Made.{item_kind}
+use Rattle.bl_gen.specs.GeneratedModule.{item_kind}
 
 abbrev pub load : Instr
 load = Load I32Load (record { alignment = 2; offset = 0 })

@@ -1,2 +1,2 @@
-pub mod Accepted
-pub mod Made
+pub mod AcceptedModules
+pub mod GeneratedModule

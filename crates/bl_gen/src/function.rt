@@ -1,12 +1,12 @@
 //! The code of the functions.
 ghost use Rattle.std.specs.Prelude.{◌≡◌, ◌≤◌, ◌<◌, ◌++◌, IfOk};
-ghost use Rattle.bl_gen.specs.Made.{call_before, function, item, items, item_kind};
+ghost use Rattle.bl_gen.specs.GeneratedModule.{call_before, function, item, items, item_kind};
 
 use crate::number::push_number;
 use bl_base::NoMemory;
 
 /// Puts function i behind some bytes.
-#[tactic(auto, unfolding(crate::specs::Made::function))]
+#[tactic(auto, unfolding(crate::specs::GeneratedModule::function))]
 pub(crate) fn push_function(to: &mut Vec<u8>, seed: u64, i: u32) -> Result<(), NoMemory>
     ensures { IfOk result (λ _. to.new.items ≡ to.old.items ++ function seed i) }
 {
@@ -37,7 +37,7 @@ fn kind(seed: u64, i: u32, j: u64) -> u64
 }
 
 /// Puts an item of a kind behind some bytes.
-#[tactic(auto, unfolding(crate::specs::Made::item))]
+#[tactic(auto, unfolding(crate::specs::GeneratedModule::item))]
 fn push_item(to: &mut Vec<u8>, kind: u64) -> Result<(), NoMemory>
     ensures { IfOk result (λ _. to.new.items ≡ to.old.items ++ item kind) }
 {
@@ -54,7 +54,7 @@ fn push_item(to: &mut Vec<u8>, kind: u64) -> Result<(), NoMemory>
 }
 
 /// Puts the call of the function before function i behind some bytes; nothing where there is none.
-#[tactic(auto, unfolding(crate::specs::Made::call_before))]
+#[tactic(auto, unfolding(crate::specs::GeneratedModule::call_before))]
 fn push_call(to: &mut Vec<u8>, i: u32) -> Result<(), NoMemory>
     ensures { IfOk result (λ _. to.new.items ≡ to.old.items ++ call_before i) }
 {

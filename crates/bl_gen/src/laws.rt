@@ -7,10 +7,10 @@ ghost use Rattle.bl_leb.specs.Numbers.{IsUnsigned};
 ghost use Rattle.bl_leb.specs.Spellings.{IsShortest};
 ghost use Rattle.bl_wasm.specs.Modules.{Spells};
 ghost use Rattle.bl_wasm.specs.declared.module.Module.{Module};
-ghost use Rattle.bl_decode.specs.Decoding.{AnswersOf};
+ghost use Rattle.bl_decode.specs.DecoderAnswers.{AnswersOf};
 ghost use Rattle.bl_decode.specs.declared.error.DecodeError.{DecodeError};
-ghost use Rattle.bl_gen.specs.Accepted.{GivesValid, IsAccepted};
-ghost use Rattle.bl_gen.specs.Made.{leb, made};
+ghost use Rattle.bl_gen.specs.AcceptedModules.{GivesValid, IsAccepted};
+ghost use Rattle.bl_gen.specs.GeneratedModule.{leb, made};
 
 /// The bytes of each module that is made spell a module that is supported, exceeds no limit and is valid. So what decoding
 /// promises of its answer, for every module that the bytes spell, is that a valid module comes, but for want of memory.

@@ -3,7 +3,7 @@ ghost use Rattle.std.specs.Prelude.{◌≡◌, ◌≤◌, ◌++◌, IfOk};
 ghost use Rattle.std.specs.List.{flat_map, range_with_len};
 ghost use Rattle.bl_base.specs.Quantity.{limit_of};
 ghost use Rattle.bl_base.specs.declared.quantity.Quantity.TheVariants as quantity;
-ghost use Rattle.bl_gen.specs.Made.{code_section, export_section, function, function_section, made, sized};
+ghost use Rattle.bl_gen.specs.GeneratedModule.{code_section, export_section, function, function_section, made, sized};
 
 use crate::function::push_function;
 use crate::number::{push_number, push_section, push_sized};
@@ -12,7 +12,7 @@ use std::alloc::Global;
 
 /// The bytes of the module that a seed and a size give: so many functions, each of which calls the one before it, a memory, and
 /// an export of the last function. Want of memory is the only error.
-#[tactic(auto, unfolding(crate::specs::Made::made, crate::specs::Made::type_section, crate::specs::Made::memory_section))]
+#[tactic(auto, unfolding(crate::specs::GeneratedModule::made, crate::specs::GeneratedModule::type_section, crate::specs::GeneratedModule::memory_section))]
 pub fn make(alloc: Global, seed: u64, size: u32) -> Result<Vec<u8>, NoMemory>
     requires least { 1 ≤ size }
     requires most { size ≤ limit_of quantity.Functions }
@@ -29,7 +29,7 @@ pub fn make(alloc: Global, seed: u64, size: u32) -> Result<Vec<u8>, NoMemory>
 }
 
 /// Puts the section of the functions' types behind some bytes.
-#[tactic(auto, unfolding(crate::specs::Made::function_section))]
+#[tactic(auto, unfolding(crate::specs::GeneratedModule::function_section))]
 fn push_functions(alloc: Global, to: &mut Vec<u8>, size: u32) -> Result<(), NoMemory>
     ensures { IfOk result (λ _. to.new.items ≡ to.old.items ++ function_section size) }
 {
@@ -42,7 +42,7 @@ fn push_functions(alloc: Global, to: &mut Vec<u8>, size: u32) -> Result<(), NoMe
 }
 
 /// Puts the section of the export behind some bytes.
-#[tactic(auto, unfolding(crate::specs::Made::export_section))]
+#[tactic(auto, unfolding(crate::specs::GeneratedModule::export_section))]
 fn push_export(alloc: Global, to: &mut Vec<u8>, size: u32) -> Result<(), NoMemory>
     requires { 1 ≤ size }
     ensures { IfOk result (λ _. to.new.items ≡ to.old.items ++ export_section size) }
@@ -54,7 +54,7 @@ fn push_export(alloc: Global, to: &mut Vec<u8>, size: u32) -> Result<(), NoMemor
 }
 
 /// Puts the section of the functions' code behind some bytes.
-#[tactic(auto, unfolding(crate::specs::Made::code_section))]
+#[tactic(auto, unfolding(crate::specs::GeneratedModule::code_section))]
 fn push_code(alloc: Global, to: &mut Vec<u8>, seed: u64, size: u32) -> Result<(), NoMemory>
     ensures { IfOk result (λ _. to.new.items ≡ to.old.items ++ code_section seed size) }
 {

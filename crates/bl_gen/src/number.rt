@@ -1,6 +1,6 @@
 //! Numbers, and what stands behind its size.
 ghost use Rattle.std.specs.Prelude.{◌≡◌, ◌++◌, IfOk};
-ghost use Rattle.bl_gen.specs.Made.{leb, section, sized};
+ghost use Rattle.bl_gen.specs.GeneratedModule.{leb, section, sized};
 
 use bl_base::NoMemory;
 use bl_leb::push_u64;

@@ -1,11 +1,11 @@
 pub mod Arcs
 pub mod Certificates
 pub mod Chains
-pub mod Firsts
+pub mod FirstVariables
 pub mod Graphs
 pub mod Labels
 pub mod Names
 pub mod Ranges
-pub mod Rows
+pub mod UseLists
 pub mod SecretChains
 pub mod Secrets

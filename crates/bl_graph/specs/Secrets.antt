@@ -4,7 +4,7 @@ use Rattle.bl_base.specs.declared.names.Label.TheVariants as label
 use Rattle.bl_cmd.specs.Layout.{param, result, command_at}
 use Rattle.bl_cmd.specs.Sites.{Names}
 use Rattle.bl_cmd.specs.declared.command.Command.{Command}
-use Rattle.bl_cmd.specs.declared.command.Command.TheVariants.{Set, Load, Store, Test, Jump, Arg, Call, Out, Ret, Trap}
+use Rattle.bl_cmd.specs.declared.command.Command.TheVariants.{Load, Store}
 use Rattle.bl_cmd.specs.declared.definitions.Demand.{Demand}
 use Rattle.bl_cmd.specs.declared.definitions.Demand.TheVariants as demand
 use Rattle.bl_cmd.specs.declared.definitions.ProgramParts.{ProgramParts as Program}
@@ -40,16 +40,8 @@ Declares program x (Memory number) = ⊥
 
 -- the command loads from that memory, which is declared secret
 abbrev pub TakesSecret : Program → Command → ℕ → Type 0
-TakesSecret program (Set mark op to a b c) number = ⊥
 TakesSecret program (Load mark kind memory to offset address) number = (memory ≡ number) × IsSecretMemory program number
-TakesSecret program (Store kind memory offset address value) number = ⊥
-TakesSecret program (Test cond one other) number = ⊥
-TakesSecret program (Jump to) number = ⊥
-TakesSecret program (Arg mark function index value) number = ⊥
-TakesSecret program (Call function) number = ⊥
-TakesSecret program (Out mark index value) number = ⊥
-TakesSecret program Ret number = ⊥
-TakesSecret program (Trap kind) number = ⊥
+TakesSecret program _ number = ⊥
 
 -- a Load of that secret memory stands there
 abbrev pub LoadsSecret : Program → ℕ → ℕ → Type 0
@@ -59,16 +51,8 @@ LoadsSecret program s number = IsSomeAnd (command_at program s) (λ command. Tak
 
 -- the command stores the variable to a public memory
 abbrev pub GivesPublic : Program → Command → ℕ → Type 0
-GivesPublic program (Set mark op to a b c) x = ⊥
-GivesPublic program (Load mark kind memory to offset address) x = ⊥
 GivesPublic program (Store kind memory offset address value) x = IsPublicMemory program memory × Names value x
-GivesPublic program (Test cond one other) x = ⊥
-GivesPublic program (Jump to) x = ⊥
-GivesPublic program (Arg mark function index value) x = ⊥
-GivesPublic program (Call function) x = ⊥
-GivesPublic program (Out mark index value) x = ⊥
-GivesPublic program Ret x = ⊥
-GivesPublic program (Trap kind) x = ⊥
+GivesPublic program _ x = ⊥
 
 -- a Store there gives the variable to a public memory
 abbrev pub Stores : Program → ℕ → ℕ → Type 0

@@ -2,7 +2,7 @@
 ghost use Rattle.std.specs.Prelude.{◌≡◌, ◌↔◌, ◌<◌, ◌^◌, [], ◌∷◌, IfOk, IsTrue, OnOk, length, option_map};
 ghost use Rattle.bl_cmd.specs.Sites.{Among, Loads, Names, is_division, moved_by, sunk_by};
 ghost use Rattle.bl_graph.specs.Graphs.{AreUses};
-ghost use Rattle.bl_graph.specs.Rows.{AddsPlace, AddsRow, ArePlacesBelow, IsLeastFrom, LoadAt, OperandAt, lower_of};
+ghost use Rattle.bl_graph.specs.UseLists.{AddsPlace, AddsRow, ArePlacesBelow, IsLeastFrom, LoadAt, OperandAt, lower_of};
 
 use crate::facts::Use;
 use bl_base::{List, NoMemory, Pos, Var};
@@ -72,7 +72,7 @@ fn is_load(command: Command) -> bool
 }
 
 /// Appends what a Set, an Arg or an Out reads.
-#[tactic(auto, using(crate::proofs::Rows::row_none_among))]
+#[tactic(auto, using(crate::proofs::UseRows::row_none_among))]
 fn push_reads(reads: &mut List<Use>, at: u32, command: Command) -> Result<(), NoMemory>
     ensures { OnOk result (AddsRow (Among (moved_by command)) at reads.old reads.new) }
 {
@@ -91,7 +91,7 @@ fn push_reads(reads: &mut List<Use>, at: u32, command: Command) -> Result<(), No
 }
 
 /// Appends what a sink of the command reads.
-#[tactic(auto, using(crate::proofs::Rows::row_none_among))]
+#[tactic(auto, using(crate::proofs::UseRows::row_none_among))]
 fn push_sinks(sinks: &mut List<Use>, at: u32, command: Command) -> Result<(), NoMemory>
     ensures { OnOk result (AddsRow (Among (sunk_by command)) at sinks.old sinks.new) }
 {

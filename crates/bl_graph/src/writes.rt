@@ -5,8 +5,8 @@ ghost use Rattle.bl_cmd.specs.Rules.{IsWellFormed};
 ghost use Rattle.bl_cmd.specs.Sites.{written_by, Writes};
 ghost use Rattle.bl_graph.specs.Graphs.{AreUses};
 ghost use Rattle.bl_graph.specs.Ranges.{AreInRange, variables};
-ghost use Rattle.bl_graph.specs.Firsts.{IsRunning, firsts_from};
-ghost use Rattle.bl_graph.specs.Rows.{AddsRow, AreBelow};
+ghost use Rattle.bl_graph.specs.FirstVariables.{IsRunning, firsts_from};
+ghost use Rattle.bl_graph.specs.UseLists.{AddsRow, AreBelow};
 
 use crate::facts::Use;
 use bl_base::{List, NoMemory, Pos, Var};

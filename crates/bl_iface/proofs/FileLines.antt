@@ -10,11 +10,11 @@ use Rattle.std.proofs.lemmas.Option.{none-some, same_Some}
 use Rattle.std.specs.Prelude.{◌==◌, not, option_map}
 use Rattle.bl_base.specs.declared.names.Flow.{Flow}
 use Rattle.bl_iface.specs.Files.{IsFirstBadLine, Say, agreed, flow_before, flow_of, function_in, letters}
-use Rattle.bl_iface.specs.Joining.{is_named}
+use Rattle.bl_iface.specs.JoinedProgram.{is_named}
 use Rattle.bl_iface.specs.declared.iface.FnIface.{FnIface}
 use Rattle.bl_trace.specs.Lines.{lines_of}
-use Rattle.bl_trace.proofs.Saying.{line_at}
-use Rattle.bl_iface.proofs.Naming.{eq_itself}
+use Rattle.bl_trace.proofs.LineLemmas.{line_at}
+use Rattle.bl_iface.proofs.NameLemmas.{eq_itself}
 
 -- ---- where a list goes on
 
@@ -41,6 +41,16 @@ goes_on (z ∷ xs) (suc n) x ys e =
 
 -- ---- one line more
 
+-- the line behind some that say functions says another one
+pub said_more : (front : List (List ℕ)) (functions : List FnIface) (line : List ℕ) (one : FnIface) → Say front functions → function_in line ≡ Some one → is_named functions one.name ≡ false
+    → Say (front ++ line ∷ []) (functions ++ one ∷ [])
+said_more front functions line one say is none = record {
+  says = map-append function_in front (line ∷ []) ∙ ap (λ l. l ++ function_in line ∷ []) say.says ∙ ap (λ (o : Option FnIface). map Some functions ++ o ∷ []) is
+      ∙ sym (map-append Some functions (one ∷ []));
+  distinct = all_pairs_push (λ (a b : FnIface). a.name ≡ b.name → ⊥) functions one say.distinct (λ k d lt same.
+      false≢true (sym none ∙ list_any_at (λ (x : FnIface). bytes_eq one.name x.name) functions k d lt (ap (bytes_eq one.name) same ∙ eq_itself one.name)));
+}
+
 module _ (bytes : List ℕ) (at place number : ℕ) (functions : List FnIface) (inside : at < length bytes)
     (ends : place ≡ position_or_len (λ b. b == 10) (take (length bytes - at) (drop at bytes)))
     (rest : lines_of (drop at bytes) ≡ drop number (lines_of bytes)) (say : Say (take number (lines_of bytes)) functions) where
@@ -65,12 +75,7 @@ module _ (bytes : List ℕ) (at place number : ℕ) (functions : List FnIface) (
   }
 
   pub say_more : (one : FnIface) → function_in here ≡ Some one → is_named functions one.name ≡ false → Say (take (number + 1) (lines_of bytes)) (functions ++ one ∷ [])
-  say_more one is none = subst (λ l. Say l (functions ++ one ∷ [])) (sym on.front) (record {
-    says = map-append function_in (take number (lines_of bytes)) (here ∷ []) ∙ ap (λ l. l ++ function_in here ∷ []) say.says ∙ ap (λ (o : Option FnIface). map Some functions ++ o ∷ []) is
-        ∙ sym (map-append Some functions (one ∷ []));
-    distinct = all_pairs_push (λ (a b : FnIface). a.name ≡ b.name → ⊥) functions one say.distinct (λ k d lt same.
-        false≢true (sym none ∙ list_any_at (λ (x : FnIface). bytes_eq one.name x.name) functions k d lt (ap (bytes_eq one.name) same ∙ eq_itself one.name)));
-  })
+  say_more one is none = subst (λ l. Say l (functions ++ one ∷ [])) (sym on.front) (said_more (take number (lines_of bytes)) functions here one say is none)
 
 -- at first
 pub say_nothing : (lines : List (List ℕ)) → Say (take 0 lines) []

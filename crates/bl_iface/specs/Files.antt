@@ -4,7 +4,7 @@ use Rattle.std.specs.List.{AllPairs, position_or_len}
 use Rattle.std.specs.Str.{bytes_eq}
 use Rattle.bl_base.specs.declared.names.Flow.{Flow}
 use Rattle.bl_base.specs.declared.names.Flow.TheVariants.{Stable, Transient}
-use Rattle.bl_iface.specs.Joining.{is_named}
+use Rattle.bl_iface.specs.JoinedProgram.{is_named}
 use Rattle.bl_iface.specs.declared.error.IfaceError.{IfaceError}
 use Rattle.bl_iface.specs.declared.error.IfaceError.TheVariants.{Line, Memory}
 use Rattle.bl_iface.specs.declared.iface.FnIface.{FnIface}

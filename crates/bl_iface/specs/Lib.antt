@@ -1,11 +1,11 @@
 pub mod Answers
-pub mod Asking
+pub mod RoleLists
 pub mod Example
 pub mod Files
-pub mod Joining
-pub mod Matching
-pub mod Moves
+pub mod JoinedProgram
+pub mod InterfaceFunctions
+pub mod MovableNumbers
 pub mod Names
-pub mod Numbering
+pub mod PartNumbers
 pub mod Roles
-pub mod Under
+pub mod RoleTests

@@ -6,7 +6,7 @@ use Rattle.bl_base.specs.declared.names.Flow.TheVariants.{Stable, Transient}
 use Rattle.bl_cmd.specs.Layout.{param, result}
 use Rattle.bl_cmd.specs.declared.definitions.ProgramParts.{ProgramParts as Program}
 use Rattle.bl_transient.specs.Transient.{Flows}
-use Rattle.bl_iface.specs.Joining.{exported}
+use Rattle.bl_iface.specs.JoinedProgram.{exported}
 use Rattle.bl_iface.specs.declared.iface.FnIface.{FnIface}
 use Rattle.bl_iface.specs.declared.iface.Iface.{Iface}
 use Rattle.bl_iface.specs.declared.iface.Role.{Role}

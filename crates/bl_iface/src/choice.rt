@@ -7,9 +7,9 @@ ghost use Rattle.std.specs.Ordering.{nat_cmp};
 ghost use Rattle.bl_cmd.specs.Sites.{weight_of};
 ghost use Rattle.bl_cut.specs.Least.{LeastUnder};
 ghost use Rattle.bl_graph.specs.Graphs.{IsGraph, Precedes};
-ghost use Rattle.bl_iface.specs.Asking.{IsFirstUse, NoUse};
-ghost use Rattle.bl_iface.specs.Matching.{Matches};
-ghost use Rattle.bl_iface.specs.Under.{IsFirstGiven, IsGiven, IsUnderError, asked};
+ghost use Rattle.bl_iface.specs.RoleLists.{IsFirstUse, NoUse};
+ghost use Rattle.bl_iface.specs.InterfaceFunctions.{Matches};
+ghost use Rattle.bl_iface.specs.RoleTests.{IsFirstGiven, IsGiven, IsUnderError, asked};
 ghost use Rattle.bl_iface.specs.declared.choice.UnderError.TheVariants as under;
 ghost use Rattle.bl_transient.specs.Verdicts.{asked_of};
 

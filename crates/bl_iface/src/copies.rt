@@ -1,8 +1,8 @@
 //! Lists of a program's parts behind those of another one.
 ghost use Rattle.std.specs.Prelude.{◌≡◌, ◌++◌, ◌+◌, ◌<◌, ◌^◌, IfOk, OnOk, filter, map, not};
 ghost use Rattle.std.specs.List.{All};
-ghost use Rattle.bl_iface.specs.Joining.{is_named, is_result, moved_demand, moved_export, moved_weight};
-ghost use Rattle.bl_iface.specs.Moves.{IsDemandSmall, IsNear};
+ghost use Rattle.bl_iface.specs.JoinedProgram.{is_named, is_result, moved_demand, moved_export, moved_weight};
+ghost use Rattle.bl_iface.specs.MovableNumbers.{IsDemandSmall, IsNear};
 
 use crate::iface::FnIface;
 use crate::names::names_of;

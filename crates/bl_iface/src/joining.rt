@@ -3,9 +3,9 @@ ghost use Rattle.std.specs.Prelude.{◌≡◌, ◌++◌, ◌+◌, ◌<◌, ◌�
 ghost use Rattle.bl_cmd.specs.Layout.{first_of, statics};
 ghost use Rattle.bl_cmd.specs.Tables.{AreValues};
 ghost use Rattle.bl_iface.specs.Answers.{JoinAnswers, StandsAgainst};
-ghost use Rattle.bl_iface.specs.Joining.{CanJoin, client_numbers, client_shift, demands_of, joined, kept as exports_kept, library_numbers, library_shift, moved_export, moved_weight, renamed};
-ghost use Rattle.bl_iface.specs.Matching.{AreTargets, Matches};
-ghost use Rattle.bl_iface.specs.Numbering.{LeadsTo};
+ghost use Rattle.bl_iface.specs.JoinedProgram.{CanJoin, client_numbers, client_shift, demands_of, joined, kept as exports_kept, library_numbers, library_shift, moved_export, moved_weight, renamed};
+ghost use Rattle.bl_iface.specs.InterfaceFunctions.{AreTargets, Matches};
+ghost use Rattle.bl_iface.specs.PartNumbers.{LeadsTo};
 
 use crate::copies::{
     both, kept_exports, push_all, push_exports, push_functions, push_globals, push_memories,
@@ -18,11 +18,11 @@ use crate::matching::matched;
 use crate::numbers::Numbers;
 use crate::obstacles::{first_taken, first_unlike};
 use crate::shift::Shift;
-use crate::tables::{firsts_of, goals_of};
+use crate::tables::goals_of;
 use bl_base::{List, NoMemory};
 use bl_cmd::{
     Command, Demand, ExportDef, FunctionDef, MemoryDef, Program, ProgramParts, SiteWeight,
-    WellFormed,
+    WellFormed, firsts_of,
 };
 use std::alloc::Global;
 

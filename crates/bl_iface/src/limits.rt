@@ -5,7 +5,7 @@ ghost use Rattle.bl_base.specs.Quantity.{limit_of};
 ghost use Rattle.bl_cmd.specs.Layout.{first_of, sum_before};
 ghost use Rattle.bl_cmd.specs.Sites.{weight_of};
 ghost use Rattle.bl_iface.specs.Answers.{IsFirstOver};
-ghost use Rattle.bl_iface.specs.Joining.{IsWithin, sums};
+ghost use Rattle.bl_iface.specs.JoinedProgram.{IsWithin, sums};
 
 use bl_base::{Pos, Quantity};
 use bl_cmd::{MemoryDef, ProgramParts, WellFormed, mark_at, site_weight};

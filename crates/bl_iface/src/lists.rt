@@ -3,15 +3,14 @@ ghost use Rattle.std.specs.Prelude.{◌≡◌, ◌+◌, ◌++◌, ◌<◌, ◌^�
 ghost use Rattle.bl_cmd.specs.Layout.{first_of};
 ghost use Rattle.bl_cmd.specs.Rules.{Rule2};
 ghost use Rattle.bl_cmd.specs.Tables.{AreValues};
-ghost use Rattle.bl_iface.specs.Asking.{AreAsked, Lists, called_from, kept_if};
-ghost use Rattle.bl_iface.specs.Matching.{AreTargets, Matches};
-ghost use Rattle.bl_iface.specs.Under.{is_flow, params_called, results_called};
+ghost use Rattle.bl_iface.specs.RoleLists.{AreAsked, Lists, called_from, kept_if};
+ghost use Rattle.bl_iface.specs.InterfaceFunctions.{AreTargets, Matches};
+ghost use Rattle.bl_iface.specs.RoleTests.{is_flow, params_called, results_called};
 
 use crate::iface::{Iface, Role};
 use crate::matching::matched;
-use crate::tables::firsts_of;
 use bl_base::{Flow, List, NoMemory};
-use bl_cmd::{ProgramParts, WellFormed};
+use bl_cmd::{ProgramParts, WellFormed, firsts_of};
 use bl_transient::AskedOf;
 use std::alloc::Global;
 

@@ -1,8 +1,8 @@
 //! The functions of an interface in a program.
 ghost use Rattle.std.specs.Prelude.{◌≡◌, ◌↔◌, ◌<◌, IfOk, IfErr, IfSome, IsSomeAnd, IsTrue, MatchOption, Some, length};
 ghost use Rattle.bl_iface.specs.Answers.{IsFirstWithout};
-ghost use Rattle.bl_iface.specs.Joining.{exported};
-ghost use Rattle.bl_iface.specs.Matching.{AreTargets, Fits, IsMatched, IsTargetsError, Matches};
+ghost use Rattle.bl_iface.specs.JoinedProgram.{exported};
+ghost use Rattle.bl_iface.specs.InterfaceFunctions.{AreTargets, Fits, IsMatched, IsTargetsError, Matches};
 
 use crate::error::TargetsError;
 use crate::iface::{FnIface, Iface};

@@ -4,13 +4,13 @@ ghost use Rattle.std.specs.List.{All};
 ghost use Rattle.bl_cmd.specs.Layout.{first_of, result as result_at};
 ghost use Rattle.bl_cmd.specs.Rules.{IsOwn};
 ghost use Rattle.bl_cmd.specs.declared.command.Command.TheVariants.{Arg, Call, Jump, Load, Out, Set, Store, Test};
-ghost use Rattle.bl_iface.specs.Joining.{moved_var, operand_by, renamed};
-ghost use Rattle.bl_iface.specs.Numbering.{AreNumbers, goal_in, numbers_by};
-ghost use Rattle.bl_iface.specs.Moves.{IsMovable, IsSmall, IsSmallOperand};
+ghost use Rattle.bl_iface.specs.JoinedProgram.{moved_var, operand_by, renamed};
+ghost use Rattle.bl_iface.specs.PartNumbers.{AreNumbers, goal_in, numbers_by};
+ghost use Rattle.bl_iface.specs.MovableNumbers.{IsMovable, IsSmall, IsSmallOperand};
 
 use crate::shift::{Shift, moved_position, moved_var};
 use bl_base::{List, NoMemory, Pos, Var};
-use bl_cmd::{Command, FunctionDef, Mark, Operand, ProgramParts};
+use bl_cmd::{Command, FunctionDef, Mark, Operand, ProgramParts, owner_among};
 use bl_ops::{AccessKind, Op};
 
 /// How the numbers of a part's commands become those of the joined program.
@@ -310,27 +310,4 @@ fn result_index(function: &FunctionDef, variable: u32) -> Option<u32>
     } else {
         None
     }
-}
-
-/// Of numbers that begin ranges, where the last one ends the last range: the number of a range that holds x; None where none
-/// does. A binary search.
-fn owner_among(firsts: &[u32], x: u32) -> Option<usize>
-    requires { 0 < length firsts.now }
-    ensures { MatchOption result ((x < slice_index firsts.now 0) ⊎ (slice_index firsts.now (length firsts.now - 1) ≤ x))
-        (λ owner. (owner + 1 < length firsts.now) × (slice_index firsts.now owner ≤ x) × (x < slice_index firsts.now (owner + 1))) }
-{
-    let mut low = 0;
-    let mut high = firsts.len() - 1;
-    if x < firsts[low] || firsts[high] <= x {
-        return None;
-    }
-    while high - low > 1 {
-        let middle = low + (high - low) / 2;
-        if firsts[middle] <= x {
-            low = middle;
-        } else {
-            high = middle;
-        }
-    }
-    Some(low)
 }

@@ -1,7 +1,7 @@
 //! Where a part stands in the joined program.
 ghost use Rattle.std.specs.Prelude.{◌≡◌};
-ghost use Rattle.bl_iface.specs.Joining.{moved_position, moved_var};
-ghost use Rattle.bl_iface.specs.Moves.{IsNear, IsSmall};
+ghost use Rattle.bl_iface.specs.JoinedProgram.{moved_position, moved_var};
+ghost use Rattle.bl_iface.specs.MovableNumbers.{IsNear, IsSmall};
 
 use bl_base::Pos;
 use bl_cmd::ProgramParts;

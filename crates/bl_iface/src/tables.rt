@@ -1,30 +1,12 @@
 //! The tables by which a client and a library are joined.
 ghost use Rattle.std.specs.Prelude.{◌≡◌, IfOk, length, replicate, None};
-ghost use Rattle.bl_cmd.specs.Layout.{first_of};
-ghost use Rattle.bl_cmd.specs.Rules.{Rule2};
-ghost use Rattle.bl_cmd.specs.Tables.{AreValues};
-ghost use Rattle.bl_iface.specs.Matching.{AreTargets};
-ghost use Rattle.bl_iface.specs.Numbering.{LeadsTo};
+ghost use Rattle.bl_iface.specs.InterfaceFunctions.{AreTargets};
+ghost use Rattle.bl_iface.specs.PartNumbers.{LeadsTo};
 
 use crate::iface::Iface;
 use bl_base::{List, NoMemory};
-use bl_cmd::{ProgramParts, WellFormed};
+use bl_cmd::WellFormed;
 use std::alloc::Global;
-
-/// The first variable of each function, and the number of all variables.
-pub(crate) fn firsts_of(alloc: Global, parts: &ProgramParts) -> Result<List<u32>, NoMemory>
-    requires { Rule2 parts.now }
-    ensures { IfOk result (λ firsts. AreValues (first_of parts.now) (length parts.now.functions) firsts) }
-{
-    let mut firsts = List::new(alloc);
-    let mut first = (parts.globals.len() + parts.memories.len()) as u32;
-    firsts.push(first)?;
-    for function in parts.functions.as_slice() {
-        first += function.vars;
-        firsts.push(first)?;
-    }
-    Ok(firsts)
-}
 
 /// For each function of the client the library's that it goes to, by the functions of the interface in both: the first name that stands for it
 /// counts.

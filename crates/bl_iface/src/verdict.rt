@@ -1,8 +1,8 @@
 //! Whether a program's own marks pass on one side of an interface.
 ghost use Rattle.std.specs.Prelude.{IfOk};
 ghost use Rattle.bl_cmd.specs.Sites.{is_protected};
-ghost use Rattle.bl_iface.specs.Matching.{Matches};
-ghost use Rattle.bl_iface.specs.Under.{JudgesAs};
+ghost use Rattle.bl_iface.specs.InterfaceFunctions.{Matches};
+ghost use Rattle.bl_iface.specs.RoleTests.{JudgesAs};
 
 use crate::iface::{Iface, Role};
 use crate::lists::asked_of;

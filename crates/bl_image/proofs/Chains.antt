@@ -2,7 +2,7 @@
 use Rattle.std.proofs.Common.{◌≡◌, ℕ, zero, suc, ◌+◌, ◌<◌, ◌≤◌, List, [], ◌∷◌, ◌++◌, length, append_assoc, append-nil, length-append, ap, ap₂, sym, ◌∙◌, refl, subst, arith}
 use Rattle.bl_leb.specs.Grammar.{Spellings, ◌⨾◌, nothing, given}
 use Rattle.bl_image.specs.Grammar.{each, each_after}
-use Rattle.bl_image.specs.Reading.{Begins, NoneBegins, Fills}
+use Rattle.bl_image.specs.ReaderAnswers.{Begins, NoneBegins, Fills}
 
 -- the state behind things
 abbrev pub behind : {S A : Type 0} → (S → A → S) → S → List A → S
@@ -206,9 +206,6 @@ pub record Counted {A : Type 0} (B : A → Spellings) (s m : List ℕ) (count : 
   pub read : List A
   pub long : length read ≡ count
   pub so_far : SoFar B [] s m read
-
-pub counted_none : {A : Type 0} (B : A → Spellings) (s : List ℕ) → Counted B s s 0
-counted_none B s = record { read = []; long = refl; so_far = at_start B [] s }
 
 pub counted_further : {A : Type 0} (B : A → Spellings) (s m r : List ℕ) (count : ℕ) (x : A) → 0 < length m → Counted B s m count → Begins B m x r → Counted B s r (count + 1)
 counted_further B s m r count x some p q = record {

@@ -7,9 +7,9 @@ use Rattle.bl_cmd.specs.declared.command.Operand.TheVariants.{Const}
 use Rattle.bl_leb.specs.Grammar.{Spellings, ◌⨾◌, nothing, given}
 use Rattle.bl_image.specs.Grammar.{u32}
 use Rattle.bl_image.specs.Image.{operand, operator, mark, command_code, fields}
-use Rattle.bl_image.specs.Reading.{Begins, NoneBegins, operands_of, fields_behind}
-use Rattle.bl_image.proofs.Begins.{begins_via, none_via, begins_both, none_second, none_head, begins_case, none_case}
-use Rattle.bl_image.proofs.Cases.{Operands, SetParts, to_set, is_set}
+use Rattle.bl_image.specs.ReaderAnswers.{Begins, NoneBegins, operands_of, fields_behind}
+use Rattle.bl_image.proofs.ReaderLemmas.{begins_via, none_via, begins_both, none_second, none_head, begins_case, none_case}
+use Rattle.bl_image.proofs.CodeCases.{Operands, SetParts, to_set, is_set}
 
 -- what stands for an operand that isn't taken
 abbrev pub zero_operand : Operand

@@ -9,7 +9,7 @@ use Rattle.bl_base.specs.declared.names.ValueType.TheVariants.{I32, I64}
 use Rattle.bl_ops.specs.Access.{access_code}
 use Rattle.bl_ops.specs.declared.access.AccessKind.{AccessKind}
 use Rattle.bl_ops.specs.declared.op.Op.{Op}
-use Rattle.bl_ops.specs.Table.{image_code_of}
+use Rattle.bl_ops.specs.OperatorTable.{image_code_of}
 use Rattle.bl_cmd.specs.Programs.{arity, IsCommand, IsProgram}
 use Rattle.bl_cmd.specs.Rules.{IsMark}
 use Rattle.bl_cmd.specs.declared.command.Operand.{Operand}

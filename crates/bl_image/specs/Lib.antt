@@ -1,5 +1,5 @@
 pub mod Grammar
 pub mod Image
-pub mod Reading
+pub mod ReaderAnswers
 pub mod Widths
-pub mod Writing
+pub mod WriterAnswers

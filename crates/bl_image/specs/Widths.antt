@@ -1,5 +1,6 @@
 -- Numbers of a program are of their widths, since a number of a definition has no bound of its own.
 use Rattle.std.specs.Prelude.{◌≡◌, ℕ, ◌^◌, ◌<◌, length, All}
+use Rattle.bl_base.specs.Fits.{AreBytes}
 use Rattle.bl_cmd.specs.declared.command.Operand.{Operand}
 use Rattle.bl_cmd.specs.declared.command.Operand.TheVariants as operands
 use Rattle.bl_cmd.specs.declared.command.Command.{Command}
@@ -33,3 +34,8 @@ pub record HasWidths (program : Program) : Type 0 where
   pub exports : length program.exports < 2 ^ 64
   pub names : All (λ entry. length entry.name < 2 ^ 64) program.exports
   pub weights : All (λ entry. entry.weight < 2 ^ 64) program.weights
+
+-- the bytes of rows and of names are bytes
+pub record HasByteWidths (program : Program) : Type 0 where
+  pub rows : All (λ memory. All (λ row. AreBytes row.bytes) memory.rows) program.memories
+  pub names : All (λ entry. AreBytes entry.name) program.exports

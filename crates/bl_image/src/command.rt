@@ -2,8 +2,8 @@
 ghost use Rattle.std.specs.Prelude.{◌≡◌, ◌≤◌, [], ◌∷◌, take, length, OnOk};
 ghost use Rattle.bl_image.specs.Grammar.{each};
 ghost use Rattle.bl_image.specs.Image.{command, command_code, fields, operand};
-ghost use Rattle.bl_image.specs.Reading.{Finds, fields_behind, operands_of};
-ghost use Rattle.bl_image.specs.Writing.{Adds, CommandFits};
+ghost use Rattle.bl_image.specs.ReaderAnswers.{Finds, fields_behind, operands_of};
+ghost use Rattle.bl_image.specs.WriterAnswers.{Adds, CommandFits};
 
 use crate::error::Malformed;
 use crate::read::{Find, read_byte, read_u32};

@@ -1,5 +1,5 @@
 //! The parts in front of the commands.
-ghost use Rattle.bl_image.specs.Writing.{FunctionFits, MemoryFits};
+ghost use Rattle.bl_image.specs.WriterAnswers.{FunctionFits, MemoryFits};
 ghost use Rattle.bl_image.specs.Image.{global, memory, param, function, export, exports, demand};
 
 use crate::error::{Malformed, ReadError};

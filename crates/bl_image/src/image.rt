@@ -2,7 +2,7 @@
 ghost use Rattle.std.specs.Prelude.{◌≡◌, ◌<◌, ◌^◌, All, IfOk, OnOk, length, drop};
 ghost use Rattle.bl_image.specs.Grammar.{each};
 ghost use Rattle.bl_image.specs.Image.{Image, header, definitions, additions, exports, command};
-ghost use Rattle.bl_image.specs.Writing.{Adds, CommandFits, DefinitionsFit, AdditionsFit};
+ghost use Rattle.bl_image.specs.WriterAnswers.{Adds, CommandFits, DefinitionsFit, AdditionsFit};
 
 use crate::decode::{MAGIC, version_of};
 use crate::rising::write_numbered;

@@ -1,10 +1,11 @@
 //! Laws of images. Each function is its contract alone.
 ghost use Rattle.std.specs.Prelude.{◌≡◌, ℕ, List, [], ◌++◌};
+ghost use Rattle.bl_base.specs.Fits.{AreBytes};
 ghost use Rattle.bl_cmd.specs.declared.definitions.ProgramParts.{ProgramParts};
 ghost use Rattle.bl_cmd.specs.Programs.{IsProgram};
 ghost use Rattle.bl_cmd.specs.Rules.{IsWellFormed};
 ghost use Rattle.bl_image.specs.Image.{Image};
-ghost use Rattle.bl_image.specs.Widths.{HasWidths};
+ghost use Rattle.bl_image.specs.Widths.{HasByteWidths, HasWidths};
 
 /// Bytes are the image of at most one program.
 pub fn one_program()
@@ -21,7 +22,8 @@ pub fn no_prefix()
     ensures { (program other : ProgramParts) (bytes rest : List ℕ) → Image program bytes → Image other (bytes ++ rest) → rest ≡ [] }
 {}
 
-/// Each well-formed program whose numbers are of their widths has an image.
+/// Each well-formed program whose numbers are of their widths has an image. Where its rows and names are of bytes, so is the image.
 pub fn programs_have_images()
-    ensures { (program : ProgramParts) → IsProgram program → IsWellFormed program → HasWidths program → (bytes : List ℕ) × Image program bytes }
+    ensures { (program : ProgramParts) → IsProgram program → IsWellFormed program → HasWidths program
+        → (bytes : List ℕ) × Image program bytes × (HasByteWidths program → AreBytes bytes) }
 {}

@@ -3,7 +3,7 @@ ghost use Rattle.std.specs.Prelude.{◌≡◌, ◌≤◌, ◌<◌, ◌^◌, ℕ,
 ghost use Rattle.bl_leb.specs.Grammar.{◌⨾◌, given, exactly, byte};
 ghost use Rattle.bl_image.specs.Grammar.{each, vec, u32, u64};
 ghost use Rattle.bl_image.specs.Image.{text};
-ghost use Rattle.bl_image.specs.Reading.{Finds, Reads};
+ghost use Rattle.bl_image.specs.ReaderAnswers.{Finds, Reads};
 
 use crate::error::{Malformed, ReadError};
 use bl_base::{List, Text};

@@ -3,8 +3,8 @@ ghost use Rattle.std.specs.Prelude.{◌≡◌, ◌≤◌, ◌<◌, ◌^◌, ℕ,
 ghost use Rattle.bl_leb.specs.Grammar.{◌⨾◌, exactly, given};
 ghost use Rattle.bl_image.specs.Grammar.{u32, gap, rising};
 ghost use Rattle.bl_image.specs.Image.{row, rows, weight, weights};
-ghost use Rattle.bl_image.specs.Reading.{Finds, Reads};
-ghost use Rattle.bl_image.specs.Writing.{Adds, Rises};
+ghost use Rattle.bl_image.specs.ReaderAnswers.{Finds, Reads};
+ghost use Rattle.bl_image.specs.WriterAnswers.{Adds, Rises};
 
 use crate::error::{Malformed, ReadError};
 use crate::read::{Read, read_u32, read_u64};

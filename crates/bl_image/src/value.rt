@@ -4,7 +4,7 @@ ghost use Rattle.bl_cmd.specs.declared.command.Mark.{Mark};
 ghost use Rattle.bl_leb.specs.Grammar.{byte};
 ghost use Rattle.bl_image.specs.Grammar.{u32};
 ghost use Rattle.bl_image.specs.Image.{value_type, label, operand, mark, operator, access, trap_kind};
-ghost use Rattle.bl_image.specs.Reading.{Finds, Reads};
+ghost use Rattle.bl_image.specs.ReaderAnswers.{Finds, Reads};
 
 use crate::error::{Malformed, ReadError};
 use crate::read::{Find, Read, read_byte, read_found, read_u32, read_u64};

@@ -4,7 +4,7 @@ ghost use Rattle.bl_cmd.specs.Rules.{IsMark};
 ghost use Rattle.bl_leb.specs.Grammar.{◌⨾◌, byte};
 ghost use Rattle.bl_image.specs.Grammar.{each, vec, u32, u64};
 ghost use Rattle.bl_image.specs.Image.{value_type, label, operand, mark, operator, access, trap_kind, text};
-ghost use Rattle.bl_image.specs.Writing.{Adds};
+ghost use Rattle.bl_image.specs.WriterAnswers.{Adds};
 
 use bl_base::{Label, List, NoMemory, Pos, Text, Trap, ValueType, Var};
 use bl_cmd::{Mark, Operand};

@@ -6,7 +6,7 @@ use Rattle.bl_job.specs.Jobs.{AreRead, FirstRefusal, Job, Plan, Read, against, s
 use Rattle.bl_job.specs.Refusals.{Refusal}
 use Rattle.bl_job.specs.Status.{status_of}
 use Rattle.bl_job.specs.Texts.{refusal_text}
-use Rattle.bl_job.specs.Working.{IsSaid, IsTold, NotFetched, Tells, failed, no_memory_to_fetch, refusal_in, refused as length_refused}
+use Rattle.bl_job.specs.WorkAnswers.{IsSaid, IsTold, NotFetched, Tells, failed, no_memory_to_fetch, refusal_in, refused as length_refused}
 use Rattle.bl_job.specs.Worlds.{Said, SaidIfRoom, Stream, Unchanged, World, is_said, no_memory_to_say}
 use Rattle.bl_job.specs.declared.refusal.WorkError.{WorkError}
 use Rattle.bl_job.specs.declared.refusal.WorkError.TheVariants as error

@@ -10,7 +10,7 @@ use Rattle.bl_job.specs.Worlds.{World}
 use Rattle.bl_job.specs.declared.status.Status.{Status}
 use Rattle.bl_job.specs.declared.status.Status.TheVariants.{Memory, ReadFault, Usage, WriteFault}
 use Rattle.bl_job.proofs.JobLemmas.{done_not_refused, one_done, one_first}
-use Rattle.bl_job.proofs.Ways.{Way, faulty, full, is_done, is_refused, no_request, of_read, of_write, said_by, unless, way}
+use Rattle.bl_job.proofs.EndKinds.{Way, faulty, full, is_done, is_refused, no_request, of_read, of_write, said_by, unless, way}
 
 -- the words ask for one request
 one_request : {Request : Type 0} {asked : Option Request} (r s : Request) → asked ≡ Some r → asked ≡ Some s → r ≡ s

@@ -9,7 +9,7 @@ use Rattle.std.proofs.lemmas.Map.Text.{is_eq-slice_cmp}
 use Rattle.std.proofs.lemmas.Slice.Eq.{bytes_eq-Decides}
 use Rattle.bl_outside.specs.Shelf.{Files, with_file}
 use Rattle.bl_job.specs.Jobs.{FileIs}
-use Rattle.bl_job.specs.Staged.{AreOthers, Stand}
+use Rattle.bl_job.specs.StagedJobs.{AreOthers, Stand}
 use Rattle.bl_job.specs.Worlds.{with_files}
 
 -- what an entry made new leaves at each name

@@ -3,7 +3,7 @@ use Rattle.std.proofs.Common.{◌≡◌, List, [], ◌∷◌, ◌++◌, Some, No
 use Rattle.std.specs.List.{All}
 use Rattle.std.proofs.lemmas.List.Elements.{All-head, All-tail}
 use Rattle.bl_job.specs.Refusals.{Refusal}
-use Rattle.bl_job.specs.Working.{IsTold, Tells, refusal_in}
+use Rattle.bl_job.specs.WorkAnswers.{IsTold, Tells, refusal_in}
 use Rattle.bl_job.specs.declared.refusal.WorkError.{WorkError}
 use Rattle.bl_job.specs.declared.refusal.WorkError.TheVariants as error
 use Rattle.bl_job.specs.Stages.{AllPass, FirstRefused, IsLawfulStage, IsTotalStage, Stage, ThenRefuses, at_first, at_second, beside, chain, each}
@@ -98,9 +98,6 @@ module _ {A B : Type 0} (stage : Stage A B) where
   pub record Goes (whole : List A) (done : List B) (rest : List A) : Type 0 where
     pub pass : (ys : List B) → AllPass stage rest ys → AllPass stage whole (done ++ ys)
     pub fail : (refusal : Refusal) → FirstRefused stage rest refusal → FirstRefused stage whole refusal
-
-  pub goes_begins : (whole : List A) → Goes whole [] whole
-  goes_begins whole = record { pass = λ ys p. p; fail = λ refusal h. h }
 
   pub goes_on : (whole rest : List A) (done : List B) (x : A) (y : B) → Goes whole done (x ∷ rest) → stage.Passes x y → Goes whole (done ++ y ∷ []) rest
   goes_on whole rest done x y g p = record {

@@ -3,7 +3,7 @@ use Rattle.std.proofs.Common.{◌≡◌, refl, ℕ, ◌+◌, ◌-◌, ◌≤◌,
 use Rattle.std.specs.Prelude.{Option}
 use Rattle.std.proofs.lemmas.List.{take_all}
 use Rattle.bl_outside.specs.Shelf.{Files}
-use Rattle.bl_job.specs.Working.{content_in, contents_in}
+use Rattle.bl_job.specs.WorkAnswers.{content_in, contents_in}
 use Rattle.bl_job.specs.Jobs.{AreRead, Read}
 use Rattle.bl_job.specs.declared.content.Content.{Content}
 

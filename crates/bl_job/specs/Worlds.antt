@@ -51,12 +51,12 @@ took None text = None
 took (Some taken) text = Some (taken ++ text)
 
 -- a text was taken whole, and nothing failed
-pub record Whole (text : List ℕ) (old new : Stream) : Type 0 where
+pub record TakenWhole (text : List ℕ) (old new : Stream) : Type 0 where
   pub taken : new.taken ≡ took old.taken text
   pub faults : new.faults ≡ old.faults
 
 -- the sink failed, after some prefix of the text
-pub record Cut (text : List ℕ) (old new : Stream) : Type 0 where
+pub record TakenInPart (text : List ℕ) (old new : Stream) : Type 0 where
   pub count : ℕ
   pub within : count ≤ length text
   pub taken : new.taken ≡ took old.taken (take count text)
@@ -65,14 +65,14 @@ pub record Cut (text : List ℕ) (old new : Stream) : Type 0 where
 
 -- what pushing a text leaves
 abbrev pub Pushes : Result (Unit {0}) SinkFault → List ℕ → Stream → Stream → Type 0
-Pushes (Ok done) text old new = Whole text old new
-Pushes (Err fault) text old new = Cut text old new
+Pushes (Ok done) text old new = TakenWhole text old new
+Pushes (Err fault) text old new = TakenInPart text old new
 
 -- a text was printed, and the status is the one that was meant; or the sink failed after a prefix of it, and the status is that
 -- of a write fault
 pub data Said (text : List ℕ) (meant : Status) (old new : Stream) (status : Status) : Type 0 where
-  whole : Whole text old new → status ≡ meant → Said text meant old new status
-  cut : Cut text old new → status ≡ WriteFault → Said text meant old new status
+  whole : TakenWhole text old new → status ≡ meant → Said text meant old new status
+  cut : TakenInPart text old new → status ≡ WriteFault → Said text meant old new status
 
 -- a text was printed, or there was no memory to make it
 pub data SaidIfRoom (text : List ℕ) (meant : Status) (old new : Stream) (status : Status) : Type 0 where

@@ -1,6 +1,6 @@
 //! The contents of a file.
 ghost use Rattle.std.specs.Prelude.{◌≡◌, IfOk};
-ghost use Rattle.bl_job.specs.Working.{content_in};
+ghost use Rattle.bl_job.specs.WorkAnswers.{content_in};
 
 use bl_base::NoMemory;
 use bl_decode::Decoder;

@@ -1,6 +1,6 @@
 //! The contents of so many files, each by itself.
 ghost use Rattle.std.specs.Prelude.{◌≡◌, ◌≤◌, ◌+◌, ◌∷◌, ◌++◌, [], length};
-ghost use Rattle.bl_job.specs.Working.{content_in, contents_in};
+ghost use Rattle.bl_job.specs.WorkAnswers.{content_in, contents_in};
 
 use crate::content::Content;
 

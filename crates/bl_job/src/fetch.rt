@@ -4,7 +4,7 @@ ghost use Rattle.bl_base.specs.Quantity.{limit_of};
 ghost use Rattle.bl_outside.specs.Shelf.{most_asked};
 ghost use Rattle.bl_job.specs.Refusals.{limit};
 ghost use Rattle.bl_job.specs.Texts.{refusal_text};
-ghost use Rattle.bl_job.specs.Working.{AllFetched, Fetched, read_in};
+ghost use Rattle.bl_job.specs.WorkAnswers.{AllFetched, Fetched, read_in};
 ghost use Rattle.bl_job.specs.Worlds.{SaidIfRoom, stream, world};
 ghost use Rattle.bl_job.specs.declared.status.Reason.TheVariants as reason;
 ghost use Rattle.bl_job.specs.declared.status.Status.TheVariants.{Refused};

@@ -1,6 +1,6 @@
 //! What a command reads, and what it does where nothing fails.
 ghost use Rattle.std.specs.Prelude.{◌≡◌, ◌∷◌, [], IfOk, map};
-ghost use Rattle.bl_job.specs.Working.{file_in, keep_in, read_in};
+ghost use Rattle.bl_job.specs.WorkAnswers.{file_in, keep_in, read_in};
 
 use crate::status::Status;
 use bl_base::{NoMemory, Quantity};

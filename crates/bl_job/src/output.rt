@@ -1,6 +1,6 @@
 //! Text to the sink.
 ghost use Rattle.std.specs.Prelude.{◌++◌, [], ◌∷◌};
-ghost use Rattle.bl_job.specs.Working.{IsSaid};
+ghost use Rattle.bl_job.specs.WorkAnswers.{IsSaid};
 ghost use Rattle.bl_job.specs.Worlds.{Pushes, Said, stream};
 
 use crate::refusal::WorkError;

@@ -3,8 +3,8 @@ ghost use Rattle.std.specs.Prelude.{◌≡◌, ◌≤◌, [], Some, IfOk, length
 ghost use Rattle.bl_base.specs.Quantity.{limit_of};
 ghost use Rattle.bl_base.specs.declared.quantity.Quantity.TheVariants as quantity;
 ghost use Rattle.bl_outside.specs.Shelf.{FetchFaults, most_asked};
-ghost use Rattle.bl_job.specs.Reading.{Feeds, IsWithin, NextPiece, Obtained};
-ghost use Rattle.bl_job.specs.Working.{read_in};
+ghost use Rattle.bl_job.specs.ShelfReads.{Feeds, IsWithin, NextPiece, Obtained};
+ghost use Rattle.bl_job.specs.WorkAnswers.{read_in};
 
 use crate::content::Content;
 use crate::job::Read;

@@ -4,7 +4,7 @@ ghost use Rattle.std.specs.Fmt.{decimal};
 ghost use Rattle.std.specs.List.{flat_map};
 ghost use Rattle.bl_outcome.specs.Lines.{line};
 ghost use Rattle.bl_job.specs.Refusals.{limit, refusal_of};
-ghost use Rattle.bl_job.specs.Working.{IsTold};
+ghost use Rattle.bl_job.specs.WorkAnswers.{IsTold};
 ghost use Rattle.bl_job.specs.declared.refusal.WorkError.TheVariants as error;
 
 use crate::status::Reason;

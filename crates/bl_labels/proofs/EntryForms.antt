@@ -2,7 +2,7 @@
 use Rattle.std.proofs.Common.{◌≡◌, ℕ, List, arith, subst, sym}
 use Rattle.bl_leb.specs.Grammar.{Spellings, byte}
 use Rattle.bl_wasm.specs.Values.{u32}
-use Rattle.bl_code.specs.Reading.{IsAt, NoneAt}
+use Rattle.bl_code.specs.ReaderAnswers.{IsAt, NoneAt}
 use Rattle.bl_code.specs.Unique.{PrefixFree}
 use Rattle.bl_code.proofs.Places.{is_at, join, none_after, stands}
 use Rattle.bl_code.proofs.Unique.{byte_same}

@@ -11,9 +11,9 @@ use Rattle.bl_wasm.specs.declared.module.Module.{Module}
 use Rattle.bl_wasm.specs.declared.types.FuncType.{FuncType}
 use Rattle.bl_labels.specs.Entries.{section}
 use Rattle.bl_labels.specs.Faults.{IsConsistent, demanded_in, fault, first_broken, first_fault, global_in, judged, judged_by, labels_by, memory_in, param_in, result_in, spaces_of, with_entry}
-use Rattle.bl_labels.specs.Held.{labels_with}
-use Rattle.bl_labels.specs.Marked.{is_listed, unlabelled}
-use Rattle.bl_labels.specs.Telling.{InSection, Judges, ReadsSection}
+use Rattle.bl_labels.specs.LabelSets.{labels_with}
+use Rattle.bl_labels.specs.LabelledPlaces.{is_listed, unlabelled}
+use Rattle.bl_labels.specs.LabelAnswers.{InSection, Judges, ReadsSection}
 use Rattle.bl_labels.specs.declared.entry.Entry.{Entry}
 use Rattle.bl_labels.specs.declared.entry.Entry.TheVariants.{SecretParam, SecretGlobal, SecretMemory, PublicResult, PublicGlobal}
 use Rattle.bl_labels.specs.declared.error.LabelError.{LabelError}

@@ -1,6 +1,6 @@
 pub mod CountLemmas
 pub mod EntryForms
 pub mod FaultLemmas
-pub mod Holding
+pub mod LabelSetLemmas
 pub mod NextLemmas
 pub mod SectionForms

@@ -7,7 +7,7 @@ use Rattle.std.specs.Str.{bytes_eq}
 use Rattle.std.proofs.lemmas.List.{drop_all, drop_more, get_or_default}
 use Rattle.bl_wasm.specs.declared.module.CustomSection.{CustomSection}
 use Rattle.bl_wasm.specs.declared.module.Module.{Module}
-use Rattle.bl_labels.specs.Telling.{InSection, Tells}
+use Rattle.bl_labels.specs.LabelAnswers.{InSection, Tells}
 use Rattle.bl_labels.specs.declared.error.LabelError.{LabelError}
 use Rattle.bl_labels.specs.declared.error.LabelError.TheVariants.{Twice}
 use Rattle.bl_labels.specs.declared.labels.Labels.{Labels}

@@ -5,7 +5,7 @@ use Rattle.std.proofs.Math.Seq.{drop-length}
 use Rattle.std.proofs.lemmas.Bool.Decides.{eqb_tells}
 use Rattle.bl_leb.specs.Grammar.{Spellings, ◌⨾◌, byte}
 use Rattle.bl_wasm.specs.Values.{vec}
-use Rattle.bl_code.specs.Reading.{IsAt, NoneAt}
+use Rattle.bl_code.specs.ReaderAnswers.{IsAt, NoneAt}
 use Rattle.bl_code.proofs.Places.{Stands, is_at, join, one_at, part, stands}
 use Rattle.bl_code.proofs.Unique.{vec_prefix_free}
 use Rattle.bl_labels.specs.Entries.{entry, has, section}

@@ -6,7 +6,7 @@ use Rattle.bl_wasm.specs.Validity.{functions_of, function_of, global_of, importe
 use Rattle.bl_wasm.specs.declared.module.CustomSection.{CustomSection}
 use Rattle.bl_wasm.specs.declared.module.Module.{Module}
 use Rattle.bl_wasm.specs.declared.types.FuncType.{FuncType}
-use Rattle.bl_labels.specs.Marked.{is_listed, is_place}
+use Rattle.bl_labels.specs.LabelledPlaces.{is_listed, is_place}
 use Rattle.bl_labels.specs.declared.entry.Entry.{Entry}
 use Rattle.bl_labels.specs.declared.entry.Entry.TheVariants.{SecretParam, SecretGlobal, SecretMemory, PublicResult, PublicGlobal}
 use Rattle.bl_labels.specs.declared.error.LabelError.{LabelError}

@@ -1,6 +1,6 @@
 pub mod Entries
 pub mod EntryLaws
 pub mod Faults
-pub mod Held
-pub mod Marked
-pub mod Telling
+pub mod LabelSets
+pub mod LabelledPlaces
+pub mod LabelAnswers

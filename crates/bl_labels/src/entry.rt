@@ -1,6 +1,6 @@
 //! The entries of a section of labels.
 ghost use Rattle.std.specs.Prelude.{◌≡◌, ◌≤◌, ℕ, length, List as Listed};
-ghost use Rattle.bl_code.specs.Reading.{Finds};
+ghost use Rattle.bl_code.specs.ReaderAnswers.{Finds};
 ghost use Rattle.bl_labels.specs.Entries.{entry, place};
 ghost use Rattle.bl_labels.specs.EntryLaws.{entry_prefix_free};
 

@@ -1,7 +1,7 @@
 //! What is wrong with entries.
 ghost use Rattle.std.specs.Prelude.{◌≡◌};
 ghost use Rattle.bl_labels.specs.Faults.{fault as fault_of, first_broken as first_broken_of, spaces_of};
-ghost use Rattle.bl_labels.specs.Telling.{Judges};
+ghost use Rattle.bl_labels.specs.LabelAnswers.{Judges};
 
 use crate::entry::Entry;
 use crate::error::LabelError;

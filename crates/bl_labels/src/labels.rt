@@ -1,6 +1,6 @@
 //! Labels of a module.
 ghost use Rattle.std.specs.Prelude.{◌≡◌};
-ghost use Rattle.bl_labels.specs.Marked.{unlabelled};
+ghost use Rattle.bl_labels.specs.LabelledPlaces.{unlabelled};
 
 use bl_base::List;
 use std::alloc::Global;

@@ -2,7 +2,7 @@
 ghost use Rattle.std.specs.Prelude.{◌≡◌, IfOk};
 ghost use Rattle.bl_labels.specs.Faults.{with_entry};
 ghost use Rattle.bl_labels.specs.declared.entry.Entry.TheVariants.{PublicGlobal, PublicResult, SecretGlobal, SecretMemory, SecretParam};
-ghost use Rattle.bl_labels.specs.Marked.{is_listed, is_place, unlabelled};
+ghost use Rattle.bl_labels.specs.LabelledPlaces.{is_listed, is_place, unlabelled};
 
 use crate::entry::Entry;
 use crate::labels::{Labels, Place};
@@ -23,7 +23,7 @@ pub struct Marks {
 
 impl Model for Marks {
     ghost use Rattle.bl_labels.specs.declared.labels.Labels.{Labels as Listed};
-    ghost use Rattle.bl_labels.specs.Held.{labels_with};
+    ghost use Rattle.bl_labels.specs.LabelSets.{labels_with};
 
     ghost Value = { Listed };
 

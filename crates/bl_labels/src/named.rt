@@ -1,8 +1,8 @@
 //! Lists of what is named, in which each element is found without going through the list.
 ghost use Rattle.std.specs.Prelude.{◌≡◌, ◌++◌, ◌∷◌, [], ◌<◌, ◌≤◌, ◌^◌, false, IfOk};
 ghost use Rattle.std.specs.FinSet as fin;
-ghost use Rattle.bl_labels.specs.Held.{key as key_of};
-ghost use Rattle.bl_labels.specs.Marked.{is_listed, is_place};
+ghost use Rattle.bl_labels.specs.LabelSets.{key as key_of};
+ghost use Rattle.bl_labels.specs.LabelledPlaces.{is_listed, is_place};
 
 use crate::labels::Place;
 use crate::numbers::NumberSet;
@@ -20,7 +20,7 @@ pub(crate) struct Places {
 impl Model for Places {
     ghost use Rattle.std.specs.Prelude.{List as Listed};
     ghost use Rattle.bl_labels.specs.declared.labels.Place.{Place};
-    ghost use Rattle.bl_labels.specs.Held.{HoldsPlaces};
+    ghost use Rattle.bl_labels.specs.LabelSets.{HoldsPlaces};
 
     ghost Value = { Listed Place };
 
@@ -84,7 +84,7 @@ pub(crate) struct Indices {
 
 impl Model for Indices {
     ghost use Rattle.std.specs.Prelude.{ℕ, List as Listed};
-    ghost use Rattle.bl_labels.specs.Held.{HoldsNumbers};
+    ghost use Rattle.bl_labels.specs.LabelSets.{HoldsNumbers};
 
     ghost Value = { Listed ℕ };
 

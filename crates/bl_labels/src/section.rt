@@ -4,7 +4,7 @@ ghost use Rattle.std.specs.List.{list_all};
 ghost use Rattle.std.specs.Str.{bytes_eq};
 ghost use Rattle.bl_labels.specs.Entries.{has as has_of, is_secret as is_secret_of};
 ghost use Rattle.bl_labels.specs.Faults.{IsConsistent, IsNext, labels_name, sections_of};
-ghost use Rattle.bl_labels.specs.Telling.{InSection, ReadsSection, Tells};
+ghost use Rattle.bl_labels.specs.LabelAnswers.{InSection, ReadsSection, Tells};
 
 use crate::entry::{Entries, Entry};
 use crate::error::LabelError;

@@ -11,7 +11,7 @@ use Rattle.bl_wasm.specs.declared.module.ExportKind.{ExportKind}
 use Rattle.bl_wasm.specs.declared.module.ExportKind.TheVariants as export
 use Rattle.bl_link.specs.IndexSpaces.{External, LinkError, Part, Spaces, Store, on_ok, spaces_of}
 use Rattle.bl_link.specs.Links.{data_fits, element_fits, exported, links, nothing, of_function, pair, reserves, with_given, with_next, with_part, within_reserve}
-use Rattle.bl_link.specs.Matching.{all_given}
+use Rattle.bl_link.specs.ImportMatches.{all_given}
 use Rattle.bl_link.specs.Linkable.{AreFew, HasFewExports, IsShort, IsShortExport}
 
 -- ---- one part

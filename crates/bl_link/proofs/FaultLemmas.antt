@@ -10,7 +10,7 @@ use Rattle.bl_wasm.specs.declared.module.Import.{Import}
 use Rattle.bl_wasm.specs.declared.module.Module.{Module}
 use Rattle.bl_link.specs.Faults.{NamesPart}
 use Rattle.bl_link.specs.Links.{data_fits, element_fits, initialised, links, nothing, reserves, with_given, with_next, with_part, with_segments, within_reserve}
-use Rattle.bl_link.specs.Matching.{all_given, given, given_of, matches, named}
+use Rattle.bl_link.specs.ImportMatches.{all_given, given, given_of, matches, named}
 use Rattle.bl_link.specs.declared.error.LinkError.TheVariants.{Memory}
 use Rattle.bl_link.specs.IndexSpaces.{DataRange, ElementRange, External, Limit, LinkError, Mismatch, Part, Spaces, Store, all_ok, on_ok, spaces_of}
 

@@ -8,7 +8,7 @@ use Rattle.std.proofs.lemmas.List.{map-append}
 use Rattle.indexmap.specs.IndexMap.{IndexMap, insert_entry}
 use Rattle.indexmap.proofs.CallerLemmas.{insert_entry-new}
 use Rattle.bl_link.specs.declared.store.External.{External}
-use Rattle.bl_link.specs.Named.{value_named}
+use Rattle.bl_link.specs.ExportNames.{value_named}
 use Rattle.bl_link.specs.NamedPairs.{Values, values_of}
 use Rattle.bl_wasm.proofs.ExportLemmas.{same_name}
 

@@ -3,10 +3,10 @@ use Rattle.std.proofs.Common.{◌≡◌, ◌∙◌, sym, ap, subst, ℕ, List, �
 use Rattle.bl_labels.specs.declared.labels.Labels.{Labels}
 use Rattle.bl_wasm.specs.declared.module.Module.{Module}
 use Rattle.bl_link.specs.CanLink.{CanLink}
-use Rattle.bl_link.specs.Giving.{Makes}
+use Rattle.bl_link.specs.LinkAnswers.{Makes}
 use Rattle.bl_link.specs.HasRoom.{HasRoom}
 use Rattle.bl_link.specs.Links.{exported, part_of, with_given, with_next, with_part, with_segments}
-use Rattle.bl_link.specs.Matching.{all_given}
+use Rattle.bl_link.specs.ImportMatches.{all_given}
 use Rattle.bl_link.specs.IndexSpaces.{External, LinkError, Part, Spaces, Store, on_ok, spaces_of}
 use Rattle.bl_link.specs.Stores.{AreApart}
 use Rattle.bl_link.proofs.Room.{room_of, values_apart}

@@ -12,12 +12,12 @@ use Rattle.bl_wasm.specs.declared.module.ExportKind.TheVariants as export
 use Rattle.bl_link.specs.CanLink.{CanLink}
 use Rattle.bl_link.specs.HasRoom.{HasRoom, IsSpace}
 use Rattle.bl_link.specs.Links.{exported, with_part}
-use Rattle.bl_link.specs.Matching.{all_given}
+use Rattle.bl_link.specs.ImportMatches.{all_given}
 use Rattle.bl_link.specs.IndexSpaces.{External, Part, Store, of_kind, same_kind, spaces_of}
 use Rattle.bl_link.specs.Stores.{AreApart, IsStore}
-use Rattle.bl_link.proofs.Matched.{Suits}
-use Rattle.bl_link.proofs.Parted.{part_kept}
-use Rattle.bl_link.proofs.Whole.{all_suit}
+use Rattle.bl_link.proofs.ImportMatchLemmas.{Suits}
+use Rattle.bl_link.proofs.PartSteps.{part_kept}
+use Rattle.bl_link.proofs.LinkedTrees.{all_suit}
 
 -- ---- the spaces of a part
 

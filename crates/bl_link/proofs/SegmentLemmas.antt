@@ -12,7 +12,7 @@ use Rattle.bl_wasm.specs.declared.linked.Memory.{Memory}
 use Rattle.bl_link.specs.Links.{data_fits, constant_value, put_data, put_element, size}
 use Rattle.bl_link.specs.IndexSpaces.{Spaces, changed, number, written}
 use Rattle.bl_link.specs.Stores.{IsTable}
-use Rattle.bl_link.proofs.Matched.{and_left, and_right}
+use Rattle.bl_link.proofs.ImportMatchLemmas.{and_left, and_right}
 
 -- ---- lists with one element changed
 

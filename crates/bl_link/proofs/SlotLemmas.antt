@@ -7,7 +7,7 @@ use Rattle.bl_wasm.specs.declared.module.ElementSegment.{ElementSegment}
 use Rattle.bl_wasm.specs.declared.linked.Global.{Global}
 use Rattle.bl_link.specs.Links.{element_fits, constant_value, put_element, slots}
 use Rattle.bl_link.specs.IndexSpaces.{Spaces, changed, number, written}
-use Rattle.bl_link.proofs.Matched.{and_left, and_right}
+use Rattle.bl_link.proofs.ImportMatchLemmas.{and_left, and_right}
 use Rattle.bl_link.proofs.SegmentLemmas.{changed_set, le_of, length_written, same_changed, same_tests}
 
 -- ---- in place

@@ -9,7 +9,7 @@ use Rattle.bl_base.specs.declared.quantity.Quantity.TheVariants.{Functions, Loca
 use Rattle.bl_base.proofs.OptionLemmas.{either_none}
 use Rattle.bl_base.proofs.Lists.{length-filter_map}
 use Rattle.bl_labels.specs.Faults.{IsConsistent}
-use Rattle.bl_labels.specs.Marked.{unlabelled}
+use Rattle.bl_labels.specs.LabelledPlaces.{unlabelled}
 use Rattle.bl_labels.specs.declared.labels.Labels.{Labels}
 use Rattle.bl_wasm.specs.Limits.{Excess, above, first_excess, first_in, function_excess, local_count}
 use Rattle.bl_wasm.specs.Modules.{Spells}
@@ -29,7 +29,7 @@ use Rattle.bl_link.specs.Linkable.{AreParts, IsPart, NoSolidus}
 use Rattle.bl_link.specs.Links.{part_of}
 use Rattle.bl_link.specs.Stores.{AreApart}
 use Rattle.bl_link.specs.declared.part.Part.{Part}
-use Rattle.bl_link.proofs.Spelled.{global_spelled, section_length, stands}
+use Rattle.bl_link.proofs.SpelledGlobals.{global_spelled, section_length, stands}
 
 type_spelled : (type : FuncType) (bytes : List ℕ) → function_type type bytes → 1 ≤ length bytes
 type_spelled type bytes h = omega (arith, ap length h.whole, length-append h.front h.rest, ap length h.first)

@@ -12,7 +12,7 @@ use Rattle.bl_wasm.specs.declared.module.Export.{Export}
 use Rattle.bl_wasm.specs.declared.module.Module.{Module}
 use Rattle.bl_wasm.specs.declared.types.FuncType.{FuncType}
 use Rattle.bl_link.specs.Signatures.{signature}
-use Rattle.bl_link.specs.Giving.{Makes}
+use Rattle.bl_link.specs.LinkAnswers.{Makes}
 use Rattle.bl_link.specs.Links.{exported, function, indexed, pair}
 use Rattle.bl_link.specs.IndexSpaces.{LinkError, Spaces}
 use Rattle.bl_link.specs.declared.error.LinkError.TheVariants.{Memory as NoRoom}

@@ -20,7 +20,7 @@ use Rattle.bl_wasm.specs.declared.module.ImportKind.TheVariants as import
 use Rattle.bl_wasm.specs.declared.module.Module.{Module}
 use Rattle.bl_wasm.specs.declared.linked.Tree.{Tree}
 use Rattle.bl_base.specs.declared.quantity.Quantity.TheVariants.{Reserve}
-use Rattle.bl_labels.specs.Marked.{unlabelled}
+use Rattle.bl_labels.specs.LabelledPlaces.{unlabelled}
 use Rattle.bl_link.specs.Links.{links}
 use Rattle.bl_link.specs.IndexSpaces.{LinkError, Part, DataRange, ElementRange, Limit, Mismatch, Unknown}
 

@@ -4,7 +4,7 @@ use Rattle.std.specs.List.{range_with_len}
 use Rattle.bl_wasm.specs.declared.module.ExportKind.{ExportKind}
 use Rattle.bl_wasm.specs.declared.module.ExportKind.TheVariants as export
 use Rattle.bl_wasm.specs.declared.module.Module.{Module}
-use Rattle.bl_wasm.specs.Renaming.{Names}
+use Rattle.bl_wasm.specs.IndexMaps.{Names}
 pub use Rattle.bl_link.specs.declared.part.Part.{Part}
 pub use Rattle.bl_link.specs.declared.store.External.{External}
 pub use Rattle.bl_link.specs.declared.store.Spaces.{Spaces}

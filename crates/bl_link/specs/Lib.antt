@@ -1,13 +1,13 @@
 pub mod AllNames
 pub mod CanLink
 pub mod Faults
-pub mod Giving
-pub mod Growing
+pub mod LinkAnswers
+pub mod TreeGrowth
 pub mod HasRoom
 pub mod Linkable
 pub mod Links
-pub mod Matching
-pub mod Named
+pub mod ImportMatches
+pub mod ExportNames
 pub mod NamedPairs
 pub mod IndexSpaces
 pub mod OwnNames

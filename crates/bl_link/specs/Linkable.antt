@@ -4,7 +4,7 @@ use Rattle.std.specs.List.{All, zip}
 use Rattle.bl_base.specs.Fits.{AreBytes}
 use Rattle.bl_base.specs.Quantity.{limit_of}
 use Rattle.bl_base.specs.declared.quantity.Quantity.TheVariants.{Functions, Locals, Memory, Modules, Results}
-use Rattle.bl_labels.specs.Marked.{is_listed}
+use Rattle.bl_labels.specs.LabelledPlaces.{is_listed}
 use Rattle.bl_wasm.specs.Limits.{local_count}
 use Rattle.bl_wasm.specs.Linked.{HasImmediates}
 use Rattle.bl_wasm.specs.Validity.{Typed, functions_of, globals_of}

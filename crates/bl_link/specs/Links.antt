@@ -5,7 +5,7 @@ use Rattle.bl_base.specs.declared.names.Label.{Label}
 use Rattle.bl_base.specs.declared.names.Label.TheVariants.{Public, Secret}
 use Rattle.bl_base.specs.Quantity.{limit_of}
 use Rattle.bl_base.specs.declared.quantity.Quantity.TheVariants as quantity
-use Rattle.bl_labels.specs.Marked.{is_listed, is_place}
+use Rattle.bl_labels.specs.LabelledPlaces.{is_listed, is_place}
 use Rattle.bl_labels.specs.declared.labels.Labels.{Labels}
 use Rattle.bl_wasm.specs.declared.instruction.Instr.{Instr}
 use Rattle.bl_wasm.specs.declared.instruction.Instr.TheVariants.{I32Const, I64Const, GlobalGet}
@@ -23,11 +23,11 @@ use Rattle.bl_wasm.specs.declared.linked.Function.{Function}
 use Rattle.bl_wasm.specs.declared.linked.Global.{Global}
 use Rattle.bl_wasm.specs.declared.linked.Memory.{Memory}
 use Rattle.bl_wasm.specs.declared.linked.Tree.{Tree}
-use Rattle.bl_link.specs.Matching.{all_given}
-use Rattle.bl_link.specs.Named.{qualified}
+use Rattle.bl_link.specs.ImportMatches.{all_given}
+use Rattle.bl_link.specs.ExportNames.{qualified}
 use Rattle.bl_link.specs.IndexSpaces.{External, LinkError, Part, Spaces, Store, changed, DataRange, ElementRange, Limit, names, number, on_ok, space, spaces_of, written}
 use Rattle.bl_link.specs.Signatures.{signature, value_of}
-use Rattle.bl_wasm.specs.Renaming.{renamed}
+use Rattle.bl_wasm.specs.IndexMaps.{renamed}
 
 -- ---- labels
 

@@ -8,7 +8,7 @@ use Rattle.bl_base.specs.declared.quantity.Quantity.TheVariants as quantity
 use Rattle.bl_wasm.specs.Exports.{AreDistinct}
 use Rattle.bl_wasm.specs.Linked.{IsFunction, IsMemory}
 use Rattle.bl_wasm.specs.declared.linked.Tree.{Tree}
-use Rattle.bl_link.specs.Growing.{Grows}
+use Rattle.bl_link.specs.TreeGrowth.{Grows}
 use Rattle.bl_link.specs.IndexSpaces.{External, Part, Store}
 
 -- slots name functions that exist, of so many

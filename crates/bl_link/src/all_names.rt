@@ -1,7 +1,7 @@
 //! The exports of all parts that are linked, by their names in the tree.
 ghost use Rattle.std.specs.Prelude.{◌≡◌, [], ◌++◌, List as Listed, ℕ, MatchOption, OnOk, OnErr, map};
 ghost use Rattle.bl_link.specs.AllNames.{behind, of_part, of_parts};
-ghost use Rattle.bl_link.specs.Named.{qualified, value_named};
+ghost use Rattle.bl_link.specs.ExportNames.{qualified, value_named};
 
 use crate::named::Named;
 use crate::store::External;

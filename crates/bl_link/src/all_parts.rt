@@ -8,7 +8,7 @@ ghost use Rattle.bl_wasm.specs.Exports.{AreDistinct};
 ghost use Rattle.bl_wasm.specs.Linked.{IsLinked};
 ghost use Rattle.bl_link.specs.Signatures.{signature};
 ghost use Rattle.bl_link.specs.CanLink.{AreLeft, CanLink};
-ghost use Rattle.bl_link.specs.Giving.{Gives, Makes};
+ghost use Rattle.bl_link.specs.LinkAnswers.{Gives, Makes};
 ghost use Rattle.bl_link.specs.HasRoom.{HasRoom, IsSpace};
 ghost use Rattle.bl_link.specs.Stores.{AreApart};
 ghost use Rattle.bl_link.specs.Linkable.{AreParts};

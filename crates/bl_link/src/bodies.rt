@@ -1,7 +1,7 @@
 //! The functions of a part with their bodies.
 ghost use Rattle.std.specs.Prelude.{◌≡◌, ◌+◌, ◌<◌, ◌^◌, ◌++◌, length, map, option_map, slice_get, IfOk};
 ghost use Rattle.std.specs.List.{enumerate_from, range_with_len, zip};
-ghost use Rattle.bl_labels.specs.Marked.{is_place};
+ghost use Rattle.bl_labels.specs.LabelledPlaces.{is_place};
 ghost use Rattle.bl_link.specs.Links.{count, function as function_of, secret_if as secret_if_of};
 
 use crate::rename::{number, renamed};
@@ -19,7 +19,7 @@ pub(crate) fn secret_if(secret: bool) -> Label
 }
 
 /// The labels of so many parameters.
-#[tactic(auto, using(crate::proofs::Counted::counted))]
+#[tactic(auto, using(crate::proofs::RangeLists::counted))]
 fn labels(alloc: Global, marks: &Marks, function: u32, many: usize) -> Result<List<Label>, NoMemory>
     ensures { IfOk result (λ all. all ≡ map (λ param. secret_if_of (is_place marks.now.params function param)) (range_with_len 0 many)) }
 {
@@ -31,7 +31,7 @@ fn labels(alloc: Global, marks: &Marks, function: u32, many: usize) -> Result<Li
 }
 
 /// Which of so many results are to stay public.
-#[tactic(auto, using(crate::proofs::Counted::counted))]
+#[tactic(auto, using(crate::proofs::RangeLists::counted))]
 fn demands(alloc: Global, marks: &Marks, function: u32, many: usize) -> Result<List<bool>, NoMemory>
     ensures { IfOk result (λ all. all ≡ map (is_place marks.now.results function) (range_with_len 0 many)) }
 {

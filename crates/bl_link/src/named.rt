@@ -1,6 +1,6 @@
 //! The exports of a part by their own names.
 ghost use Rattle.std.specs.Prelude.{◌≡◌, [], ◌∷◌, ◌++◌, None, OnOk, OnErr};
-ghost use Rattle.bl_link.specs.Named.{value_named};
+ghost use Rattle.bl_link.specs.ExportNames.{value_named};
 
 use crate::store::External;
 use bl_base::NoMemory;

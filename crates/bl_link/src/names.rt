@@ -2,7 +2,7 @@
 ghost use Rattle.std.specs.Prelude.{◌≡◌, ◌++◌, ℕ, List as Listed, filter_map, map, IfOk};
 ghost use Rattle.bl_wasm.specs.Exports.{AreDistinct};
 ghost use Rattle.bl_link.specs.Links.{exported as exported_of, pair};
-ghost use Rattle.bl_link.specs.Named.{qualified as qualified_of};
+ghost use Rattle.bl_link.specs.ExportNames.{qualified as qualified_of};
 ghost use Rattle.bl_link.specs.OwnNames.{own};
 ghost use Rattle.bl_link.specs.IndexSpaces.{space as space_of};
 ghost use Rattle.bl_link.specs.Stores.{AreApart};

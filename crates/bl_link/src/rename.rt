@@ -1,6 +1,6 @@
 //! Items by the numbers of the tree.
 ghost use Rattle.std.specs.Prelude.{◌≡◌, map};
-ghost use Rattle.bl_wasm.specs.Renaming.{renamed as renamed_of, renamed_block_type};
+ghost use Rattle.bl_wasm.specs.IndexMaps.{renamed as renamed_of, renamed_block_type};
 ghost use Rattle.bl_link.specs.IndexSpaces.{names, number as number_of};
 
 use crate::store::Spaces;

@@ -24,7 +24,7 @@ fn of_kind(alloc: Global, kind: ExportKind, values: &[External]) -> Result<List<
 }
 
 /// The numbers of what is defined, so many from the first one on, behind those of what is imported.
-#[tactic(auto, using(crate::proofs::Counted::ranges))]
+#[tactic(auto, using(crate::proofs::RangeLists::ranges))]
 fn with_defined(imported: List<u32>, first: usize, many: usize) -> Result<List<u32>, NoMemory>
     requires { first + many < 2 ^ 32 }
     ensures { IfOk result (λ all. all ≡ imported ++ range_with_len first many) }

@@ -17,18 +17,18 @@ use Rattle.bl_access.specs.Templates.{test_of, jump_to, shift}
 use Rattle.bl_cmd.specs.Steps.{Registers, Plain, depth}
 use Rattle.bl_cmd.specs.declared.command.Operand.{Operand}
 use Rattle.bl_cmd.specs.declared.command.Operand.TheVariants.{Var, Const}
-use Rattle.bl_lower.proofs.Laid.{HasAt, Fresh, AllUnder, floor, landing, live, Laid, EndsAt, Brings}
+use Rattle.bl_lower.proofs.CodeLayout.{HasAt, Fresh, AllUnder, floor, target_point, live, IsLaidOut, EndsAt, Brings}
 use Rattle.bl_lower.proofs.Machine.{Program, plain_step}
-use Rattle.bl_lower.proofs.Matching.{Holds, AllHold, Layout, Here}
+use Rattle.bl_lower.proofs.MatchStates.{Holds, AllHold, Layout, Here}
 use Rattle.bl_emit.specs.Constructs.{reads, moves, whole, again, part, mark_of, Target, as_whole, taken, first_to, behind, top, point, inside}
 use Rattle.bl_emit.specs.Shapes.{bottom}
-use Rattle.bl_lower.proofs.Behind.{Behind, ends_here, Second, seconds_here}
-use Rattle.bl_lower.proofs.Branching.{IsSmall}
+use Rattle.bl_lower.proofs.ConstructLayout.{Behind, ends_here, Second, seconds_here}
+use Rattle.bl_lower.proofs.BranchSteps.{IsSmall}
 use Rattle.bl_lower.proofs.Frames.{static_low, next_low, floor_is_above, store_kept, targets_later, locals_kept, callers_kept, Reaches, Then, popping}
-use Rattle.bl_lower.proofs.Stepping.{arrives, tests}
-use Rattle.bl_lower.proofs.Leaving.{leaves_label, zip_take, pad_is_take, taken_length}
+use Rattle.bl_lower.proofs.StraightLineItems.{arrives, tests}
+use Rattle.bl_lower.proofs.ConstructExits.{leaves_label, zip_take, pad_is_take, taken_length}
 use Rattle.bl_lower.proofs.States.{take_front, drop_front}
-use Rattle.bl_lower.proofs.Ways.{Kept, at, does, moved, held_values, holds_value, all_later}
+use Rattle.bl_lower.proofs.PlainRuns.{Kept, at, does, moved, held_values, holds_value, all_later}
 
 zip_drop : {A B : Type 0} (R : A → B → Type 0) (n : ℕ) (xs : List A) (ys : List B) → AllZip R xs ys → AllZip R (drop n xs) (drop n ys)
 zip_drop R zero xs ys h = h
@@ -43,13 +43,13 @@ reads_count first (suc count) = ap suc (reads_count (suc first) count)
 
 module _ (tree : Tree) (program : Program) (bound : ℕ) (layout : Layout program) (open_ones : List Target) where
   abbrev LaidWith : State → List Target → ℕ → List Operand → ℕ → List Instr → Type 0
-  LaidWith state opened position operands next items = Laid program bound state.frame.number opened (live (point position operands next)) items
+  LaidWith state opened position operands next items = IsLaidOut program bound state.frame.number opened (live (point position operands next)) items
 
   -- a construct is entered with so many values
   entered : (used j : ℕ) (t : Target) (count position to label_next : ℕ) (continuation items : List Instr) (operands : List Operand) (next : ℕ) (state : State) (s : Plain) (r : Registers) → Here program bound open_ones operands next state s
       → Kept s.registers r (depth s) next 0 ⊎ Kept s.registers r (depth s) (first_to t) count → floor program bound state.frame.number open_ones ≤ first_to t → first_to t + taken t ≤ label_next → label_next ≤ (program.shape state.frame.number).limit
       → AllHold s.registers (depth s) (bottom (program.shape state.frame.number)) (first_to t) t.below (drop count state.frame.values)
-      → Laid program bound state.frame.number open_ones (live (landing t label_next)) continuation
+      → IsLaidOut program bound state.frame.number open_ones (live (target_point t label_next)) continuation
       → first_to t ≤ t.first → t.first + t.arity ≤ to → to ≤ (program.shape state.frame.number).limit
       → (inside_operands : List Operand) → AllHold r (depth s) (bottom (program.shape state.frame.number)) to inside_operands (take count state.frame.values)
       → LaidWith state (t ∷ open_ones) position inside_operands to items → 1 ≤ j → used + j ≤ bound
@@ -105,7 +105,7 @@ module _ (tree : Tree) (program : Program) (bound : ℕ) (layout : Layout progra
   -- entered without a move: the values that are taken along stay where they are
   stays : (used j : ℕ) (t : Target) (count position to label_next : ℕ) (continuation items : List Instr) (operands : List Operand) (next : ℕ) (state : State) (s : Plain) → Here program bound open_ones operands next state s
       → first_to t ≡ next → first_to t + taken t ≤ label_next → label_next ≤ (program.shape state.frame.number).limit → t.below ≡ drop count operands
-      → Laid program bound state.frame.number open_ones (live (landing t label_next)) continuation
+      → IsLaidOut program bound state.frame.number open_ones (live (target_point t label_next)) continuation
       → first_to t ≤ t.first → t.first + t.arity ≤ to → to ≤ (program.shape state.frame.number).limit
       → LaidWith state (t ∷ open_ones) position (take count operands) to items → 1 ≤ j → used + j ≤ bound
       → StepsTo (plain_step program) j s (at position s.registers s) → Reaches tree program bound used (enter_with (taken t) count continuation items state) s
@@ -182,7 +182,7 @@ module _ (tree : Tree) (program : Program) (bound : ℕ) (layout : Layout progra
 
     -- what a branch to the loop goes on with
     again_laid : (stack : List Operand) (next first results start end : ℕ) (state : State) → LoopAt stack next first results start end state → floor program bound state.frame.number open_ones ≤ first → AllUnder first (drop n stack)
-        → Laid program bound state.frame.number open_ones (live (landing (inside (again start n first) m end (drop n stack) results) (first + n))) (Loop r ∷ state.frame.rest)
+        → IsLaidOut program bound state.frame.number open_ones (live (target_point (inside (again start n first) m end (drop n stack) results) (first + n))) (Loop r ∷ state.frame.rest)
     again_laid stack next first results start end state l above under =
         let below = drop n stack in
         let whole_stack = reverse (reads first n) ++ below in
@@ -261,7 +261,7 @@ module _ (tree : Tree) (program : Program) (bound : ℕ) (layout : Layout progra
         (comes_then (plain_step program) n 1 s mid (at (suc start) v.registers s) v.comes (at (suc start) v.registers s, does program mid (jump_to (suc start)) (subst (λ x. slice_get program.commands x ≡ Some (jump_to (suc start))) b.jump l.jump), refl)))
 
   pub end_reaches : (t : Target) (stack : List Operand) (next : ℕ) (state : State) (s : Plain) → Here program bound (t ∷ open_ones) stack next state s
-      → EndsAt program bound state.frame.number (mark_of (t ∷ open_ones)) t s.position stack → Laid program bound state.frame.number open_ones (live (behind t next)) state.frame.rest
+      → EndsAt program bound state.frame.number (mark_of (t ∷ open_ones)) t s.position stack → IsLaidOut program bound state.frame.number open_ones (live (behind t next)) state.frame.rest
       → Then tree program bound 0 (reach_end state) s
   end_reaches t stack next state s h at_ laid =
       leaves_label tree program bound layout (mark_of (t ∷ open_ones)) t open_ones state.frame.labels state.frame.rest stack next state s h h.frame_is.labels at_ next h.frame_is.above h.frame_is.limit laid

@@ -1,7 +1,7 @@
 -- The pieces of a body keep the rules as far as they go themselves.
 use Rattle.std.proofs.Common.{◌≡◌, ℕ, suc, ◌+◌, ◌-◌, ◌*◌, ◌<◌, ◌≤◌, List, [], ◌∷◌, ◌++◌, length, drop, take, reverse, Option, Some, None, slice_get, refl, sym, ap, ◌∙◌, subst, arith, length-append, inl, inr}
 use Rattle.bl_base.specs.declared.trap.Trap.TheVariants as trap_kind
-use Rattle.bl_ops.specs.Table.{row_of, row_operands}
+use Rattle.bl_ops.specs.OperatorTable.{row_of, row_operands}
 use Rattle.bl_wasm.specs.Linked.{IsLinked, IsFunction, context}
 use Rattle.bl_wasm.specs.Typing.{Context}
 use Rattle.bl_wasm.specs.declared.instruction.Instr.{Instr}
@@ -13,27 +13,20 @@ use Rattle.bl_cmd.specs.declared.command.Command.TheVariants as command
 use Rattle.bl_cmd.specs.declared.command.Operand.{Operand}
 use Rattle.bl_access.specs.Templates.{shift, variable, test_of, jump_to, chain}
 use Rattle.bl_emit.specs.Shapes.{Shape, bottom}
-use Rattle.bl_emit.specs.Constructs.{reads, top, pad, moves, mark_of, Target, branched, Point, point}
+use Rattle.bl_emit.specs.Constructs.{reads, top, pad, moves, mark_of, Target, branched, Point, point, whole, again, part, inside, as_whole, behind}
 use Rattle.bl_emit.specs.Items.{left_new, check_of, check_new, branch_size, arms_from, after, to_label, arms, template, leaving}
-use Rattle.bl_emit.specs.Low.{takes_of, closed, Reached, on}
+use Rattle.bl_emit.specs.LoweredBodies.{takes_of, closed, Reached, on, calls_of, Body, done, step, leave, block, loop, choice, Extent, closed_size, closing, off, next_in, size_in, low, left_to}
 use Rattle.bl_emit.specs.Numbers.{blocks, shape}
-use Rattle.bl_lower.proofs.Chains.{chain_length, arms_from_length}
-use Rattle.bl_lower.proofs.Goods.{Good, simple_good, readable, Ready, AllReady, ReadyFor, ready_get, branched_simple, chain_simple}
-use Rattle.bl_lower.proofs.Leaving.{moves_length}
-use Rattle.bl_lower.proofs.Lawful.{mark_small, new_local, Simple, Writes, test_simple, jump_simple, trap_simple}
-use Rattle.bl_lower.proofs.Pieces.{each_both}
-use Rattle.bl_lower.proofs.Ranged.{AllRanged, ranged_later, ranged_tail, ranged_top, ranged_pad}
-use Rattle.bl_lower.proofs.Sizes.{padded_length, branch_length, label_length, template_length, after_position, leaving_length}
-use Rattle.bl_lower.proofs.Sound.{Sound}
+use Rattle.bl_lower.proofs.IndexTests.{chain_length, arms_from_length}
+use Rattle.bl_lower.proofs.PieceRules.{LawfulPiece, simple_piece, readable, Ready, AllReady, ReadyFor, ready_get, branched_simple, chain_simple, moved_simple}
+use Rattle.bl_lower.proofs.ConstructExits.{moves_length}
+use Rattle.bl_lower.proofs.LawfulCommands.{mark_small, new_local, Simple, Writes, test_simple, jump_simple, trap_simple}
+use Rattle.bl_lower.proofs.Pieces.{each_both, all_of, singles, AllAt, all_at_front, all_at_back, all_at_both, closed_pieces, pieces, whole_is}
+use Rattle.bl_lower.proofs.OperandRanges.{AllRanged, ranged_later, ranged_tail, ranged_top, ranged_pad, ranged_front, ranged_reads, ranged_new}
+use Rattle.bl_lower.proofs.Sizes.{padded_length, branch_length, label_length, template_length, after_position, leaving_length, Sized, ReachedAs, sizes, closed_length, after_next}
+use Rattle.bl_lower.proofs.TypedItems.{Sound, EachIn}
 use Rattle.bl_emit.proofs.Lists.{shift_is}
-use Rattle.bl_emit.specs.Constructs.{whole, again, part, inside, as_whole, behind}
-use Rattle.bl_emit.specs.Low.{calls_of, Body, done, step, leave, block, loop, choice, Extent, closed_size, closing, off, next_in, size_in, low, left_to}
-use Rattle.bl_lower.proofs.Goods.{moved_simple}
 use Rattle.bl_lower.proofs.ItemRules.{template_good}
-use Rattle.bl_lower.proofs.Pieces.{all_of, singles, AllAt, all_at_front, all_at_back, all_at_both, closed_pieces, pieces, whole_is}
-use Rattle.bl_lower.proofs.Ranged.{ranged_front, ranged_reads, ranged_new}
-use Rattle.bl_lower.proofs.Sizes.{Sized, ReachedAs, sizes, closed_length, after_next}
-use Rattle.bl_lower.proofs.Sound.{EachIn}
 use Rattle.bl_lower.proofs.Templates.{within, one_good, move_good, arms_into, arms_simple}
 
 module _ (tree : Tree) (linked : IsLinked tree) (number : ℕ) (B : ℕ → Type 0) (function : Function) (exists : slice_get tree.functions number ≡ Some function) (is : IsFunction tree function) where
@@ -46,8 +39,8 @@ module _ (tree : Tree) (linked : IsLinked tree) (number : ℕ) (B : ℕ → Type
   abbrev Ops : ℕ → List Operand → Type 0
   Ops next stack = AllRanged (bottom Mine) next stack
 
-  abbrev GoodAt : ℕ → List Command → Type 0
-  GoodAt start commands = Good tree linked number B start commands
+  abbrev LawfulPieceAt : ℕ → List Command → Type 0
+  LawfulPieceAt start commands = LawfulPiece tree linked number B start commands
 
   abbrev Begins : ℕ → List Command → Type 0
   Begins start commands = B start
@@ -62,15 +55,15 @@ module _ (tree : Tree) (linked : IsLinked tree) (number : ℕ) (B : ℕ → Type
   branch_some depth None stack = let l = branch_length (blocks tree) (shape tree) number depth None stack in omega (arith, l)
   branch_some depth (Some t) stack = let l = branch_length (blocks tree) (shape tree) number depth (Some t) stack in omega (arith, l)
 
-  branch_good : (start depth next : ℕ) (o : Option Target) (stack : List Operand) → depth ≤ 6 → next ≤ Mine.limit → ReadyFor tree linked number B o → Ops next stack → GoodAt start (branched depth Mine.results o stack)
+  branch_good : (start depth next : ℕ) (o : Option Target) (stack : List Operand) → depth ≤ 6 → next ≤ Mine.limit → ReadyFor tree linked number B o → Ops next stack → LawfulPieceAt start (branched depth Mine.results o stack)
   branch_good start depth next o stack small le ready ranged =
       let n = length (branched depth Mine.results o stack) in
       let some = branch_some depth o stack in
-      simple_good tree linked number B start (branched depth Mine.results o stack) some
+      simple_piece tree linked number B start (branched depth Mine.results o stack) some
       (branched_simple tree linked number B start n (start + n - 1) (within tree linked number B function exists is start n some) start depth next o stack small (omega arith) (omega (arith, some)) le ready ranged)
 
   leaving_good : (item : Instr) (open_ones : List Target) (p : Point) → AllReady tree linked number B open_ones → Ops p.next p.stack → bottom Mine ≤ p.next → p.next ≤ Mine.limit
-      → left_to (blocks tree) (shape tree) number item p.next ≤ Mine.limit → GoodAt p.position (leaving (shape tree) number open_ones item p)
+      → left_to (blocks tree) (shape tree) number item p.next ≤ Mine.limit → LawfulPieceAt p.position (leaving (shape tree) number open_ones item p)
   leaving_good (Br l) open_ones p ready ranged low le room = branch_good p.position (mark_of open_ones) p.next (slice_get open_ones l) p.stack (mark_small open_ones) le (ready_get tree linked number B open_ones l ready) ranged
   leaving_good Return open_ones p ready ranged low le room = branch_good p.position (mark_of open_ones) p.next None p.stack (mark_small open_ones) le tt ranged
   leaving_good (BrTable default ls) open_ones p ready ranged low le room =
@@ -93,7 +86,7 @@ module _ (tree : Tree) (linked : IsLinked tree) (number : ℕ) (B : ℕ → Type
       let some : 1 ≤ n = omega (arith, long, one) in
       let goes = within tree linked number B function exists is start n some in
       let below = ranged_tail (bottom Mine) 1 p.next p.stack ranged in
-      simple_good tree linked number B start all some
+      simple_piece tree linked number B start all some
       (each_both (Simple tree linked number B start n) start (start + 2 * length ls) tests (d ++ a) (omega (arith, tests_long))
       (chain_simple tree linked number B start n stop goes start depth p.next 0 (start + 2 * length ls) (top p.stack) those (mark_small open_ones) (omega arith) (omega (arith, many, long, one)) low (omega (arith, many, room))
       (readable tree linked number B p.next (top p.stack) le (ranged_top (bottom Mine) p.next p.stack ranged)) (arms_into tree linked number B function exists is start n stop goes (start + (2 * length ls + size)) takes ls (omega (arith, one)) (omega (arith, long, one)))
@@ -113,12 +106,12 @@ module _ (tree : Tree) (linked : IsLinked tree) (number : ℕ) (B : ℕ → Type
   StackIn (on q) = Ops q.next q.stack
   StackIn (off next) = Unit {0}
 
-  closed_good : (depth : ℕ) (t : Target) (q : Point) → depth ≤ 6 → Ready tree linked number B t → Ops q.next q.stack → q.next ≤ Mine.limit → GoodAt q.position (closed depth t (on q))
+  closed_good : (depth : ℕ) (t : Target) (q : Point) → depth ≤ 6 → Ready tree linked number B t → Ops q.next q.stack → q.next ≤ Mine.limit → LawfulPieceAt q.position (closed depth t (on q))
   closed_good depth t q small ready ranged le =
       let ms = moves depth t.first (reverse (pad t.arity q.stack)) in
       let n = length (closed depth t (on q)) in
       let long : n ≡ t.arity + 1 = omega (arith, length-append ms (jump_to t.end ∷ []), moves_length depth t.first (reverse (pad t.arity q.stack)), padded_length t.arity q.stack) in
-      simple_good tree linked number B q.position (closed depth t (on q)) (omega (arith, long))
+      simple_piece tree linked number B q.position (closed depth t (on q)) (omega (arith, long))
       (moved_simple tree linked number B q.position n (q.position + n - 1) (within tree linked number B function exists is q.position n (omega (arith, long))) q.position depth t.first t.arity q.next t.end q.stack small
       (omega arith) (omega (arith, long)) ready.low ready.high le ranged (inr (inl ready.ends)))
 
@@ -127,8 +120,8 @@ module _ (tree : Tree) (linked : IsLinked tree) (number : ℕ) (B : ℕ → Type
   closed_ends depth t (off next) e position reaches h = tt
 
   closed_goods : (depth : ℕ) (t : Target) (reached : Reached) (e : Extent) (position : ℕ) → depth ≤ 6 → ReachedAs (blocks tree) (shape tree) number e position reached → StackIn reached → next_in reached ≤ Mine.limit
-      → Ready tree linked number B t → AllAt GoodAt (position + e.size) (closed_pieces depth t reached)
-  closed_goods depth t (on q) e position small reaches ranged le ready = (subst (λ n. GoodAt n (closed depth t (on q))) reaches.1 (closed_good depth t q small ready ranged le), tt)
+      → Ready tree linked number B t → AllAt LawfulPieceAt (position + e.size) (closed_pieces depth t reached)
+  closed_goods depth t (on q) e position small reaches ranged le ready = (subst (λ n. LawfulPieceAt n (closed depth t (on q))) reaches.1 (closed_good depth t q small ready ranged le), tt)
   closed_goods depth t (off next) e position small reaches ranged le ready = tt
 
   closed_pieces_length : (depth : ℕ) (t : Target) (reached : Reached) (e : Extent) (position : ℕ) → ReachedAs (blocks tree) (shape tree) number e position reached → length (all_of (closed_pieces depth t reached)) ≡ closing e.ends t.arity
@@ -148,9 +141,6 @@ module _ (tree : Tree) (linked : IsLinked tree) (number : ℕ) (B : ℕ → Type
 
   abbrev Size_of : List Target → Body → Extent
   Size_of open_ones body = size_in (blocks tree) (shape tree) number (takes_of open_ones) body
-
-  abbrev Sizes_of : List Target → Body → Point → Type 0
-  Sizes_of open_ones body p = Sized (blocks tree) (shape tree) number (Size_of open_ones body) p (low (blocks tree) (shape tree) number open_ones body p)
 
   pieces_length : (open_ones : List Target) (body : Body) (p : Point) → length (all_of (Pieces open_ones body p)) ≡ (Size_of open_ones body).size
   pieces_length open_ones body p = ap length (whole_is (blocks tree) (shape tree) number open_ones body p) ∙ (sizes (blocks tree) (shape tree) number open_ones body p).size
@@ -214,7 +204,7 @@ module _ (tree : Tree) (linked : IsLinked tree) (number : ℕ) (B : ℕ → Type
 
   -- so many moves, each a piece
   singles_good : (depth position first next : ℕ) (operands : List Operand) → depth ≤ 6 → AllAt Begins position (singles (moves depth first operands)) → B (position + length operands) → next ≤ Mine.limit → Ops next operands
-      → ((x : ℕ) → first ≤ x → x < first + length operands → Writes tree linked number B x) → AllAt GoodAt position (singles (moves depth first operands))
+      → ((x : ℕ) → first ≤ x → x < first + length operands → Writes tree linked number B x) → AllAt LawfulPieceAt position (singles (moves depth first operands))
   singles_good depth position first next [] small h ends le ranged writes = tt
   singles_good depth position first next (a ∷ operands) small h ends le ranged writes =
       let one : position + 1 ≡ suc position = omega arith in
@@ -226,7 +216,7 @@ module _ (tree : Tree) (linked : IsLinked tree) (number : ℕ) (B : ℕ → Type
       )
 
   abbrev Both : List Target → Body → Point → Type 0
-  Both open_ones body p = AllAt GoodAt p.position (Pieces open_ones body p) × StackIn (End open_ones body p)
+  Both open_ones body p = AllAt LawfulPieceAt p.position (Pieces open_ones body p) × StackIn (End open_ones body p)
 
   pub bodies : (body : Body) (open_ones : List Target) (p : Point) → EachIn (Sound c) body → AllReady tree linked number B open_ones → Ops p.next p.stack → bottom Mine ≤ p.next
       → p.next + (Size_of open_ones body).new ≤ Mine.limit → AllAt Begins p.position (Pieces open_ones body p) → EndsIn (End open_ones body p) → Both open_ones body p
@@ -247,7 +237,7 @@ module _ (tree : Tree) (linked : IsLinked tree) (number : ℕ) (B : ℕ → Type
       let rest = bodies body open_ones q sound.1 ready (ranged_after item open_ones p low ranged) (omega (arith, low, next)) (omega (arith, next, room)) later ends in (
         (
           template_good tree linked number B function exists is item open_ones p sound.0 ready ranged low (omega (arith, room)) (omega (arith, next, room)) (begins open_ones body q later ends),
-          subst (λ n. AllAt GoodAt n (Pieces open_ones body q)) (sym there) rest.0,
+          subst (λ n. AllAt LawfulPieceAt n (Pieces open_ones body q)) (sym there) rest.0,
         ),
         rest.1,
       )
@@ -282,9 +272,9 @@ module _ (tree : Tree) (linked : IsLinked tree) (number : ℕ) (B : ℕ → Type
       let c_good = closed_goods depth t w e q.position (mark_small (t ∷ open_ones)) s.reached i.1 (omega (arith, s.new, room)) t_ready in (
         (
           one_good tree linked number B function exists is p.position (jump_to (suc p.position)) (jump_simple tree linked number B p.position 1 p.position (suc p.position) (inr (inl (begins (t ∷ open_ones) inner q i_begins i_ends)))),
-          subst (λ k. AllAt GoodAt k (i_pieces ++ (c_pieces ++ r_pieces))) (sym one)
-              (all_at_both GoodAt q.position (q.position + e.size) i_pieces (c_pieces ++ r_pieces) (omega (arith, i_long)) i.0
-              (all_at_both GoodAt (q.position + e.size) u.position c_pieces r_pieces (omega (arith, c_long)) c_good rest.0)),
+          subst (λ k. AllAt LawfulPieceAt k (i_pieces ++ (c_pieces ++ r_pieces))) (sym one)
+              (all_at_both LawfulPieceAt q.position (q.position + e.size) i_pieces (c_pieces ++ r_pieces) (omega (arith, i_long)) i.0
+              (all_at_both LawfulPieceAt (q.position + e.size) u.position c_pieces r_pieces (omega (arith, c_long)) c_good rest.0)),
         ),
         rest.1,
       )
@@ -328,11 +318,11 @@ module _ (tree : Tree) (linked : IsLinked tree) (number : ℕ) (B : ℕ → Type
       let c_good = closed_goods depth t w e q.position (mark_small (t ∷ open_ones)) s.reached i.1 (omega (arith, s.new, room)) t_ready in
       let m_good = singles_good (mark_of open_ones) p.position p.next p.next ops (mark_small open_ones) m_begins (let same : start ≡ p.position + length ops = omega (arith, there, ops_long) in subst B same from_jump.0) (omega (arith, room))
       (ranged_pad (bottom Mine) p.next n p.stack ranged) (λ x above under. inl (new_local tree linked number B x (omega (arith, low, above)) (omega (arith, under, ops_long, room)))) in (
-        all_at_both GoodAt p.position start ms (jump ∷ (i_pieces ++ (c_pieces ++ r_pieces))) (omega (arith, ms_long, there)) m_good (
+        all_at_both LawfulPieceAt p.position start ms (jump ∷ (i_pieces ++ (c_pieces ++ r_pieces))) (omega (arith, ms_long, there)) m_good (
           one_good tree linked number B function exists is start (jump_to (suc start)) (jump_simple tree linked number B start 1 start (suc start) (inr (inl (begins (t ∷ open_ones) inner q i_begins i_ends)))),
-          subst (λ k. AllAt GoodAt k (i_pieces ++ (c_pieces ++ r_pieces))) (sym one)
-              (all_at_both GoodAt q.position (q.position + e.size) i_pieces (c_pieces ++ r_pieces) (omega (arith, i_long)) i.0
-              (all_at_both GoodAt (q.position + e.size) u.position c_pieces r_pieces (omega (arith, c_long)) c_good rest.0)),
+          subst (λ k. AllAt LawfulPieceAt k (i_pieces ++ (c_pieces ++ r_pieces))) (sym one)
+              (all_at_both LawfulPieceAt q.position (q.position + e.size) i_pieces (c_pieces ++ r_pieces) (omega (arith, i_long)) i.0
+              (all_at_both LawfulPieceAt (q.position + e.size) u.position c_pieces r_pieces (omega (arith, c_long)) c_good rest.0)),
         ),
         rest.1,
       )
@@ -392,11 +382,11 @@ module _ (tree : Tree) (linked : IsLinked tree) (number : ℕ) (B : ℕ → Type
           one_good tree linked number B function exists is p.position (test_of (top p.stack) (suc p.position) middle)
               (test_simple tree linked number B p.position 1 p.position (top p.stack) (suc p.position) middle (readable tree linked number B p.next (top p.stack) (omega (arith, room)) (ranged_top (bottom Mine) p.next p.stack ranged))
               (inr (inl (begins (t ∷ open_ones) first q i_begins i_ends))) (inr (inl (begins (t' ∷ open_ones) second q' j_begins j_ends)))),
-          subst (λ k. AllAt GoodAt k (i_pieces ++ (c_pieces ++ back))) (sym one)
-              (all_at_both GoodAt q.position (q.position + e.size) i_pieces (c_pieces ++ back) (omega (arith, i_long)) i.0
-              (all_at_both GoodAt (q.position + e.size) middle c_pieces back (omega (arith, c_long)) c_good
-              (all_at_both GoodAt middle (middle + f.size) j_pieces (d_pieces ++ r_pieces) (omega (arith, j_long)) j.0
-              (all_at_both GoodAt (middle + f.size) u.position d_pieces r_pieces (omega (arith, d_long)) d_good rest.0)))),
+          subst (λ k. AllAt LawfulPieceAt k (i_pieces ++ (c_pieces ++ back))) (sym one)
+              (all_at_both LawfulPieceAt q.position (q.position + e.size) i_pieces (c_pieces ++ back) (omega (arith, i_long)) i.0
+              (all_at_both LawfulPieceAt (q.position + e.size) middle c_pieces back (omega (arith, c_long)) c_good
+              (all_at_both LawfulPieceAt middle (middle + f.size) j_pieces (d_pieces ++ r_pieces) (omega (arith, j_long)) j.0
+              (all_at_both LawfulPieceAt (middle + f.size) u.position d_pieces r_pieces (omega (arith, d_long)) d_good rest.0)))),
         ),
         rest.1,
       )

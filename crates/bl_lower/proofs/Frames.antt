@@ -10,12 +10,12 @@ use Rattle.bl_reduce.specs.TypedConfigurations.{IsMemoryState}
 use Rattle.bl_base.proofs.Lists.{zip_length}
 use Rattle.bl_cmd.specs.Steps.{Registers, Plain, depth}
 use Rattle.bl_cmd.specs.declared.command.Operand.{Operand}
-use Rattle.bl_lower.proofs.Laid.{floor}
+use Rattle.bl_lower.proofs.CodeLayout.{floor}
 use Rattle.bl_lower.proofs.Machine.{Program, plain_step}
-use Rattle.bl_lower.proofs.Matching.{Holds, AllHold, IsOwn, Layout, IsStore, LocalsAt, AreTargets, IsFrame, Waits, AreCallers, Here, Matches}
+use Rattle.bl_lower.proofs.MatchStates.{Holds, AllHold, IsOwn, Layout, IsStore, LocalsAt, AreTargets, IsFrame, Waits, AreCallers, Here, Matches}
 use Rattle.bl_emit.specs.Constructs.{Target, first_to, top}
 use Rattle.bl_emit.specs.Shapes.{Shape, local, bottom}
-use Rattle.bl_lower.proofs.Ways.{Agree, all_later, Kept, at}
+use Rattle.bl_lower.proofs.PlainRuns.{Agree, all_later, Kept, at}
 
 -- ---- the variables of locals
 

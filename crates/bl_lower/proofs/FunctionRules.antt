@@ -5,28 +5,28 @@ use Rattle.bl_wasm.specs.Linked.{IsLinked, IsFunction, context}
 use Rattle.bl_wasm.specs.Typing.{Context}
 use Rattle.bl_wasm.specs.declared.linked.Function.{Function}
 use Rattle.bl_wasm.specs.declared.linked.Tree.{Tree}
-use Rattle.bl_wasm.proofs.NestingLemmas.{closes}
-use Rattle.bl_wasm.proofs.LeadingLemmas.{typing_nests}
+use Rattle.bl_wasm.proofs.OpenConstructLemmas.{closes}
+use Rattle.bl_wasm.proofs.LeadsLemmas.{typing_nests}
 use Rattle.bl_cmd.specs.declared.command.Command.{Command}
 use Rattle.bl_cmd.specs.declared.command.Operand.{Operand}
 use Rattle.bl_cmd.specs.declared.command.Operand.TheVariants.{Const}
 use Rattle.bl_access.specs.Templates.{jump_to}
 use Rattle.bl_emit.specs.Shapes.{Shape, bottom}
 use Rattle.bl_emit.specs.Constructs.{pad, moves, outs, Point}
-use Rattle.bl_emit.specs.Low.{Extent, Reached, on, off, next_in}
+use Rattle.bl_emit.specs.LoweredBodies.{Extent, Reached, on, off, next_in}
 use Rattle.bl_lower.specs.Trees.{last, low_body, low_function}
 use Rattle.bl_emit.specs.Numbers.{blocks, shape, start_at, body_of, function_variables}
 use Rattle.bl_lower.proofs.BodyRules.{bodies, begins, EndsIn, StackIn}
-use Rattle.bl_lower.proofs.Finding.{Starts, all_start}
-use Rattle.bl_lower.proofs.Goods.{Good, simple_good, readables}
-use Rattle.bl_lower.proofs.Lawful.{Simple, own_local, reads_const, AllReadable, moves_simple, outs_simple, jump_simple}
-use Rattle.bl_lower.proofs.Leaving.{moves_length}
-use Rattle.bl_lower.proofs.Nested.{nested_is}
+use Rattle.bl_lower.proofs.PiecePositions.{Starts, all_start}
+use Rattle.bl_lower.proofs.PieceRules.{LawfulPiece, simple_piece, readables}
+use Rattle.bl_lower.proofs.LawfulCommands.{Simple, own_local, reads_const, AllReadable, moves_simple, outs_simple, jump_simple}
+use Rattle.bl_lower.proofs.ConstructExits.{moves_length}
+use Rattle.bl_lower.proofs.NestedItems.{nested_is}
 use Rattle.bl_lower.proofs.Pieces.{all_of, AllAt, each_both, all_at_front, all_at_back, all_at_both, pieces, whole_is}
-use Rattle.bl_lower.proofs.Placing.{first_point, opens, opens_length, room_of, extent_is, results_are, counts_are, locals_are, total_some}
-use Rattle.bl_lower.proofs.Ranged.{ranged_pad}
+use Rattle.bl_lower.proofs.FunctionPlaces.{first_point, opens, opens_length, room_of, extent_is, results_are, counts_are, locals_are, total_some}
+use Rattle.bl_lower.proofs.OperandRanges.{ranged_pad}
 use Rattle.bl_lower.proofs.Sizes.{Size, Sized, ReachedAs, sizes, padded_length, outs_length}
-use Rattle.bl_lower.proofs.Sound.{Sound, Each, EachIn, all_sound, each_in}
+use Rattle.bl_lower.proofs.TypedItems.{Sound, Each, EachIn, all_sound, each_in}
 use Rattle.bl_lower.proofs.Templates.{within}
 use Rattle.bl_lower.proofs.Typings.{nested_body}
 use Rattle.bl_emit.proofs.Lists.{shift_is}
@@ -74,8 +74,8 @@ module _ (tree : Tree) (linked : IsLinked tree) (number : ℕ) (function : Funct
   abbrev pub B : ℕ → Type 0
   B x = Starts Mine.entry function_pieces x
 
-  abbrev pub GoodAt : ℕ → List Command → Type 0
-  GoodAt start commands = Good tree linked number B start commands
+  abbrev pub LawfulPieceAt : ℕ → List Command → Type 0
+  LawfulPieceAt start commands = LawfulPiece tree linked number B start commands
 
   abbrev Begins : ℕ → List Command → Type 0
   Begins start commands = B start
@@ -128,7 +128,7 @@ module _ (tree : Tree) (linked : IsLinked tree) (number : ℕ) (function : Funct
     locals_are tree number function exists,
   )
 
-  body_good : AllAt GoodAt (start_at tree number) body_pieces × StackIn tree linked number B function exists is reached
+  body_good : AllAt LawfulPieceAt (start_at tree number) body_pieces × StackIn tree linked number B function exists is reached
   body_good = bodies tree linked number B function exists is (body_of tree function) [] at_first sound tt tt (omega arith) room body_begins ends_begin
 
   body_starts : B (start_at tree number)
@@ -138,7 +138,7 @@ module _ (tree : Tree) (linked : IsLinked tree) (number : ℕ) (function : Funct
   zeros_readable zero = tt
   zeros_readable (suc n) = (reads_const tree linked number B 0, zeros_readable n)
 
-  prologue_good : GoodAt Mine.entry prologue
+  prologue_good : LawfulPieceAt Mine.entry prologue
   prologue_good =
       let first = Mine.first + Mine.params + Mine.results in
       let zeros = replicate Mine.locals (Const 0) in
@@ -148,13 +148,13 @@ module _ (tree : Tree) (linked : IsLinked tree) (number : ℕ) (function : Funct
       let long = opens_length tree number function exists in
       let some : 1 ≤ n = omega (arith, long) in
       let high = room_of tree number in
-      simple_good tree linked number B Mine.entry prologue some
+      simple_piece tree linked number B Mine.entry prologue some
       (each_both (Simple tree linked number B Mine.entry n) Mine.entry (Mine.entry + Mine.locals) ms (jump_to (start_at tree number) ∷ []) (omega (arith, moves_length 0 first zeros, many))
       (moves_simple tree linked number B Mine.entry n (Mine.entry + n - 1) (within tree linked number B function exists is Mine.entry n some) Mine.entry 0 first zeros (omega arith) (omega arith) (omega (arith, long, many))
       (λ x above below. own_local tree linked number B x (omega (arith, above)) (omega (arith, below, many, high)) (λ up. above)) (zeros_readable Mine.locals))
       (jump_simple tree linked number B Mine.entry n (Mine.entry + Mine.locals) (start_at tree number) (inr (inl body_starts)), tt))
 
-  last_good : (r : Reached) → ReachedAs (blocks tree) (shape tree) number e (start_at tree number) r → StackIn tree linked number B function exists is r → next_in r ≤ Mine.limit → AllAt GoodAt (start_at tree number + e.size) (last_pieces Mine.results r)
+  last_good : (r : Reached) → ReachedAs (blocks tree) (shape tree) number e (start_at tree number) r → StackIn tree linked number B function exists is r → next_in r ≤ Mine.limit → AllAt LawfulPieceAt (start_at tree number + e.size) (last_pieces Mine.results r)
   last_good (off next) reaches ranged le = tt
   last_good (on q) reaches ranged le =
       let ops = reverse (pad Mine.results q.stack) in
@@ -162,18 +162,18 @@ module _ (tree : Tree) (linked : IsLinked tree) (number : ℕ) (function : Funct
       let n = length (outs 0 0 ops) in
       let all = outs_length 0 0 ops in
       let some : 1 ≤ n = omega (arith, all) in (
-        subst (λ k. GoodAt k (outs 0 0 ops)) reaches.1
-            (simple_good tree linked number B q.position (outs 0 0 ops) some
+        subst (λ k. LawfulPieceAt k (outs 0 0 ops)) reaches.1
+            (simple_piece tree linked number B q.position (outs 0 0 ops) some
             (outs_simple tree linked number B q.position n (q.position + n - 1) (within tree linked number B function exists is q.position n some) q.position 0 0 ops (omega arith) (omega arith) (omega (arith, all)) (omega (arith, long))
             (readables tree linked number B q.next ops le (ranged_pad (bottom Mine) q.next Mine.results q.stack ranged)))),
         tt,
       )
 
-  pub all_good : AllAt GoodAt Mine.entry function_pieces
+  pub all_good : AllAt LawfulPieceAt Mine.entry function_pieces
   all_good = (
     prologue_good,
-    subst (λ n. AllAt GoodAt n (body_pieces ++ last_pieces Mine.results reached)) (sym start_there)
-        (all_at_both GoodAt (start_at tree number) (start_at tree number + e.size) body_pieces (last_pieces Mine.results reached) (omega (arith, body_long)) body_good.0
+    subst (λ n. AllAt LawfulPieceAt n (body_pieces ++ last_pieces Mine.results reached)) (sym start_there)
+        (all_at_both LawfulPieceAt (start_at tree number) (start_at tree number + e.size) body_pieces (last_pieces Mine.results reached) (omega (arith, body_long)) body_good.0
         (last_good reached sized.reached body_good.1 (reached_next reached sized.new))),
   )
     where

@@ -1,6 +1,6 @@
 -- Each piece of a body keeps the rules as far as it goes itself.
 use Rattle.std.proofs.Common.{◌≡◌, ℕ, suc, ◌+◌, ◌*◌, ◌<◌, ◌≤◌, List, [], ◌∷◌, ◌++◌, length, drop, reverse, Some, slice_get, refl, sym, ap, ◌∙◌, subst, arith, length-append, inl, inr}
-use Rattle.bl_ops.specs.Table.{row_of, row_operands}
+use Rattle.bl_ops.specs.OperatorTable.{row_of, row_operands}
 use Rattle.bl_ops.specs.declared.op.Op.{Op}
 use Rattle.bl_ops.specs.declared.op.Op.TheVariants as op
 use Rattle.bl_ops.specs.declared.op.OpRow.{OpRow}
@@ -19,14 +19,14 @@ use Rattle.bl_emit.specs.Shapes.{Slot, Shape, local, bottom, result_reads}
 use Rattle.bl_emit.specs.Constructs.{top, pad, moves, args, mark_of, Target, Point}
 use Rattle.bl_emit.specs.Items.{check_of, check_size, check_new, checks, left, right, arms_size, head_size, hits_from, calls_in, after, to_label, slot_arms, slot_head, template}
 use Rattle.bl_emit.specs.Numbers.{blocks, shape}
-use Rattle.bl_lower.proofs.Chains.{hits_from_length}
-use Rattle.bl_lower.proofs.Goods.{Good, simple_good, readable, AllReady, ready_get, branched_simple, chain_simple}
-use Rattle.bl_lower.proofs.Lawful.{mark_small, new_local, Readable, reads_const, reads_static, Goes, Simple, Writes, set_simple, test_simple, jump_simple}
+use Rattle.bl_lower.proofs.IndexTests.{hits_from_length}
+use Rattle.bl_lower.proofs.PieceRules.{LawfulPiece, simple_piece, readable, AllReady, ready_get, branched_simple, chain_simple}
+use Rattle.bl_lower.proofs.LawfulCommands.{mark_small, new_local, Readable, reads_const, reads_static, Goes, Simple, Writes, set_simple, test_simple, jump_simple}
 use Rattle.bl_lower.proofs.Pieces.{EachAt, each_both}
-use Rattle.bl_lower.proofs.Placing.{arms_at}
-use Rattle.bl_lower.proofs.Ranged.{Ranged, AllRanged, ranged_tail, ranged_top, ranged_left, ranged_right}
+use Rattle.bl_lower.proofs.FunctionPlaces.{arms_at}
+use Rattle.bl_lower.proofs.OperandRanges.{Ranged, AllRanged, ranged_tail, ranged_top, ranged_left, ranged_right}
 use Rattle.bl_lower.proofs.Sizes.{slot_head_length, template_length, after_position, checks_length}
-use Rattle.bl_lower.proofs.Sound.{Sound}
+use Rattle.bl_lower.proofs.TypedItems.{Sound}
 use Rattle.bl_emit.proofs.Lists.{shift_is}
 use Rattle.bl_lower.proofs.Templates.{row_padded, check_fits, arms_exist, spans, local_own, local_read, functions_number, globals_number, size_static, checks_simple, called_simple, hits_into, slots_simple, one_good, move_good, load_good, store_good, grow_good}
 
@@ -44,8 +44,8 @@ module _ (tree : Tree) (linked : IsLinked tree) (number : ℕ) (B : ℕ → Type
   abbrev Ops : ℕ → List Operand → Type 0
   Ops next stack = AllRanged (bottom Mine) next stack
 
-  abbrev GoodAt : ℕ → List Command → Type 0
-  GoodAt start commands = Good tree linked number B start commands
+  abbrev LawfulPieceAt : ℕ → List Command → Type 0
+  LawfulPieceAt start commands = LawfulPiece tree linked number B start commands
 
   abbrev new : (x : ℕ) → bottom Mine ≤ x → x < Mine.limit → Writes tree linked number B x
   new x low high = inl (new_local tree linked number B x low high)
@@ -56,10 +56,10 @@ module _ (tree : Tree) (linked : IsLinked tree) (number : ℕ) (B : ℕ → Type
   -- an operator, behind its tests
   operates : (o : Op) (row : OpRow) (depth : ℕ) (p : Point) → row_of o ≡ Some row → depth ≤ 6 → Ops p.next p.stack → bottom Mine ≤ p.next → suc (shift (check_new (check_of o)) p.next) ≤ Mine.limit
       → B (suc (shift (check_size (check_of o)) p.position))
-      → GoodAt p.position (checks depth (check_of o) p.position p.next (left (row_operands (row_of o)) p.stack) (right (row_operands (row_of o)) p.stack)
+      → LawfulPieceAt p.position (checks depth (check_of o) p.position p.next (left (row_operands (row_of o)) p.stack) (right (row_operands (row_of o)) p.stack)
       ++ set_command depth o (shift (check_new (check_of o)) p.next) (left (row_operands (row_of o)) p.stack) (right (row_operands (row_of o)) p.stack) ∷ [])
   operates o row depth p e small ranged low room ends =
-      simple_good tree linked number B p.position (cs ++ set_ ∷ []) (omega (arith, long))
+      simple_piece tree linked number B p.position (cs ++ set_ ∷ []) (omega (arith, long))
       (each_both (Simple tree linked number B p.position n) p.position (p.position + k) cs (set_ ∷ []) (omega (arith, checks_long))
       (checks_simple tree linked number B function exists is p.position n (p.position + n) goes (check_of o) p.position depth p.next a b (check_fits o) small low (omega (arith, room, new_there)) ra rb (omega arith) (omega (arith, long))) (
         set_simple tree linked number B p.position n (p.position + k) depth o x a b (Const 0) small (row_padded o row p.stack e) ra rb (reads_const tree linked number B 0)
@@ -128,7 +128,7 @@ module _ (tree : Tree) (linked : IsLinked tree) (number : ℕ) (B : ℕ → Type
       (hits_into tree linked number B function exists is start size stop goes at_ (slot ∷ those) (omega arith) (omega (arith, room))) (λ some. inl (omega arith))
 
   pub template_good : (item : Instr) (open_ones : List Target) (p : Point) → Sound c item → AllReady tree linked number B open_ones → Ops p.next p.stack → bottom Mine ≤ p.next
-      → p.next ≤ Mine.limit → (after (shape tree) number open_ones item p).next ≤ Mine.limit → B (after (shape tree) number open_ones item p).position → GoodAt p.position (Template open_ones item p)
+      → p.next ≤ Mine.limit → (after (shape tree) number open_ones item p).next ≤ Mine.limit → B (after (shape tree) number open_ones item p).position → LawfulPieceAt p.position (Template open_ones item p)
   template_good (I32Const n) open_ones p sound ready ranged low le room ends =
       move_good tree linked number B function exists is p.position (mark_of open_ones) p.next (Const n) (mark_small open_ones) (reads_const tree linked number B n) (new p.next low (omega (arith, room))) ends
   template_good (I64Const n) open_ones p sound ready ranged low le room ends =
@@ -166,7 +166,7 @@ module _ (tree : Tree) (linked : IsLinked tree) (number : ℕ) (B : ℕ → Type
       let one = to_label (shape tree) number open_ones (drop 1 p.stack) l in
       let n = suc (length one) in
       let goes = spans tree linked number B function exists is p.position n (ends_there open_ones (BrIf l) p ends) in
-      simple_good tree linked number B p.position (Template open_ones (BrIf l) p) (omega arith) (
+      simple_piece tree linked number B p.position (Template open_ones (BrIf l) p) (omega arith) (
         test_simple tree linked number B p.position n p.position (top p.stack) (suc p.position) (after (shape tree) number open_ones (BrIf l) p).position (reads_stack p.next (top p.stack) le (ranged_top (bottom Mine) p.next p.stack ranged))
             (goes (suc p.position) (omega arith) (omega arith)) (inr (inl ends)),
         branched_simple tree linked number B p.position n (p.position + n) goes (suc p.position) (mark_of open_ones) p.next (slice_get open_ones l) (drop 1 p.stack) (mark_small open_ones) (omega arith) (omega arith) le
@@ -179,7 +179,7 @@ module _ (tree : Tree) (linked : IsLinked tree) (number : ℕ) (B : ℕ → Type
       let depth = mark_of open_ones in
       let given = args depth f 0 (reverse (pad (shape tree f).params p.stack)) in
       let back = moves depth p.next (result_reads (shape tree f) 0 (shape tree f).results) in
-      simple_good tree linked number B p.position t (omega (arith, long))
+      simple_piece tree linked number B p.position t (omega (arith, long))
       (subst (EachAt (Simple tree linked number B p.position n) p.position) (ap (λ l. given ++ command.Call f ∷ l) (append_nil back))
       (called_simple tree linked number B function exists is p.position n (p.position + n) (spans tree linked number B function exists is p.position n (ends_there open_ones (Call f) p ends)) p.position depth f p.next p.next p.stack []
       (mark_small open_ones) (omega arith) (omega (arith, long)) (functions_number tree linked number B function exists is f sound) low room le ranged tt))
@@ -193,7 +193,7 @@ module _ (tree : Tree) (linked : IsLinked tree) (number : ℕ) (B : ℕ → Type
       let rest = slot_arms (shape tree) number depth (drop 1 p.stack) (p.next + length those) behind_it those in
       let long = template_length (blocks tree) (shape tree) number open_ones (CallIndirect i) p in
       let goes = spans tree linked number B function exists is p.position n (ends_there open_ones (CallIndirect i) p ends) in
-      simple_good tree linked number B p.position t (let some = heads those in omega (arith, long, some))
+      simple_piece tree linked number B p.position t (let some = heads those in omega (arith, long, some))
       (each_both (Simple tree linked number B p.position n) p.position (p.position + head_size those) head rest (let l = slot_head_length (blocks tree) (shape tree) number depth (top p.stack) p.position p.next those in omega (arith, l))
       (head_simple p.position n (p.position + n) goes those depth p.next (top p.stack) (mark_small open_ones) low (omega (arith, room)) (reads_stack p.next (top p.stack) le (ranged_top (bottom Mine) p.next p.stack ranged)) (omega (arith, long)))
       (slots_simple tree linked number B function exists is p.position n (p.position + n) goes (p.position + head_size those) depth (p.next + length those) behind_it p.next (Mine.wanted i) (drop 1 p.stack) those (mark_small open_ones) (omega arith) (omega (arith, long))

@@ -5,7 +5,7 @@ use Rattle.std.specs.List.{fold, filter, range_with_len}
 use Rattle.std.proofs.lemmas.List.{length-replicate, length-take-le}
 use Rattle.bl_cmd.specs.Outcomes.{with_row}
 use Rattle.bl_cmd.specs.declared.definitions.MemRow.{MemRow}
-use Rattle.bl_lower.specs.Trees.{row_at, is_filled, rows_of}
+use Rattle.bl_lower.specs.Trees.{memory_row_at, is_filled, rows_of}
 
 abbrev zeros : ℕ → List ℕ
 zeros n = replicate n 0
@@ -74,7 +74,7 @@ module _ (bytes : List ℕ) where
       ∙ append_assoc (take (number * 16) bytes) (next_row number) (zeros (length bytes - suc number * 16))
 
   -- a row that is written
-  written_row : (number : ℕ) → number * 16 + 16 ≤ length bytes → with_row (begun bytes (number * 16)) (row_at bytes number) ≡ begun bytes (suc number * 16)
+  written_row : (number : ℕ) → number * 16 + 16 ≤ length bytes → with_row (begun bytes (number * 16)) (memory_row_at bytes number) ≡ begun bytes (suc number * 16)
   written_row number le =
       let front = take (number * 16) bytes in
       let long : length front ≡ number * 16 = length-take-le (number * 16) bytes (omega (arith, le)) in
@@ -98,7 +98,7 @@ module _ (bytes : List ℕ) where
       ∙ ap (λ l. take (number * 16) bytes ++ (l ++ zeros left)) (sym (unfilled (next_row number) e ∙ ap zeros (row_length number le))) ∙ sym (more number le)
 
   rows_from : (count number : ℕ) → (number + count) * 16 ≡ length bytes
-      → fold with_row (begun bytes (number * 16)) (filter (λ row. is_filled row.bytes) (map (row_at bytes) (range_with_len number count))) ≡ bytes
+      → fold with_row (begun bytes (number * 16)) (filter (λ row. is_filled row.bytes) (map (memory_row_at bytes) (range_with_len number count))) ≡ bytes
   rows_from zero number e =
       let same : number * 16 ≡ length bytes = omega (arith, e) in
       let none : length bytes - number * 16 ≡ 0 = omega (arith, e) in
@@ -110,7 +110,7 @@ module _ (bytes : List ℕ) where
   rows_from (suc count) number e = by_row (is_filled (next_row number)) refl (rows_from count (number + 1) (omega (arith, e)))
     where
       rest : List MemRow
-      rest = filter (λ row. is_filled row.bytes) (map (row_at bytes) (range_with_len (number + 1) count))
+      rest = filter (λ row. is_filled row.bytes) (map (memory_row_at bytes) (range_with_len (number + 1) count))
 
       le : number * 16 + 16 ≤ length bytes
       le = omega (arith, e)
@@ -119,12 +119,12 @@ module _ (bytes : List ℕ) where
       one = omega arith
 
       by_row : (b : Bool) → is_filled (next_row number) ≡ b → fold with_row (begun bytes ((number + 1) * 16)) rest ≡ bytes
-          → fold with_row (begun bytes (number * 16)) (cond (is_filled (next_row number)) (row_at bytes number ∷ rest) rest) ≡ bytes
+          → fold with_row (begun bytes (number * 16)) (cond (is_filled (next_row number)) (memory_row_at bytes number ∷ rest) rest) ≡ bytes
       by_row true f h =
-          ap (λ b. fold with_row (begun bytes (number * 16)) (cond b (row_at bytes number ∷ rest) rest)) f
+          ap (λ b. fold with_row (begun bytes (number * 16)) (cond b (memory_row_at bytes number ∷ rest) rest)) f
           ∙ ap (λ l. fold with_row l rest) (written_row number le ∙ ap (begun bytes) one) ∙ h
       by_row false f h =
-          ap (λ b. fold with_row (begun bytes (number * 16)) (cond b (row_at bytes number ∷ rest) rest)) f
+          ap (λ b. fold with_row (begun bytes (number * 16)) (cond b (memory_row_at bytes number ∷ rest) rest)) f
           ∙ ap (λ l. fold with_row l rest) (zero_row number le f ∙ ap (begun bytes) one) ∙ h
 
 pub rows_make : (bytes : List ℕ) (pages : ℕ) → length bytes ≡ pages * 65536 → fold with_row (replicate (pages * 65536) 0) (rows_of bytes) ≡ bytes

@@ -7,8 +7,8 @@ use Rattle.bl_access.specs.Templates.{shift, test_of, jump_to}
 use Rattle.bl_emit.specs.Shapes.{Counts, Shape}
 use Rattle.bl_emit.specs.Constructs.{reads, top, pad, moves, whole, again, part, Target, inside, as_whole, mark_of, Point, point, behind}
 use Rattle.bl_emit.specs.Items.{after, template, leaving}
-use Rattle.bl_emit.specs.Low.{Body, done, step, leave, block, loop, choice, closed_size, Reached, on, off, next_in, closed, takes_of, size_in, low}
-use Rattle.bl_lower.proofs.Laid.{HasAt}
+use Rattle.bl_emit.specs.LoweredBodies.{Body, done, step, leave, block, loop, choice, closed_size, Reached, on, off, next_in, closed, takes_of, size_in, low}
+use Rattle.bl_lower.proofs.CodeLayout.{HasAt}
 
 -- ---- lists of pieces
 

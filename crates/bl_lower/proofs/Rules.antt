@@ -13,18 +13,17 @@ use Rattle.bl_cmd.specs.Rules.{Rule4, Rule5, Rule6, GoesTo, Reach, reach_of}
 use Rattle.bl_cmd.specs.declared.command.Command.{Command}
 use Rattle.bl_cmd.specs.declared.command.Command.TheVariants.{Set, Load, Store, Test, Jump, Arg, Call, Out, Ret, Trap}
 use Rattle.bl_cmd.proofs.Layouts.{holds_apart, held_by}
-use Rattle.bl_lower.specs.Trees.{low_tree, low_function, function_def}
+use Rattle.bl_lower.specs.Trees.{low_tree, low_function, function_def, step_bound}
 use Rattle.bl_emit.specs.Numbers.{shape, function_size}
-use Rattle.bl_lower.proofs.Finding.{Found, Bounds, bounds_of, found_same, found_other, found_at, find, starts_found, found_stands}
+use Rattle.bl_lower.proofs.PiecePositions.{Found, Bounds, bounds_of, found_same, found_other, found_at, find, starts_found, found_stands}
 use Rattle.bl_lower.proofs.FunctionRules.{function_pieces, function_whole, B, all_good}
-use Rattle.bl_lower.proofs.Goods.{Good}
-use Rattle.bl_lower.proofs.Laid.{HasAt}
-use Rattle.bl_lower.proofs.Lawful.{Lawful, Goes}
-use Rattle.bl_lower.proofs.Lowers.{has}
+use Rattle.bl_lower.proofs.PieceRules.{LawfulPiece}
+use Rattle.bl_lower.proofs.CodeLayout.{HasAt}
+use Rattle.bl_lower.proofs.LawfulCommands.{Lawful, Goes}
+use Rattle.bl_lower.proofs.BodyLayout.{has}
 use Rattle.bl_lower.proofs.TreeLayout.{entry_is}
 use Rattle.bl_lower.proofs.Pieces.{all_of, AllAt, EachAt, all_at_map, each_got}
-use Rattle.bl_lower.proofs.Placing.{shaped, stands_at, low_length, total_some}
-use Rattle.bl_lower.specs.Trees.{step_bound}
+use Rattle.bl_lower.proofs.FunctionPlaces.{shaped, stands_at, low_length, total_some}
 
 -- an access goes nowhere
 pub access_stays : (last : Command) (r : Reach) (y : ℕ) → reach_of last ≡ Some r → GoesTo last y → ⊥
@@ -52,8 +51,8 @@ module _ (tree : Tree) (linked : IsLinked tree) where
     abbrev pub Begin : ℕ → Type 0
     Begin = B tree linked number function exists is
 
-    goods : AllAt (Good tree linked number Begin) entry those
-    goods = all_good tree linked number function exists is
+    pieces_lawful : AllAt (LawfulPiece tree linked number Begin) entry those
+    pieces_lawful = all_good tree linked number function exists is
 
     pub whole_length : length (all_of those) ≡ function_size tree function
     whole_length = ap length (function_whole tree linked number function exists is) ∙ low_length tree number function exists
@@ -77,7 +76,7 @@ module _ (tree : Tree) (linked : IsLinked tree) where
       pub piece : List Command
       pub found : Found entry those x start piece
       pub bounds_ : Bounds entry those x start piece
-      pub good : Good tree linked number Begin start piece
+      pub good : LawfulPiece tree linked number Begin start piece
       pub stands : HasAt (low_tree tree).commands start piece
 
     pub place_at : (x : ℕ) → Holds (low_tree tree) number x → Place x
@@ -87,7 +86,7 @@ module _ (tree : Tree) (linked : IsLinked tree) where
           piece = f.1;
           found = f.2;
           bounds_ = bounds_of entry those x f.0 f.1 f.2;
-          good = found_at (Good tree linked number Begin) entry those x f.0 f.1 goods f.2;
+          good = found_at (LawfulPiece tree linked number Begin) entry those x f.0 f.1 pieces_lawful f.2;
           stands = found_stands (low_tree tree).commands entry those x f.0 f.1 stand f.2;
         }
 
@@ -100,7 +99,7 @@ module _ (tree : Tree) (linked : IsLinked tree) where
 
     -- where a command may go lies in the function
     starts_hold : (x : ℕ) → Begin x → (piece : List Command) × Found entry those x x piece
-    starts_hold x h = starts_found entry those x (all_at_map (Good tree linked number Begin) (λ start piece. 1 ≤ length piece) (λ start piece g. g.some) entry those goods) h
+    starts_hold x h = starts_found entry those x (all_at_map (LawfulPiece tree linked number Begin) (λ start piece. 1 ≤ length piece) (λ start piece g. g.some) entry those pieces_lawful) h
 
     goes_hold : (x : ℕ) (p : Place x) (t : ℕ) → Goes tree linked number Begin p.start (length p.piece) t → (t < 7) ⊎ Holds (low_tree tree) number t
     goes_hold x p t (inl small) = inl small

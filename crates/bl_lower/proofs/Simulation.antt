@@ -14,22 +14,22 @@ use Rattle.bl_cmd.specs.Steps.{Plain}
 use Rattle.bl_cmd.specs.declared.command.Command.TheVariants.{Trap}
 use Rattle.bl_cmd.specs.declared.command.Operand.{Operand}
 use Rattle.bl_cmd.specs.declared.command.Operand.TheVariants.{Const}
-use Rattle.bl_lower.proofs.Laid.{live, second_of, operands_of, Laid, Gives}
+use Rattle.bl_lower.proofs.CodeLayout.{live, second_of, operands_of, IsLaidOut, ItemAt}
 use Rattle.bl_lower.proofs.Machine.{Program}
-use Rattle.bl_lower.proofs.Matching.{Here, IsProgram, Matches}
+use Rattle.bl_lower.proofs.MatchStates.{Here, IsProgram, Matches}
 use Rattle.bl_emit.specs.Constructs.{mark_of, Target, point}
 use Rattle.bl_emit.specs.Items.{after}
-use Rattle.bl_lower.proofs.Accessing.{load_reaches, store_reaches, size_reaches, grow_reaches}
+use Rattle.bl_lower.proofs.MemorySteps.{load_reaches, store_reaches, size_reaches, grow_reaches}
 use Rattle.bl_lower.proofs.Blocks.{block_reaches, loop_reaches, if_reaches, end_reaches, else_reaches}
-use Rattle.bl_lower.proofs.Branching.{IsSmall, branch_reaches, branch_if_reaches, table_reaches}
-use Rattle.bl_lower.proofs.Calling.{call_reaches, enter_reaches}
+use Rattle.bl_lower.proofs.BranchSteps.{IsSmall, branch_reaches, branch_if_reaches, table_reaches}
+use Rattle.bl_lower.proofs.CallSteps.{call_reaches, enter_reaches}
 use Rattle.bl_lower.proofs.Frames.{Then, knowing}
-use Rattle.bl_lower.proofs.Indirect.{indirect_reaches}
-use Rattle.bl_lower.proofs.Stepping.{pushes, get_reaches, global_get_reaches, local_set_reaches, local_tee_reaches, global_set_reaches, jumps_on, drop_reaches, select_reaches}
-use Rattle.bl_lower.proofs.Operating.{operate_reaches}
-use Rattle.bl_lower.proofs.Returning.{return_reaches}
+use Rattle.bl_lower.proofs.IndirectCalls.{indirect_reaches}
+use Rattle.bl_lower.proofs.StraightLineItems.{pushes, get_reaches, global_get_reaches, local_set_reaches, local_tee_reaches, global_set_reaches, jumps_on, drop_reaches, select_reaches}
+use Rattle.bl_lower.proofs.OperatorSteps.{operate_reaches}
+use Rattle.bl_lower.proofs.ReturnSteps.{return_reaches}
 use Rattle.bl_lower.proofs.States.{states_are}
-use Rattle.bl_lower.proofs.Ways.{does, move_is}
+use Rattle.bl_lower.proofs.PlainRuns.{does, move_is}
 
 -- where the topmost value is tested, it is an i32
 abbrev pub Tested : List Instr → List ℕ → Type 0
@@ -49,14 +49,11 @@ Immediate (item ∷ rest) = HasImmediates item
 
 module _ (tree : Tree) (program : Program) (bound : ℕ) (is : IsProgram tree program bound) (some : 1 ≤ bound) where
   module _ (state : State) (s : Plain) (open_ones : List Target) (stack : List Operand) (next : ℕ) where
-    abbrev Laid_at : List Target → List Instr → Type 0
-    Laid_at opened items = Laid program bound state.frame.number opened (live (point s.position stack next)) items
-
     -- an item behind which the code goes on
     pub gives : (item : Instr) → Here program bound open_ones stack next state s → Tested (item ∷ state.frame.rest) state.frame.values → HasImmediates item → slice_get tree.functions state.frame.number ≡ Some state.frame.function
-        → Gives program bound state.frame.number open_ones item (point s.position stack next)
+        → ItemAt program bound state.frame.number open_ones item (point s.position stack next)
         → (after program.shape state.frame.number open_ones item (point s.position stack next)).next ≤ (program.shape state.frame.number).limit
-        → Laid program bound state.frame.number open_ones (live (after program.shape state.frame.number open_ones item (point s.position stack next))) state.frame.rest
+        → IsLaidOut program bound state.frame.number open_ones (live (after program.shape state.frame.number open_ones item (point s.position stack next))) state.frame.rest
         → Then tree program bound 0 (execute tree item state) s
     gives (I32Const n) h small near exists at_ limit laid has =
         pushes tree program bound is.layout open_ones next 0 (mark_of open_ones) stack state s _ (Const n) (Const 0) (Const 0) n h at_.0 (move_is n 0 0) (omega (arith, some)) (omega (arith, limit)) laid
@@ -83,7 +80,7 @@ module _ (tree : Tree) (program : Program) (bound : ℕ) (is : IsProgram tree pr
   -- the state behind an item
   item_reaches : (item : Instr) (open_ones : List Target) (stack : List Operand) (next : ℕ) (state : State) (s : Plain) → Here program bound open_ones stack next state s
       → Tested (item ∷ state.frame.rest) state.frame.values → HasImmediates item → slice_get tree.functions state.frame.number ≡ Some state.frame.function
-      → Laid program bound state.frame.number open_ones (live (point s.position stack next)) (item ∷ state.frame.rest) → Then tree program bound 0 (execute tree item state) s
+      → IsLaidOut program bound state.frame.number open_ones (live (point s.position stack next)) (item ∷ state.frame.rest) → Then tree program bound 0 (execute tree item state) s
   item_reaches (Block r) open_ones stack next state s h small near exists laid has =
       knowing tree program bound 0 (expanded (map function_type tree.types) r) s (λ type. enter_block type state.frame.rest state) (λ type got has.
       block_reaches tree program bound is.layout open_ones r type (is.blocks r type got) laid.0 stack next state s h laid.1.0 some laid.3 laid.4) has
@@ -106,7 +103,7 @@ module _ (tree : Tree) (program : Program) (bound : ℕ) (is : IsProgram tree pr
   item_reaches item open_ones stack next state s h small near exists laid has = gives state s open_ones stack next item h small near exists laid.0 laid.1 laid.2 has
 
   frame_reaches : (items : List Instr) (open_ones : List Target) (stack : List Operand) (next : ℕ) (state : State) (s : Plain) → Here program bound open_ones stack next state s
-      → Tested items state.frame.values → Immediate items → slice_get tree.functions state.frame.number ≡ Some state.frame.function → Laid program bound state.frame.number open_ones (live (point s.position stack next)) items → Then tree program bound 0 (frame_step tree items state) s
+      → Tested items state.frame.values → Immediate items → slice_get tree.functions state.frame.number ≡ Some state.frame.function → IsLaidOut program bound state.frame.number open_ones (live (point s.position stack next)) items → Then tree program bound 0 (frame_step tree items state) s
   frame_reaches [] open_ones stack next state s h small near exists laid has = return_reaches tree program bound is.layout 0 0 open_ones stack next state s h laid.1
   frame_reaches (item ∷ items) open_ones stack next state s h small near exists laid has = item_reaches item open_ones stack next (with_rest items state) s (behind_it h) small near exists laid has
     where

@@ -7,8 +7,8 @@ use Rattle.bl_reduce.specs.Configurations.{Store}
 use Rattle.bl_reduce.specs.TypedConfigurations.{IsMemoryState}
 use Rattle.bl_cmd.specs.Steps.{Registers, Plain}
 use Rattle.bl_lower.proofs.Machine.{Program, states_from, states, padded, space_of}
-use Rattle.bl_lower.proofs.Matching.{IsStore}
-use Rattle.bl_lower.proofs.Space.{padded_length}
+use Rattle.bl_lower.proofs.MatchStates.{IsStore}
+use Rattle.bl_lower.proofs.MemorySpace.{padded_length}
 
 pub take_front : {X : Type 0} (n : ℕ) (xs ys : List X) → length xs ≡ n → take n (xs ++ ys) ≡ xs
 take_front zero [] ys e = refl

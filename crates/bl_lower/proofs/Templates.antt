@@ -6,7 +6,7 @@ use Rattle.std.proofs.lemmas.List.{length-map}
 use Rattle.std.proofs.lemmas.Option.{none-some, slice_get-map, slice_get_within}
 use Rattle.bl_base.proofs.Lists.{within_get}
 use Rattle.bl_ops.specs.Access.{is_load, width_of}
-use Rattle.bl_ops.specs.Table.{row_of, row_operands}
+use Rattle.bl_ops.specs.OperatorTable.{row_of, row_operands}
 use Rattle.bl_ops.specs.declared.access.AccessKind.{AccessKind}
 use Rattle.bl_ops.specs.declared.op.Op.{Op}
 use Rattle.bl_ops.specs.declared.op.Op.TheVariants as op
@@ -25,20 +25,20 @@ use Rattle.bl_cmd.specs.declared.command.Command.TheVariants as command
 use Rattle.bl_cmd.specs.declared.command.Operand.{Operand}
 use Rattle.bl_cmd.specs.declared.command.Operand.TheVariants.{Var, Const}
 use Rattle.bl_access.specs.Templates.{shift, variable, load_of, jump_to, set as set_command, move, bounds, growth}
-use Rattle.bl_emit.specs.Shapes.{Counts, Slot, armed, vacant, strange, Shape, local, bottom, result_reads}
+use Rattle.bl_emit.specs.Shapes.{Counts, Slot, armed, uninitialized, mistyped, Shape, local, bottom, result_reads}
 use Rattle.bl_emit.specs.Constructs.{pad, moves, args, mark_of, Target}
 use Rattle.bl_emit.specs.Items.{Check, free, nonzero, quotient, check_of, check_size, check_new, checks, right, branch_size, branch_sizes, arms_from, arm_size, arms_size, hits_from, calls_in, to_label, arms, slot_arm, slot_arms}
-use Rattle.bl_emit.specs.Low.{takes_of}
+use Rattle.bl_emit.specs.LoweredBodies.{takes_of}
 use Rattle.bl_lower.specs.Trees.{low_tree, function_def, global_def, memory_def}
 use Rattle.bl_emit.specs.Numbers.{blocks, shape, statics, counts, counts_of, memory_in, reserve_in, locals_in, slot_by, slot_of, slots_in, slots_at}
 use Rattle.bl_lower.proofs.Frames.{is_local}
-use Rattle.bl_lower.proofs.Goods.{accesses, grows, Good, simple_good, readable, readables, AllReady, ready_get, branched_simple, AllInto}
-use Rattle.bl_lower.proofs.Leaving.{moves_length}
-use Rattle.bl_lower.proofs.Lawful.{mark_small, own, own_local, new_local, Readable, reads_const, reads_own, reads_static, result_readable, Goes, Lawful, Simple, Writes, no_size, set_simple, two_padded, one_padded, move_simple, test_simple, jump_simple, call_simple, moves_simple, args_simple}
-use Rattle.bl_lower.proofs.Lowers.{ArmsFit}
+use Rattle.bl_lower.proofs.PieceRules.{accesses, grows, LawfulPiece, simple_piece, readable, readables, AllReady, ready_get, branched_simple, AllInto}
+use Rattle.bl_lower.proofs.ConstructExits.{moves_length}
+use Rattle.bl_lower.proofs.LawfulCommands.{mark_small, own, own_local, new_local, Readable, reads_const, reads_own, reads_static, result_readable, Goes, Lawful, Simple, Writes, no_size, set_simple, two_padded, one_padded, move_simple, test_simple, jump_simple, call_simple, moves_simple, args_simple}
+use Rattle.bl_lower.proofs.BodyLayout.{ArmsFit}
 use Rattle.bl_lower.proofs.Pieces.{EachAt, each_both}
-use Rattle.bl_lower.proofs.Placing.{shaped, type_is, room_of}
-use Rattle.bl_lower.proofs.Ranged.{Ranged, AllRanged, ranged_pad}
+use Rattle.bl_lower.proofs.FunctionPlaces.{shaped, type_is, room_of}
+use Rattle.bl_lower.proofs.OperandRanges.{Ranged, AllRanged, ranged_pad}
 use Rattle.bl_lower.proofs.Sizes.{padded_length, args_length, reads_length, label_length, slot_arm_length}
 use Rattle.bl_emit.proofs.Operands.{right_one}
 
@@ -69,8 +69,8 @@ not_new low next x (Const c) le h e = absurd (cc e)
 abbrev pub ArmsExist : Tree → List Slot → Type 0
 ArmsExist tree [] = Unit {0}
 ArmsExist tree (armed f ∷ those) = (f < length (low_tree tree).functions) × ArmsExist tree those
-ArmsExist tree (vacant ∷ those) = ArmsExist tree those
-ArmsExist tree (strange ∷ those) = ArmsExist tree those
+ArmsExist tree (uninitialized ∷ those) = ArmsExist tree those
+ArmsExist tree (mistyped ∷ those) = ArmsExist tree those
 
 module _ (tree : Tree) where
   arm_exists : (type : Signature) (f : ℕ) (those : List Slot) (o : Option Signature) → type_of tree f ≡ o → ArmsExist tree those → ArmsExist tree (slot_by type f o ∷ those)
@@ -81,7 +81,7 @@ module _ (tree : Tree) where
       found None g i = absurd (none-some own i)
       found (Some function) g i = omega (arith, slice_get_within tree.functions f function g, length-map tree.functions (function_def tree))
 
-      by_test : (b : Bool) → ArmsExist tree ((if b then armed f else strange) ∷ those)
+      by_test : (b : Bool) → ArmsExist tree ((if b then armed f else mistyped) ∷ those)
       by_test false = h
       by_test true = (found (slice_get tree.functions f) refl e, h)
 
@@ -109,8 +109,8 @@ module _ (tree : Tree) (linked : IsLinked tree) (number : ℕ) (B : ℕ → Type
   abbrev Ops : ℕ → List Operand → Type 0
   Ops next stack = AllRanged (bottom Mine) next stack
 
-  abbrev GoodAt : ℕ → List Command → Type 0
-  GoodAt start commands = Good tree linked number B start commands
+  abbrev LawfulPieceAt : ℕ → List Command → Type 0
+  LawfulPieceAt start commands = LawfulPiece tree linked number B start commands
 
   -- ---- positions of a piece
 
@@ -256,16 +256,16 @@ module _ (tree : Tree) (linked : IsLinked tree) (number : ℕ) (B : ℕ → Type
     hits_into position [] low high = tt
     hits_into position (armed f ∷ those) low high =
         (goes position low (omega (arith, high)), hits_into (position + arm_size (calls_in (shape tree) number) (armed f)) those (omega (arith, low)) (omega (arith, high)))
-    hits_into position (vacant ∷ those) low high = (inl (omega arith), hits_into (position + 0) those (omega (arith, low)) (omega (arith, high)))
-    hits_into position (strange ∷ those) low high = (inl (omega arith), hits_into (position + 0) those (omega (arith, low)) (omega (arith, high)))
+    hits_into position (uninitialized ∷ those) low high = (inl (omega arith), hits_into (position + 0) those (omega (arith, low)) (omega (arith, high)))
+    hits_into position (mistyped ∷ those) low high = (inl (omega arith), hits_into (position + 0) those (omega (arith, low)) (omega (arith, high)))
 
     pub slots_simple : (position depth first behind_it next : ℕ) (wants : Counts) (stack : List Operand) (those : List Slot) → depth ≤ 6 → start ≤ position → position + arms_size (calls_in (shape tree) number) those ≤ suc stop
         → ArmsExist tree those → ArmsFit (shaped tree) wants those → bottom Mine ≤ first → first + wants.results ≤ Mine.limit → next ≤ Mine.limit → Ops next stack
         → Goes tree linked number B start size behind_it → SimpleAt position (slot_arms (shape tree) number depth stack first behind_it those)
     slots_simple position depth first behind_it next wants stack [] small low high there fit above most le ranged into = tt
-    slots_simple position depth first behind_it next wants stack (vacant ∷ those) small low high there fit above most le ranged into =
+    slots_simple position depth first behind_it next wants stack (uninitialized ∷ those) small low high there fit above most le ranged into =
         slots_simple position depth first behind_it next wants stack those small low (omega (arith, high)) there fit above most le ranged into
-    slots_simple position depth first behind_it next wants stack (strange ∷ those) small low high there fit above most le ranged into =
+    slots_simple position depth first behind_it next wants stack (mistyped ∷ those) small low high there fit above most le ranged into =
         slots_simple position depth first behind_it next wants stack those small low (omega (arith, high)) there fit above most le ranged into
     slots_simple position depth first behind_it next wants stack (armed f ∷ those) small low high there fit above most le ranged into =
         let arm = slot_arm (shape tree) number depth stack first behind_it (armed f) in
@@ -277,17 +277,17 @@ module _ (tree : Tree) (linked : IsLinked tree) (number : ℕ) (B : ℕ → Type
 
   -- ---- pieces
 
-  pub one_good : (start : ℕ) (c_ : Command) → Simple tree linked number B start 1 start c_ → GoodAt start (c_ ∷ [])
-  one_good start c_ s = simple_good tree linked number B start (c_ ∷ []) (omega arith) (s, tt)
+  pub one_good : (start : ℕ) (c_ : Command) → Simple tree linked number B start 1 start c_ → LawfulPieceAt start (c_ ∷ [])
+  one_good start c_ s = simple_piece tree linked number B start (c_ ∷ []) (omega arith) (s, tt)
 
   -- a move to a new variable, or to one that is written
-  pub move_good : (start depth x : ℕ) (a : Operand) → depth ≤ 6 → Readable tree linked number B a → Writes tree linked number B x → B (suc start) → GoodAt start (move depth x a ∷ [])
+  pub move_good : (start depth x : ℕ) (a : Operand) → depth ≤ 6 → Readable tree linked number B a → Writes tree linked number B x → B (suc start) → LawfulPieceAt start (move depth x a ∷ [])
   move_good start depth x a small ra writes ends = one_good start (move depth x a) (move_simple tree linked number B start 1 start depth x a small ra writes (inr (inl ends)))
 
   -- the test of an access, and the access
   guarded_good : (start depth t reach : ℕ) (address : Operand) (last : Command) → depth ≤ 6 → 1 ≤ c.memories → bottom Mine ≤ t → t < Mine.limit → Ranged (bottom Mine) t address
       → reach_of last ≡ Some (record { address = address; memory = Mine.memory; bytes = reach }) → Rule8 (low_tree tree) number (suc (suc start)) last
-      → Lawful tree linked number B start 3 (suc (suc start)) last → GoodAt start (bounds Mine.size address reach t start depth ++ last ∷ [])
+      → Lawful tree linked number B start 3 (suc (suc start)) last → LawfulPieceAt start (bounds Mine.size address reach t start depth ++ last ∷ [])
   guarded_good start depth t reach address last small some low high ranged reaches quiet_ lawful = record {
     each = (
       (set_simple tree linked number B start 3 start depth op.Outside t address (variable Mine.size) (Const reach) small ((λ lt. absurd (omega (arith, lt))), (λ lt. absurd (omega (arith, lt))))
@@ -317,7 +317,7 @@ module _ (tree : Tree) (linked : IsLinked tree) (number : ℕ) (B : ℕ → Type
   }
 
   pub load_good : (start depth t offset : ℕ) (kind : AccessKind) (address : Operand) → depth ≤ 6 → IsTrue (is_load kind) → 1 ≤ c.memories → offset < 2 ^ 32 → bottom Mine ≤ t → suc t < Mine.limit → Ranged (bottom Mine) t address
-      → B (suc (suc (suc start))) → GoodAt start (bounds Mine.size address (offset + width_of kind) t start depth ++ load_of depth kind Mine.memory (suc t) offset address ∷ [])
+      → B (suc (suc (suc start))) → LawfulPieceAt start (bounds Mine.size address (offset + width_of kind) t start depth ++ load_of depth kind Mine.memory (suc t) offset address ∷ [])
   load_good start depth t offset kind address small loads some fits low high ranged ends =
       let writes : Writes tree linked number B (suc t) = inl (new_local tree linked number B (suc t) (omega (arith, low)) high) in
       guarded_good start depth t (offset + width_of kind) address (load_of depth kind Mine.memory (suc t) offset address) small some low (omega (arith, high)) ranged refl
@@ -331,7 +331,7 @@ module _ (tree : Tree) (linked : IsLinked tree) (number : ℕ) (B : ℕ → Type
       })
 
   pub store_good : (start depth t offset : ℕ) (kind : AccessKind) (address value : Operand) → depth ≤ 6 → IsFalse (is_load kind) → 1 ≤ c.memories → offset < 2 ^ 32 → bottom Mine ≤ t → t < Mine.limit → Ranged (bottom Mine) t address
-      → Ranged (bottom Mine) t value → B (suc (suc (suc start))) → GoodAt start (bounds Mine.size address (offset + width_of kind) t start depth ++ command.Store kind Mine.memory offset address value ∷ [])
+      → Ranged (bottom Mine) t value → B (suc (suc (suc start))) → LawfulPieceAt start (bounds Mine.size address (offset + width_of kind) t start depth ++ command.Store kind Mine.memory offset address value ∷ [])
   store_good start depth t offset kind address value small stores some fits low high ranged valued ends =
       guarded_good start depth t (offset + width_of kind) address (command.Store kind Mine.memory offset address value) small some low high ranged refl tt
       (record {
@@ -346,7 +346,7 @@ module _ (tree : Tree) (linked : IsLinked tree) (number : ℕ) (B : ℕ → Type
       })
 
   pub grow_good : (start depth next : ℕ) (delta : Operand) → depth ≤ 6 → 1 ≤ c.memories → bottom Mine ≤ next → suc (suc next) < Mine.limit → Ranged (bottom Mine) next delta → B (shift 7 start)
-      → GoodAt start (growth Mine.size Mine.reserve delta next (shift 1 next) (shift 2 next) start depth)
+      → LawfulPieceAt start (growth Mine.size Mine.reserve delta next (shift 1 next) (shift 2 next) start depth)
   grow_good start depth next delta small some low high ranged ends = record {
     each = (
       (inner_set start op.I32Sub next (Const Mine.reserve) (variable Mine.size) (two_padded tree linked number B start 7 op.I32Sub (variable Mine.size) refl) (reads_const tree linked number B Mine.reserve) size_read (new next (omega arith) (omega (arith, high))) (omega arith) (omega arith)).lawful,

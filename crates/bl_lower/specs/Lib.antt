@@ -1,8 +1,8 @@
-pub mod Counting
-pub mod Emitting
+pub mod FirstPass
+pub mod SecondPass
 pub mod Lowering
 pub mod Outlines
-pub mod Rooms
+pub mod NumberBounds
 pub mod Tables
 pub mod Trees
-pub mod Working
+pub mod CodeStates

@@ -1,7 +1,7 @@
 //! The parts of a program that are copied from the linked tree.
 ghost use Rattle.std.specs.Prelude.{◌≡◌, ◌+◌, ◌*◌, ◌<◌, ◌≤◌, ◌^◌, ◌++◌, [], map, drop, take, length, IfOk, OnOk};
 ghost use Rattle.std.specs.List.{All, filter, range_with_len, zip};
-ghost use Rattle.bl_lower.specs.Trees.{demanded_from, demanded_results, export_def as export_of, function_def as function_of, global_def as global_of, is_filled as filled_of, memory_def as memory_of, param_def as param_of, row_at, rows_of};
+ghost use Rattle.bl_lower.specs.Trees.{demanded_from, demanded_results, export_def as export_of, function_def as function_of, global_def as global_of, is_filled as filled_of, memory_def as memory_of, param_def as param_of, memory_row_at, rows_of};
 ghost use Rattle.bl_emit.specs.Numbers.{function_size, function_variables};
 ghost use Rattle.bl_cmd.specs.declared.definitions.Demand.TheVariants as demand;
 
@@ -98,21 +98,18 @@ pub(crate) fn function_def(
     })
 }
 
-/// The exports as a program has them.
-pub(crate) fn export_defs(alloc: Global, exports: &Exports) -> Result<List<ExportDef>, NoMemory>
-    ensures { IfOk result (λ all. all ≡ map export_of exports.now) }
+/// The exports as a program has them; their names are moved.
+pub(crate) fn export_defs(alloc: Global, exports: Exports) -> Result<List<ExportDef>, NoMemory>
+    ensures { IfOk result (λ all. all ≡ map export_of exports) }
 {
-    let mut all = List::new(alloc);
-    for index in 0..exports.len() {
-        let (Some(name), Some(function)) = (exports.name(index), exports.function(index)) else {
-            unreachable!()
-        };
-        all.push(ExportDef {
-            name: Text::copy_of(alloc, name)?,
+    let all = exports
+        .into_pairs()
+        .map(|(name, function)| ExportDef {
+            name: Text::of(name),
             function,
-        })?;
-    }
-    Ok(all)
+        })
+        .collect(alloc)?;
+    Ok(List::of(all))
 }
 
 /// Whether one of the bytes isn't 0.
@@ -130,7 +127,7 @@ fn is_filled(bytes: &[u8]) -> bool
 /// The row of that number of a memory's bytes.
 fn row(bytes: &[u8], number: u32) -> MemRow
     requires { number * 16 + 16 ≤ length bytes.now }
-    ensures { result ≡ row_at bytes.now number }
+    ensures { result ≡ memory_row_at bytes.now number }
 {
     let Some(sixteen) = bytes[number as usize * 16..].first_chunk::<16>() else {
         unreachable!()

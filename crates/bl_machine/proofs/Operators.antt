@@ -1,6 +1,6 @@
 -- Every operator has one operand or two.
 use Rattle.std.proofs.Common.{◌≡◌, ℕ, ◌≤◌, ◌⊎◌, inl, inr, length, take, drop, Option, Some, None, refl, sym, subst, arith}
-use Rattle.bl_ops.specs.Table.{row_of, row_operands}
+use Rattle.bl_ops.specs.OperatorTable.{row_of, row_operands}
 use Rattle.bl_ops.specs.declared.op.Op.{Op}
 use Rattle.bl_ops.specs.declared.op.Op.TheVariants.{I32Eqz, I64Eqz, I32Clz, I32Ctz, I32Popcnt, I64Clz, I64Ctz, I64Popcnt, I32WrapI64, I64ExtendI32S, I64ExtendI32U, I32Extend8S, I32Extend16S, I64Extend8S, I64Extend16S, I64Extend32S, Move, Select, Outside}
 use Rattle.bl_ops.specs.declared.op.OpRow.{OpRow}
@@ -10,7 +10,7 @@ use Rattle.bl_reduce.specs.Numeric.{apply, operate}
 use Rattle.bl_machine.specs.MatchStates.{IsState, simulates}
 use Rattle.bl_machine.specs.Transitions.{operated_on, operated}
 use Rattle.bl_machine.specs.declared.machine.Machine.{Machine}
-use Rattle.bl_machine.proofs.Values.{Then, one_operand, two_operands}
+use Rattle.bl_machine.proofs.StraightLineSimulation.{Then, one_operand, two_operands}
 
 abbrev OneOrTwo : Option OpRow → Type 0
 OneOrTwo None = Unit {0}

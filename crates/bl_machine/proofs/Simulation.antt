@@ -29,15 +29,15 @@ use Rattle.bl_machine.specs.declared.jumps.Jump.{Jump}
 use Rattle.bl_machine.specs.declared.machine.Machine.{Machine}
 use Rattle.bl_machine.specs.declared.machine.Progress.{Progress}
 use Rattle.bl_machine.specs.declared.machine.Progress.TheVariants.{Running, Entering}
-use Rattle.bl_machine.proofs.Blocks.{HasCounts, block_simulates, loop_simulates, if_simulates, else_simulates, end_simulates}
-use Rattle.bl_machine.proofs.Calling.{bodies, body_got, enter_simulates, call_simulates}
-use Rattle.bl_machine.proofs.Landing.{IsJump, behind, item_there, none_there, jump_there, counts_there}
-use Rattle.bl_machine.proofs.Memories.{load_simulates, store_simulates, size_simulates, grow_simulates}
-use Rattle.bl_machine.proofs.Leaving.{branch_simulates, branch_if_simulates, branch_by_simulates, return_simulates}
+use Rattle.bl_machine.proofs.BlockSimulation.{HasCounts, block_simulates, loop_simulates, if_simulates, else_simulates, end_simulates}
+use Rattle.bl_machine.proofs.CallSimulation.{bodies, body_got, enter_simulates, call_simulates}
+use Rattle.bl_machine.proofs.ConstructEnds.{IsJump, behind, item_there, none_there, jump_there, counts_there}
+use Rattle.bl_machine.proofs.MemorySimulation.{load_simulates, store_simulates, size_simulates, grow_simulates}
+use Rattle.bl_machine.proofs.BranchSimulation.{branch_simulates, branch_if_simulates, branch_by_simulates, return_simulates}
 use Rattle.bl_machine.proofs.Operators.{operate_simulates}
-use Rattle.bl_machine.proofs.Typed.{Typed, enough, enough_below, counts_are, wanted_are_there, returns_are_there, branches_are_there, operands_are_there, operator_operands}
-use Rattle.bl_machine.proofs.Tables.{call_indirect_simulates}
-use Rattle.bl_machine.proofs.Values.{Then, push_simulates, drop_simulates, select_simulates, local_get_simulates, local_set_simulates, local_tee_simulates, global_get_simulates, global_set_simulates}
+use Rattle.bl_machine.proofs.TypedOperands.{Typed, enough, enough_below, counts_are, wanted_are_there, returns_are_there, branches_are_there, operands_are_there, operator_operands}
+use Rattle.bl_machine.proofs.IndirectCallSimulation.{call_indirect_simulates}
+use Rattle.bl_machine.proofs.StraightLineSimulation.{Then, push_simulates, drop_simulates, select_simulates, local_get_simulates, local_set_simulates, local_tee_simulates, global_get_simulates, global_set_simulates}
 
 -- a state at an item, behind which it stands, with what its typing says
 record Stands (tree : Tree) (type : Signature) (open_ones : List Open) (from : List WasmType) (item : Instr) (place : ℕ) (jump : Jump) (m : Machine) (state : State) : Type 0 where

@@ -1,5 +1,5 @@
 pub mod Bodies
-pub mod Interpreting
+pub mod InterpreterAnswers
 pub mod Jumps
 pub mod Machines
 pub mod MatchStates

@@ -13,13 +13,13 @@ use Rattle.bl_machine.specs.declared.machine.Progress.TheVariants.{Running, Ente
 use Rattle.bl_machine.specs.Machines.{Stepped}
 
 -- what lies on the stacks up to some function
-pub record Pile : Type 0 where
+pub record Stacks : Type 0 where
   pub values : List ℕ
   pub locals : List ℕ
   pub labels : List Exit
 
-abbrev pub pile_of : Machine → Pile
-pile_of m = record { values = m.stack; locals = m.locals; labels = m.labels }
+abbrev pub stacks_of : Machine → Stacks
+stacks_of m = record { values = m.stack; locals = m.locals; labels = m.labels }
 
 -- the values of a function below its innermost label, topmost first
 abbrev pub under : List ControlLabel → List ℕ
@@ -43,7 +43,7 @@ AreExits body base (label ∷ labels) (exit ∷ exits) = IsExit body base label 
 AreExits body base labels exits = ⊥
 
 -- a function that was entered, whose parts lie on those of its callers
-pub record IsActivation (tree : Tree) (frame : Frame) (a : Activation) (lower upper : Pile) : Type 0 where
+pub record IsActivation (tree : Tree) (frame : Frame) (a : Activation) (lower upper : Stacks) : Type 0 where
   pub exists : slice_get tree.functions frame.number ≡ Some frame.function
   pub number : a.function ≡ frame.number
   pub place : frame.rest ≡ drop a.place frame.function.code.items
@@ -58,31 +58,31 @@ pub record IsActivation (tree : Tree) (frame : Frame) (a : Activation) (lower up
   pub labels_below : a.labels ≡ length lower.labels
 
 -- nothing lies there
-pub record IsBare (pile : Pile) : Type 0 where
-  pub values : pile.values ≡ []
-  pub locals : pile.locals ≡ []
-  pub labels : pile.labels ≡ []
+pub record IsBare (base_stacks : Stacks) : Type 0 where
+  pub values : base_stacks.values ≡ []
+  pub locals : base_stacks.locals ≡ []
+  pub labels : base_stacks.labels ≡ []
 
 -- the callers, innermost first
-abbrev pub AreActivations : Tree → List Frame → List Activation → Pile → Type 0
+abbrev pub AreActivations : Tree → List Frame → List Activation → Stacks → Type 0
 AreActivations tree [] [] upper = IsBare upper
 AreActivations tree (frame ∷ frames) (a ∷ others) upper =
-    (lower : Pile) × IsActivation tree frame a lower upper × AreActivations tree frames others lower
+    (lower : Stacks) × IsActivation tree frame a lower upper × AreActivations tree frames others lower
 AreActivations tree frames others upper = ⊥
 
 -- a function executes
 pub record IsState (tree : Tree) (m : Machine) (state : State) : Type 0 where
   pub memories : m.memories ≡ state.store.memories
   pub globals : m.globals ≡ state.store.globals
-  pub lower : Pile
-  pub current : IsActivation tree state.frame m.current lower (pile_of m)
+  pub lower : Stacks
+  pub current : IsActivation tree state.frame m.current lower (stacks_of m)
   pub callers : AreActivations tree state.callers (reverse m.callers) lower
 
 -- a function is about to be entered, whose arguments are the topmost locals
 pub record IsEntry (tree : Tree) (m : Machine) (store : Store) (arguments : List ℕ) (callers : List Frame) : Type 0 where
   pub memories : m.memories ≡ store.memories
   pub globals : m.globals ≡ store.globals
-  pub lower : Pile
+  pub lower : Stacks
   pub values : m.stack ≡ lower.values
   pub locals : m.locals ≡ lower.locals ++ arguments
   pub labels : m.labels ≡ lower.labels

@@ -2,12 +2,12 @@
 ghost use Rattle.std.specs.Prelude.{◌≡◌, IfOk, length, map};
 ghost use Rattle.std.specs.List.{All};
 ghost use Rattle.bl_base.specs.Fits.{PatchFits};
-ghost use Rattle.bl_base.specs.Runs.{Tells, memory_of, outcome_of};
+ghost use Rattle.bl_base.specs.Runs.{AnswersRun, memory_of, outcome_of};
 ghost use Rattle.bl_wasm.specs.Linked.{IsLinked};
 ghost use Rattle.bl_reduce.specs.Outcomes.{IsStart, first_store, source};
 ghost use Rattle.bl_machine.specs.Bodies.{prepared_of};
-ghost use Rattle.bl_machine.specs.Interpreting.{Drives, TellsMemories, has_ended, starting, told};
-ghost use Rattle.bl_machine.specs.Machines.{Gives};
+ghost use Rattle.bl_machine.specs.InterpreterAnswers.{Drives, TellsMemories, has_ended, starting, machine_outcome};
+ghost use Rattle.bl_machine.specs.Machines.{BecomesIfOk};
 ghost use Rattle.bl_machine.specs.Transitions.{advanced};
 
 use crate::body::{Prepared, prepare};
@@ -30,7 +30,7 @@ pub fn interp(
     steps: u64,
 ) -> Result<Run, NoMemory>
     requires start { IsStart tree.now function start.now }
-    ensures answers { IfOk result (λ run. Tells (source tree.now function start.now) steps run) }
+    ensures answers { IfOk result (λ run. AnswersRun (source tree.now function start.now) steps run) }
     ensures memories { IfOk result (λ run. TellsMemories (length tree.now.memories) run) }
 {
     let tree = tree.tree();
@@ -114,7 +114,7 @@ pub fn advance(
     prepared: &Prepared,
     progress: Progress,
 ) -> Result<Progress, NoMemory>
-    ensures { Gives result machine.new (advanced tree.now prepared.now progress machine.old) }
+    ensures { BecomesIfOk result machine.new (advanced tree.now prepared.now progress machine.old) }
 {
     match progress {
         Progress::Running => step_in(machine, tree, prepared),
@@ -132,7 +132,7 @@ pub fn ended(progress: Progress) -> bool
 
 /// The outcome of a machine that has come so far.
 fn finish(alloc: Global, machine: Machine, progress: Progress) -> Result<Run, NoMemory>
-    ensures { IfOk result (λ run. outcome_of run ≡ told progress machine) }
+    ensures { IfOk result (λ run. outcome_of run ≡ machine_outcome progress machine) }
 {
     match progress {
         Progress::Returned => Ok(Run::Returned {

@@ -1,6 +1,6 @@
 //! The machine: one stack for each kind of thing, whose parts belong to the functions that have been entered.
 ghost use Rattle.std.specs.Prelude.{◌≡◌, OnOk, length, nat_lt};
-ghost use Rattle.bl_machine.specs.Machines.{Becomes, Gives, at_place, called, closed, entered, give, global_at, grown, label_at, load_from, local_at, memory_at, most_callers, opened, popped, push, resumed, returned, running, store_to, to_label, top, with_global, with_local};
+ghost use Rattle.bl_machine.specs.Machines.{Becomes, BecomesIfOk, at_place, called, closed, entered, give, global_at, grown, label_at, load_from, local_at, memory_at, most_callers, opened, popped, push, resumed, returned, running, store_to, to_label, top, with_global, with_local};
 
 use crate::body::Body;
 use crate::stack::Stack;
@@ -96,7 +96,7 @@ impl Machine {
 
     /// Puts a value on the stack.
     pub fn push(&mut self, value: u64) -> Result<Progress, NoMemory>
-        ensures { Gives result self.new (push value self.old) }
+        ensures { BecomesIfOk result self.new (push value self.old) }
     {
         self.stack.push(value)?;
         Ok(Progress::Running)
@@ -104,7 +104,7 @@ impl Machine {
 
     /// Traps where there is a trap, else puts the value on the stack.
     pub fn give(&mut self, trap: Option<Trap>, value: u64) -> Result<Progress, NoMemory>
-        ensures { Gives result self.new (give trap value self.old) }
+        ensures { BecomesIfOk result self.new (give trap value self.old) }
     {
         match trap {
             Some(kind) => Ok(Progress::Trapped(kind)),
@@ -159,7 +159,7 @@ impl Machine {
         offset: u32,
         number: usize,
     ) -> Result<Progress, NoMemory>
-        ensures { Gives result self.new (load_from kind offset number self.old) }
+        ensures { BecomesIfOk result self.new (load_from kind offset number self.old) }
     {
         let address = self.pop();
         if !self
@@ -193,7 +193,7 @@ impl Machine {
 
     /// Grows a memory of that reserve by so many pages, where they are within it.
     pub fn grow(&mut self, reserve: u32, delta: u64, number: usize) -> Result<Progress, NoMemory>
-        ensures { Gives result self.new (grown reserve delta number self.old) }
+        ensures { BecomesIfOk result self.new (grown reserve delta number self.old) }
     {
         let pages = self.pages(number);
         if pages > reserve || delta > u64::from(reserve - pages) {
@@ -291,7 +291,7 @@ impl Machine {
 
     /// Begins a call of the function of that number, which takes so many arguments.
     pub fn call(&mut self, number: u32, params: usize) -> Result<Progress, NoMemory>
-        ensures { Gives result self.new (called number params self.old) }
+        ensures { BecomesIfOk result self.new (called number params self.old) }
     {
         let first = self.stack.len().saturating_sub(params);
         self.locals.push_all(self.stack.from(first))?;
@@ -302,7 +302,7 @@ impl Machine {
 
     /// Enters the function of that number, whose arguments are the topmost locals.
     pub fn enter(&mut self, number: u32, body: &Body) -> Result<Progress, NoMemory>
-        ensures { Gives result self.new (entered number body.now self.old) }
+        ensures { BecomesIfOk result self.new (entered number body.now self.old) }
     {
         let locals = self.locals.len().saturating_sub(body.counts.params);
         for _ in 0..body.declared_locals {

@@ -1,2 +1,2 @@
-pub mod Patching
+pub mod PatchLemmas
 pub mod Writes

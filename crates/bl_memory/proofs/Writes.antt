@@ -55,6 +55,3 @@ over_length from new bytes le =
     let whole = length-append (take from bytes ++ new) (drop (from + length new) bytes) in
     let halves = length-append (take from bytes) new in
     omega (arith, le, front, back, whole, halves)
-
-pub number_length : (from width number : ℕ) (bytes : List ℕ) → from + width ≤ length bytes → length (over from (bytes_of width number) bytes) ≡ length bytes
-number_length from width number bytes le = over_length from (bytes_of width number) bytes (omega (arith, le, length-bytes_of width number))

@@ -5,7 +5,7 @@ use Rattle.std.proofs.lemmas.Bool.{false≢true}
 use Rattle.std.proofs.lemmas.Bool.Decides.{Decides-eqb}
 use Rattle.std.proofs.lemmas.Option.{same_Some}
 use Rattle.bl_ops.specs.Access.{access_code as access_code_of, access_kind, kinds}
-use Rattle.bl_ops.specs.Table.{operator_code, image_code_of, image_operator_of, operator_of, operators}
+use Rattle.bl_ops.specs.OperatorTable.{operator_code, image_code_of, image_operator_of, operator_of, operators}
 use Rattle.bl_ops.specs.declared.access.AccessKind.{AccessKind}
 use Rattle.bl_ops.specs.declared.op.Op.{Op}
 use Rattle.bl_ops.specs.declared.op.Op.TheVariants.{Move, Select, Outside}

@@ -6,7 +6,7 @@ use Rattle.bl_ops.specs.Numerics.{meaning}
 use Rattle.bl_ops.specs.Access.{access_type, width_of, extended, narrowed}
 use Rattle.bl_ops.specs.declared.access.AccessKind.{AccessKind}
 use Rattle.bl_ops.specs.declared.access.AccessKind.TheVariants.{I32Load}
-use Rattle.bl_ops.specs.Table.{row_of}
+use Rattle.bl_ops.specs.OperatorTable.{row_of}
 use Rattle.bl_ops.specs.declared.op.Op.{Op}
 use Rattle.bl_ops.specs.declared.op.Op.TheVariants.{Move, Select, Outside}
 use Rattle.std.proofs.lemmas.Nat.{and_le_l, or_lt, xor_lt, ones-le, leading_le, trailing_le, pow_below, shr_le, shr_below}

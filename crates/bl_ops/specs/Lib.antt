@@ -2,4 +2,4 @@ pub mod Access
 pub mod GroupMeanings
 pub mod Integer
 pub mod Numerics
-pub mod Table
+pub mod OperatorTable

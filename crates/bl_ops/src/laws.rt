@@ -3,7 +3,7 @@ ghost use Rattle.std.specs.Prelude.{◌≡◌, ℕ, ◌*◌, ◌^◌, ◌<◌, I
 ghost use Rattle.bl_base.specs.Fits.{ArgumentFits};
 ghost use Rattle.bl_ops.specs.Access.{access_code as access_code_of, extended, access_kind, narrowed, access_type, width_of};
 ghost use Rattle.bl_ops.specs.Numerics.{meaning};
-ghost use Rattle.bl_ops.specs.Table.{operator_code, image_code_of, image_operator_of, operator_of, rise, row_of, rows};
+ghost use Rattle.bl_ops.specs.OperatorTable.{operator_code, image_code_of, image_operator_of, operator_of, rise, row_of, rows};
 
 use crate::access::AccessKind;
 use crate::op::Op;

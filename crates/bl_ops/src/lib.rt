@@ -5,8 +5,10 @@ mod access;
 mod group;
 pub mod laws;
 mod op;
-mod rows;
+mod operator_table;
 
 pub use access::{AccessKind, extend, narrow};
 pub use op::{Op, OpRow, OpTable};
-pub use rows::{by_code, by_image_code, eval, image_code, row, row_operands, table, trap_of};
+pub use operator_table::{
+    by_code, by_image_code, eval, image_code, row, row_operands, table, trap_of,
+};

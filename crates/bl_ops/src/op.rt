@@ -1,6 +1,6 @@
 //! Operators, their rows and the table of rows.
 ghost use Rattle.std.specs.Prelude.{◌≡◌, IsTrue, map};
-ghost use Rattle.bl_ops.specs.Table.{rise};
+ghost use Rattle.bl_ops.specs.OperatorTable.{rise};
 
 use bl_base::ValueType;
 use std::marker::Model;
@@ -171,7 +171,7 @@ pub struct OpTable<const N: usize> {
 
 impl<const N: usize> Model for OpTable<N> {
     ghost use Rattle.std.specs.Prelude.{IsTrue, List, map};
-    ghost use Rattle.bl_ops.specs.Table.{rise};
+    ghost use Rattle.bl_ops.specs.OperatorTable.{rise};
     ghost use Rattle.bl_ops.specs.declared.op.OpRow.{OpRow};
 
     ghost Value = { List OpRow };

@@ -1,2 +1,2 @@
 pub mod MemoryTexts
-mod OutcomeRows
+mod WorkedOutcomes

@@ -31,15 +31,15 @@ abbrev pub bytes_at : List ℕ → ℕ → ℕ → List ℕ
 bytes_at bytes from count = map (λ place. slice_index bytes place) (range_with_len from count)
 
 -- the row of 16 bytes from that place on
-abbrev pub row_at : List ℕ → ℕ → List ℕ
-row_at bytes offset = bytes_at bytes offset 16
+abbrev pub row_bytes : List ℕ → ℕ → List ℕ
+row_bytes bytes offset = bytes_at bytes offset 16
 
 -- the line of a row, where it differs from the initial contents
 abbrev pub row_text : ℕ → List ℕ → List ℕ → ℕ → List ℕ
 row_text number before bytes offset =
-    if bytes_eq (row_at before offset) (row_at bytes offset)
+    if bytes_eq (row_bytes before offset) (row_bytes bytes offset)
     then []
-    else line (codes "row " ++ decimal number ++ codes " " ++ decimal offset ++ codes " " ++ flat_map hex_text (row_at bytes offset))
+    else line (codes "row " ++ decimal number ++ codes " " ++ decimal offset ++ codes " " ++ flat_map hex_text (row_bytes bytes offset))
 
 -- the rows of a memory that differ, rising
 abbrev pub rows_text : ℕ → List ℕ → List ℕ → List ℕ

@@ -3,7 +3,7 @@ use Rattle.std.specs.Prelude.{ℕ, ◌-◌, List, length, min, Option, None, Som
 
 -- the bytes taken, the most bytes in all and the most at a push where these are limited, the room that is left for more, and
 -- the count of faults
-pub record Held : Type 0 where
+pub record SinkState : Type 0 where
   pub taken : List ℕ
   pub limit : Option ℕ
   pub most : Option ℕ
@@ -21,5 +21,5 @@ at_once None count = count
 at_once (Some most) count = min count most
 
 -- how many bytes of a piece of this length the sink takes: as many as a push takes at most and both limit and room leave
-abbrev pub accepted : Held → ℕ → ℕ
+abbrev pub accepted : SinkState → ℕ → ℕ
 accepted sink count = within sink.limit (length sink.taken) (at_once sink.most (min count sink.room))

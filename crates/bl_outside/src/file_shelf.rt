@@ -1,7 +1,7 @@
 //! The files of the system as a shelf. It doesn't expose its contents.
 ghost use Rattle.std.specs.Prelude.{◌≡◌, ◌+◌, ◌≤◌, [], None, Option, IfOk, OnOk, OnErr, length};
 ghost use Rattle.bl_outside.specs.Faults.{one_more};
-ghost use Rattle.bl_outside.specs.Shelf.{Files as Told, FetchFaults, KeepFaults, ReadFails, Gives, GivesPart, faults_after_fetch, faults_after_keep, most_asked};
+ghost use Rattle.bl_outside.specs.Shelf.{Files as KnownFiles, FetchFaults, KeepFaults, ReadFails, Gives, GivesPart, faults_after_fetch, faults_after_keep, most_asked};
 
 use crate::shelf::{Shelf, ShelfError};
 use crate::whole_file::write_file;
@@ -197,7 +197,7 @@ impl<'r, R: Files> Shelf for FileShelf<'r, R> {
         requires asked { most ≤ most_asked }
         ensures bound { IfOk result (λ bytes. length bytes.items ≤ most + 1) }
         ensures found { IfOk result (λ bytes. Gives None name.now most bytes.items) }
-        ensures files { ◌≡◌ {A = Option Told} None None }
+        ensures files { ◌≡◌ {A = Option KnownFiles} None None }
         ensures faults { FetchFaults result self.old self.new name.now }
 
         // Each read fault counts one.
@@ -218,7 +218,7 @@ impl<'r, R: Files> Shelf for FileShelf<'r, R> {
         requires asked { from + most ≤ most_asked }
         ensures bound { IfOk result (λ bytes. length bytes.items ≤ most) }
         ensures found { IfOk result (λ bytes. GivesPart None name.now from most bytes.items) }
-        ensures files { ◌≡◌ {A = Option Told} None None }
+        ensures files { ◌≡◌ {A = Option KnownFiles} None None }
         ensures faults { FetchFaults result self.old self.new name.now }
 
         // Each read fault counts one.
@@ -243,8 +243,8 @@ impl<'r, R: Files> Shelf for FileShelf<'r, R> {
     }
 
     fn keep(&mut self, name: &str, bytes: &[u8]) -> Result<(), ShelfError>
-        ensures kept { OnOk result (◌≡◌ {A = Option Told} None None) }
-        ensures refused { OnErr result (◌≡◌ {A = Option Told} None None) }
+        ensures kept { OnOk result (◌≡◌ {A = Option KnownFiles} None None) }
+        ensures refused { OnErr result (◌≡◌ {A = Option KnownFiles} None None) }
         ensures faults { KeepFaults result self.old self.new name.now }
 
         // Each write fault counts one.

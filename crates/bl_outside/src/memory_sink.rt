@@ -23,9 +23,9 @@ pub struct MemorySink {
 
 impl Model for MemorySink {
     ghost use Rattle.std.specs.Prelude.{◌+◌, ◌≤◌, length, vec_capacity};
-    ghost use Rattle.bl_outside.specs.MemorySink.{Held};
+    ghost use Rattle.bl_outside.specs.MemorySink.{SinkState};
 
-    ghost Value = { Held };
+    ghost Value = { SinkState };
 
     ghost view = { λ s. record { taken = s.taken.items; limit = s.limit; most = s.most; room = s.room; faults = s.faults } };
 

@@ -1,8 +1,8 @@
-pub mod Cached
-pub mod Choosing
-pub mod Driving
-pub mod Finding
-pub mod Outlined
-pub mod Paired
-pub mod Reading
-pub mod Taken
+pub mod CacheLemmas
+pub mod ChoiceLemmas
+pub mod DriveLemmas
+pub mod LeastPlaces
+pub mod OutlineLemmas
+pub mod DrivePairs
+pub mod ReadObservations
+pub mod EnabledChoices

@@ -23,7 +23,7 @@ use Rattle.bl_predict.specs.declared.driver.Driven.{Driven}
 use Rattle.bl_predict.specs.declared.driver.Driver.{Driver}
 
 -- a drive on its way: the machine's state, the counters, the lists of the cache, the directives that were chosen, and the counts
-pub record Driving : Type 0 where
+pub record DriveState : Type 0 where
   pub state : State
   pub counters : List ℕ
   pub sets : List (List ℕ)
@@ -32,7 +32,7 @@ pub record Driving : Type 0 where
   pub hits : ℕ
   pub misses : ℕ
 
-abbrev pub begun : Program → ℕ → Start → Driving
+abbrev pub begun : Program → ℕ → Start → DriveState
 begun program function start = record {
   state = opening program function start;
   counters = replicate 1024 1;
@@ -141,7 +141,7 @@ abbrev pub taught : List ℕ → State → Directive → Observation → List �
 taught counters s directive observation = moved counters observation (guard_of s directive)
 
 -- an access to the cache
-abbrev pub touched : ℕ → Driving → Driving
+abbrev pub touched : ℕ → DriveState → DriveState
 touched address d =
     let line = line_of address in
     let number = line % 64 in
@@ -152,34 +152,34 @@ touched address d =
       misses = if has line lines then d.misses else d.misses + 1;
     }
 
-abbrev pub noted : Observation → Driving → Driving
-noted (Read address guards) d = touched address d
-noted (Write address guards) d = touched address d
-noted (Rollback n) d = record d { rollbacks = d.rollbacks + 1 }
-noted Nothing d = d
-noted (Divide a b guards) d = d
-noted Fail d = d
+abbrev pub after_observation : Observation → DriveState → DriveState
+after_observation (Read address guards) d = touched address d
+after_observation (Write address guards) d = touched address d
+after_observation (Rollback n) d = record d { rollbacks = d.rollbacks + 1 }
+after_observation Nothing d = d
+after_observation (Divide a b guards) d = d
+after_observation Fail d = d
 
-abbrev pub stepped : Driving → Directive → Option (State × Observation) → Driving
+abbrev pub stepped : DriveState → Directive → Option (State × Observation) → DriveState
 stepped d directive None = d
 stepped d directive (Some step) =
-    noted step.1 (record d { state = step.0; counters = taught d.counters d.state directive step.1; trace = d.trace ++ directive ∷ [] })
+    after_observation step.1 (record d { state = step.0; counters = taught d.counters d.state directive step.1; trace = d.trace ++ directive ∷ [] })
 
-abbrev pub turn_by : Program → Driving → Option Directive → Driving
+abbrev pub turn_by : Program → DriveState → Option Directive → DriveState
 turn_by program d None = d
 turn_by program d (Some directive) = stepped d directive (directive_step 64 program d.state directive)
 
-abbrev pub turn : Program → Driving → Driving
+abbrev pub turn : Program → DriveState → DriveState
 turn program d = turn_by program d (chosen program d.counters d.state)
 
 -- ---- the drive
 
-abbrev pub unless_ended : Option End → Driving → Driving → Driving
+abbrev pub unless_ended : Option End → DriveState → DriveState → DriveState
 unless_ended None next d = next
 unless_ended (Some end) next d = d
 
 -- turns until the machine has ended, at most so many
-abbrev pub driven : Program → ℕ → Driving → Driving
+abbrev pub driven : Program → ℕ → DriveState → DriveState
 driven program zero d = d
 driven program (suc most) d = unless_ended (end_in d.state) (driven program most (turn program d)) d
 
@@ -199,8 +199,8 @@ execution_at program s n wanted None = execution.Absent
 execution_at program s n wanted (Some entry) = execution_by wanted (exec_entry program n s (Some entry))
 
 -- what a driver has come to
-abbrev pub driving_in : Driver → Driving
-driving_in driver = record {
+abbrev pub drive_state : Driver → DriveState
+drive_state driver = record {
   state = shown driver.rob.machine;
   counters = driver.counters.items;
   sets = driver.cache;
@@ -211,19 +211,19 @@ driving_in driver = record {
 }
 
 -- the counts can grow
-pub record HasRoom (d : Driving) : Type 0 where
+pub record HasRoom (d : DriveState) : Type 0 where
   pub rollbacks : d.rollbacks < 2 ^ 64 - 1
   pub hits : d.hits < 2 ^ 64 - 1
   pub misses : d.misses < 2 ^ 64 - 1
 
 -- the counts are at most the turns
-pub record AreFew (turns : ℕ) (d : Driving) : Type 0 where
+pub record AreFew (turns : ℕ) (d : DriveState) : Type 0 where
   pub rollbacks : d.rollbacks ≤ turns
   pub hits : d.hits ≤ turns
   pub misses : d.misses ≤ turns
 
 -- what a drive answers: its trace, its counts and its cache; and the outcome, where the machine has ended, else that the turns were spent
-pub record IsDriven (program : Program) (d : Driving) (driven : Driven) : Type 0 where
+pub record IsDriven (program : Program) (d : DriveState) (driven : Driven) : Type 0 where
   pub trace : driven.trace ≡ d.trace
   pub rollbacks : driven.rollbacks ≡ d.rollbacks
   pub hits : driven.hits ≡ d.hits
@@ -232,7 +232,7 @@ pub record IsDriven (program : Program) (d : Driving) (driven : Driven) : Type 0
   pub run : outcome_of driven.run ≡ outcome_in program d.state
 
 -- drives that have chosen and counted alike
-pub record AreSame (d e : Driving) : Type 0 where
+pub record AreSame (d e : DriveState) : Type 0 where
   pub trace : d.trace ≡ e.trace
   pub rollbacks : d.rollbacks ≡ e.rollbacks
   pub hits : d.hits ≡ e.hits

@@ -1,4 +1,4 @@
 pub mod Drives
 pub mod Lines
 pub mod Outlines
-pub mod Takings
+pub mod DriveDirectives

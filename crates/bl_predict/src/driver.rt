@@ -3,7 +3,7 @@ ghost use Rattle.std.specs.Prelude.{◌≡◌, ◌<◌, ◌^◌, ◌-◌, IfOk, 
 ghost use Rattle.bl_cmd.specs.Outcomes.{IsStart};
 ghost use Rattle.bl_rob.specs.CallResults.{shown};
 ghost use Rattle.bl_rob.specs.Machines.{directive_step};
-ghost use Rattle.bl_predict.specs.Drives.{HasRoom, IsDriven, begun, counted, driven, driving_in, guard_of, is_rollback, judged, moved, noted, stepped, touched, turn};
+ghost use Rattle.bl_predict.specs.Drives.{HasRoom, IsDriven, begun, counted, driven, drive_state, guard_of, is_rollback, judged, moved, after_observation, stepped, touched, turn};
 
 use crate::cache::Cache;
 use crate::choice::choose;
@@ -83,10 +83,10 @@ fn counted(count: u8, predicted: bool, observation: Observation) -> u8
 impl<'p> Driver<'p> {
     /// An access to the cache.
     fn touch(&mut self, address: u64) -> Result<(), NoMemory>
-        requires { HasRoom (driving_in self.old) }
+        requires { HasRoom (drive_state self.old) }
         ensures same { self.new.rob ≡ self.old.rob }
         ensures counters { self.new.counters ≡ self.old.counters }
-        ensures touched { OnOk result (driving_in self.new ≡ touched address (driving_in self.old)) }
+        ensures touched { OnOk result (drive_state self.new ≡ touched address (drive_state self.old)) }
     {
         if self.cache.access(address)? {
             self.hits += 1;
@@ -98,10 +98,10 @@ impl<'p> Driver<'p> {
 
     /// Takes note of what was observed.
     fn note(&mut self, observation: Observation) -> Result<(), NoMemory>
-        requires { HasRoom (driving_in self.old) }
+        requires { HasRoom (drive_state self.old) }
         ensures same { self.new.rob ≡ self.old.rob }
         ensures counters { self.new.counters ≡ self.old.counters }
-        ensures noted { OnOk result (driving_in self.new ≡ noted observation (driving_in self.old)) }
+        ensures after_observation { OnOk result (drive_state self.new ≡ after_observation observation (drive_state self.old)) }
     {
         match observation {
             Observation::Read { address, .. } => self.touch(address),
@@ -116,12 +116,12 @@ impl<'p> Driver<'p> {
 
     /// Takes a directive.
     fn take(&mut self, alloc: Global, directive: Directive) -> Result<(), NoMemory>
-        requires room { HasRoom (driving_in self.old) }
+        requires room { HasRoom (drive_state self.old) }
         requires length { length self.old.counters.items ≡ 1024 }
         ensures same { self.new.rob.program ≡ self.old.rob.program }
         ensures length { length self.new.counters.items ≡ 1024 }
-        ensures stepped { OnOk result (driving_in self.new ≡ stepped (driving_in self.old) directive
-            (directive_step 64 self.old.rob.program (driving_in self.old).state directive)) }
+        ensures stepped { OnOk result (drive_state self.new ≡ stepped (drive_state self.old) directive
+            (directive_step 64 self.old.rob.program (drive_state self.old).state directive)) }
     {
         let guard = guard_of(&self.rob, directive);
         let Ok(observation) = self.rob.step(alloc, directive) else {
@@ -134,11 +134,11 @@ impl<'p> Driver<'p> {
 
     /// One turn.
     fn turn(&mut self, alloc: Global) -> Result<(), NoMemory>
-        requires room { HasRoom (driving_in self.old) }
+        requires room { HasRoom (drive_state self.old) }
         requires length { length self.old.counters.items ≡ 1024 }
         ensures same { self.new.rob.program ≡ self.old.rob.program }
         ensures length { length self.new.counters.items ≡ 1024 }
-        ensures turn { OnOk result (driving_in self.new ≡ turn self.old.rob.program (driving_in self.old)) }
+        ensures turn { OnOk result (drive_state self.new ≡ turn self.old.rob.program (drive_state self.old)) }
     {
         match choose(&self.counters, &self.rob) {
             Some(directive) => self.take(alloc, directive),
@@ -167,7 +167,7 @@ fn begin<'p>(
 ) -> Result<Driver<'p>, NoMemory>
     requires { IsStart p.now function start.now }
     ensures same { IfOk result (λ driver. driver.rob.program ≡ p.now) }
-    ensures begun { IfOk result (λ driver. driving_in driver ≡ begun p.now function start.now) }
+    ensures begun { IfOk result (λ driver. drive_state driver ≡ begun p.now function start.now) }
 {
     let rob = Rob::begin(alloc, p, function, start)?;
     Ok(Driver {
@@ -204,7 +204,7 @@ pub fn drive(
 
 /// What a drive answers.
 fn answer(alloc: Global, driver: Driver<'_>) -> Result<Driven, NoMemory>
-    ensures { IfOk result (IsDriven driver.entry.rob.program (driving_in driver.entry)) }
+    ensures { IfOk result (IsDriven driver.entry.rob.program (drive_state driver.entry)) }
 {
     let run = match driver.rob.outcome(alloc)? {
         Some(run) => run,

@@ -7,12 +7,12 @@ ghost use Rattle.bl_cmd.specs.Programs.{IsProgram};
 ghost use Rattle.bl_cmd.specs.Rules.{IsWellFormed};
 ghost use Rattle.bl_rob.specs.CallResults.{is_enabled};
 ghost use Rattle.bl_rob.specs.Machines.{State, end_in};
-ghost use Rattle.bl_rob.specs.Reached.{IsReached};
-ghost use Rattle.bl_rob.specs.Observed.{HasEqualObservations, observed, reached};
+ghost use Rattle.bl_rob.specs.ReachableStates.{IsReached};
+ghost use Rattle.bl_rob.specs.Observations.{HasEqualObservations, observed, reached};
 ghost use Rattle.bl_rob.specs.declared.directive.Directive.{Directive};
 ghost use Rattle.bl_predict.specs.Outlines.{Outline};
 ghost use Rattle.bl_predict.specs.Drives.{AreSame, begun, chosen, driven};
-ghost use Rattle.bl_predict.specs.Takings.{IsEachTaken};
+ghost use Rattle.bl_predict.specs.DriveDirectives.{IsEachTaken};
 
 /// The front end, the positions of the entries and the guards' predictions follow from the program, the function, the directives and
 /// their observations.
@@ -36,7 +36,7 @@ pub fn a_turn_is_enabled()
 
 /// What a drive chooses is enabled: the directives of its trace, at most one a turn, are all taken by a machine from the opening on, and lead it
 /// to where the drive has come; and each entry that is executed is one of 64.
-#[tactic(auto, using(crate::proofs::Taken::each_taken))]
+#[tactic(auto, using(crate::proofs::EnabledChoices::each_taken))]
 pub fn what_is_chosen_is_enabled()
     ensures { (program : ProgramParts) → IsEachTaken program }
 {}

@@ -10,7 +10,7 @@ use Rattle.bl_base.specs.Quantity.{most_calls}
 use Rattle.bl_base.specs.Runs.{Next, stuck}
 use Rattle.bl_base.specs.declared.names.ValueType.{ValueType}
 use Rattle.bl_wasm.specs.Linked.{context}
-use Rattle.bl_wasm.specs.Nesting.{of_block, of_loop, then_part}
+use Rattle.bl_wasm.specs.OpenConstructs.{of_block, of_loop, then_part}
 use Rattle.bl_wasm.specs.Typing.{Context, Open, opened, Arrow, Leaves, integer, labels, taken_by}
 use Rattle.bl_wasm.specs.declared.instruction.Instr.{Instr}
 use Rattle.bl_wasm.specs.declared.instruction.Instr.TheVariants.{Loop}

@@ -9,5 +9,5 @@ pub mod VariableItems
 mod WorkedBlocks
 mod WorkedItems
 pub mod WorkedLinked
-mod WorkedRows
+mod WorkedRuns
 pub mod WorkedTrees

@@ -7,7 +7,7 @@ use Rattle.bl_base.specs.declared.names.ValueType.{ValueType}
 use Rattle.bl_base.specs.declared.trap.Trap.{Trap}
 use Rattle.bl_ops.proofs.Fits.{meaning_fits}
 use Rattle.bl_ops.specs.Numerics.{meaning, traps}
-use Rattle.bl_ops.specs.Table.{row_of}
+use Rattle.bl_ops.specs.OperatorTable.{row_of}
 use Rattle.bl_ops.specs.declared.op.Op.{Op}
 use Rattle.bl_ops.specs.declared.op.Op.TheVariants.{I32Eqz}
 use Rattle.bl_ops.specs.declared.op.OpRow.{OpRow}

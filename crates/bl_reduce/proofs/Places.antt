@@ -2,7 +2,7 @@
 use Rattle.std.proofs.Common.{◌≡◌, ℕ, suc, ◌+◌, ◌≤◌, List, [], ◌∷◌, ◌++◌, length, drop, Some, refl, sym, ap, ◌∙◌, subst, arith, length-drop}
 use Rattle.std.specs.Prelude.{unwrap_or}
 use Rattle.std.proofs.lemmas.List.{drop-drop}
-use Rattle.bl_wasm.specs.Nesting.{Kind, of_block, of_loop, then_part, else_part, Construct, construct, behind_else, open_behind}
+use Rattle.bl_wasm.specs.OpenConstructs.{Kind, of_block, of_loop, then_part, else_part, Construct, construct, behind_else, open_behind}
 use Rattle.bl_wasm.specs.TypedPlaces.{IsOpenAs, AreOpenAs}
 use Rattle.bl_wasm.specs.Typing.{Context, Open, opened, taken_by, Begins, Parts, Ends, Rule, Types}
 use Rattle.bl_wasm.specs.declared.instruction.Instr.{Instr}

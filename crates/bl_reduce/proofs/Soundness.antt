@@ -11,7 +11,7 @@ use Rattle.bl_base.specs.declared.start.Patch.{Patch}
 use Rattle.bl_base.specs.declared.start.Start.{Start}
 use Rattle.bl_base.specs.declared.trap.Trap.TheVariants as kind
 use Rattle.bl_wasm.specs.Linked.{IsLinked, IsFunction, IsMemory, HasImmediates, context, function_type}
-use Rattle.bl_wasm.specs.Nesting.{Kind, of_block, of_loop, then_part, else_part}
+use Rattle.bl_wasm.specs.OpenConstructs.{Kind, of_block, of_loop, then_part, else_part}
 use Rattle.bl_wasm.specs.Typing.{Open, opened, labels, Begins, Rule, Plain, integer, expanded}
 use Rattle.bl_wasm.specs.declared.types.BlockType.{BlockType}
 use Rattle.bl_wasm.specs.declared.instruction.Instr.{Instr}

@@ -10,7 +10,7 @@ use Rattle.bl_base.specs.declared.names.ValueType.TheVariants as value
 use Rattle.bl_base.specs.declared.start.Start.{Start}
 use Rattle.bl_ops.specs.declared.access.AccessKind.TheVariants as access
 use Rattle.bl_wasm.specs.Linked.{IsLinked, IsFunction, IsMemory, IsSlot, HasImmediates, context}
-use Rattle.bl_wasm.specs.Nesting.{of_loop}
+use Rattle.bl_wasm.specs.OpenConstructs.{of_loop}
 use Rattle.bl_wasm.specs.Typing.{Types, opened}
 use Rattle.bl_wasm.specs.declared.instruction.Instr.{Instr}
 use Rattle.bl_wasm.specs.declared.instruction.Instr.TheVariants.{LocalGet, Load, I32Const, Call, CallIndirect, Loop, End}

@@ -30,10 +30,10 @@ abbrev pub run_from : Tree → ℕ → Start → Next Config
 run_from tree n start = further tree n (goes (opening tree 0 start))
 
 -- whether a run has not ended after so many steps
-abbrev pub Goes : Next Config → Type 0
-Goes (goes c) = Unit {0}
-Goes (ends o) = ⊥
-Goes stuck = ⊥
+abbrev pub HasNotEnded : Next Config → Type 0
+HasNotEnded (goes c) = Unit {0}
+HasNotEnded (ends o) = ⊥
+HasNotEnded stuck = ⊥
 
 -- a function of that type with so many i32 locals and that body
 abbrev pub function : ℕ → ℕ → List Instr → Function

@@ -2,7 +2,7 @@
 -- version 2.0, sections 4.4.8 and 4.4.9).
 use Rattle.std.specs.Prelude.{ℕ, ◌+◌, ◌==◌, if◌then◌else◌, List, [], ◌∷◌, ◌++◌, length, take, drop, slice_get, Option, Some, None, unwrap_or}
 use Rattle.bl_base.specs.Runs.{Next, stuck}
-use Rattle.bl_wasm.specs.Nesting.{Construct, open_behind}
+use Rattle.bl_wasm.specs.OpenConstructs.{Construct, open_behind}
 use Rattle.bl_wasm.specs.declared.instruction.Instr.{Instr}
 use Rattle.bl_wasm.specs.declared.instruction.Instr.TheVariants.{Loop, Else, End}
 use Rattle.bl_wasm.specs.declared.types.BlockType.{BlockType}

@@ -3,7 +3,7 @@ use Rattle.std.specs.Prelude.{ℕ, List, [], ◌∷◌, take, drop, Option, Some
 use Rattle.bl_base.specs.Runs.{Next, stuck}
 use Rattle.bl_base.specs.declared.trap.Trap.{Trap}
 use Rattle.bl_ops.specs.Numerics.{meaning, traps}
-use Rattle.bl_ops.specs.Table.{row_of}
+use Rattle.bl_ops.specs.OperatorTable.{row_of}
 use Rattle.bl_ops.specs.declared.op.Op.{Op}
 use Rattle.bl_reduce.specs.Configurations.{State, Config, trap, known, push, with_values}
 

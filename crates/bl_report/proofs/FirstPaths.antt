@@ -8,7 +8,7 @@ use Rattle.std.proofs.lemmas.List.Folds.{find-append}
 use Rattle.std.proofs.lemmas.Option.{slice_get-get_or}
 use Rattle.bl_graph.specs.Certificates.{sites_of}
 use Rattle.bl_graph.specs.declared.certificate.FlowPath.{FlowPath}
-use Rattle.bl_report.specs.Noting.{IsFirst, also_noted, noted}
+use Rattle.bl_report.specs.SiteTables.{IsFirst, also_noted, noted}
 use Rattle.bl_report.specs.Reports.{first_path, takes}
 
 pub none_noted : (n s : ℕ) → noted (replicate n None) s ≡ None

@@ -9,9 +9,9 @@ use Rattle.bl_cmd.specs.declared.definitions.ProgramParts.{ProgramParts as Progr
 use Rattle.bl_graph.specs.Certificates.{Certifies, IsFlowPath, sites_of}
 use Rattle.bl_graph.specs.Ranges.{AreInRange}
 use Rattle.bl_graph.specs.declared.certificate.Certificate.{Certificate}
-use Rattle.bl_graph.proofs.Counting.{count_cons, once, some_counted}
+use Rattle.bl_graph.proofs.PathCounts.{count_cons, once, some_counted}
 use Rattle.bl_graph.proofs.Members.{first_in, in_cases, later_in, listed as in_listed, lists, none_in}
-use Rattle.bl_graph.proofs.Reasons.{reason}
+use Rattle.bl_graph.proofs.ProtectPaths.{reason}
 use Rattle.bl_report.specs.Reports.{HasReason, takes}
 use Rattle.bl_report.proofs.ProtectedSites.{protected_is_site}
 

@@ -1,3 +1,3 @@
-pub mod Noting
+pub mod SiteTables
 pub mod Reports
 pub mod Verdicts

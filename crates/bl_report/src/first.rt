@@ -1,6 +1,6 @@
 //! The first paths that take each site.
 ghost use Rattle.std.specs.Prelude.{◌≡◌, ◌<◌, ℕ, [], ◌∷◌, IfOk, None, length, map, replicate};
-ghost use Rattle.bl_report.specs.Noting.{IsFirst, also_noted, noted};
+ghost use Rattle.bl_report.specs.SiteTables.{IsFirst, also_noted, noted};
 
 use bl_base::{NoMemory, Pos};
 use bl_graph::FlowPath;

@@ -1,6 +1,6 @@
 //! A program's sites and protects.
 ghost use Rattle.std.specs.Prelude.{◌≡◌, ◌+◌, ◌++◌, ◌<◌, ◌^◌, [], ◌∷◌, IfOk, if◌then◌else◌, is_some, length};
-ghost use Rattle.bl_report.specs.Noting.{is_protect};
+ghost use Rattle.bl_report.specs.SiteTables.{is_protect};
 ghost use Rattle.bl_report.specs.Reports.{protects, site_count};
 
 use bl_base::NoMemory;

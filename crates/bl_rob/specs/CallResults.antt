@@ -6,9 +6,9 @@ use Rattle.bl_base.specs.declared.run.Run.{Run}
 use Rattle.bl_cmd.specs.Layout.{command_at}
 use Rattle.bl_cmd.specs.declared.command.Command.{Command}
 use Rattle.bl_cmd.specs.declared.definitions.ProgramParts.{ProgramParts as Program}
-use Rattle.bl_seq.specs.Filled.{register_at}
+use Rattle.bl_seq.specs.RegisterTrees.{register_at}
 use Rattle.bl_rob.specs.Machines.{State, Fetched, Straight, Branch, Nowhere, has_room, act, turned, exec_entry, directive_step, end_in, outcome_by}
-use Rattle.bl_rob.specs.Observed.{Observed}
+use Rattle.bl_rob.specs.Observations.{Observed}
 use Rattle.bl_rob.specs.declared.directive.Directive.{Directive}
 use Rattle.bl_rob.specs.declared.directive.Directive.TheVariants.{Fetch, Predict, Exec, Retire}
 use Rattle.bl_rob.specs.declared.directive.End.{End}
@@ -50,13 +50,13 @@ NeedsMemory (Predict predicted) = Unit {0}
 NeedsMemory (Exec n) = ⊥
 NeedsMemory Retire = Unit {0}
 
-abbrev pub Comes_by : {O : Type 0} → Option (State × O) → Type 0 → State → Result O StepError → State → Type 0
-Comes_by step needs old (Ok observation) new = step ≡ Some (new, observation)
-Comes_by step needs old (Err NotEnabled) new = (step ≡ None) × (new ≡ old)
-Comes_by step needs old (Err Memory) new = needs × (new ≡ old)
+abbrev pub ComesBy : {O : Type 0} → Option (State × O) → Type 0 → State → Result O StepError → State → Type 0
+ComesBy step needs old (Ok observation) new = step ≡ Some (new, observation)
+ComesBy step needs old (Err NotEnabled) new = (step ≡ None) × (new ≡ old)
+ComesBy step needs old (Err Memory) new = needs × (new ≡ old)
 
 abbrev pub Steps : ℕ → Program → Directive → State → Result Observation StepError → State → Type 0
-Steps most program d old result new = Comes_by (directive_step most program old d) (NeedsMemory d) old result new
+Steps most program d old result new = ComesBy (directive_step most program old d) (NeedsMemory d) old result new
 
 -- what executing an entry has come to, where None says that it isn't enabled
 abbrev pub Executes : Program → ℕ → State → Option Observation → State → Type 0
@@ -119,11 +119,11 @@ kind_of (Guard cond predicted other chain) = kind.Guard predicted
 kind_of (Fail trap) = kind.Fail
 
 -- the position and the kind that are told of an entry, exactly where there is one
-abbrev pub IsTold : Option Entry → Option (Pos × Kind) → Type 0
-IsTold None None = Unit {0}
-IsTold None (Some found) = ⊥
-IsTold (Some entry) None = ⊥
-IsTold (Some entry) (Some found) = (found.0.0 ≡ entry.position) × (found.1 ≡ kind_of entry.work)
+abbrev pub IsEntryKind : Option Entry → Option (Pos × Kind) → Type 0
+IsEntryKind None None = Unit {0}
+IsEntryKind None (Some found) = ⊥
+IsEntryKind (Some entry) None = ⊥
+IsEntryKind (Some entry) (Some found) = (found.0.0 ≡ entry.position) × (found.1 ≡ kind_of entry.work)
 
 -- where the front end is, unless it has ended
 abbrev pub position_by : ℕ → Option End → Option ℕ
@@ -138,6 +138,6 @@ abbrev pub outcome_in : Program → State → Option Outcome
 outcome_in program s = option_map (outcome_by program s) (end_in s)
 
 -- a run that is told exactly where the machine has ended, with its outcome
-abbrev pub Told : Option Outcome → Option Run → Type 0
-Told outcome None = outcome ≡ None
-Told outcome (Some run) = (outcome_of run ≡ outcome) × IsSome outcome
+abbrev pub IsRunOf : Option Outcome → Option Run → Type 0
+IsRunOf outcome None = outcome ≡ None
+IsRunOf outcome (Some run) = (outcome_of run ≡ outcome) × IsSome outcome

@@ -2,6 +2,6 @@ pub mod CallResults
 pub mod Effects
 pub mod LastWriters
 pub mod Machines
-pub mod Observed
-pub mod Reached
+pub mod Observations
+pub mod ReachableStates
 pub mod Robs

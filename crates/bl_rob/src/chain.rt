@@ -1,7 +1,7 @@
 //! The positions to which the open calls return.
 ghost use Rattle.std.specs.Prelude.{◌≡◌, ◌≤◌, ◌<◌, [], ◌∷◌, suc, IfOk, OnErr, OnOk, length};
 ghost use Rattle.bl_base.specs.Quantity.{most_calls};
-ghost use Rattle.bl_seq.specs.Taken.{Taken};
+ghost use Rattle.bl_seq.specs.FirstItems.{Taken};
 
 use bl_base::NoMemory;
 use std::alloc::Global;

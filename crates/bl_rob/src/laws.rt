@@ -6,7 +6,7 @@ ghost use Rattle.bl_cmd.specs.Steps.{Registers as Held};
 ghost use Rattle.bl_cmd.specs.declared.definitions.ProgramParts.{ProgramParts};
 ghost use Rattle.bl_rob.specs.LastWriters.{Sees};
 ghost use Rattle.bl_rob.specs.Machines.{visible};
-ghost use Rattle.bl_rob.specs.Observed.{IsConsistent, reached};
+ghost use Rattle.bl_rob.specs.Observations.{IsConsistent, reached};
 ghost use Rattle.bl_rob.specs.declared.directive.Directive.{Directive};
 ghost use Rattle.bl_rob.specs.declared.entry.Entry.{Entry};
 ghost use Rattle.bl_rob.specs.declared.entry.Register.{Register};

@@ -10,14 +10,14 @@ mod front;
 pub mod laws;
 mod machine;
 mod observe;
+mod queries;
 mod rob;
 mod steps;
-mod told;
 mod visible;
 
 pub use directive::{Directive, End, Kind, Observation, StepError};
 pub use entry::{Entry, LoadKind, Register, Source, Work};
 pub use machine::{Machine, effective, valued};
-pub use observe::{Observed, Seen};
+pub use observe::Observed;
 pub use rob::Rob;
 pub use visible::{guards, visible_of};

@@ -1,7 +1,7 @@
 //! Lists of directives.
 ghost use Rattle.std.specs.Prelude.{◌≡◌, IfOk};
 ghost use Rattle.bl_rob.specs.CallResults.{seen_in, shown};
-ghost use Rattle.bl_rob.specs.Observed.{Observes};
+ghost use Rattle.bl_rob.specs.Observations.{Observes};
 
 use crate::directive::{Directive, Observation, StepError};
 use crate::rob::Rob;
@@ -16,9 +16,6 @@ pub struct Observed<O> {
     /// The place of that one, from 1; None where each is enabled.
     pub refused: Option<u64>,
 }
-
-/// What the buffer machine shows of a list of directives.
-pub type Seen = Observed<Observation>;
 
 impl<'p, const W: usize> Rob<'p, W> {
     /// Takes directives in order, up to the first one that isn't enabled.

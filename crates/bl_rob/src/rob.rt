@@ -1,7 +1,7 @@
 //! The buffer machine as its callers see it.
 ghost use Rattle.std.specs.Prelude.{◌≡◌, ◌≤◌, IfOk, slice_get, slice_index, option_map};
 ghost use Rattle.bl_cmd.specs.Outcomes.{IsStart};
-ghost use Rattle.bl_rob.specs.CallResults.{IsTold, Steps, Told, is_enabled, outcome_in, position_of, shown};
+ghost use Rattle.bl_rob.specs.CallResults.{IsEntryKind, Steps, IsRunOf, is_enabled, outcome_in, position_of, shown};
 ghost use Rattle.bl_rob.specs.Machines.{end_in, opening};
 ghost use Rattle.bl_rob.specs.declared.directive.Directive.TheVariants.{Exec, Fetch, Predict, Retire};
 
@@ -24,7 +24,7 @@ impl<'p, const W: usize> Model for Rob<'p, W> {
     ghost use Rattle.std.specs.Prelude.{◌≤◌, length};
     ghost use Rattle.bl_seq.specs.Layouts.{IsLayout};
     ghost use Rattle.bl_rob.specs.CallResults.{shown};
-    ghost use Rattle.bl_rob.specs.Reached.{IsReached};
+    ghost use Rattle.bl_rob.specs.ReachableStates.{IsReached};
     ghost use Rattle.bl_rob.specs.Robs.{RobView};
 
     ghost Value = { RobView };
@@ -126,7 +126,7 @@ impl<'p, const W: usize> Rob<'p, W> {
 
     /// The outcome; None exactly where the machine hasn't ended.
     pub fn outcome(&self, alloc: Global) -> Result<Option<Run>, NoMemory>
-        ensures { IfOk result (Told (outcome_in self.now.program (shown self.now.machine))) }
+        ensures { IfOk result (IsRunOf (outcome_in self.now.program (shown self.now.machine))) }
     {
         self.machine.outcome(alloc, &self.layout)
     }
@@ -152,7 +152,7 @@ impl<'p, const W: usize> Rob<'p, W> {
 
     /// The position and the kind of an entry; None exactly where the buffer has none of that index. Takes no memory.
     pub fn entry(&self, n: u32) -> Option<(Pos, Kind)>
-        ensures { IsTold (slice_get (shown self.now.machine).buffer n) result }
+        ensures { IsEntryKind (slice_get (shown self.now.machine).buffer n) result }
     {
         self.machine.entry(n)
     }

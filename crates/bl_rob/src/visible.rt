@@ -1,6 +1,6 @@
 //! What is visible behind entries of the buffer.
 ghost use Rattle.std.specs.Prelude.{◌≡◌, ◌≤◌, length};
-ghost use Rattle.bl_seq.specs.Filled.{register_at};
+ghost use Rattle.bl_seq.specs.RegisterTrees.{register_at};
 ghost use Rattle.bl_rob.specs.LastWriters.{is_target, target_of, value_of};
 ghost use Rattle.bl_rob.specs.Machines.{guards, has_guard, has_store, is_at, is_guard, is_store, visible, visible_of};
 

@@ -11,7 +11,7 @@ use Rattle.bl_cmd.specs.declared.command.Operand.TheVariants as operand
 use Rattle.bl_cmd.specs.declared.definitions.GlobalDef.{GlobalDef}
 use Rattle.bl_cmd.specs.declared.definitions.ProgramParts.{ProgramParts as Program}
 use Rattle.bl_rob.specs.Machines.{State, Fetched, Straight, Branch, at_position, moved, register_of, source_of, fetched, fetched_from, before, fetch, predict, has_room, visible_of, guards, has_store, loads, stores, act, acted, exec_entry, retire_work, retire, directive_step}
-use Rattle.bl_rob.specs.Observed.{go_on, after, Observed, see, observed_from}
+use Rattle.bl_rob.specs.Observations.{go_on, after, Observed, see, observed_from}
 use Rattle.bl_rob.specs.declared.directive.Directive.{Directive}
 use Rattle.bl_rob.specs.declared.directive.Directive.TheVariants.{Fetch, Predict, Exec, Retire}
 use Rattle.bl_rob.specs.declared.directive.End.{End}

@@ -21,17 +21,17 @@ use Rattle.bl_seq.specs.OwnMemory.{HasSizes}
 use Rattle.bl_seq.proofs.OwnSizes.{sized}
 use Rattle.bl_seq.proofs.OwnSteps.{Reached, opens}
 use Rattle.bl_rob.specs.Machines.{opening, end_in, directive_step}
-use Rattle.bl_rob.specs.Observed.{MeetWhereEnded, reached}
+use Rattle.bl_rob.specs.Observations.{MeetWhereEnded, reached}
 use Rattle.bl_rob.specs.declared.directive.Directive.{Directive}
-use Rattle.bl_rob.proofs.Keeps.{Kept, runs, opening_kept, step_ok}
-use Rattle.bl_rob.proofs.Plainly.{config_of}
+use Rattle.bl_rob.proofs.BufferInvariant.{Kept, runs, opening_kept, step_ok}
+use Rattle.bl_rob.proofs.FetchedRuns.{config_of}
 use Rattle.bl_sct.specs.OtherSecrets.{IsOtherGlobal, AreAlikeBeside, HidesGlobals}
-use Rattle.bl_sct.proofs.Agreed.{registers as first_alike, bytes as bytes_alike, opposite, reached as comes}
+use Rattle.bl_sct.proofs.InitialAgreement.{registers as first_alike, bytes as bytes_alike, opposite, reached as comes}
 use Rattle.bl_sct.proofs.Entries.{none}
 use Rattle.bl_sct.proofs.OtherGlobals.{with_globals, first_same, after_same, observed_same}
 use Rattle.bl_sct.proofs.Relation.{all_twins, step_twins}
-use Rattle.bl_sct.proofs.Together.{Twins, twins}
-use Rattle.bl_sct.proofs.Whole.{demands_by}
+use Rattle.bl_sct.proofs.LockstepLemmas.{Twins, twins}
+use Rattle.bl_sct.proofs.EqualObservations.{demands_by}
 
 -- ---- first values
 

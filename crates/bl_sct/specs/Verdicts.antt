@@ -4,7 +4,7 @@ use Rattle.bl_cmd.specs.Sites.{is_protected}
 use Rattle.bl_cmd.specs.declared.definitions.ProgramParts.{ProgramParts as Program}
 use Rattle.bl_graph.specs.Labels.{ConstantTime}
 use Rattle.bl_graph.specs.SecretChains.{IsSecretChain}
-use Rattle.bl_rob.specs.Observed.{HasEqualObservations}
+use Rattle.bl_rob.specs.Observations.{HasEqualObservations}
 use Rattle.bl_sct.specs.declared.verdict.Verdict.{Verdict}
 use Rattle.bl_sct.specs.declared.verdict.Verdict.TheVariants.{Safe, NotConstantTime, NotStable}
 use Rattle.bl_transient.specs.Transient.{Passes}

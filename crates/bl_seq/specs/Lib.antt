@@ -1,8 +1,8 @@
-pub mod Endings
-pub mod Filled
+pub mod FinalMemories
+pub mod RegisterTrees
 pub mod Layouts
 pub mod Machines
-pub mod Openings
+pub mod InitialMemories
 pub mod OwnMemory
-pub mod Taken
+pub mod FirstItems
 pub mod Windows

@@ -4,7 +4,7 @@ use Rattle.bl_base.specs.Runs.{Outcome, returned, trapped, Next, goes, ends, stu
 use Rattle.bl_cmd.specs.Layout.{results_of, result, running}
 use Rattle.bl_cmd.specs.Steps.{Registers, Plain, values_from, states, plain_step}
 use Rattle.bl_cmd.specs.declared.definitions.ProgramParts.{ProgramParts as Program}
-use Rattle.bl_seq.specs.Filled.{register_at}
+use Rattle.bl_seq.specs.RegisterTrees.{register_at}
 use Rattle.bl_seq.specs.declared.state.Machine.{Machine}
 use Rattle.bl_seq.specs.declared.state.Progress.{Progress}
 use Rattle.bl_seq.specs.declared.state.Progress.TheVariants.{Running, Returned, Trapped, Stuck}

@@ -1,6 +1,6 @@
 -- One page of the registers that is held before the others.
 use Rattle.std.specs.Prelude.{◌≡◌, Bool, true, false, ℕ, ◌<◌, ◌≤◌, ◌&&◌, List, Option, None, if◌then◌else◌, length, nat_eq, set, slice_get}
-use Rattle.bl_seq.specs.Filled.{File, Tree, cell_of, page_of, register_at}
+use Rattle.bl_seq.specs.RegisterTrees.{File, Tree, cell_of, page_of, register_at}
 use Rattle.bl_seq.specs.declared.registers.Window.{Window}
 
 -- the number of a variable at a depth, if it has a cell in the window

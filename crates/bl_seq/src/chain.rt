@@ -1,6 +1,6 @@
 //! The positions to which the open calls return.
 ghost use Rattle.std.specs.Prelude.{◌≡◌, [], ◌∷◌, length, OnErr, OnOk};
-ghost use Rattle.bl_seq.specs.Taken.{Taken};
+ghost use Rattle.bl_seq.specs.FirstItems.{Taken};
 
 use bl_base::NoMemory;
 use std::alloc::Global;

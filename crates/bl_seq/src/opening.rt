@@ -5,8 +5,8 @@ ghost use Rattle.bl_base.specs.Bytes.{patched, write};
 ghost use Rattle.bl_base.specs.Runs.{memory_of};
 ghost use Rattle.bl_cmd.specs.Outcomes.{IsStart, first_memories, first_memory, first_registers, opening, space_of};
 ghost use Rattle.bl_base.specs.Fits.{PatchFits};
-ghost use Rattle.bl_seq.specs.Openings.{LiesInside};
-ghost use Rattle.bl_seq.specs.Filled.{filled, register_at};
+ghost use Rattle.bl_seq.specs.InitialMemories.{LiesInside};
+ghost use Rattle.bl_seq.specs.RegisterTrees.{filled, register_at};
 ghost use Rattle.bl_seq.specs.Layouts.{IsLayout};
 ghost use Rattle.bl_seq.specs.Machines.{shown};
 

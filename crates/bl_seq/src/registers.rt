@@ -1,7 +1,7 @@
 //! Registers, which take room as they are written.
 ghost use Rattle.std.specs.Prelude.{◌≡◌, ◌+◌, ◌-◌, ◌*◌, ◌^◌, ◌<◌, ◌≤◌, ◌++◌, ◌/◌, ◌%◌, ◌↔◌, ℕ, [], ◌∷◌, IsTrue, OnErr, OnOk, IsFalse, if◌then◌else◌, length, slice_get, slice_index_or};
 ghost use Rattle.bl_cmd.specs.Steps.{written};
-ghost use Rattle.bl_seq.specs.Filled.{AreSame, Deepens, IsSameBranch, IsSameTree, Puts, SetsBranch, SetsLeaf, SetsPages, SetsTree, Settles, SettlesTree, SwapsBranch, Widens, Writes, bare, filled, in_tree, number_at, page_in, register_at};
+ghost use Rattle.bl_seq.specs.RegisterTrees.{AreSame, Deepens, IsSameBranch, IsSameTree, Puts, SetsBranch, SetsLeaf, SetsPages, SetsTree, Settles, SettlesTree, SwapsBranch, Widens, Writes, bare, filled, in_tree, number_at, page_in, register_at};
 ghost use Rattle.bl_seq.specs.Windows.{AreEqual, IsAt, MaySet, found, seen};
 
 use bl_base::NoMemory;
@@ -185,7 +185,7 @@ struct Tree {
 }
 
 impl Model for Tree {
-    ghost use Rattle.bl_seq.specs.Filled.{Tree as OneDepth};
+    ghost use Rattle.bl_seq.specs.RegisterTrees.{Tree as OneDepth};
 
     ghost Value = { OneDepth };
 
@@ -288,7 +288,7 @@ struct Pages {
 
 impl Model for Pages {
     ghost use Rattle.std.specs.Prelude.{List};
-    ghost use Rattle.bl_seq.specs.Filled.{Tree as OneDepth};
+    ghost use Rattle.bl_seq.specs.RegisterTrees.{Tree as OneDepth};
 
     ghost Value = { List OneDepth };
 
@@ -433,7 +433,7 @@ pub struct Registers {
 }
 
 impl Model for Registers {
-    ghost use Rattle.bl_seq.specs.Filled.{File};
+    ghost use Rattle.bl_seq.specs.RegisterTrees.{File};
 
     ghost Value = { File };
 

@@ -4,7 +4,7 @@ use Rattle.std.specs.Prelude.{◌==◌}
 use Rattle.std.specs.List.{position_or_len}
 use Rattle.bl_trace.specs.Items.{item_before, items_of, TellItems, all_say, bad_line}
 use Rattle.bl_trace.specs.Lines.{lines_of}
-use Rattle.bl_trace.proofs.Saying.{line_at}
+use Rattle.bl_trace.proofs.LineLemmas.{line_at}
 
 -- one line more is counted
 pub one_line : (bytes : List ℕ) (at place : ℕ) → at < length bytes → place ≡ position_or_len (λ b. b == 10) (take (length bytes - at) (drop at bytes))

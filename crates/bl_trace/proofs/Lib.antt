@@ -1,10 +1,10 @@
-pub mod Fitting
+pub mod StartFits
 pub mod HexBytes
 pub mod Operands
 pub mod LineSplits
 pub mod LineTexts
-pub mod Pieces
-pub mod Saying
-pub mod Telling
+pub mod TextPieces
+pub mod LineLemmas
+pub mod StartLemmas
 pub mod ItemLemmas
 pub mod WrittenTraces

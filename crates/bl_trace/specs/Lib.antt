@@ -3,6 +3,6 @@ pub mod Digits
 pub mod Items
 pub mod Lines
 pub mod Observations
-pub mod Reading
-pub mod Told
+pub mod PartialStarts
+pub mod StartAnswers
 pub mod Traces

@@ -9,7 +9,7 @@ ghost use Rattle.bl_trace.specs.declared.error.StartError.{StartError};
 ghost use Rattle.bl_trace.specs.StartFiles.{answer_of};
 ghost use Rattle.bl_trace.specs.Items.{TellItems};
 ghost use Rattle.bl_trace.specs.Lines.{lines_of};
-ghost use Rattle.bl_trace.specs.Told.{Tells};
+ghost use Rattle.bl_trace.specs.StartAnswers.{Tells};
 ghost use Rattle.bl_trace.specs.Traces.{IsWritten, directive_of, trace_of, trace_text};
 
 /// A start that a file asks for fits the function.

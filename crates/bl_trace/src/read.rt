@@ -3,7 +3,7 @@ ghost use Rattle.std.specs.Prelude.{◌≡◌, IfOk, OnOk, slice_get};
 ghost use Rattle.bl_base.specs.Fits.{Fits};
 ghost use Rattle.bl_trace.specs.StartFiles.{said, answer_of, IsAnswer};
 ghost use Rattle.bl_trace.specs.Lines.{lines_of};
-ghost use Rattle.bl_trace.specs.Reading.{entry_behind, IsRead};
+ghost use Rattle.bl_trace.specs.PartialStarts.{entry_behind, IsRead};
 
 use crate::entry::Entry;
 use crate::error::StartError;

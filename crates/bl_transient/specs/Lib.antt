@@ -1,3 +1,3 @@
-pub mod Reaching
+pub mod Reachability
 pub mod Transient
 pub mod Verdicts

@@ -4,7 +4,7 @@ ghost use Rattle.std.specs.FinSet as fin;
 ghost use Rattle.bl_graph.specs.Graphs.{IsGraph};
 ghost use Rattle.bl_graph.specs.Names.{AreNames};
 ghost use Rattle.bl_graph.specs.Ranges.{variables};
-ghost use Rattle.bl_transient.specs.Reaching.{firm_loads, firm_noted, firm_reads, noted_load, noted_read};
+ghost use Rattle.bl_transient.specs.Reachability.{firm_loads, firm_noted, firm_reads, noted_load, noted_read};
 ghost use Rattle.bl_transient.specs.Verdicts.{AreBars, JudgesUnder, asked_of};
 
 use crate::asked::{AskedOf, marked, names_under, numbers_of};

@@ -2,7 +2,7 @@
 ghost use Rattle.std.specs.Prelude.{◌≡◌, ◌++◌, ◌<◌, ℕ, All, Contains, IfOk, None, OnOk, length, replicate};
 ghost use Rattle.std.specs.FinSet as fin;
 ghost use Rattle.bl_graph.specs.Graphs.{use_of};
-ghost use Rattle.bl_transient.specs.Reaching.{AreFree, listed, moved_to, moves_from, noted, roots_from};
+ghost use Rattle.bl_transient.specs.Reachability.{AreUnprotected, listed, moved_to, moves_from, noted, roots_from};
 
 use bl_base::{NoMemory, Pos, SiteSet, Var};
 use bl_graph::{Arc, Read, Write};
@@ -17,7 +17,7 @@ pub(crate) fn written_free(
 ) -> Result<Vec<Option<u32>>, NoMemory>
     requires within { All (λ w. w.at.0 < count) writes.now }
     requires one { (s x y : ℕ) → Contains writes.now (use_of s x) → Contains writes.now (use_of s y) → x ≡ y }
-    ensures { IfOk result (λ written. AreFree writes.now (fin.contains protects.now) written.items) }
+    ensures { IfOk result (λ written. AreUnprotected writes.now (fin.contains protects.now) written.items) }
 {
     let mut written = no_variables(alloc, count)?;
     for write in writes {

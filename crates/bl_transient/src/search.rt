@@ -1,7 +1,7 @@
 //! A search from roots along moves.
 ghost use Rattle.std.specs.Prelude.{◌≡◌, ◌<◌, ◌↔◌, ℕ, [], All, Contains, IsTrue, IfOk, OnOk, length, map};
 ghost use Rattle.bl_graph.specs.Arcs.{is_in, row_at};
-ghost use Rattle.bl_transient.specs.Reaching.{IsVisited, Reached};
+ghost use Rattle.bl_transient.specs.Reachability.{IsVisited, Reached};
 
 use bl_base::NoMemory;
 use std::alloc::Global;

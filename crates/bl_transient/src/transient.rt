@@ -5,7 +5,7 @@ ghost use Rattle.bl_graph.specs.Graphs.{IsGraph};
 ghost use Rattle.bl_graph.specs.Names.{AreNames};
 ghost use Rattle.bl_graph.specs.Ranges.{variables};
 ghost use Rattle.bl_graph.specs.Arcs.{is_in};
-ghost use Rattle.bl_transient.specs.Reaching.{FirstSink, IsLower, flow_type};
+ghost use Rattle.bl_transient.specs.Reachability.{FirstSink, IsLower, flow_type};
 ghost use Rattle.bl_transient.specs.Transient.{Trans, TransUnder};
 ghost use Rattle.bl_transient.specs.Verdicts.{IsFirstLeak, Judges, asked_of};
 

@@ -1,5 +1,5 @@
 pub mod Comparisons
-pub mod Counting
-pub mod Fronts
-pub mod Public
-pub mod SideBySide
+pub mod PrefixLengths
+pub mod CommonPrefixes
+pub mod PublicLists
+pub mod TwinRuns

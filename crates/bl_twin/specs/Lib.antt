@@ -1,4 +1,4 @@
-pub mod Agreeing
-pub mod Comparing
-pub mod Laws
+pub mod PublicAgreement
+pub mod TwinComparisons
+pub mod SameObservations
 pub mod Runs

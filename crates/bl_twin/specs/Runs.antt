@@ -4,10 +4,10 @@ use Rattle.bl_base.specs.declared.start.Start.{Start}
 use Rattle.bl_cmd.specs.Outcomes.{Agree}
 use Rattle.bl_cmd.specs.declared.definitions.ProgramParts.{ProgramParts as Program}
 use Rattle.bl_rob.specs.Machines.{directive_step, opening}
-use Rattle.bl_rob.specs.Observed.{Rules, observed_by}
+use Rattle.bl_rob.specs.Observations.{Rules, observed_by}
 use Rattle.bl_rob.specs.declared.directive.Directive.{Directive}
 use Rattle.bl_trace.specs.Observations.{observation_text}
-use Rattle.bl_twin.specs.Comparing.{comparison_by, is_same, twin_text_by}
+use Rattle.bl_twin.specs.TwinComparisons.{comparison_by, is_same, twin_text_by}
 use Rattle.bl_twin.specs.declared.text.Compared.{Compared}
 
 -- whether two starts agree in public, and how what is observed from them by these rules compares

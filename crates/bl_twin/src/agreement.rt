@@ -3,7 +3,7 @@ ghost use Rattle.std.specs.Prelude.{◌≡◌, ◌↔◌, IfOk, IsTrue, length, 
 ghost use Rattle.bl_base.specs.Runs.{memory_of};
 ghost use Rattle.bl_base.specs.declared.names.Label.TheVariants.{Public};
 ghost use Rattle.bl_cmd.specs.Outcomes.{Agree, IsStart};
-ghost use Rattle.bl_twin.specs.Agreeing.{AgreeWherePublic};
+ghost use Rattle.bl_twin.specs.PublicAgreement.{AgreeWherePublic};
 
 use bl_base::{Label, NoMemory, Pages, Start};
 use bl_cmd::{MemoryDef, ParamDef, WellFormed};

@@ -1,7 +1,7 @@
 //! What two runs have in common, and what they show behind it.
 ghost use Rattle.std.specs.Prelude.{◌≡◌, ◌≤◌, take, length};
 ghost use Rattle.bl_rob.specs.CallResults.{seen_in};
-ghost use Rattle.bl_twin.specs.Comparing.{common_by, compared, shown_behind};
+ghost use Rattle.bl_twin.specs.TwinComparisons.{common_by, compared, shown_behind};
 
 use crate::sight::Sight;
 use bl_rob::Observed;

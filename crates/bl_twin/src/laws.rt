@@ -3,15 +3,15 @@ ghost use Rattle.std.specs.Prelude.{◌≡◌, ◌↔◌, ◌≤◌, ℕ, List a
 ghost use Rattle.bl_base.specs.declared.start.Start.{Start};
 ghost use Rattle.bl_cmd.specs.Outcomes.{Agree};
 ghost use Rattle.bl_cmd.specs.declared.definitions.ProgramParts.{ProgramParts};
-ghost use Rattle.bl_rob.specs.Observed.{HasEqualObservations, observed};
+ghost use Rattle.bl_rob.specs.Observations.{HasEqualObservations, observed};
 ghost use Rattle.bl_rob.specs.declared.directive.Directive.{Directive};
 ghost use Rattle.bl_rob.specs.declared.directive.Observation.{Observation};
-ghost use Rattle.bl_twin.specs.Comparing.{Counts, IsLongestFront, Tells, common, comparison};
+ghost use Rattle.bl_twin.specs.TwinComparisons.{Counts, IsLongestCommonPrefix, Tells, common, comparison};
 ghost use Rattle.bl_twin.specs.declared.comparison.Comparison.TheVariants as comparison_is;
 
 /// What two lists have in common is their longest common prefix.
 pub fn what_is_common()
-    ensures { (one other front : Listed Observation) → common one other ≡ front ↔ IsLongestFront front one other }
+    ensures { (one other front : Listed Observation) → common one other ≡ front ↔ IsLongestCommonPrefix front one other }
 {}
 
 /// A comparison of two runs of a function by the same directives says `Differ` exactly where what is observed of them isn't equal;

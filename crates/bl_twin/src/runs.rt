@@ -2,7 +2,7 @@
 ghost use Rattle.std.specs.Prelude.{◌≡◌, IfOk};
 ghost use Rattle.bl_cmd.specs.Outcomes.{IsStart};
 ghost use Rattle.bl_rob.specs.CallResults.{seen_in};
-ghost use Rattle.bl_rob.specs.Observed.{observed};
+ghost use Rattle.bl_rob.specs.Observations.{observed};
 ghost use Rattle.bl_twin.specs.Runs.{IsSideBySide};
 
 use crate::agreement::agree;

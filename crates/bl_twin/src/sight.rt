@@ -28,8 +28,8 @@ pub trait Sight: Copy + Drop {
 
 impl Sight for Observation {
     ghost use Rattle.bl_trace.specs.Observations.{observation_text};
-    ghost use Rattle.bl_twin.specs.Comparing.{is_same};
-    ghost use Rattle.bl_twin.specs.Laws.{observations_decided};
+    ghost use Rattle.bl_twin.specs.TwinComparisons.{is_same};
+    ghost use Rattle.bl_twin.specs.SameObservations.{observations_decided};
 
     ghost alike = { is_same };
 

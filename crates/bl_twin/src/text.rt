@@ -2,7 +2,7 @@
 ghost use Rattle.std.specs.Prelude.{◌≡◌, ◌++◌, IfOk};
 ghost use Rattle.std.specs.List.{flat_map};
 ghost use Rattle.bl_rob.specs.CallResults.{seen_in};
-ghost use Rattle.bl_twin.specs.Comparing.{agreement_text, comparison_by, compared, ending_text, numbered, shown_text, twin_text_by};
+ghost use Rattle.bl_twin.specs.TwinComparisons.{agreement_text, comparison_by, compared, ending_text, numbered, shown_text, twin_text_by};
 
 use crate::comparison::{Comparison, Shown, common_front, compared, shown_behind};
 use crate::sight::Sight;

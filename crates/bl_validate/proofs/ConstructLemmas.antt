@@ -3,7 +3,7 @@ use Rattle.std.proofs.Common.{◌≡◌, ◌↔◌, ◌++◌, List, [], ◌∷�
 use Rattle.std.proofs.lemmas.List.{reverse-append, length-reverse, append_assoc}
 use Rattle.std.proofs.lemmas.Option.{same_Some}
 use Rattle.bl_wasm.specs.Instructions.{IsPlain}
-use Rattle.bl_wasm.specs.Nesting.{then_part, else_part}
+use Rattle.bl_wasm.specs.OpenConstructs.{then_part, else_part}
 use Rattle.bl_wasm.specs.Typing.{Open, opened, Context, labels, Plain, Begins, Stays, Rule, expanded}
 use Rattle.bl_wasm.specs.declared.types.BlockType.{BlockType}
 use Rattle.bl_wasm.specs.declared.types.WasmType.{WasmType}

@@ -5,4 +5,4 @@ pub mod ModuleRuleLemmas
 pub mod OperandLemmas
 pub mod Reasons
 pub mod Spaces
-pub mod Whole
+pub mod BodyTypings

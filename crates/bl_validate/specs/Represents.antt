@@ -1,6 +1,6 @@
 -- What the validator's stacks represent: the constructs that may be open at a place, and the operands' types there.
 use Rattle.std.specs.Prelude.{◌≡◌, ◌↔◌, ◌++◌, List, [], ◌∷◌, reverse, map, Bool, IsTrue}
-use Rattle.bl_wasm.specs.Nesting as nesting
+use Rattle.bl_wasm.specs.OpenConstructs as nesting
 use Rattle.bl_wasm.specs.Typing.{Open, Context, Rule, Begins, taken_by}
 use Rattle.bl_wasm.specs.declared.instruction.Instr.{Instr}
 use Rattle.bl_wasm.specs.declared.types.BlockType.{BlockType}

@@ -1,8 +1,7 @@
 -- What a body stands in.
 use Rattle.std.specs.Prelude.{◌≡◌, ◌++◌, List, length, filter_map}
 use Rattle.bl_wasm.specs.Typing.{Context, Spaces, placed}
-use Rattle.bl_wasm.specs.Validity.{body_context, functions_of, tables_of, memories_of, globals_of}
-use Rattle.bl_wasm.specs.Validity.{imported, function_of, table_of, memory_of, global_of}
+use Rattle.bl_wasm.specs.Validity.{body_context, functions_of, tables_of, memories_of, globals_of, imported, function_of, table_of, memory_of, global_of}
 use Rattle.bl_wasm.specs.declared.types.FuncType.{FuncType}
 use Rattle.bl_wasm.specs.declared.module.Code.{Code}
 use Rattle.bl_wasm.specs.declared.module.Import.{Import}

@@ -185,9 +185,6 @@ found_behind text name n (pair ∷ pairs) = from (bytes_eq text pair.0) (found_b
 pub record Knows (types : List Signature) (i : ℕ) (pairs : Pairs) : Type 0 where
   pub found : (type : Signature) → number_of (spelled type) pairs ≡ below (first_of types type) i
 
-pub knows_none : (types : List Signature) → Knows types 0 []
-knows_none types = record { found = λ type. sym (not_below (first_of types type) 0 (omega arith)) }
-
 module _ (types : List Signature) (i : ℕ) (type : Signature) (pairs : Pairs) (here : slice_get types i ≡ Some type) (knows : Knows types i pairs) where
   is_here : (other : Signature) → first_of types other ≡ i → other ≡ type
   is_here other e =

@@ -1,11 +1,11 @@
 pub mod EqualTypes
 pub mod ExportLemmas
-pub mod LeadingLemmas
+pub mod LeadsLemmas
 pub mod LimitLemmas
-pub mod NestingLemmas
+pub mod OpenConstructLemmas
 pub mod ReachedLemmas
-pub mod RenamingLemmas
-mod Rows
+pub mod IndexMapLemmas
+mod WorkedModules
 pub mod SequenceLemmas
 pub mod SpellingLemmas
-mod TypingRows
+mod WorkedTypings

@@ -5,7 +5,7 @@ use Rattle.std.specs.List.{All}
 use Rattle.bl_base.proofs.Lists.{all_get}
 use Rattle.bl_wasm.specs.Instructions.{Nests}
 use Rattle.bl_wasm.specs.Instructions.{none as no_items, plain as plain_item, block as block_items, loop as loop_items, if_then as if_items, if_else as else_items}
-use Rattle.bl_wasm.specs.Nesting.{Kind, of_block, of_loop, then_part, else_part}
+use Rattle.bl_wasm.specs.OpenConstructs.{Kind, of_block, of_loop, then_part, else_part}
 use Rattle.bl_wasm.specs.declared.instruction.Instr.{Instr}
 use Rattle.bl_wasm.specs.declared.instruction.Instr.TheVariants.{Block, Loop, If, Else, End}
 use Rattle.bl_wasm.specs.declared.types.BlockType.{BlockType}
@@ -14,7 +14,7 @@ use Rattle.bl_wasm.specs.declared.types.WasmType.TheVariants.{I32}
 use Rattle.bl_wasm.specs.declared.types.FuncType.{FuncType}
 use Rattle.bl_wasm.specs.Typing.{Begins, Context, Ends, IsTyping, Open, Plain, Stays, Types, expanded, labels, opened, taken_by}
 use Rattle.bl_wasm.specs.Sequences.{Sequence, none, plain, block, loop, if_then, if_else, IsConstruct}
-use Rattle.bl_wasm.proofs.LeadingLemmas.{Leads, leads_of, places_of, split, join, stays_of, rule_of, body_nests}
+use Rattle.bl_wasm.proofs.LeadsLemmas.{Leads, leads_of, places_of, split, join, stays_of, rule_of, body_nests}
 
 -- ---- from places to sequences
 

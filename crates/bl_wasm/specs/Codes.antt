@@ -1,7 +1,7 @@
 -- The codes of instructions that stand in no other table (WebAssembly 1.0, section 5.4).
 use Rattle.std.specs.Prelude.{◌≡◌, ℕ, ◌≤◌, Some}
 use Rattle.bl_ops.specs.declared.op.Op.{Op}
-use Rattle.bl_ops.specs.Table.{operator_code}
+use Rattle.bl_ops.specs.OperatorTable.{operator_code}
 use Rattle.bl_wasm.specs.declared.float.FloatAccess.{FloatAccess}
 use Rattle.bl_wasm.specs.declared.float.FloatAccess.TheVariants.{F32Load, F64Load, F32Store, F64Store}
 

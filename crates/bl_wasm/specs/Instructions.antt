@@ -3,7 +3,7 @@
 use Rattle.std.specs.Prelude.{◌≡◌, ℕ, ◌++◌, List, [], ◌∷◌, IsTrue, IsFalse, Some}
 use Rattle.bl_ops.specs.declared.op.Op.{Op}
 use Rattle.bl_ops.specs.Access.{is_load, access_code}
-use Rattle.bl_ops.specs.Table.{operator_code}
+use Rattle.bl_ops.specs.OperatorTable.{operator_code}
 use Rattle.bl_wasm.specs.Codes.{IsFloatCode, float_access_code}
 use Rattle.bl_wasm.specs.Types.{block_type}
 use Rattle.bl_leb.specs.Grammar.{Spellings, ◌⨾◌, byte, given}

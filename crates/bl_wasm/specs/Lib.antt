@@ -4,9 +4,9 @@ pub mod Instructions
 pub mod Limits
 pub mod Linked
 pub mod Modules
-pub mod Nesting
+pub mod OpenConstructs
 pub mod Reached
-pub mod Renaming
+pub mod IndexMaps
 pub mod Sections
 pub mod Sequences
 pub mod TypeNumbers

@@ -3,7 +3,7 @@
 use Rattle.std.specs.Prelude.{◌≡◌, ◌++◌, List, [], ◌∷◌, Some}
 use Rattle.std.specs.List.{All}
 use Rattle.bl_wasm.specs.Instructions.{IsPlain}
-use Rattle.bl_wasm.specs.Nesting.{Kind, then_part}
+use Rattle.bl_wasm.specs.OpenConstructs.{Kind, then_part}
 use Rattle.bl_wasm.specs.Typing.{Context, Plain, expanded, taken_by}
 use Rattle.bl_wasm.specs.declared.instruction.Instr.{Instr}
 use Rattle.bl_wasm.specs.declared.instruction.Instr.TheVariants.{Block, Loop, If, Else, End}

@@ -1,7 +1,7 @@
 -- What is open at a place of a typed body: the same by nesting and by its typing (WebAssembly 1.0, sections 2.4.5 and 3.1.1).
 use Rattle.std.specs.Prelude.{◌≡◌, ℕ, List, drop, Some}
 use Rattle.std.specs.List.{AllZip}
-use Rattle.bl_wasm.specs.Nesting.{Construct, open_at}
+use Rattle.bl_wasm.specs.OpenConstructs.{Construct, open_at}
 use Rattle.bl_wasm.specs.Typing.{Context, Open, Types, expanded}
 use Rattle.bl_wasm.specs.declared.instruction.Instr.{Instr}
 use Rattle.bl_wasm.specs.declared.types.WasmType.{WasmType}

@@ -1,9 +1,10 @@
 //! The names of exported functions.
 ghost use Rattle.std.specs.Prelude.{◌≡◌, [], ◌∷◌, ◌++◌, None, OnOk, OnErr, length, option_map, slice_get};
-ghost use Rattle.bl_wasm.specs.Exports.{number_of};
+ghost use Rattle.bl_wasm.specs.Exports.{number_of, pairs_of};
 
 use bl_base::NoMemory;
 use indexmap::IndexMap;
+use indexmap::map::IntoIter;
 use std::alloc::Global;
 use std::marker::Model;
 
@@ -61,6 +62,13 @@ impl Exports {
         ensures { result ≡ option_map (λ pair. pair.1) (slice_get self.now index) }
     {
         self.map.get_index(index).map(|(_name, function)| *function)
+    }
+
+    /// The pairs by value, in order; takes no memory.
+    pub fn into_pairs(self) -> IntoIter<Vec<u8>, u32>
+        ensures { pairs_of result ≡ self }
+    {
+        self.map.into_iter()
     }
 
     /// Adds a name, by its bytes, that isn't there. A refusal leaves the names as they were.

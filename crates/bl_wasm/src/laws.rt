@@ -1,9 +1,9 @@
 //! Laws of the grammar and of typings. Each function is its contract alone.
 ghost use Rattle.std.specs.Prelude.{◌≡◌, ◌↔◌, ◌++◌, ℕ, ◌≤◌, true, List, [], ◌∷◌, length, map, slice_get, Some};
 ghost use Rattle.bl_wasm.specs.Instructions.{Nests};
-ghost use Rattle.bl_wasm.specs.Nesting.{Closes, else_part, of_block, of_loop, open_through, then_part};
+ghost use Rattle.bl_wasm.specs.OpenConstructs.{Closes, else_part, of_block, of_loop, open_through, then_part};
 ghost use Rattle.bl_wasm.specs.Reached.{is_reached};
-ghost use Rattle.bl_wasm.specs.Renaming.{NameAlike, Names, renamed};
+ghost use Rattle.bl_wasm.specs.IndexMaps.{NameAlike, Names, renamed};
 ghost use Rattle.bl_wasm.specs.Sequences.{IsConstruct, Sequence};
 ghost use Rattle.bl_wasm.specs.TypedPlaces.{IsOpenAt};
 ghost use Rattle.bl_wasm.specs.Typing.{Context, IsTyping, Open, Spaces, Types, labels, placed};

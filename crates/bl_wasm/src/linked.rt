@@ -125,4 +125,11 @@ impl Linked {
     {
         &self.tree
     }
+
+    /// The exports alone; takes no memory.
+    pub fn into_exports(self) -> Exports
+        ensures { result ≡ self.exports }
+    {
+        self.tree.exports
+    }
 }

@@ -1,9 +1,10 @@
-pub mod Firsts
-pub mod Items
-pub mod Judging
-pub mod Links
-pub mod Marked
-pub mod Places
-pub mod Reading
+pub mod CertificateVerdicts
+pub mod ArrayItems
+pub mod VerdictParts
+pub mod ChainLinks
+pub mod ProtectedWeights
+pub mod UsePlaces
+pub mod ReadBack
+pub mod RoundTrip
 pub mod Texts
 pub mod Tokens

@@ -1,4 +1,4 @@
-pub mod Lookups
+pub mod LookupAnswers
 pub mod Shapes
 pub mod Texts
 pub mod Tokens

@@ -64,11 +64,11 @@ pub record IsJson (bytes : List ℕ) (d : Data) : Type 0 where
   pub value : read bytes ≡ Some d
 
 -- what reading bytes answers: the certificate that their value is; no value; a value that is no certificate
-abbrev pub Reads : List ℕ → Result Certificate CertError → Type 0
-Reads bytes (Ok c) = (d : Data) × IsJson bytes d × (certificate_of d ≡ Some c)
-Reads bytes (Err NotJson) = (d : Data) → IsJson bytes d → ⊥
-Reads bytes (Err Shape) = (d : Data) × IsJson bytes d × (certificate_of d ≡ None)
-Reads bytes (Err Memory) = ⊤
+abbrev pub ReadsCertificate : List ℕ → Result Certificate CertError → Type 0
+ReadsCertificate bytes (Ok c) = (d : Data) × IsJson bytes d × (certificate_of d ≡ Some c)
+ReadsCertificate bytes (Err NotJson) = (d : Data) → IsJson bytes d → ⊥
+ReadsCertificate bytes (Err Shape) = (d : Data) × IsJson bytes d × (certificate_of d ≡ None)
+ReadsCertificate bytes (Err Memory) = ⊤
 
 -- that certificate, or want of memory
 abbrev pub IsThat : Certificate → Result Certificate CertError → Type 0
@@ -79,4 +79,4 @@ IsThat c (Err Memory) = ⊤
 
 -- whatever reads the bytes answers that certificate, or want of memory
 pub record IsReadAs (bytes : List ℕ) (c : Certificate) : Type 0 where
-  pub answers : (result : Result Certificate CertError) → Reads bytes result → IsThat c result
+  pub answers : (result : Result Certificate CertError) → ReadsCertificate bytes result → IsThat c result

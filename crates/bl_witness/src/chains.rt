@@ -3,7 +3,7 @@ ghost use Rattle.std.specs.Prelude.{◌≡◌, ◌↔◌, ◌≤◌, ℕ, AllPai
 ghost use Rattle.bl_cmd.specs.Sites.{Loads};
 ghost use Rattle.bl_graph.specs.Chains.{IsChain};
 ghost use Rattle.bl_graph.specs.Graphs.{IsGraph, Precedes, use_of};
-ghost use Rattle.bl_witness.specs.Lookups.{IsLinked, IsOrdered, IsPlaceOf, IsWritten, LeadsToSink};
+ghost use Rattle.bl_witness.specs.LookupAnswers.{IsLinked, IsOrdered, IsPlaceOf, IsWritten, LeadsToSink};
 
 use bl_base::{List, Pos, Var};
 use bl_cmd::{Command, ProgramParts};

@@ -1,7 +1,7 @@
 //! Certificates read from JSON.
 ghost use Rattle.std.specs.Prelude.{◌≡◌, ◌^◌, IfOk, option_map};
 ghost use Rattle.serde_json.specs.View.{items_view, view};
-ghost use Rattle.bl_witness.specs.Shapes.{Reads, certificate_of, each_item, field, has_members, list_of, path_of, position_of, whole_below};
+ghost use Rattle.bl_witness.specs.Shapes.{ReadsCertificate, certificate_of, each_item, field, has_members, list_of, path_of, position_of, whole_below};
 
 use crate::error::CertError;
 use bl_base::{List, NoMemory, Pos};
@@ -13,7 +13,7 @@ use std::alloc::Global;
 /// the last value alone counts. Takes some 18 bytes of memory for a byte of text in arrays of numbers, and some 125 in arrays of
 /// small objects.
 pub fn from_json(alloc: Global, bytes: &[u8]) -> Result<Certificate, CertError>
-    ensures { Reads bytes.now result }
+    ensures { ReadsCertificate bytes.now result }
 {
     let value = match Value::from_slice(alloc, bytes) {
         Ok(value) => value,

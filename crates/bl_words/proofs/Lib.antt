@@ -1,6 +1,6 @@
-pub mod Contents
+pub mod ParsedContents
 pub mod ModuleWords
-pub mod Tops
-pub mod Walks
+pub mod CallWords
+pub mod ClapWalks
 pub mod WordKinds
 pub mod WordsLemmas

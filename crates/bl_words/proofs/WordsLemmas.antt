@@ -10,10 +10,8 @@ use Rattle.std.proofs.lemmas.Slice.Eq.{bytes_eq-Decides}
 use Rattle.bl_base.specs.Quantity.{limit_of}
 use Rattle.bl_base.specs.declared.quantity.Quantity.TheVariants as quantity
 use Rattle.bl_text.specs.Names.{AreNamedApart, module_name}
-use Rattle.bl_words.specs.Requests.{AreInRange, AreTurnsInRange, Command, GenRequest, HardenRequest, InterpRequest, IsGenInRange, Parts, PredictRequest, Request, RunRequest, are_distinct, are_files_unlike, asked_among, command_of, commands, file_named, files_in, forward, gen, gen_of, harden, harden_of, interp, interp_of, join, join_of, kept, lower, lower_of, modules_in, modules_of, number_of_steps, part, part_of, parts_behind, parts_by, parts_of, predict, predict_of, request_of, run, run_of, seed_of, size_of, spec, spec_of, steps_of, turns_of, twin, twin_of, value_of, verify, verify_of, with_counts}
+use Rattle.bl_words.specs.Requests.{AreInRange, AreTurnsInRange, Command, GenRequest, HardenRequest, InterpRequest, IsGenInRange, Parts, PredictRequest, Request, RunRequest, are_distinct, are_files_unlike, asked_among, command_of, commands, file_named, files_in, forward, gen, gen_of, harden, harden_of, interp, interp_of, join, join_of, kept, lower, lower_of, modules_in, modules_of, number_of_steps, part, part_of, parts_behind, parts_by, parts_of, predict, predict_of, request_of, run, run_of, seed_of, size_of, spec, spec_of, steps_of, turns_of, twin, twin_of, value_of, verify, verify_of, with_counts, BeginsWithDash, IsOption, IsTakenApart, no_words, options_end, argument, value_in_next_word, value_in_same_word, OptionName, Steps, Counts, Reading, ends, asks, gives, strange, plain, arguments_alone, begins_with_dash, has_value_of, is_option, options, reading_among, reading_of, with_argument, with_value, word_of}
 use Rattle.bl_text.specs.Digits.{decimal_below}
-use Rattle.bl_words.specs.Requests.{BeginsWithDash, IsOption, IsTakenApart, no_words, options_end, argument, value_in_next_word, value_in_same_word}
-use Rattle.bl_words.specs.Requests.{OptionName, Steps, Counts, Reading, ends, asks, gives, strange, plain, arguments_alone, begins_with_dash, has_value_of, is_option, options, reading_among, reading_of, with_argument, with_value, word_of}
 use Rattle.bl_words.proofs.WordKinds.{value_is}
 use Rattle.bl_words.proofs.ModuleWords.{named_apart}
 use Rattle.bl_text.proofs.Decimals.{below_limit}

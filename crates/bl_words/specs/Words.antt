@@ -1,8 +1,7 @@
 -- The words of a call as the code keeps them.
 use Rattle.std.specs.Prelude.{List, ℕ, map, Option, option_map}
 use Rattle.std.specs.Borrow.{Bor}
-use Rattle.bl_words.specs.Requests.{Request, GenRequest, HardenRequest, InterpRequest, JoinRequest, LowerRequest, PartRequest, PredictRequest, RunRequest, SpecRequest, TwinRequest, VerifyRequest}
-use Rattle.bl_words.specs.Requests.{Parts, forward, gen, harden, interp, join, lower, part, predict, run, spec, twin, verify}
+use Rattle.bl_words.specs.Requests.{Request, GenRequest, HardenRequest, InterpRequest, JoinRequest, LowerRequest, PartRequest, PredictRequest, RunRequest, SpecRequest, TwinRequest, VerifyRequest, Parts, forward, gen, harden, interp, join, lower, part, predict, run, spec, twin, verify}
 use Rattle.bl_words.specs.declared.words.GenWords.{GenWords}
 use Rattle.bl_words.specs.declared.words.HardenWords.{HardenWords}
 use Rattle.bl_words.specs.declared.words.InterpWords.{InterpWords}

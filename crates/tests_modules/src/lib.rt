@@ -2,11 +2,11 @@
 #![tactic(auto)]
 
 #[cfg(test)]
+mod alone;
+#[cfg(test)]
 mod labels;
 #[cfg(test)]
 mod link;
-#[cfg(test)]
-mod parts;
 #[cfg(test)]
 mod validate;
 #[cfg(test)]

@@ -1,12 +1,11 @@
 //! Modules that import from one another. Those that can be linked were run by node v20.20.2, each given the exports of those before;
 //! the others break one rule each.
-
-use crate::parts::linked;
 use bl_base::{List, NoMemory};
 use bl_link::LinkError;
 use bl_wasm::{Exports, Memory, Tree};
 use std::alloc::Global;
 use std::test::Fail;
+use tests_linked::linked;
 
 /// A function "f" that adds one; a memory "m" of one page to three with 1, 2, 3, 4 at 10; a table "t" of four slots with the
 /// function in the first; and a global "g" that is 7.

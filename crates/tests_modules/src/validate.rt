@@ -1,4 +1,4 @@
-//! Cases that were judged outside of this program: `node cases.js src` writes each module below in the binary format, asks
+//! Cases that were judged outside of this program: `oracles/validity.js` writes each module below in the binary format, asks
 //! node v20.20's `WebAssembly.Module`, and writes the tables. Where node says that a function can't be compiled, the case
 //! names that function; where it refuses the module otherwise, a rule is broken.
 //!

@@ -1,4 +1,4 @@
-//! The images of whole modules. Each module runs under node v20.20 as its items say. Each image is spelled by `images.py` from commands
+//! The images of whole modules. Each module runs under node v20.20 as its items say. Each image is spelled by `oracles/images.py` from commands
 //! that are written out by hand from the rules of lowering, for a part named "m" by itself and without labels.
 use crate::lowered::is_image;
 use std::test::Fail;

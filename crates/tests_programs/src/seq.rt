@@ -1,56 +1,12 @@
 //! What plain runs come to.
-ghost use Rattle.std.specs.Prelude.{◌≡◌, IfOk, IsTrue, map};
-ghost use Rattle.bl_cmd.specs.Outcomes.{IsStart};
-ghost use Rattle.bl_cmd.specs.declared.definitions.MemoryDef.{MemoryDef};
-ghost use Rattle.bl_cmd.specs.declared.definitions.ParamDef.{ParamDef};
-
 use crate::image::{INC, LOADS};
-use bl_base::{List, NoMemory, Pages, Run, Start, Trap, ValueType, fits};
-use bl_cmd::{FunctionDef, ProgramParts, WellFormed};
+use bl_base::{List, NoMemory, Pages, Run, Start, Trap};
+use bl_cmd::WellFormed;
 use bl_image::decode_image;
 use bl_seq::run;
 use std::alloc::Global;
 use std::test::Fail;
-
-/// The types of a function's parameters.
-fn kinds_of(alloc: Global, defined: &FunctionDef) -> Result<Vec<ValueType>, NoMemory>
-    ensures { IfOk result (λ kinds. kinds.items ≡ map (λ (param : ParamDef). param.kind) defined.now.params) }
-{
-    let mut kinds = Vec::new(alloc);
-    for param in defined.params.as_slice() {
-        kinds.push(param.kind)?;
-    }
-    Ok(kinds)
-}
-
-/// The first pages of a program's memories.
-fn pages_of(alloc: Global, parts: &ProgramParts) -> Result<Vec<u32>, NoMemory>
-    ensures { IfOk result (λ pages. pages.items ≡ map (λ (memory : MemoryDef). memory.pages) parts.now.memories) }
-{
-    let mut pages = Vec::new(alloc);
-    for memory in parts.memories.as_slice() {
-        pages.push(memory.pages)?;
-    }
-    Ok(pages)
-}
-
-/// Whether a start fits the function of that number.
-fn is_start(
-    alloc: Global,
-    program: &WellFormed,
-    function: u32,
-    start: &Start,
-) -> Result<bool, NoMemory>
-    ensures { IfOk result (λ yes. IsTrue yes → IsStart program.now function start.now) }
-{
-    let parts = program.program().parts();
-    let Some(defined) = parts.functions.as_slice().get(function as usize) else {
-        return Ok(false);
-    };
-    let kinds = kinds_of(alloc, defined)?;
-    let pages = pages_of(alloc, parts)?;
-    Ok(fits(kinds.as_slice(), pages.as_slice(), start))
-}
+use tests_starts::is_start;
 
 /// The program that the bytes are the image of; bytes that are none are answered like want of memory.
 pub(crate) fn program_of(alloc: Global, image: &[u8]) -> Result<WellFormed, NoMemory> {

@@ -1,10 +1,10 @@
 use Rattle.std.proofs.Common.{Err, refl}
-use Rattle.bl_build.specs.Tracing.{program_speculating, starting_other}
-use Rattle.bl_build.specs.Working.{speculated_in}
+use Rattle.bl_build.specs.TraceStages.{program_speculating, starting_other}
+use Rattle.bl_build.specs.StageAnswers.{speculated_in}
 use Rattle.bl_words.specs.Words.{twin_in}
-use Rattle.bl_app.specs.Forwarding.{ForwardPlans}
-use Rattle.bl_app.specs.Twinning.{twinned_in}
-use Rattle.bl_job.proofs.StagedWork.{done_behind, refused_first}
+use Rattle.bl_app.specs.ForwardJob.{ForwardPlans}
+use Rattle.bl_app.specs.TwinJob.{twinned_in}
+use Rattle.bl_job.proofs.StageWork.{done_behind, refused_first}
 use Rattle.bl_app.proofs.forward.forward_program.Goals as goal
 
 pub returns-in-Err : goal.returns-in-Err

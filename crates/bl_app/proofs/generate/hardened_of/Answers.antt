@@ -1,9 +1,9 @@
 use Rattle.std.proofs.Common.{◌≡◌, ◌++◌, [], ◌∷◌, ◌∙◌, List, ap, codes, subst, sym, ℕ}
-use Rattle.bl_build.specs.Hardening.{hardening}
-use Rattle.bl_build.specs.Loading.{AreShort, parts_of}
-use Rattle.bl_job.specs.Working.{IsStaged, contents_in}
+use Rattle.bl_build.specs.HardenStage.{hardening}
+use Rattle.bl_build.specs.LoadStages.{AreShort, parts_of}
+use Rattle.bl_job.specs.WorkAnswers.{IsStaged, contents_in}
 use Rattle.bl_job.specs.declared.content.Content.{Content}
-use Rattle.bl_build.specs.Working.{hardened_in}
+use Rattle.bl_build.specs.StageAnswers.{hardened_in}
 use Rattle.bl_app.proofs.generate.hardened_of.Goals as goal
 
 -- one content, which is of these bytes

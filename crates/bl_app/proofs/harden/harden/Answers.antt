@@ -1,4 +1,4 @@
-use Rattle.bl_build.specs.Working.{hardened_in}
+use Rattle.bl_build.specs.StageAnswers.{hardened_in}
 use Rattle.bl_app.proofs.harden.harden.Goals as goal
 
 pub returns-in_ok-plan_of-in-Ok : goal.returns-in_ok-plan_of-in-Ok

@@ -1,10 +1,10 @@
 use Rattle.std.proofs.Common.{Bor, List, None, ap, arith, map, subst, sym, ℕ}
-use Rattle.bl_build.specs.Loading.{AreShort}
-use Rattle.bl_build.specs.Weighing.{counted_sources, hardening_by}
-use Rattle.bl_build.specs.Working.{hardened_in}
-use Rattle.bl_job.specs.Working.{IsStaged, content_in, contents_in}
+use Rattle.bl_build.specs.LoadStages.{AreShort}
+use Rattle.bl_build.specs.WeightStages.{counted_sources, hardening_by}
+use Rattle.bl_build.specs.StageAnswers.{hardened_in}
+use Rattle.bl_job.specs.WorkAnswers.{IsStaged, content_in, contents_in}
 use Rattle.bl_words.specs.Words.{harden_in, text_in}
-use Rattle.bl_app.specs.Hardening.{harden_job}
+use Rattle.bl_app.specs.HardenJob.{harden_job}
 use Rattle.bl_job.proofs.WorkLemmas.{as_many}
 use Rattle.bl_app.proofs.HardenLemmas.{short_alone, short_behind, some_last, sources_behind}
 use Rattle.bl_app.proofs.harden.hardened_of.Goals as goal

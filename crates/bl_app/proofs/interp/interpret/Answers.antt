@@ -1,16 +1,16 @@
 use Rattle.std.proofs.Common.{◌≤◌, Bor, Err, List, None, arith, length, map, subst, sym, ℕ}
 use Rattle.bl_base.specs.Quantity.{limit_of}
 use Rattle.bl_base.specs.declared.quantity.Quantity.TheVariants as quantity
-use Rattle.bl_app.specs.Interpreting.{InterpPlans, interp_job, interp_staged}
+use Rattle.bl_app.specs.InterpJob.{InterpPlans, interp_job, interp_staged}
 use Rattle.bl_job.specs.Jobs.{AreRead}
-use Rattle.bl_build.specs.Loading.{loading, parts_of, AreShort}
+use Rattle.bl_build.specs.LoadStages.{loading, parts_of, AreShort}
 use Rattle.bl_text.specs.Names.{AreNamedApart}
 use Rattle.bl_words.specs.Words.{interp_in}
-use Rattle.bl_build.specs.Running.{invoking}
-use Rattle.bl_job.specs.Working.{IsDoneBehind, Tells, content_in, contents_in}
+use Rattle.bl_build.specs.InvocationStages.{invoking}
+use Rattle.bl_job.specs.WorkAnswers.{IsDoneBehind, Tells, content_in, contents_in}
 use Rattle.bl_app.proofs.HardenLemmas.{short_modules}
-use Rattle.bl_job.proofs.StagedWork.{done_behind, refused_first}
-use Rattle.bl_job.proofs.Staging.{staged_work}
+use Rattle.bl_job.proofs.StageWork.{done_behind, refused_first}
+use Rattle.bl_job.proofs.StagedJobLemmas.{staged_work}
 use Rattle.bl_job.proofs.WorkLemmas.{as_many}
 use Rattle.bl_app.proofs.interp.interpret.Goals as goal
 

@@ -1,9 +1,9 @@
 use Rattle.std.proofs.Common.{subst}
 use Rattle.bl_wasm.specs.declared.linked.Tree.{Tree}
-use Rattle.bl_build.specs.Running.{invoking}
+use Rattle.bl_build.specs.InvocationStages.{invoking}
 use Rattle.bl_words.specs.Words.{interp_in}
-use Rattle.bl_job.specs.Working.{Tells}
-use Rattle.bl_build.specs.Working.{invoked_in}
+use Rattle.bl_job.specs.WorkAnswers.{Tells}
+use Rattle.bl_build.specs.StageAnswers.{invoked_in}
 use Rattle.bl_app.proofs.interp.interpret_tree.Goals as goal
 
 pub returns-in-Err : goal.returns-in-Err

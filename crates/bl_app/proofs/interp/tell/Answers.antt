@@ -2,7 +2,7 @@ use Rattle.std.proofs.Common.{◌≡◌, ◌∙◌, ap, map}
 use Rattle.bl_base.specs.Runs.{memory_of, outcome_of}
 use Rattle.bl_reduce.specs.Outcomes.{first_store}
 use Rattle.bl_outcome.specs.Outcomes.{outcome_text}
-use Rattle.bl_job.specs.Working.{keep_in}
+use Rattle.bl_job.specs.WorkAnswers.{keep_in}
 use Rattle.bl_app.proofs.interp.tell.Goals as goal
 
 pub first_memories-requires : goal.first_memories-requires

@@ -1,8 +1,8 @@
 use Rattle.std.proofs.Common.{Err, None, Ok}
-use Rattle.bl_build.specs.Working.{union_in}
+use Rattle.bl_build.specs.StageAnswers.{union_in}
 use Rattle.bl_words.specs.Words.{join_in}
-use Rattle.bl_app.specs.Joining.{join_job, join_staged}
-use Rattle.bl_job.proofs.Staging.{staged_work}
+use Rattle.bl_app.specs.JoinJob.{join_job, join_staged}
+use Rattle.bl_job.proofs.StagedJobLemmas.{staged_work}
 use Rattle.bl_job.proofs.WorkLemmas.{as_many}
 use Rattle.bl_app.proofs.join.join.Goals as goal
 

@@ -1,5 +1,5 @@
 use Rattle.bl_app.proofs.CountLemmas.{weighed_by_rules}
-use Rattle.bl_app.proofs.SilentLemmas.{hidden, shown}
+use Rattle.bl_app.proofs.HiddenProtects.{hidden, shown}
 use Rattle.bl_app.proofs.laws.protects_do_not_show.Goals as goal
 
 pub returns : goal.returns

@@ -1,6 +1,6 @@
 use Rattle.std.proofs.Common.{◌≡◌, ◌++◌, Bor, List, ℕ, map, drop}
-use Rattle.bl_app.specs.Compiling.{module_read}
-use Rattle.bl_job.specs.Working.{read_in}
+use Rattle.bl_app.specs.CompileJobs.{module_read}
+use Rattle.bl_job.specs.WorkAnswers.{read_in}
 use Rattle.bl_app.proofs.module.read_modules.Given as goal
 
 abbrev pub invariant-loop-word : goal.invariant-loop-word

@@ -1,4 +1,4 @@
-use Rattle.bl_build.specs.Working.{parted_in}
+use Rattle.bl_build.specs.StageAnswers.{parted_in}
 use Rattle.bl_app.proofs.part.part.Goals as goal
 
 pub returns-in_ok-plan_of-in-Ok : goal.returns-in_ok-plan_of-in-Ok

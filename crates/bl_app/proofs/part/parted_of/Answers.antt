@@ -1,12 +1,12 @@
 use Rattle.std.proofs.Common.{Bor, List, None, arith, map, subst, sym, ℕ}
-use Rattle.bl_build.specs.Interfacing.{parting}
-use Rattle.bl_build.specs.Loading.{AreShort, parts_of}
-use Rattle.bl_build.specs.Working.{parted_in}
+use Rattle.bl_build.specs.InterfaceStages.{parting}
+use Rattle.bl_build.specs.LoadStages.{AreShort, parts_of}
+use Rattle.bl_build.specs.StageAnswers.{parted_in}
 use Rattle.bl_job.specs.Jobs.{AreRead}
-use Rattle.bl_job.specs.Staged.{contents_stage}
-use Rattle.bl_job.specs.Working.{IsStaged, content_in, contents_in}
+use Rattle.bl_job.specs.StagedJobs.{contents_stage}
+use Rattle.bl_job.specs.WorkAnswers.{IsStaged, content_in, contents_in}
 use Rattle.bl_words.specs.Words.{part_in}
-use Rattle.bl_app.specs.Parting.{part_job, part_staged}
+use Rattle.bl_app.specs.PartJob.{part_job, part_staged}
 use Rattle.bl_job.proofs.WorkLemmas.{as_many}
 use Rattle.bl_app.proofs.HardenLemmas.{short_modules}
 use Rattle.bl_app.proofs.PartLemmas.{staged_so}

@@ -1,9 +1,9 @@
 use Rattle.std.proofs.Common.{Err, None}
-use Rattle.bl_build.specs.Entering.{imaging, program_entering}
+use Rattle.bl_build.specs.EntryStages.{imaging, program_entering}
 use Rattle.bl_words.specs.Words.{predict_in}
-use Rattle.bl_app.specs.Predicting.{PredictPlans, predict_job, predict_staged}
-use Rattle.bl_job.proofs.StagedWork.{done_behind, refused_first}
-use Rattle.bl_job.proofs.Staging.{staged_work}
+use Rattle.bl_app.specs.PredictJob.{PredictPlans, predict_job, predict_staged}
+use Rattle.bl_job.proofs.StageWork.{done_behind, refused_first}
+use Rattle.bl_job.proofs.StagedJobLemmas.{staged_work}
 use Rattle.bl_job.proofs.WorkLemmas.{as_many}
 use Rattle.bl_app.proofs.predict.predict.Goals as goal
 

@@ -1,10 +1,10 @@
 use Rattle.std.proofs.Common.{refl, Err}
-use Rattle.bl_build.specs.Entering.{finding, no_export, program_entering, starting}
+use Rattle.bl_build.specs.EntryStages.{finding, no_export, program_entering, starting}
 use Rattle.bl_job.specs.Stages.{at_first}
-use Rattle.bl_build.specs.Working.{entered_in, entry_in}
+use Rattle.bl_build.specs.StageAnswers.{entered_in, entry_in}
 use Rattle.bl_words.specs.Words.{predict_in}
-use Rattle.bl_app.specs.Predicting.{PredictPlans}
-use Rattle.bl_job.proofs.StagedWork.{done_behind}
+use Rattle.bl_app.specs.PredictJob.{PredictPlans}
+use Rattle.bl_job.proofs.StageWork.{done_behind}
 use Rattle.bl_job.proofs.StageLemmas.{told_as}
 use Rattle.bl_app.proofs.predict.predict_program.Goals as goal
 

@@ -1,10 +1,10 @@
 use Rattle.std.proofs.Common.{◌≡◌, ◌∙◌, ◌++◌, [], ◌∷◌, ap, map, rules}
 use Rattle.bl_base.specs.Runs.{outcome_of}
 use Rattle.bl_trace.specs.Traces.{trace_text}
-use Rattle.bl_build.specs.Working.{entered_in, entry_in}
-use Rattle.bl_job.specs.Working.{keep_in}
-use Rattle.bl_app.specs.Executing.{plain_text}
-use Rattle.bl_app.specs.Predicting.{alike_text, met_by}
+use Rattle.bl_build.specs.StageAnswers.{entered_in, entry_in}
+use Rattle.bl_job.specs.WorkAnswers.{keep_in}
+use Rattle.bl_app.specs.RunJob.{plain_text}
+use Rattle.bl_app.specs.PredictJob.{alike_text, met_by}
 use Rattle.bl_app.proofs.PredictLemmas.{planned_by}
 use Rattle.bl_app.proofs.predict.tell_driven.Goals as goal
 

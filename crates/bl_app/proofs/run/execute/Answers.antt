@@ -1,9 +1,9 @@
 use Rattle.std.proofs.Common.{Err, None}
-use Rattle.bl_build.specs.Entering.{imaging, program_entering}
+use Rattle.bl_build.specs.EntryStages.{imaging, program_entering}
 use Rattle.bl_words.specs.Words.{run_in}
-use Rattle.bl_app.specs.Executing.{RunPlans, run_job, run_staged}
-use Rattle.bl_job.proofs.StagedWork.{done_behind, refused_first}
-use Rattle.bl_job.proofs.Staging.{staged_work}
+use Rattle.bl_app.specs.RunJob.{RunPlans, run_job, run_staged}
+use Rattle.bl_job.proofs.StageWork.{done_behind, refused_first}
+use Rattle.bl_job.proofs.StagedJobLemmas.{staged_work}
 use Rattle.bl_job.proofs.WorkLemmas.{as_many}
 use Rattle.bl_app.proofs.run.execute.Goals as goal
 

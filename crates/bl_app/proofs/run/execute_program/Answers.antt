@@ -1,11 +1,11 @@
 use Rattle.std.proofs.Common.{◌≡◌, ap, refl, subst, sym, Err, List, None, Option, Some, ℕ}
-use Rattle.bl_job.specs.Working.{plan_in}
-use Rattle.bl_build.specs.Entering.{finding, no_export, program_entering, starting}
+use Rattle.bl_job.specs.WorkAnswers.{plan_in}
+use Rattle.bl_build.specs.EntryStages.{finding, no_export, program_entering, starting}
 use Rattle.bl_job.specs.Stages.{at_first}
-use Rattle.bl_build.specs.Working.{entered_in, entry_in}
+use Rattle.bl_build.specs.StageAnswers.{entered_in, entry_in}
 use Rattle.bl_words.specs.Words.{run_in, text_in}
-use Rattle.bl_app.specs.Executing.{RunPlans}
-use Rattle.bl_job.proofs.StagedWork.{done_behind}
+use Rattle.bl_app.specs.RunJob.{RunPlans}
+use Rattle.bl_job.proofs.StageWork.{done_behind}
 use Rattle.bl_job.proofs.StageLemmas.{told_as}
 use Rattle.bl_app.proofs.run.execute_program.Goals as goal
 

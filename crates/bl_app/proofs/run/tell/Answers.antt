@@ -1,6 +1,6 @@
 use Rattle.std.proofs.Common.{map}
 use Rattle.bl_base.specs.Runs.{outcome_of}
-use Rattle.bl_job.specs.Working.{keep_in}
+use Rattle.bl_job.specs.WorkAnswers.{keep_in}
 use Rattle.bl_app.proofs.run.tell.Goals as goal
 
 pub returns : goal.returns

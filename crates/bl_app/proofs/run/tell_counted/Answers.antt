@@ -1,7 +1,7 @@
 use Rattle.std.proofs.Common.{◌≡◌, ◌∙◌, [], ◌∷◌, ap, length, rules}
 use Rattle.bl_base.specs.Runs.{outcome_of}
 use Rattle.bl_counts.specs.CountFiles.{counts_text}
-use Rattle.bl_counts.specs.Counting.{counts_of}
+use Rattle.bl_counts.specs.RunCounts.{counts_of}
 use Rattle.bl_app.proofs.run.tell_counted.Goals as goal
 
 pub returns : goal.returns

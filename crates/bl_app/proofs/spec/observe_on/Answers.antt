@@ -1,13 +1,13 @@
 use Rattle.std.proofs.Common.{◌≡◌, ◌++◌, ◌∙◌, List, ap, map, flat_map}
 use Rattle.bl_rob.specs.CallResults.{outcome_in, seen_in, shown}
-use Rattle.bl_rob.specs.Observed.{Observed}
+use Rattle.bl_rob.specs.Observations.{Observed}
 use Rattle.bl_rob.specs.declared.directive.Observation.{Observation}
 use Rattle.bl_rob.specs.declared.directive.Directive.{Directive}
 use Rattle.bl_trace.specs.Observations.{observation_text}
-use Rattle.bl_app.specs.Speculating.{last_text, spec_plan, spec_status}
-use Rattle.bl_build.specs.Working.{entered_in, entry_in}
-use Rattle.bl_job.specs.Working.{keep_in, plan_in}
-use Rattle.bl_rob.proofs.Observing.{observed_so}
+use Rattle.bl_app.specs.SpecJob.{last_text, spec_plan, spec_status}
+use Rattle.bl_build.specs.StageAnswers.{entered_in, entry_in}
+use Rattle.bl_job.specs.WorkAnswers.{keep_in, plan_in}
+use Rattle.bl_rob.proofs.ObservationLemmas.{observed_so}
 use Rattle.bl_app.proofs.spec.observe_on.Goals as goal
 
 pub returns : goal.returns

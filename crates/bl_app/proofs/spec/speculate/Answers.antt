@@ -1,10 +1,10 @@
 use Rattle.std.proofs.Common.{Err, None}
-use Rattle.bl_build.specs.Entering.{imaging}
-use Rattle.bl_build.specs.Tracing.{program_speculating}
+use Rattle.bl_build.specs.EntryStages.{imaging}
+use Rattle.bl_build.specs.TraceStages.{program_speculating}
 use Rattle.bl_words.specs.Words.{spec_in}
-use Rattle.bl_app.specs.Speculating.{SpecPlans, spec_job, spec_staged}
-use Rattle.bl_job.proofs.StagedWork.{done_behind, refused_first}
-use Rattle.bl_job.proofs.Staging.{staged_work}
+use Rattle.bl_app.specs.SpecJob.{SpecPlans, spec_job, spec_staged}
+use Rattle.bl_job.proofs.StageWork.{done_behind, refused_first}
+use Rattle.bl_job.proofs.StagedJobLemmas.{staged_work}
 use Rattle.bl_job.proofs.WorkLemmas.{as_many}
 use Rattle.bl_app.proofs.spec.speculate.Goals as goal
 

@@ -1,4 +1,4 @@
-use Rattle.bl_build.specs.Working.{speculated_in}
+use Rattle.bl_build.specs.StageAnswers.{speculated_in}
 use Rattle.bl_app.proofs.spec.speculate_program.Goals as goal
 
 pub returns : goal.returns

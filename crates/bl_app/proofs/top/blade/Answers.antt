@@ -4,8 +4,8 @@ use Rattle.bl_app.specs.Commands.{job_of}
 use Rattle.bl_job.proofs.CausesLemmas.{causes, was_done}
 use Rattle.bl_app.proofs.CommandLemmas.{done_by_zero, laws_of, said_of}
 use Rattle.bl_app.proofs.HardenLemmas.{hardens}
-use Rattle.bl_app.proofs.LeavingLemmas.{harden_leaves}
-use Rattle.bl_job.proofs.LeavingLemmas.{leaves}
+use Rattle.bl_app.proofs.HardenEffectLemmas.{harden_leaves}
+use Rattle.bl_job.proofs.CallEffectLemmas.{leaves}
 use Rattle.bl_app.proofs.top.blade.Goals as goal
 
 pub returns-clause-ends : goal.returns-clause-ends

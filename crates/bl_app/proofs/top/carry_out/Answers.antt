@@ -7,7 +7,7 @@ use Rattle.bl_job.specs.Refusals.{limit}
 use Rattle.bl_words.specs.Requests.{modules_in}
 use Rattle.bl_words.specs.Words.{request_in}
 use Rattle.bl_job.proofs.CarryLemmas.{refused_ends, told_said}
-use Rattle.bl_job.proofs.CountLemmas.{too_many_first}
+use Rattle.bl_job.proofs.ModuleCountLemmas.{too_many_first}
 use Rattle.bl_app.proofs.top.carry_out.Goals as goal
 
 pub returns-then-count-limit : goal.returns-then-count-limit

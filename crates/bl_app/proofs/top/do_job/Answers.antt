@@ -2,10 +2,10 @@ use Rattle.std.proofs.Common.{◌∙◌, ap, map, refl}
 use Rattle.bl_app.specs.Commands.{job_of, work_of}
 use Rattle.bl_words.specs.Requests.{modules_in}
 use Rattle.bl_words.specs.Words.{request_in}
-use Rattle.bl_job.specs.Working.{Tells, plan_in, read_in, contents_in}
+use Rattle.bl_job.specs.WorkAnswers.{Tells, plan_in, read_in, contents_in}
 use Rattle.bl_job.proofs.CarryLemmas.{contents_fit, done_ends, error_ends, unfetched_ends}
 use Rattle.bl_app.proofs.CommandLemmas.{small_of}
-use Rattle.bl_job.proofs.CountLemmas.{against_with, does_with, reads_with}
+use Rattle.bl_job.proofs.ModuleCountLemmas.{against_with, does_with, reads_with}
 use Rattle.bl_job.proofs.FetchLemmas.{small_reads}
 use Rattle.bl_job.proofs.StageLemmas.{tells_on}
 use Rattle.bl_app.proofs.top.do_job.Goals as goal

@@ -1,8 +1,8 @@
 use Rattle.std.proofs.Common.{List, ◌∙◌, ap, map, subst}
 use Rattle.bl_rob.specs.declared.directive.Directive.{Directive}
 use Rattle.bl_twin.specs.Runs.{IsSideBySide}
-use Rattle.bl_app.specs.Twinning.{twin_status}
-use Rattle.bl_job.specs.Working.{keep_in}
+use Rattle.bl_app.specs.TwinJob.{twin_status}
+use Rattle.bl_job.specs.WorkAnswers.{keep_in}
 use Rattle.bl_app.proofs.twin.tell.Goals as goal
 
 pub returns : goal.returns

@@ -1,10 +1,10 @@
 use Rattle.std.proofs.Common.{Err, None}
-use Rattle.bl_build.specs.Entering.{imaging}
-use Rattle.bl_build.specs.Tracing.{program_twinning}
+use Rattle.bl_build.specs.EntryStages.{imaging}
+use Rattle.bl_build.specs.TraceStages.{program_twinning}
 use Rattle.bl_words.specs.Words.{twin_in}
-use Rattle.bl_app.specs.Twinning.{TwinPlans, twin_job, twin_staged}
-use Rattle.bl_job.proofs.StagedWork.{done_behind, refused_first}
-use Rattle.bl_job.proofs.Staging.{staged_work}
+use Rattle.bl_app.specs.TwinJob.{TwinPlans, twin_job, twin_staged}
+use Rattle.bl_job.proofs.StageWork.{done_behind, refused_first}
+use Rattle.bl_job.proofs.StagedJobLemmas.{staged_work}
 use Rattle.bl_job.proofs.WorkLemmas.{as_many}
 use Rattle.bl_app.proofs.twin.twin.Goals as goal
 

@@ -1,9 +1,9 @@
 use Rattle.std.proofs.Common.{Err, refl}
-use Rattle.bl_build.specs.Tracing.{program_speculating, starting_other}
-use Rattle.bl_build.specs.Working.{speculated_in}
+use Rattle.bl_build.specs.TraceStages.{program_speculating, starting_other}
+use Rattle.bl_build.specs.StageAnswers.{speculated_in}
 use Rattle.bl_words.specs.Words.{twin_in}
-use Rattle.bl_app.specs.Twinning.{TwinPlans, twinned_in}
-use Rattle.bl_job.proofs.StagedWork.{done_behind, refused_first}
+use Rattle.bl_app.specs.TwinJob.{TwinPlans, twinned_in}
+use Rattle.bl_job.proofs.StageWork.{done_behind, refused_first}
 use Rattle.bl_app.proofs.twin.twin_program.Goals as goal
 
 pub returns-in-Err : goal.returns-in-Err

@@ -1,6 +1,6 @@
 use Rattle.std.proofs.Common.{subst}
 use Rattle.bl_cmd.specs.Programs.{IsProgram}
-use Rattle.bl_app.specs.Verifying.{certified_in}
+use Rattle.bl_app.specs.VerifyJob.{certified_in}
 use Rattle.bl_app.proofs.VerifyLemmas.{found_shows}
 use Rattle.bl_app.proofs.verify.judge_of.Goals as goal
 

@@ -1,10 +1,10 @@
 use Rattle.std.proofs.Common.{Err, None}
-use Rattle.bl_build.specs.Entering.{imaging}
-use Rattle.bl_build.specs.Certifying.{certifying}
+use Rattle.bl_build.specs.EntryStages.{imaging}
+use Rattle.bl_build.specs.CertificateStages.{certifying}
 use Rattle.bl_words.specs.Words.{verify_in}
-use Rattle.bl_app.specs.Verifying.{VerifyPlans, verify_job, verify_staged}
-use Rattle.bl_job.proofs.StagedWork.{done_behind, refused_first}
-use Rattle.bl_job.proofs.Staging.{staged_work}
+use Rattle.bl_app.specs.VerifyJob.{VerifyPlans, verify_job, verify_staged}
+use Rattle.bl_job.proofs.StageWork.{done_behind, refused_first}
+use Rattle.bl_job.proofs.StagedJobLemmas.{staged_work}
 use Rattle.bl_job.proofs.WorkLemmas.{as_many}
 use Rattle.bl_app.proofs.verify.verify.Goals as goal
 

@@ -1,7 +1,7 @@
 use Rattle.bl_cmd.specs.declared.definitions.ProgramParts.{ProgramParts as Program}
-use Rattle.bl_build.specs.Building.{building, lowering, sizing}
+use Rattle.bl_build.specs.BuildStages.{building, lowering, sizing}
 use Rattle.bl_job.specs.Stages.{at_first}
-use Rattle.bl_build.specs.Working.{built_in}
+use Rattle.bl_build.specs.StageAnswers.{built_in}
 use Rattle.bl_build.proofs.BuildLemmas.{staged_behind, still_refused}
 use Rattle.bl_build.proofs.build.build.Goals as goal
 

@@ -1,9 +1,9 @@
 use Rattle.std.proofs.Common.{Some}
 use Rattle.bl_cmd.specs.declared.definitions.ProgramParts.{ProgramParts as Program}
-use Rattle.bl_build.specs.Building.{lowering, sizing}
-use Rattle.bl_build.specs.Weighing.{building_by, weighing}
+use Rattle.bl_build.specs.BuildStages.{lowering, sizing}
+use Rattle.bl_build.specs.WeightStages.{building_by, weighing}
 use Rattle.bl_job.specs.Stages.{at_first, chain}
-use Rattle.bl_build.specs.Working.{built_in}
+use Rattle.bl_build.specs.StageAnswers.{built_in}
 use Rattle.bl_build.proofs.BuildLemmas.{staged_behind, still_refused}
 use Rattle.bl_build.proofs.build.build_by.Goals as goal
 

@@ -1,7 +1,7 @@
-use Rattle.bl_build.specs.Building.{building, compiling}
-use Rattle.bl_build.specs.Loading.{loading}
+use Rattle.bl_build.specs.BuildStages.{building, compiling}
+use Rattle.bl_build.specs.LoadStages.{loading}
 use Rattle.bl_job.specs.Stages.{at_first}
-use Rattle.bl_build.specs.Working.{built_in}
+use Rattle.bl_build.specs.StageAnswers.{built_in}
 use Rattle.bl_build.proofs.BuildLemmas.{staged_behind, still_refused}
 use Rattle.bl_build.proofs.build.compile.Goals as goal
 

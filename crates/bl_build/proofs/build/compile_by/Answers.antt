@@ -1,8 +1,8 @@
 use Rattle.std.proofs.Common.{Bor, List, map, ℕ}
-use Rattle.bl_build.specs.Weighing.{counted_sources}
-use Rattle.bl_build.specs.Working.{built_in}
-use Rattle.bl_job.specs.Working.{contents_in}
-use Rattle.bl_build.proofs.WeighingLemmas.{compiled_behind, refused_behind}
+use Rattle.bl_build.specs.WeightStages.{counted_sources}
+use Rattle.bl_build.specs.StageAnswers.{built_in}
+use Rattle.bl_job.specs.WorkAnswers.{contents_in}
+use Rattle.bl_build.proofs.WeightLemmas.{compiled_behind, refused_behind}
 use Rattle.bl_build.proofs.build.compile_by.Goals as goal
 
 -- the words

@@ -1,7 +1,7 @@
 use Rattle.std.proofs.Common.{◌≡◌, ap, arith, length}
 use Rattle.bl_base.specs.declared.quantity.Quantity.TheVariants as quantity
 use Rattle.bl_job.specs.Refusals.{limit}
-use Rattle.bl_build.specs.Building.{HasLongImage}
+use Rattle.bl_build.specs.BuildStages.{HasLongImage}
 use Rattle.bl_job.proofs.StageLemmas.{told_as}
 use Rattle.bl_build.proofs.build.sized.Goals as goal
 

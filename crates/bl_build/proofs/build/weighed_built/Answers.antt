@@ -1,8 +1,8 @@
 use Rattle.bl_cmd.specs.declared.definitions.ProgramParts.{ProgramParts as Program}
-use Rattle.bl_build.specs.Building.{sizing}
-use Rattle.bl_build.specs.Weighing.{weighing}
+use Rattle.bl_build.specs.BuildStages.{sizing}
+use Rattle.bl_build.specs.WeightStages.{weighing}
 use Rattle.bl_job.specs.Stages.{at_first, chain}
-use Rattle.bl_build.specs.Working.{built_in}
+use Rattle.bl_build.specs.StageAnswers.{built_in}
 use Rattle.bl_build.proofs.BuildLemmas.{staged_behind, still_refused}
 use Rattle.bl_build.proofs.build.weighed_built.Goals as goal
 

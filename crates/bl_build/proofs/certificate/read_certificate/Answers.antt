@@ -1,4 +1,4 @@
-use Rattle.bl_build.proofs.CertifyingLemmas.{not_read}
+use Rattle.bl_build.proofs.CertificateLemmas.{not_read}
 use Rattle.bl_build.proofs.certificate.read_certificate.Goals as goal
 
 pub returns-in-Err : goal.returns-in-Err

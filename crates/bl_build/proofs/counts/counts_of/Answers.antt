@@ -1,4 +1,4 @@
-use Rattle.bl_build.proofs.WeighingLemmas.{of_bad_file, of_program}
+use Rattle.bl_build.proofs.WeightLemmas.{of_bad_file, of_program}
 use Rattle.bl_build.proofs.counts.counts_of.Goals as goal
 
 pub returns-in-Ok : goal.returns-in-Ok

@@ -1,4 +1,4 @@
-use Rattle.bl_build.proofs.WeighingLemmas.{is_refused, is_weighed}
+use Rattle.bl_build.proofs.WeightLemmas.{is_refused, is_weighed}
 use Rattle.bl_build.proofs.counts.weighed.Goals as goal
 
 pub returns-in-Ok-weigh : goal.returns-in-Ok-weigh

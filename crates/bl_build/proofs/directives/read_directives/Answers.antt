@@ -3,9 +3,9 @@ use Rattle.bl_base.specs.Quantity.{limit_of}
 use Rattle.bl_base.specs.declared.quantity.Quantity.TheVariants as quantity
 use Rattle.bl_trace.specs.Lines.{lines_of}
 use Rattle.bl_job.specs.Refusals.{limit}
-use Rattle.bl_build.specs.Tracing.{TracingRefuses, too_many}
+use Rattle.bl_build.specs.TraceStages.{TracingRefuses, too_many}
 use Rattle.bl_job.proofs.StageLemmas.{told_as}
-use Rattle.bl_build.proofs.TracingLemmas.{not_traced}
+use Rattle.bl_build.proofs.TraceLemmas.{not_traced}
 use Rattle.bl_build.proofs.directives.read_directives.Goals as goal
 
 pub returns-then-count-limit : goal.returns-then-count-limit

@@ -1,6 +1,6 @@
 use Rattle.std.proofs.Common.{◌≡◌, ◌∙◌, ◌<◌, Some, ap, get_or, length, refl, subst, sym}
-use Rattle.bl_build.specs.Entering.{function_named}
-use Rattle.bl_build.proofs.EntryLemmas.{named_exists, slice_get_is}
+use Rattle.bl_build.specs.EntryStages.{function_named}
+use Rattle.bl_build.proofs.ExportedFunctions.{named_exists, slice_get_is}
 use Rattle.bl_build.proofs.entry.find_entry.Goals as goal
 
 pub bounds-as_slice-function : goal.bounds-as_slice-function

@@ -1,7 +1,7 @@
 use Rattle.std.proofs.Common.{◌≡◌, ◌∙◌, ◌+◌, suc, true, false, ap, arith, drop, get_or, sym}
 use Rattle.std.specs.Str.{bytes_eq}
-use Rattle.bl_build.specs.Entering.{function_named}
-use Rattle.bl_build.proofs.EntryLemmas.{named_behind, named_here}
+use Rattle.bl_build.specs.EntryStages.{function_named}
+use Rattle.bl_build.proofs.ExportedFunctions.{named_behind, named_here}
 use Rattle.bl_build.proofs.entry.number_named.Goals as goal
 
 pub returns-then-eq : goal.returns-then-eq

@@ -1,5 +1,5 @@
 use Rattle.std.proofs.Common.{◌≡◌, drop}
-use Rattle.bl_build.specs.Entering.{function_named}
+use Rattle.bl_build.specs.EntryStages.{function_named}
 use Rattle.bl_build.proofs.entry.number_named.Given as goal
 
 abbrev pub invariant-loop-export : goal.invariant-loop-export

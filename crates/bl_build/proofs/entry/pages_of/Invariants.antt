@@ -1,6 +1,6 @@
 use Rattle.std.proofs.Common.{◌≡◌, ◌++◌, map, drop}
 use Rattle.bl_cmd.specs.declared.definitions.MemoryDef.{MemoryDef}
-use Rattle.bl_build.specs.Entering.{pages_of}
+use Rattle.bl_build.specs.EntryStages.{pages_of}
 use Rattle.bl_build.proofs.entry.pages_of.Given as goal
 
 abbrev pub invariant-loop-memory : goal.invariant-loop-memory

@@ -1,7 +1,7 @@
 use Rattle.std.proofs.Common.{◌≡◌, ◌∙◌, ap}
-use Rattle.bl_build.specs.Entering.{pages_of}
-use Rattle.bl_build.specs.Working.{entry_in}
-use Rattle.bl_build.proofs.EnteringLemmas.{not_started}
+use Rattle.bl_build.specs.EntryStages.{pages_of}
+use Rattle.bl_build.specs.StageAnswers.{entry_in}
+use Rattle.bl_build.proofs.EntryStageLemmas.{not_started}
 use Rattle.bl_build.proofs.entry.read_entry_start.Goals as goal
 
 pub returns-clause-staged : goal.returns-clause-staged

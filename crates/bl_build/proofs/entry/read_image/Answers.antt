@@ -1,4 +1,4 @@
-use Rattle.bl_build.proofs.EnteringLemmas.{not_imaged}
+use Rattle.bl_build.proofs.EntryStageLemmas.{not_imaged}
 use Rattle.bl_build.proofs.entry.read_image.Goals as goal
 
 pub returns-in-Err : goal.returns-in-Err

@@ -1,6 +1,6 @@
-use Rattle.bl_build.specs.Building.{compiling}
-use Rattle.bl_build.specs.Hardening.{hardening}
-use Rattle.bl_build.specs.Working.{built_in, hardened_in}
+use Rattle.bl_build.specs.BuildStages.{compiling}
+use Rattle.bl_build.specs.HardenStage.{hardening}
+use Rattle.bl_build.specs.StageAnswers.{built_in, hardened_in}
 use Rattle.bl_build.proofs.BuildLemmas.{still_refused}
 use Rattle.bl_build.proofs.harden.compile_hardened.Goals as goal
 

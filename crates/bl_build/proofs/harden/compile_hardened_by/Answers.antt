@@ -1,7 +1,7 @@
 use Rattle.std.proofs.Common.{Bor, List, map, ℕ}
-use Rattle.bl_build.specs.Weighing.{compiling_by, counted_sources, hardening_by}
-use Rattle.bl_build.specs.Working.{built_in, hardened_in}
-use Rattle.bl_job.specs.Working.{contents_in}
+use Rattle.bl_build.specs.WeightStages.{compiling_by, counted_sources, hardening_by}
+use Rattle.bl_build.specs.StageAnswers.{built_in, hardened_in}
+use Rattle.bl_job.specs.WorkAnswers.{contents_in}
 use Rattle.bl_build.proofs.BuildLemmas.{still_refused}
 use Rattle.bl_build.proofs.harden.compile_hardened_by.Goals as goal
 

@@ -1,5 +1,5 @@
 use Rattle.std.proofs.Common.{refl}
-use Rattle.bl_build.specs.Interfacing.{side_of}
+use Rattle.bl_build.specs.InterfaceStages.{side_of}
 use Rattle.bl_build.proofs.InterfaceWork.{not_matched}
 use Rattle.bl_build.proofs.interface.match_all.Goals as goal
 

@@ -2,11 +2,11 @@ use Rattle.std.proofs.Common.{sym, subst, ◌∙◌, refl}
 use Rattle.std.specs.Prelude.{Err}
 use Rattle.bl_base.specs.Fits.{Fits}
 use Rattle.bl_trace.specs.StartFiles.{answer_of, IsAnswer}
-use Rattle.bl_build.specs.Running.{InvokingRefuses, not_exported}
-use Rattle.bl_build.specs.Entering.{no_export}
+use Rattle.bl_build.specs.InvocationStages.{InvokingRefuses, not_exported}
+use Rattle.bl_build.specs.EntryStages.{no_export}
 use Rattle.bl_job.proofs.StageLemmas.{told_as}
-use Rattle.bl_build.specs.Working.{invoked_in}
-use Rattle.bl_build.proofs.InvokingLemmas.{exported_exists, start_of_type, start_refused}
+use Rattle.bl_build.specs.StageAnswers.{invoked_in}
+use Rattle.bl_build.proofs.InvocationLemmas.{exported_exists, start_of_type, start_refused}
 use Rattle.bl_build.proofs.invocation.prepare.Goals as goal
 
 pub signature-kind-requires-clause-exists : goal.signature-kind-requires-clause-exists

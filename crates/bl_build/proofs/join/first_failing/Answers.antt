@@ -1,8 +1,8 @@
 use Rattle.std.proofs.Common.{subst}
 use Rattle.bl_cmd.specs.Sites.{is_protected}
-use Rattle.bl_iface.specs.Under.{JudgesAs}
+use Rattle.bl_iface.specs.RoleTests.{JudgesAs}
 use Rattle.bl_iface.specs.declared.iface.Role.TheVariants.{Client, Library}
-use Rattle.bl_build.specs.Joining.{client_fails, library_fails}
+use Rattle.bl_build.specs.JoinStages.{client_fails, library_fails}
 use Rattle.bl_build.proofs.join.first_failing.Goals as goal
 
 pub returns-in-No : goal.returns-in-No

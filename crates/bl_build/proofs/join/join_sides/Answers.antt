@@ -1,4 +1,4 @@
-use Rattle.bl_build.specs.Working.{sides_in}
+use Rattle.bl_build.specs.StageAnswers.{sides_in}
 use Rattle.bl_build.proofs.InterfaceWork.{client_matches, library_matches, match_refused, sides_joined}
 use Rattle.bl_build.proofs.join.join_sides.Goals as goal
 

@@ -1,4 +1,4 @@
-use Rattle.bl_build.specs.Working.{sides_in}
+use Rattle.bl_build.specs.StageAnswers.{sides_in}
 use Rattle.bl_build.proofs.InterfaceWork.{client_unmatched, matched_both}
 use Rattle.bl_build.proofs.join.match_both.Goals as goal
 

@@ -1,5 +1,5 @@
 use Rattle.std.proofs.Common.{refl, subst}
-use Rattle.bl_build.specs.Working.{FindsFailing, sides_in}
+use Rattle.bl_build.specs.StageAnswers.{FindsFailing, sides_in}
 use Rattle.bl_build.proofs.InterfaceWork.{typed, united}
 use Rattle.bl_build.proofs.join.unite.Goals as goal
 

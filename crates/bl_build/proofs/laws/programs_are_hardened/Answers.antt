@@ -1,4 +1,4 @@
-use Rattle.bl_build.proofs.HardeningExists.{some_hardened}
+use Rattle.bl_build.proofs.HardenExists.{some_hardened}
 use Rattle.bl_build.proofs.laws.programs_are_hardened.Goals as goal
 
 pub returns : goal.returns

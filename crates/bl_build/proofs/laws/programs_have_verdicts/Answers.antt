@@ -1,4 +1,4 @@
-use Rattle.bl_graph.proofs.Ranging.{in_range}
+use Rattle.bl_graph.proofs.RangeLemmas.{in_range}
 use Rattle.bl_build.proofs.VerdictsTotal.{some_check, some_flow_verdict, some_label_verdict}
 use Rattle.bl_build.proofs.laws.programs_have_verdicts.Goals as goal
 

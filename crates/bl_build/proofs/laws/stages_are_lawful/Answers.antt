@@ -1,11 +1,11 @@
 use Rattle.bl_build.proofs.BuildLemmas.{lowering_lawful, sizing_lawful}
-use Rattle.bl_build.proofs.CertifyingLemmas.{certifying_lawful}
-use Rattle.bl_build.proofs.EnteringLemmas.{finding_lawful, imaging_lawful, starting_lawful}
+use Rattle.bl_build.proofs.CertificateLemmas.{certifying_lawful}
+use Rattle.bl_build.proofs.EntryStageLemmas.{finding_lawful, imaging_lawful, starting_lawful}
 use Rattle.bl_build.proofs.InterfaceLemmas.{choosing_lawful, matching_lawful, reading_lawful, typing_lawful, uniting_lawful}
-use Rattle.bl_build.proofs.InvokingLemmas.{invoking_lawful}
-use Rattle.bl_build.proofs.LoadingLemmas.{decoding_lawful, labelling_lawful, linking_lawful, validation_lawful}
-use Rattle.bl_build.proofs.TracingLemmas.{tracing_lawful}
-use Rattle.bl_build.proofs.WeighingLemmas.{weighing_lawful}
+use Rattle.bl_build.proofs.InvocationLemmas.{invoking_lawful}
+use Rattle.bl_build.proofs.LoadLemmas.{decoding_lawful, labelling_lawful, linking_lawful, validation_lawful}
+use Rattle.bl_build.proofs.TraceLemmas.{tracing_lawful}
+use Rattle.bl_build.proofs.WeightLemmas.{weighing_lawful}
 use Rattle.bl_build.proofs.laws.stages_are_lawful.Goals as goal
 
 pub returns-clause-decoding : goal.returns-clause-decoding

@@ -1,8 +1,8 @@
 use Rattle.bl_build.proofs.BuildLemmas.{compiling_total}
 use Rattle.bl_build.proofs.ImagesTotal.{certifying_total, finding_total, imaging_total, starting_total, tracing_total}
 use Rattle.bl_build.proofs.InterfaceTotal.{choosing_total, matching_total, reading_total, typing_total, uniting_total}
-use Rattle.bl_build.proofs.LoadingTotal.{invoking_total, loading_total}
-use Rattle.bl_build.proofs.WeighingLemmas.{compiling_by_total}
+use Rattle.bl_build.proofs.LoadTotal.{invoking_total, loading_total}
+use Rattle.bl_build.proofs.WeightLemmas.{compiling_by_total}
 use Rattle.bl_build.proofs.laws.stages_are_total.Goals as goal
 
 pub returns-clause-loading : goal.returns-clause-loading

@@ -6,9 +6,9 @@ use Rattle.std.specs.declared.alloc.Global.{Global}
 use Rattle.std.proofs.lemmas.Grind.{common_steps}
 use Rattle.std.proofs.lemmas.List.Elements.{All-push}
 use Rattle.bl_wasm.specs.Validity.{functions_of}
-use Rattle.bl_build.specs.Loading.{decoding, parts_of}
-use Rattle.bl_job.specs.Working.{contents_in}
-use Rattle.bl_build.specs.Working.{spelled_in}
+use Rattle.bl_build.specs.LoadStages.{decoding, parts_of}
+use Rattle.bl_job.specs.WorkAnswers.{contents_in}
+use Rattle.bl_build.specs.StageAnswers.{spelled_in}
 use Rattle.bl_build.specs.declared.loading.Spelled.{Spelled}
 use Rattle.bl_build.proofs.LoadSteps.{all_decoded, next_decoded, next_word, none_decoded, not_decoded, words_in}
 use Rattle.bl_job.proofs.StageLemmas.{Goes, goes_ends}

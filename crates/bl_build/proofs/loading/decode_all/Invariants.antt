@@ -2,9 +2,9 @@ use Rattle.std.proofs.Common.{◌<◌, ◌^◌, drop, length, map}
 use Rattle.std.specs.List.{All}
 use Rattle.std.specs.Vec.Iter.{into_iter_items}
 use Rattle.bl_wasm.specs.Validity.{functions_of}
-use Rattle.bl_build.specs.Loading.{decoding, parts_of}
-use Rattle.bl_job.specs.Working.{contents_in}
-use Rattle.bl_build.specs.Working.{spelled_in}
+use Rattle.bl_build.specs.LoadStages.{decoding, parts_of}
+use Rattle.bl_job.specs.WorkAnswers.{contents_in}
+use Rattle.bl_build.specs.StageAnswers.{spelled_in}
 use Rattle.bl_build.proofs.LoadSteps.{words_in}
 use Rattle.bl_job.proofs.StageLemmas.{Goes}
 use Rattle.bl_build.proofs.loading.decode_all.Given as goal

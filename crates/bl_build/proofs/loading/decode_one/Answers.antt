@@ -1,9 +1,9 @@
 use Rattle.std.proofs.Common.{List, subst, ℕ}
 use Rattle.bl_wasm.proofs.LimitLemmas.{few_functions}
-use Rattle.bl_job.specs.Working.{Tells, content_in}
-use Rattle.bl_build.specs.Loading.{DecodingRefuses}
-use Rattle.bl_build.specs.Working.{spelled_in}
-use Rattle.bl_build.proofs.Readings.{not_spelled}
+use Rattle.bl_job.specs.WorkAnswers.{Tells, content_in}
+use Rattle.bl_build.specs.LoadStages.{DecodingRefuses}
+use Rattle.bl_build.specs.StageAnswers.{spelled_in}
+use Rattle.bl_build.proofs.ModuleAnswers.{not_spelled}
 use Rattle.bl_build.proofs.loading.decode_one.Goals as goal
 
 pub returns-in-Ok-clause-staged : goal.returns-in-Ok-clause-staged

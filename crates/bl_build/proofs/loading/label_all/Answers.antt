@@ -6,8 +6,8 @@ use Rattle.std.specs.List.{All}
 use Rattle.std.specs.Vec.Iter.{into_iter_items}
 use Rattle.std.proofs.lemmas.List.Elements.{All-push}
 use Rattle.bl_labels.specs.Faults.{IsConsistent}
-use Rattle.bl_build.specs.Loading.{labelling}
-use Rattle.bl_build.specs.Working.{checked_in, ready_in}
+use Rattle.bl_build.specs.LoadStages.{labelling}
+use Rattle.bl_build.specs.StageAnswers.{checked_in, ready_in}
 use Rattle.bl_build.specs.declared.loading.Ready.{Ready}
 use Rattle.bl_build.proofs.LoadSteps.{next_passed, next_refused}
 use Rattle.bl_job.proofs.StageLemmas.{goes_ends}

@@ -2,8 +2,8 @@ use Rattle.std.proofs.Common.{length, map}
 use Rattle.std.specs.List.{All}
 use Rattle.std.specs.Vec.Iter.{into_iter_items}
 use Rattle.bl_labels.specs.Faults.{IsConsistent}
-use Rattle.bl_build.specs.Loading.{labelling}
-use Rattle.bl_build.specs.Working.{checked_in, ready_in}
+use Rattle.bl_build.specs.LoadStages.{labelling}
+use Rattle.bl_build.specs.StageAnswers.{checked_in, ready_in}
 use Rattle.bl_job.proofs.StageLemmas.{Goes}
 use Rattle.bl_build.proofs.loading.label_all.Given as goal
 

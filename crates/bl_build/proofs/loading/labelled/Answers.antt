@@ -1,9 +1,9 @@
 use Rattle.std.proofs.Common.{refl, subst}
 use Rattle.std.specs.Prelude.{Err, Ok}
 use Rattle.bl_wasm.specs.declared.module.Module.{Module}
-use Rattle.bl_build.specs.Loading.{AreTold}
-use Rattle.bl_build.specs.Working.{ready_in}
-use Rattle.bl_build.proofs.Readings.{not_labelled}
+use Rattle.bl_build.specs.LoadStages.{AreTold}
+use Rattle.bl_build.specs.StageAnswers.{ready_in}
+use Rattle.bl_build.proofs.ModuleAnswers.{not_labelled}
 use Rattle.bl_build.proofs.loading.labelled.Goals as goal
 
 pub returns-in-Ok-clause-staged : goal.returns-in-Ok-clause-staged

@@ -1,11 +1,11 @@
 use Rattle.std.proofs.Common.{◌≡◌, ◌∙◌, Bor, Err, List, ℕ, ap, map, subst}
-use Rattle.bl_link.specs.Giving.{Gives}
+use Rattle.bl_link.specs.LinkAnswers.{Gives}
 use Rattle.bl_link.specs.Links.{links}
 use Rattle.bl_link.specs.declared.part.Part.{Part as LinkPart}
 use Rattle.bl_wasm.specs.declared.linked.Tree.{Tree}
-use Rattle.bl_build.specs.Working.{IsLinkingError}
+use Rattle.bl_build.specs.StageAnswers.{IsLinkingError}
 use Rattle.bl_build.specs.declared.loading.Ready.{Ready}
-use Rattle.bl_build.proofs.Readings.{names_module, not_linked}
+use Rattle.bl_build.proofs.ModuleAnswers.{names_module, not_linked}
 use Rattle.bl_build.proofs.loading.link_all.Goals as goal
 
 pub of_linking-requires : goal.of_linking-requires

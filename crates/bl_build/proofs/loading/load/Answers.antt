@@ -5,10 +5,10 @@ use Rattle.std.proofs.lemmas.List.{length-map}
 use Rattle.bl_base.specs.Quantity.{limit_of}
 use Rattle.bl_base.specs.declared.quantity.Quantity.TheVariants as quantity
 use Rattle.bl_wasm.specs.declared.linked.Tree.{Tree}
-use Rattle.bl_build.specs.Loading.{decoding, labelling, linking, parts_of, validation}
+use Rattle.bl_build.specs.LoadStages.{decoding, labelling, linking, parts_of, validation}
 use Rattle.bl_job.specs.Stages.{chain, each}
-use Rattle.bl_job.specs.Working.{contents_in}
-use Rattle.bl_build.specs.Working.{checked_in, ready_in, spelled_in}
+use Rattle.bl_job.specs.WorkAnswers.{contents_in}
+use Rattle.bl_build.specs.StageAnswers.{checked_in, ready_in, spelled_in}
 use Rattle.bl_build.specs.declared.loading.Checked.{Checked}
 use Rattle.bl_build.specs.declared.loading.Ready.{Ready}
 use Rattle.bl_build.proofs.LinkLemmas.{linkable}

@@ -1,7 +1,7 @@
 use Rattle.std.proofs.Common.{◌≡◌, ◌++◌, length, map}
 use Rattle.std.specs.Vec.Iter.{into_iter_items}
-use Rattle.bl_build.specs.Loading.{linked_parts}
-use Rattle.bl_build.specs.Working.{ready_in}
+use Rattle.bl_build.specs.LoadStages.{linked_parts}
+use Rattle.bl_build.specs.StageAnswers.{ready_in}
 use Rattle.bl_build.proofs.loading.parts_of.Given as goal
 
 abbrev pub invariant-loop-one : goal.invariant-loop-one

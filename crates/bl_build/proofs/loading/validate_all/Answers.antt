@@ -6,8 +6,8 @@ use Rattle.std.specs.List.{All}
 use Rattle.std.specs.Vec.Iter.{into_iter_items}
 use Rattle.std.proofs.lemmas.List.Elements.{All-tail}
 use Rattle.bl_wasm.specs.Validity.{functions_of}
-use Rattle.bl_build.specs.Loading.{validation}
-use Rattle.bl_build.specs.Working.{checked_in, spelled_in}
+use Rattle.bl_build.specs.LoadStages.{validation}
+use Rattle.bl_build.specs.StageAnswers.{checked_in, spelled_in}
 use Rattle.bl_build.specs.declared.loading.Checked.{Checked}
 use Rattle.bl_build.specs.declared.loading.Spelled.{Spelled}
 use Rattle.bl_build.proofs.LoadSteps.{next_passed, next_refused}

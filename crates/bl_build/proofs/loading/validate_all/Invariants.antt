@@ -2,8 +2,8 @@ use Rattle.std.proofs.Common.{◌<◌, ◌^◌, length, map}
 use Rattle.std.specs.List.{All}
 use Rattle.std.specs.Vec.Iter.{into_iter_items}
 use Rattle.bl_wasm.specs.Validity.{functions_of}
-use Rattle.bl_build.specs.Loading.{validation}
-use Rattle.bl_build.specs.Working.{checked_in, spelled_in}
+use Rattle.bl_build.specs.LoadStages.{validation}
+use Rattle.bl_build.specs.StageAnswers.{checked_in, spelled_in}
 use Rattle.bl_job.proofs.StageLemmas.{Goes}
 use Rattle.bl_build.proofs.loading.validate_all.Given as goal
 

@@ -1,5 +1,5 @@
-use Rattle.bl_build.specs.Working.{checked_in}
-use Rattle.bl_build.proofs.Readings.{not_valid}
+use Rattle.bl_build.specs.StageAnswers.{checked_in}
+use Rattle.bl_build.proofs.ModuleAnswers.{not_valid}
 use Rattle.bl_build.proofs.loading.validated.Goals as goal
 
 pub returns-in-Ok : goal.returns-in-Ok

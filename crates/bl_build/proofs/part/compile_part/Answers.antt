@@ -1,6 +1,6 @@
-use Rattle.bl_build.specs.Building.{compiling}
-use Rattle.bl_build.specs.Interfacing.{parting}
-use Rattle.bl_build.specs.Working.{built_in, parted_in}
+use Rattle.bl_build.specs.BuildStages.{compiling}
+use Rattle.bl_build.specs.InterfaceStages.{parting}
+use Rattle.bl_build.specs.StageAnswers.{built_in, parted_in}
 use Rattle.bl_job.specs.Stages.{at_first}
 use Rattle.bl_build.proofs.BuildLemmas.{still_refused}
 use Rattle.bl_build.proofs.InterfaceWork.{parted}

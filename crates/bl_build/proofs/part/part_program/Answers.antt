@@ -1,4 +1,4 @@
-use Rattle.bl_build.specs.Interfacing.{reading, siding}
+use Rattle.bl_build.specs.InterfaceStages.{reading, siding}
 use Rattle.bl_job.specs.Stages.{at_first}
 use Rattle.bl_job.proofs.StageLemmas.{tells_on}
 use Rattle.bl_build.proofs.InterfaceWork.{not_sided, sided}

@@ -1,4 +1,4 @@
-use Rattle.bl_build.specs.Working.{entry_in, speculated_in}
+use Rattle.bl_build.specs.StageAnswers.{entry_in, speculated_in}
 use Rattle.bl_build.proofs.SpeculationLemmas.{all_passed, not_exported, start_refused, trace_refused}
 use Rattle.bl_build.proofs.speculation.prepare_speculation.Goals as goal
 

@@ -3,7 +3,7 @@ use Rattle.std.proofs.lemmas.Option.{slice_get_within}
 use Rattle.bl_base.proofs.Lists.{item_at}
 use Rattle.bl_cmd.specs.Layout.{entry_of}
 use Rattle.bl_cmd.proofs.Layouts.{next_entry, entry_below}
-use Rattle.bl_cmd.proofs.Tabled.{values_next}
+use Rattle.bl_cmd.proofs.TableLemmas.{values_next}
 use Rattle.bl_cmd.proofs.tables.entries_of.Goals as goal
 
 pub overflow_add-entry : goal.overflow_add-entry

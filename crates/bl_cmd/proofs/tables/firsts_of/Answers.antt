@@ -3,7 +3,7 @@ use Rattle.std.proofs.lemmas.Option.{slice_get_within}
 use Rattle.bl_base.proofs.Lists.{item_at}
 use Rattle.bl_cmd.specs.Layout.{first_of}
 use Rattle.bl_cmd.proofs.Layouts.{next_first, first_below}
-use Rattle.bl_cmd.proofs.Tabled.{values_next}
+use Rattle.bl_cmd.proofs.TableLemmas.{values_next}
 use Rattle.bl_cmd.proofs.tables.firsts_of.Goals as goal
 
 pub overflow_add-first-in-loop-function : goal.overflow_add-first-in-loop-function

@@ -1,11 +1,11 @@
 use Rattle.std.proofs.Common.{◌≡◌, [], Some, Err, reverse, ap, sym, ◌∙◌, subst, arith}
 use Rattle.std.specs.Option.{option_map}
 use Rattle.bl_wasm.specs.Instructions.{instruction}
-use Rattle.bl_wasm.specs.Nesting.{open_through, open_behind}
+use Rattle.bl_wasm.specs.OpenConstructs.{open_through, open_behind}
 use Rattle.bl_wasm.specs.declared.instruction.Instr.{Instr}
 use Rattle.bl_code.specs.Constructs.{kept}
-use Rattle.bl_code.specs.Reading.{IsAt}
-use Rattle.bl_code.proofs.Nesting.{known, none_kept, through_more, err_expression, err_nest, last_at, instruction_forward, none_backwards}
+use Rattle.bl_code.specs.ReaderAnswers.{IsAt}
+use Rattle.bl_code.proofs.ExpressionLemmas.{known, none_kept, through_more, err_expression, err_nest, last_at, instruction_forward, none_backwards}
 use Rattle.bl_code.proofs.Places.{passes}
 use Rattle.bl_code.proofs.Vectors.{each_more}
 use Rattle.bl_code.proofs.expression.read_expression.Goals as goal

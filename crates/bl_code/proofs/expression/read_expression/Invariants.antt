@@ -1,9 +1,9 @@
 use Rattle.std.proofs.Common.{◌≡◌, ◌-◌, [], length, Some, reverse}
 use Rattle.bl_wasm.specs.Values.{each}
 use Rattle.bl_wasm.specs.Instructions.{instruction}
-use Rattle.bl_code.specs.Reading.{IsAt}
+use Rattle.bl_code.specs.ReaderAnswers.{IsAt}
 use Rattle.std.specs.Option.{option_map}
-use Rattle.bl_wasm.specs.Nesting.{open_through}
+use Rattle.bl_wasm.specs.OpenConstructs.{open_through}
 use Rattle.bl_code.specs.Constructs.{kept}
 use Rattle.bl_code.proofs.expression.read_expression.Given as goal
 

@@ -1,6 +1,6 @@
 use Rattle.std.proofs.Common.{◌≡◌, length}
 use Rattle.bl_wasm.specs.Values.{each}
-use Rattle.bl_code.specs.Reading.{IsAt}
+use Rattle.bl_code.specs.ReaderAnswers.{IsAt}
 use Rattle.bl_code.proofs.format.read_each.Given as goal
 
 abbrev pub invariant-loop : goal.invariant-loop

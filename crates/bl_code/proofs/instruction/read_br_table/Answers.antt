@@ -2,7 +2,7 @@ use Rattle.std.proofs.Common.{refl}
 use Rattle.bl_wasm.specs.Instructions.{instruction}
 use Rattle.bl_wasm.specs.Values.{u32, vec}
 use Rattle.bl_code.specs.Laws.{u32_prefix_free}
-use Rattle.bl_code.specs.Reading.{behind}
+use Rattle.bl_code.specs.ReaderAnswers.{behind}
 use Rattle.bl_code.specs.Shapes.{Shape}
 use Rattle.bl_code.specs.declared.error.CodeError.TheVariants.{Malformed}
 use Rattle.bl_code.proofs.Immediates.{before, labels_part, number_part, err_labels}

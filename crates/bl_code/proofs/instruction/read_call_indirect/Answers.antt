@@ -1,7 +1,7 @@
 use Rattle.std.proofs.Common.{refl}
 use Rattle.bl_wasm.specs.Values.{u32}
 use Rattle.bl_wasm.specs.Instructions.{instruction}
-use Rattle.bl_code.specs.Reading.{behind, IsAt}
+use Rattle.bl_code.specs.ReaderAnswers.{behind, IsAt}
 use Rattle.bl_code.specs.Shapes.{Shape}
 use Rattle.bl_code.specs.Laws.{u32_prefix_free}
 use Rattle.bl_code.specs.declared.error.CodeError.TheVariants.{Malformed}

@@ -1,4 +1,4 @@
-use Rattle.bl_code.proofs.Nesting.{expression_prefix_free}
+use Rattle.bl_code.proofs.ExpressionLemmas.{expression_prefix_free}
 use Rattle.bl_code.proofs.Places.{one_at}
 use Rattle.bl_code.proofs.laws.one_expression.Goals as goal
 

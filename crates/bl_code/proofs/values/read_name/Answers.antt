@@ -1,7 +1,7 @@
 use Rattle.std.proofs.Common.{sym, subst}
 use Rattle.std.specs.Str.{IsUtf8}
 use Rattle.bl_wasm.specs.Values.{byte_vec, name}
-use Rattle.bl_code.specs.Reading.{IsAt}
+use Rattle.bl_code.specs.ReaderAnswers.{IsAt}
 use Rattle.bl_code.proofs.Places.{passes, err_along, one_at}
 use Rattle.bl_code.proofs.Unique.{byte_vec_prefix_free}
 use Rattle.bl_code.proofs.values.read_name.Goals as goal

@@ -1,4 +1,4 @@
-use Rattle.bl_counts.proofs.Bare.{counted_alike}
+use Rattle.bl_counts.proofs.BarePrograms.{counted_alike}
 use Rattle.bl_counts.proofs.laws.marks_are_not_counted.Goals as goal
 
 pub returns : goal.returns

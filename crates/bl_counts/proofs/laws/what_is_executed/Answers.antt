@@ -1,4 +1,4 @@
-use Rattle.bl_counts.proofs.Recording.{ended, executes, is_executed, spent}
+use Rattle.bl_counts.proofs.RecordedCounts.{ended, executes, is_executed, spent}
 use Rattle.bl_counts.proofs.laws.what_is_executed.Goals as goal
 
 pub returns-clause-each : goal.returns-clause-each

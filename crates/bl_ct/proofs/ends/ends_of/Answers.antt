@@ -1,10 +1,10 @@
 use Rattle.std.proofs.Common.{List, ℕ, length, arith, subst, ap, ◌∙◌, replicate, None}
 use Rattle.std.specs.List.{slice_index_or, Contains}
 use Rattle.bl_graph.specs.declared.facts.Use.{Use}
-use Rattle.bl_ct.specs.Finding.{Gives, KeptAt, IsNoted}
-use Rattle.bl_ct.proofs.Knowing.{names_few, names_rise, writes_in, reads_in, sinks_in, stores_in}
-use Rattle.bl_ct.proofs.Rowing.{elem}
-use Rattle.bl_ct.proofs.Ending.{ends_are, none_length}
+use Rattle.bl_ct.specs.SecretSearch.{MarksWriters, KeptAt, IsNoted}
+use Rattle.bl_ct.proofs.KnownRanges.{names_few, names_rise, writes_in, reads_in, sinks_in, stores_in}
+use Rattle.bl_ct.proofs.ReadRows.{elem}
+use Rattle.bl_ct.proofs.EndTables.{ends_are, none_length}
 use Rattle.bl_ct.proofs.ends.ends_of.Goals as goal
 
 pub giving_sites-requires-clause-table : goal.giving_sites-requires-clause-table
@@ -72,7 +72,7 @@ pub returns : goal.returns
 returns c =
     let names : List ℕ = c.args.known.now.names.now in
     ends_are c.args.known.now.program.now c.args.known.now.graph.now c.requires.is.graph c.args.known.now.facts.now c.requires.is.facts names c.args.demanded.now c.in_ok-giving.giving.items c.in_ok-last_reads.last_reads.items c.in_ok-ends.ends.items c.note.new.ends.items c.note-2.new.ends.items c.note-3.new.ends.items c.requires.exact
-    (subst (λ l. Gives l names c.args.demanded.now c.in_ok-giving.giving.items) c.as_slice-writes.ensures c.in_ok-giving.ensures.exact)
+    (subst (λ l. MarksWriters l names c.args.demanded.now c.in_ok-giving.giving.items) c.as_slice-writes.ensures c.in_ok-giving.ensures.exact)
     (subst (λ m. KeptAt c.args.known.now.graph.now.reads m c.in_ok-last_reads.last_reads.items) c.deref.ensures.value (subst (λ l. KeptAt l c.deref.result.now c.in_ok-last_reads.last_reads.items) c.as_slice.ensures c.in_ok-last_reads.ensures))
     (c.in_ok-ends.ensures ∙ ap (λ n. replicate n None) c.len.ensures)
     (subst (λ l. IsNoted names l c.in_ok-ends.ends.items c.note.new.ends.items) c.as_slice-2.ensures c.note.ensures)

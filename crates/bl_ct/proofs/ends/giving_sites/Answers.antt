@@ -4,8 +4,8 @@ use Rattle.std.proofs.lemmas.List.{take_more, take_all, length-set}
 use Rattle.bl_graph.specs.declared.facts.Use.{Use}
 use Rattle.bl_graph.specs.Arcs.{is_in}
 use Rattle.bl_graph.specs.Graphs.{use_of}
-use Rattle.bl_ct.specs.Finding.{Gives, mark_of}
-use Rattle.bl_ct.proofs.Ending.{gives_yes, gives_no}
+use Rattle.bl_ct.specs.SecretSearch.{MarksWriters, mark_of}
+use Rattle.bl_ct.proofs.EndTables.{gives_yes, gives_no}
 use Rattle.bl_ct.proofs.ends.giving_sites.Goals as goal
 use Rattle.bl_ct.proofs.ends.giving_sites.Goals.{then-demanded-place, else-demanded-place}
 
@@ -27,4 +27,4 @@ loop-write-preserved c =
 pub returns-clause-exact : goal.returns-clause-exact
 returns-clause-exact c =
     let past = c.loop-write-test.false in
-    subst (λ l. Gives l c.args.names.now c.args.demanded.now c.loop-write.giving.items) (take_all c.loop-write.write-index c.args.writes.now (omega arith)) c.loop-write.invariant.exact
+    subst (λ l. MarksWriters l c.args.names.now c.args.demanded.now c.loop-write.giving.items) (take_all c.loop-write.write-index c.args.writes.now (omega arith)) c.loop-write.invariant.exact

@@ -3,9 +3,9 @@ use Rattle.std.specs.Prelude.{IsTrue, ◌↔◌}
 use Rattle.std.specs.List.{Contains}
 use Rattle.std.proofs.lemmas.List.{take_all, length-set}
 use Rattle.bl_graph.specs.Names.{place_of}
-use Rattle.bl_ct.specs.Finding.{IsTable, mark_of}
-use Rattle.bl_ct.proofs.Tabling.{table_within}
-use Rattle.bl_ct.proofs.Ending.{marked_more}
+use Rattle.bl_ct.specs.SecretSearch.{IsTable, mark_of}
+use Rattle.bl_ct.proofs.NameTables.{table_within}
+use Rattle.bl_ct.proofs.EndTables.{marked_more}
 use Rattle.bl_ct.proofs.ends.marked.Goals as goal
 
 pub len-requires : goal.len-requires

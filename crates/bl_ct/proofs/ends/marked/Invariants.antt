@@ -1,7 +1,7 @@
 use Rattle.std.proofs.Common.{◌≡◌, ℕ, length, take}
 use Rattle.std.specs.Prelude.{IsTrue, ◌↔◌}
 use Rattle.std.specs.List.{Contains}
-use Rattle.bl_ct.specs.Finding.{mark_of}
+use Rattle.bl_ct.specs.SecretSearch.{mark_of}
 use Rattle.bl_ct.proofs.ends.marked.Given as goal
 
 abbrev pub invariant-loop-v : goal.invariant-loop-v

@@ -3,8 +3,8 @@ use Rattle.std.specs.List.{slice_index_or}
 use Rattle.std.proofs.lemmas.List.{take_more}
 use Rattle.bl_graph.specs.declared.facts.Use.{Use}
 use Rattle.bl_graph.specs.Graphs.{use_of}
-use Rattle.bl_ct.specs.Finding.{IsTable}
-use Rattle.bl_ct.proofs.Ending.{note_more}
+use Rattle.bl_ct.specs.SecretSearch.{IsTable}
+use Rattle.bl_ct.proofs.EndTables.{note_more}
 use Rattle.bl_ct.proofs.ends.note.Goals as goal
 
 pub loop-item-preserved : goal.loop-item-preserved

@@ -1,5 +1,5 @@
 use Rattle.std.proofs.Common.{take}
-use Rattle.bl_ct.specs.Finding.{IsNoted}
+use Rattle.bl_ct.specs.SecretSearch.{IsNoted}
 use Rattle.bl_ct.proofs.ends.note.Given as goal
 
 abbrev pub invariant-loop-item : goal.invariant-loop-item

@@ -3,8 +3,8 @@ use Rattle.std.specs.List.{slice_index_or}
 use Rattle.std.proofs.lemmas.List.{take_more, take_all}
 use Rattle.bl_graph.specs.declared.facts.Use.{Use}
 use Rattle.bl_graph.specs.Graphs.{use_of}
-use Rattle.bl_ct.specs.Finding.{KeptAt}
-use Rattle.bl_ct.proofs.Ending.{kept_yes, kept_no}
+use Rattle.bl_ct.specs.SecretSearch.{KeptAt}
+use Rattle.bl_ct.proofs.EndTables.{kept_yes, kept_no}
 use Rattle.bl_ct.proofs.ends.uses_at.Goals as goal
 use Rattle.bl_ct.proofs.ends.uses_at.Goals.{then-marks-item+in_ok-push, else-marks-item}
 

@@ -1,5 +1,5 @@
 use Rattle.std.proofs.Common.{take}
-use Rattle.bl_ct.specs.Finding.{KeptAt}
+use Rattle.bl_ct.specs.SecretSearch.{KeptAt}
 use Rattle.bl_ct.proofs.ends.uses_at.Given as goal
 
 abbrev pub invariant-loop-item : goal.invariant-loop-item

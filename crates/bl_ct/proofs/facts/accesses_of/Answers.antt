@@ -3,8 +3,8 @@ use Rattle.std.specs.Prelude.{option_map}
 use Rattle.bl_base.specs.declared.number.Var.{Var}
 use Rattle.bl_cmd.specs.declared.command.Command.{Command}
 use Rattle.bl_ct.specs.Facts.{Gathers, LoadFits, StoreFits}
-use Rattle.bl_ct.proofs.Declaring.{load_step, store_step}
-use Rattle.bl_ct.proofs.Gathering.{Below, gathers_begin, gathers_end}
+use Rattle.bl_ct.proofs.DeclaredLists.{load_step, store_step}
+use Rattle.bl_ct.proofs.GatheredLists.{Below, gathers_begin, gathers_end}
 use Rattle.bl_ct.proofs.facts.accesses_of.Goals as goal
 
 pub loop-at-init : goal.loop-at-init

@@ -4,8 +4,8 @@ use Rattle.bl_base.proofs.Lists.{item_at}
 use Rattle.bl_cmd.specs.Layout.{first_of}
 use Rattle.bl_cmd.specs.declared.definitions.FunctionDef.{FunctionDef}
 use Rattle.bl_ct.specs.Facts.{Gathers, SomeAt, GlobalFits, ParamFits, FunctionFits}
-use Rattle.bl_ct.proofs.Declaring.{declared_are, first_is, firsts_count, globals_few, params_fit}
-use Rattle.bl_ct.proofs.Gathering.{behind_begin, behind_next, behind_end}
+use Rattle.bl_ct.proofs.DeclaredLists.{declared_are, first_is, firsts_count, globals_few, params_fit}
+use Rattle.bl_ct.proofs.GatheredLists.{behind_begin, behind_next, behind_end}
 use Rattle.bl_ct.proofs.facts.declared_of.Goals as goal
 
 pub push_globals-requires : goal.push_globals-requires

@@ -1,6 +1,6 @@
 use Rattle.std.proofs.Common.{◌⊎◌, []}
 use Rattle.bl_ct.specs.Facts.{Gathers, SomeAt, GlobalFits, FunctionFits}
-use Rattle.bl_ct.proofs.Gathering.{Below}
+use Rattle.bl_ct.proofs.GatheredLists.{Below}
 use Rattle.bl_ct.proofs.facts.declared_of.Given as goal
 
 abbrev pub invariant-loop-number : goal.invariant-loop-number

@@ -3,7 +3,7 @@ use Rattle.std.specs.List.{slice_index_or}
 use Rattle.bl_cmd.specs.Layout.{first_of, params_of}
 use Rattle.bl_cmd.specs.Rules.{IsDemand}
 use Rattle.bl_graph.specs.Secrets.{demanded_by}
-use Rattle.bl_ct.proofs.Declaring.{first_is, firsts_count, demand_fits}
+use Rattle.bl_ct.proofs.DeclaredLists.{first_is, firsts_count, demand_fits}
 use Rattle.bl_ct.proofs.facts.demanded_by.Goals as goal
 
 pub bounds-firsts-function : goal.bounds-firsts-function

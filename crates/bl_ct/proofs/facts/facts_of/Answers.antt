@@ -1,5 +1,5 @@
 use Rattle.std.proofs.Common.{arith}
-use Rattle.bl_ct.proofs.Declaring.{facts_are}
+use Rattle.bl_ct.proofs.DeclaredLists.{facts_are}
 use Rattle.bl_ct.proofs.facts.facts_of.Goals as goal
 
 pub returns : goal.returns

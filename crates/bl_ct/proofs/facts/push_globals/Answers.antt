@@ -1,7 +1,7 @@
 use Rattle.std.proofs.Common.{arith}
-use Rattle.bl_ct.proofs.Declaring.{global_step}
+use Rattle.bl_ct.proofs.DeclaredLists.{global_step}
 use Rattle.bl_ct.specs.Facts.{GlobalFits}
-use Rattle.bl_ct.proofs.Gathering.{gathers_begin, gathers_end}
+use Rattle.bl_ct.proofs.GatheredLists.{gathers_begin, gathers_end}
 use Rattle.bl_ct.proofs.facts.push_globals.Goals as goal
 
 pub loop-number-init : goal.loop-number-init

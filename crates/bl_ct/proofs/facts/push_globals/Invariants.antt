@@ -1,5 +1,5 @@
 use Rattle.bl_ct.specs.Facts.{Gathers, GlobalFits}
-use Rattle.bl_ct.proofs.Gathering.{Below}
+use Rattle.bl_ct.proofs.GatheredLists.{Below}
 use Rattle.bl_ct.proofs.facts.push_globals.Given as goal
 
 abbrev pub invariant-loop-number : goal.invariant-loop-number

@@ -1,4 +1,4 @@
-use Rattle.bl_ct.proofs.Declaring.{load_one}
+use Rattle.bl_ct.proofs.DeclaredLists.{load_one}
 use Rattle.bl_ct.proofs.facts.push_load.Goals as goal
 
 pub returns-in_ok-push : goal.returns-in_ok-push

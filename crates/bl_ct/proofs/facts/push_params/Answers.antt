@@ -1,7 +1,7 @@
 use Rattle.std.proofs.Common.{arith}
-use Rattle.bl_ct.proofs.Declaring.{param_step}
+use Rattle.bl_ct.proofs.DeclaredLists.{param_step}
 use Rattle.bl_ct.specs.Facts.{ParamFits}
-use Rattle.bl_ct.proofs.Gathering.{gathers_begin, gathers_end}
+use Rattle.bl_ct.proofs.GatheredLists.{gathers_begin, gathers_end}
 use Rattle.bl_ct.proofs.facts.push_params.Goals as goal
 
 pub loop-place-init : goal.loop-place-init

@@ -1,5 +1,5 @@
 use Rattle.bl_ct.specs.Facts.{Gathers, ParamFits}
-use Rattle.bl_ct.proofs.Gathering.{Below}
+use Rattle.bl_ct.proofs.GatheredLists.{Below}
 use Rattle.bl_ct.proofs.facts.push_params.Given as goal
 
 abbrev pub invariant-loop-place : goal.invariant-loop-place

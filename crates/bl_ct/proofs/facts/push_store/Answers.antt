@@ -1,4 +1,4 @@
-use Rattle.bl_ct.proofs.Declaring.{store_one}
+use Rattle.bl_ct.proofs.DeclaredLists.{store_one}
 use Rattle.bl_ct.proofs.facts.push_store.Goals as goal
 
 pub returns-in_ok-push : goal.returns-in_ok-push

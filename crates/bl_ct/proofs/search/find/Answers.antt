@@ -2,8 +2,8 @@ use Rattle.std.proofs.Common.{◌≡◌, ◌<◌, ℕ, List, Bool, true, false, 
 use Rattle.bl_graph.specs.Arcs.{is_in}
 use Rattle.bl_graph.specs.Names.{place_of}
 use Rattle.std.proofs.lemmas.List.{get_or_default}
-use Rattle.bl_ct.proofs.Tabling.{table_within}
-use Rattle.bl_ct.proofs.Visiting.{visits_no, visits_yes}
+use Rattle.bl_ct.proofs.NameTables.{table_within}
+use Rattle.bl_ct.proofs.SearchVisits.{visits_no, visits_yes}
 use Rattle.bl_ct.proofs.search.find.Goals as goal
 
 pub returns-else-not-index : goal.returns-else-not-index

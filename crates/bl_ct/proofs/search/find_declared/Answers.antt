@@ -2,7 +2,7 @@ use Rattle.std.proofs.Common.{◌≡◌, ◌+◌, ◌++◌, ◌∷◌, [], take}
 use Rattle.std.specs.List.{slice_index_or}
 use Rattle.std.proofs.lemmas.List.{take_more}
 use Rattle.bl_ct.specs.declared.search.Cause.TheVariants as cause_
-use Rattle.bl_ct.proofs.Visiting.{visits_push}
+use Rattle.bl_ct.proofs.SearchVisits.{visits_push}
 use Rattle.bl_ct.specs.declared.facts.Declared.{Declared}
 use Rattle.bl_ct.proofs.search.find_declared.Goals as goal
 

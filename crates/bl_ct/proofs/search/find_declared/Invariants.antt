@@ -1,5 +1,5 @@
 use Rattle.std.proofs.Common.{◌≡◌, take}
-use Rattle.bl_ct.specs.Finding.{Visits, Some_fits, Some_asks}
+use Rattle.bl_ct.specs.SecretSearch.{Visits, Some_fits, Some_asks}
 use Rattle.bl_ct.specs.declared.search.Cause.TheVariants as cause_
 use Rattle.bl_ct.proofs.search.find_declared.Given as goal
 

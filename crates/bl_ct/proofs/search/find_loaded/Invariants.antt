@@ -1,5 +1,5 @@
 use Rattle.std.proofs.Common.{◌≡◌, Some, take}
-use Rattle.bl_ct.specs.Finding.{Visits, IsFoundBy, Some_fits, Some_asks, entry_at}
+use Rattle.bl_ct.specs.SecretSearch.{Visits, IsFoundBy, Some_fits, Some_asks, entry_at}
 use Rattle.bl_ct.specs.declared.search.Cause.TheVariants as cause_
 use Rattle.bl_ct.proofs.search.find_loaded.Given as goal
 

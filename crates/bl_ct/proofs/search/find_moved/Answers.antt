@@ -2,8 +2,8 @@ use Rattle.std.proofs.Common.{◌≡◌, ◌+◌, ◌++◌, ◌∷◌, [], ℕ, 
 use Rattle.std.specs.List.{slice_index_or}
 use Rattle.std.proofs.lemmas.List.{take_more, take_all}
 use Rattle.bl_ct.specs.declared.search.Cause.TheVariants as cause_
-use Rattle.bl_ct.specs.Finding.{Visits, IsFoundBy, Some_fits, Some_asks, entry_at}
-use Rattle.bl_ct.proofs.Visiting.{visits_push}
+use Rattle.bl_ct.specs.SecretSearch.{Visits, IsFoundBy, Some_fits, Some_asks, entry_at}
+use Rattle.bl_ct.proofs.SearchVisits.{visits_push}
 use Rattle.bl_ct.proofs.search.find_moved.Goals as goal
 
 pub find_written-requires-clause-table : goal.find_written-requires-clause-table

@@ -1,6 +1,6 @@
 use Rattle.std.proofs.Common.{◌≡◌, Option, Some, ℕ, subst, sym}
-use Rattle.bl_ct.specs.Finding.{IsFoundBy, Visits}
-use Rattle.bl_ct.proofs.Visiting.{visits_written}
+use Rattle.bl_ct.specs.SecretSearch.{IsFoundBy, Visits}
+use Rattle.bl_ct.proofs.SearchVisits.{visits_written}
 use Rattle.bl_ct.proofs.search.find_written.Goals as goal
 
 pub find-requires-clause-named : goal.find-requires-clause-named

@@ -1,5 +1,5 @@
 use Rattle.std.proofs.Common.{◌≡◌, map, take}
-use Rattle.bl_ct.specs.Finding.{from_name}
+use Rattle.bl_ct.specs.SecretSearch.{from_name}
 use Rattle.bl_ct.proofs.search.name_arcs.Given as goal
 
 abbrev pub invariant-loop-read : goal.invariant-loop-read

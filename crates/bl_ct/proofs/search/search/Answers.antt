@@ -9,11 +9,11 @@ use Rattle.bl_ct.specs.declared.search.Cause.TheVariants as cause_
 use Rattle.bl_cmd.specs.Sites.{Reads}
 use Rattle.bl_graph.specs.Arcs.{rows_in, row_at}
 use Rattle.bl_graph.specs.Names.{place_of}
-use Rattle.bl_ct.specs.Finding.{Visits, IsFoundBy, Some_fits, Some_asks, Has, entry_at}
-use Rattle.bl_ct.proofs.Knowing.{names_rise, declared_in}
-use Rattle.bl_ct.proofs.Rowing.{elem}
-use Rattle.bl_ct.proofs.Tabling.{marked_has}
-use Rattle.bl_ct.proofs.Visiting.{search_begins, search_next, search_ends}
+use Rattle.bl_ct.specs.SecretSearch.{Visits, IsFoundBy, Some_fits, Some_asks, Has, entry_at}
+use Rattle.bl_ct.proofs.KnownRanges.{names_rise, declared_in}
+use Rattle.bl_ct.proofs.ReadRows.{elem}
+use Rattle.bl_ct.proofs.NameTables.{marked_has}
+use Rattle.bl_ct.proofs.SearchVisits.{search_begins, search_next, search_ends}
 use Rattle.bl_ct.proofs.search.search.Goals as goal
 
 pub find_declared-requires-clause-table : goal.find_declared-requires-clause-table

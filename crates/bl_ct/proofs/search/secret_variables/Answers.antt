@@ -7,10 +7,10 @@ use Rattle.bl_graph.specs.Arcs.{rows_in, row_at}
 use Rattle.bl_graph.specs.Graphs.{use_of}
 use Rattle.bl_graph.specs.Names.{place_of}
 use Rattle.bl_graph.specs.declared.facts.Use.{Use}
-use Rattle.bl_ct.specs.Finding.{AreWritten, entry_at, from_name}
-use Rattle.bl_ct.proofs.Knowing.{names_few, names_rise, writes_in, reads_in}
-use Rattle.bl_ct.proofs.Rowing.{elem, arcs_within, reader_rows}
-use Rattle.bl_ct.proofs.Writing.{one_write, written_is}
+use Rattle.bl_ct.specs.SecretSearch.{AreWritten, entry_at, from_name}
+use Rattle.bl_ct.proofs.KnownRanges.{names_few, names_rise, writes_in, reads_in}
+use Rattle.bl_ct.proofs.ReadRows.{elem, arcs_within, reader_rows}
+use Rattle.bl_ct.proofs.WrittenVariables.{one_write, written_is}
 use Rattle.bl_ct.proofs.search.secret_variables.Goals as goal
 
 pub written_of-requires-clause-sites : goal.written_of-requires-clause-sites

@@ -4,8 +4,8 @@ use Rattle.std.proofs.lemmas.List.{length-set, length-replicate, take-append-dro
 use Rattle.std.proofs.lemmas.List.Elements.{Contains-append_left, Contains-get_or}
 use Rattle.bl_graph.specs.Graphs.{use_of}
 use Rattle.bl_graph.specs.declared.facts.Use.{Use}
-use Rattle.bl_ct.specs.Finding.{AreWritten}
-use Rattle.bl_ct.proofs.Writing.{written_more, written_none}
+use Rattle.bl_ct.specs.SecretSearch.{AreWritten}
+use Rattle.bl_ct.proofs.WrittenVariables.{written_more, written_none}
 use Rattle.bl_ct.proofs.search.written_of.Goals as goal
 
 pub loop-write-init : goal.loop-write-init

@@ -1,5 +1,5 @@
 use Rattle.std.proofs.Common.{◌≡◌, length, take}
-use Rattle.bl_ct.specs.Finding.{AreWritten}
+use Rattle.bl_ct.specs.SecretSearch.{AreWritten}
 use Rattle.bl_ct.proofs.search.written_of.Given as goal
 
 abbrev pub invariant-loop-write : goal.invariant-loop-write

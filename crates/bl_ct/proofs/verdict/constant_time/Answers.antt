@@ -2,9 +2,9 @@ use Rattle.std.proofs.Common.{◌<◌, ◌∙◌, ap, sym, subst, arith}
 use Rattle.std.specs.List.{All}
 use Rattle.bl_graph.specs.Ranges.{variables}
 use Rattle.bl_ct.specs.declared.search.Step.{Step}
-use Rattle.bl_ct.specs.Finding.{is_found}
+use Rattle.bl_ct.specs.SecretSearch.{is_found}
 use Rattle.bl_ct.specs.Verdicts.{AreSecrets, FindsSecrets}
-use Rattle.bl_ct.proofs.Judging.{labels_are}
+use Rattle.bl_ct.proofs.CtVerdicts.{labels_are}
 use Rattle.bl_ct.proofs.verdict.constant_time.Goals as goal
 
 pub labels_of-requires : goal.labels_of-requires

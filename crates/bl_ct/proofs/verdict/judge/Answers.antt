@@ -6,13 +6,13 @@ use Rattle.bl_cmd.specs.declared.definitions.ProgramParts.{ProgramParts as Progr
 use Rattle.bl_graph.specs.SecretChains.{IsSecretChain}
 use Rattle.bl_graph.specs.Secrets.{Demands}
 use Rattle.bl_ct.specs.declared.search.Step.{Step}
-use Rattle.bl_ct.specs.Finding.{AreEnds, Searched, Has, IsLeak, AreJustified, mark_of}
+use Rattle.bl_ct.specs.SecretSearch.{AreEnds, Searched, Has, IsLeak, AreJustified, mark_of}
 use Rattle.bl_ct.specs.Leaks.{LeakFound}
-use Rattle.bl_ct.proofs.Excluding.{chain_not}
-use Rattle.bl_ct.proofs.Judging.{are_secrets, demanded_exact, leaks, steps_small}
-use Rattle.bl_ct.proofs.Knowing.{demanded_in, names_few, names_rise, secret_in, secrets_in_range}
-use Rattle.bl_ct.proofs.Rowing.{elem}
-use Rattle.bl_ct.proofs.Visiting.{step_found}
+use Rattle.bl_ct.proofs.ChainExclusion.{chain_not}
+use Rattle.bl_ct.proofs.CtVerdicts.{are_secrets, demanded_exact, leaks, steps_small}
+use Rattle.bl_ct.proofs.KnownRanges.{demanded_in, names_few, names_rise, secret_in, secrets_in_range}
+use Rattle.bl_ct.proofs.ReadRows.{elem}
+use Rattle.bl_ct.proofs.SearchVisits.{step_found}
 use Rattle.bl_ct.proofs.verdict.judge.Goals as goal
 
 pub marked-requires-clause-rise : goal.marked-requires-clause-rise

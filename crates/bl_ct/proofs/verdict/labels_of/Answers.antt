@@ -5,7 +5,7 @@ use Rattle.bl_base.specs.declared.names.Label.TheVariants as label
 use Rattle.bl_graph.specs.declared.secret.Origin.TheVariants as origin_
 use Rattle.bl_ct.specs.declared.search.Cause.TheVariants as cause_
 use Rattle.bl_ct.specs.declared.search.Step.{Step}
-use Rattle.bl_ct.proofs.Judging.{labels_more}
+use Rattle.bl_ct.proofs.CtVerdicts.{labels_more}
 use Rattle.bl_ct.proofs.verdict.labels_of.Goals as goal
 
 pub loop-step-preserved : goal.loop-step-preserved

@@ -1,5 +1,5 @@
 use Rattle.std.proofs.Common.{◌≡◌, ℕ, length, take}
-use Rattle.bl_ct.specs.Finding.{is_found}
+use Rattle.bl_ct.specs.SecretSearch.{is_found}
 use Rattle.bl_ct.specs.Verdicts.{labelling_of}
 use Rattle.bl_ct.proofs.verdict.labels_of.Given as goal
 

@@ -3,8 +3,8 @@ use Rattle.bl_cmd.specs.Programs.{IsProgram}
 use Rattle.bl_cmd.specs.declared.definitions.ProgramParts.{ProgramParts as Program}
 use Rattle.bl_ct.specs.Facts.{AreFacts, HasNoSecrets}
 use Rattle.bl_ct.specs.Verdicts.{AreSecrets}
-use Rattle.bl_ct.proofs.Knowing.{names_all, secrets_in_range, vars_small}
-use Rattle.bl_ct.proofs.Nothing.{no_secrets}
+use Rattle.bl_ct.proofs.KnownRanges.{names_all, secrets_in_range, vars_small}
+use Rattle.bl_ct.proofs.NoSecrets.{no_secrets}
 use Rattle.bl_ct.proofs.verdict.secrets_of.Goals as goal
 
 pub names_of-requires-clause-more : goal.names_of-requires-clause-more

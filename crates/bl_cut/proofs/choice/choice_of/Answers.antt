@@ -6,9 +6,9 @@ use Rattle.bl_cmd.specs.declared.definitions.ProgramParts.{ProgramParts}
 use Rattle.bl_flow.specs.Cuts.{at_place}
 use Rattle.bl_graph.specs.Ranges.{commands}
 use Rattle.bl_graph.specs.declared.certificate.FlowPath.{FlowPath}
-use Rattle.bl_graph.proofs.Ranging.{in_range}
+use Rattle.bl_graph.proofs.RangeLemmas.{in_range}
 use Rattle.bl_cut.specs.Choices.{EndsAtVar, path_of}
-use Rattle.bl_cut.proofs.Answering.{all_end_at_vars, answer_least, answer_weight, answer_certificate}
+use Rattle.bl_cut.proofs.FlowAnswers.{all_end_at_vars, answer_least, answer_weight, answer_certificate}
 use Rattle.bl_cut.proofs.choice.choice_of.Goals as goal
 
 pub read_back-requires : goal.read_back-requires

@@ -1,6 +1,6 @@
 use Rattle.std.proofs.lemmas.Bool.{false≢true}
 use Rattle.bl_transient.specs.Transient.{nothing}
-use Rattle.bl_cut.proofs.Cutting.{in_range, bounded, total}
+use Rattle.bl_cut.proofs.PassingCuts.{in_range, bounded, total}
 use Rattle.bl_cut.proofs.choice.choose.Goals as goal
 
 pub max_flow_of-requires-clause-in_range : goal.max_flow_of-requires-clause-in_range

@@ -1,8 +1,8 @@
 use Rattle.std.proofs.Common.{arith, sym, subst}
 use Rattle.std.specs.List.{All, Contains}
-use Rattle.bl_graph.proofs.Naming.{few_names, sinks_named}
+use Rattle.bl_graph.proofs.NameLemmas.{few_names, sinks_named}
 use Rattle.bl_cut.specs.Choices.{KnowsIn}
-use Rattle.bl_cut.proofs.Answering.{knows_sinks}
+use Rattle.bl_cut.proofs.FlowAnswers.{knows_sinks}
 use Rattle.bl_cut.proofs.choice.lay_out.Goals as goal
 
 pub sinks_by_variable-requires-clause-few : goal.sinks_by_variable-requires-clause-few

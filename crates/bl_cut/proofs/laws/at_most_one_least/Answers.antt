@@ -1,5 +1,5 @@
 use Rattle.bl_transient.specs.Transient.{nothing}
-use Rattle.bl_cut.proofs.Leaving.{only_one}
+use Rattle.bl_cut.proofs.LeastSites.{only_one}
 use Rattle.bl_cut.proofs.laws.at_most_one_least.Goals as goal
 
 pub returns-clause-least : goal.returns-clause-least

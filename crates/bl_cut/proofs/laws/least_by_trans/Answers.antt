@@ -1,5 +1,5 @@
 use Rattle.bl_transient.specs.Transient.{nothing}
-use Rattle.bl_cut.proofs.Leaving.{holds_needed}
+use Rattle.bl_cut.proofs.LeastSites.{holds_needed}
 use Rattle.bl_cut.proofs.laws.least_by_trans.Goals as goal
 
 pub returns : goal.returns

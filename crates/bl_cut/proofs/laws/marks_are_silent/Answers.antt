@@ -1,4 +1,4 @@
-use Rattle.bl_cut.proofs.Marking.{run_same, run_back}
+use Rattle.bl_cut.proofs.MarkedRuns.{run_same, run_back}
 use Rattle.bl_cut.proofs.laws.marks_are_silent.Goals as goal
 
 pub returns : goal.returns

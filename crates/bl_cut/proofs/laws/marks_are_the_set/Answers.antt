@@ -1,4 +1,4 @@
-use Rattle.bl_cut.proofs.Marked.{protects, protects_none}
+use Rattle.bl_cut.proofs.MarkedPrograms.{protects, protects_none}
 use Rattle.bl_cut.proofs.laws.marks_are_the_set.Goals as goal
 
 pub returns-clause-sites : goal.returns-clause-sites

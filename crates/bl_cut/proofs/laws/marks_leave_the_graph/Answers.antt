@@ -1,4 +1,4 @@
-use Rattle.bl_cut.proofs.Graphing.{graph_same}
+use Rattle.bl_cut.proofs.MarkedGraphs.{graph_same}
 use Rattle.bl_cut.proofs.laws.marks_leave_the_graph.Goals as goal
 
 pub returns : goal.returns

@@ -1,6 +1,6 @@
 use Rattle.std.proofs.lemmas.Bool.{false≢true}
 use Rattle.bl_transient.specs.Transient.{nothing}
-use Rattle.bl_cut.proofs.Existing.{some_least}
+use Rattle.bl_cut.proofs.LeastExists.{some_least}
 use Rattle.bl_cut.proofs.laws.some_set_is_least.Goals as goal
 
 pub returns-clause-least : goal.returns-clause-least

@@ -1,5 +1,5 @@
 use Rattle.std.specs.FinSet as fin
-use Rattle.bl_cut.proofs.Remarking.{MarkedFirst}
+use Rattle.bl_cut.proofs.MarkSteps.{MarkedFirst}
 use Rattle.bl_cut.proofs.marks.mark_all.Given as goal
 
 abbrev pub invariant-loop-at : goal.invariant-loop-at

@@ -6,9 +6,9 @@ use Rattle.bl_cmd.specs.declared.definitions.ProgramParts.{ProgramParts}
 use Rattle.bl_graph.specs.Graphs.{use_of}
 use Rattle.bl_graph.specs.Names.{place_of}
 use Rattle.bl_graph.specs.Ranges.{commands}
-use Rattle.bl_graph.proofs.Naming.{few_names}
+use Rattle.bl_graph.proofs.NameLemmas.{few_names}
 use Rattle.bl_cut.specs.Network.{Begins, write_arc, read_arc, sink_node, var_node}
-use Rattle.bl_cut.proofs.Networks.{made_network, write_nodes, read_names, read_nodes, sink_numbers, var_nodes, write_sites, write_places, each_writes}
+use Rattle.bl_cut.proofs.NetworkLemmas.{made_network, write_nodes, read_names, read_nodes, sink_numbers, var_nodes, write_sites, write_places, each_writes}
 use Rattle.bl_cut.proofs.network.network.Goals as goal
 
 pub len-requires : goal.len-requires

@@ -1,5 +1,5 @@
 use Rattle.std.proofs.Common.{◌≡◌, length}
-use Rattle.bl_cut.proofs.Networks.{NotedFirst}
+use Rattle.bl_cut.proofs.NetworkLemmas.{NotedFirst}
 use Rattle.bl_cut.proofs.network.node_weights.Given as goal
 
 abbrev pub invariant-loop-write : goal.invariant-loop-write

@@ -2,7 +2,7 @@ use Rattle.std.proofs.Common.{◌∙◌, ap, map, subst}
 use Rattle.std.proofs.lemmas.List.{take_all}
 use Rattle.bl_base.specs.declared.number.Pos.{Pos}
 use Rattle.bl_cut.specs.Network.{AreReaders}
-use Rattle.bl_cut.proofs.Readers.{begins}
+use Rattle.bl_cut.proofs.AskedReaders.{begins}
 use Rattle.bl_cut.proofs.network.start_nodes.Goals as goal
 
 pub returns : goal.returns

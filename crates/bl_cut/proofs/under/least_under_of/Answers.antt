@@ -6,8 +6,8 @@ use Rattle.bl_flow.specs.Networks.{carried}
 use Rattle.bl_graph.specs.Ranges.{commands}
 use Rattle.bl_transient.specs.Verdicts.{asked_of}
 use Rattle.bl_cut.specs.Network.{IsNetworkUnder}
-use Rattle.bl_cut.proofs.Answering.{lists_apart, network_of, set_least, set_weighs}
-use Rattle.bl_cut.proofs.Cutting.{in_range, bounded, total}
+use Rattle.bl_cut.proofs.FlowAnswers.{lists_apart, network_of, set_least, set_weighs}
+use Rattle.bl_cut.proofs.PassingCuts.{in_range, bounded, total}
 use Rattle.bl_cut.proofs.under.least_under_of.Goals as goal
 
 pub max_flow_of-requires-clause-in_range : goal.max_flow_of-requires-clause-in_range

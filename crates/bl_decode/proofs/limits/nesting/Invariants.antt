@@ -1,6 +1,6 @@
 use Rattle.std.proofs.Common.{◌≡◌, ◌+◌, ◌≤◌}
 use Rattle.bl_wasm.specs.Limits.{greatest_depth}
-use Rattle.bl_wasm.specs.Nesting.{depth_at}
+use Rattle.bl_wasm.specs.OpenConstructs.{depth_at}
 use Rattle.bl_decode.proofs.limits.nesting.Given as goal
 
 abbrev pub invariant-loop-item : goal.invariant-loop-item

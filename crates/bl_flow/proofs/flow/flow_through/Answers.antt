@@ -1,11 +1,11 @@
 use Rattle.std.proofs.Common.{arith, slice_index, sym, ap, subst, ◌∙◌}
 use Rattle.bl_flow.specs.declared.network.FlowResult.{FlowResult}
 use Rattle.bl_flow.specs.Flows.{link_count, IsCarried}
-use Rattle.bl_flow.proofs.Carrying.{carries_first}
+use Rattle.bl_flow.proofs.FlowDecomposition.{carries_first}
 use Rattle.bl_flow.proofs.Duality.{worth_at_most}
-use Rattle.bl_flow.proofs.Filling.{load_fits}
+use Rattle.bl_flow.proofs.FlowBounds.{load_fits}
 use Rattle.bl_flow.proofs.Links.{count_of}
-use Rattle.bl_flow.proofs.Nearest.{is_nearest}
+use Rattle.bl_flow.proofs.NearestCut.{is_nearest}
 use Rattle.bl_flow.proofs.flow.flow_through.Goals as goal
 
 pub fill-requires : goal.fill-requires

@@ -1,4 +1,4 @@
-use Rattle.bl_flow.proofs.Rebuilt.{split_within, sorted_is_laid, laid_out_again, greatest_again}
+use Rattle.bl_flow.proofs.NetworkOfLinks.{split_within, sorted_is_laid, laid_out_again, greatest_again}
 use Rattle.bl_flow.proofs.flow.max_flow_of.Goals as goal
 
 pub with_rows-requires : goal.with_rows-requires

@@ -1,4 +1,4 @@
-use Rattle.bl_flow.proofs.Rebuilt.{network_of}
+use Rattle.bl_flow.proofs.NetworkOfLinks.{network_of}
 use Rattle.bl_flow.proofs.flow.max_flow_of.Given as goal
 
 abbrev pub ghost-flow_through : goal.ghost-flow_through

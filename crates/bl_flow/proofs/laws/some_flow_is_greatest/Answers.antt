@@ -1,4 +1,4 @@
-use Rattle.bl_flow.proofs.Existing.{some_flow}
+use Rattle.bl_flow.proofs.MaxFlowExistence.{some_flow}
 use Rattle.bl_flow.proofs.laws.some_flow_is_greatest.Goals as goal
 
 pub returns : goal.returns

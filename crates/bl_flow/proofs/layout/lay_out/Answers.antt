@@ -1,4 +1,4 @@
-use Rattle.bl_flow.proofs.Rebuilt.{split_within, sorted_is_laid}
+use Rattle.bl_flow.proofs.NetworkOfLinks.{split_within, sorted_is_laid}
 use Rattle.bl_flow.proofs.layout.lay_out.Goals as goal
 
 pub with_rows-requires : goal.with_rows-requires

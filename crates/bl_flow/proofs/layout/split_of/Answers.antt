@@ -3,7 +3,7 @@ use Rattle.bl_flow.specs.declared.network.Network.{Network}
 use Rattle.bl_flow.specs.Networks.{size}
 use Rattle.bl_flow.proofs.LinksWithin.{half_count}
 use Rattle.bl_flow.proofs.Links.{count_of}
-use Rattle.bl_flow.proofs.Filling.{flow_begins}
+use Rattle.bl_flow.proofs.FlowBounds.{flow_begins}
 use Rattle.bl_flow.proofs.layout.split_of.Goals as goal
 
 pub of-requires : goal.of-requires

@@ -1,10 +1,10 @@
 use Rattle.std.proofs.Common.{arith, ◌≡◌, ◌<◌, ◌≤◌, ◌+◌, ◌-◌, ◌*◌, ◌/◌, ℕ, length, take, sym, ap, subst, ◌∙◌, refl}
 use Rattle.bl_flow.specs.Networks.{size, total_weight}
-use Rattle.bl_flow.specs.Rows.{reversed}
+use Rattle.bl_flow.specs.AdjacencyLists.{reversed}
 use Rattle.bl_flow.specs.Levels.{AreLevelsToEnd}
 use Rattle.bl_flow.proofs.LinksWithin.{from_within, to_within}
-use Rattle.bl_flow.proofs.Filling.{at_most_total, halves_fit, capacities_of}
-use Rattle.bl_flow.proofs.Wiring.{rows_both, all_to}
+use Rattle.bl_flow.proofs.FlowBounds.{at_most_total, halves_fit, capacities_of}
+use Rattle.bl_flow.proofs.LastLevels.{rows_both, all_to}
 use Rattle.bl_flow.proofs.Phases.{Phase, IsBlocked, phase_begins, phase_more, phase_ends}
 use Rattle.bl_flow.proofs.level_graph.block.Goals as goal
 use Rattle.bl_flow.proofs.level_graph.block.Goals.{In_default, After-push}

@@ -1,7 +1,7 @@
 use Rattle.std.proofs.Common.{length, ◌+◌, ◌-◌, ◌/◌, ◌≤◌}
 use Rattle.bl_flow.specs.Networks.{total_weight}
 use Rattle.bl_flow.specs.Levels.{height}
-use Rattle.bl_flow.specs.Rows.{reversed}
+use Rattle.bl_flow.specs.AdjacencyLists.{reversed}
 use Rattle.bl_flow.proofs.Phases.{Phase}
 use Rattle.bl_flow.proofs.level_graph.block.Given as goal
 

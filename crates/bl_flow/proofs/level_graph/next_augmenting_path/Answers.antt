@@ -1,9 +1,9 @@
 use Rattle.std.proofs.Common.{ap, arith, ◌<◌, ◌+◌, ◌-◌, ◌/◌, length, slice_index, sym, ◌∙◌, refl}
 use Rattle.std.proofs.lemmas.Bool.{false≢true}
 use Rattle.bl_flow.specs.Split.{link_at}
-use Rattle.bl_flow.specs.Searches.{row_at}
-use Rattle.bl_flow.specs.Rows.{reversed}
-use Rattle.bl_flow.proofs.Blocking.{takes_buffered, passes_buffered, back_buffered, may_buffered, none_left, at_place, past_row}
+use Rattle.bl_flow.specs.Searches.{part_row}
+use Rattle.bl_flow.specs.AdjacencyLists.{reversed}
+use Rattle.bl_flow.proofs.BlockingFlows.{takes_buffered, passes_buffered, back_buffered, may_buffered, none_left, at_place, past_row}
 use Rattle.bl_flow.proofs.level_graph.next_augmenting_path.Goals as goal
 
 pub loop-at-preserved-then-leads_on : goal.loop-at-preserved-then-leads_on
@@ -13,7 +13,7 @@ loop-at-preserved-then-leads_on c =
 
 pub overflow_add-passed : goal.overflow_add-passed
 overflow_add-passed c =
-    let inside : slice_index c.loop-at.passed c.loop-at.at < length (row_at (reversed (length c.args.links.now / 2) c.args.rows.now) c.loop-at.at) = (at_place _ _ _ c.in-Some.ensures.link).0 in let short = c.in-Some.ensures.small c.loop-at.at in omega arith
+    let inside : slice_index c.loop-at.passed c.loop-at.at < length (part_row (reversed (length c.args.links.now / 2) c.args.rows.now) c.loop-at.at) = (at_place _ _ _ c.in-Some.ensures.link).0 in let short = c.in-Some.ensures.small c.loop-at.at in omega arith
 
 pub loop-at-smaller-else-leads_on : goal.loop-at-smaller-else-leads_on
 loop-at-smaller-else-leads_on c =

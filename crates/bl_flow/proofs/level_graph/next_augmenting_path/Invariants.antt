@@ -1,6 +1,6 @@
 use Rattle.std.proofs.Common.{◌/◌, length}
-use Rattle.bl_flow.specs.Rows.{reversed}
-use Rattle.bl_flow.proofs.Blocking.{Buffered, measure}
+use Rattle.bl_flow.specs.AdjacencyLists.{reversed}
+use Rattle.bl_flow.proofs.BlockingFlows.{Buffered, measure}
 use Rattle.bl_flow.proofs.level_graph.next_augmenting_path.Given as goal
 
 abbrev pub invariant-loop-at : goal.invariant-loop-at

@@ -1,8 +1,8 @@
 use Rattle.std.proofs.Common.{arith, ◌≡◌, ◌<◌, ◌++◌, ◌∷◌, [], false, length, set, sym, ap, ◌∙◌}
 use Rattle.bl_flow.specs.Split.{link_at}
-use Rattle.bl_flow.specs.Rows.{reversed}
+use Rattle.bl_flow.specs.AdjacencyLists.{reversed}
 use Rattle.bl_flow.specs.Traces.{OnTrace, on_trail}
-use Rattle.bl_flow.proofs.Tracing.{brings, steps_back, off_trail}
+use Rattle.bl_flow.proofs.TraceLemmas.{brings, steps_back, off_trail}
 use Rattle.bl_flow.proofs.paths.go_back.Goals as goal
 use Rattle.bl_flow.proofs.paths.go_back.Goals.{In_ok-push}
 

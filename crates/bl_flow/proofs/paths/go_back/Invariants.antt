@@ -1,7 +1,7 @@
 use Rattle.std.proofs.Common.{◌<◌, length}
-use Rattle.bl_flow.specs.Rows.{reversed}
+use Rattle.bl_flow.specs.AdjacencyLists.{reversed}
 use Rattle.bl_flow.specs.Traces.{ArePassedOver, OnTrace}
-use Rattle.bl_flow.proofs.Tracing.{off_trail}
+use Rattle.bl_flow.proofs.TraceLemmas.{off_trail}
 use Rattle.bl_flow.proofs.paths.go_back.Given as goal
 
 abbrev pub invariant-loop-at : goal.invariant-loop-at

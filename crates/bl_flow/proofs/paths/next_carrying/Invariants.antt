@@ -1,6 +1,6 @@
 use Rattle.std.proofs.Common.{◌-◌, length, slice_index}
-use Rattle.bl_flow.specs.Searches.{row_at}
-use Rattle.bl_flow.specs.Rows.{reversed}
+use Rattle.bl_flow.specs.Searches.{part_row}
+use Rattle.bl_flow.specs.AdjacencyLists.{reversed}
 use Rattle.bl_flow.specs.Traces.{ArePassedOver}
 use Rattle.bl_flow.proofs.paths.next_carrying.Given as goal
 
@@ -8,4 +8,4 @@ abbrev pub invariant-loop-link : goal.invariant-loop-link
 invariant-loop-link l = ArePassedOver l.carries (reversed (length l.carries) l.rows) l.passed
 
 abbrev pub decreases-loop-link : goal.decreases-loop-link
-decreases-loop-link l = length (row_at (reversed (length l.carries) l.rows) l.part) - slice_index l.passed l.part
+decreases-loop-link l = length (part_row (reversed (length l.carries) l.rows) l.part) - slice_index l.passed l.part

@@ -1,13 +1,13 @@
 use Rattle.std.proofs.Common.{arith, ◌+◌, ◌*◌, length, sym, subst}
 use Rattle.bl_flow.specs.Networks.{size}
 use Rattle.bl_flow.specs.Split.{links_of, in_part, out_part}
-use Rattle.bl_flow.specs.Rows.{reversed}
+use Rattle.bl_flow.specs.AdjacencyLists.{reversed}
 use Rattle.bl_flow.specs.Flows.{link_count}
 use Rattle.bl_flow.specs.Levels.{AreRowsIn}
 use Rattle.bl_flow.specs.Traces.{OnTrace, AreFed, ArePassedOver}
 use Rattle.bl_flow.proofs.LinksWithin.{from_within}
-use Rattle.bl_flow.proofs.Wiring.{rows_reversed}
-use Rattle.bl_flow.proofs.Tracing.{Dropped, are_fed, circle_dropped, over_less}
+use Rattle.bl_flow.proofs.LastLevels.{rows_reversed}
+use Rattle.bl_flow.proofs.TraceLemmas.{Dropped, are_fed, circle_dropped, over_less}
 use Rattle.bl_flow.proofs.paths.trace.Goals as goal
 use Rattle.bl_flow.proofs.paths.trace.Goals.{After-slice_known-in-loop-at-4-1}
 

@@ -1,6 +1,6 @@
 use Rattle.std.proofs.Common.{ℕ, ◌<◌, ◌≤◌, ◌+◌, length, slice_index}
 use Rattle.bl_base.specs.Sums.{sum_below}
-use Rattle.bl_flow.specs.Rows.{reversed}
+use Rattle.bl_flow.specs.AdjacencyLists.{reversed}
 use Rattle.bl_flow.specs.Flows.{IsCarried, link_count}
 use Rattle.bl_flow.specs.Traces.{ArePassedOver, OnTrace}
 use Rattle.bl_flow.proofs.paths.trace.Given as goal

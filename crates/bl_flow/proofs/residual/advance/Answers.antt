@@ -1,6 +1,6 @@
 use Rattle.std.proofs.Common.{sym, subst}
-use Rattle.bl_flow.specs.Packed.{IsPacked}
-use Rattle.bl_flow.proofs.Advancing.{packed_lawful, advance_is}
+use Rattle.bl_flow.specs.PackedNetworks.{IsPacked}
+use Rattle.bl_flow.proofs.EndLevels.{packed_lawful, advance_is}
 use Rattle.bl_flow.proofs.residual.advance.Goals as goal
 
 pub returns-then-not-reaches_an_end-clause-lawful : goal.returns-then-not-reaches_an_end-clause-lawful

@@ -1,9 +1,9 @@
 use Rattle.std.proofs.Common.{◌≡◌, ◌+◌, ◌*◌, length, sym, ap, subst, refl, ◌∙◌}
 use Rattle.bl_flow.specs.Networks.{size}
 use Rattle.bl_flow.specs.Levels.{AreLevels, AreLevelsToEnd}
-use Rattle.bl_flow.specs.Packed.{IsPacked}
+use Rattle.bl_flow.specs.PackedNetworks.{IsPacked}
 use Rattle.bl_flow.proofs.LinksWithin.{to_within}
-use Rattle.bl_flow.proofs.Rebuilt.{network_of, is_rebuilt, advanced_again}
+use Rattle.bl_flow.proofs.NetworkOfLinks.{network_of, is_rebuilt, advanced_again}
 use Rattle.bl_flow.proofs.residual.flow_on.Goals as goal
 
 pub part_levels-requires-clause-parts : goal.part_levels-requires-clause-parts

@@ -1,4 +1,4 @@
-use Rattle.bl_flow.proofs.Rebuilt.{network_of}
+use Rattle.bl_flow.proofs.NetworkOfLinks.{network_of}
 use Rattle.bl_flow.proofs.residual.flow_on.Given as goal
 
 abbrev pub ghost-block_graph : goal.ghost-block_graph

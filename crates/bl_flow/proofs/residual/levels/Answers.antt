@@ -2,9 +2,9 @@ use Rattle.std.proofs.Common.{arith, ◌≡◌, ◌+◌, ◌*◌, length, refl, 
 use Rattle.bl_flow.specs.Networks.{size}
 use Rattle.bl_flow.specs.Split.{both_ways, links_of, in_part, out_part}
 use Rattle.bl_flow.specs.Levels.{level_at, AreLevels}
-use Rattle.bl_flow.specs.Packed.{lowered}
+use Rattle.bl_flow.specs.PackedNetworks.{lowered}
 use Rattle.bl_flow.specs.Residuals.{AreLevelsOf}
-use Rattle.bl_flow.proofs.Advancing.{packed_small}
+use Rattle.bl_flow.proofs.EndLevels.{packed_small}
 use Rattle.bl_flow.proofs.LinksWithin.{to_within}
 use Rattle.bl_flow.proofs.Residuals.{levels_out}
 use Rattle.bl_flow.proofs.residual.levels.Goals as goal

@@ -1,7 +1,7 @@
 use Rattle.std.proofs.Common.{◌≡◌, length, replicate, sym, subst}
 use Rattle.bl_flow.specs.declared.network.Network.{Network}
 use Rattle.bl_flow.specs.Networks.{size}
-use Rattle.bl_flow.specs.Packed.{IsPacked}
+use Rattle.bl_flow.specs.PackedNetworks.{IsPacked}
 use Rattle.bl_flow.specs.Residuals.{loaded_by}
 use Rattle.bl_flow.proofs.Residuals.{nothing_loaded}
 use Rattle.bl_flow.proofs.residual.pack.Goals as goal

@@ -1,6 +1,6 @@
 use Rattle.std.proofs.Common.{◌≡◌, ℕ, ◌<◌, length}
 use Rattle.bl_flow.specs.Levels.{level_at}
-use Rattle.bl_flow.specs.Packed.{lowered}
+use Rattle.bl_flow.specs.PackedNetworks.{lowered}
 use Rattle.bl_flow.proofs.residual.place_levels.Given as goal
 
 abbrev pub invariant-loop-p : goal.invariant-loop-p

@@ -1,6 +1,6 @@
 use Rattle.std.proofs.Common.{arith, ◌≡◌, ◌<◌, ℕ, slice_index, sym, subst, ◌∙◌}
 use Rattle.std.proofs.lemmas.List.{get_or_default}
-use Rattle.bl_flow.proofs.Counting.{count_small}
+use Rattle.bl_flow.proofs.AdjacencyCounts.{count_small}
 use Rattle.bl_flow.proofs.rows.counts_of.Goals as goal
 
 pub overflow_add-index_mut : goal.overflow_add-index_mut

@@ -1,4 +1,4 @@
-use Rattle.bl_flow.specs.Rows.{AreCounts}
+use Rattle.bl_flow.specs.AdjacencyLists.{AreCounts}
 use Rattle.bl_flow.proofs.rows.counts_of.Given as goal
 
 abbrev pub invariant-loop-k : goal.invariant-loop-k

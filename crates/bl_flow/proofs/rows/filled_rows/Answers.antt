@@ -1,6 +1,6 @@
 use Rattle.std.proofs.Common.{arith, ◌≡◌, length, subst}
 use Rattle.bl_flow.proofs.Offsets.{rows_count}
-use Rattle.bl_flow.proofs.Counting.{Filled, fills_next, are_offsets, are_rows}
+use Rattle.bl_flow.proofs.AdjacencyCounts.{Filled, fills_next, are_offsets, are_rows}
 use Rattle.bl_flow.proofs.rows.filled_rows.Goals as goal
 
 pub overflow_sub-place : goal.overflow_sub-place

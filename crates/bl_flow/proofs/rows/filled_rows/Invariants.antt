@@ -1,5 +1,5 @@
 use Rattle.std.proofs.Common.{length}
-use Rattle.bl_flow.proofs.Counting.{Filled}
+use Rattle.bl_flow.proofs.AdjacencyCounts.{Filled}
 use Rattle.bl_flow.proofs.rows.filled_rows.Given as goal
 
 abbrev pub invariant-loop-k : goal.invariant-loop-k

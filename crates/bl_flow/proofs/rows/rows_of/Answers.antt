@@ -1,5 +1,5 @@
 use Rattle.std.proofs.Common.{arith, length}
-use Rattle.bl_flow.proofs.Counting.{sum_small, are_ends}
+use Rattle.bl_flow.proofs.AdjacencyCounts.{sum_small, are_ends}
 use Rattle.bl_flow.proofs.rows.rows_of.Goals as goal
 
 pub sums_of-requires : goal.sums_of-requires

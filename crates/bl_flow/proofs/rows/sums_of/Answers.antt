@@ -1,6 +1,6 @@
 use Rattle.std.proofs.Common.{arith, ◌≡◌, slice_index, ◌∙◌}
 use Rattle.std.proofs.lemmas.List.{get_or_default}
-use Rattle.bl_flow.proofs.Counting.{next_small}
+use Rattle.bl_flow.proofs.AdjacencyCounts.{next_small}
 use Rattle.bl_flow.proofs.rows.sums_of.Goals as goal
 
 pub overflow_add-sum : goal.overflow_add-sum

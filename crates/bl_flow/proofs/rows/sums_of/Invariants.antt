@@ -1,4 +1,4 @@
-use Rattle.bl_flow.proofs.Counting.{SumsTo}
+use Rattle.bl_flow.proofs.AdjacencyCounts.{SumsTo}
 use Rattle.bl_flow.proofs.rows.sums_of.Given as goal
 
 abbrev pub invariant-loop-place : goal.invariant-loop-place

@@ -3,10 +3,10 @@ use Rattle.std.specs.List.{Contains}
 use Rattle.std.proofs.lemmas.List.{get_or_default, length-replicate, take-append-drop}
 use Rattle.std.proofs.lemmas.List.Elements.{Contains-append_left}
 use Rattle.bl_flow.specs.Split.{link_at}
-use Rattle.bl_flow.specs.Searches.{row_at}
+use Rattle.bl_flow.specs.Searches.{part_row}
 use Rattle.bl_flow.specs.Levels.{level_at, IsSteep, Following, Spread}
-use Rattle.bl_flow.proofs.Levelling.{first_level, root_sound, group_state, behind_sound, behind_full, steep_of, all_levels, levels_to_end}
-use Rattle.bl_flow.proofs.Wiring.{given_back}
+use Rattle.bl_flow.proofs.LevelSearch.{first_level, root_sound, group_state, behind_sound, behind_full, steep_of, all_levels, levels_to_end}
+use Rattle.bl_flow.proofs.LastLevels.{given_back}
 use Rattle.bl_flow.proofs.search.part_levels.Goals as goal
 use Rattle.bl_flow.proofs.search.part_levels.Goals.{After-drop-queue-inside-2}
 
@@ -19,7 +19,7 @@ loop-rest-init c =
       state = first_level c.args.links.now c.args.capacities.now c.args.root c.args.end (length c.args.rows.now) c.args.stops c.requires.root_in;
       sound = root_sound c.args.links.now c.args.rows.now c.args.root c.args.end c.row_before-rest.result.now c.requires.rows_hold c.row_before-rest.ensures.last c.row_before-rest.ensures.before;
       full = λ apart k lt some from.
-          inl (subst (λ r. Contains r k) (sym (c.row_before-rest.ensures.before apart)) (subst (λ p. Contains (row_at c.args.rows.now p) k) from (c.requires.rows_hold.full k lt)));
+          inl (subst (λ r. Contains r k) (sym (c.row_before-rest.ensures.before apart)) (subst (λ p. Contains (part_row c.args.rows.now p) k) from (c.requires.rows_hold.full k lt)));
     })
 
 pub follow-requires-clause-within : goal.follow-requires-clause-within

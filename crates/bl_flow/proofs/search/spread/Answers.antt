@@ -1,6 +1,6 @@
 use Rattle.std.proofs.Common.{arith, ◌≡◌, ◌<◌, ◌≤◌, length, slice_index, sym, subst}
 use Rattle.bl_flow.specs.Levels.{AreBelow, Spread, Visited}
-use Rattle.bl_flow.proofs.Levelling.{spread_begins, spread_on, spread_ends}
+use Rattle.bl_flow.proofs.LevelSearch.{spread_begins, spread_on, spread_ends}
 use Rattle.bl_flow.proofs.search.spread.Goals as goal
 
 pub loop-next-init : goal.loop-next-init

@@ -1,5 +1,5 @@
 use Rattle.std.proofs.Common.{arith, sym}
-use Rattle.bl_flow.proofs.Behind.{through_at, behind_at}
+use Rattle.bl_flow.proofs.NodeLinks.{through_at, behind_at}
 use Rattle.bl_flow.proofs.split.link_behind.Goals as goal
 
 pub returns-then-place-first : goal.returns-then-place-first

@@ -1,6 +1,6 @@
 use Rattle.std.proofs.Common.{◌≡◌, drop}
 use Rattle.bl_rob.specs.Machines.{has_pending}
-use Rattle.bl_forward.specs.Forwarding.{found_from, found_in}
+use Rattle.bl_forward.specs.ForwardMachines.{found_from, found_in}
 use Rattle.bl_forward.proofs.find.found_behind.Given as goal
 
 abbrev pub invariant-loop-entry : goal.invariant-loop-entry

@@ -1,7 +1,7 @@
 use Rattle.bl_twin.proofs.Comparisons.{never_by}
-use Rattle.bl_forward.specs.Forwarding.{forward_step}
-use Rattle.bl_forward.specs.Laws.{seen_decided}
-use Rattle.bl_forward.specs.Sights.{are_same}
+use Rattle.bl_forward.specs.ForwardMachines.{forward_step}
+use Rattle.bl_forward.specs.SameSights.{seen_decided}
+use Rattle.bl_forward.specs.SightTexts.{are_same}
 use Rattle.bl_forward.proofs.laws.safe_programs_never_differ.Goals as goal
 
 pub returns : goal.returns

@@ -1,6 +1,6 @@
 use Rattle.std.proofs.Common.{◌∙◌, refl, sym}
 use Rattle.bl_rob.specs.CallResults.{shown}
-use Rattle.bl_forward.proofs.Turning.{fills_within, filled_step, plain_exec, waits_turn}
+use Rattle.bl_forward.proofs.TurnLemmas.{fills_within, filled_step, plain_exec, waits_turn}
 use Rattle.bl_forward.proofs.load.exec.Goals as goal
 
 pub returns-in-Plain : goal.returns-in-Plain

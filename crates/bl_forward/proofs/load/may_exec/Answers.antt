@@ -1,7 +1,7 @@
 use Rattle.std.proofs.Common.{◌∙◌, ap, sym}
 use Rattle.bl_rob.specs.CallResults.{is_some, shown}
 use Rattle.bl_rob.specs.declared.directive.Directive.TheVariants.{Exec}
-use Rattle.bl_forward.proofs.Turning.{fills_turn, plain_enabled, plain_turn, waits_turn}
+use Rattle.bl_forward.proofs.TurnLemmas.{fills_turn, plain_enabled, plain_turn, waits_turn}
 use Rattle.bl_forward.proofs.load.may_exec.Goals as goal
 use Rattle.bl_forward.proofs.load.may_exec.Goals.{in-Plain, in-Waits, in-Fills}
 

@@ -1,5 +1,5 @@
 use Rattle.std.proofs.Common.{◌<◌, ◌*◌, ◌^◌, ◌∙◌, Some, ap, subst, sym}
-use Rattle.bl_forward.proofs.Turning.{stored_within}
+use Rattle.bl_forward.proofs.TurnLemmas.{stored_within}
 use Rattle.bl_forward.proofs.load.turn_from.Goals as goal
 
 pub extend-value-requires : goal.extend-value-requires

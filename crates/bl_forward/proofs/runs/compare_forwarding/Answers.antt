@@ -1,7 +1,7 @@
 use Rattle.bl_rob.specs.CallResults.{seen_in}
-use Rattle.bl_twin.proofs.SideBySide.{side_by_side}
-use Rattle.bl_forward.specs.Forwarding.{forward_step}
-use Rattle.bl_forward.specs.Sights.{are_same, seen_text}
+use Rattle.bl_twin.proofs.TwinRuns.{side_by_side}
+use Rattle.bl_forward.specs.ForwardMachines.{forward_step}
+use Rattle.bl_forward.specs.SightTexts.{are_same, seen_text}
 use Rattle.bl_forward.proofs.runs.compare_forwarding.Goals as goal
 
 pub returns : goal.returns

@@ -1,6 +1,6 @@
 use Rattle.bl_rob.specs.CallResults.{seen_in, shown}
-use Rattle.bl_rob.proofs.Observing.{observed_so_by}
-use Rattle.bl_forward.specs.Forwarding.{forward_step}
+use Rattle.bl_rob.proofs.ObservationLemmas.{observed_so_by}
+use Rattle.bl_forward.specs.ForwardMachines.{forward_step}
 use Rattle.bl_forward.proofs.runs.seen_from.Goals as goal
 
 pub returns : goal.returns

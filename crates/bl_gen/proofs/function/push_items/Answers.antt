@@ -1,5 +1,5 @@
 use Rattle.std.proofs.Common.{◌++◌, ◌∙◌, ap, append-nil, sym}
-use Rattle.bl_gen.specs.Made.{item, items, item_kind}
+use Rattle.bl_gen.specs.GeneratedModule.{item, items, item_kind}
 use Rattle.bl_gen.proofs.Ranges.{behind_more}
 use Rattle.bl_gen.proofs.function.push_items.Goals as goal
 

@@ -1,5 +1,5 @@
 use Rattle.std.proofs.Common.{◌≡◌, ◌++◌}
-use Rattle.bl_gen.specs.Made.{items}
+use Rattle.bl_gen.specs.GeneratedModule.{items}
 use Rattle.bl_gen.proofs.function.push_items.Given as goal
 
 abbrev pub invariant-loop-j : goal.invariant-loop-j

@@ -1,4 +1,4 @@
-use Rattle.bl_gen.proofs.Supports.{accepted, decoded}
+use Rattle.bl_gen.proofs.SupportedTree.{accepted, decoded}
 use Rattle.bl_gen.proofs.laws.made_modules_are_accepted.Goals as goal
 
 pub returns : goal.returns

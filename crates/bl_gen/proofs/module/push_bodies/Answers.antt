@@ -1,5 +1,5 @@
 use Rattle.std.proofs.Common.{◌++◌, ◌∙◌, ap}
-use Rattle.bl_gen.specs.Made.{function, sized}
+use Rattle.bl_gen.specs.GeneratedModule.{function, sized}
 use Rattle.bl_gen.proofs.Ranges.{behind_more}
 use Rattle.bl_gen.proofs.module.push_bodies.Goals as goal
 

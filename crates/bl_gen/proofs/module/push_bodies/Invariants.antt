@@ -1,6 +1,6 @@
 use Rattle.std.proofs.Common.{◌≡◌, ◌++◌}
 use Rattle.std.specs.List.{flat_map, range_with_len}
-use Rattle.bl_gen.specs.Made.{function, sized}
+use Rattle.bl_gen.specs.GeneratedModule.{function, sized}
 use Rattle.bl_gen.proofs.module.push_bodies.Given as goal
 
 abbrev pub invariant-loop-i : goal.invariant-loop-i

@@ -1,6 +1,6 @@
 use Rattle.std.proofs.Common.{◌≡◌, ◌++◌}
 use Rattle.std.specs.Prelude.{replicate}
-use Rattle.bl_gen.specs.Made.{leb}
+use Rattle.bl_gen.specs.GeneratedModule.{leb}
 use Rattle.bl_gen.proofs.module.push_functions.Given as goal
 
 abbrev pub invariant-loop : goal.invariant-loop

@@ -3,7 +3,7 @@ use Rattle.std.specs.List.{slice_index_or}
 use Rattle.std.proofs.lemmas.List.{take_more, length-set, length-map, map-set, get_or-map}
 use Rattle.bl_graph.specs.Arcs.{RowsOf, rows_in, row_at}
 use Rattle.bl_graph.specs.declared.arcs.Arc.{Arc}
-use Rattle.bl_graph.proofs.RowLists.{row_yes}
+use Rattle.bl_graph.proofs.ArcRows.{row_yes}
 use Rattle.bl_graph.proofs.arcs.rows_of.Goals as goal
 
 pub loop-arc-preserved : goal.loop-arc-preserved

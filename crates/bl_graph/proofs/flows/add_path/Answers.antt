@@ -2,7 +2,7 @@ use Rattle.std.proofs.Common.{◌<◌, ◌∙◌, ◌+◌, ◌*◌, ◌-◌, ◌
 use Rattle.std.specs.List.{count_by}
 use Rattle.std.proofs.lemmas.List.{get_or-map, length-map, take_all}
 use Rattle.bl_base.specs.declared.number.Pos.{Pos}
-use Rattle.bl_graph.proofs.Flowing.{add_more, add_none}
+use Rattle.bl_graph.proofs.SiteFlows.{add_more, add_none}
 use Rattle.bl_graph.proofs.flows.add_path.Goals as goal
 use Rattle.bl_graph.proofs.flows.add_path.Goals.{then-at-flows, else-at-flows}
 

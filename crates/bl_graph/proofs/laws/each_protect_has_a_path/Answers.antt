@@ -1,4 +1,4 @@
-use Rattle.bl_graph.proofs.Reasons.{reason}
+use Rattle.bl_graph.proofs.ProtectPaths.{reason}
 use Rattle.bl_graph.proofs.laws.each_protect_has_a_path.Goals as goal
 
 pub returns : goal.returns

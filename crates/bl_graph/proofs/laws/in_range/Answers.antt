@@ -1,4 +1,4 @@
-use Rattle.bl_graph.proofs.Ranging.{in_range}
+use Rattle.bl_graph.proofs.RangeLemmas.{in_range}
 use Rattle.bl_graph.proofs.laws.in_range.Goals as goal
 
 pub returns : goal.returns

@@ -1,4 +1,4 @@
-use Rattle.bl_graph.proofs.Unique.{graph_one}
+use Rattle.bl_graph.proofs.RisingLists.{graph_one}
 use Rattle.bl_graph.proofs.laws.one_graph.Goals as goal
 
 pub returns : goal.returns

@@ -1,4 +1,4 @@
-use Rattle.bl_graph.proofs.Ranging.{site_writes, writes_one}
+use Rattle.bl_graph.proofs.RangeLemmas.{site_writes, writes_one}
 use Rattle.bl_graph.proofs.laws.sites_write.Goals as goal
 
 pub returns-clause-some : goal.returns-clause-some

@@ -1,6 +1,6 @@
 use Rattle.std.proofs.Common.{◌∙◌, ap}
 use Rattle.bl_cmd.specs.declared.definitions.ProgramParts.{ProgramParts}
-use Rattle.bl_graph.proofs.Placing.{made_graph}
+use Rattle.bl_graph.proofs.GraphPasses.{made_graph}
 use Rattle.bl_graph.proofs.listing.graph.Goals as goal
 
 pub returns : goal.returns

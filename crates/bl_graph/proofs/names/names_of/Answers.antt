@@ -2,7 +2,7 @@ use Rattle.std.proofs.Common.{◌<◌, sym, subst, arith}
 use Rattle.std.specs.List.{All, range_with_len}
 use Rattle.std.proofs.lemmas.List.FromFn.{length-range_with_len}
 use Rattle.bl_graph.specs.Names.{AreNames}
-use Rattle.bl_graph.proofs.Naming.{all_are_names, further_in_range, named_are_names, further_are_named}
+use Rattle.bl_graph.proofs.NameLemmas.{all_are_names, further_in_range, named_are_names, further_are_named}
 use Rattle.bl_graph.proofs.names.names_of.Goals as goal
 
 pub returns-then-count-saturating_mul-clause-names : goal.returns-then-count-saturating_mul-clause-names

@@ -1,5 +1,5 @@
 use Rattle.std.proofs.Common.{arith}
-use Rattle.bl_graph.proofs.Naming.{found, not_found, place_is, rise_ge, stands}
+use Rattle.bl_graph.proofs.NameLemmas.{found, not_found, place_is, rise_ge, stands}
 use Rattle.bl_graph.proofs.names.place_among.Goals as goal
 
 pub overflow_cast-result : goal.overflow_cast-result

@@ -1,6 +1,6 @@
 use Rattle.std.proofs.Common.{◌≡◌, ◌++◌, map, ap, ◌∙◌}
 use Rattle.bl_graph.specs.Names.{var_of}
-use Rattle.bl_graph.proofs.Naming.{all_of, names_rise, names_have}
+use Rattle.bl_graph.proofs.NameLemmas.{all_of, names_rise, names_have}
 use Rattle.bl_graph.proofs.names.rising.Goals as goal
 
 gathered : (c : goal.After-dedup) → c.extend_from_slice.new.self.items ≡ all_of c.args.graph.now c.args.more.now

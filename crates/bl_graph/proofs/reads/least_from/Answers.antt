@@ -1,7 +1,4 @@
-use Rattle.std.proofs.Common.{take, ◌∙◌, ap, sym, subst}
-use Rattle.std.specs.Prelude.{option_map}
-use Rattle.bl_graph.specs.Rows.{IsLeastFrom}
-use Rattle.bl_graph.proofs.Rows.{least_more}
+use Rattle.bl_graph.proofs.UseRows.{least_more}
 use Rattle.bl_graph.proofs.reads.least_from.Goals as goal
 
 pub loop-operand-preserved : goal.loop-operand-preserved

@@ -1,4 +1,4 @@
-use Rattle.bl_graph.proofs.Rows.{row_var, row_const}
+use Rattle.bl_graph.proofs.UseRows.{row_var, row_const}
 use Rattle.bl_graph.proofs.reads.push_operand.Goals as goal
 
 pub returns-in_ok-push-in-Var : goal.returns-in_ok-push-in-Var

@@ -1,6 +1,6 @@
-use Rattle.std.proofs.Common.{◌+◌, refl, sym, ap, arith, ◌∙◌}
+use Rattle.std.proofs.Common.{◌+◌, arith}
 use Rattle.bl_cmd.specs.Sites.{Among}
-use Rattle.bl_graph.proofs.Rows.{row_next, row_whole}
+use Rattle.bl_graph.proofs.UseRows.{row_next}
 use Rattle.bl_graph.proofs.reads.push_row.Goals as goal
 
 pub loop-var-preserved : goal.loop-var-preserved

@@ -1,6 +1,6 @@
 use Rattle.std.proofs.Common.{◌-◌, ◌<◌}
 use Rattle.bl_cmd.specs.Sites.{Among}
-use Rattle.bl_graph.specs.Rows.{AddsRow}
+use Rattle.bl_graph.specs.UseLists.{AddsRow}
 use Rattle.bl_graph.proofs.reads.push_row.Given as goal
 
 abbrev pub invariant-loop-var : goal.invariant-loop-var

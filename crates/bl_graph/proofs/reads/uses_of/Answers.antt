@@ -1,8 +1,8 @@
 use Rattle.std.proofs.Common.{◌≡◌, length, refl, subst, arith}
 use Rattle.bl_cmd.specs.Sites.{moved_by, sunk_by}
-use Rattle.bl_graph.specs.Rows.{ArePlacesBelow, LoadAt, OperandAt}
-use Rattle.bl_graph.proofs.Rows.{next_row, all_below}
-use Rattle.bl_graph.proofs.Placing.{load_step, row_at, operand_low}
+use Rattle.bl_graph.specs.UseLists.{ArePlacesBelow, LoadAt, OperandAt}
+use Rattle.bl_graph.proofs.UseRows.{next_row, all_below}
+use Rattle.bl_graph.proofs.GraphPasses.{load_step, row_at, operand_low}
 use Rattle.bl_graph.proofs.reads.uses_of.Goals as goal
 
 pub loop-at-preserved : goal.loop-at-preserved

@@ -1,5 +1,5 @@
 use Rattle.bl_cmd.specs.Sites.{moved_by, sunk_by}
-use Rattle.bl_graph.specs.Rows.{AreBelow, ArePlacesBelow, LoadAt, OperandAt}
+use Rattle.bl_graph.specs.UseLists.{AreBelow, ArePlacesBelow, LoadAt, OperandAt}
 use Rattle.bl_graph.proofs.reads.uses_of.Given as goal
 
 abbrev pub invariant-loop-at : goal.invariant-loop-at

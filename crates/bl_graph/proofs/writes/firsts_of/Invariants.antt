@@ -1,6 +1,6 @@
 use Rattle.std.proofs.Common.{◌≡◌, ◌++◌, drop}
 use Rattle.bl_cmd.specs.Layout.{first_of, statics}
-use Rattle.bl_graph.specs.Firsts.{firsts_from}
+use Rattle.bl_graph.specs.FirstVariables.{firsts_from}
 use Rattle.bl_graph.proofs.writes.firsts_of.Given as goal
 
 abbrev pub invariant-loop-function : goal.invariant-loop-function

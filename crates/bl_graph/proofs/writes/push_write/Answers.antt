@@ -1,4 +1,4 @@
-use Rattle.bl_graph.proofs.Placing.{row_some}
+use Rattle.bl_graph.proofs.GraphPasses.{row_some}
 use Rattle.bl_graph.proofs.writes.push_write.Goals as goal
 
 pub returns-in_ok-push : goal.returns-in_ok-push

@@ -4,9 +4,9 @@ use Rattle.bl_base.specs.declared.number.Var.{Var}
 use Rattle.bl_cmd.specs.Sites.{Writes}
 use Rattle.bl_cmd.specs.declared.command.Command.{Command}
 use Rattle.bl_cmd.proofs.Layouts.{holds_within}
-use Rattle.bl_graph.specs.Rows.{AreBelow}
-use Rattle.bl_graph.proofs.Rows.{next_row}
-use Rattle.bl_graph.proofs.Placing.{holds_here, stands_at, written_same, entry_up}
+use Rattle.bl_graph.specs.UseLists.{AreBelow}
+use Rattle.bl_graph.proofs.UseRows.{next_row}
+use Rattle.bl_graph.proofs.GraphPasses.{holds_here, stands_at, written_same, entry_up}
 use Rattle.bl_graph.proofs.writes.push_writes.Goals as goal
 
 pub bounds-as_slice-at : goal.bounds-as_slice-at

@@ -1,5 +1,5 @@
 use Rattle.bl_cmd.specs.Sites.{Writes}
-use Rattle.bl_graph.specs.Rows.{AreBelow}
+use Rattle.bl_graph.specs.UseLists.{AreBelow}
 use Rattle.bl_graph.proofs.writes.push_writes.Given as goal
 
 abbrev pub invariant-loop-at : goal.invariant-loop-at

@@ -1,6 +1,6 @@
 use Rattle.std.proofs.Common.{subst}
 use Rattle.bl_cmd.specs.Programs.{IsProgram}
-use Rattle.bl_graph.proofs.Ranging.{in_range}
+use Rattle.bl_graph.proofs.RangeLemmas.{in_range}
 use Rattle.bl_graph.proofs.writes.ranges.Goals as goal
 
 pub returns : goal.returns

@@ -1,4 +1,4 @@
-use Rattle.std.proofs.Common.{◌≡◌, ◌+◌, suc, Some, slice_get, get_or, length, refl, sym, ap, subst, ◌∙◌, arith}
+use Rattle.std.proofs.Common.{◌≡◌, ◌+◌, suc, get_or, length, refl, sym, ap, subst, ◌∙◌, arith}
 use Rattle.bl_base.proofs.Lists.{item_at}
 use Rattle.bl_cmd.specs.Layout.{first_of, entry_of, statics}
 use Rattle.bl_cmd.specs.Programs.{IsProgram}
@@ -6,9 +6,9 @@ use Rattle.bl_cmd.specs.Rules.{IsWellFormed}
 use Rattle.bl_cmd.specs.Sites.{Writes}
 use Rattle.bl_cmd.specs.declared.definitions.FunctionDef.{FunctionDef}
 use Rattle.bl_cmd.specs.declared.definitions.ProgramParts.{ProgramParts}
-use Rattle.bl_graph.specs.Rows.{AreBelow}
-use Rattle.bl_graph.proofs.Firsts.{firsts_at, firsts_length}
-use Rattle.bl_graph.proofs.Placing.{writes_begin, writes_end, params_fit, results_fit, end_fits, end_is, results_are}
+use Rattle.bl_graph.specs.UseLists.{AreBelow}
+use Rattle.bl_graph.proofs.FirstVariableLemmas.{firsts_at, firsts_length}
+use Rattle.bl_graph.proofs.GraphPasses.{writes_begin, writes_end, params_fit, results_fit, end_fits, end_is, results_are}
 use Rattle.bl_graph.proofs.writes.writes_of.Goals as goal
 
 pub loop-number-init : goal.loop-number-init

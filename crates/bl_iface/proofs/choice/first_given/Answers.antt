@@ -5,8 +5,8 @@ use Rattle.std.specs.Ordering.{nat_cmp}
 use Rattle.std.specs.Prelude.{MatchOption}
 use Rattle.bl_graph.specs.Graphs.{Precedes}
 use Rattle.bl_graph.specs.declared.facts.Use.{Use}
-use Rattle.bl_iface.specs.Asking.{IsFirstUse, NoUse}
-use Rattle.bl_iface.proofs.Given.{first_given}
+use Rattle.bl_iface.specs.RoleLists.{IsFirstUse, NoUse}
+use Rattle.bl_iface.proofs.VariableSets.{first_given}
 use Rattle.bl_iface.proofs.choice.first_given.Goals as goal
 
 pub first_of-requires : goal.first_of-requires

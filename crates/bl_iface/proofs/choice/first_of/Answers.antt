@@ -5,7 +5,7 @@ use Rattle.std.specs.Ordering.{nat_cmp}
 use Rattle.std.proofs.lemmas.List.{get_or_default}
 use Rattle.bl_graph.specs.Graphs.{use_of}
 use Rattle.bl_graph.specs.declared.facts.Use.{Use}
-use Rattle.bl_iface.proofs.Given.{first_use, none_more}
+use Rattle.bl_iface.proofs.VariableSets.{first_use, none_more}
 use Rattle.bl_iface.proofs.choice.first_of.Goals as goal
 
 pub returns-then-contains : goal.returns-then-contains

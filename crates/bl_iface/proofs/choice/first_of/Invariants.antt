@@ -1,6 +1,6 @@
 use Rattle.std.specs.BTreeSet as sorted
 use Rattle.std.specs.Ordering.{nat_cmp}
-use Rattle.bl_iface.proofs.Given.{NoneBefore}
+use Rattle.bl_iface.proofs.VariableSets.{NoneBefore}
 use Rattle.bl_iface.proofs.choice.first_of.Given as goal
 
 abbrev pub invariant-loop-one : goal.invariant-loop-one

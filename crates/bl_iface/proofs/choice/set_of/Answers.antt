@@ -1,4 +1,4 @@
-use Rattle.bl_iface.proofs.Given.{given_more}
+use Rattle.bl_iface.proofs.VariableSets.{given_more}
 use Rattle.bl_iface.proofs.choice.set_of.Goals as goal
 
 pub loop-x-preserved : goal.loop-x-preserved

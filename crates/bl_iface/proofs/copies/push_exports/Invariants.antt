@@ -1,5 +1,5 @@
 use Rattle.std.proofs.Common.{◌≡◌, ◌++◌, map, take}
-use Rattle.bl_iface.specs.Joining.{moved_export}
+use Rattle.bl_iface.specs.JoinedProgram.{moved_export}
 use Rattle.bl_iface.proofs.copies.push_exports.Given as goal
 
 abbrev pub invariant-loop-export : goal.invariant-loop-export

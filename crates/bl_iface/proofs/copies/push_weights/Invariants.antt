@@ -1,5 +1,5 @@
 use Rattle.std.proofs.Common.{◌≡◌, ◌++◌, map, take}
-use Rattle.bl_iface.specs.Joining.{moved_weight}
+use Rattle.bl_iface.specs.JoinedProgram.{moved_weight}
 use Rattle.bl_iface.proofs.copies.push_weights.Given as goal
 
 abbrev pub invariant-loop-entry : goal.invariant-loop-entry

@@ -1,7 +1,7 @@
 use Rattle.std.proofs.Common.{◌∙◌, sym, subst}
 use Rattle.bl_cmd.specs.Programs.{IsProgram}
 use Rattle.bl_cmd.specs.Rules.{IsWellFormed}
-use Rattle.bl_iface.proofs.Whole.{joined_is, joined_well}
+use Rattle.bl_iface.proofs.JoinedWellFormed.{joined_is, joined_well}
 use Rattle.bl_iface.proofs.joining.assembled.Goals as goal
 
 pub of-requires-in-Ok : goal.of-requires-in-Ok

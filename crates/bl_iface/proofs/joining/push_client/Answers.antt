@@ -3,12 +3,12 @@ use Rattle.std.specs.List.{All}
 use Rattle.bl_cmd.specs.Programs.{IsProgram}
 use Rattle.bl_cmd.specs.declared.command.Command.{Command}
 use Rattle.bl_cmd.specs.declared.definitions.ProgramParts.{ProgramParts}
-use Rattle.bl_iface.specs.Joining.{client_shift, library_shift, renamed}
-use Rattle.bl_iface.specs.Moves.{IsMovable}
-use Rattle.bl_iface.specs.Numbering.{goal_in, numbers_from}
+use Rattle.bl_iface.specs.JoinedProgram.{client_shift, library_shift, renamed}
+use Rattle.bl_iface.specs.MovableNumbers.{IsMovable}
+use Rattle.bl_iface.specs.PartNumbers.{goal_in, numbers_from}
 use Rattle.bl_iface.specs.declared.shift.Shift.{Shift}
-use Rattle.bl_iface.proofs.Movable.{all_movable, behind, client_room}
-use Rattle.bl_iface.proofs.Numbered.{client_are, client_numbered}
+use Rattle.bl_iface.proofs.MovableLemmas.{all_movable, behind, client_room}
+use Rattle.bl_iface.proofs.NumbersLemmas.{client_are, client_numbered}
 use Rattle.bl_iface.proofs.joining.push_client.Goals as goal
 
 pub push-requires-clause-numbers : goal.push-requires-clause-numbers

@@ -4,7 +4,7 @@ use Rattle.std.specs.List.{All}
 use Rattle.bl_cmd.specs.declared.definitions.ExportDef.{ExportDef}
 use Rattle.bl_cmd.specs.declared.definitions.ProgramParts.{ProgramParts}
 use Rattle.bl_iface.specs.Answers.{IsFirstWithout}
-use Rattle.bl_iface.specs.Joining.{HasSameTypes, IsNew, IsWithin}
+use Rattle.bl_iface.specs.JoinedProgram.{HasSameTypes, IsNew, IsWithin}
 use Rattle.bl_iface.proofs.joining.test_all.Goals as goal
 
 pub returns-in-None-clause-can : goal.returns-in-None-clause-can

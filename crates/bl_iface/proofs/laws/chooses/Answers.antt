@@ -1,4 +1,4 @@
-use Rattle.bl_iface.proofs.Choosing.{as_least, least_as}
+use Rattle.bl_iface.proofs.LeastChoice.{as_least, least_as}
 use Rattle.bl_iface.proofs.laws.chooses.Goals as goal
 
 pub returns : goal.returns

@@ -1,6 +1,6 @@
-use Rattle.bl_cut.proofs.Leaving.{only_one}
-use Rattle.bl_iface.specs.Under.{asked}
-use Rattle.bl_iface.proofs.Choosing.{none_given, some_choice}
+use Rattle.bl_cut.proofs.LeastSites.{only_one}
+use Rattle.bl_iface.specs.RoleTests.{asked}
+use Rattle.bl_iface.proofs.LeastChoice.{none_given, some_choice}
 use Rattle.bl_iface.proofs.OneVerdict.{one_given}
 use Rattle.bl_iface.proofs.laws.one_choice.Goals as goal
 

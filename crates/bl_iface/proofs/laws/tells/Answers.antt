@@ -1,5 +1,5 @@
-use Rattle.bl_iface.specs.Under.{asked}
-use Rattle.bl_iface.proofs.Asked.{as_from_under, asked_apart, bad_fails, none_passes, under_from_as}
+use Rattle.bl_iface.specs.RoleTests.{asked}
+use Rattle.bl_iface.proofs.RoleTestLemmas.{as_from_under, asked_apart, bad_fails, none_passes, under_from_as}
 use Rattle.bl_iface.proofs.laws.tells.Goals as goal
 
 pub returns-clause-fails : goal.returns-clause-fails

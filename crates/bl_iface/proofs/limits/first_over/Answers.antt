@@ -1,7 +1,7 @@
 use Rattle.std.proofs.lemmas.List.Elements.{All-more}
 use Rattle.bl_base.specs.declared.quantity.Quantity.TheVariants.{Modules}
-use Rattle.bl_iface.specs.Joining.{IsWithin}
-use Rattle.bl_iface.proofs.Loops.{all_done}
+use Rattle.bl_iface.specs.JoinedProgram.{IsWithin}
+use Rattle.bl_iface.proofs.ListTests.{all_done}
 use Rattle.bl_iface.proofs.limits.first_over.Goals as goal
 
 pub loop-sum-preserved : goal.loop-sum-preserved

@@ -2,9 +2,9 @@ use Rattle.std.proofs.Common.{◌≡◌, ◌++◌, ◌<◌, ◌∙◌, ℕ, List
 use Rattle.std.specs.Prelude.{slice_index}
 use Rattle.bl_base.specs.declared.names.Flow.{Flow}
 use Rattle.bl_cmd.specs.Layout.{param}
-use Rattle.bl_iface.specs.Asking.{called_from}
+use Rattle.bl_iface.specs.RoleLists.{called_from}
 use Rattle.bl_iface.specs.declared.iface.FnIface.{FnIface}
-use Rattle.bl_iface.proofs.Listing.{StandsAt, called_more, stands_at}
+use Rattle.bl_iface.proofs.RoleListLemmas.{StandsAt, called_more, stands_at}
 use Rattle.bl_iface.proofs.lists.params_called.Goals as goal
 
 pub push_called-requires : goal.push_called-requires

@@ -1,5 +1,5 @@
 use Rattle.std.proofs.Common.{◌≡◌, ◌++◌, ◌+◌, drop}
-use Rattle.bl_iface.specs.Asking.{called_from}
+use Rattle.bl_iface.specs.RoleLists.{called_from}
 use Rattle.bl_iface.proofs.lists.push_called.Given as goal
 
 abbrev pub invariant-loop-one : goal.invariant-loop-one

@@ -2,9 +2,9 @@ use Rattle.std.proofs.Common.{◌≡◌, ◌+◌, ◌++◌, ◌<◌, ◌∙◌, 
 use Rattle.std.specs.Prelude.{slice_index}
 use Rattle.bl_base.specs.declared.names.Flow.{Flow}
 use Rattle.bl_cmd.specs.Layout.{result}
-use Rattle.bl_iface.specs.Asking.{called_from}
+use Rattle.bl_iface.specs.RoleLists.{called_from}
 use Rattle.bl_iface.specs.declared.iface.FnIface.{FnIface}
-use Rattle.bl_iface.proofs.Listing.{StandsAt, called_more, stands_at}
+use Rattle.bl_iface.proofs.RoleListLemmas.{StandsAt, called_more, stands_at}
 use Rattle.bl_iface.proofs.lists.results_called.Goals as goal
 
 pub overflow_cast-first-in-loop-index : goal.overflow_cast-first-in-loop-index

@@ -1,6 +1,6 @@
 use Rattle.std.proofs.Common.{take}
 use Rattle.bl_cmd.specs.Layout.{result}
-use Rattle.bl_iface.proofs.Listing.{SoFar}
+use Rattle.bl_iface.proofs.RoleListLemmas.{SoFar}
 use Rattle.bl_iface.proofs.lists.results_called.Given as goal
 
 -- the list has exactly the variables that the functions so far call so

@@ -1,7 +1,7 @@
 use Rattle.std.proofs.Common.{sym, ap, ◌∙◌}
 use Rattle.std.specs.Str.{bytes_eq}
-use Rattle.bl_iface.proofs.Matched.{exported_here, exported_skip}
-use Rattle.bl_iface.proofs.Naming.{eq_back}
+use Rattle.bl_iface.proofs.FunctionLookup.{exported_here, exported_skip}
+use Rattle.bl_iface.proofs.NameLemmas.{eq_back}
 use Rattle.bl_iface.proofs.matching.function_named.Goals as goal
 
 pub returns-then-eq : goal.returns-then-eq

@@ -1,5 +1,5 @@
 use Rattle.std.proofs.Common.{◌≡◌, drop}
-use Rattle.bl_iface.specs.Joining.{exported}
+use Rattle.bl_iface.specs.JoinedProgram.{exported}
 use Rattle.bl_iface.proofs.matching.function_named.Given as goal
 
 abbrev pub invariant-loop-export : goal.invariant-loop-export

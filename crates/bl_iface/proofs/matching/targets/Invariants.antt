@@ -1,4 +1,4 @@
-use Rattle.bl_iface.proofs.Matched.{SoFar}
+use Rattle.bl_iface.proofs.FunctionLookup.{SoFar}
 use Rattle.bl_iface.proofs.matching.targets.Given as goal
 
 -- the targets of the functions so far

@@ -2,11 +2,11 @@ use Rattle.std.proofs.Common.{◌≡◌, ◌<◌, ◌≤◌, List, length, get_o
 use Rattle.std.specs.Prelude.{IfSome, IsSomeAnd}
 use Rattle.bl_cmd.specs.declared.definitions.ExportDef.{ExportDef}
 use Rattle.bl_cmd.specs.declared.definitions.ProgramParts.{ProgramParts}
-use Rattle.bl_iface.specs.Joining.{exported}
-use Rattle.bl_iface.specs.Matching.{Fits, IsMatched}
+use Rattle.bl_iface.specs.JoinedProgram.{exported}
+use Rattle.bl_iface.specs.InterfaceFunctions.{Fits, IsMatched}
 use Rattle.bl_iface.specs.declared.iface.FnIface.{FnIface}
-use Rattle.bl_iface.proofs.Loops.{all_done, all_step, first_without}
-use Rattle.bl_iface.proofs.Matched.{found_exists, unmatched_one}
+use Rattle.bl_iface.proofs.ListTests.{all_done, all_step, first_without}
+use Rattle.bl_iface.proofs.FunctionLookup.{found_exists, unmatched_one}
 use Rattle.bl_iface.proofs.matching.unmatched.Goals as goal
 
 pub fitting-requires : goal.fitting-requires

@@ -1,4 +1,4 @@
-use Rattle.bl_iface.proofs.Naming.{names_more}
+use Rattle.bl_iface.proofs.NameLemmas.{names_more}
 use Rattle.bl_iface.proofs.names.names_of.Goals as goal
 
 pub loop-one-preserved : goal.loop-one-preserved

@@ -1,5 +1,5 @@
 use Rattle.std.proofs.Common.{◌-◌, arith}
-use Rattle.bl_iface.proofs.Naming.{directory_more}
+use Rattle.bl_iface.proofs.NameLemmas.{directory_more}
 use Rattle.bl_iface.proofs.names.numbers_of.Goals as goal
 
 pub loop-left-preserved : goal.loop-left-preserved

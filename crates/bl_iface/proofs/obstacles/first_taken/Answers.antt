@@ -1,8 +1,8 @@
 use Rattle.std.proofs.Common.{sym, ap, ◌∙◌}
 use Rattle.std.specs.Prelude.{is_some}
-use Rattle.bl_iface.specs.Joining.{IsNew, exported}
-use Rattle.bl_iface.proofs.Loops.{all_done, all_step, first_without}
-use Rattle.bl_iface.proofs.Naming.{new_none, taken_some}
+use Rattle.bl_iface.specs.JoinedProgram.{IsNew, exported}
+use Rattle.bl_iface.proofs.ListTests.{all_done, all_step, first_without}
+use Rattle.bl_iface.proofs.NameLemmas.{new_none, taken_some}
 use Rattle.bl_iface.proofs.obstacles.first_taken.Goals as goal
 
 pub returns-then-contains_key : goal.returns-then-contains_key

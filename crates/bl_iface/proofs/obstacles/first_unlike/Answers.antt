@@ -2,7 +2,7 @@ use Rattle.std.proofs.Common.{◌<◌, List, length, get_or, sym, subst, ◌∙�
 use Rattle.std.proofs.lemmas.Bool.{false≢true}
 use Rattle.bl_base.proofs.Lists.{item_at}
 use Rattle.bl_cmd.specs.declared.definitions.FunctionDef.{FunctionDef}
-use Rattle.bl_iface.proofs.Alike.{alike_all, alike_more, unlike_here}
+use Rattle.bl_iface.proofs.InterfaceTypes.{alike_all, alike_more, unlike_here}
 use Rattle.bl_iface.proofs.obstacles.first_unlike.Goals as goal
 
 pub returns-then-not-have_same_types : goal.returns-then-not-have_same_types

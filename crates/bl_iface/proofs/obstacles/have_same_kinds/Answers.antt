@@ -1,6 +1,6 @@
 use Rattle.std.proofs.Common.{sym, ◌∙◌, arith}
 use Rattle.std.proofs.lemmas.Bool.{false≢true}
-use Rattle.bl_iface.proofs.Alike.{kind_at}
+use Rattle.bl_iface.proofs.InterfaceTypes.{kind_at}
 use Rattle.bl_iface.proofs.obstacles.have_same_kinds.Goals as goal
 
 pub returns-then-not-is_same : goal.returns-then-not-is_same

@@ -1,5 +1,5 @@
 use Rattle.std.proofs.Common.{◌≡◌, take}
-use Rattle.bl_iface.specs.Joining.{kinds}
+use Rattle.bl_iface.specs.JoinedProgram.{kinds}
 use Rattle.bl_iface.proofs.obstacles.have_same_kinds.Given as goal
 
 abbrev pub invariant-loop-index : goal.invariant-loop-index

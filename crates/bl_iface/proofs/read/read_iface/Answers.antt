@@ -3,11 +3,11 @@ use Rattle.std.specs.Prelude.{option_and_then}
 use Rattle.std.proofs.lemmas.Option.{none-some, same_Some}
 use Rattle.bl_trace.specs.Lines.{lines_of}
 use Rattle.bl_iface.specs.Files.{Say, flows_of, function_in, function_of}
-use Rattle.bl_iface.specs.Joining.{is_named}
+use Rattle.bl_iface.specs.JoinedProgram.{is_named}
 use Rattle.bl_iface.specs.Names.{AreNames}
 use Rattle.bl_iface.specs.declared.iface.FnIface.{FnIface}
 use Rattle.bl_iface.proofs.FileLines.{agreed_name, bad_here, not_false, not_true, rest_more, say_all, say_more, say_nothing}
-use Rattle.bl_iface.proofs.Naming.{names_none, names_push}
+use Rattle.bl_iface.proofs.NameLemmas.{names_none, names_push}
 use Rattle.bl_iface.proofs.read.read_iface.Goals as goal
 
 pub loop-at-init : goal.loop-at-init

@@ -1,6 +1,6 @@
 use Rattle.std.proofs.Common.{◌≡◌, ◌≤◌, ◌<◌, ℕ, length, drop}
-use Rattle.bl_iface.specs.Numbering.{goal_in}
-use Rattle.bl_iface.proofs.Goals.{goal_by}
+use Rattle.bl_iface.specs.PartNumbers.{goal_in}
+use Rattle.bl_iface.proofs.ClientTargets.{goal_by}
 use Rattle.bl_iface.proofs.tables.goals_of.Given as goal
 
 abbrev pub invariant-loop-left : goal.invariant-loop-left

@@ -2,7 +2,7 @@ use Rattle.std.proofs.Common.{◌≡◌, ℕ, Bool, ap, subst, ◌∙◌}
 use Rattle.std.specs.FinSet as fin
 use Rattle.bl_cmd.specs.Sites.{is_protected}
 use Rattle.bl_transient.specs.Verdicts.{JudgesUnder, asked_of}
-use Rattle.bl_iface.proofs.Sides.{fails_as, firm_within, hot_within, lists_apart, passes_as}
+use Rattle.bl_iface.proofs.SideLemmas.{fails_as, firm_within, hot_within, lists_apart, passes_as}
 use Rattle.bl_iface.proofs.verdict.passes_under.Goals as goal
 
 pub first_bad_of-requires-clause-hot : goal.first_bad_of-requires-clause-hot

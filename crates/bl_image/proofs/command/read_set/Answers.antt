@@ -1,7 +1,7 @@
 use Rattle.std.proofs.Common.{ℕ, drop, subst}
 use Rattle.bl_cmd.specs.Programs.{arity}
-use Rattle.bl_image.specs.Reading.{Begins, operands_of, fields_behind}
-use Rattle.bl_image.proofs.Begins.{fails}
+use Rattle.bl_image.specs.ReaderAnswers.{Begins, operands_of, fields_behind}
+use Rattle.bl_image.proofs.ReaderLemmas.{fails}
 use Rattle.bl_image.proofs.Operands.{set_parts, set_found, no_set, no_set_operands}
 use Rattle.bl_image.proofs.command.read_set.Goals as goal
 

@@ -2,9 +2,9 @@ use Rattle.std.proofs.Common.{drop, refl, rules}
 use Rattle.bl_cmd.specs.Programs.{IsCommand}
 use Rattle.bl_leb.specs.Grammar.{given}
 use Rattle.bl_image.specs.Image.{command_code, fields}
-use Rattle.bl_image.specs.Reading.{fields_behind}
-use Rattle.bl_image.proofs.Cases.{to_store, is_store}
-use Rattle.bl_image.proofs.Begins.{fails, begins_case, begins_given, none_case, none_given, none_unless}
+use Rattle.bl_image.specs.ReaderAnswers.{fields_behind}
+use Rattle.bl_image.proofs.CodeCases.{to_store, is_store}
+use Rattle.bl_image.proofs.ReaderLemmas.{fails, begins_case, begins_given, none_case, none_given, none_unless}
 use Rattle.bl_image.proofs.command.read_store.Goals as goal
 
 pub returns-in_err-kind : goal.returns-in_err-kind

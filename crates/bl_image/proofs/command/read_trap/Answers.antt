@@ -2,10 +2,10 @@ use Rattle.std.proofs.Common.{drop, refl}
 use Rattle.bl_cmd.specs.Programs.{IsCommand}
 use Rattle.bl_leb.specs.Grammar.{given}
 use Rattle.bl_image.specs.Image.{command_code, fields}
-use Rattle.bl_image.specs.Reading.{fields_behind}
+use Rattle.bl_image.specs.ReaderAnswers.{fields_behind}
 use Rattle.bl_cmd.specs.declared.command.Command.TheVariants.{Trap}
-use Rattle.bl_image.proofs.Cases.{is_trap}
-use Rattle.bl_image.proofs.Begins.{fails, begins_case, begins_given, none_case, none_given}
+use Rattle.bl_image.proofs.CodeCases.{is_trap}
+use Rattle.bl_image.proofs.ReaderLemmas.{fails, begins_case, begins_given, none_case, none_given}
 use Rattle.bl_image.proofs.command.read_trap.Goals as goal
 
 pub returns-in_err-kind : goal.returns-in_err-kind

@@ -1,5 +1,5 @@
 use Rattle.std.proofs.lemmas.Result.{on_ok_weaker}
-use Rattle.bl_image.proofs.Adds.{seq}
+use Rattle.bl_image.proofs.WriterLemmas.{seq}
 use Rattle.bl_image.proofs.command.write_fields.Goals as goal
 
 pub returns-in_ok-write-in-Set : goal.returns-in_ok-write-in-Set

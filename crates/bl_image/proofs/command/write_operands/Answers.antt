@@ -2,7 +2,7 @@ use Rattle.std.proofs.Common.{◌≡◌, arith}
 use Rattle.std.proofs.lemmas.Result.{on_ok_weaker}
 use Rattle.bl_leb.specs.Grammar.{◌⨾◌, nothing}
 use Rattle.bl_image.specs.Image.{operand}
-use Rattle.bl_image.proofs.Adds.{adds_as}
+use Rattle.bl_image.proofs.WriterLemmas.{adds_as}
 use Rattle.bl_image.proofs.Operands.{last, second_part, three_last}
 use Rattle.bl_image.proofs.command.write_operands.Goals as goal
 

@@ -1,6 +1,6 @@
 use Rattle.std.proofs.Common.{subst, Ok}
-use Rattle.bl_image.specs.Reading.{ReadsProgram}
-use Rattle.bl_image.proofs.Large.{memory_alone, reason_large, whole_alone, whole_refused}
+use Rattle.bl_image.specs.ReaderAnswers.{ReadsProgram}
+use Rattle.bl_image.proofs.CommandLimit.{memory_alone, reason_large, whole_alone, whole_refused}
 use Rattle.bl_image.proofs.decode.decode_image.Goals as goal
 
 pub returns-in-Ok-Whole-clause-refused : goal.returns-in-Ok-Whole-clause-refused

@@ -1,8 +1,8 @@
 use Rattle.std.proofs.Common.{drop, ap₂, sym, ◌∙◌}
 use Rattle.bl_image.specs.Image.{version}
-use Rattle.bl_image.specs.Reading.{additions_of}
-use Rattle.bl_image.proofs.Begins.{passes}
-use Rattle.bl_image.proofs.Whole.{listed, listed_found, listed_none, listed_wrong}
+use Rattle.bl_image.specs.ReaderAnswers.{additions_of}
+use Rattle.bl_image.proofs.ReaderLemmas.{passes}
+use Rattle.bl_image.proofs.WholeImage.{listed, listed_found, listed_none, listed_wrong}
 use Rattle.bl_image.proofs.decode.read_listed.Goals as goal
 
 pub returns-in_err-demands : goal.returns-in_err-demands

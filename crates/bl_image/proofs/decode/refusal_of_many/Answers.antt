@@ -1,6 +1,6 @@
 use Rattle.std.proofs.Common.{sym, subst}
-use Rattle.bl_image.specs.Reading.{RefusesMany}
-use Rattle.bl_image.proofs.Large.{alone_same, large_refused}
+use Rattle.bl_image.specs.ReaderAnswers.{RefusesMany}
+use Rattle.bl_image.proofs.CommandLimit.{alone_same, large_refused}
 use Rattle.bl_image.proofs.decode.refusal_of_many.Goals as goal
 
 pub returns : goal.returns

@@ -4,8 +4,8 @@ use Rattle.std.specs.List.{All}
 use Rattle.bl_cmd.specs.Programs.{IsProgram}
 use Rattle.bl_cmd.specs.declared.command.Command.{Command}
 use Rattle.bl_cmd.specs.declared.definitions.ProgramParts.{ProgramParts as Program}
-use Rattle.bl_image.specs.Writing.{DefinitionsFit, AdditionsFit, CommandFits}
-use Rattle.bl_image.proofs.Fits.{definitions_fit, additions_fit, commands_fit}
+use Rattle.bl_image.specs.WriterAnswers.{DefinitionsFit, AdditionsFit, CommandFits}
+use Rattle.bl_image.proofs.SpellableParts.{definitions_fit, additions_fit, commands_fit}
 use Rattle.bl_image.proofs.image.encode.Goals as goal
 
 pub write_definitions-requires : goal.write_definitions-requires

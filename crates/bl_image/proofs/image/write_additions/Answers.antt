@@ -1,7 +1,7 @@
 use Rattle.std.proofs.Common.{ap₂, ◌∙◌}
 use Rattle.bl_image.specs.Image.{version}
-use Rattle.bl_image.proofs.Adds.{seq, adds_as}
-use Rattle.bl_image.proofs.Whole.{to_listed}
+use Rattle.bl_image.proofs.WriterLemmas.{seq, adds_as}
+use Rattle.bl_image.proofs.WholeImage.{to_listed}
 use Rattle.bl_image.proofs.image.write_additions.Goals as goal
 
 pub returns : goal.returns

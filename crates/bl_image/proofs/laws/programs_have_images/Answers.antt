@@ -1,5 +1,5 @@
-use Rattle.bl_image.proofs.Exists.{some_image}
+use Rattle.bl_image.proofs.ImageExistence.{some_bytes}
 use Rattle.bl_image.proofs.laws.programs_have_images.Goals as goal
 
 pub returns : goal.returns
-returns c = some_image
+returns c = some_bytes

@@ -1,8 +1,8 @@
 use Rattle.std.proofs.Common.{◌≡◌, ℕ, suc, ◌+◌, ◌<◌, ◌^◌, ◌∷◌, [], length, drop, subst, sym, arith, length-append, ap, ◌∙◌}
 use Rattle.bl_leb.specs.Grammar.{Spellings, ◌⨾◌}
 use Rattle.bl_image.specs.Grammar.{gap}
-use Rattle.bl_image.specs.Reading.{Begins}
-use Rattle.bl_image.proofs.Begins.{passes}
+use Rattle.bl_image.specs.ReaderAnswers.{Begins}
+use Rattle.bl_image.proofs.ReaderLemmas.{passes}
 use Rattle.bl_image.proofs.Chains.{behind, behind_more, counted, begins_more, none_more}
 use Rattle.bl_image.proofs.rising.read_rising.Goals as goal
 

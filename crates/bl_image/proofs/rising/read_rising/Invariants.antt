@@ -1,7 +1,7 @@
 use Rattle.std.proofs.Common.{◌≡◌, ◌≤◌, ◌^◌, suc, length, drop}
 use Rattle.bl_leb.specs.Grammar.{◌⨾◌}
 use Rattle.bl_image.specs.Grammar.{gap}
-use Rattle.bl_image.specs.Reading.{Begins}
+use Rattle.bl_image.specs.ReaderAnswers.{Begins}
 use Rattle.bl_image.proofs.Chains.{behind, counted}
 use Rattle.bl_image.proofs.rising.read_rising.Given as goal
 

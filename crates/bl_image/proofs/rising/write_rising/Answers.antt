@@ -2,8 +2,8 @@ use Rattle.std.proofs.Common.{◌≡◌, ◌≤◌, ◌<◌, ◌^◌, ◌+◌, �
 use Rattle.bl_base.proofs.Lists.{rest_at}
 use Rattle.bl_leb.specs.Grammar.{◌⨾◌}
 use Rattle.bl_image.specs.Grammar.{gap}
-use Rattle.bl_image.specs.Writing.{Adds, Rises}
-use Rattle.bl_image.proofs.Adds.{seq, adds_as, more_added, taken}
+use Rattle.bl_image.specs.WriterAnswers.{Adds, Rises}
+use Rattle.bl_image.proofs.WriterLemmas.{seq, adds_as, more_added, taken}
 use Rattle.bl_image.proofs.Chains.{behind, behind_more}
 use Rattle.bl_image.proofs.rising.write_rising.Goals as goal
 

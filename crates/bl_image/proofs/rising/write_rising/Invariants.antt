@@ -1,7 +1,7 @@
 use Rattle.std.proofs.Common.{◌≡◌, ◌≤◌, ◌^◌, suc, take, drop}
 use Rattle.bl_leb.specs.Grammar.{◌⨾◌}
 use Rattle.bl_image.specs.Grammar.{gap, each_after}
-use Rattle.bl_image.specs.Writing.{Adds, Rises}
+use Rattle.bl_image.specs.WriterAnswers.{Adds, Rises}
 use Rattle.bl_image.proofs.Chains.{behind}
 use Rattle.bl_image.proofs.rising.write_rising.Given as goal
 

@@ -1,5 +1,5 @@
 use Rattle.std.proofs.Common.{◌+◌, take, arith}
-use Rattle.bl_image.proofs.Adds.{more_added, taken}
+use Rattle.bl_image.proofs.WriterLemmas.{more_added, taken}
 use Rattle.bl_image.proofs.write.write_each.Goals as goal
 
 pub loop-thing-preserved : goal.loop-thing-preserved

@@ -1,6 +1,6 @@
 use Rattle.std.proofs.Common.{take}
 use Rattle.bl_image.specs.Grammar.{each}
-use Rattle.bl_image.specs.Writing.{Adds}
+use Rattle.bl_image.specs.WriterAnswers.{Adds}
 use Rattle.bl_image.proofs.write.write_each.Given as goal
 
 abbrev pub invariant-loop-thing : goal.invariant-loop-thing

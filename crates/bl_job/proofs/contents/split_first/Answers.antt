@@ -1,5 +1,5 @@
 use Rattle.std.proofs.Common.{◌-◌, ◌∷◌, ◌∙◌, ap, drop, length, sym, take}
-use Rattle.bl_job.specs.Working.{contents_in}
+use Rattle.bl_job.specs.WorkAnswers.{contents_in}
 use Rattle.bl_job.proofs.WorkLemmas.{first_and_rest}
 use Rattle.bl_job.proofs.contents.split_first.Goals as goal
 

@@ -1,5 +1,5 @@
 use Rattle.std.proofs.Common.{map, ap, refl, sym}
-use Rattle.bl_job.specs.Working.{keep_in, plan_in}
+use Rattle.bl_job.specs.WorkAnswers.{keep_in, plan_in}
 use Rattle.bl_job.proofs.FetchLemmas.{kept_all, next_kept, next_not_kept}
 use Rattle.bl_job.proofs.delivery.deliver.Goals as goal
 

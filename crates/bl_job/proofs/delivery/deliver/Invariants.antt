@@ -1,5 +1,5 @@
 use Rattle.std.proofs.Common.{map}
-use Rattle.bl_job.specs.Working.{keep_in}
+use Rattle.bl_job.specs.WorkAnswers.{keep_in}
 use Rattle.bl_job.specs.Worlds.{world}
 use Rattle.bl_job.proofs.FetchLemmas.{KeptSo}
 use Rattle.bl_job.proofs.delivery.deliver.Given as goal

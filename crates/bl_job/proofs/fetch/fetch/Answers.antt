@@ -1,5 +1,5 @@
 use Rattle.std.proofs.Common.{refl}
-use Rattle.bl_job.specs.Working.{no_memory_to_fetch}
+use Rattle.bl_job.specs.WorkAnswers.{no_memory_to_fetch}
 use Rattle.bl_job.proofs.FetchLemmas.{long_refused, not_read}
 use Rattle.bl_job.proofs.fetch.fetch.Goals as goal
 

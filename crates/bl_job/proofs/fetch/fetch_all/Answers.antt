@@ -1,7 +1,7 @@
 use Rattle.std.proofs.Common.{map, subst}
 use Rattle.std.proofs.lemmas.List.{take_all}
 use Rattle.bl_job.specs.Jobs.{AreRead}
-use Rattle.bl_job.specs.Working.{contents_in, read_in}
+use Rattle.bl_job.specs.WorkAnswers.{contents_in, read_in}
 use Rattle.bl_job.proofs.FetchLemmas.{next_fetched, next_not_fetched, pushed}
 use Rattle.bl_job.proofs.fetch.fetch_all.Goals as goal
 

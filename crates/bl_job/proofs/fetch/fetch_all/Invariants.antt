@@ -1,5 +1,5 @@
 use Rattle.std.proofs.Common.{map, take}
-use Rattle.bl_job.specs.Working.{contents_in, read_in}
+use Rattle.bl_job.specs.WorkAnswers.{contents_in, read_in}
 use Rattle.bl_job.specs.Worlds.{world}
 use Rattle.bl_job.proofs.FetchLemmas.{FetchedSo}
 use Rattle.bl_job.proofs.fetch.fetch_all.Given as goal

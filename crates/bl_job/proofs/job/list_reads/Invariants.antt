@@ -1,5 +1,5 @@
 use Rattle.std.proofs.Common.{◌≡◌, ◌++◌, map, drop}
-use Rattle.bl_job.specs.Working.{file_in, read_in}
+use Rattle.bl_job.specs.WorkAnswers.{file_in, read_in}
 use Rattle.bl_job.proofs.job.list_reads.Given as goal
 
 abbrev pub invariant-loop-file : goal.invariant-loop-file

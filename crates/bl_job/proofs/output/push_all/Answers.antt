@@ -1,6 +1,6 @@
 use Rattle.std.proofs.Common.{◌-◌, length, drop, arith, ◌∙◌}
 use Rattle.std.proofs.lemmas.List.{length-drop, take_all}
-use Rattle.bl_job.proofs.Took.{push_further}
+use Rattle.bl_job.proofs.SinkTexts.{push_further}
 use Rattle.bl_job.proofs.output.push_all.Goals as goal
 
 pub loop-done-preserved : goal.loop-done-preserved

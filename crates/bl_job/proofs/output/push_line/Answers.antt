@@ -1,5 +1,5 @@
 use Rattle.std.proofs.Common.{◌++◌}
-use Rattle.bl_job.proofs.Took.{whole_both, cut_first, cut_second, cut_pushes, pushes_both}
+use Rattle.bl_job.proofs.SinkTexts.{whole_both, cut_first, cut_second, cut_pushes, pushes_both}
 use Rattle.bl_job.proofs.output.push_line.Goals as goal
 
 pub returns-in_err-push_all : goal.returns-in_err-push_all

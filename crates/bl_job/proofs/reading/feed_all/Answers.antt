@@ -1,7 +1,7 @@
 use Rattle.std.proofs.Common.{◌∙◌, [], Bool, ap, arith, length, refl}
 use Rattle.std.specs.Prelude.{nat_le, unwrap_or}
 use Rattle.bl_base.specs.declared.quantity.Quantity.TheVariants as quantity
-use Rattle.bl_job.proofs.Pieces.{fails_so, fed_all, fed_long, grows, next_so, none_fed}
+use Rattle.bl_job.proofs.PiecewiseReads.{fails_so, fed_all, fed_long, grows, next_so, none_fed}
 use Rattle.bl_job.proofs.reading.feed_all.Goals as goal
 
 pub loop-alloc-init : goal.loop-alloc-init

@@ -1,6 +1,6 @@
 use Rattle.std.proofs.Common.{◌+◌, ◌-◌, [], length}
 use Rattle.std.specs.Prelude.{unwrap_or}
-use Rattle.bl_job.proofs.Pieces.{FedSo}
+use Rattle.bl_job.proofs.PiecewiseReads.{FedSo}
 use Rattle.bl_job.proofs.reading.feed_all.Given as goal
 
 -- the decoder was fed what the file begins with, and nothing else is changed

@@ -1,8 +1,8 @@
 use Rattle.std.proofs.Common.{Bool, Option, subst}
 use Rattle.bl_base.specs.declared.quantity.Quantity.TheVariants as quantity
-use Rattle.bl_job.specs.Reading.{Feeds}
+use Rattle.bl_job.specs.ShelfReads.{Feeds}
 use Rattle.bl_job.specs.declared.content.Content.{Content}
-use Rattle.bl_job.proofs.Pieces.{same_faults}
+use Rattle.bl_job.proofs.PiecewiseReads.{same_faults}
 use Rattle.bl_job.proofs.reading.read_module.Goals as goal
 
 pub returns-in-Ok-true-clause-obtained : goal.returns-in-Ok-true-clause-obtained

@@ -1,7 +1,7 @@
 use Rattle.std.proofs.Common.{ℕ, refl, subst, rules}
 use Rattle.bl_leb.specs.Grammar.{byte}
 use Rattle.bl_wasm.specs.Values.{u32}
-use Rattle.bl_code.specs.Reading.{IsAt}
+use Rattle.bl_code.specs.ReaderAnswers.{IsAt}
 use Rattle.bl_code.proofs.Places.{none_first, passes_none}
 use Rattle.bl_labels.specs.Entries.{entry_code, entry, named, place}
 use Rattle.bl_labels.specs.declared.entry.Entry.TheVariants.{SecretParam, SecretGlobal, SecretMemory, PublicResult, PublicGlobal}

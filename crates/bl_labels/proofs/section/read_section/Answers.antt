@@ -1,6 +1,6 @@
 use Rattle.std.proofs.Common.{◌∙◌, subst, sym}
 use Rattle.bl_wasm.specs.Values.{vec}
-use Rattle.bl_code.specs.Reading.{Refuses}
+use Rattle.bl_code.specs.ReaderAnswers.{Refuses}
 use Rattle.bl_labels.specs.Entries.{entry}
 use Rattle.bl_labels.proofs.SectionForms.{no_byte, no_vec, not_whole, whole_read}
 use Rattle.bl_labels.proofs.section.read_section.Goals as goal

@@ -1,7 +1,7 @@
 use Rattle.std.proofs.Common.{[], ◌∷◌, None, Some}
 use Rattle.std.proofs.lemmas.Bool.Decides.{Decides-eqb}
 use Rattle.std.proofs.lemmas.Slice.Eq.{strip_prefix_is}
-use Rattle.bl_link.proofs.Qualified.{own_of}
+use Rattle.bl_link.proofs.QualifiedNames.{own_of}
 use Rattle.bl_link.proofs.all_names.own_name.Goals as goal
 
 pub returns-in-Some : goal.returns-in-Some

@@ -4,7 +4,7 @@ use Rattle.std.specs.List.{enumerate_from}
 use Rattle.std.specs.Vec.Iter.{into_iter_items}
 use Rattle.bl_link.specs.Links.{with_next}
 use Rattle.bl_link.specs.IndexSpaces.{Part}
-use Rattle.bl_link.proofs.Linking.{can, fold_fails, goes_on}
+use Rattle.bl_link.proofs.PartLoop.{can, fold_fails, goes_on}
 use Rattle.bl_link.proofs.TreeParts.{makes_err}
 use Rattle.bl_link.proofs.all_parts.+link_rest.Goals as goal
 

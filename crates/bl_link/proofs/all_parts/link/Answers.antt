@@ -3,8 +3,8 @@ use Rattle.std.specs.List.{All}
 use Rattle.std.specs.Vec.Iter.{into_iter_items}
 use Rattle.bl_link.specs.Linkable.{IsSound}
 use Rattle.bl_link.specs.IndexSpaces.{Part}
-use Rattle.bl_link.proofs.Linking.{all_left, can_run, few_reserved, from_fold}
-use Rattle.bl_link.proofs.Whole.{all_kept}
+use Rattle.bl_link.proofs.PartLoop.{all_left, can_run, few_reserved, from_fold}
+use Rattle.bl_link.proofs.LinkedTrees.{all_kept}
 use Rattle.bl_link.proofs.all_parts.link.Goals as goal
 
 -- what was read of the parts

@@ -1,6 +1,6 @@
 use Rattle.std.proofs.Common.{◌≡◌, map}
 use Rattle.std.specs.List.{range_with_len}
-use Rattle.bl_labels.specs.Marked.{is_place as is_place_of}
+use Rattle.bl_labels.specs.LabelledPlaces.{is_place as is_place_of}
 use Rattle.bl_link.proofs.bodies.demands.Given as goal
 
 abbrev pub invariant-loop-index : goal.invariant-loop-index

@@ -1,6 +1,6 @@
 use Rattle.std.proofs.Common.{◌≡◌, ◌++◌, Ok, drop, map}
 use Rattle.std.specs.List.{enumerate_from}
-use Rattle.bl_link.specs.Matching.{all_given, given as given_of}
+use Rattle.bl_link.specs.ImportMatches.{all_given, given as given_of}
 use Rattle.bl_link.specs.IndexSpaces.{all_ok, on_ok}
 use Rattle.bl_link.proofs.given.given.Given as goal
 

@@ -1,4 +1,4 @@
-use Rattle.bl_link.proofs.Whole.{linked}
+use Rattle.bl_link.proofs.LinkedTrees.{linked}
 use Rattle.bl_link.proofs.laws.what_is_linked_can_run.Goals as goal
 
 pub returns : goal.returns

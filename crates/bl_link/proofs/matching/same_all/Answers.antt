@@ -1,6 +1,6 @@
 use Rattle.std.proofs.Common.{◌≡◌, ◌∙◌, ap, sym, refl, ◌<◌, ◌≤◌, ◌+◌, ◌&&◌, ℕ, zero, suc, length, arith, drop, List, [], ◌∷◌, Bool, true, false, get_or}
 use Rattle.std.specs.Cmp.Lexicographic.{pointwise}
-use Rattle.bl_link.specs.Matching.{same as same_of}
+use Rattle.bl_link.specs.ImportMatches.{same as same_of}
 use Rattle.bl_base.specs.declared.names.ValueType.{ValueType}
 use Rattle.bl_wasm.specs.declared.types.WasmType.{WasmType}
 use Rattle.bl_base.specs.declared.names.ValueType.TheVariants as value

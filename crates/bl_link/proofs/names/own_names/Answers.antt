@@ -1,5 +1,5 @@
 use Rattle.std.proofs.Common.{◌∙◌, []}
-use Rattle.bl_link.proofs.Naming.{value_is_new, values_more}
+use Rattle.bl_link.proofs.AddedNames.{value_is_new, values_more}
 use Rattle.bl_link.proofs.names.own_names.Goals as goal
 
 pub add-requires : goal.add-requires

@@ -3,7 +3,7 @@ use Rattle.bl_wasm.specs.Exports.{Pairs}
 use Rattle.bl_wasm.specs.declared.module.Export.{Export}
 use Rattle.bl_wasm.specs.declared.module.ExportKind.TheVariants.{Function}
 use Rattle.bl_link.specs.Links.{exported, pair}
-use Rattle.bl_link.proofs.Naming.{pair_is_new, pairs_more, pairs_same}
+use Rattle.bl_link.proofs.AddedNames.{pair_is_new, pairs_more, pairs_same}
 use Rattle.bl_link.proofs.names.with_functions.Goals as goal
 use Rattle.bl_link.proofs.names.with_functions.Goals.{then-eq+in_ok-name+in_ok-add, else-eq}
 

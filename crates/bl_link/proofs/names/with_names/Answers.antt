@@ -1,6 +1,6 @@
 use Rattle.std.proofs.Common.{◌++◌, ◌∙◌, ap, map}
 use Rattle.bl_link.specs.AllNames.{behind}
-use Rattle.bl_link.proofs.Qualified.{entries_apart, exported_all}
+use Rattle.bl_link.proofs.QualifiedNames.{entries_apart, exported_all}
 use Rattle.bl_link.proofs.names.with_names.Goals as goal
 
 pub own_names-requires : goal.own_names-requires

@@ -2,7 +2,7 @@ use Rattle.std.proofs.Common.{◌∙◌, ap, sym, ◌<◌, length, arith, set, L
 use Rattle.std.proofs.lemmas.List.Edits.{map_over_more}
 use Rattle.bl_wasm.specs.declared.instruction.Instr.{Instr}
 use Rattle.bl_link.specs.IndexSpaces.{names}
-use Rattle.bl_wasm.specs.Renaming.{renamed as renamed_of}
+use Rattle.bl_wasm.specs.IndexMaps.{renamed as renamed_of}
 use Rattle.bl_link.proofs.rename.renamed.Goals as goal
 
 pub loop-item-preserved : goal.loop-item-preserved

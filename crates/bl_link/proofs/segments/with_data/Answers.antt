@@ -7,7 +7,7 @@ use Rattle.bl_wasm.specs.declared.linked.Memory.{Memory}
 use Rattle.bl_wasm.specs.declared.module.DataSegment.{DataSegment}
 use Rattle.bl_link.specs.Links.{data_fits, put_data}
 use Rattle.bl_link.specs.IndexSpaces.{Spaces}
-use Rattle.bl_link.proofs.Matched.{and_left, and_right}
+use Rattle.bl_link.proofs.ImportMatchLemmas.{and_left, and_right}
 use Rattle.bl_link.proofs.SegmentLemmas.{fits_later}
 use Rattle.bl_link.proofs.segments.with_data.Goals as goal
 

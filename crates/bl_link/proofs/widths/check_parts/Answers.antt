@@ -1,5 +1,5 @@
 use Rattle.bl_link.specs.Linkable.{IsSound}
-use Rattle.bl_link.proofs.Reading.{all_next, all_read}
+use Rattle.bl_link.proofs.ReadElements.{all_next, all_read}
 use Rattle.bl_link.proofs.widths.check_parts.Goals as goal
 
 pub loop-part-preserved : goal.loop-part-preserved

@@ -2,7 +2,7 @@ use Rattle.std.proofs.Common.{subst}
 use Rattle.std.specs.List.{All}
 use Rattle.bl_wasm.specs.Linked.{HasImmediates}
 use Rattle.bl_wasm.specs.declared.module.Code.{Code}
-use Rattle.bl_link.proofs.Reading.{all_next, all_read}
+use Rattle.bl_link.proofs.ReadElements.{all_next, all_read}
 use Rattle.bl_link.proofs.widths.read_bodies.Goals as goal
 
 abbrev IsRead : Code → Type 0

@@ -1,5 +1,5 @@
 use Rattle.std.proofs.Common.{sym}
-use Rattle.bl_lower.proofs.Copying.{results_more}
+use Rattle.bl_lower.proofs.DefinitionLemmas.{results_more}
 use Rattle.bl_lower.proofs.definitions.demands.Goals as goal
 
 pub loop-number-preserved : goal.loop-number-preserved

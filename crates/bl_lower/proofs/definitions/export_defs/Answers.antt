@@ -1,9 +1,15 @@
-use Rattle.std.proofs.Common.{◌≡◌, sym}
-use Rattle.bl_lower.proofs.Copying.{export_more}
+use Rattle.std.proofs.Common.{◌≡◌, ◌∙◌, ap, map, refl, rules}
+use Rattle.std.proofs.lemmas.Result.{IfOk-at_ok}
+use Rattle.std.proofs.lemmas.Iterator.{YieldsList-from_map, items_from_collect}
+use Rattle.std.proofs.lemmas.Iterator.Consumers.{YieldsList-at, YieldsList-from_rest}
+use Rattle.bl_lower.specs.Trees.{export_def}
+use Rattle.bl_lower.proofs.Moving.{all_moved, moved}
 use Rattle.bl_lower.proofs.definitions.export_defs.Goals as goal
 
-pub loop-index-preserved : goal.loop-index-preserved
-loop-index-preserved c =
-    let pair = c.in-Some-Some in
-    let name : c.in_ok-copy_of.field-0 ≡ pair.name.now = c.in_ok-copy_of.ensures in
-    rw (c.in_ok-push.ensures.ok, name) (export_more c.args.exports.now c.loop-index.index pair.name.now pair.function c.loop-index.all _ (sym pair.ensures) (sym pair.ensures') c.loop-index.invariant)
+pub returns : goal.returns
+returns c =
+    let entries = c.into_pairs.result in
+    let made : c.in_ok-all.all.items ≡ map moved entries =
+    IfOk-at_ok _ c.in_ok-all.was (items_from_collect _ c.collect.ensures.ran
+    (YieldsList-from_map _ moved (YieldsList-at c.map.ensures.source (YieldsList-from_rest entries refl)) c.map.ensures.closure (λ x r q k. search rules))) in
+    c.of.ensures ∙ made ∙ all_moved entries ∙ ap (map export_def) c.into_pairs.ensures

@@ -1,5 +1,5 @@
 use Rattle.std.proofs.lemmas.Slice.Zip.{either_empty_from_Zip}
-use Rattle.bl_lower.proofs.Copying.{whole_params}
+use Rattle.bl_lower.proofs.DefinitionLemmas.{whole_params}
 use Rattle.bl_lower.proofs.definitions.param_defs.Goals as goal
 
 pub returns : goal.returns

@@ -1,5 +1,5 @@
 use Rattle.std.proofs.Common.{◌+◌, sym, ◌∙◌, arith}
-use Rattle.bl_machine.proofs.Driving.{begins, stepped, goes_on, is_over, is_spent}
+use Rattle.bl_machine.proofs.DriveLemmas.{begins, stepped, goes_on, is_over, is_spent}
 use Rattle.bl_machine.proofs.interpreter.drive.Goals as goal
 
 pub loop-init : goal.loop-init

@@ -1,4 +1,4 @@
-use Rattle.bl_machine.proofs.Driving.{Reached}
+use Rattle.bl_machine.proofs.DriveLemmas.{Reached}
 use Rattle.bl_machine.proofs.interpreter.drive.Given as goal
 
 abbrev pub invariant-loop : goal.invariant-loop

@@ -1,7 +1,7 @@
 use Rattle.std.proofs.Common.{◌≡◌, ◌∙◌, ap, ap₂, map, List, Result, Ok, Err, IfOk}
 use Rattle.bl_base.specs.Runs.{MemoryState, memory_of}
 use Rattle.bl_memory.specs.Spaces.{patched_all}
-use Rattle.bl_memory.proofs.Patching.{patches_are}
+use Rattle.bl_memory.proofs.PatchLemmas.{patches_are}
 use Rattle.bl_reduce.specs.Outcomes.{first_memory}
 use Rattle.bl_machine.proofs.interpreter.first_memories.Goals as goal
 

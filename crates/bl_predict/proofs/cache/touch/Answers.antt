@@ -2,7 +2,7 @@ use Rattle.std.proofs.Common.{◌≡◌, ℕ, true, false, Bool, nat_eq, is_some
 use Rattle.std.specs.Map.{lookup}
 use Rattle.lru.specs.LruCache.{LruCache, lru_cache, promoted, put_entries}
 use Rattle.bl_predict.specs.Lines.{has, lines_of, as_set}
-use Rattle.bl_predict.proofs.Cached.{is_there, when_promoted, when_kept, when_put, on_err}
+use Rattle.bl_predict.proofs.CacheLemmas.{is_there, when_promoted, when_kept, when_put, on_err}
 use Rattle.bl_predict.proofs.cache.touch.Goals as goal
 
 pub returns-then-promote-clause-hit : goal.returns-then-promote-clause-hit

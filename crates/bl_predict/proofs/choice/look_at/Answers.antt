@@ -1,7 +1,7 @@
 use Rattle.std.proofs.Common.{true, false, sym, ◌∙◌}
 use Rattle.std.specs.Prelude.{slice_get}
 use Rattle.bl_rob.specs.CallResults.{shown}
-use Rattle.bl_predict.proofs.Reading.{finds_disabled, finds_enabled, finds_unasked}
+use Rattle.bl_predict.proofs.ReadObservations.{finds_disabled, finds_enabled, finds_unasked}
 use Rattle.bl_predict.proofs.choice.look_at.Goals as goal
 
 pub returns-then-not-is_asked : goal.returns-then-not-is_asked

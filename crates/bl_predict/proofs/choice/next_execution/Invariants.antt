@@ -2,7 +2,7 @@ use Rattle.bl_rob.specs.CallResults.{is_enabled, shown}
 use Rattle.bl_rob.specs.Machines.{directive_step}
 use Rattle.bl_rob.specs.declared.directive.Directive.TheVariants.{Exec}
 use Rattle.bl_predict.specs.Drives.{shows_read}
-use Rattle.bl_predict.proofs.Finding.{LooksOn}
+use Rattle.bl_predict.proofs.LeastPlaces.{LooksOn}
 use Rattle.bl_predict.proofs.choice.next_execution.Given as goal
 
 abbrev pub invariant-loop-n : goal.invariant-loop-n

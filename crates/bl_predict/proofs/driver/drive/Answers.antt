@@ -1,8 +1,8 @@
 use Rattle.std.proofs.Common.{ℕ, length, ap, ◌∙◌}
 use Rattle.std.proofs.lemmas.List.{length-replicate}
-use Rattle.bl_predict.specs.Drives.{begun, driven, driving_in, turn}
+use Rattle.bl_predict.specs.Drives.{begun, driven, drive_state, turn}
 use Rattle.bl_rob.specs.Machines.{end_in}
-use Rattle.bl_predict.proofs.Driving.{drives_begin, drives_on, drives_end, drives_ended, none_yet, not_ended, has_ended, answered}
+use Rattle.bl_predict.proofs.DriveLemmas.{drives_begin, drives_on, drives_end, drives_ended, none_yet, not_ended, has_ended, answered}
 use Rattle.bl_predict.proofs.driver.drive.Goals.{then-loop-turns-test+else-is_none, else-loop-turns-test}
 use Rattle.bl_predict.proofs.driver.drive.Goals as goal
 
@@ -11,16 +11,16 @@ loop-turns-init c =
     let first = begun c.args.p.now c.args.function c.args.start.now in (
       c.in_ok-driver.ensures.same,
       ap (λ d. length d.counters) c.in_ok-driver.ensures.begun ∙ length-replicate {A = ℕ} 1024 1,
-      drives_begin c.args.p.now c.args.most first (driving_in c.in_ok-driver.driver) c.in_ok-driver.ensures.begun (none_yet c.args.p.now c.args.function c.args.start.now),
+      drives_begin c.args.p.now c.args.most first (drive_state c.in_ok-driver.driver) c.in_ok-driver.ensures.begun (none_yet c.args.p.now c.args.function c.args.start.now),
     )
 
 pub loop-turns-preserved : goal.loop-turns-preserved
 loop-turns-preserved c =
     let first = begun c.args.p.now c.args.function c.args.start.now in
-    let old = driving_in c.loop-turns.driver in (
+    let old = drive_state c.loop-turns.driver in (
       c.turn.ensures.same ∙ c.loop-turns.invariant.0,
       c.turn.ensures.length,
-      drives_on c.args.p.now c.args.most first c.loop-turns.turns old (driving_in c.turn.new.self) c.loop-turns.invariant.2 c.loop-turns-test.true
+      drives_on c.args.p.now c.args.most first c.loop-turns.turns old (drive_state c.turn.new.self) c.loop-turns.invariant.2 c.loop-turns-test.true
           (not_ended c.finished.result (end_in old.state) c.is_none.result c.finished.ensures c.is_none.ensures c.if-is_none.true)
           (c.in_ok-turn.ensures.turn ∙ ap (λ Q. turn Q old) c.loop-turns.invariant.0),
     )
@@ -28,7 +28,7 @@ loop-turns-preserved c =
 pub returns : goal.returns
 returns c =
     let first = begun c.args.p.now c.args.function c.args.start.now in
-    let old = driving_in c.loop-turns.driver in
+    let old = drive_state c.loop-turns.driver in
     elim c.loop-turns-test.branch [
       | then-loop-turns-test+else-is_none w ↦ answered c.loop-turns.driver.rob.program c.args.p.now old (driven c.args.p.now c.args.most first) c.answer.result
           c.loop-turns.invariant.0

@@ -1,5 +1,5 @@
 use Rattle.std.proofs.Common.{ap, ◌∙◌}
-use Rattle.bl_report.specs.Noting.{noted}
+use Rattle.bl_report.specs.SiteTables.{noted}
 use Rattle.bl_report.proofs.FirstPaths.{none_noted}
 use Rattle.bl_report.proofs.first.first_paths.Goals as goal
 

@@ -1,6 +1,6 @@
 use Rattle.std.proofs.Common.{◌≡◌, ◌<◌, ℕ, length, map, take}
 use Rattle.bl_base.specs.declared.number.Pos.{Pos}
-use Rattle.bl_report.specs.Noting.{also_noted, noted}
+use Rattle.bl_report.specs.SiteTables.{also_noted, noted}
 use Rattle.bl_report.proofs.first.note_path.Given as goal
 
 abbrev pub invariant-loop-site : goal.invariant-loop-site

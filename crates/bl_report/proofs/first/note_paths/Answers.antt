@@ -1,7 +1,7 @@
 use Rattle.std.proofs.Common.{◌∙◌, List, map, take, refl, sym, ap, subst, arith}
 use Rattle.std.proofs.lemmas.List.{take_all}
 use Rattle.bl_base.specs.declared.number.Pos.{Pos}
-use Rattle.bl_report.specs.Noting.{IsFirst, also_noted, noted}
+use Rattle.bl_report.specs.SiteTables.{IsFirst, also_noted, noted}
 use Rattle.bl_report.proofs.FirstPaths.{first_next}
 use Rattle.bl_report.proofs.first.note_paths.Goals as goal
 

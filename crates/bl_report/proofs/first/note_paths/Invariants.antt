@@ -1,5 +1,5 @@
 use Rattle.std.proofs.Common.{◌≡◌, ◌<◌, ℕ, length, take}
-use Rattle.bl_report.specs.Noting.{IsFirst, noted}
+use Rattle.bl_report.specs.SiteTables.{IsFirst, noted}
 use Rattle.bl_report.proofs.first.note_paths.Given as goal
 
 -- the paths so far are noted

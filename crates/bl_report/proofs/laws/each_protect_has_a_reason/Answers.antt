@@ -1,4 +1,4 @@
-use Rattle.bl_graph.proofs.Ranging.{in_range}
+use Rattle.bl_graph.proofs.RangeLemmas.{in_range}
 use Rattle.bl_report.proofs.ProtectReasons.{has_reason}
 use Rattle.bl_report.proofs.laws.each_protect_has_a_reason.Goals as goal
 

@@ -1,4 +1,4 @@
-use Rattle.bl_rob.proofs.Keeps.{consistent}
+use Rattle.bl_rob.proofs.BufferInvariant.{consistent}
 use Rattle.bl_rob.proofs.laws.consistency.Goals as goal
 
 pub returns : goal.returns

@@ -1,6 +1,6 @@
 use Rattle.std.proofs.Common.{◌≡◌, ℕ, Some, ap, sym, arith, ◌∙◌}
-use Rattle.bl_seq.specs.Filled.{register_at}
-use Rattle.bl_rob.proofs.Seeing.{unwritten_whole, written_here}
+use Rattle.bl_seq.specs.RegisterTrees.{register_at}
+use Rattle.bl_rob.proofs.VisibleValues.{unwritten_whole, written_here}
 use Rattle.bl_rob.proofs.visible.visible.Goals as goal
 
 pub returns-then-writes : goal.returns-then-writes

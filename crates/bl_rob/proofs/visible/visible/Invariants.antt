@@ -1,4 +1,4 @@
-use Rattle.bl_rob.proofs.Seeing.{Unwritten}
+use Rattle.bl_rob.proofs.VisibleValues.{Unwritten}
 use Rattle.bl_rob.proofs.visible.visible.Given as goal
 
 abbrev pub invariant-loop-left : goal.invariant-loop-left

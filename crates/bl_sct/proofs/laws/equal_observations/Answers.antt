@@ -1,4 +1,4 @@
-use Rattle.bl_sct.proofs.Whole.{equal}
+use Rattle.bl_sct.proofs.EqualObservations.{equal}
 use Rattle.bl_sct.proofs.laws.equal_observations.Goals as goal
 
 pub returns : goal.returns

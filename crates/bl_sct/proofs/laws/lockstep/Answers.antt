@@ -1,4 +1,4 @@
-use Rattle.bl_sct.proofs.Whole.{in_step}
+use Rattle.bl_sct.proofs.EqualObservations.{in_step}
 use Rattle.bl_sct.proofs.laws.lockstep.Goals as goal
 
 pub returns : goal.returns

@@ -1,6 +1,6 @@
 use Rattle.std.proofs.Common.{subst}
 use Rattle.bl_cmd.specs.Programs.{IsProgram}
-use Rattle.bl_sct.proofs.Assessing.{safe, unstable}
+use Rattle.bl_sct.proofs.AssessLemmas.{safe, unstable}
 use Rattle.bl_sct.proofs.verdict.assess_labelled.Goals as goal
 
 pub returns-in-None : goal.returns-in-None

@@ -1,6 +1,6 @@
 use Rattle.std.proofs.Common.{ap}
 use Rattle.bl_seq.specs.declared.layout.Frame.{Frame}
-use Rattle.bl_seq.proofs.Starting.{opens}
+use Rattle.bl_seq.proofs.InitialMachine.{opens}
 use Rattle.bl_seq.proofs.opening.begin.Goals as goal
 
 pub returns : goal.returns

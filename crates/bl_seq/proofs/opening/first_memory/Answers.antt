@@ -2,7 +2,7 @@ use Rattle.std.proofs.Common.{◌≡◌, ◌≤◌, ◌∙◌, ap, arith, length
 use Rattle.std.specs.List.{fold}
 use Rattle.std.proofs.lemmas.List.{at_drop_all}
 use Rattle.bl_cmd.specs.Outcomes.{first_memory, with_row}
-use Rattle.bl_seq.proofs.Starting.{first_length}
+use Rattle.bl_seq.proofs.InitialMachine.{first_length}
 use Rattle.bl_seq.proofs.opening.first_memory.Goals as goal
 
 pub invariant_of-result : goal.invariant_of-result

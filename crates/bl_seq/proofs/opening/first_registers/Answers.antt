@@ -1,6 +1,6 @@
 use Rattle.std.proofs.Common.{ap}
 use Rattle.bl_seq.specs.declared.layout.Frame.{Frame}
-use Rattle.bl_seq.proofs.Starting.{registers_of}
+use Rattle.bl_seq.proofs.InitialMachine.{registers_of}
 use Rattle.bl_seq.proofs.opening.first_registers.Goals as goal
 
 pub returns : goal.returns

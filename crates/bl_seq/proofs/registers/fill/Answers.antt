@@ -1,10 +1,10 @@
 use Rattle.std.proofs.Common.{◌≤◌, ◌∙◌, ◌-◌, ◌%◌, ap, arith, length, sym}
 use Rattle.std.specs.Prelude.{◌+◌}
 use Rattle.std.proofs.lemmas.List.{length-append}
-use Rattle.bl_seq.specs.Filled.{cell_of, number_at, register_at}
+use Rattle.bl_seq.specs.RegisterTrees.{cell_of, number_at, register_at}
 use Rattle.bl_seq.specs.Windows.{seen}
 use Rattle.bl_seq.specs.declared.registers.Window.{Window}
-use Rattle.bl_seq.proofs.Windowed.{filled_more}
+use Rattle.bl_seq.proofs.WindowLemmas.{filled_more}
 use Rattle.bl_seq.proofs.registers.fill.Goals as goal
 
 pub loop-cell-preserved : goal.loop-cell-preserved

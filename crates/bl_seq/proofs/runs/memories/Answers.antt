@@ -2,10 +2,10 @@ use Rattle.std.proofs.Common.{◌≡◌, ℕ, ◌+◌, ◌<◌, ◌≤◌, ◌�
 use Rattle.bl_base.specs.Runs.{memory_of}
 use Rattle.bl_cmd.specs.declared.definitions.MemoryDef.{MemoryDef}
 use Rattle.bl_cmd.proofs.Layouts.{sum_up}
-use Rattle.bl_seq.specs.Filled.{register_at}
-use Rattle.bl_seq.proofs.Laying.{sum_next}
-use Rattle.bl_seq.specs.Endings.{IsWhole, pages_at}
-use Rattle.bl_seq.proofs.Telling.{states_next, states_all, whole_next}
+use Rattle.bl_seq.specs.RegisterTrees.{register_at}
+use Rattle.bl_seq.proofs.LayoutLemmas.{sum_next}
+use Rattle.bl_seq.specs.FinalMemories.{IsWhole, pages_at}
+use Rattle.bl_seq.proofs.OutcomeLemmas.{states_next, states_all, whole_next}
 use Rattle.bl_seq.proofs.runs.memories.Goals as goal
 
 pub overflow_add-from : goal.overflow_add-from

@@ -4,8 +4,8 @@ use Rattle.bl_base.specs.Runs.{memory_of}
 use Rattle.bl_cmd.specs.Layout.{sum_before}
 use Rattle.bl_cmd.specs.Steps.{states_from}
 use Rattle.bl_cmd.specs.declared.definitions.MemoryDef.{MemoryDef}
-use Rattle.bl_seq.specs.Endings.{IsWhole, memories_of}
-use Rattle.bl_seq.specs.Filled.{register_at}
+use Rattle.bl_seq.specs.FinalMemories.{IsWhole, memories_of}
+use Rattle.bl_seq.specs.RegisterTrees.{register_at}
 use Rattle.bl_seq.proofs.runs.memories.Given as goal
 
 abbrev pub invariant-loop-number : goal.invariant-loop-number

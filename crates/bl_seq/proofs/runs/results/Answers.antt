@@ -1,10 +1,10 @@
 use Rattle.std.proofs.Common.{◌≡◌, ℕ, ◌+◌, ◌-◌, ◌++◌, ◌∙◌, ap, arith}
 use Rattle.bl_cmd.specs.Layout.{running}
 use Rattle.bl_cmd.specs.Steps.{values_from}
-use Rattle.bl_seq.specs.Filled.{register_at}
+use Rattle.bl_seq.specs.RegisterTrees.{register_at}
 use Rattle.bl_seq.specs.Layouts.{frame_of}
 use Rattle.bl_seq.specs.declared.layout.Frame.{Frame}
-use Rattle.bl_seq.proofs.Telling.{values_next, values_all}
+use Rattle.bl_seq.proofs.OutcomeLemmas.{values_next, values_all}
 use Rattle.bl_seq.proofs.runs.results.Goals as goal
 
 pub loop-i-preserved : goal.loop-i-preserved

@@ -1,6 +1,6 @@
 use Rattle.std.proofs.Common.{◌≡◌, ◌+◌, ◌-◌, ◌++◌}
 use Rattle.bl_cmd.specs.Steps.{values_from}
-use Rattle.bl_seq.specs.Filled.{register_at}
+use Rattle.bl_seq.specs.RegisterTrees.{register_at}
 use Rattle.bl_seq.proofs.runs.results.Given as goal
 
 abbrev pub invariant-loop-i : goal.invariant-loop-i

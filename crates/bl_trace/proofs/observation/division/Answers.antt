@@ -1,7 +1,7 @@
 use Rattle.std.proofs.Common.{◌∙◌, ap}
 use Rattle.std.specs.Prelude.{codes}
 use Rattle.std.specs.Fmt.{decimal}
-use Rattle.bl_trace.proofs.Pieces.{two_numbers}
+use Rattle.bl_trace.proofs.TextPieces.{two_numbers}
 use Rattle.bl_trace.proofs.observation.division.Goals as goal
 
 pub returns : goal.returns

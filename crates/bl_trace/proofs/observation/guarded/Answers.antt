@@ -1,7 +1,7 @@
 use Rattle.std.proofs.Common.{ℕ, List, ◌++◌, ◌∷◌, [], ◌∙◌, ap}
 use Rattle.std.specs.List.{flat_map, range_with_len}
 use Rattle.bl_trace.specs.Observations.{guard_text, guards_text}
-use Rattle.bl_trace.proofs.Pieces.{with_guards, without_guards}
+use Rattle.bl_trace.proofs.TextPieces.{with_guards, without_guards}
 use Rattle.bl_trace.proofs.observation.guarded.Goals as goal
 
 pub returns-then-mask-eq0 : goal.returns-then-mask-eq0

@@ -1,6 +1,6 @@
 use Rattle.std.proofs.Common.{◌≡◌, ◌+◌, ◌-◌, length, take, drop, None, Some, rules, arith, ◌∙◌}
 use Rattle.bl_trace.specs.Lines.{entry_of}
-use Rattle.bl_trace.proofs.Saying.{bad_at, more_at}
+use Rattle.bl_trace.proofs.LineLemmas.{bad_at, more_at}
 use Rattle.bl_trace.proofs.read.read_lines.Goals as goal
 
 pub returns-in_default : goal.returns-in_default

@@ -1,7 +1,7 @@
 use Rattle.std.proofs.Common.{◌≡◌, ◌≤◌, ◌+◌, ◌-◌, length, drop}
 use Rattle.bl_trace.specs.StartFiles.{said}
 use Rattle.bl_trace.specs.Lines.{lines_of}
-use Rattle.bl_trace.proofs.Saying.{behind}
+use Rattle.bl_trace.proofs.LineLemmas.{behind}
 use Rattle.bl_trace.proofs.read.read_lines.Given as goal
 
 -- what the lines so far and those of the rest say is what the file says

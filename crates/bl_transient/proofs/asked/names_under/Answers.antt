@@ -1,7 +1,7 @@
 use Rattle.std.proofs.Common.{◌≡◌, ◌<◌, ◌∙◌, ◌++◌, ap, sym, subst}
 use Rattle.std.specs.List.{All, Contains}
 use Rattle.std.proofs.lemmas.List.Elements.{All-append, All-contains, Contains-append_left, Contains-append_right}
-use Rattle.bl_graph.proofs.Chaining.{all_from}
+use Rattle.bl_graph.proofs.ChainLemmas.{all_from}
 use Rattle.bl_graph.specs.Ranges.{variables}
 use Rattle.bl_transient.proofs.asked.names_under.Goals as goal
 

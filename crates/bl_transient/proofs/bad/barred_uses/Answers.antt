@@ -9,12 +9,12 @@ use Rattle.bl_graph.specs.Graphs.{use_of}
 use Rattle.bl_graph.specs.Names.{numbered, place_of}
 use Rattle.bl_graph.specs.Ranges.{commands}
 use Rattle.bl_graph.specs.declared.facts.Use.{Use}
-use Rattle.bl_graph.proofs.Naming.{few_names, reads_named, sinks_named, writes_named}
-use Rattle.bl_transient.specs.Reaching.{AreFree, firm_loads, firm_reads}
+use Rattle.bl_graph.proofs.NameLemmas.{few_names, reads_named, sinks_named, writes_named}
+use Rattle.bl_transient.specs.Reachability.{AreUnprotected, firm_loads, firm_reads}
 use Rattle.bl_transient.specs.Verdicts.{AreBars, asked_of}
-use Rattle.bl_transient.proofs.Asking.{numbered_asked, numbers_within}
-use Rattle.bl_transient.proofs.Barring.{are_bars}
-use Rattle.bl_transient.proofs.Named.{one_write, writes_within}
+use Rattle.bl_transient.proofs.AskedLists.{numbered_asked, numbers_within}
+use Rattle.bl_transient.proofs.BarredUses.{are_bars}
+use Rattle.bl_transient.proofs.NamedSearch.{one_write, writes_within}
 use Rattle.bl_transient.proofs.bad.barred_uses.Goals as goal
 
 pub numbered-requires-clause-has : goal.numbered-requires-clause-has
@@ -65,8 +65,8 @@ returns c =
     let written : List (Option ℕ) = c.in_ok-written.written.items in
     let firm : List Bool = c.in_ok-firm.firm.items in
     let again : (List Use → List Use) = map (numbered names) in
-    let free : AreFree (again c.args.graph.now.writes) set written =
-    subst (λ l. AreFree l set written) (c.deref.ensures.value ∙ c.in_ok-writes.ensures ∙ ap again c.as_slice.ensures) c.in_ok-written.ensures in
+    let free : AreUnprotected (again c.args.graph.now.writes) set written =
+    subst (λ l. AreUnprotected l set written) (c.deref.ensures.value ∙ c.in_ok-writes.ensures ∙ ap again c.as_slice.ensures) c.in_ok-written.ensures in
     let numbers : c.deref-2.result.now ≡ map (place_of names) c.args.asked.now.firm =
     c.deref-2.ensures.value ∙ c.in_ok-numbers.ensures ∙ ap (map (place_of names)) c.as_slice-4.ensures in
     let marks : (i : ℕ) → IsTrue (is_in firm i) ↔ Contains (map (place_of names) c.args.asked.now.firm) i =

@@ -2,11 +2,11 @@ use Rattle.std.proofs.Common.{◌≡◌, ◌<◌, ◌∙◌, Some, None, ap, sym
 use Rattle.std.specs.FinSet as fin
 use Rattle.std.specs.List.{All}
 use Rattle.std.proofs.lemmas.Option.{slice_get_within}
-use Rattle.bl_graph.proofs.Chaining.{all_from}
-use Rattle.bl_transient.specs.Reaching.{FirstSink}
+use Rattle.bl_graph.proofs.ChainLemmas.{all_from}
+use Rattle.bl_transient.specs.Reachability.{FirstSink}
 use Rattle.bl_transient.specs.Verdicts.{asked_of}
-use Rattle.bl_transient.proofs.Asking.{asked_in}
-use Rattle.bl_transient.proofs.Barring.{first_bad, none_passes}
+use Rattle.bl_transient.proofs.AskedLists.{asked_in}
+use Rattle.bl_transient.proofs.BarredUses.{first_bad, none_passes}
 use Rattle.bl_transient.proofs.bad.first_bad_of.Goals as goal
 
 pub first_sink-requires : goal.first_sink-requires

@@ -1,5 +1,5 @@
 use Rattle.std.proofs.Common.{◌≡◌, ◌++◌, drop}
-use Rattle.bl_transient.specs.Reaching.{firm_loads}
+use Rattle.bl_transient.specs.Reachability.{firm_loads}
 use Rattle.bl_transient.proofs.bad.push_loads.Given as goal
 
 abbrev pub invariant-loop-load : goal.invariant-loop-load

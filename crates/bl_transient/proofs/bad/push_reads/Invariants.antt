@@ -1,5 +1,5 @@
 use Rattle.std.proofs.Common.{◌≡◌, ◌++◌, drop}
-use Rattle.bl_transient.specs.Reaching.{firm_reads}
+use Rattle.bl_transient.specs.Reachability.{firm_reads}
 use Rattle.bl_transient.proofs.bad.push_reads.Given as goal
 
 abbrev pub invariant-loop-read : goal.invariant-loop-read

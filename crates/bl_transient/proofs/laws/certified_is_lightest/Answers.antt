@@ -1,5 +1,5 @@
-use Rattle.bl_graph.proofs.Chaining.{none_lighter}
-use Rattle.bl_transient.proofs.Meeting.{chain_met}
+use Rattle.bl_graph.proofs.ChainLemmas.{none_lighter}
+use Rattle.bl_transient.proofs.ChainsMet.{chain_met}
 use Rattle.bl_transient.proofs.laws.certified_is_lightest.Goals as goal
 
 pub returns : goal.returns

@@ -1,4 +1,4 @@
-use Rattle.bl_transient.proofs.Meeting.{chain_met, passes_where_met}
+use Rattle.bl_transient.proofs.ChainsMet.{chain_met, passes_where_met}
 use Rattle.bl_transient.proofs.laws.passing_by_chains.Goals as goal
 
 pub returns : goal.returns

@@ -1,5 +1,5 @@
 use Rattle.bl_transient.specs.Transient.{nothing}
-use Rattle.bl_transient.proofs.Typings.{passing_sinks, passes_if}
+use Rattle.bl_transient.proofs.LeastTypings.{passing_sinks, passes_if}
 use Rattle.bl_transient.proofs.laws.passing_by_sinks.Goals as goal
 
 pub returns : goal.returns

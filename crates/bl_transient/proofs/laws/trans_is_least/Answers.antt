@@ -1,5 +1,5 @@
 use Rattle.bl_transient.specs.Transient.{nothing}
-use Rattle.bl_transient.proofs.Typings.{least_typing, least_assigns, typing_trans, is_trans, trans_least}
+use Rattle.bl_transient.proofs.LeastTypings.{least_typing, least_assigns, typing_trans, is_trans, trans_least}
 use Rattle.bl_transient.proofs.laws.trans_is_least.Goals as goal
 
 pub returns-clause-keeps : goal.returns-clause-keeps

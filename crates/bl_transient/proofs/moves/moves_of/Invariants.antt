@@ -1,5 +1,5 @@
 use Rattle.std.proofs.Common.{◌≡◌, ◌++◌, drop}
-use Rattle.bl_transient.specs.Reaching.{moves_from}
+use Rattle.bl_transient.specs.Reachability.{moves_from}
 use Rattle.bl_transient.proofs.moves.moves_of.Given as goal
 
 abbrev pub invariant-loop-read : goal.invariant-loop-read

@@ -1,5 +1,5 @@
 use Rattle.std.proofs.Common.{◌≡◌, ◌++◌, drop}
-use Rattle.bl_transient.specs.Reaching.{roots_from}
+use Rattle.bl_transient.specs.Reachability.{roots_from}
 use Rattle.bl_transient.proofs.moves.roots_of.Given as goal
 
 abbrev pub invariant-loop-load : goal.invariant-loop-load

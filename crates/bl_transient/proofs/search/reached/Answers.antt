@@ -4,8 +4,8 @@ use Rattle.std.proofs.lemmas.List.Elements.{Contains-get_or}
 use Rattle.std.specs.List.{Contains, slice_index_or}
 use Rattle.bl_base.proofs.Lists.{marked_within}
 use Rattle.bl_graph.specs.Arcs.{row_at, rows_in}
-use Rattle.bl_transient.specs.Reaching.{IsVisited}
-use Rattle.bl_transient.proofs.Marks.{given_back, search_begins, search_next, search_ends}
+use Rattle.bl_transient.specs.Reachability.{IsVisited}
+use Rattle.bl_transient.proofs.SearchMarks.{given_back, search_begins, search_next, search_ends}
 use Rattle.bl_transient.proofs.search.reached.Goals as goal
 
 pub loop-next-init : goal.loop-next-init

@@ -1,6 +1,6 @@
 use Rattle.std.proofs.Common.{◌≡◌, ◌<◌, ◌+◌, ◌++◌, ◌∷◌, [], ℕ, length, slice_index, take, arith}
 use Rattle.std.proofs.lemmas.List.{take_more}
-use Rattle.bl_transient.proofs.Marks.{visited_yes, visited_no}
+use Rattle.bl_transient.proofs.SearchMarks.{visited_yes, visited_no}
 use Rattle.bl_transient.proofs.search.visit.Goals as goal
 use Rattle.bl_transient.proofs.search.visit.Goals.{then-not-marks-node+in_ok-push, else-not-marks-node}
 

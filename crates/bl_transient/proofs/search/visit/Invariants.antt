@@ -1,5 +1,5 @@
 use Rattle.std.proofs.Common.{take}
-use Rattle.bl_transient.specs.Reaching.{IsVisited}
+use Rattle.bl_transient.specs.Reachability.{IsVisited}
 use Rattle.bl_transient.proofs.search.visit.Given as goal
 
 abbrev pub invariant-loop-node : goal.invariant-loop-node

@@ -1,15 +1,14 @@
-use Rattle.std.proofs.Common.{◌≡◌, ◌<◌, ◌∙◌, Some, None, ap, map, sym, subst, length}
-use Rattle.std.proofs.Common.{ℕ, slice_get}
+use Rattle.std.proofs.Common.{◌≡◌, ◌<◌, ◌∙◌, Some, None, ap, map, sym, subst, length, ℕ, slice_get}
 use Rattle.std.specs.Prelude.{IsTrue, ◌↔◌}
 use Rattle.std.specs.FinSet as fin
 use Rattle.std.specs.List.{All, Contains}
 use Rattle.bl_graph.specs.Names.{numbered}
-use Rattle.bl_graph.proofs.Naming.{sinks_named}
-use Rattle.bl_transient.specs.Reaching.{FirstSink}
+use Rattle.bl_graph.proofs.NameLemmas.{sinks_named}
+use Rattle.bl_transient.specs.Reachability.{FirstSink}
 use Rattle.bl_graph.specs.Arcs.{is_in}
 use Rattle.bl_transient.specs.Transient.{TransUnder}
 use Rattle.bl_transient.specs.Verdicts.{asked_of}
-use Rattle.bl_transient.proofs.Named.{sinks_within, first_leak, no_leak}
+use Rattle.bl_transient.proofs.NamedSearch.{sinks_within, first_leak, no_leak}
 use Rattle.bl_transient.proofs.transient.first_leak_of.Goals as goal
 
 pub numbered-requires-clause-has : goal.numbered-requires-clause-has

@@ -3,8 +3,8 @@ use Rattle.std.specs.List.{slice_index_or}
 use Rattle.std.proofs.lemmas.List.{take_more, take_all}
 use Rattle.bl_graph.specs.Graphs.{use_of}
 use Rattle.bl_graph.specs.declared.facts.Use.{Use}
-use Rattle.bl_transient.specs.Reaching.{FirstSink}
-use Rattle.bl_transient.proofs.Firsts.{first_yes, first_no}
+use Rattle.bl_transient.specs.Reachability.{FirstSink}
+use Rattle.bl_transient.proofs.FirstSinks.{first_yes, first_no}
 use Rattle.bl_transient.proofs.transient.first_sink.Goals as goal
 use Rattle.bl_transient.proofs.transient.first_sink.Goals.{then-marks-sink, else-marks-sink}
 

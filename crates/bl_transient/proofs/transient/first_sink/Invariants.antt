@@ -1,5 +1,5 @@
 use Rattle.std.proofs.Common.{take}
-use Rattle.bl_transient.specs.Reaching.{FirstSink}
+use Rattle.bl_transient.specs.Reachability.{FirstSink}
 use Rattle.bl_transient.proofs.transient.first_sink.Given as goal
 
 abbrev pub invariant-loop-sink : goal.invariant-loop-sink

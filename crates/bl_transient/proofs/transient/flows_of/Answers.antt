@@ -1,8 +1,8 @@
 use Rattle.std.proofs.Common.{◌<◌, ◌∙◌, Some, None, ap, sym, subst, length}
 use Rattle.std.specs.FinSet as fin
 use Rattle.std.specs.List.{All}
-use Rattle.bl_transient.specs.Reaching.{FirstSink, flow_type}
-use Rattle.bl_transient.proofs.Judging.{sinks_within, least_typing, first_trans}
+use Rattle.bl_transient.specs.Reachability.{FirstSink, flow_type}
+use Rattle.bl_transient.proofs.TransientTypings.{sinks_within, least_typing, first_trans}
 use Rattle.bl_transient.proofs.transient.flows_of.Goals as goal
 
 pub first_sink-requires : goal.first_sink-requires

@@ -5,15 +5,15 @@ use Rattle.std.specs.List.{All, Contains}
 use Rattle.bl_cmd.specs.declared.definitions.ProgramParts.{ProgramParts}
 use Rattle.bl_graph.specs.Graphs.{use_of}
 use Rattle.bl_graph.specs.Ranges.{commands}
-use Rattle.bl_graph.proofs.Naming.{few_names, reads_named, writes_named}
+use Rattle.bl_graph.proofs.NameLemmas.{few_names, reads_named, writes_named}
 use Rattle.bl_graph.specs.Arcs.{RowsOf, is_in, row_at, rows_in}
 use Rattle.bl_graph.specs.declared.arcs.Arc.{Arc}
 use Rattle.bl_graph.specs.declared.facts.Use.{Use}
 use Rattle.bl_graph.specs.Names.{numbered, place_of}
-use Rattle.bl_transient.specs.Reaching.{AreFree, Reached, moves_from, roots_from}
+use Rattle.bl_transient.specs.Reachability.{AreUnprotected, Reached, moves_from, roots_from}
 use Rattle.bl_transient.specs.Verdicts.{asked_of}
-use Rattle.bl_transient.proofs.Asking.{asked_back, asked_there}
-use Rattle.bl_transient.proofs.Named.{writes_within, one_write, moves_within, rows_within, roots_within, marks_are}
+use Rattle.bl_transient.proofs.AskedLists.{asked_back, asked_there}
+use Rattle.bl_transient.proofs.NamedSearch.{writes_within, one_write, moves_within, rows_within, roots_within, marks_are}
 use Rattle.bl_transient.proofs.transient.named_transients.Goals as goal
 
 pub numbered-requires-clause-has : goal.numbered-requires-clause-has
@@ -47,8 +47,8 @@ rows_of-requires c =
     let set : ℕ → Bool = fin.contains c.args.protects.now in
     let written : List (Option ℕ) = c.in_ok-written.written.items in
     let again : (List Use → List Use) = map (numbered c.args.names.now) in
-    let free : AreFree (again c.args.graph.now.writes) set written =
-    subst (λ l. AreFree l set written) (c.deref.ensures.value ∙ c.in_ok-writes.ensures ∙ ap again c.as_slice.ensures) c.in_ok-written.ensures in
+    let free : AreUnprotected (again c.args.graph.now.writes) set written =
+    subst (λ l. AreUnprotected l set written) (c.deref.ensures.value ∙ c.in_ok-writes.ensures ∙ ap again c.as_slice.ensures) c.in_ok-written.ensures in
     let moves : c.deref-6.result.now ≡ moves_from written (again c.args.graph.now.reads) =
     c.deref-6.ensures.value ∙ c.in_ok-moves.ensures ∙ ap (λ w. moves_from w c.deref-4.result.now) c.deref-5.ensures.value
     ∙ ap (moves_from written) (c.deref-4.ensures.value ∙ c.in_ok-reads.ensures ∙ ap again c.as_slice-2.ensures) in
@@ -60,8 +60,8 @@ reached-requires-clause-within c =
     let set : ℕ → Bool = fin.contains c.args.protects.now in
     let written : List (Option ℕ) = c.in_ok-written.written.items in
     let again : (List Use → List Use) = map (numbered c.args.names.now) in
-    let free : AreFree (again c.args.graph.now.writes) set written =
-    subst (λ l. AreFree l set written) (c.deref.ensures.value ∙ c.in_ok-writes.ensures ∙ ap again c.as_slice.ensures) c.in_ok-written.ensures in
+    let free : AreUnprotected (again c.args.graph.now.writes) set written =
+    subst (λ l. AreUnprotected l set written) (c.deref.ensures.value ∙ c.in_ok-writes.ensures ∙ ap again c.as_slice.ensures) c.in_ok-written.ensures in
     let moves : c.deref-6.result.now ≡ moves_from written (again c.args.graph.now.reads) =
     c.deref-6.ensures.value ∙ c.in_ok-moves.ensures ∙ ap (λ w. moves_from w c.deref-4.result.now) c.deref-5.ensures.value
     ∙ ap (moves_from written) (c.deref-4.ensures.value ∙ c.in_ok-reads.ensures ∙ ap again c.as_slice-2.ensures) in
@@ -76,8 +76,8 @@ reached-requires-clause-roots_in c =
     let set : ℕ → Bool = fin.contains c.args.protects.now in
     let written : List (Option ℕ) = c.in_ok-written.written.items in
     let again : (List Use → List Use) = map (numbered c.args.names.now) in
-    let free : AreFree (again c.args.graph.now.writes) set written =
-    subst (λ l. AreFree l set written) (c.deref.ensures.value ∙ c.in_ok-writes.ensures ∙ ap again c.as_slice.ensures) c.in_ok-written.ensures in
+    let free : AreUnprotected (again c.args.graph.now.writes) set written =
+    subst (λ l. AreUnprotected l set written) (c.deref.ensures.value ∙ c.in_ok-writes.ensures ∙ ap again c.as_slice.ensures) c.in_ok-written.ensures in
     let places = ap length c.deref-7.ensures.value ∙ c.in_ok-rows.ensures.places ∙ c.len.ensures in
     let hots : List ℕ = map (place_of c.args.names.now) c.args.asked.now.hot in
     let roots : c.deref-8.result.now ≡ hots ++ roots_from written c.args.graph.now.loads =
@@ -94,8 +94,8 @@ returns-clause-exact c =
     let set : ℕ → Bool = fin.contains c.args.protects.now in
     let written : List (Option ℕ) = c.in_ok-written.written.items in
     let again : (List Use → List Use) = map (numbered c.args.names.now) in
-    let free : AreFree (again c.args.graph.now.writes) set written =
-    subst (λ l. AreFree l set written) (c.deref.ensures.value ∙ c.in_ok-writes.ensures ∙ ap again c.as_slice.ensures) c.in_ok-written.ensures in
+    let free : AreUnprotected (again c.args.graph.now.writes) set written =
+    subst (λ l. AreUnprotected l set written) (c.deref.ensures.value ∙ c.in_ok-writes.ensures ∙ ap again c.as_slice.ensures) c.in_ok-written.ensures in
     let moves : c.deref-6.result.now ≡ moves_from written (again c.args.graph.now.reads) =
     c.deref-6.ensures.value ∙ c.in_ok-moves.ensures ∙ ap (λ w. moves_from w c.deref-4.result.now) c.deref-5.ensures.value
     ∙ ap (moves_from written) (c.deref-4.ensures.value ∙ c.in_ok-reads.ensures ∙ ap again c.as_slice-2.ensures) in

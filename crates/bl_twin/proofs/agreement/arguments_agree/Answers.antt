@@ -1,6 +1,6 @@
 use Rattle.std.proofs.Common.{◌∙◌, refl, sym, arith}
 use Rattle.std.proofs.lemmas.Bool.{false≢true}
-use Rattle.bl_twin.proofs.Public.{below_none, below_step, below_all, agree_there, item_at}
+use Rattle.bl_twin.proofs.PublicLists.{below_none, below_step, below_all, agree_there, item_at}
 use Rattle.bl_twin.proofs.agreement.arguments_agree.Goals as goal
 
 pub loop-i-init : goal.loop-i-init

@@ -1,4 +1,4 @@
-use Rattle.bl_twin.proofs.Public.{AgreeBelow}
+use Rattle.bl_twin.proofs.PublicLists.{AgreeBelow}
 use Rattle.bl_twin.proofs.agreement.arguments_agree.Given as goal
 
 abbrev pub invariant-loop-i : goal.invariant-loop-i

@@ -1,7 +1,7 @@
 use Rattle.std.proofs.Common.{◌∙◌, map, refl, sym, arith}
 use Rattle.std.proofs.lemmas.Bool.{false≢true}
 use Rattle.bl_base.specs.Runs.{memory_of}
-use Rattle.bl_twin.proofs.Public.{below_none, below_step, below_all, agree_there, item_at, image_at}
+use Rattle.bl_twin.proofs.PublicLists.{below_none, below_step, below_all, agree_there, item_at, image_at}
 use Rattle.bl_twin.proofs.agreement.memories_agree.Goals as goal
 
 pub loop-i-init : goal.loop-i-init

@@ -1,6 +1,6 @@
 use Rattle.std.proofs.Common.{◌≡◌, ◌∙◌, sym, subst, take}
-use Rattle.bl_twin.specs.Comparing.{common_by}
-use Rattle.bl_twin.proofs.Counting.{front_none, front_next, front_ends, front_first, front_second, front_taken}
+use Rattle.bl_twin.specs.TwinComparisons.{common_by}
+use Rattle.bl_twin.proofs.PrefixLengths.{front_none, front_next, front_ends, front_first, front_second, front_taken}
 use Rattle.bl_twin.proofs.comparison.common_front.Goals as goal
 
 pub loop-count-init : goal.loop-count-init

@@ -1,5 +1,5 @@
 use Rattle.std.proofs.Common.{length, ◌-◌}
-use Rattle.bl_twin.proofs.Counting.{IsFront}
+use Rattle.bl_twin.proofs.PrefixLengths.{IsFront}
 use Rattle.bl_twin.proofs.comparison.common_front.Given as goal
 
 abbrev pub invariant-loop-count : goal.invariant-loop-count

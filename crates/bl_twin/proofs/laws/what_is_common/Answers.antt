@@ -1,6 +1,6 @@
-use Rattle.bl_twin.specs.Comparing.{is_same}
-use Rattle.bl_twin.specs.Laws.{observations_decided}
-use Rattle.bl_twin.proofs.Fronts.{is_longest}
+use Rattle.bl_twin.specs.TwinComparisons.{is_same}
+use Rattle.bl_twin.specs.SameObservations.{observations_decided}
+use Rattle.bl_twin.proofs.CommonPrefixes.{is_longest}
 use Rattle.bl_twin.proofs.laws.what_is_common.Goals as goal
 
 pub returns : goal.returns

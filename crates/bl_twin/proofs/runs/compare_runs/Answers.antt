@@ -1,8 +1,8 @@
 use Rattle.bl_rob.specs.CallResults.{seen_in}
 use Rattle.bl_rob.specs.Machines.{directive_step}
 use Rattle.bl_trace.specs.Observations.{observation_text}
-use Rattle.bl_twin.specs.Comparing.{is_same}
-use Rattle.bl_twin.proofs.SideBySide.{side_by_side}
+use Rattle.bl_twin.specs.TwinComparisons.{is_same}
+use Rattle.bl_twin.proofs.TwinRuns.{side_by_side}
 use Rattle.bl_twin.proofs.runs.compare_runs.Goals as goal
 
 pub returns : goal.returns

@@ -1,5 +1,5 @@
 use Rattle.bl_rob.specs.CallResults.{seen_in, shown}
-use Rattle.bl_rob.proofs.Observing.{observed_so}
+use Rattle.bl_rob.proofs.ObservationLemmas.{observed_so}
 use Rattle.bl_twin.proofs.runs.seen_from.Goals as goal
 
 pub returns : goal.returns

@@ -1,4 +1,4 @@
-use Rattle.bl_wasm.proofs.LeadingLemmas.{typing_nests}
+use Rattle.bl_wasm.proofs.LeadsLemmas.{typing_nests}
 use Rattle.bl_wasm.proofs.laws.a_typed_body_nests.Goals as goal
 
 pub returns : goal.returns

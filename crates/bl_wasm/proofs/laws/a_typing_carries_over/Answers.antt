@@ -1,4 +1,4 @@
-use Rattle.bl_wasm.proofs.RenamingLemmas.{carries, carries_whole}
+use Rattle.bl_wasm.proofs.IndexMapLemmas.{carries, carries_whole}
 use Rattle.bl_wasm.proofs.laws.a_typing_carries_over.Goals as goal
 
 pub returns : goal.returns

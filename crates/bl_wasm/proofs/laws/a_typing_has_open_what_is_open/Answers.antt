@@ -1,4 +1,4 @@
-use Rattle.bl_wasm.proofs.LeadingLemmas.{open_at_place}
+use Rattle.bl_wasm.proofs.LeadsLemmas.{open_at_place}
 use Rattle.bl_wasm.proofs.laws.a_typing_has_open_what_is_open.Goals as goal
 
 pub returns : goal.returns

@@ -1,5 +1,5 @@
 use Rattle.std.proofs.Common.{[]}
-use Rattle.bl_wasm.proofs.NestingLemmas.{closes, nests, through, from_through}
+use Rattle.bl_wasm.proofs.OpenConstructLemmas.{closes, nests, through, from_through}
 use Rattle.bl_wasm.proofs.laws.nesting_is_closing.Goals as goal
 
 pub returns : goal.returns

@@ -2,7 +2,7 @@ use Rattle.std.proofs.Common.{None, Some, subst}
 use Rattle.std.specs.List.{Contains}
 use Rattle.std.proofs.lemmas.Bool.{false≢true}
 use Rattle.bl_graph.specs.Graphs.{use_of}
-use Rattle.bl_witness.specs.Lookups.{IsWritten}
+use Rattle.bl_witness.specs.LookupAnswers.{IsWritten}
 use Rattle.bl_witness.proofs.chains.is_linked.Goals as goal
 
 pub returns-in-Some : goal.returns-in-Some

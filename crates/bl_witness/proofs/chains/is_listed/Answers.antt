@@ -1,6 +1,6 @@
 use Rattle.std.proofs.Common.{◌∙◌, sym}
 use Rattle.std.proofs.lemmas.Bool.{false≢true}
-use Rattle.bl_witness.proofs.Places.{listed_none, listed_one}
+use Rattle.bl_witness.proofs.UsePlaces.{listed_none, listed_one}
 use Rattle.bl_witness.proofs.chains.is_listed.Goals as goal
 
 pub returns-in-Some : goal.returns-in-Some

@@ -1,6 +1,6 @@
 use Rattle.std.proofs.Common.{◌∙◌, sym}
 use Rattle.std.proofs.lemmas.Bool.{false≢true}
-use Rattle.bl_witness.proofs.Links.{leads_end, leads_next}
+use Rattle.bl_witness.proofs.ChainLinks.{leads_end, leads_next}
 use Rattle.bl_witness.proofs.chains.leads.Goals as goal
 
 pub returns-then-not-is_linked : goal.returns-then-not-is_linked

@@ -1,7 +1,7 @@
 use Rattle.std.proofs.Common.{drop, map}
 use Rattle.std.specs.Prelude.{◌↔◌}
 use Rattle.bl_base.specs.declared.number.Pos.{Pos}
-use Rattle.bl_witness.specs.Lookups.{LeadsToSink}
+use Rattle.bl_witness.specs.LookupAnswers.{LeadsToSink}
 use Rattle.bl_witness.proofs.chains.leads.Given as goal
 
 abbrev pub invariant-loop-site : goal.invariant-loop-site

@@ -2,8 +2,8 @@ use Rattle.std.proofs.Common.{◌<◌, ◌+◌, ◌-◌, ◌/◌, ◌∙◌, len
 use Rattle.std.specs.List.{AllPairs}
 use Rattle.std.proofs.lemmas.Bool.{false≢true}
 use Rattle.bl_graph.specs.Graphs.{Precedes}
-use Rattle.bl_witness.specs.Lookups.{IsPlaceOf}
-use Rattle.bl_witness.proofs.Places.{before_more, behind_more}
+use Rattle.bl_witness.specs.LookupAnswers.{IsPlaceOf}
+use Rattle.bl_witness.proofs.UsePlaces.{before_more, behind_more}
 use Rattle.bl_witness.proofs.chains.place_of.Goals as goal
 
 pub returns-clause-place : goal.returns-clause-place

@@ -1,5 +1,5 @@
 use Rattle.std.proofs.Common.{◌∙◌, sym}
-use Rattle.bl_witness.proofs.Places.{written_none, written_other}
+use Rattle.bl_witness.proofs.UsePlaces.{written_none, written_other}
 use Rattle.bl_witness.proofs.chains.written_at.Goals as goal
 
 pub returns-in-Some-2 : goal.returns-in-Some-2

@@ -1,4 +1,4 @@
-use Rattle.bl_witness.proofs.Firsts.{broken, broken_once}
+use Rattle.bl_witness.proofs.CertificateVerdicts.{broken, broken_once}
 use Rattle.bl_witness.proofs.laws.one_verdict.Goals as goal
 
 pub returns-clause-broken : goal.returns-clause-broken

@@ -1,7 +1,7 @@
 use Rattle.std.proofs.Common.{◌≡◌}
 use Rattle.serde_json.specs.View.{items_view}
 use Rattle.bl_witness.specs.Shapes.{each_item, path_of}
-use Rattle.bl_witness.proofs.Items.{joined}
+use Rattle.bl_witness.proofs.ArrayItems.{joined}
 use Rattle.bl_witness.proofs.read.paths.Given as goal
 
 abbrev pub invariant-loop-value : goal.invariant-loop-value

@@ -1,5 +1,5 @@
 use Rattle.std.proofs.lemmas.Result.{IfOk-weaker}
-use Rattle.bl_witness.proofs.Judging.{meant}
+use Rattle.bl_witness.proofs.VerdictParts.{meant}
 use Rattle.bl_witness.proofs.verdict.check_certificate_of.Goals as goal
 
 pub returns-clause-least : goal.returns-clause-least

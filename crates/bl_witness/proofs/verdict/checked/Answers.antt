@@ -2,8 +2,8 @@ use Rattle.std.proofs.Common.{◌≡◌, ◌-◌, ◌^◌, ◌∙◌, ap, min, N
 use Rattle.bl_cmd.specs.declared.definitions.ProgramParts.{ProgramParts as Program}
 use Rattle.bl_graph.specs.Certificates.{flow_of}
 use Rattle.bl_graph.specs.declared.certificate.Certificate.{Certificate}
-use Rattle.bl_witness.specs.Lookups.{JudgesLoads, JudgesPaths}
-use Rattle.bl_witness.proofs.Judging.{are_paths, breaks_flow, breaks_path, breaks_position, breaks_weight, capped_of, keeps, places_of}
+use Rattle.bl_witness.specs.LookupAnswers.{JudgesLoads, JudgesPaths}
+use Rattle.bl_witness.proofs.VerdictParts.{are_paths, breaks_flow, breaks_path, breaks_position, breaks_weight, capped_of, keeps, places_of}
 use Rattle.bl_witness.proofs.verdict.checked.Goals as goal
 use Rattle.bl_witness.proofs.verdict.checked.Goals.{then-flow-protect_weight-via-then-flow-protect_weight, then-flow-protect_weight-via-else-flow-protect_weight+then-flow-certificate}
 

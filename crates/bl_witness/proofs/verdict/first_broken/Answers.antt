@@ -6,7 +6,7 @@ use Rattle.std.proofs.lemmas.Option.{slice_get-get_or}
 use Rattle.bl_cmd.specs.Sites.{is_protected}
 use Rattle.bl_graph.specs.Certificates.{IsFlowPath}
 use Rattle.bl_graph.specs.declared.certificate.FlowPath.{FlowPath}
-use Rattle.bl_witness.specs.Lookups.{JudgesPath}
+use Rattle.bl_witness.specs.LookupAnswers.{JudgesPath}
 use Rattle.bl_witness.proofs.verdict.first_broken.Goals as goal
 
 pub returns-in-Some : goal.returns-in-Some

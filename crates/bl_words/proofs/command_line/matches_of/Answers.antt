@@ -1,6 +1,6 @@
 use Rattle.std.proofs.Common.{◌∙◌, ap, sym, map, string_bytes}
 use Rattle.clap.specs.Words.{fault_of, is_simple, is_simple_and_free, subcommand_of}
-use Rattle.bl_words.proofs.Tops.{blade_is_free, blade_is_simple, not_among}
+use Rattle.bl_words.proofs.CallWords.{blade_is_free, blade_is_simple, not_among}
 use Rattle.bl_words.proofs.command_line.matches_of.Goals as goal
 
 pub returns-in-Ok-try_get_matches_from-clause-taken : goal.returns-in-Ok-try_get_matches_from-clause-taken

@@ -1,5 +1,5 @@
 use Rattle.std.proofs.Common.{ap, arith, length}
-use Rattle.bl_cmd.proofs.Tabled.{place_within, reads_at}
+use Rattle.bl_cmd.proofs.TableLemmas.{place_within, reads_at}
 use Rattle.bl_cmd.specs.declared.command.Command.{Command}
 use Rattle.bl_cmd.proofs.place.Place.before.Goals as goal
 

@@ -1,5 +1,5 @@
 use Rattle.std.proofs.Common.{ap, arith, length, Option}
-use Rattle.bl_cmd.proofs.Tabled.{place_within, reads_at}
+use Rattle.bl_cmd.proofs.TableLemmas.{place_within, reads_at}
 use Rattle.bl_cmd.specs.declared.tables.Entrants.{Entrants}
 use Rattle.bl_cmd.proofs.place.Place.entrants_of.Goals as goal
 

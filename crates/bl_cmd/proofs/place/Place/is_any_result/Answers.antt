@@ -1,4 +1,4 @@
-use Rattle.bl_cmd.proofs.Tabled.{owner_result, no_result}
+use Rattle.bl_cmd.proofs.TableLemmas.{owner_result, no_result}
 use Rattle.bl_cmd.proofs.place.Place.is_any_result.Goals as goal
 
 pub returns-in-Some : goal.returns-in-Some

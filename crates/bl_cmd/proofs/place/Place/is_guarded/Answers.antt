@@ -1,6 +1,6 @@
 use Rattle.std.proofs.Common.{◌∙◌, ap, refl, Some, eq-eqb}
 use Rattle.std.proofs.lemmas.Bool.{eqb-true}
-use Rattle.bl_cmd.proofs.Tabled.{guarded_is, unentered_is}
+use Rattle.bl_cmd.proofs.TableLemmas.{guarded_is, unentered_is}
 use Rattle.bl_cmd.proofs.place.Place.is_guarded.Goals as goal
 
 pub returns-then-entrants-before : goal.returns-then-entrants-before

@@ -1,5 +1,5 @@
 use Rattle.std.proofs.Common.{arith}
-use Rattle.bl_cmd.proofs.Tabled.{place_within}
+use Rattle.bl_cmd.proofs.TableLemmas.{place_within}
 use Rattle.bl_cmd.proofs.place.Place.is_last.Goals as goal
 
 pub overflow_add-result : goal.overflow_add-result

@@ -1,4 +1,4 @@
-use Rattle.bl_cmd.proofs.Tabled.{passed_is, none_test}
+use Rattle.bl_cmd.proofs.TableLemmas.{passed_is, none_test}
 use Rattle.bl_cmd.proofs.place.Place.is_passed.Goals as goal
 
 pub returns : goal.returns

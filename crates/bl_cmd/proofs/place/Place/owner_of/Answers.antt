@@ -1,4 +1,4 @@
-use Rattle.bl_cmd.proofs.Tabled.{owner_is}
+use Rattle.bl_cmd.proofs.TableLemmas.{owner_is}
 use Rattle.bl_cmd.proofs.place.Place.owner_of.Goals as goal
 
 pub returns : goal.returns

@@ -1,4 +1,4 @@
-use Rattle.bl_cmd.proofs.Tabled.{reads_variable, reads_constant}
+use Rattle.bl_cmd.proofs.TableLemmas.{reads_variable, reads_constant}
 use Rattle.bl_cmd.proofs.place.Place.reads.Goals as goal
 
 pub returns-in-Var : goal.returns-in-Var

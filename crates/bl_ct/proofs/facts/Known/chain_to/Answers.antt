@@ -5,8 +5,8 @@ use Rattle.bl_ct.specs.declared.search.Step.{Step}
 use Rattle.bl_ct.specs.declared.search.Cause.TheVariants as cause_
 use Rattle.bl_graph.specs.declared.secret.Origin.TheVariants.{Memory}
 use Rattle.bl_graph.specs.SecretChains.{IsChainFrom}
-use Rattle.bl_ct.specs.Finding.{Has, LeadsOn}
-use Rattle.bl_ct.proofs.Leading.{back, back_moved, back_loaded, back_declared}
+use Rattle.bl_ct.specs.SecretSearch.{Has, LeadsOn}
+use Rattle.bl_ct.proofs.ReadBackChains.{back, back_moved, back_loaded, back_declared}
 use Rattle.bl_ct.proofs.facts.Known.chain_to.Goals as goal
 
 pub loop-place-init : goal.loop-place-init

@@ -1,6 +1,6 @@
 use Rattle.bl_ct.specs.declared.search.Step.{Step}
-use Rattle.bl_ct.specs.Finding.{Has, LeadsOn}
-use Rattle.bl_ct.proofs.Leading.{back}
+use Rattle.bl_ct.specs.SecretSearch.{Has, LeadsOn}
+use Rattle.bl_ct.proofs.ReadBackChains.{back}
 use Rattle.bl_ct.proofs.facts.Known.chain_to.Given as goal
 
 abbrev pub invariant-loop-place : goal.invariant-loop-place

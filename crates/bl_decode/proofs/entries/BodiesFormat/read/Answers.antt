@@ -4,13 +4,12 @@ use Rattle.bl_wasm.specs.Values.{vec}
 use Rattle.bl_wasm.specs.Instructions.{expression}
 use Rattle.bl_wasm.specs.Sections.{local_run, function_code}
 use Rattle.bl_wasm.specs.declared.module.LocalRun.{LocalRun}
-use Rattle.bl_code.specs.Reading.{IsAt}
-use Rattle.bl_code.proofs.Places.{one_at}
+use Rattle.bl_code.specs.ReaderAnswers.{IsAt}
+use Rattle.bl_code.proofs.Places.{one_at, passes, err_along}
 use Rattle.bl_code.proofs.Unique.{vec_prefix_free}
-use Rattle.bl_code.proofs.Nesting.{expression_prefix_free}
+use Rattle.bl_code.proofs.ExpressionLemmas.{expression_prefix_free}
 use Rattle.bl_decode.specs.Laws.{seq_prefix_free, local_run_prefix_free}
 use Rattle.bl_wasm.specs.declared.module.Code.{Code}
-use Rattle.bl_code.proofs.Places.{passes, err_along}
 use Rattle.bl_decode.proofs.entries.BodiesFormat.read.Goals as goal
 
 pub returns-in_err-locals : goal.returns-in_err-locals

@@ -1,5 +1,5 @@
 use Rattle.std.proofs.Common.{ℕ, subst, rules}
-use Rattle.bl_code.specs.Reading.{IsAt}
+use Rattle.bl_code.specs.ReaderAnswers.{IsAt}
 use Rattle.bl_leb.specs.Grammar.{byte}
 use Rattle.bl_wasm.specs.Values.{u32}
 use Rattle.bl_wasm.specs.Types.{limits, table_type, global_type}

@@ -1,6 +1,6 @@
 use Rattle.std.proofs.Common.{arith, ◌≡◌, ◌-◌, ◌^◌, ◌<◌, length, slice_index, sym, ap, ◌∙◌}
 use Rattle.std.proofs.lemmas.List.{get_or_default}
-use Rattle.bl_flow.proofs.Halves.{seen_count, seen_through, seen_behind, seen_back}
+use Rattle.bl_flow.proofs.HalfCapacities.{seen_count, seen_through, seen_behind, seen_back}
 use Rattle.bl_flow.proofs.capacities.Capacities.at.Goals as goal
 
 pub index-requires : goal.index-requires

@@ -1,5 +1,5 @@
 use Rattle.std.proofs.Common.{arith, ◌≡◌, ◌+◌, ◌-◌, length, slice_index, sym, ap, ◌∙◌}
-use Rattle.bl_flow.proofs.Halves.{seen_count, seen_back}
+use Rattle.bl_flow.proofs.HalfCapacities.{seen_count, seen_back}
 use Rattle.bl_flow.proofs.capacities.Capacities.into_carried.Goals as goal
 
 pub returns-clause-places : goal.returns-clause-places

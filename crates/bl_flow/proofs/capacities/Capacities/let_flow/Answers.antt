@@ -1,6 +1,6 @@
 use Rattle.std.proofs.Common.{arith, ◌≡◌, ◌+◌, ◌-◌, ◌^◌, ◌≤◌, length, slice_index, refl, sym, ap, ◌∙◌, inl, inr}
 use Rattle.std.proofs.lemmas.List.{get_or_default}
-use Rattle.bl_flow.proofs.Halves.{seen_count, seen_through, seen_behind, seen_back, through_forth, behind_forth, through_back, behind_back, still_carried}
+use Rattle.bl_flow.proofs.HalfCapacities.{seen_count, seen_through, seen_behind, seen_back, through_forth, behind_forth, through_back, behind_back, still_carried}
 use Rattle.bl_flow.proofs.capacities.Capacities.let_flow.Goals as goal
 use Rattle.bl_flow.proofs.capacities.Capacities.let_flow.Goals.{Else-link-len, Else-forth-len}
 

@@ -1,7 +1,7 @@
 use Rattle.std.proofs.Common.{rules, arith, ◌≡◌, ◌^◌, None, length, slice_get, unwrap_or, replicate, ap, ◌∙◌}
 use Rattle.bl_flow.specs.declared.network.Network.{Network}
 use Rattle.bl_flow.specs.Networks.{size}
-use Rattle.bl_flow.proofs.Halves.{begins}
+use Rattle.bl_flow.proofs.HalfCapacities.{begins}
 use Rattle.bl_flow.proofs.capacities.Capacities.of.Goals as goal
 
 pub returns : goal.returns

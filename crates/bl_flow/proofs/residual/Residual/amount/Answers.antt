@@ -1,5 +1,5 @@
 use Rattle.std.proofs.Common.{sym}
-use Rattle.bl_flow.proofs.Advancing.{packed_lawful}
+use Rattle.bl_flow.proofs.EndLevels.{packed_lawful}
 use Rattle.bl_flow.proofs.residual.Residual.amount.Goals as goal
 
 pub returns-clause-lawful : goal.returns-clause-lawful

@@ -1,7 +1,7 @@
 use Rattle.std.proofs.Common.{arith, length, ap}
 use Rattle.bl_flow.specs.Split.{links_behind}
-use Rattle.bl_flow.proofs.Behind.{behind_count}
-use Rattle.bl_flow.proofs.BothWays.{both_count}
+use Rattle.bl_flow.proofs.NodeLinks.{behind_count}
+use Rattle.bl_flow.proofs.ReverseLinks.{both_count}
 use Rattle.bl_flow.proofs.split.Links.link.Goals as goal
 
 pub link_behind-requires-clause-within : goal.link_behind-requires-clause-within

@@ -2,8 +2,8 @@ use Rattle.std.proofs.Common.{◌∙◌, ap, refl, sym}
 use Rattle.bl_rob.specs.CallResults.{shown}
 use Rattle.bl_rob.specs.Robs.{RobView}
 use Rattle.bl_rob.specs.declared.directive.Directive.TheVariants.{Exec, Retire}
-use Rattle.bl_forward.specs.Calls.{is_enabled}
-use Rattle.bl_forward.proofs.Turning.{plain_enabled}
+use Rattle.bl_forward.specs.ForwardCalls.{is_enabled}
+use Rattle.bl_forward.proofs.TurnLemmas.{plain_enabled}
 use Rattle.bl_forward.proofs.fwd.Fwd.enabled.Goals as goal
 
 pub returns-in-Exec : goal.returns-in-Exec

@@ -2,10 +2,10 @@ use Rattle.std.proofs.Common.{subst}
 use Rattle.bl_rob.specs.CallResults.{NeedsMemory, shown}
 use Rattle.bl_rob.specs.Robs.{RobView}
 use Rattle.bl_rob.specs.declared.directive.Directive.TheVariants.{Exec}
-use Rattle.bl_rob.proofs.Reaching.{steps_reach}
-use Rattle.bl_forward.specs.Calls.{ForwardSteps}
-use Rattle.bl_forward.specs.Forwarding.{forward_step}
-use Rattle.bl_forward.proofs.Turning.{forward_fits}
+use Rattle.bl_rob.proofs.ReachabilityLemmas.{steps_reach}
+use Rattle.bl_forward.specs.ForwardCalls.{ForwardSteps}
+use Rattle.bl_forward.specs.ForwardMachines.{forward_step}
+use Rattle.bl_forward.proofs.TurnLemmas.{forward_fits}
 use Rattle.bl_forward.proofs.fwd.Fwd.exec.Goals as goal
 
 pub invariant_of-self : goal.invariant_of-self

@@ -2,12 +2,12 @@ use Rattle.std.proofs.Common.{◌≡◌, ◌+◌, ◌∙◌, get_or, refl, subst
 use Rattle.std.specs.Prelude.{Err}
 use Rattle.bl_cmd.specs.declared.definitions.ProgramParts.{ProgramParts}
 use Rattle.bl_rob.specs.CallResults.{shown}
-use Rattle.bl_rob.specs.Observed.{ObservesBy}
+use Rattle.bl_rob.specs.Observations.{ObservesBy}
 use Rattle.bl_rob.specs.declared.directive.Directive.TheVariants.{Fetch}
 use Rattle.bl_rob.specs.declared.directive.StepError.{StepError}
-use Rattle.bl_forward.specs.Calls.{ForwardSteps}
-use Rattle.bl_forward.specs.Forwarding.{forward_step}
-use Rattle.bl_rob.proofs.Observing.{SoFar, one_more, refused_here, whole}
+use Rattle.bl_forward.specs.ForwardCalls.{ForwardSteps}
+use Rattle.bl_forward.specs.ForwardMachines.{forward_step}
+use Rattle.bl_rob.proofs.ObservationLemmas.{SoFar, one_more, refused_here, whole}
 use Rattle.bl_forward.proofs.fwd.Fwd.observe.Goals as goal
 
 pub loop-i-preserved : goal.loop-i-preserved

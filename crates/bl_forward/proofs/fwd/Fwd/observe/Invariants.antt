@@ -1,7 +1,7 @@
 use Rattle.std.proofs.Common.{◌≡◌}
 use Rattle.bl_rob.specs.CallResults.{shown}
-use Rattle.bl_forward.specs.Forwarding.{forward_step}
-use Rattle.bl_rob.proofs.Observing.{SoFar}
+use Rattle.bl_forward.specs.ForwardMachines.{forward_step}
+use Rattle.bl_rob.proofs.ObservationLemmas.{SoFar}
 use Rattle.bl_forward.proofs.fwd.Fwd.observe.Given as goal
 
 abbrev pub invariant-loop-i : goal.invariant-loop-i

@@ -1,6 +1,6 @@
 use Rattle.std.proofs.Common.{sym, ap, ◌∙◌}
 use Rattle.bl_graph.specs.Names.{kept_in}
-use Rattle.bl_graph.proofs.Naming.{own_place, own_here}
+use Rattle.bl_graph.proofs.NameLemmas.{own_place, own_here}
 use Rattle.bl_graph.proofs.names.Names.number_of.Goals as goal
 
 pub returns-in-All-clause-is : goal.returns-in-All-clause-is

@@ -1,7 +1,7 @@
 use Rattle.std.proofs.Common.{sym, ap, ◌∙◌, subst}
 use Rattle.std.specs.List.{All, Contains}
 use Rattle.bl_graph.specs.Names.{kept_in}
-use Rattle.bl_graph.proofs.Naming.{own_uses}
+use Rattle.bl_graph.proofs.NameLemmas.{own_uses}
 use Rattle.bl_graph.proofs.names.Names.numbered.Goals as goal
 
 pub numbered_among-requires-clause-has : goal.numbered_among-requires-clause-has

@@ -1,7 +1,7 @@
 use Rattle.std.proofs.Common.{◌<◌, length, Some, slice_get, sym, ap, ◌∙◌, subst}
 use Rattle.std.proofs.lemmas.Option.{slice_get-get_or}
 use Rattle.bl_graph.specs.Names.{kept_in}
-use Rattle.bl_graph.proofs.Naming.{own_at}
+use Rattle.bl_graph.proofs.NameLemmas.{own_at}
 use Rattle.bl_graph.proofs.names.Names.variable.Goals as goal
 
 pub returns-in-All : goal.returns-in-All

@@ -1,6 +1,6 @@
 use Rattle.std.proofs.Common.{◌≡◌, ◌++◌, map, take}
-use Rattle.bl_iface.specs.Joining.{renamed}
-use Rattle.bl_iface.specs.Numbering.{numbers_by}
+use Rattle.bl_iface.specs.JoinedProgram.{renamed}
+use Rattle.bl_iface.specs.PartNumbers.{numbers_by}
 use Rattle.bl_iface.proofs.numbers.Numbers.push.Given as goal
 
 abbrev pub invariant-loop-command : goal.invariant-loop-command

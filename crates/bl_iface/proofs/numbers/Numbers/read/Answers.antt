@@ -1,6 +1,6 @@
 use Rattle.std.proofs.Common.{sym, ◌∙◌}
-use Rattle.bl_iface.specs.Numbering.{goal_in}
-use Rattle.bl_iface.proofs.Linking.{no_owner, own_at, read_plain}
+use Rattle.bl_iface.specs.PartNumbers.{goal_in}
+use Rattle.bl_iface.proofs.TableReads.{no_owner, own_at, read_plain}
 use Rattle.bl_iface.proofs.numbers.Numbers.read.Goals as goal
 
 pub returns-in-None : goal.returns-in-None

@@ -1,6 +1,6 @@
 use Rattle.std.proofs.Common.{ap, ◌∙◌, arith}
-use Rattle.bl_iface.specs.Joining.{moved_var}
-use Rattle.bl_iface.proofs.Linking.{result_place, result_small}
+use Rattle.bl_iface.specs.JoinedProgram.{moved_var}
+use Rattle.bl_iface.proofs.TableReads.{result_place, result_small}
 use Rattle.bl_iface.proofs.numbers.Numbers.result_of.Goals as goal
 
 pub overflow_cast-params : goal.overflow_cast-params

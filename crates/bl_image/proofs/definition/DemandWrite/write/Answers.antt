@@ -1,4 +1,4 @@
-use Rattle.bl_image.proofs.Adds.{seq}
+use Rattle.bl_image.proofs.WriterLemmas.{seq}
 use Rattle.bl_image.proofs.definition.DemandWrite.write.Goals as goal
 
 pub returns-in_ok-write-in-Result : goal.returns-in_ok-write-in-Result

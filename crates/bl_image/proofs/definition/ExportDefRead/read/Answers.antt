@@ -2,7 +2,7 @@ use Rattle.std.proofs.Common.{drop, refl, ℕ, List}
 use Rattle.bl_leb.specs.Grammar.{Spellings}
 use Rattle.bl_cmd.specs.declared.definitions.ExportDef.{ExportDef}
 use Rattle.bl_image.specs.Image.{export}
-use Rattle.bl_image.proofs.Begins.{passes, none_via, begins_from}
+use Rattle.bl_image.proofs.ReaderLemmas.{passes, none_via, begins_from}
 use Rattle.bl_image.proofs.definition.ExportDefRead.read.Goals as goal
 
 -- the parts, one after another

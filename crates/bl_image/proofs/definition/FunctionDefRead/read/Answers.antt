@@ -4,7 +4,7 @@ use Rattle.bl_base.specs.declared.names.ValueType.{ValueType}
 use Rattle.bl_cmd.specs.declared.definitions.ParamDef.{ParamDef}
 use Rattle.bl_cmd.specs.declared.definitions.FunctionDef.{FunctionDef}
 use Rattle.bl_image.specs.Image.{function}
-use Rattle.bl_image.proofs.Begins.{passes, none_via, begins_from}
+use Rattle.bl_image.proofs.ReaderLemmas.{passes, none_via, begins_from}
 use Rattle.bl_image.proofs.definition.FunctionDefRead.read.Goals as goal
 
 -- the parts, one after another

@@ -1,4 +1,4 @@
-use Rattle.bl_image.proofs.Adds.{seq}
+use Rattle.bl_image.proofs.WriterLemmas.{seq}
 use Rattle.bl_image.proofs.definition.FunctionDefWrite.write.Goals as goal
 
 pub returns : goal.returns

@@ -4,7 +4,7 @@ use Rattle.bl_base.specs.declared.names.ValueType.{ValueType}
 use Rattle.bl_base.specs.declared.names.Label.{Label}
 use Rattle.bl_cmd.specs.declared.definitions.GlobalDef.{GlobalDef}
 use Rattle.bl_image.specs.Image.{global}
-use Rattle.bl_image.proofs.Begins.{fails, none_via, begins_from}
+use Rattle.bl_image.proofs.ReaderLemmas.{fails, none_via, begins_from}
 use Rattle.bl_image.proofs.definition.GlobalDefFind.find.Goals as goal
 
 -- the parts, one after another

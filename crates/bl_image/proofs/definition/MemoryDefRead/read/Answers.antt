@@ -4,7 +4,7 @@ use Rattle.bl_cmd.specs.declared.definitions.MemoryDef.{MemoryDef}
 use Rattle.bl_image.specs.declared.rising.Rows.{Rows}
 use Rattle.bl_leb.specs.Grammar.{Spellings}
 use Rattle.bl_image.specs.Image.{memory}
-use Rattle.bl_image.proofs.Begins.{passes, none_via, begins_from}
+use Rattle.bl_image.proofs.ReaderLemmas.{passes, none_via, begins_from}
 use Rattle.bl_image.proofs.definition.MemoryDefRead.read.Goals as goal
 
 -- the parts, one after another

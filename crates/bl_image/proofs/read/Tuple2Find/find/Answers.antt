@@ -1,5 +1,5 @@
 use Rattle.std.proofs.Common.{drop}
-use Rattle.bl_image.proofs.Begins.{begins_both}
+use Rattle.bl_image.proofs.ReaderLemmas.{begins_both}
 use Rattle.bl_image.proofs.read.Tuple2Find.find.Goals as goal
 
 pub returns : goal.returns

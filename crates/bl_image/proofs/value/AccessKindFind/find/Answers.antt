@@ -2,7 +2,7 @@ use Rattle.std.proofs.Common.{drop}
 use Rattle.bl_ops.specs.Access.{access_code}
 use Rattle.bl_image.specs.Image.{access}
 use Rattle.bl_leb.specs.Grammar.{byte}
-use Rattle.bl_image.proofs.Begins.{fails, none_via}
+use Rattle.bl_image.proofs.ReaderLemmas.{fails, none_via}
 use Rattle.bl_image.proofs.value.AccessKindFind.find.Goals as goal
 
 pub returns-in_err-code : goal.returns-in_err-code

@@ -1,7 +1,7 @@
 use Rattle.std.proofs.Common.{drop}
 use Rattle.bl_image.specs.Image.{label, label_code}
 use Rattle.bl_leb.specs.Grammar.{byte}
-use Rattle.bl_image.proofs.Begins.{fails, none_via}
+use Rattle.bl_image.proofs.ReaderLemmas.{fails, none_via}
 use Rattle.bl_image.proofs.value.LabelFind.find.Goals as goal
 
 pub returns-in_err-code : goal.returns-in_err-code

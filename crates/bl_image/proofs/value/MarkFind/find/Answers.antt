@@ -1,8 +1,7 @@
-use Rattle.std.proofs.Common.{drop}
-use Rattle.std.proofs.Common.{◌+◌, if◌then◌else◌}
+use Rattle.std.proofs.Common.{drop, ◌+◌, if◌then◌else◌}
 use Rattle.bl_image.specs.Image.{mark}
 use Rattle.bl_leb.specs.Grammar.{byte}
-use Rattle.bl_image.proofs.Begins.{fails, none_via}
+use Rattle.bl_image.proofs.ReaderLemmas.{fails, none_via}
 use Rattle.bl_image.proofs.value.MarkFind.find.Goals as goal
 
 pub returns-in_err-code : goal.returns-in_err-code

@@ -3,8 +3,8 @@ use Rattle.bl_cmd.specs.declared.command.Operand.TheVariants.{Var, Const}
 use Rattle.bl_leb.specs.Grammar.{byte}
 use Rattle.bl_image.specs.Grammar.{u32, u64}
 use Rattle.bl_image.specs.Image.{operand, operand_code, operand_fields}
-use Rattle.bl_image.proofs.Begins.{fails, none_head, begins_coded}
-use Rattle.bl_image.proofs.Cases.{is_var, is_const}
+use Rattle.bl_image.proofs.ReaderLemmas.{fails, none_head, begins_coded}
+use Rattle.bl_image.proofs.CodeCases.{is_var, is_const}
 use Rattle.bl_image.proofs.value.OperandFind.find.Goals as goal
 
 pub returns-in_err-code : goal.returns-in_err-code

@@ -1,4 +1,4 @@
-use Rattle.bl_labels.proofs.Holding.{numbers_none}
+use Rattle.bl_labels.proofs.LabelSetLemmas.{numbers_none}
 use Rattle.bl_labels.proofs.named.Indices.none.Goals as goal
 
 pub invariant_of-result : goal.invariant_of-result

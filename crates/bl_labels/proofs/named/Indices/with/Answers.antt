@@ -1,4 +1,4 @@
-use Rattle.bl_labels.proofs.Holding.{numbers_with}
+use Rattle.bl_labels.proofs.LabelSetLemmas.{numbers_with}
 use Rattle.bl_labels.proofs.named.Indices.with.Goals as goal
 
 pub invariant_of-result : goal.invariant_of-result

@@ -1,4 +1,4 @@
-use Rattle.bl_labels.proofs.Holding.{places_none}
+use Rattle.bl_labels.proofs.LabelSetLemmas.{places_none}
 use Rattle.bl_labels.proofs.named.Places.none.Goals as goal
 
 pub invariant_of-result : goal.invariant_of-result

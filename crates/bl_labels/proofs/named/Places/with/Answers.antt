@@ -1,4 +1,4 @@
-use Rattle.bl_labels.proofs.Holding.{places_with}
+use Rattle.bl_labels.proofs.LabelSetLemmas.{places_with}
 use Rattle.bl_labels.proofs.named.Places.with.Goals as goal
 
 pub invariant_of-result : goal.invariant_of-result

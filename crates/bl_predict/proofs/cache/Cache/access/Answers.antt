@@ -2,7 +2,7 @@ use Rattle.std.proofs.Common.{◌≡◌, ◌<◌, ℕ, ◌%◌, ◌/◌, [], len
 use Rattle.std.proofs.lemmas.List.{get_or-map, length-set, map-set}
 use Rattle.lru.specs.LruCache.{LruCache}
 use Rattle.bl_predict.specs.Lines.{IsSet, accessed, lines_of}
-use Rattle.bl_predict.proofs.Cached.{all_set, on_ok, still, lines_back}
+use Rattle.bl_predict.proofs.CacheLemmas.{all_set, on_ok, still, lines_back}
 use Rattle.bl_predict.proofs.cache.Cache.access.Goals as goal
 
 pub invariant_of-self : goal.invariant_of-self

@@ -1,5 +1,5 @@
 use Rattle.bl_seq.specs.Machines.{shown as shown_plain}
-use Rattle.bl_rob.proofs.Beginning.{begun}
+use Rattle.bl_rob.proofs.InitialMachine.{begun}
 use Rattle.bl_rob.proofs.machine.Machine.begin.Goals as goal
 
 pub returns : goal.returns

@@ -1,7 +1,7 @@
 use Rattle.std.proofs.Common.{◌∙◌}
 use Rattle.std.specs.Vec.{vec_len}
 use Rattle.bl_rob.specs.CallResults.{shown}
-use Rattle.bl_rob.proofs.Stepping.{dropped}
+use Rattle.bl_rob.proofs.StepLemmas.{dropped}
 use Rattle.bl_rob.proofs.machine.Machine.fetch.Goals as goal
 
 pub returns-in-Err : goal.returns-in-Err

@@ -1,7 +1,7 @@
 use Rattle.std.proofs.Common.{◌∙◌, true, false, Some, ap, sym}
 use Rattle.bl_rob.specs.CallResults.{shown}
 use Rattle.bl_rob.specs.Machines.{source_of}
-use Rattle.bl_rob.proofs.Stepping.{guessed}
+use Rattle.bl_rob.proofs.StepLemmas.{guessed}
 use Rattle.bl_rob.proofs.machine.Machine.predict.Goals as goal
 
 pub returns-then-predicted : goal.returns-then-predicted

@@ -1,6 +1,6 @@
 use Rattle.std.proofs.Common.{refl}
 use Rattle.bl_rob.specs.CallResults.{shown}
-use Rattle.bl_rob.proofs.Stepping.{put_at}
+use Rattle.bl_rob.proofs.StepLemmas.{put_at}
 use Rattle.bl_rob.proofs.machine.Machine.replace.Goals as goal
 
 pub returns : goal.returns

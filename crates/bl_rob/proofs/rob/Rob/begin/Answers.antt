@@ -2,8 +2,8 @@ use Rattle.std.proofs.Common.{◌≡◌, ◌∙◌, ap, subst, sym}
 use Rattle.bl_cmd.specs.Outcomes.{IsStart}
 use Rattle.bl_rob.specs.CallResults.{shown}
 use Rattle.bl_rob.specs.Machines.{directive_step, opening}
-use Rattle.bl_rob.proofs.Beginning.{begun_fits}
-use Rattle.bl_rob.proofs.Reaching.{opened}
+use Rattle.bl_rob.proofs.InitialMachine.{begun_fits}
+use Rattle.bl_rob.proofs.ReachabilityLemmas.{opened}
 use Rattle.bl_rob.proofs.rob.Rob.begin.Goals as goal
 
 pub invariant_of-result : goal.invariant_of-result

@@ -3,8 +3,8 @@ use Rattle.bl_rob.specs.CallResults.{Executes, NeedsMemory, shown}
 use Rattle.bl_rob.specs.Machines.{directive_step}
 use Rattle.bl_rob.specs.Robs.{RobView}
 use Rattle.bl_rob.specs.declared.directive.Directive.TheVariants.{Exec}
-use Rattle.bl_rob.proofs.Reaching.{steps_reach}
-use Rattle.bl_rob.proofs.Rooms.{executes, steps_fit}
+use Rattle.bl_rob.proofs.ReachabilityLemmas.{steps_reach}
+use Rattle.bl_rob.proofs.BufferRoom.{executes, steps_fit}
 use Rattle.bl_rob.proofs.rob.Rob.exec.Goals as goal
 
 pub invariant_of-self : goal.invariant_of-self

@@ -1,8 +1,8 @@
 use Rattle.bl_rob.specs.CallResults.{NeedsMemory, shown}
 use Rattle.bl_rob.specs.Machines.{directive_step}
 use Rattle.bl_rob.specs.declared.directive.Directive.TheVariants.{Fetch}
-use Rattle.bl_rob.proofs.Reaching.{steps_reach}
-use Rattle.bl_rob.proofs.Rooms.{steps_fit}
+use Rattle.bl_rob.proofs.ReachabilityLemmas.{steps_reach}
+use Rattle.bl_rob.proofs.BufferRoom.{steps_fit}
 use Rattle.bl_rob.proofs.rob.Rob.fetch.Goals as goal
 
 pub invariant_of-self : goal.invariant_of-self

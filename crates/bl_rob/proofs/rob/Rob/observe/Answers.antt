@@ -3,10 +3,10 @@ use Rattle.std.specs.Prelude.{Err}
 use Rattle.bl_cmd.specs.declared.definitions.ProgramParts.{ProgramParts}
 use Rattle.bl_rob.specs.CallResults.{Steps, shown}
 use Rattle.bl_rob.specs.Machines.{directive_step}
-use Rattle.bl_rob.specs.Observed.{Observes}
+use Rattle.bl_rob.specs.Observations.{Observes}
 use Rattle.bl_rob.specs.declared.directive.Directive.TheVariants.{Fetch}
 use Rattle.bl_rob.specs.declared.directive.StepError.{StepError}
-use Rattle.bl_rob.proofs.Observing.{SoFar, one_more, refused_here, whole}
+use Rattle.bl_rob.proofs.ObservationLemmas.{SoFar, one_more, refused_here, whole}
 use Rattle.bl_rob.proofs.rob.Rob.observe.Goals as goal
 
 pub loop-i-preserved : goal.loop-i-preserved

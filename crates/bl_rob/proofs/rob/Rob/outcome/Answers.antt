@@ -1,6 +1,6 @@
 use Rattle.bl_rob.specs.CallResults.{shown}
 use Rattle.bl_rob.specs.Machines.{directive_step}
-use Rattle.bl_rob.proofs.Reaching.{steps_keep, whole_memories}
+use Rattle.bl_rob.proofs.ReachabilityLemmas.{steps_keep, whole_memories}
 use Rattle.bl_rob.proofs.rob.Rob.outcome.Goals as goal
 
 pub outcome-requires-clause-whole : goal.outcome-requires-clause-whole

@@ -3,8 +3,8 @@ use Rattle.bl_rob.specs.CallResults.{NeedsMemory, Steps, shown}
 use Rattle.bl_rob.specs.Machines.{directive_step}
 use Rattle.bl_rob.specs.Robs.{RobView}
 use Rattle.bl_rob.specs.declared.directive.Directive.TheVariants.{Retire}
-use Rattle.bl_rob.proofs.Reaching.{steps_reach}
-use Rattle.bl_rob.proofs.Rooms.{steps_fit}
+use Rattle.bl_rob.proofs.ReachabilityLemmas.{steps_reach}
+use Rattle.bl_rob.proofs.BufferRoom.{steps_fit}
 use Rattle.bl_rob.proofs.rob.Rob.retire.Goals as goal
 
 pub invariant_of-self : goal.invariant_of-self

@@ -1,5 +1,5 @@
 use Rattle.std.proofs.Common.{◌≡◌, ◌-◌, ◌∙◌, ap, min, length, arith}
-use Rattle.bl_seq.proofs.Laying.{base_is, bases_count, small_base}
+use Rattle.bl_seq.proofs.LayoutLemmas.{base_is, bases_count, small_base}
 use Rattle.bl_seq.proofs.layout.Layout.base.Goals as goal
 
 pub returns-clause-place : goal.returns-clause-place

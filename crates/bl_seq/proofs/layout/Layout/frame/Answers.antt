@@ -1,5 +1,5 @@
 use Rattle.std.proofs.Common.{◌≡◌, ◌-◌, ◌∙◌, ap, min, length, arith}
-use Rattle.bl_seq.proofs.Laying.{frame_is, frames_count, small_frame}
+use Rattle.bl_seq.proofs.LayoutLemmas.{frame_is, frames_count, small_frame}
 use Rattle.bl_seq.proofs.layout.Layout.frame.Goals as goal
 
 pub returns-clause-is : goal.returns-clause-is

@@ -1,5 +1,5 @@
 use Rattle.std.proofs.Common.{◌∙◌, arith}
-use Rattle.bl_seq.proofs.Laying.{owner_is, owner_past}
+use Rattle.bl_seq.proofs.LayoutLemmas.{owner_is, owner_past}
 use Rattle.bl_seq.proofs.layout.Layout.running.Goals as goal
 
 pub returns-then-position-len : goal.returns-then-position-len

@@ -1,5 +1,5 @@
 use Rattle.std.proofs.Common.{◌++◌, ◌∙◌, [], ap, get_or, replicate}
-use Rattle.bl_seq.proofs.Filling.{with_blanks}
+use Rattle.bl_seq.proofs.RegisterWrites.{with_blanks}
 use Rattle.bl_seq.proofs.registers.Branch.reach.Goals as goal
 
 pub returns-in_err-push : goal.returns-in_err-push

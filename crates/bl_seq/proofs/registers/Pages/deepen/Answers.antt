@@ -1,6 +1,6 @@
 use Rattle.std.proofs.Common.{◌++◌, ◌∙◌, ap, get_or, replicate}
-use Rattle.bl_seq.specs.Filled.{bare}
-use Rattle.bl_seq.proofs.Filling.{with_blanks}
+use Rattle.bl_seq.specs.RegisterTrees.{bare}
+use Rattle.bl_seq.proofs.RegisterWrites.{with_blanks}
 use Rattle.bl_seq.proofs.registers.Pages.deepen.Goals as goal
 
 pub returns-in_err-push-clause-same : goal.returns-in_err-push-clause-same

@@ -1,5 +1,5 @@
 use Rattle.std.proofs.Common.{◌≡◌, ◌++◌, replicate}
-use Rattle.bl_seq.specs.Filled.{bare}
+use Rattle.bl_seq.specs.RegisterTrees.{bare}
 use Rattle.bl_seq.proofs.registers.Pages.deepen.Given as goal
 
 abbrev pub invariant-loop : goal.invariant-loop

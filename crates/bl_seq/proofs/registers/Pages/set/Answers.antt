@@ -1,5 +1,5 @@
 use Rattle.std.proofs.Common.{arith}
-use Rattle.bl_seq.proofs.Filling.{set_pages}
+use Rattle.bl_seq.proofs.RegisterWrites.{set_pages}
 use Rattle.bl_seq.proofs.registers.Pages.set.Goals as goal
 
 pub returns-then-depth-len : goal.returns-then-depth-len

@@ -1,6 +1,6 @@
 use Rattle.std.proofs.Common.{◌<◌, length, subst, sym}
-use Rattle.bl_seq.specs.Filled.{Deepens}
-use Rattle.bl_seq.proofs.Filling.{keep_pages, write_pages}
+use Rattle.bl_seq.specs.RegisterTrees.{Deepens}
+use Rattle.bl_seq.proofs.RegisterWrites.{keep_pages, write_pages}
 use Rattle.bl_seq.proofs.registers.Pages.write.Goals as goal
 
 pub returns-clause-ok : goal.returns-clause-ok

@@ -1,7 +1,7 @@
 use Rattle.std.proofs.Common.{◌∙◌, ap, sym}
 use Rattle.std.specs.Prelude.{unwrap_or}
-use Rattle.bl_seq.specs.Filled.{number_at, register_at}
-use Rattle.bl_seq.proofs.Windowed.{found_number}
+use Rattle.bl_seq.specs.RegisterTrees.{number_at, register_at}
+use Rattle.bl_seq.proofs.WindowLemmas.{found_number}
 use Rattle.bl_seq.proofs.registers.Registers.at.Goals as goal
 
 pub returns-in-None : goal.returns-in-None

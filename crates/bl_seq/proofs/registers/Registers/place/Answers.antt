@@ -1,8 +1,8 @@
 use Rattle.std.proofs.Common.{◌≡◌, ℕ, subst}
 use Rattle.bl_cmd.specs.Steps.{written}
-use Rattle.bl_seq.specs.Filled.{register_at}
+use Rattle.bl_seq.specs.RegisterTrees.{register_at}
 use Rattle.bl_seq.specs.Windows.{MaySet, Sets, seen}
-use Rattle.bl_seq.proofs.Windowed.{held_set, kept, placed}
+use Rattle.bl_seq.proofs.WindowLemmas.{held_set, kept, placed}
 use Rattle.bl_seq.proofs.registers.Registers.place.Goals as goal
 
 pub returns-then-set-clause-ok : goal.returns-then-set-clause-ok

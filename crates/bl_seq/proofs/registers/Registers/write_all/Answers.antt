@@ -1,7 +1,7 @@
 use Rattle.std.proofs.Common.{◌+◌, arith, ◌∙◌, refl, ap, sym}
 use Rattle.std.proofs.lemmas.List.{at_drop_all}
-use Rattle.bl_seq.specs.Filled.{filled, register_at}
-use Rattle.bl_seq.proofs.Filling.{fill_next}
+use Rattle.bl_seq.specs.RegisterTrees.{filled, register_at}
+use Rattle.bl_seq.proofs.RegisterWrites.{fill_next}
 use Rattle.bl_seq.proofs.registers.Registers.write_all.Goals as goal
 
 pub loop-i-preserved : goal.loop-i-preserved

@@ -1,5 +1,5 @@
 use Rattle.std.proofs.Common.{◌≡◌, ◌+◌, drop}
-use Rattle.bl_seq.specs.Filled.{filled, register_at}
+use Rattle.bl_seq.specs.RegisterTrees.{filled, register_at}
 use Rattle.bl_seq.proofs.registers.Registers.write_all.Given as goal
 
 abbrev pub invariant-loop-i : goal.invariant-loop-i

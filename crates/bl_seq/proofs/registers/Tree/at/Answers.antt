@@ -1,7 +1,7 @@
 use Rattle.std.proofs.Common.{◌∙◌, ap, sym}
 use Rattle.std.specs.Prelude.{unwrap_or}
 use Rattle.std.proofs.lemmas.Option.{unwrap_or-slice_get}
-use Rattle.bl_seq.specs.Filled.{cell_of, page_in, page_of, stray_at}
+use Rattle.bl_seq.specs.RegisterTrees.{cell_of, page_in, page_of, stray_at}
 use Rattle.bl_seq.proofs.registers.Tree.at.Goals as goal
 
 pub returns-in-None : goal.returns-in-None

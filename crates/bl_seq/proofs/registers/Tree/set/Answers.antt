@@ -1,5 +1,5 @@
 use Rattle.std.proofs.Common.{arith}
-use Rattle.bl_seq.proofs.Filling.{set_tree}
+use Rattle.bl_seq.proofs.RegisterWrites.{set_tree}
 use Rattle.bl_seq.proofs.registers.Tree.set.Goals as goal
 
 pub returns-then-branch-len : goal.returns-then-branch-len

@@ -1,5 +1,5 @@
 use Rattle.std.proofs.Common.{◌∙◌}
-use Rattle.bl_seq.proofs.Filling.{put_stray}
+use Rattle.bl_seq.proofs.RegisterWrites.{put_stray}
 use Rattle.bl_seq.proofs.registers.Tree.write.Goals as goal
 
 pub returns-clause-ok : goal.returns-clause-ok

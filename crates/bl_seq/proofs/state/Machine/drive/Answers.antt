@@ -1,6 +1,6 @@
 use Rattle.std.proofs.Common.{◌∙◌, ap, arith}
 use Rattle.bl_seq.specs.Machines.{next_of, shown}
-use Rattle.bl_seq.proofs.Driving.{goes_on, has_ended, is_stuck}
+use Rattle.bl_seq.proofs.MachineRuns.{goes_on, has_ended, is_stuck}
 use Rattle.bl_seq.proofs.state.Machine.drive.Goals as goal
 
 pub loop-preserved : goal.loop-preserved

@@ -1,4 +1,4 @@
-use Rattle.bl_seq.proofs.Driving.{shown_same}
+use Rattle.bl_seq.proofs.MachineRuns.{shown_same}
 use Rattle.bl_seq.proofs.state.Machine.open_page.Goals as goal
 
 pub returns : goal.returns

@@ -1,0 +1,53 @@
+-- `gen`: its job, and what is said where it is done.
+use Rattle.std.specs.Prelude.{◌≡◌, ℕ, List, [], ◌∷◌, ◌++◌, length, codes}
+use Rattle.std.specs.Fmt.{decimal}
+use Rattle.bl_gen.specs.GeneratedModule.{made}
+use Rattle.bl_outcome.specs.Lines.{line}
+use Rattle.bl_report.specs.Reports.{summary_text}
+use Rattle.bl_words.specs.Requests.{GenRequest}
+use Rattle.bl_build.specs.BuildStages.{Built, compiling}
+use Rattle.bl_build.specs.HardenStage.{AreFewest, Hardened, IsHardened, IsJudged}
+use Rattle.bl_job.specs.Jobs.{Job, Plan, saying}
+use Rattle.bl_build.specs.LoadStages.{Part}
+use Rattle.bl_job.specs.StagedJobs.{Staged, all_read, staged_job}
+use Rattle.bl_job.specs.declared.status.Status.TheVariants.{Done}
+
+-- the bytes of the module that is made
+abbrev pub made_by : GenRequest → List ℕ
+made_by request = made request.seed request.size
+
+-- the module, under its name
+abbrev pub made_part : GenRequest → Part
+made_part request = record { name = codes "gen"; bytes = made_by request }
+
+-- a number of bytes, and the report without its lines on protects
+abbrev pub summary_of : ℕ → Hardened → List ℕ
+summary_of count hardened = line (codes "module " ++ decimal count) ++ summary_text hardened.program hardened.verdict
+
+abbrev pub gen_text : GenRequest → Hardened → List ℕ
+gen_text request hardened = summary_of (length (made_by request)) hardened
+
+-- printing the summary of the module's program, hardened
+pub record GenPlans (request : GenRequest) (built : Built) (plan : Plan) : Type 0 where
+  pub hardened : Hardened
+  pub is_hardened : IsHardened built.program hardened
+  pub is_plan : plan ≡ saying Done (gen_text request hardened)
+
+-- its protects are the fewest, and its verdict is judged
+pub record GenMeans (hardened : Hardened) : Type 0 where
+  pub fewest : AreFewest hardened
+  pub constant_time : IsJudged hardened
+
+-- no file is read; the module that is made is compiled and hardened, and its summary is printed, which is what `harden` prints of its bytes but for
+-- the lines on protects
+abbrev pub gen_staged : GenRequest → Staged Built
+gen_staged request = record {
+  reads = [];
+  keeps = [];
+  reading = all_read compiling (made_part request ∷ []);
+  Plans = GenPlans request;
+  Means = λ contents built plan. (hardened : Hardened) → IsHardened built.program hardened → GenMeans hardened;
+}
+
+abbrev pub gen_job : GenRequest → Job
+gen_job request = staged_job (gen_staged request)

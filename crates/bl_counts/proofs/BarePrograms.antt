@@ -1,0 +1,112 @@
+-- A program without marks and weights runs as it does with them, and has the same sites.
+use Rattle.std.proofs.Common.{◌≡◌, ℕ, zero, suc, Bool, List, [], ◌∷◌, map, Option, Some, None, refl, sym, ap, subst, ◌∙◌}
+use Rattle.std.specs.Prelude.{is_some, option_map, option_and_then}
+use Rattle.std.proofs.Math.Path.{fun_ext}
+use Rattle.std.proofs.lemmas.Option.{slice_get-map}
+use Rattle.bl_base.specs.Runs.{EndsAfter, Next, Outcome}
+use Rattle.bl_base.specs.declared.start.Start.{Start}
+use Rattle.bl_cmd.specs.Layout.{command_at}
+use Rattle.bl_cmd.specs.Outcomes.{opening, plain}
+use Rattle.bl_cmd.specs.Sites.{mark_of}
+use Rattle.bl_cmd.specs.Steps.{Plain, perform, plain_step, ret}
+use Rattle.bl_cmd.specs.declared.command.Mark.{Mark}
+use Rattle.bl_cmd.specs.declared.command.Command.{Command}
+use Rattle.bl_cmd.specs.declared.command.Command.TheVariants.{Set, Load, Store, Test, Jump, Arg, Call, Out, Ret, Trap}
+use Rattle.bl_cmd.specs.declared.definitions.ProgramParts.{ProgramParts as Program}
+use Rattle.bl_cut.specs.Marks.{marked, marked_from, protected}
+use Rattle.bl_counts.specs.RunCounts.{bare, bare_command, counts_from, counts_of, executed, is_site, stepped, times, weighed, with_count}
+use Rattle.bl_counts.specs.declared.counts.SiteCount.{SiteCount}
+
+module _ (program : Program) where
+  performs : (command : Command) (s : Plain) → perform (bare program) (Some (bare_command command)) s ≡ perform program (Some command) s
+  performs Ret s = returns s.chain
+    where
+      returns : (chain : List ℕ) → ret (bare program) chain s ≡ ret program chain s
+      returns [] = refl
+      returns (back ∷ chain) = refl
+  performs _ s = refl
+
+  steps_same : (s : Plain) → plain_step (bare program) s ≡ plain_step program s
+  steps_same s = ap (λ o. perform (bare program) o s) (slice_get-map bare_command program.commands s.position) ∙ by (command_at program s.position)
+    where
+      by : (o : Option Command) → perform (bare program) (option_map bare_command o) s ≡ perform program o s
+      by None = refl
+      by (Some command) = performs command s
+
+  runs_same : (function : ℕ) (start : Start) (steps : ℕ) → executed (bare program) function start steps ≡ executed program function start steps
+  runs_same function start steps =
+      ap (λ (step : Plain → Next Plain). map (λ (s : Plain). s.position) (stepped step steps (opening program function start))) (fun_ext steps_same)
+
+  sites_same : (s : ℕ) → is_site (bare program) s ≡ is_site program s
+  sites_same s = ap (λ o. is_some (option_and_then mark_of o)) (slice_get-map bare_command program.commands s) ∙ by (command_at program s)
+    where
+      by : (o : Option Command) → is_some (option_and_then mark_of (option_map bare_command o)) ≡ is_some (option_and_then mark_of o)
+      by None = refl
+      by (Some (Set mark op to a c d)) = refl
+      by (Some _) = refl
+
+module _ (one other : Program) (same : bare one ≡ bare other) where
+  pub executed_same : (function : ℕ) (start : Start) (steps : ℕ) → executed one function start steps ≡ executed other function start steps
+  executed_same function start steps =
+      sym (runs_same one function start steps) ∙ ap (λ (p : Program). executed p function start steps) same ∙ runs_same other function start steps
+
+  pub is_site_same : (s : ℕ) → is_site one s ≡ is_site other s
+  is_site_same s = sym (sites_same one s) ∙ ap (λ (p : Program). is_site p s) same ∙ sites_same other s
+
+-- ---- counts
+
+-- where the same places have marks, the same sites are counted
+with_mark : (s n : ℕ) (o p : Option Mark) (rest : List SiteCount) → is_some o ≡ is_some p → with_count s n o rest ≡ with_count s n p rest
+with_mark s zero o p rest e = refl
+with_mark s (suc n) None None rest e = refl
+with_mark s (suc n) None (Some q) rest e = cc
+with_mark s (suc n) (Some m) None rest e = cc
+with_mark s (suc n) (Some m) (Some q) rest e = refl
+
+same_mark : (command : Command) → is_some (mark_of (bare_command command)) ≡ is_some (mark_of command)
+same_mark (Set mark op to a c d) = refl
+same_mark _ = refl
+
+without : (count : ℕ → ℕ) (i : ℕ) (commands : List Command) → counts_from count i (map bare_command commands) ≡ counts_from count i commands
+without count i [] = refl
+without count i (command ∷ commands) =
+    ap (with_count i (count i) (mark_of (bare_command command))) (without count (suc i) commands)
+    ∙ with_mark i (count i) (mark_of (bare_command command)) (mark_of command) (counts_from count (suc i) commands) (same_mark command)
+
+-- programs that are equal but for marks and weights are counted alike
+pub counted_alike : (program other : Program) (function : ℕ) (start : Start) (steps : ℕ) → bare other ≡ bare program → counts_of other function start steps ≡ counts_of program function start steps
+counted_alike program other function start steps same =
+    ap (λ (positions : List ℕ). counts_from (times positions) 0 other.commands) (executed_same other program same function start steps)
+    ∙ (sym (without (times (executed program function start steps)) 0 other.commands)
+    ∙ (ap (λ (p : Program). counts_from (times (executed program function start steps)) 0 p.commands) same
+    ∙ without (times (executed program function start steps)) 0 program.commands))
+
+-- ---- weights don't show in a run
+
+module _ (program : Program) (counts : List SiteCount) (function : ℕ) (start : Start) (steps : ℕ) (outcome : Outcome) where
+  steps_alike : plain_step (weighed counts program) ≡ plain_step program
+  steps_alike = fun_ext (λ s. sym (steps_same (weighed counts program) s) ∙ steps_same program s)
+
+  pub runs_unweighed : plain (weighed counts program) function start steps outcome → plain program function start steps outcome
+  runs_unweighed h =
+      let fits = h.start_fits in
+      record { start_fits = record { defined = fits.defined; exists = fits.exists; fits = fits.fits }; run = subst (λ step. EndsAfter step steps (opening program function start) outcome) steps_alike h.run }
+
+  pub runs_weighed : plain program function start steps outcome → plain (weighed counts program) function start steps outcome
+  runs_weighed h =
+      let fits = h.start_fits in
+      record { start_fits = record { defined = fits.defined; exists = fits.exists; fits = fits.fits }; run = subst (λ step. EndsAfter step steps (opening program function start) outcome) (sym steps_alike) h.run }
+
+-- ---- protects are marks
+
+module _ (set : ℕ → Bool) where
+  bare_marked : (b : Bool) (command : Command) → bare_command (marked b command) ≡ bare_command command
+  bare_marked b (Set mark op to a c d) = refl
+  bare_marked b _ = refl
+
+  all_bare : (i : ℕ) (commands : List Command) → map bare_command (marked_from set i commands) ≡ map bare_command commands
+  all_bare i [] = refl
+  all_bare i (command ∷ commands) = λ k. bare_marked (set i) command k ∷ all_bare (suc i) commands k
+
+  pub bare_protected : (program : Program) → bare (protected set program) ≡ bare program
+  bare_protected program = ap (λ (commands : List Command). let made : Program = record program { commands = commands; weights = [] } in made) (all_bare 0 program.commands)

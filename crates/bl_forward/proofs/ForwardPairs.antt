@@ -1,0 +1,213 @@
+-- Two machines that forward stores, under the same directives: each directive keeps them alike, and is observed alike.
+use Rattle.std.proofs.Common.{◌≡◌, ℕ, suc, Bool, true, false, List, take, drop, Option, Some, None, refl, sym, ap, ◌∙◌, subst}
+use Rattle.std.specs.Prelude.{◌&&◌, ◌||◌, nat_eq, if◌then◌else◌, slice_get, IsTrue}
+use Rattle.bl_ops.specs.Access.{narrowed, width_of}
+use Rattle.bl_ops.specs.declared.access.AccessKind.{AccessKind}
+use Rattle.bl_cmd.specs.Programs.{IsProgram}
+use Rattle.bl_cmd.specs.Rules.{IsWellFormed}
+use Rattle.bl_cmd.specs.Sites.{is_protected}
+use Rattle.bl_cmd.specs.Steps.{Plain, effective}
+use Rattle.bl_cmd.specs.declared.definitions.ProgramParts.{ProgramParts as Program}
+use Rattle.bl_graph.specs.Labels.{KeepsLabelRules, ConstantTime}
+use Rattle.bl_transient.specs.Transient.{Flows, Passes}
+use Rattle.bl_rob.specs.Machines.{State, directive_step, is_pending, has_pending, valued}
+use Rattle.bl_rob.specs.declared.directive.Directive.{Directive}
+use Rattle.bl_rob.specs.declared.directive.Directive.TheVariants.{Fetch, Predict, Exec, Retire}
+use Rattle.bl_rob.specs.declared.directive.Observation.{Observation}
+use Rattle.bl_rob.specs.declared.directive.Observation.TheVariants as observed
+use Rattle.bl_rob.specs.declared.entry.Entry.{Entry}
+use Rattle.bl_rob.specs.declared.entry.Register.{Register}
+use Rattle.bl_rob.specs.declared.entry.Work.{Work}
+use Rattle.bl_rob.specs.declared.entry.Work.TheVariants.{Nop, Assign, Load, Held, Done, Store, Ready, Guard, Fail}
+use Rattle.bl_rob.proofs.BufferInvariant.{Kept, Ran, split}
+use Rattle.bl_rob.proofs.PlainTracks.{Tracks, entry_at}
+use Rattle.bl_sct.proofs.StepAgreement.{AgreeIn}
+use Rattle.bl_sct.proofs.Entries.{Same, equal, held, done, ready, SameAll, none, more, AlikeAt, clear_source, same_kinds, same_take, same_drop, same_append, valued_same}
+use Rattle.bl_sct.proofs.Relation.{Rel, Twin, SameGet, no_entry, an_entry, same_get, runs_there, pair_of, clear_in, step_twins}
+use Rattle.bl_sct.proofs.Rules.{Keeps, clear}
+use Rattle.bl_sct.proofs.LockstepLemmas.{Twins}
+use Rattle.bl_sct.proofs.EqualObservations.{equal_by}
+use Rattle.bl_forward.specs.declared.find.Found.{Found}
+use Rattle.bl_forward.specs.declared.find.Found.TheVariants.{Memory, Stored, Blocked}
+use Rattle.bl_forward.specs.ForwardMachines.{meets, supplied, found_from, filled, takes, settled, fills, plainly, exec_work, exec_at, forward_step, HasEqualForwarding}
+use Rattle.bl_forward.specs.declared.seen.Seen.{Seen}
+use Rattle.bl_forward.specs.declared.seen.Seen.TheVariants.{Plain as Shown, Forward}
+use Rattle.bl_forward.proofs.ForwardInvariant.{forward_ok}
+
+-- ---- entries that differ in values alone forward alike
+
+-- both are found in memory, or both in a store, or neither
+abbrev FoundAlike : Found → Found → Type 0
+FoundAlike Memory Memory = Unit {0}
+FoundAlike (Stored v) (Stored w) = Unit {0}
+FoundAlike Blocked Blocked = Unit {0}
+FoundAlike Memory (Stored w) = ⊥
+FoundAlike Memory Blocked = ⊥
+FoundAlike (Stored v) Memory = ⊥
+FoundAlike (Stored v) Blocked = ⊥
+FoundAlike Blocked Memory = ⊥
+FoundAlike Blocked (Stored w) = ⊥
+
+supplies_alike : (b c : Bool) (v w : ℕ) (x y : Found) → FoundAlike x y
+    → FoundAlike (if b then (if c then Stored v else Blocked) else x) (if b then (if c then Stored w else Blocked) else y)
+supplies_alike true true v w x y h = tt
+supplies_alike true false v w x y h = tt
+supplies_alike false c v w x y h = h
+
+module _ (clear : ℕ → Bool) (program : Program) (from width : ℕ) where
+  by_equal : (e : Work) (x y : Found) → FoundAlike x y → FoundAlike (supplied program from width e x) (supplied program from width e y)
+  by_equal Nop x y h = h
+  by_equal (Assign protect op to a b c) x y h = h
+  by_equal (Load protect kind memory to offset address) x y h = h
+  by_equal (Held to value) x y h = h
+  by_equal (Done to value) x y h = h
+  by_equal (Store kind memory offset address value) x y h = h
+  by_equal (Ready kind memory offset address value) x y h =
+      supplies_alike (meets (effective program memory offset address) (width_of kind) from width)
+      (nat_eq (effective program memory offset address) from && nat_eq (width_of kind) width) (narrowed kind value) (narrowed kind value) x y h
+  by_equal (Guard cond predicted other chain) x y h = h
+  by_equal (Fail kind) x y h = h
+
+  by_same : (e f : Work) (x y : Found) → Same clear e f → FoundAlike x y → FoundAlike (supplied program from width e x) (supplied program from width f y)
+  by_same e f x y (equal w) h = by_equal w x y h
+  by_same e f x y (held to v w) h = h
+  by_same e f x y (done to v w k) h = h
+  by_same e f x y (ready kind memory offset address v w) h =
+      supplies_alike (meets (effective program memory offset address) (width_of kind) from width)
+      (nat_eq (effective program memory offset address) from && nat_eq (width_of kind) width) (narrowed kind v) (narrowed kind w) x y h
+
+  found_alike : (es fs : List Entry) (x y : Found) → SameAll clear es fs → FoundAlike x y
+      → FoundAlike (found_from program from width es x) (found_from program from width fs y)
+  found_alike es fs x y none h = h
+  found_alike es fs x y (more p e f gs hs s k m) h = found_alike gs hs (supplied program from width e x) (supplied program from width f y) m (by_same e f x y s h)
+
+same_pending : (clear : ℕ → Bool) (e f : Work) → Same clear e f → is_pending e ≡ is_pending f
+same_pending clear e f (equal w) = refl
+same_pending clear e f (held to v w) = refl
+same_pending clear e f (done to v w k) = refl
+same_pending clear e f (ready kind memory offset address v w) = refl
+
+pending_alike : (clear : ℕ → Bool) (es fs : List Entry) → SameAll clear es fs → has_pending es ≡ has_pending fs
+pending_alike clear es fs none = refl
+pending_alike clear es fs (more p e f gs hs s k m) =
+    ap (λ b. b || has_pending gs) (same_pending clear e f s) ∙ ap (λ b. is_pending f || b) (pending_alike clear gs hs m)
+
+-- ---- loads
+
+plainly_twins : (R : State → State → Type 0) (o p : Option (State × Observation)) → Twin R o p → Twin R (plainly o) (plainly p)
+plainly_twins R None None h = tt
+plainly_twins R (Some a) (Some b) h = (ap Shown h.0, h.1)
+plainly_twins R None (Some b) h = absurd h
+plainly_twins R (Some a) None h = absurd h
+
+module _ (clear : ℕ → Bool) (program : Program) (s t : State) (r : Rel clear s t) (n position : ℕ) (protect : Bool) (kind : AccessKind) (memory : ℕ) (to : Register) (offset : ℕ)
+    (dark : protect ≡ false → IsTrue (clear to.var) → ⊥) where
+  filled_twins : (v w : ℕ) (x y : Seen) → x ≡ y → Twin (Rel clear) (filled s n position protect to v x) (filled t n position protect to w y)
+  filled_twins v w x y e =
+      let h = valued_same clear protect to v w (λ q c. absurd (dark q c)) in (
+        e,
+        record {
+          entries = same_append clear _ _ _ _ (same_take clear n s.buffer t.buffer r.entries)
+              (more position (valued protect to v) (valued protect to w) _ _ h.0 h.1 (same_drop clear (suc n) s.buffer t.buffer r.entries));
+          front = r.front;
+          retired = r.retired;
+        },
+      )
+
+  takes_twins : (from one other : ℕ) (x y : Found) → one ≡ other → FoundAlike x y
+      → Twin (Rel clear) (takes s n position protect kind to from one x) (takes t n position protect kind to from other y)
+  takes_twins from one other Memory Memory e h = filled_twins _ _ _ _ (ap (λ mask. Shown (observed.Read from mask)) e)
+  takes_twins from one other (Stored v) (Stored w) e h = filled_twins _ _ _ _ (ap (λ mask. Forward from mask) e)
+  takes_twins from one other Blocked Blocked e h = tt
+  takes_twins from one other Memory (Stored w) e h = absurd h
+  takes_twins from one other Memory Blocked e h = absurd h
+  takes_twins from one other (Stored v) Memory e h = absurd h
+  takes_twins from one other (Stored v) Blocked e h = absurd h
+  takes_twins from one other Blocked Memory e h = absurd h
+  takes_twins from one other Blocked (Stored w) e h = absurd h
+
+  settled_twins : (from : ℕ) (b c : Bool) → b ≡ c
+      → Twin (Rel clear) (settled program s n position protect kind to from b) (settled program t n position protect kind to from c)
+  settled_twins from true true e = tt
+  settled_twins from false false e =
+      let m = same_take clear n s.buffer t.buffer r.entries in
+      takes_twins from _ _ _ _ (same_kinds clear (take n s.buffer) (take n t.buffer) m).guards_are
+      (found_alike clear program from (width_of kind) (take n s.buffer) (take n t.buffer) Memory Memory m tt)
+  settled_twins from true false e = cc
+  settled_twins from false true e = cc
+
+  fills_twins : (o p : Option ℕ) → AlikeAt true o p
+      → Twin (Rel clear) (fills program s n position protect kind memory to offset o) (fills program t n position protect kind memory to offset p)
+  fills_twins None None h = tt
+  fills_twins (Some x) (Some y) h =
+      subst (λ z. Twin (Rel clear) (fills program s n position protect kind memory to offset (Some x)) (fills program t n position protect kind memory to offset (Some z))) (h refl)
+      (settled_twins (effective program memory offset x) _ _ (pending_alike clear (take n s.buffer) (take n t.buffer) (same_take clear n s.buffer t.buffer r.entries)))
+  fills_twins None (Some y) h = absurd h
+  fills_twins (Some x) None h = absurd h
+
+-- ---- each directive
+
+module _ (program : Program) (facts : IsProgram program) (rules : IsWellFormed program) (typing labelling : ℕ → Bool) (flows : Flows program typing (is_protected program))
+    (ok : KeepsLabelRules program labelling) (from beside : Plain) (twins : Twins program facts rules labelling ok from beside) (most : ℕ) where
+  abbrev fit : ℕ → Bool
+  fit = clear program typing labelling flows ok
+
+  module _ (s t : State) (i : Kept program from s) (j : Kept program beside t) (r : Rel fit s t) where
+    -- with an entry, what is clear is equal in both
+    agree_with : (n at : ℕ) (e : Work) → slice_get s.buffer n ≡ Some (entry_at at e) → AgreeIn fit s.registers t.registers
+    agree_with n at e x depth z q =
+        let c = i.config in
+        let d = j.config in
+        let tracks = subst (λ b. Tracks program b c s.front) (split s.buffer n (entry_at at e) x) i.inv.tracks in
+        let pair = pair_of program facts rules typing labelling flows ok from beside twins s.retired c d
+        (runs_there program (take n s.buffer) (drop (suc n) s.buffer) (entry_at at e) c s.front tracks) i.ran
+        (subst (λ k. Ran program beside k d) (sym r.retired) j.ran) in
+        ap (λ rs. rs depth z) i.inv.registers
+        ∙ clear_in program facts rules typing labelling flows ok from beside twins c.registers d.registers pair.agrees.registers depth z q
+        ∙ sym (ap (λ rs. rs depth z) j.inv.registers)
+
+    plain_twins : (d : Directive) → Twin (Rel fit) (plainly (directive_step most program s d)) (plainly (directive_step most program t d))
+    plain_twins d =
+        plainly_twins (Rel fit) (directive_step most program s d) (directive_step most program t d)
+        (step_twins program facts rules typing labelling flows ok from beside twins most s t d i j r)
+
+    equal_twins : (n at : ℕ) (e : Work) → Keeps fit e → slice_get s.buffer n ≡ Some (entry_at at e)
+        → Twin (Rel fit) (exec_work most program s n at e) (exec_work most program t n at e)
+    equal_twins n at Nop k x = plain_twins (Exec n)
+    equal_twins n at (Assign protect op to a b c) k x = plain_twins (Exec n)
+    equal_twins n at (Load protect kind memory to offset address) k x =
+        fills_twins fit program s t r n at protect kind memory to offset k.1 _ _
+        (clear_source fit s.registers t.registers (take n s.buffer) (take n t.buffer) address k.0 (same_take fit n s.buffer t.buffer r.entries)
+        (agree_with n at (Load protect kind memory to offset address) x))
+    equal_twins n at (Held to value) k x = plain_twins (Exec n)
+    equal_twins n at (Done to value) k x = plain_twins (Exec n)
+    equal_twins n at (Store kind memory offset address value) k x = plain_twins (Exec n)
+    equal_twins n at (Ready kind memory offset address value) k x = plain_twins (Exec n)
+    equal_twins n at (Guard cond predicted other chain) k x = plain_twins (Exec n)
+    equal_twins n at (Fail kind) k x = plain_twins (Exec n)
+
+    work_twins : (n at : ℕ) (e f : Work) → Same fit e f → Keeps fit e → slice_get s.buffer n ≡ Some (entry_at at e)
+        → Twin (Rel fit) (exec_work most program s n at e) (exec_work most program t n at f)
+    work_twins n at e f (equal w) k x = equal_twins n at w k x
+    work_twins n at e f (held to v w) k x = plain_twins (Exec n)
+    work_twins n at e f (done to v w q) k x = plain_twins (Exec n)
+    work_twins n at e f (ready kind memory offset address v w) k x = plain_twins (Exec n)
+
+    exec_twins : (n : ℕ) (o p : Option Entry) → SameGet fit o p → slice_get s.buffer n ≡ o
+        → Twin (Rel fit) (exec_at most program s n o) (exec_at most program t n p)
+    exec_twins n o p no_entry x = tt
+    exec_twins n o p (an_entry at e f u k) x = work_twins n at e f u k x
+
+    pub forward_twins : (d : Directive) → Twin (Rel fit) (forward_step most program s d) (forward_step most program t d)
+    forward_twins Fetch = plain_twins Fetch
+    forward_twins (Predict predicted) = plain_twins (Predict predicted)
+    forward_twins (Exec n) = exec_twins n (slice_get s.buffer n) (slice_get t.buffer n) (same_get fit n s.buffer t.buffer r.entries) refl
+    forward_twins Retire = plain_twins Retire
+
+pub forwards_equal : (program : Program) → IsProgram program → IsWellFormed program → ConstantTime program → Passes program (is_protected program) → HasEqualForwarding program
+forwards_equal program facts rules =
+    equal_by forward_step program facts rules (λ most. record {
+      keeps = λ function start fits s d k. forward_ok program facts rules function start fits most s d k;
+      twins = λ typing labelling flows ok from beside twins s t d i j r.
+          forward_twins program facts rules typing labelling flows ok from beside twins most s t i j r d;
+    })

@@ -1,0 +1,211 @@
+-- What an entry comes to is the step of the rules.
+use Rattle.std.proofs.Common.{◌≡◌, ℕ, ◌*◌, ◌^◌, ◌<◌, Bool, true, false, List, [], ◌∷◌, length, take, Option, Some, None, refl, sym, ap, ◌∙◌, subst}
+use Rattle.std.proofs.lemmas.Bool.{eqb-true}
+use Rattle.std.specs.Prelude.{◌&&◌, nat_eq, if◌then◌else◌, slice_get, Result, Ok, Err}
+use Rattle.std.specs.Option.{ok_or}
+use Rattle.bl_base.proofs.BoolLemmas.{each_true}
+use Rattle.bl_ops.specs.Access.{narrowed, width_of}
+use Rattle.bl_ops.specs.declared.access.AccessKind.{AccessKind}
+use Rattle.bl_ops.proofs.Fits.{store_fits}
+use Rattle.bl_cmd.specs.Programs.{IsProgram}
+use Rattle.bl_cmd.specs.Rules.{IsWellFormed}
+use Rattle.bl_cmd.specs.Steps.{effective}
+use Rattle.bl_cmd.specs.declared.definitions.ProgramParts.{ProgramParts as Program}
+use Rattle.bl_rob.specs.CallResults.{ComesBy, Executes, NeedsMemory, Steps, is_some}
+use Rattle.bl_rob.specs.Machines.{State, become, directive_step, exec_entry, guards, has_pending, visible_of}
+use Rattle.bl_rob.specs.declared.directive.Directive.{Directive}
+use Rattle.bl_rob.specs.declared.directive.Directive.TheVariants.{Fetch, Predict, Exec, Retire}
+use Rattle.bl_rob.specs.declared.directive.Observation.{Observation}
+use Rattle.bl_rob.specs.declared.directive.Observation.TheVariants.{Nothing}
+use Rattle.bl_rob.specs.declared.directive.StepError.{StepError}
+use Rattle.bl_rob.specs.declared.directive.StepError.TheVariants.{NotEnabled, Memory as NoRoom}
+use Rattle.bl_rob.specs.declared.entry.Act.TheVariants.{Becomes}
+use Rattle.bl_rob.specs.declared.entry.Entry.{Entry}
+use Rattle.bl_rob.specs.declared.entry.Register.{Register}
+use Rattle.bl_rob.specs.declared.entry.Work.{Work}
+use Rattle.bl_rob.specs.declared.entry.Work.TheVariants.{Nop, Assign, Load, Held, Done, Store, Ready, Guard, Fail}
+use Rattle.bl_rob.proofs.BufferInvariant.{Holds}
+use Rattle.bl_rob.proofs.ReachabilityLemmas.{KeepAll}
+use Rattle.bl_rob.proofs.BufferRoom.{Fits, acted_fits, comes_fit, executes, step_fits, within}
+use Rattle.bl_forward.specs.ForwardCalls.{ForwardSteps, as_plain, found_behind, is_enabled, turned, turned_at, turned_by, turned_from, turned_where}
+use Rattle.bl_forward.specs.ForwardMachines.{exec_at, exec_work, fills, found_from, found_in, forward_step, plainly, settled, supplied, takes}
+use Rattle.bl_forward.specs.declared.find.Found.{Found}
+use Rattle.bl_forward.specs.declared.find.Found.TheVariants.{Memory, Stored, Blocked}
+use Rattle.bl_forward.specs.declared.load.Turn.{Turn}
+use Rattle.bl_forward.specs.declared.load.Turn.TheVariants as turn
+use Rattle.bl_forward.specs.declared.seen.Seen.{Seen}
+use Rattle.bl_forward.proofs.ForwardInvariant.{forward_ok, plainly_holds}
+
+-- ---- the step of an entry
+
+module _ (most : ℕ) (program : Program) (s : State) (n : ℕ) where
+  abbrev stepped : ℕ → Turn → Option (State × Seen)
+  stepped position turn.Plain = plainly (directive_step most program s (Exec n))
+  stepped position turn.Waits = None
+  stepped position (turn.Fills work seen) = Some (become n position work s, seen)
+
+  abbrev pre : List Entry
+  pre = take n s.buffer
+
+  module _ (position : ℕ) (protect : Bool) (kind : AccessKind) (memory : ℕ) (to : Register) (offset : ℕ) where
+    takes_is : (from : ℕ) (found : Found)
+        → takes s n position protect kind to from (guards pre) found ≡ stepped position (turned_by s.space (guards pre) protect kind to from (Some found))
+    takes_is from Memory = refl
+    takes_is from (Stored number) = refl
+    takes_is from Blocked = refl
+
+    settled_is : (from : ℕ) (pending : Bool) → settled program s n position protect kind to from pending
+        ≡ stepped position (turned_by s.space (guards pre) protect kind to from (if pending then None else Some (found_in program from (width_of kind) pre)))
+    settled_is from true = refl
+    settled_is from false = takes_is from (found_in program from (width_of kind) pre)
+
+    fills_is : (o : Option ℕ) → fills program s n position protect kind memory to offset o ≡ stepped position (turned_from program s.space pre protect kind memory to offset o)
+    fills_is None = refl
+    fills_is (Some address) = settled_is (effective program memory offset address) (has_pending pre)
+
+  work_is : (position : ℕ) (work : Work) → exec_work most program s n position work ≡ stepped position (turned program s pre work)
+  work_is position Nop = refl
+  work_is position (Assign protect op to a b c) = refl
+  work_is position (Load protect kind memory to offset address) = fills_is position protect kind memory to offset (visible_of s.registers pre address)
+  work_is position (Held to value) = refl
+  work_is position (Done to value) = refl
+  work_is position (Store kind memory offset address value) = refl
+  work_is position (Ready kind memory offset address value) = refl
+  work_is position (Guard cond predicted other chain) = refl
+  work_is position (Fail kind) = refl
+
+  -- ---- by what it comes to
+
+  plain_at : (o : Option Entry) → slice_get s.buffer n ≡ o → turned_where program s n o ≡ turn.Plain → exec_at most program s n o ≡ plainly (directive_step most program s (Exec n))
+  plain_at None is e = sym (ap (λ o. plainly (exec_entry program n s o)) is)
+  plain_at (Some entry) is e = work_is entry.position entry.work ∙ ap (stepped entry.position) e
+
+  pub plain_turn : turned_at program s n ≡ turn.Plain → forward_step most program s (Exec n) ≡ plainly (directive_step most program s (Exec n))
+  plain_turn e = plain_at (slice_get s.buffer n) refl e
+
+  waits_at : (o : Option Entry) → turned_where program s n o ≡ turn.Waits → exec_at most program s n o ≡ None
+  waits_at None e = refl
+  waits_at (Some entry) e = work_is entry.position entry.work ∙ ap (stepped entry.position) e
+
+  pub waits_turn : turned_at program s n ≡ turn.Waits → forward_step most program s (Exec n) ≡ None
+  waits_turn e = waits_at (slice_get s.buffer n) e
+
+  module _ (work : Work) (seen : Seen) where
+    fills_at : (o : Option Entry) → turned_where program s n o ≡ turn.Fills work seen
+        → (entry : Entry) × (o ≡ Some entry) × (exec_at most program s n o ≡ Some (become n entry.position work s, seen))
+    fills_at None e = cc
+    fills_at (Some entry) e = (entry, refl, work_is entry.position entry.work ∙ ap (stepped entry.position) e)
+
+    pub fills_turn : turned_at program s n ≡ turn.Fills work seen
+        → (entry : Entry) × (slice_get s.buffer n ≡ Some entry) × (forward_step most program s (Exec n) ≡ Some (become n entry.position work s, seen))
+    fills_turn e = fills_at (slice_get s.buffer n) e
+
+    pub fills_within : turned_at program s n ≡ turn.Fills work seen → n < length s.buffer
+    fills_within e = let at = fills_turn e in within most s.buffer n at.0 at.1
+
+    -- the machine with that entry's new work
+    pub filled_step : (new : State) → turned_at program s n ≡ turn.Fills work seen
+        → ((entry : Entry) → slice_get s.buffer n ≡ Some entry → new ≡ become n entry.position work s) → forward_step most program s (Exec n) ≡ Some (new, seen)
+    filled_step new e becomes = let at = fills_turn e in at.2 ∙ ap (λ t. Some (t, seen)) (sym (becomes at.0 at.1))
+
+-- ---- what the buffer machine answers
+
+plain_comes : (step : Option (State × Observation)) (needs : Type 0) (old new : State) (r : Result Observation StepError) → ComesBy step needs old r new
+    → ComesBy (plainly step) needs old (as_plain r) new
+plain_comes step needs old new (Ok observation) h = ap plainly h
+plain_comes step needs old new (Err NotEnabled) h = (ap plainly h.0, h.1)
+plain_comes step needs old new (Err NoRoom) h = h
+
+-- a step of the buffer machine is one of this machine
+pub plain_steps : (most : ℕ) (program : Program) (old new : State) (d : Directive) (r : Result Observation StepError) (result : Result Seen StepError)
+    → forward_step most program old d ≡ plainly (directive_step most program old d) → Steps most program d old r new → result ≡ as_plain r
+    → ForwardSteps most program d old result new
+plain_steps most program old new d r result is steps e =
+    subst (λ x. ComesBy x (NeedsMemory d) old result new) (sym is)
+    (subst (λ x. ComesBy (plainly (directive_step most program old d)) (NeedsMemory d) old x new) (sym e)
+    (plain_comes (directive_step most program old d) (NeedsMemory d) old new r steps))
+
+pub plain_exec : (most : ℕ) (program : Program) (old new : State) (n : ℕ) (answer : Option Observation) (r : Result Observation StepError) (result : Result Seen StepError)
+    → turned_at program old n ≡ turn.Plain → Executes program n old answer new → r ≡ ok_or answer NotEnabled → result ≡ as_plain r
+    → ForwardSteps most program (Exec n) old result new
+plain_exec most program old new n answer r result e executed is =
+    plain_steps most program old new (Exec n) r result (plain_turn most program old n e) (executes most program old new n answer r executed is)
+
+some_plainly : (o : Option (State × Observation)) → is_some (plainly o) ≡ is_some o
+some_plainly None = refl
+some_plainly (Some step) = refl
+
+pub plain_enabled : (most : ℕ) (program : Program) (s : State) (d : Directive) (b : Bool) → forward_step most program s d ≡ plainly (directive_step most program s d)
+    → b ≡ is_some (directive_step most program s d) → b ≡ is_enabled most program s d
+plain_enabled most program s d b is e = e ∙ sym (ap is_some is ∙ some_plainly (directive_step most program s d))
+
+-- ---- the room of the buffer
+
+module _ (most : ℕ) (program : Program) where
+  plain_fits : (s : State) (d : Directive) → Fits most s → Holds (Fits most) (plainly (directive_step most program s d))
+  plain_fits s d fits = plainly_holds (Fits most) (directive_step most program s d) (step_fits most program s d fits)
+
+  stepped_fits : (s : State) (n : ℕ) (entry : Entry) (t : Turn) → slice_get s.buffer n ≡ Some entry → Fits most s → Holds (Fits most) (stepped most program s n entry.position t)
+  stepped_fits s n entry turn.Plain is fits = plain_fits s (Exec n) fits
+  stepped_fits s n entry turn.Waits is fits = tt
+  stepped_fits s n entry (turn.Fills work seen) is fits = acted_fits most s n entry (Becomes work Nothing) (within most s.buffer n entry is) fits
+
+  exec_fits : (s : State) (n : ℕ) (o : Option Entry) → slice_get s.buffer n ≡ o → Fits most s → Holds (Fits most) (exec_at most program s n o)
+  exec_fits s n None is fits = tt
+  exec_fits s n (Some entry) is fits =
+      subst (Holds (Fits most)) (sym (work_is most program s n entry.position entry.work)) (stepped_fits s n entry (turned program s (take n s.buffer) entry.work) is fits)
+
+  all_fit : (s : State) (d : Directive) → Fits most s → Holds (Fits most) (forward_step most program s d)
+  all_fit s Fetch fits = plain_fits s Fetch fits
+  all_fit s (Predict predicted) fits = plain_fits s (Predict predicted) fits
+  all_fit s (Exec n) fits = exec_fits s n (slice_get s.buffer n) refl fits
+  all_fit s Retire fits = plain_fits s Retire fits
+
+  -- what a step leaves is within the room
+  pub forward_fits : (old new : State) (d : Directive) (result : Result Seen StepError) → Fits most old → ForwardSteps most program d old result new → Fits most new
+  forward_fits old new d result fits = comes_fit most (forward_step most program old d) (NeedsMemory d) old new result fits (all_fit old d fits)
+
+  -- each directive keeps the buffer along the plain run
+  pub forward_keeps : IsProgram program → IsWellFormed program → KeepAll (forward_step most program) program
+  forward_keeps facts rules function start fits s d = forward_ok program facts rules function start fits most s d
+
+-- ---- forwarded numbers
+
+-- a number that is found has no more bytes than are loaded
+abbrev pub IsWithin : ℕ → Found → Type 0
+IsWithin width Memory = Unit {0}
+IsWithin width (Stored number) = number < 2 ^ (8 * width)
+IsWithin width Blocked = Unit {0}
+
+module _ (program : Program) (from width : ℕ) where
+  by_tests : (at count number : ℕ) (found : Found) (b c : Bool) → (nat_eq at from && nat_eq count width) ≡ c → number < 2 ^ (8 * count) → IsWithin width found
+      → IsWithin width (if b then (if c then Stored number else Blocked) else found)
+  by_tests at count number found true true e small h =
+      subst (λ k. number < 2 ^ (8 * k)) (eqb-true count width (each_true (nat_eq at from) (nat_eq count width) e).1) small
+  by_tests at count number found true false e small h = tt
+  by_tests at count number found false c e small h = h
+
+  one_within : (work : Work) (found : Found) → IsWithin width found → IsWithin width (supplied program from width work found)
+  one_within Nop found h = h
+  one_within (Assign protect op to a b c) found h = h
+  one_within (Load protect kind memory to offset address) found h = h
+  one_within (Held to value) found h = h
+  one_within (Done to value) found h = h
+  one_within (Store kind memory offset address value) found h = h
+  one_within (Ready kind memory offset address value) found h =
+      by_tests (effective program memory offset address) (width_of kind) (narrowed kind value) found _ _ refl (store_fits kind value) h
+  one_within (Guard cond predicted other chain) found h = h
+  one_within (Fail kind) found h = h
+
+  all_within : (entries : List Entry) (found : Found) → IsWithin width found → IsWithin width (found_from program from width entries found)
+  all_within [] found h = h
+  all_within (entry ∷ entries) found h = all_within entries (supplied program from width entry.work found) (one_within entry.work found h)
+
+  within_by : (entries : List Entry) (number : ℕ) (pending : Bool) → (if pending then None else Some (found_in program from width entries)) ≡ Some (Stored number)
+      → number < 2 ^ (8 * width)
+  within_by entries number true e = cc
+  within_by entries number false e =
+      let is : found_in program from width entries ≡ Stored number = cc in subst (IsWithin width) is (all_within entries Memory tt)
+
+  pub stored_within : (entries : List Entry) (number : ℕ) → found_behind program from width entries ≡ Some (Stored number) → number < 2 ^ (8 * width)
+  stored_within entries number e = within_by entries number (has_pending entries) e

@@ -1,0 +1,104 @@
+-- The least typing, as a test, and what passes, also where something is asked of variables.
+use Rattle.std.proofs.Common.{◌≡◌, ◌⊎◌, ℕ, ◌<◌, Bool, true, refl, subst, inl, inr, not}
+use Rattle.std.specs.Prelude.{IsTrue}
+use Rattle.std.proofs.lemmas.Bool.{cases_eq, not_from_false, false_from_ne_true, false≢true}
+use Rattle.bl_base.proofs.BoolLemmas.{never_both}
+use Rattle.bl_cmd.specs.Sites.{IsLoad, Loads, SinkReads, Writes}
+use Rattle.bl_cmd.specs.declared.definitions.ProgramParts.{ProgramParts as Program}
+use Rattle.bl_graph.specs.Ranges.{commands}
+use Rattle.bl_graph.proofs.Closures.{Reached, decided_reached, reached_least, reached_on}
+use Rattle.bl_graph.proofs.CommandLists.{decided_load, decided_write, stands_below}
+use Rattle.bl_graph.proofs.Decisions.{Decided, decided_as, decided_below, decided_either, decided_three, decided_true, holds, holds_if, if_holds}
+use Rattle.bl_transient.specs.Transient.{Asked, nothing, AssignsUnder, PassesUnder, Passes, TransUnder, Trans, loaded, moved, given, IsFedUnder}
+
+-- the least set is contained in each typing
+pub trans_least : (asked : Asked) (program : Program) (typing set : ℕ → Bool) (x : ℕ) → AssignsUnder asked program typing set → TransUnder asked program set x
+    → IsTrue (typing x)
+trans_least asked program typing set x keeps (loaded s _ load writes may) = keeps.loads s x load writes may
+trans_least asked program typing set x keeps (moved s y _ reads writes may t) =
+    keeps.moves s y x reads writes may (trans_least asked program typing set y keeps t)
+trans_least asked program typing set x keeps (given _ hot) = keeps.given x hot
+
+-- where a set passes, no sink variable is in the least set
+pub passing_sinks : (asked : Asked) (program : Program) (set : ℕ → Bool) → PassesUnder asked program set → (position x : ℕ) → SinkReads program position x
+    → TransUnder asked program set x → ⊥
+passing_sinks asked program set passes position x sink t =
+    never_both (passes.0 x) (trans_least asked program passes.0 set x passes.1.assigns t) (passes.1.sinks position x sink)
+
+-- and none that is asked to be stable
+pub passing_firm : (asked : Asked) (program : Program) (set : ℕ → Bool) → PassesUnder asked program set → (x : ℕ) → IsTrue (asked.firm x)
+    → TransUnder asked program set x → ⊥
+passing_firm asked program set passes x firm t =
+    never_both (passes.0 x) (trans_least asked program passes.0 set x passes.1.assigns t) (passes.1.firm x firm)
+
+-- what flows out of a fed site that isn't protected
+pub fed_writes : (asked : Asked) (program : Program) (set : ℕ → Bool) (s x : ℕ) → IsFedUnder asked program set s → Writes program s x → IsTrue (not (set s))
+    → TransUnder asked program set x
+fed_writes asked program set s x (inl load) writes may = loaded s x load writes may
+fed_writes asked program set s x (inr r) writes may = moved s r.0 x r.1 writes may r.2
+
+module _ (asked : Asked) (program : Program) (set : ℕ → Bool) where
+  -- a variable that is asked to be transient, or that a Load writes that isn't protected
+  abbrev Begins : ℕ → Type 0
+  Begins x = IsTrue (asked.hot x) ⊎ ((s : ℕ) × (s < commands program) × (IsLoad program s × IsTrue (not (set s)) × ((y : ℕ) × Writes program s y × (y ≡ x))))
+
+  begins : (x : ℕ) → Decided (Begins x)
+  begins x =
+      decided_either (decided_true (asked.hot x))
+      (decided_below (commands program) (λ s. IsLoad program s × IsTrue (not (set s)) × ((y : ℕ) × Writes program s y × (y ≡ x)))
+      (λ s. decided_three (decided_load program s) (decided_true (not (set s))) (decided_write program s (λ y. y ≡ x) (λ y. cases_eq y x))))
+
+  abbrev Free : ℕ → Type 0
+  Free s = IsTrue (not (set s))
+
+  abbrev FromBegins : ℕ → Type 0
+  FromBegins = Reached program Free (λ s. decided_true (not (set s))) Begins begins
+
+  reached_trans : (x : ℕ) → FromBegins x → TransUnder asked program set x
+  reached_trans = reached_least program Free (λ s. decided_true (not (set s))) Begins begins (TransUnder asked program set)
+      (λ x b. elim b as (λ _. TransUnder asked program set x) [
+        | inl hot ↦ given x hot
+        | inr l ↦ subst (TransUnder asked program set) l.2.2.2 (loaded l.0 l.2.2.0 l.2.0 l.2.2.1 l.2.1)
+      ])
+      (λ s x y reads writes may t. moved s x y reads writes may t)
+
+  trans_reached : (x : ℕ) → TransUnder asked program set x → FromBegins x
+  trans_reached x (loaded s _ load writes may) = inl (inr (s, stands_below program s Loads load, (load, may, (x, writes, refl))))
+  trans_reached x (moved s y _ reads writes may t) = reached_on program Free (λ s. decided_true (not (set s))) Begins begins s y x reads writes may (trans_reached y t)
+  trans_reached x (given _ hot) = inl (inl hot)
+
+  pub decided_trans : (x : ℕ) → Decided (TransUnder asked program set x)
+  decided_trans x = decided_as (reached_trans x) (trans_reached x) (decided_reached program Free (λ s. decided_true (not (set s))) Begins begins x)
+
+  pub least_typing : ℕ → Bool
+  least_typing x = holds (decided_trans x)
+
+  pub typing_trans : (x : ℕ) → least_typing x ≡ true → TransUnder asked program set x
+  unfolding least_typing
+  typing_trans x h = if_holds (decided_trans x) h
+
+  pub is_trans : (x : ℕ) → TransUnder asked program set x → least_typing x ≡ true
+  unfolding least_typing
+  is_trans x t = holds_if (decided_trans x) t
+
+  pub least_assigns : AssignsUnder asked program least_typing set
+  least_assigns = record {
+    loads = λ s x load writes may. is_trans x (loaded s x load writes may);
+    moves = λ s x y reads writes may h. is_trans y (moved s x y reads writes may (typing_trans x h));
+    given = λ x hot. is_trans x (given x hot);
+  }
+
+  pub passes_under_if : ((position x : ℕ) → SinkReads program position x → TransUnder asked program set x → ⊥)
+      → ((x : ℕ) → IsTrue (asked.firm x) → TransUnder asked program set x → ⊥) → PassesUnder asked program set
+  passes_under_if sinks firm = (
+    least_typing,
+    record {
+      assigns = least_assigns;
+      sinks = λ position x sink. not_from_false _ (false_from_ne_true _ (λ h. sinks position x sink (typing_trans x h)));
+      firm = λ x is. not_from_false _ (false_from_ne_true _ (λ h. firm x is (typing_trans x h)));
+    },
+  )
+
+-- where nothing is asked
+pub passes_if : (program : Program) (set : ℕ → Bool) → ((position x : ℕ) → SinkReads program position x → Trans program set x → ⊥) → Passes program set
+passes_if program set none = passes_under_if nothing program set none (λ x firm. absurd (false≢true firm))

@@ -1,0 +1,26 @@
+//! Tests of commands that run what is built: `interp`, `run`, `spec`, `twin`, `forward` and `predict`, over lists of modules and over images, also such
+//! as are cut or changed at a byte or declare more than they name.
+#![tactic(auto)]
+
+#[cfg(test)]
+mod blocks;
+#[cfg(test)]
+mod declared;
+#[cfg(test)]
+mod forward;
+#[cfg(test)]
+mod greatest;
+#[cfg(test)]
+mod interp;
+#[cfg(test)]
+mod lists;
+#[cfg(test)]
+mod predict;
+#[cfg(test)]
+mod run;
+#[cfg(test)]
+mod spec;
+#[cfg(test)]
+mod tampered;
+#[cfg(test)]
+mod twin;

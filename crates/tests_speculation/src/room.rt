@@ -1,0 +1,74 @@
+//! A buffer with room for one entry.
+use bl_base::{List, NoMemory, Start};
+use bl_cmd::WellFormed;
+use bl_image::decode_image;
+use bl_rob::{Directive, Observation, Observed, Rob};
+use std::alloc::Global;
+use std::test::Fail;
+use tests_starts::is_start;
+
+/// The image of a function that adds 1.
+pub(crate) static INC: [u8; 53] = [
+    0x42, 0x4C, 0x49, 0x4D, 0x01, 0x00, 0x00, 0x01, 0x01, 0x7F, 0x00, 0x01, 0x7F, 0x05, 0x06, 0x01,
+    0x07, 0x69, 0x6E, 0x63, 0x2F, 0x69, 0x6E, 0x63, 0x00, 0x04, 0x08, 0x00, 0x00, 0x00, 0x02, 0x00,
+    0x00, 0x00, 0x00, 0x00, 0x03, 0x01, 0x01, 0x00, 0x00, 0x6A, 0x04, 0x00, 0x02, 0x00, 0x03, 0x07,
+    0x00, 0x00, 0x00, 0x04, 0x08,
+];
+
+/// A start of the argument 41.
+pub(crate) fn start_of(alloc: Global) -> Result<Start, NoMemory> {
+    let mut args = List::new(alloc);
+    args.push(41)?;
+    Ok(Start {
+        args,
+        patches: List::new(alloc),
+    })
+}
+
+/// What is observed of directives on a program's first function, where the buffer has room for one entry; a start that doesn't fit is
+/// answered like want of memory.
+fn seen_in_one(
+    alloc: Global,
+    program: &WellFormed,
+    start: &Start,
+    directives: &[Directive],
+) -> Result<Observed<Observation>, NoMemory> {
+    if !is_start(alloc, program, 0, start)? {
+        return Err(NoMemory);
+    }
+    let mut rob: Rob<'_, 1> = Rob::begin(alloc, program, 0, start)?;
+    rob.observe(alloc, directives)
+}
+
+/// Whether so many directives are observed before the one that is refused, if any.
+fn is_seen(
+    alloc: Global,
+    directives: &[Directive],
+    made: usize,
+    refused: Option<u64>,
+) -> Result<bool, NoMemory> {
+    let Ok(program) = decode_image(alloc, &INC) else {
+        return Ok(false);
+    };
+    let start = start_of(alloc)?;
+    let seen = seen_in_one(alloc, &program, &start, directives)?;
+    Ok(seen.made.len() == made && seen.refused == refused)
+}
+
+static TWICE: [Directive; 2] = [Directive::Fetch, Directive::Fetch];
+
+static IN_TURN: [Directive; 6] = [
+    Directive::Fetch,
+    Directive::Retire,
+    Directive::Fetch,
+    Directive::Exec(0),
+    Directive::Retire,
+    Directive::Fetch,
+];
+
+#[test]
+fn a_buffer_of_one_entry_has_no_room_for_a_second(rt: HostRuntime) -> Result<(), Fail> {
+    assert!(rt; is_seen(rt.alloc(), &TWICE, 1, Some(2))?);
+    assert!(rt; is_seen(rt.alloc(), &IN_TURN, 6, None)?);
+    Ok(())
+}
