@@ -18,7 +18,7 @@ use Rattle.bl_job.specs.Status.{kind_of}
 use Rattle.bl_app.proofs.HardenLemmas.{own_of, wells_of}
 use Rattle.bl_job.proofs.StagedJobLemmas.{IsStagedCommand}
 
-made_compilable : (request : GenRequest) → IsGenInRange request → AreCompilable (made_part request ∷ [])
+pub made_compilable : (request : GenRequest) → IsGenInRange request → AreCompilable (made_part request ∷ [])
 made_compilable request sized = record {
   loadable = record {
     few = omega arith;

@@ -22,7 +22,7 @@ use bl_words::GenWords;
 use std::alloc::Global;
 
 /// Printing the summary of a module that is made of a number and a size, compiled and hardened. Costs a maximum flow in a network that
-/// is linear in the program, also where the image is too long.
+/// is linear in the program.
 pub fn generate<'a>(alloc: Global, words: &GenWords) -> Result<Plan<'a>, WorkError>
     requires { (1 ≤ words.now.size) × (words.now.size ≤ limit_of quantity.Functions) }
     ensures { IsWork (gen_job (gen_in words.now)) [] result }

@@ -24,7 +24,7 @@ ghost use Rattle.bl_app.specs.InterpJob.{InterpDoes};
 ghost use Rattle.bl_job.specs.Jobs.{AreRead, FirstRefusal, IsLawful, IsTotal, Plan};
 ghost use Rattle.bl_job.specs.Refusals.{Refusal};
 ghost use Rattle.bl_app.specs.PredictJob.{IsFollowed, predict_job};
-ghost use Rattle.bl_words.specs.Requests.{AreTurnsInRange, HardenRequest, InterpRequest, PredictRequest, Request, RunRequest};
+ghost use Rattle.bl_words.specs.Requests.{AreTurnsInRange, GenRequest, HardenRequest, InterpRequest, IsGenInRange, PredictRequest, Request, RunRequest, gen};
 ghost use Rattle.bl_app.specs.VerifyJob.{IsVerified, VerifyDoes};
 ghost use Rattle.bl_job.specs.Worlds.{World};
 ghost use Rattle.bl_job.specs.declared.status.Status.{Status};
@@ -54,6 +54,11 @@ pub fn one_refusal()
 pub fn what_can_be_done_is_not_refused()
     ensures { (files : Files) (request : Request) (refusal : Refusal) (contents : Listed (Listed ℕ)) (plan : Plan)
         → AreRead (Some files) (job_of request).reads contents → (job_of request).Does contents plan → FirstRefusal (job_of request) (Some files) refusal → ⊥ }
+{}
+
+/// A module that is made of a number and a size in range is never refused.
+pub fn made_modules_are_never_refused()
+    ensures { (request : GenRequest) (files : Option Files) (refusal : Refusal) → IsGenInRange request → FirstRefusal (job_of (gen request)) files refusal → ⊥ }
 {}
 
 /// What is kept and printed is one thing, with one status, for each request that has one plan.

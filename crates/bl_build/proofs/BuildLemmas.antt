@@ -1,5 +1,5 @@
 -- Building keeps the laws of stages, and gives a program that ends as its linked tree does.
-use Rattle.std.proofs.Common.{◌≡◌, ℕ, ◌-◌, ◌^◌, List, length, inl, inr, refl, ap, sym, ◌∙◌, subst, arith}
+use Rattle.std.proofs.Common.{◌≡◌, ℕ, ◌-◌, ◌^◌, ◌≤◌, List, length, inl, inr, refl, ap, sym, ◌∙◌, subst, arith}
 use Rattle.std.specs.Prelude.{Result, Ok, Err, min}
 use Rattle.std.proofs.lemmas.Bool.{cases_lt}
 use Rattle.bl_base.specs.Quantity.{limit_of}
@@ -17,10 +17,10 @@ use Rattle.bl_image.proofs.Prefixes.{one_image}
 use Rattle.bl_lower.specs.Trees.{low_tree}
 use Rattle.bl_lower.proofs.InitialStates.{ends_after, plain_ended}
 use Rattle.bl_build.specs.BuildStages.{AreCompilable, AreCompiled, Builds, Built, HasLongImage, IsSized, building, command_count, compiling, lowering, sizing}
-use Rattle.bl_build.specs.LoadStages.{loading, parts_of}
+use Rattle.bl_build.specs.LoadStages.{Part, loading, parts_of}
 use Rattle.bl_build.specs.ProgramMeaning.{SameOutcomes}
 use Rattle.bl_job.specs.Refusals.{Refusal, limit}
-use Rattle.bl_job.specs.Stages.{IsLawfulStage, IsTotalStage, Stage, at_second, chain}
+use Rattle.bl_job.specs.Stages.{IsLawfulStage, IsTotalStage, Stage, at_first, at_second, chain}
 use Rattle.bl_job.specs.WorkAnswers.{IsStaged, refusal_in}
 use Rattle.bl_job.specs.declared.refusal.WorkError.{WorkError}
 use Rattle.bl_job.specs.declared.refusal.WorkError.TheVariants as error
@@ -95,6 +95,19 @@ compiling_lawful = chain_lawful loading building loading_lawful building_lawful
 pub compiling_total : IsTotalStage AreCompilable compiling
 compiling_total =
     chain_total AreCompilable IsOfParts loading building (record { always = λ parts given made refused. loading_total.always parts given.loadable made refused }) building_total of_parts
+
+-- a tree is built where the program and its image are within the limits
+module _ (tree : Tree) (few : command_count tree ≤ limit_of quantity.Commands) (short : (bytes : List ℕ) → Image (low_tree tree) bytes → length bytes ≤ limit_of quantity.Image) where
+  built_within : (refusal : Refusal) → building.Refuses tree refusal → ⊥
+  built_within refusal (at_first h) = let many = h.many in omega (arith, few, many)
+  built_within refusal (at_second program lowered h) =
+      let long = h.long in let within = short h.bytes (subst (λ program. Image program h.bytes) lowered.0 h.image) in omega (arith, long, within)
+
+  -- and so are modules that are linked to it
+  pub compiled_within : (parts : List Part) → loading.Passes parts tree → (refusal : Refusal) → compiling.Refuses parts refusal → ⊥
+  compiled_within parts loaded refusal (at_first r) = loading_lawful.not_both parts tree refusal loaded r
+  compiled_within parts loaded refusal (at_second other passed r) =
+      built_within refusal (subst (λ tree. building.Refuses tree refusal) (loading_lawful.one_result parts other tree passed loaded) r)
 
 -- what is built of a tree
 pub builds_of : (tree : Tree) (built : Built) → building.Passes tree built → Builds tree built

@@ -90,12 +90,9 @@ constants (Store kind space offset address value) bytes h =
     let last = fields.second.second.second in
     (operand_width address last.front last.first, operand_width value last.rest last.second)
 constants (Test cond one other) bytes h = let fields = h.second.1 in operand_width cond fields.front fields.first
-constants (Jump to) bytes h = tt
 constants (Arg mark callee index value) bytes h = let fields = h.second.1 in operand_width value fields.second.second.rest fields.second.second.second
-constants (Call callee) bytes h = tt
 constants (Out mark index value) bytes h = let fields = h.second.1 in operand_width value fields.second.rest fields.second.second
-constants Ret bytes h = tt
-constants (Trap kind) bytes h = tt
+constants _ bytes h = tt
 
 all_constants : (program : Program) → IsProgram program → All HasConstants (drop 7 program.commands) → All HasConstants program.commands
 all_constants program facts behind =

@@ -36,12 +36,9 @@ same_constants n (Set mark op to a b c) h = (same_width n.read a h.0, same_width
 same_constants n (Load mark kind space to offset address) h = same_width n.read address h
 same_constants n (Store kind space offset address value) h = (same_width n.read address h.0, same_width n.read value h.1)
 same_constants n (Test cond one other) h = same_width n.read cond h
-same_constants n (Jump to) h = tt
 same_constants n (Arg mark callee index value) h = same_width n.read value h
-same_constants n (Call callee) h = tt
 same_constants n (Out mark index value) h = same_width n.read value h
-same_constants n Ret h = tt
-same_constants n (Trap kind) h = tt
+same_constants n _ h = tt
 
 renamed_constants : (n : Renaming) (commands : List Command) → All HasConstants commands → All HasConstants (map (renamed n) (drop 7 commands))
 renamed_constants n commands all = All-map HasConstants (renamed n) (drop 7 commands) (λ k d lt. same_constants n _ (All-drop HasConstants 7 commands all k d lt))

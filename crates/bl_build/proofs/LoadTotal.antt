@@ -27,7 +27,7 @@ use Rattle.bl_link.specs.declared.part.Part.{Part as LinkPart}
 use Rattle.bl_link.proofs.FaultLemmas.{faults_name_parts, memory_is_no_fault}
 use Rattle.bl_link.proofs.SpelledParts.{labelled_part}
 use Rattle.bl_link.proofs.LinkedTrees.{linked}
-use Rattle.bl_build.specs.LoadStages.{AreLoadable, IsLoadable, LabelledModule, LinkingRefuses, Links, Named, Part, data_range, element_range, mismatched_import, unknown_import, decoding, element, labelling, linked_parts, linking, loading, mismatched, segment, too_large, unknown, validation}
+use Rattle.bl_build.specs.LoadStages.{Accepted, AreLoadable, Decodes, IsLoadable, LabelledModule, LinkingRefuses, Links, Named, Part, ReadsLabels, data_range, element_range, mismatched_import, unknown_import, decoding, element, labelling, linked_parts, linking, loading, mismatched, segment, too_large, unknown, validation}
 use Rattle.bl_job.specs.Refusals.{Refusal, limit}
 use Rattle.bl_build.specs.EntryStages.{bad_line, few_arguments, no_export}
 use Rattle.bl_build.specs.InvocationStages.{Invoked, Invokes, InvokingRefuses, invoking, line_is_bad, not_exported, preparing, sizes_of, too_few}
@@ -156,6 +156,20 @@ loading_total =
     (chain_total Valid CanLink (each labelling) linking (each_given Valid labelling labelling_total) linking_total can_link)
     (λ xs ys d valid. record { xs = xs; before = d; valid = valid }))
     (λ parts xs given decoded. record { parts = parts; given = given; decoded = decoded })
+
+-- ---- one module
+
+-- a module that is accepted, and linked by itself, is loaded
+module _ (part : Part) (wasm : Module) (labels : Labels) (given : AreLoadable (part ∷ [])) (is : Accepted part.bytes wasm labels) where
+  pub loaded_alone : (tree : Tree) → links (part_of part.name wasm labels ∷ []) ≡ Ok tree → loading.Passes (part ∷ []) tree
+  loaded_alone tree e =
+      let named : Named = record { name = part.name; tree = wasm } in
+      let one : LabelledModule = record { name = part.name; tree = wasm; labels = labels } in
+      let h : AllZip IsOf (one ∷ []) (part ∷ []) = ((refl, is), tt) in
+      let runs = linked (linked_parts (one ∷ [])) tree (are_parts (one ∷ []) (part ∷ []) h given) (are_sound (one ∷ []) (part ∷ []) h given) e in
+      let told : ReadsLabels named one = record { same_name = refl; same_tree = refl; told = is.told } in
+      let decoded : Decodes part named = record { same_name = refl; spelled = is.spelled; supported = is.supported; within = is.within } in
+      (named ∷ [], (decoded, tt), (named ∷ [], (record { same = refl; holds = is.valid }, tt), (one ∷ [], (told, tt), record { is_tree = e; can_run = runs })))
 
 -- ---- exported functions of linked trees
 

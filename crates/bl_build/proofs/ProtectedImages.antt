@@ -42,16 +42,11 @@ alike b (Set m op to a c d) bytes h =
     both _ _ _ _ (itself _) (λ x g. let f = before _ _ _ (before _ _ _ (mark_alike b m)) x g.1 in (f.0, (g.0, f.1), f.2)) bytes h
 alike b (Load m kind space to offset address) bytes h =
     both _ _ _ _ (itself _) (λ x g. let f = before _ _ _ (mark_alike b m) x g.1 in (f.0, (g.0, f.1), f.2)) bytes h
-alike b (Store kind space offset address value) bytes h = itself _ bytes h
-alike b (Test cond one other) bytes h = itself _ bytes h
-alike b (Jump to) bytes h = itself _ bytes h
 alike b (Arg m callee index value) bytes h =
     both _ _ _ _ (itself _) (λ x g. let f = before _ _ _ (mark_alike b m) x g.1 in (f.0, (g.0, f.1), f.2)) bytes h
-alike b (Call callee) bytes h = itself _ bytes h
 alike b (Out m index value) bytes h =
     both _ _ _ _ (itself _) (λ x g. let f = before _ _ _ (mark_alike b m) x g.1 in (f.0, (g.0, f.1), f.2)) bytes h
-alike b Ret bytes h = itself _ bytes h
-alike b (Trap kind) bytes h = itself _ bytes h
+alike b _ bytes h = itself _ bytes h
 
 all_alike : (set : ℕ → Bool) (i : ℕ) (commands : List Command) (bytes : List ℕ) → each command (marked_from set i commands) bytes → Alike (each command commands) bytes
 all_alike set i [] bytes h = itself (each command []) bytes h
@@ -86,14 +81,9 @@ mark_on b m bytes h = ((m.depth + (if b then 8 else 0)) ∷ [], (h.0, refl), sym
 command_on : (b : Bool) (one : Command) (bytes : List ℕ) → command one bytes → Alike (command (marked b one)) bytes
 command_on b (Set m op to a c d) bytes h = both _ _ _ _ (itself _) (λ x g. let f = before _ _ _ (before _ _ _ (mark_on b m)) x g.1 in (f.0, (g.0, f.1), f.2)) bytes h
 command_on b (Load m kind space to offset address) bytes h = both _ _ _ _ (itself _) (λ x g. let f = before _ _ _ (mark_on b m) x g.1 in (f.0, (g.0, f.1), f.2)) bytes h
-command_on b (Store kind space offset address value) bytes h = itself _ bytes h
-command_on b (Test cond one other) bytes h = itself _ bytes h
-command_on b (Jump to) bytes h = itself _ bytes h
 command_on b (Arg m callee index value) bytes h = both _ _ _ _ (itself _) (λ x g. let f = before _ _ _ (mark_on b m) x g.1 in (f.0, (g.0, f.1), f.2)) bytes h
-command_on b (Call callee) bytes h = itself _ bytes h
 command_on b (Out m index value) bytes h = both _ _ _ _ (itself _) (λ x g. let f = before _ _ _ (mark_on b m) x g.1 in (f.0, (g.0, f.1), f.2)) bytes h
-command_on b Ret bytes h = itself _ bytes h
-command_on b (Trap kind) bytes h = itself _ bytes h
+command_on b _ bytes h = itself _ bytes h
 
 all_on : (set : ℕ → Bool) (i : ℕ) (commands : List Command) (bytes : List ℕ) → each command commands bytes → Alike (each command (marked_from set i commands)) bytes
 all_on set i [] bytes h = itself (each command []) bytes h

@@ -43,12 +43,9 @@ module _ (place : Place) where
   reads_each (Load mark kind memory to offset address) = one_each address
   reads_each (Store kind memory offset address value) = more_each address (value ∷ []) (ReadsOne place value) (one_each value)
   reads_each (Test cond one other) = one_each cond
-  reads_each (Jump to) = none_each
   reads_each (Arg mark function index value) = one_each value
-  reads_each (Call function) = none_each
   reads_each (Out mark index value) = one_each value
-  reads_each Ret = none_each
-  reads_each (Trap kind) = none_each
+  reads_each _ = none_each
 
 -- each target is one
 pub goes_each : (place : Place) (command : Command) → HasTargets place command ↔ ((target : ℕ) → GoesTo command target → IsTarget place target)

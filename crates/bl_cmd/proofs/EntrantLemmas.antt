@@ -129,7 +129,6 @@ module _ (commands : List Command) (i : ℕ) where
   more_by : (command : Command) → slice_get commands i ≡ Some command → (entrants : List (Option Entrants)) → AreNoted (Before commands i) entrants → AreNoted (Before commands (i + 1)) (with_entrants command entrants i)
   more_by (Set mark op to a b c) stands entrants are = goes_nowhere commands i _ stands (λ to h. h) entrants are
   more_by (Load mark kind memory to offset address) stands entrants are = goes_nowhere commands i _ stands (λ to h. h) entrants are
-  more_by (Store kind memory offset address value) stands entrants are = goes_nowhere commands i _ stands (λ to h. h) entrants are
   more_by (Test cond one other) stands entrants are =
       let first = noted_more (Before commands i) i one.0 (λ from to h. omega (arith, h.0)) entrants are in
       let second = noted_more (More (Before commands i) i one.0) i other.0 (λ from to h. elim h as (λ _. from ≤ i) [ inl old ↦ omega (arith, old.0) | inr new ↦ omega (arith, new.0) ]) (with_entrant entrants i one.0) first in
@@ -155,23 +154,12 @@ module _ (commands : List Command) (i : ℕ) where
         ],
         λ h. elim ((goes_more commands i _ stands from x).1 h) as (λ _. More (Before commands i) i to.0 from x) [ inl old ↦ inl old | inr new ↦ inr (new.0, sym new.1) ],
       )) (with_entrant entrants i to.0) first
-  more_by (Arg mark function index value) stands entrants are = goes_nowhere commands i _ stands (λ to h. h) entrants are
-  more_by (Call function) stands entrants are = goes_nowhere commands i _ stands (λ to h. h) entrants are
-  more_by (Out mark index value) stands entrants are = goes_nowhere commands i _ stands (λ to h. h) entrants are
-  more_by Ret stands entrants are = goes_nowhere commands i _ stands (λ to h. h) entrants are
-  more_by (Trap kind) stands entrants are = goes_nowhere commands i _ stands (λ to h. h) entrants are
+  more_by _ stands entrants are = goes_nowhere commands i _ stands (λ to h. h) entrants are
 
   length_by : (command : Command) (entrants : List (Option Entrants)) → length (with_entrants command entrants i) ≡ length entrants
-  length_by (Set mark op to a b c) entrants = refl
-  length_by (Load mark kind memory to offset address) entrants = refl
-  length_by (Store kind memory offset address value) entrants = refl
   length_by (Test cond one other) entrants = set_length (with_entrant entrants i one.0) other.0 _ ∙ set_length entrants one.0 _
   length_by (Jump to) entrants = set_length entrants to.0 _
-  length_by (Arg mark function index value) entrants = refl
-  length_by (Call function) entrants = refl
-  length_by (Out mark index value) entrants = refl
-  length_by Ret entrants = refl
-  length_by (Trap kind) entrants = refl
+  length_by _ entrants = refl
 
   pub entered_more : (command : Command) (old new : List (Option Entrants)) → slice_get commands i ≡ Some command → new ≡ with_entrants command old i → AreNoted (Before commands i) old → AreNoted (Before commands (i + 1)) new
   entered_more command old new stands is are = subst (AreNoted (Before commands (i + 1))) (sym is) (more_by command stands old are)

@@ -35,13 +35,6 @@ with_entrant entrants from to = set entrants to (Some (joined (unwrap_or (slice_
 
 -- with the command at a position
 abbrev pub with_entrants : Command → List (Option Entrants) → ℕ → List (Option Entrants)
-with_entrants (Set mark op to a b c) entrants from = entrants
-with_entrants (Load mark kind memory to offset address) entrants from = entrants
-with_entrants (Store kind memory offset address value) entrants from = entrants
 with_entrants (Test cond one other) entrants from = with_entrant (with_entrant entrants from one.0) from other.0
 with_entrants (Jump to) entrants from = with_entrant entrants from to.0
-with_entrants (Arg mark function index value) entrants from = entrants
-with_entrants (Call function) entrants from = entrants
-with_entrants (Out mark index value) entrants from = entrants
-with_entrants Ret entrants from = entrants
-with_entrants (Trap kind) entrants from = entrants
+with_entrants _ entrants from = entrants

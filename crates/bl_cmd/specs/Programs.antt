@@ -38,13 +38,7 @@ abbrev pub IsCommand : Command → Type 0
 IsCommand (Set mark op to a b c) = ArePadded op b c
 IsCommand (Load mark kind memory to offset address) = IsTrue (is_load kind) × (offset < 2 ^ 32)
 IsCommand (Store kind memory offset address value) = IsTrue (not (is_load kind)) × (offset < 2 ^ 32)
-IsCommand (Test cond one other) = Unit {0}
-IsCommand (Jump to) = Unit {0}
-IsCommand (Arg mark function index value) = Unit {0}
-IsCommand (Call function) = Unit {0}
-IsCommand (Out mark index value) = Unit {0}
-IsCommand Ret = Unit {0}
-IsCommand (Trap kind) = Unit {0}
+IsCommand _ = Unit {0}
 
 -- the command at a position is the trap of that kind
 abbrev pub IsTrapAt : List Command → ℕ → Type 0

@@ -95,25 +95,15 @@ operands_of (Set mark op to a b c) = a ∷ b ∷ c ∷ []
 operands_of (Load mark kind memory to offset address) = address ∷ []
 operands_of (Store kind memory offset address value) = address ∷ value ∷ []
 operands_of (Test cond one other) = cond ∷ []
-operands_of (Jump to) = []
 operands_of (Arg mark function index value) = value ∷ []
-operands_of (Call function) = []
 operands_of (Out mark index value) = value ∷ []
-operands_of Ret = []
-operands_of (Trap kind) = []
+operands_of _ = []
 
 -- the variable that a Set or a Load writes
 abbrev pub assigned_by : Command → Option ℕ
 assigned_by (Set mark op to a b c) = Some to.0
 assigned_by (Load mark kind memory to offset address) = Some to.0
-assigned_by (Store kind memory offset address value) = None
-assigned_by (Test cond one other) = None
-assigned_by (Jump to) = None
-assigned_by (Arg mark function index value) = None
-assigned_by (Call function) = None
-assigned_by (Out mark index value) = None
-assigned_by Ret = None
-assigned_by (Trap kind) = None
+assigned_by _ = None
 
 pub record Rule4 (program : Program) (function : ℕ) (command : Command) : Type 0 where
   pub reads : (x : ℕ) → Among (operands_of command) x → IsReadable program function x
@@ -123,29 +113,17 @@ pub record Rule4 (program : Program) (function : ℕ) (command : Command) : Type
 
 -- the command may go to a position that it names
 abbrev pub GoesTo : Command → ℕ → Type 0
-GoesTo (Set mark op to a b c) position = ⊥
-GoesTo (Load mark kind memory to offset address) position = ⊥
-GoesTo (Store kind memory offset address value) position = ⊥
 GoesTo (Test cond one other) position = (one.0 ≡ position) ⊎ (other.0 ≡ position)
 GoesTo (Jump to) position = to.0 ≡ position
-GoesTo (Arg mark function index value) position = ⊥
-GoesTo (Call function) position = ⊥
-GoesTo (Out mark index value) position = ⊥
-GoesTo Ret position = ⊥
-GoesTo (Trap kind) position = ⊥
+GoesTo _ position = ⊥
 
 -- the command never goes to the next position by itself
 abbrev pub Leaves : Command → Type 0
-Leaves (Set mark op to a b c) = ⊥
-Leaves (Load mark kind memory to offset address) = ⊥
-Leaves (Store kind memory offset address value) = ⊥
 Leaves (Test cond one other) = Unit {0}
 Leaves (Jump to) = Unit {0}
-Leaves (Arg mark function index value) = ⊥
-Leaves (Call function) = ⊥
-Leaves (Out mark index value) = ⊥
 Leaves Ret = Unit {0}
 Leaves (Trap kind) = Unit {0}
+Leaves _ = ⊥
 
 -- targets lie in the same function or are the traps 0 to 6; the last command of a function is a Test, Jump, Ret or Trap
 pub record Rule5 (program : Program) (function position : ℕ) (command : Command) : Type 0 where
@@ -163,14 +141,11 @@ abbrev pub Rule6 : Program → ℕ → Command → Type 0
 Rule6 program function (Set mark op to a b c) = IsMark mark
 Rule6 program function (Load mark kind memory to offset address) = IsMark mark × (memory < length program.memories)
 Rule6 program function (Store kind memory offset address value) = memory < length program.memories
-Rule6 program function (Test cond one other) = Unit {0}
-Rule6 program function (Jump to) = Unit {0}
 Rule6 program function (Arg mark callee index value) =
     IsMark mark × (callee < length program.functions) × (index < params_of program callee)
 Rule6 program function (Call callee) = callee < length program.functions
 Rule6 program function (Out mark index value) = IsMark mark × (index < results_of program function)
-Rule6 program function Ret = Unit {0}
-Rule6 program function (Trap kind) = Unit {0}
+Rule6 program function _ = Unit {0}
 
 -- ---- rules 7 and 8: what stands before an access, and before a write of a size
 
@@ -204,16 +179,9 @@ pub record Reach : Type 0 where
 
 -- the access of a Load or a Store
 abbrev pub reach_of : Command → Option Reach
-reach_of (Set mark op to a b c) = None
 reach_of (Load mark kind memory to offset address) = Some (record { address = address; memory = memory; bytes = offset + width_of kind })
 reach_of (Store kind memory offset address value) = Some (record { address = address; memory = memory; bytes = offset + width_of kind })
-reach_of (Test cond one other) = None
-reach_of (Jump to) = None
-reach_of (Arg mark function index value) = None
-reach_of (Call function) = None
-reach_of (Out mark index value) = None
-reach_of Ret = None
-reach_of (Trap kind) = None
+reach_of _ = None
 
 -- an access at a position stands behind `Set t = Outside address size bytes`, at `first`, and `Test t, yes, position`, all in
 -- its function. t is a variable of the function that isn't a result and isn't the address; `yes` is neither of the last two
@@ -281,14 +249,7 @@ Rule8 program function position (Set mark op to a b c) = (memory : ℕ) → memo
     → IsSum program memory op a c × IsGrowth program function position memory b
 Rule8 program function position (Load mark kind memory to offset address) =
     (any : ℕ) → any < length program.memories → to.0 ≡ size_of program any → ⊥
-Rule8 program function position (Store kind memory offset address value) = Unit {0}
-Rule8 program function position (Test cond one other) = Unit {0}
-Rule8 program function position (Jump to) = Unit {0}
-Rule8 program function position (Arg mark callee index value) = Unit {0}
-Rule8 program function position (Call callee) = Unit {0}
-Rule8 program function position (Out mark index value) = Unit {0}
-Rule8 program function position Ret = Unit {0}
-Rule8 program function position (Trap kind) = Unit {0}
+Rule8 program function position _ = Unit {0}
 
 -- ---- rule 9: demands and weights
 

@@ -30,53 +30,29 @@ Among (operand ∷ operands) x = Names operand x ⊎ Among operands x
 abbrev pub mark_of : Command → Option Mark
 mark_of (Set mark op to a b c) = Some mark
 mark_of (Load mark kind memory to offset address) = Some mark
-mark_of (Store kind memory offset address value) = None
-mark_of (Test cond one other) = None
-mark_of (Jump to) = None
 mark_of (Arg mark function index value) = Some mark
-mark_of (Call function) = None
 mark_of (Out mark index value) = Some mark
-mark_of Ret = None
-mark_of (Trap kind) = None
+mark_of _ = None
 
 -- the command is a Load
 abbrev pub Loads : Command → Type 0
-Loads (Set mark op to a b c) = ⊥
 Loads (Load mark kind memory to offset address) = Unit {0}
-Loads (Store kind memory offset address value) = ⊥
-Loads (Test cond one other) = ⊥
-Loads (Jump to) = ⊥
-Loads (Arg mark function index value) = ⊥
-Loads (Call function) = ⊥
-Loads (Out mark index value) = ⊥
-Loads Ret = ⊥
-Loads (Trap kind) = ⊥
+Loads _ = ⊥
 
 -- the variable that the command at a position writes, where it writes one
 abbrev pub written_by : Program → ℕ → Command → Option ℕ
 written_by program position (Set mark op to a b c) = Some to.0
 written_by program position (Load mark kind memory to offset address) = Some to.0
-written_by program position (Store kind memory offset address value) = None
-written_by program position (Test cond one other) = None
-written_by program position (Jump to) = None
 written_by program position (Arg mark function index value) = Some (param program function index)
-written_by program position (Call function) = None
 written_by program position (Out mark index value) = Some (result program (running program position) index)
-written_by program position Ret = None
-written_by program position (Trap kind) = None
+written_by program position _ = None
 
 -- the operands that a Set, an Arg or an Out makes its value of
 abbrev pub moved_by : Command → List Operand
 moved_by (Set mark op to a b c) = a ∷ b ∷ c ∷ []
-moved_by (Load mark kind memory to offset address) = []
-moved_by (Store kind memory offset address value) = []
-moved_by (Test cond one other) = []
-moved_by (Jump to) = []
 moved_by (Arg mark function index value) = value ∷ []
-moved_by (Call function) = []
 moved_by (Out mark index value) = value ∷ []
-moved_by Ret = []
-moved_by (Trap kind) = []
+moved_by _ = []
 
 -- quotients and remainders
 abbrev pub is_division : Op → Bool
@@ -97,12 +73,7 @@ sunk_by (Set mark op to a b c) = if is_division op then a ∷ b ∷ [] else []
 sunk_by (Load mark kind memory to offset address) = address ∷ []
 sunk_by (Store kind memory offset address value) = address ∷ []
 sunk_by (Test cond one other) = cond ∷ []
-sunk_by (Jump to) = []
-sunk_by (Arg mark function index value) = []
-sunk_by (Call function) = []
-sunk_by (Out mark index value) = []
-sunk_by Ret = []
-sunk_by (Trap kind) = []
+sunk_by _ = []
 
 -- ---- the relations over a program
 

@@ -1,12 +1,10 @@
 -- Plain runs: one command a step, in the order of the program. Marks play no part.
-use Rattle.std.specs.Prelude.{ℕ, zero, suc, ◌+◌, ◌*◌, ◌%◌, ◌^◌, ◌==◌, ◌&&◌, nat_eq, nat_lt, if◌then◌else◌, List, [], ◌∷◌, ◌++◌, length, take, drop, Option, Some, None}
-use Rattle.bl_base.specs.Bytes.{number_of, bytes_of}
+use Rattle.std.specs.Prelude.{ℕ, zero, suc, ◌+◌, ◌*◌, ◌%◌, ◌^◌, ◌==◌, ◌&&◌, nat_eq, nat_lt, if◌then◌else◌, List, [], ◌∷◌, length, take, drop, Option, Some, None}
 use Rattle.bl_base.specs.Quantity.{most_calls}
 use Rattle.bl_base.specs.Runs.{MemoryState, Next, goes, ends, stuck, returned, trapped}
 use Rattle.bl_base.specs.declared.trap.Trap.TheVariants as trap_kind
-use Rattle.bl_ops.specs.Access.{extended, narrowed, width_of}
 use Rattle.bl_ops.specs.Numerics.{meaning}
-use Rattle.bl_ops.specs.declared.access.AccessKind.{AccessKind}
+pub use Rattle.bl_bytes.specs.Overlays.{overlay, loaded, stored}
 use Rattle.bl_cmd.specs.Layout.{statics, size_of, results_of, param, result, entry_of, running, command_at, base}
 use Rattle.bl_cmd.specs.declared.command.Operand.{Operand}
 use Rattle.bl_cmd.specs.declared.command.Operand.TheVariants.{Var, Const}
@@ -41,21 +39,9 @@ values_from registers depth x (suc count) = registers depth x ∷ values_from re
 
 -- ---- the space of bytes of all memories
 
--- bytes written over others from a place on; past their end they are dropped
-abbrev pub overlay : ℕ → List ℕ → List ℕ → List ℕ
-overlay from new space = take (length space) (take from space ++ new ++ drop (from + length new) space)
-
 -- where an access begins
 abbrev pub effective : Program → ℕ → ℕ → ℕ → ℕ
 effective program memory offset address = base program memory + (address % 2 ^ 32 + offset)
-
--- what a load takes from a place on; bytes past the space are 0
-abbrev pub loaded : AccessKind → List ℕ → ℕ → ℕ
-loaded kind space from = extended kind (number_of (take (width_of kind) (drop from space)))
-
--- the space with a value stored from a place on
-abbrev pub stored : AccessKind → ℕ → ℕ → List ℕ → List ℕ
-stored kind from value space = overlay from (bytes_of (width_of kind) (narrowed kind value)) space
 
 -- ---- states
 

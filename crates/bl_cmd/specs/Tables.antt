@@ -36,16 +36,9 @@ IsTarget place target = (target < 7) ⊎ Holds place.parts.now place.function ta
 
 -- each target that the command names is one
 abbrev pub HasTargets : Place → Command → Type 0
-HasTargets place (Set mark op to a b c) = Unit {0}
-HasTargets place (Load mark kind memory to offset address) = Unit {0}
-HasTargets place (Store kind memory offset address value) = Unit {0}
 HasTargets place (Test cond one other) = IsTarget place one.0 × IsTarget place other.0
 HasTargets place (Jump to) = IsTarget place to.0
-HasTargets place (Arg mark function index value) = Unit {0}
-HasTargets place (Call function) = Unit {0}
-HasTargets place (Out mark index value) = Unit {0}
-HasTargets place Ret = Unit {0}
-HasTargets place (Trap kind) = Unit {0}
+HasTargets place _ = Unit {0}
 
 -- the function's commands may read what the operand names
 pub record ReadsOne (place : Place) (operand : Operand) : Type 0 where
@@ -57,12 +50,9 @@ ReadsAll place (Set mark op to a b c) = ReadsOne place a × ReadsOne place b × 
 ReadsAll place (Load mark kind memory to offset address) = ReadsOne place address
 ReadsAll place (Store kind memory offset address value) = ReadsOne place address × ReadsOne place value
 ReadsAll place (Test cond one other) = ReadsOne place cond
-ReadsAll place (Jump to) = Unit {0}
 ReadsAll place (Arg mark function index value) = ReadsOne place value
-ReadsAll place (Call function) = Unit {0}
 ReadsAll place (Out mark index value) = ReadsOne place value
-ReadsAll place Ret = Unit {0}
-ReadsAll place (Trap kind) = Unit {0}
+ReadsAll place _ = Unit {0}
 
 -- the test of an access: t is a variable of the function that isn't a result and isn't the address, `yes` isn't
 -- the access, and nothing else comes to the test and the access but by going on

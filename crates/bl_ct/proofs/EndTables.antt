@@ -6,6 +6,7 @@ use Rattle.std.proofs.lemmas.Bool.{cases_lt, cases_eq, false≢true}
 use Rattle.std.proofs.lemmas.List.{get_or-set_same, get_or-set_other, get_or_past, get_or-replicate, length-replicate, take_more}
 use Rattle.std.proofs.lemmas.List.Elements.{Contains-push_cases, Contains-append_left, Contains-push}
 use Rattle.std.proofs.lemmas.Option.{same_Some}
+use Rattle.bl_base.proofs.Lists.{replicate_or}
 use Rattle.bl_cmd.specs.declared.definitions.ProgramParts.{ProgramParts as Program}
 use Rattle.bl_graph.specs.Graphs.{use_of, IsGraph}
 use Rattle.bl_graph.specs.Names.{place_of}
@@ -16,7 +17,7 @@ use Rattle.bl_graph.specs.SecretChains.{Ends, sunk, stored, given}
 use Rattle.bl_ct.specs.Facts.{AreFacts}
 use Rattle.bl_ct.specs.declared.facts.Facts.{Facts}
 use Rattle.bl_graph.specs.Arcs.{is_in}
-use Rattle.bl_ct.specs.SecretSearch.{entry_at, entry_of, mark_of, IsTable, IsNoted, AreEnds, MarksWriters, KeptAt}
+use Rattle.bl_ct.specs.SecretSearch.{entry_of, mark_of, IsTable, IsNoted, AreEnds, MarksWriters, KeptAt}
 use Rattle.bl_graph.proofs.Members.{none_in}
 use Rattle.bl_ct.proofs.NameTables.{at_name, at_others}
 
@@ -59,13 +60,6 @@ note_more names uses u old new table has noted =
       ];
     }
 
-pub no_entry : (n x : ℕ) → entry_at (replicate n None) x ≡ None
-no_entry n x =
-    elim (cases_lt x n) as (λ _. entry_at (replicate n None) x ≡ None) [
-      | inl lt ↦ get_or-replicate n x None None lt
-      | inr past ↦ get_or_past (replicate n None) x None (let e = length-replicate {A = Option ℕ} n None in omega arith)
-    ]
-
 is_none_some : (o : Option ℕ) (e : ℕ) → o ≡ None → o ≡ Some e → ⊥
 is_none_some o e none some_ = false≢true (ap is_some (sym none ∙ some_))
 
@@ -80,7 +74,7 @@ module _ (program : Program) (graph : Graph) (is : IsGraph program graph) (facts
     sound = λ x e h. elim (reads.sound x e h) as (λ _. Ends program x e) [
       | inl before ↦ elim (stores.sound x e before) as (λ _. Ends program x e) [
         | inl first ↦ elim (sinks.sound x e first) as (λ _. Ends program x e) [
-          | inl begun ↦ absurd (is_none_some (entry_of names none x) e (ap (λ l. entry_of names l x) clear ∙ no_entry (length names) (place_of names x)) begun)
+          | inl begun ↦ absurd (is_none_some (entry_of names none x) e (ap (λ l. entry_of names l x) clear ∙ replicate_or (length names) (place_of names x) None) begun)
           | inr there ↦ sunk ((is.sinks.each e x).0 there)
         ]
         | inr there ↦ stored ((are.stores (use_of e x)).0 there)

@@ -39,10 +39,6 @@ entry_at entries place = slice_index_or entries place None
 abbrev pub entry_of : List ℕ → List (Option ℕ) → ℕ → Option ℕ
 entry_of names entries x = entry_at entries (place_of names x)
 
--- for each position the variable that the site there writes
-pub record AreWritten (writes : List Use) (written : List (Option ℕ)) : Type 0 where
-  pub each : (s x : ℕ) → (entry_at written s ≡ Some x) ↔ Contains writes (use_of s x)
-
 -- ---- the search
 
 -- a queue has a step at a place

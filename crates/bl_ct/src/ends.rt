@@ -1,5 +1,5 @@
 //! Where variables may not be secret.
-ghost use Rattle.std.specs.Prelude.{◌≡◌, ◌<◌, ◌^◌, ◌↔◌, ℕ, All, AllPairs, Contains, IsTrue, IfOk, None, length, replicate};
+ghost use Rattle.std.specs.Prelude.{◌≡◌, ◌<◌, ◌^◌, ◌↔◌, ℕ, All, AllPairs, Contains, IsTrue, IfOk, length};
 ghost use Rattle.bl_graph.specs.Secrets.{Demands};
 ghost use Rattle.bl_ct.specs.Facts.{IsKnown};
 ghost use Rattle.bl_graph.specs.Arcs.{is_in};
@@ -7,7 +7,7 @@ ghost use Rattle.bl_ct.specs.SecretSearch.{AreEnds, MarksWriters, IsNoted, IsTab
 
 use crate::facts::{Known, command_count};
 use bl_base::NoMemory;
-use bl_graph::{Names, Use};
+use bl_graph::{Names, Use, no_entries};
 use std::alloc::Global;
 
 /// For each name a position where it may not be secret, if there is one. Linear in the program.
@@ -26,7 +26,7 @@ pub(crate) fn ends_of(
     let writes = known.graph.writes.as_slice();
     let giving = giving_sites(alloc, count, writes, names, demanded)?;
     let last_reads = uses_at(alloc, known.graph.reads.as_slice(), &giving)?;
-    let mut ends = no_entries(alloc, names.len())?;
+    let mut ends = no_entries(alloc, names.len() as usize)?;
     note(&mut ends, names, known.graph.sinks.as_slice());
     note(&mut ends, names, known.facts.stores.as_slice());
     note(&mut ends, names, &last_reads);
@@ -69,17 +69,6 @@ fn uses_at(alloc: Global, uses: &[Use], marks: &[bool]) -> Result<Vec<Use>, NoMe
         }
     }
     Ok(kept)
-}
-
-/// A table of so many places without an entry.
-pub(crate) fn no_entries(alloc: Global, count: u32) -> Result<Vec<Option<u32>>, NoMemory>
-    ensures { IfOk result (λ entries. entries.items ≡ replicate count None) }
-{
-    let mut entries = Vec::new(alloc);
-    for _ in 0..count {
-        entries.push(None)?;
-    }
-    Ok(entries)
 }
 
 /// Notes the uses at the names of their variables.

@@ -1,17 +1,15 @@
 //! The search for secret variables.
 ghost use Rattle.std.specs.Prelude.{◌≡◌, ◌<◌, ◌↔◌, ℕ, All, AllPairs, Contains, IfOk, OnOk, Some, length, map};
 ghost use Rattle.bl_cmd.specs.Sites.{Reads, Writes};
-ghost use Rattle.bl_graph.specs.Graphs.{use_of};
 ghost use Rattle.bl_graph.specs.Names.{place_of};
 ghost use Rattle.bl_ct.specs.Facts.{IsKnown};
 ghost use Rattle.bl_graph.specs.Arcs.{row_at, rows_in};
-ghost use Rattle.bl_ct.specs.SecretSearch.{AreWritten, IsFoundBy, IsTable, Searched, Some_asks, Some_fits, Visits, entry_at, from_name};
+ghost use Rattle.bl_ct.specs.SecretSearch.{IsFoundBy, IsTable, Searched, Some_asks, Some_fits, Visits, entry_at, from_name};
 ghost use Rattle.bl_ct.specs.declared.search.Cause.TheVariants as cause_;
 
-use crate::ends::no_entries;
 use crate::facts::{Declared, Known, SecretLoad, command_count};
-use bl_base::NoMemory;
-use bl_graph::{Arc, Names, Origin, Use, rows_of};
+use bl_base::{NoMemory, Pos, SiteSet};
+use bl_graph::{Arc, Names, Origin, Use, noted_at, rows_of, written_free};
 use std::alloc::Global;
 
 /// By what a variable was found to be secret.
@@ -50,7 +48,9 @@ pub(crate) fn secret_variables(alloc: Global, known: &Known) -> Result<Vec<Step>
     ensures { IfOk result (λ queue. Searched known.now.program.now queue.items) }
 {
     let count = command_count(known.program);
-    let written = written_of(alloc, count, known.graph.writes.as_slice())?;
+    let nowhere = SiteSet::new(alloc);
+    let writes = known.graph.writes.as_slice();
+    let written = written_free(alloc, count as usize, writes, &nowhere)?;
     let arcs = name_arcs(alloc, known.names, known.graph.reads.as_slice())?;
     let readers = rows_of(alloc, &arcs, known.names.len())?;
     search(alloc, known, &readers, &written)
@@ -134,7 +134,7 @@ fn find_loaded(
             at: load.at,
             memory: load.memory,
         };
-        find_written(written_at(written, load.at), cause, names, marks, queue)?;
+        find_written(noted_at(written, Pos(load.at)), cause, names, marks, queue)?;
     }
     Ok(())
 }
@@ -157,7 +157,7 @@ fn find_moved(
 {
     for site in sites {
         let cause = Cause::Moved { at: *site, before };
-        find_written(written_at(written, *site), cause, names, marks, queue)?;
+        find_written(noted_at(written, Pos(*site)), cause, names, marks, queue)?;
     }
     Ok(())
 }
@@ -197,29 +197,6 @@ fn find(
         queue.push(step)?;
     }
     Ok(())
-}
-
-/// For each position the variable that the site there writes.
-fn written_of(alloc: Global, count: u32, writes: &[Use]) -> Result<Vec<Option<u32>>, NoMemory>
-    requires sites { All (λ w. w.at.0 < count) writes.now }
-    requires one { (s x y : ℕ) → Contains writes.now (use_of s x) → Contains writes.now (use_of s y) → x ≡ y }
-    ensures { IfOk result (λ written. AreWritten writes.now written.items) }
-{
-    let mut written = no_entries(alloc, count)?;
-    for write in writes {
-        written[write.at.0 as usize] = Some(write.var.0);
-    }
-    Ok(written)
-}
-
-/// The variable that the site at a position writes.
-fn written_at(written: &[Option<u32>], at: u32) -> Option<u32>
-    ensures { result ≡ entry_at written.now at }
-{
-    match written.get(at as usize) {
-        Some(var) => *var,
-        None => None,
-    }
 }
 
 /// From the number of each name to the sites that read it.

@@ -1,5 +1,5 @@
 -- A program with other protects is well-formed, and what its commands read, write and weigh is as it was.
-use Rattle.std.proofs.Common.{◌≡◌, ℕ, suc, ◌^◌, ◌<◌, ◌⊎◌, inl, inr, Bool, true, false, List, [], ◌∷◌, ◌++◌, length, take, Option, Some, None, unwrap_or, refl, sym, ap, subst, ◌∙◌, arith}
+use Rattle.std.proofs.Common.{◌≡◌, ℕ, suc, ◌^◌, ◌<◌, ◌⊎◌, inl, inr, Bool, true, false, List, [], ◌∷◌, length, Option, Some, None, unwrap_or, refl, sym, ap, subst, ◌∙◌, arith}
 use Rattle.std.specs.Prelude.{IsSomeAnd, IfSome, IsSome, option_map, option_and_then, if◌then◌else◌}
 use Rattle.std.specs.List.{All}
 use Rattle.std.proofs.lemmas.Bool.{false≢true, cases_Bool}
@@ -339,11 +339,3 @@ module _ (set : ℕ → Bool) (program : Program) where
 pub made_is : (set : ℕ → Bool) (program parts : Program) (commands : List Command) → parts ≡ program → commands ≡ marked_from set 0 program.commands
     → (let made : Program = record parts { commands = commands } in made) ≡ protected set program
 made_is set program parts commands e f = ap (λ (p : Program). record p { commands = commands }) e ∙ ap (λ l. record program { commands = l }) f
-
--- the prefix of a list
-pub whole_again : (n : ℕ) (front rest : List Command) → n ≡ length front → take n (front ++ rest) ≡ front
-whole_again n front rest e = ap (λ m. take m (front ++ rest)) e ∙ take_front front rest
-  where
-    take_front : (xs ys : List Command) → take (length xs) (xs ++ ys) ≡ xs
-    take_front [] ys = refl
-    take_front (x ∷ xs) ys = ap (λ l. x ∷ l) (take_front xs ys)

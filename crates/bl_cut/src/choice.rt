@@ -107,6 +107,7 @@ fn choice_of(
     ensures weight { IfOk result (λ choice. choice.weight ≡ weight_of program.now (fin.contains choice.protects)) }
     ensures certificate { IfOk result (λ choice. Certifies (protected (fin.contains choice.protects) program.now) choice.certificate) }
 {
+    ranges(program);
     let commands = program.program().parts().commands.len() as u32;
     let paths = read_back(alloc, commands, sink_of, flow.paths.as_slice())?;
     let weight = flow_sum(&paths);

@@ -1,8 +1,9 @@
 -- Some flow is a maximum: unit after unit goes along trails with residual capacity, until none leads to the end; and it is split into walks.
-use Rattle.std.proofs.Common.{◌≡◌, ℕ, zero, suc, ◌+◌, ◌-◌, ◌^◌, ◌<◌, ◌≤◌, Bool, true, false, List, [], ◌∷◌, ◌++◌, length, drop, cond, reverse, set, length-set, length-drop, Some, refl, sym, ap, subst, ◌∙◌, arith, ◌⊎◌, inl, inr, slice_index, nat_lt, ◌&&◌}
-use Rattle.std.specs.Prelude.{IsSome, filter_map}
+use Rattle.std.proofs.Common.{◌≡◌, ℕ, zero, suc, ◌+◌, ◌-◌, ◌^◌, ◌<◌, ◌≤◌, Bool, true, false, List, [], ◌∷◌, ◌++◌, length, drop, cond, reverse, set, length-set, length-drop, Some, refl, sym, ap, subst, ◌∙◌, arith, ◌⊎◌, inl, inr, slice_get, slice_index, nat_lt, ◌&&◌}
+use Rattle.std.specs.Prelude.{IsSome, filter_map, unwrap_or}
 use Rattle.std.specs.List.{All, Contains}
 use Rattle.std.proofs.lemmas.Bool.{cases_Bool, cases_lt, cases_eq, false≢true, lt-ltb, le-ltb, ltb-true, and_from, and_parts}
+use Rattle.std.proofs.lemmas.Option.{get_or_from_slice_get}
 use Rattle.std.proofs.lemmas.List.{get_or-set_same, get_or-set_other, get_or-drop}
 use Rattle.bl_base.proofs.Sums.{sum_none}
 use Rattle.bl_flow.specs.declared.network.FlowResult.{FlowResult}
@@ -148,35 +149,26 @@ module _ (old trail : List ℕ) (apart : (p q : ℕ) → p < q → q < length tr
 
 -- ---- lists of answers
 
-table : ℕ → (ℕ → Bool) → List Bool
+table : {A : Type 0} → ℕ → (ℕ → A) → List A
 table zero f = []
 table (suc count) f = f 0 ∷ table count (λ v. f (suc v))
 
-table_length : (count : ℕ) (f : ℕ → Bool) → length (table count f) ≡ count
+table_length : {A : Type 0} (count : ℕ) (f : ℕ → A) → length (table count f) ≡ count
 unfolding table
 table_length zero f = refl
 table_length (suc count) f = ap suc (table_length count (λ v. f (suc v)))
 
-table_at : (count : ℕ) (f : ℕ → Bool) (v : ℕ) → v < count → at_place (table count f) v ≡ f v
+table_get : {A : Type 0} (count : ℕ) (f : ℕ → A) (v : ℕ) → v < count → slice_get (table count f) v ≡ Some (f v)
 unfolding table
-table_at zero f v lt = absurd (omega arith)
-table_at (suc count) f zero lt = refl
-table_at (suc count) f (suc v) lt = table_at count (λ v. f (suc v)) v (omega arith)
+table_get zero f v lt = absurd (omega arith)
+table_get (suc count) f zero lt = refl
+table_get (suc count) f (suc v) lt = table_get count (λ v. f (suc v)) v (omega arith)
 
-amounts : ℕ → (ℕ → ℕ) → List ℕ
-amounts zero f = []
-amounts (suc count) f = f 0 ∷ amounts count (λ v. f (suc v))
+table_at : (count : ℕ) (f : ℕ → Bool) (v : ℕ) → v < count → at_place (table count f) v ≡ f v
+table_at count f v lt = ap (λ o. unwrap_or o false) (table_get count f v lt)
 
-amounts_length : (count : ℕ) (f : ℕ → ℕ) → length (amounts count f) ≡ count
-unfolding amounts
-amounts_length zero f = refl
-amounts_length (suc count) f = ap suc (amounts_length count (λ v. f (suc v)))
-
-amounts_at : (count : ℕ) (f : ℕ → ℕ) (v : ℕ) → v < count → slice_index (amounts count f) v ≡ f v
-unfolding amounts
-amounts_at zero f v lt = absurd (omega arith)
-amounts_at (suc count) f zero lt = refl
-amounts_at (suc count) f (suc v) lt = amounts_at count (λ v. f (suc v)) v (omega arith)
+amounts_at : (count : ℕ) (f : ℕ → ℕ) (v : ℕ) → v < count → slice_index (table count f) v ≡ f v
+amounts_at count f v lt = get_or_from_slice_get (table count f) v (f v) 0 (table_get count f v lt)
 
 -- nothing flows yet
 module _ (n : Network) where
@@ -184,12 +176,12 @@ module _ (n : Network) where
   first_of k = cond (nat_lt k (link_count n)) (full_capacity n k) 0
 
   empty : List ℕ
-  empty = amounts (link_count n + link_count n) first_of
+  empty = table (link_count n + link_count n) first_of
 
   empty_is : HasCapacities n (link_count n) empty
   unfolding empty
   empty_is = record {
-    places = amounts_length (link_count n + link_count n) first_of;
+    places = table_length (link_count n + link_count n) first_of;
     all = λ k lt. amounts_at (link_count n + link_count n) first_of k (omega arith) ∙ ap (λ b. cond b (full_capacity n k) 0) (lt-ltb k (link_count n) lt);
     none = λ k lt.
         amounts_at (link_count n + link_count n) first_of (k + link_count n) (omega arith)

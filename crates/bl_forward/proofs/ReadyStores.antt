@@ -10,7 +10,7 @@ use Rattle.bl_ops.specs.declared.access.AccessKind.{AccessKind}
 use Rattle.bl_ops.proofs.Fits.{store_fits}
 use Rattle.bl_cmd.specs.Steps.{effective, overlay}
 use Rattle.bl_cmd.specs.declared.definitions.ProgramParts.{ProgramParts as Program}
-use Rattle.bl_seq.proofs.Spaces.{overlay_length, overlay_next}
+use Rattle.bl_bytes.proofs.OverlayLemmas.{overlay_length, overlay_next}
 use Rattle.bl_rob.specs.declared.entry.Entry.{Entry}
 use Rattle.bl_rob.specs.declared.entry.Work.{Work}
 use Rattle.bl_rob.specs.declared.entry.Work.TheVariants.{Nop, Assign, Load, Held, Done, Store, Ready, Guard, Fail}

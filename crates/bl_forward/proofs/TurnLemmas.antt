@@ -13,6 +13,7 @@ use Rattle.bl_cmd.specs.Steps.{effective}
 use Rattle.bl_cmd.specs.declared.definitions.ProgramParts.{ProgramParts as Program}
 use Rattle.bl_rob.specs.CallResults.{ComesBy, Executes, NeedsMemory, Steps, is_some}
 use Rattle.bl_rob.specs.Machines.{State, become, directive_step, exec_entry, guards, has_pending, visible_of}
+use Rattle.bl_rob.specs.ReachableStates.{IsReachedBy}
 use Rattle.bl_rob.specs.declared.directive.Directive.{Directive}
 use Rattle.bl_rob.specs.declared.directive.Directive.TheVariants.{Fetch, Predict, Exec, Retire}
 use Rattle.bl_rob.specs.declared.directive.Observation.{Observation}
@@ -25,7 +26,7 @@ use Rattle.bl_rob.specs.declared.entry.Register.{Register}
 use Rattle.bl_rob.specs.declared.entry.Work.{Work}
 use Rattle.bl_rob.specs.declared.entry.Work.TheVariants.{Nop, Assign, Load, Held, Done, Store, Ready, Guard, Fail}
 use Rattle.bl_rob.proofs.BufferInvariant.{Holds}
-use Rattle.bl_rob.proofs.ReachabilityLemmas.{KeepAll}
+use Rattle.bl_rob.proofs.ReachabilityLemmas.{KeepAll, steps_reach}
 use Rattle.bl_rob.proofs.BufferRoom.{Fits, acted_fits, comes_fit, executes, step_fits, within}
 use Rattle.bl_forward.specs.ForwardCalls.{ForwardSteps, as_plain, found_behind, is_enabled, turned, turned_at, turned_by, turned_from, turned_where}
 use Rattle.bl_forward.specs.ForwardMachines.{exec_at, exec_work, fills, found_from, found_in, forward_step, plainly, settled, supplied, takes}
@@ -161,9 +162,13 @@ module _ (most : ℕ) (program : Program) where
   all_fit s (Exec n) fits = exec_fits s n (slice_get s.buffer n) refl fits
   all_fit s Retire fits = plain_fits s Retire fits
 
-  -- what a step leaves is within the room
-  pub forward_fits : (old new : State) (d : Directive) (result : Result Seen StepError) → Fits most old → ForwardSteps most program d old result new → Fits most new
-  forward_fits old new d result fits = comes_fit most (forward_step most program old d) (NeedsMemory d) old new result fits (all_fit old d fits)
+  -- what a step leaves is reached and within the room
+  pub forward_kept : (old new : State) (d : Directive) (result : Result Seen StepError) → Fits most old → IsReachedBy (forward_step most program) program old → ForwardSteps most program d old result new
+      → Fits most new × IsReachedBy (forward_step most program) program new
+  forward_kept old new d result fits reached h = (
+    comes_fit most (forward_step most program old d) (NeedsMemory d) old new result fits (all_fit old d fits) h,
+    steps_reach (forward_step most program) program old new d (NeedsMemory d) result reached h,
+  )
 
   -- each directive keeps the buffer along the plain run
   pub forward_keeps : IsProgram program → IsWellFormed program → KeepAll (forward_step most program) program

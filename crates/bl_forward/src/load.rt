@@ -7,11 +7,12 @@ ghost use Rattle.bl_forward.specs.ForwardCalls.{ForwardSteps, as_plain, is_enabl
 
 use crate::find::{Found, found_behind};
 use crate::seen::Seen;
+use bl_bytes::Bytes;
 use bl_rob::{
     Entry, LoadKind, Machine, Observation, Register, StepError, Work, effective, guards, valued,
     visible_of,
 };
-use bl_seq::{Layout, Space};
+use bl_seq::Layout;
 
 /// What executing an entry comes to.
 #[derive(Debug, Drop)]
@@ -70,7 +71,7 @@ pub fn turn_at(machine: &Machine, layout: &Layout, n: usize) -> Turn
 /// What a load behind those entries comes to, where its address is visible or isn't.
 fn turn_from(
     layout: &Layout,
-    space: &Space,
+    space: &Bytes,
     before: &[Entry],
     protect: bool,
     kind: &LoadKind,

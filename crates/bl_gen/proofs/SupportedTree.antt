@@ -43,7 +43,7 @@ unfolding IsIntegerCode
 code_supported seed size i less few =
     (one_all (λ run. IsInteger run.kind) run tt, λ k d inside. of_integers _ (body_used seed size i (omega arith) (omega arith) k d inside))
 
-supported : (seed size : ℕ) → size ≤ 10000 → IsSupported (tree seed size)
+pub supported : (seed size : ℕ) → size ≤ 10000 → IsSupported (tree seed size)
 supported seed size few = record {
   types = one_all IsIntegerFunction type type_supported;
   imports = All-nil (λ entry. IsIntegerImport entry.kind);

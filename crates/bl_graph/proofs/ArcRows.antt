@@ -1,19 +1,11 @@
 -- The rows of arcs, arc by arc.
-use Rattle.std.proofs.Common.{◌≡◌, ℕ, ◌<◌, List, [], ◌∷◌, ◌++◌, length, set, sym, ap, subst, ◌∙◌, inl, inr, replicate}
+use Rattle.std.proofs.Common.{◌≡◌, ℕ, ◌<◌, List, [], ◌∷◌, ◌++◌, length, set, sym, ap, subst, ◌∙◌, inl, inr}
 use Rattle.std.specs.List.{Contains}
 use Rattle.std.proofs.lemmas.Bool.{cases_eq}
 use Rattle.std.proofs.lemmas.List.{get_or-set_same, get_or-set_other}
 use Rattle.std.proofs.lemmas.List.Elements.{Contains-push_cases, Contains-append_left, Contains-push}
-use Rattle.bl_base.proofs.Lists.{replicate_or}
 use Rattle.bl_graph.specs.declared.arcs.Arc.{Arc}
 use Rattle.bl_graph.specs.Arcs.{RowsOf, row_at}
-use Rattle.bl_graph.proofs.Members.{none_in}
-
-pub no_rows : (n : ℕ) → RowsOf [] (replicate n [])
-no_rows n = record {
-  sound = λ u v h. absurd (none_in v (subst (λ l. Contains l v) (replicate_or n u []) h));
-  full = λ u v h. absurd (none_in (record { from = u; to = v }) h);
-}
 
 module _ (arcs : List Arc) (rows : List (List ℕ)) (so_far : RowsOf arcs rows) (arc : Arc) where
   module _ (within : arc.from < length rows) where

@@ -9,6 +9,7 @@ pub mod RangeLemmas
 pub mod ProtectPaths
 pub mod ArcRows
 pub mod UseRows
+pub mod WrittenTables
 pub mod VariableSums
 pub mod RisingLists
 pub mod Closures

@@ -7,5 +7,6 @@ pub mod Labels
 pub mod Names
 pub mod Ranges
 pub mod UseLists
+pub mod WrittenVariables
 pub mod SecretChains
 pub mod Secrets

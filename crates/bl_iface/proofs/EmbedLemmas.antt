@@ -125,15 +125,12 @@ module _ (part whole : Program) (n : Renaming) (own : ℕ → ℕ) (e : Embeds p
   rule6 f (Set mark op to a b c) lt rule = rule
   rule6 f (Load mark kind memory to offset address) lt rule = (rule.0, e.memory memory rule.1)
   rule6 f (Store kind memory offset address value) lt rule = e.memory memory rule
-  rule6 f (Test cond one other) lt rule = tt
-  rule6 f (Jump to) lt rule = tt
   rule6 f (Arg mark callee index value) lt rule =
       let there = e.callee callee rule.1 in
       (rule.0, there.0, subst (λ k. index < k) (sym there.1) rule.2)
   rule6 f (Call callee) lt rule = (e.callee callee rule).0
   rule6 f (Out mark index value) lt rule = (rule.0, subst (λ k. index < k) (sym (e.results f lt)) rule.1)
-  rule6 f Ret lt rule = tt
-  rule6 f (Trap kind) lt rule = tt
+  rule6 f _ lt rule = tt
 
   -- ---- rules 7 and 8
 
@@ -189,16 +186,9 @@ module _ (part whole : Program) (n : Renaming) (own : ℕ → ℕ) (e : Embeds p
       }
 
   pub rule7 : (f p : ℕ) (c : Command) → Holds part f p → Rule4 part f c → Rule6 part f c → Rule7 part f p c → Rule7 whole (own f) (n.position p) (renamed n c)
-  rule7 f p (Set mark op to a b c) holds four six h = tt
   rule7 f p (Load mark kind memory to offset address) holds four six h = tested f p _ holds six.1 (λ x is. four.reads x (inl is)) h
   rule7 f p (Store kind memory offset address value) holds four six h = tested f p _ holds six (λ x is. four.reads x (inl is)) h
-  rule7 f p (Test cond one other) holds four six h = tt
-  rule7 f p (Jump to) holds four six h = tt
-  rule7 f p (Arg mark callee index value) holds four six h = tt
-  rule7 f p (Call callee) holds four six h = tt
-  rule7 f p (Out mark index value) holds four six h = tt
-  rule7 f p Ret holds four six h = tt
-  rule7 f p (Trap kind) holds four six h = tt
+  rule7 f p _ holds four six h = tt
 
   -- a position before one that no function begins at is of the same function
   before : (f p q : ℕ) → Holds part f p → p ≡ suc q → entry_of part f ≢ p → Holds part f q
@@ -279,11 +269,4 @@ module _ (part whole : Program) (n : Renaming) (own : ℕ → ℕ) (e : Embeds p
   pub rule8 : (f p : ℕ) (c : Command) → Holds part f p → Rule4 part f c → Rule8 part f p c → Rule8 whole (own f) (n.position p) (renamed n c)
   rule8 f p (Set mark op to a b c) holds four h = sized f p mark op to a b c holds four h
   rule8 f p (Load mark kind memory to offset address) holds four h = λ m lt same. let found = e.no_size f to.0 m four.writes lt same in h found.0 found.1 found.2
-  rule8 f p (Store kind memory offset address value) holds four h = tt
-  rule8 f p (Test cond one other) holds four h = tt
-  rule8 f p (Jump to) holds four h = tt
-  rule8 f p (Arg mark callee index value) holds four h = tt
-  rule8 f p (Call callee) holds four h = tt
-  rule8 f p (Out mark index value) holds four h = tt
-  rule8 f p Ret holds four h = tt
-  rule8 f p (Trap kind) holds four h = tt
+  rule8 f p _ holds four h = tt

@@ -16,7 +16,7 @@ use Rattle.bl_cmd.specs.Programs.{ArePadded, IsCommand, IsProgram}
 use Rattle.bl_cmd.specs.Sites.{weight_of}
 use Rattle.bl_cmd.specs.Rules.{IsDemand, IsFunction, IsMemory, IsWeight, IsWellFormed, Precedes, Rule1, Rule2, Rule3, Rule9}
 use Rattle.bl_cmd.specs.declared.command.Command.{Command}
-use Rattle.bl_cmd.specs.declared.command.Command.TheVariants.{Set, Load, Store, Test, Jump, Arg, Call, Out, Ret, Trap}
+use Rattle.bl_cmd.specs.declared.command.Command.TheVariants.{Set, Load, Store}
 use Rattle.bl_cmd.specs.declared.command.Operand.{Operand}
 use Rattle.bl_cmd.specs.declared.definitions.Demand.{Demand}
 use Rattle.bl_cmd.specs.declared.definitions.Demand.TheVariants as demand
@@ -44,13 +44,7 @@ is_command : (n : Renaming) (c : Command) → IsCommand c → IsCommand (renamed
 is_command n (Set mark op to a b c) h = padded n op b c h
 is_command n (Load mark kind memory to offset address) h = h
 is_command n (Store kind memory offset address value) h = h
-is_command n (Test cond one other) h = tt
-is_command n (Jump to) h = tt
-is_command n (Arg mark function index value) h = tt
-is_command n (Call function) h = tt
-is_command n (Out mark index value) h = tt
-is_command n Ret h = tt
-is_command n (Trap kind) h = tt
+is_command n _ h = tt
 
 are_commands : (n : Renaming) (cs : List Command) → All IsCommand cs → All IsCommand (map (renamed n) (drop 7 cs))
 are_commands n cs h = All-map IsCommand (renamed n) (drop 7 cs) (All-weaker IsCommand (λ c. IsCommand (renamed n c)) (is_command n) (drop 7 cs) (All-drop IsCommand 7 cs h))

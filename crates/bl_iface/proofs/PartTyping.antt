@@ -9,7 +9,7 @@ use Rattle.bl_cmd.specs.Programs.{IsProgram}
 use Rattle.bl_cmd.specs.Rules.{IsOwn, IsReadable, IsWellFormed, Rule4, Rule6, operands_of}
 use Rattle.bl_cmd.specs.Sites.{Among, Loads, is_division, moved_by, sunk_by, written_by}
 use Rattle.bl_cmd.specs.declared.command.Command.{Command}
-use Rattle.bl_cmd.specs.declared.command.Command.TheVariants.{Set, Load, Store, Test, Jump, Arg, Call, Out, Ret, Trap}
+use Rattle.bl_cmd.specs.declared.command.Command.TheVariants.{Set, Load, Store, Test, Arg, Out, Trap}
 use Rattle.bl_cmd.specs.declared.command.Operand.{Operand}
 use Rattle.bl_cmd.specs.declared.definitions.ProgramParts.{ProgramParts as Program}
 use Rattle.bl_cmd.proofs.Layouts.{held_by, result_own, running_is}
@@ -79,15 +79,7 @@ module _ (n : Renaming) where
 
   sunk_renamed : (c : Command) → sunk_by (renamed n c) ≡ map (operand_by n.read) (sunk_by c)
   sunk_renamed (Set mark op to a b c) = sunk_set (is_division op) a b
-  sunk_renamed (Load mark kind memory to offset address) = refl
-  sunk_renamed (Store kind memory offset address value) = refl
-  sunk_renamed (Test cond one other) = refl
-  sunk_renamed (Jump to) = refl
-  sunk_renamed (Arg mark function index value) = refl
-  sunk_renamed (Call function) = refl
-  sunk_renamed (Out mark index value) = refl
-  sunk_renamed Ret = refl
-  sunk_renamed (Trap kind) = refl
+  sunk_renamed _ = refl
 
   loads_renamed : (c : Command) → Loads (renamed n c) → Loads c
   loads_renamed c = elim c as (λ c. Loads (renamed n c) → Loads c) [ Set mark op to a b d ↦ λ h. h | _ ↦ λ h. h ]
@@ -95,15 +87,9 @@ module _ (n : Renaming) where
 -- what a site makes its value of, and what a sink reads, is among the operands
 moved_among : (c : Command) (x : ℕ) → Among (moved_by c) x → Among (operands_of c) x
 moved_among (Set mark op to a b c) x h = h
-moved_among (Load mark kind memory to offset address) x h = absurd h
-moved_among (Store kind memory offset address value) x h = absurd h
-moved_among (Test cond one other) x h = absurd h
-moved_among (Jump to) x h = absurd h
 moved_among (Arg mark function index value) x h = h
-moved_among (Call function) x h = absurd h
 moved_among (Out mark index value) x h = h
-moved_among Ret x h = absurd h
-moved_among (Trap kind) x h = absurd h
+moved_among _ x h = absurd h
 
 sunk_among_set : (d : Bool) (a b c : Operand) (x : ℕ) → Among (if d then a ∷ b ∷ [] else []) x → Among (a ∷ b ∷ c ∷ []) x
 sunk_among_set true a b c x h = elim h as (λ _. Among (a ∷ b ∷ c ∷ []) x) [
@@ -117,12 +103,7 @@ sunk_among (Set mark op to a b c) x h = sunk_among_set (is_division op) a b c x 
 sunk_among (Load mark kind memory to offset address) x h = h
 sunk_among (Store kind memory offset address value) x h = elim h as (λ _. Among (address ∷ value ∷ []) x) [ inl one ↦ inl one | inr none ↦ absurd none ]
 sunk_among (Test cond one other) x h = h
-sunk_among (Jump to) x h = absurd h
-sunk_among (Arg mark function index value) x h = absurd h
-sunk_among (Call function) x h = absurd h
-sunk_among (Out mark index value) x h = absurd h
-sunk_among Ret x h = absurd h
-sunk_among (Trap kind) x h = absurd h
+sunk_among _ x h = absurd h
 
 -- ---- variables are fewer than all
 
@@ -149,15 +130,10 @@ module _ (part whole : Program) (shift : Shift) (n : Renaming) (typing joint set
       → (was : ℕ) × (written_by part p c ≡ Some was) × (IsTrue (typing was) → IsTrue (joint y))
   written f p (Set mark op to a b c) y holds four six is = (to.0, refl, assigned to.0 y (writable_small part well.rule2 f to.0 four.writes) is)
   written f p (Load mark kind memory to offset address) y holds four six is = (to.0, refl, assigned to.0 y (writable_small part well.rule2 f to.0 four.writes) is)
-  written f p (Store kind memory offset address value) y holds four six is = absurd (none-some y is)
-  written f p (Test cond one other) y holds four six is = absurd (none-some y is)
-  written f p (Jump to) y holds four six is = absurd (none-some y is)
   written f p (Arg mark function index value) y holds four six is =
       (param part function index, refl, λ t. subst (λ k. IsTrue (joint k)) (same_Some _ y is) (typed.args function index six.1 six.2 t))
-  written f p (Call function) y holds four six is = absurd (none-some y is)
   written f p (Out mark index value) y holds four six is = (result part (running part p) index, refl, handed f p index y holds six.1 is)
-  written f p Ret y holds four six is = absurd (none-some y is)
-  written f p (Trap kind) y holds four six is = absurd (none-some y is)
+  written f p _ y holds four six is = absurd (none-some y is)
 
   -- a read of the part, and what its variable was
   was_read : (f : ℕ) (c : Command) (x : ℕ) (operands : List Operand) → f < length part.functions → Rule4 part f c → ((y : ℕ) → Among operands y → Among (operands_of c) y)

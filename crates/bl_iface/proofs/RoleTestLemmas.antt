@@ -2,7 +2,7 @@
 use Rattle.std.proofs.Common.{◌≡◌, inl, inr, ℕ, ◌+◌, ◌-◌, ◌<◌, Bool, true, false, List, [], ◌∷◌, length, get_or, Option, Some, None, slice_get, IsTrue, refl, sym, ap, ◌∙◌, subst, arith}
 use Rattle.std.specs.Prelude.{◌↔◌, nat_le, not, option_map, unwrap_or}
 use Rattle.std.specs.List.{All, list_any}
-use Rattle.std.proofs.lemmas.Bool.{and_from, and_parts, false_from_ne_true, false≢true, le-leb, leb-true, or_cases, not_from_false, or_left, or_right}
+use Rattle.std.proofs.lemmas.Bool.{and_from, and_parts, false≢true, le-leb, leb-true, or_cases, or_left, or_right}
 use Rattle.std.proofs.lemmas.List.Elements.{All-cons, All-head, All-tail}
 use Rattle.std.proofs.lemmas.Option.{slice_get_within}
 use Rattle.bl_base.proofs.BoolLemmas.{never_both}
@@ -16,11 +16,13 @@ use Rattle.bl_iface.proofs.VariableBounds.{own_small}
 use Rattle.bl_iface.proofs.PartTyping.{known}
 use Rattle.bl_iface.proofs.JoinedTyping.{param_own}
 use Rattle.bl_cmd.specs.declared.definitions.ProgramParts.{ProgramParts as Program}
-use Rattle.bl_transient.specs.Transient.{Flows, Asked, AssignsUnder, FlowsUnder, TransUnder, loaded, moved, given}
+use Rattle.bl_transient.specs.Transient.{Flows, Asked, FlowsUnder, TransUnder}
 use Rattle.bl_iface.specs.JoinedProgram.{exported}
 use Rattle.bl_iface.specs.InterfaceFunctions.{Matches}
 use Rattle.bl_iface.specs.Roles.{FlowsAs}
 use Rattle.bl_transient.specs.Verdicts.{IsBad, load, sink, site}
+use Rattle.bl_transient.proofs.BarredUses.{firm_bad}
+use Rattle.bl_transient.proofs.LeastTypings.{exact_flows, trans_least}
 use Rattle.bl_iface.specs.RoleTests.{asked, is_called, is_flow, params_called, results_called}
 use Rattle.bl_iface.specs.declared.iface.FnIface.{FnIface}
 use Rattle.bl_iface.specs.declared.iface.Iface.{Iface}
@@ -147,34 +149,17 @@ module _ (iface : Iface) (program : Program) (typing set : ℕ → Bool) where
 -- ---- a set passes, or there is a position that tells why it doesn't
 
 module _ (asks : Asked) (program : Program) (set : ℕ → Bool) where
-  pub trans_least : (typing : ℕ → Bool) (x : ℕ) → AssignsUnder asks program typing set → TransUnder asks program set x → IsTrue (typing x)
-  trans_least typing x keeps (loaded s _ is writes may) = keeps.loads s x is writes may
-  trans_least typing x keeps (moved s y _ reads writes may t) = keeps.moves s y x reads writes may (trans_least typing y keeps t)
-  trans_least typing x keeps (given _ h) = keeps.given x h
-
   pub bad_fails : (typing : ℕ → Bool) (position : ℕ) → FlowsUnder asks program typing set → IsBad asks program set position → ⊥
-  bad_fails typing position h (sink x reads t) = never_both (typing x) (trans_least typing x h.assigns t) (h.sinks position x reads)
+  bad_fails typing position h (sink x reads t) = never_both (typing x) (trans_least asks program typing set x h.assigns t) (h.sinks position x reads)
   bad_fails typing position h (load y is writes may firm) = never_both (typing y) (h.assigns.loads position y is writes may) (h.firm y firm)
   bad_fails typing position h (site x y reads t writes may firm) =
-      never_both (typing y) (h.assigns.moves position x y reads writes may (trans_least typing x h.assigns t)) (h.firm y firm)
+      never_both (typing y) (h.assigns.moves position x y reads writes may (trans_least asks program typing set x h.assigns t)) (h.firm y firm)
 
   -- where nothing is asked to be both
-  module _ (apart : (x : ℕ) → IsTrue (asks.hot x) → IsTrue (asks.firm x) → ⊥) (typing : ℕ → Bool) (exact : (x : ℕ) → IsTrue (typing x) ↔ TransUnder asks program set x) where
-    firm_bad : (x : ℕ) → IsTrue (asks.firm x) → TransUnder asks program set x → (position : ℕ) × IsBad asks program set position
-    firm_bad x firm (loaded s _ is writes may) = (s, load x is writes may firm)
-    firm_bad x firm (moved s y _ reads writes may t) = (s, site y x reads t writes may firm)
-    firm_bad x firm (given _ h) = absurd (apart x h firm)
-
-    pub none_passes : ((position : ℕ) → IsBad asks program set position → ⊥) → FlowsUnder asks program typing set
-    none_passes none = record {
-      assigns = record {
-        loads = λ s x is writes may. (exact x).1 (loaded s x is writes may);
-        moves = λ s x y reads writes may t. (exact y).1 (moved s x y reads writes may ((exact x).0 t));
-        given = λ x h. (exact x).1 (given x h);
-      };
-      sinks = λ position x reads. not_from_false (typing x) (false_from_ne_true (typing x) (λ t. none position (sink x reads ((exact x).0 t))));
-      firm = λ x h. not_from_false (typing x) (false_from_ne_true (typing x) (λ t. let bad = firm_bad x h ((exact x).0 t) in none bad.0 bad.1));
-    }
+  pub none_passes : ((x : ℕ) → IsTrue (asks.hot x) → IsTrue (asks.firm x) → ⊥) → (typing : ℕ → Bool) → ((x : ℕ) → IsTrue (typing x) ↔ TransUnder asks program set x)
+      → ((position : ℕ) → IsBad asks program set position → ⊥) → FlowsUnder asks program typing set
+  none_passes apart typing exact none =
+      exact_flows asks program set typing exact (λ position x reads t. none position (sink x reads t)) (λ x firm t. let bad = firm_bad asks program set apart x firm t in none bad.0 bad.1)
 
 -- ---- parameters are no results
 

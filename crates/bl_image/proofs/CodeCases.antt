@@ -1,5 +1,6 @@
 -- Which things have a code.
-use Rattle.std.proofs.Common.{◌≡◌, ℕ, refl, arith}
+use Rattle.std.proofs.Common.{◌≡◌, ℕ, ◌≤◌, List, length, drop, Result as Answer, refl, arith}
+use Rattle.std.specs.Result.{IsErrAnd}
 use Rattle.bl_base.specs.declared.number.Pos.{Pos}
 use Rattle.bl_base.specs.declared.number.Var.{Var as Variable}
 use Rattle.bl_base.specs.declared.trap.Trap.{Trap as TrapKind}
@@ -12,7 +13,12 @@ use Rattle.bl_cmd.specs.declared.command.Command.{Command}
 use Rattle.bl_cmd.specs.declared.command.Command.TheVariants.{Set, Load, Store, Test, Jump, Arg, Call, Out, Ret, Trap}
 use Rattle.bl_cmd.specs.declared.definitions.Demand.{Demand}
 use Rattle.bl_cmd.specs.declared.definitions.Demand.TheVariants as demands
-use Rattle.bl_image.specs.Image.{operand_code, demand_code, command_code}
+use Rattle.bl_cmd.specs.Programs.{IsCommand}
+use Rattle.bl_leb.specs.Grammar.{given}
+use Rattle.bl_image.specs.Image.{operand_code, demand_code, command_code, fields}
+use Rattle.bl_image.specs.ReaderAnswers.{Begins, NoneBegins, Finds, fields_behind}
+use Rattle.bl_image.specs.declared.error.Malformed.{Malformed}
+use Rattle.bl_image.proofs.ReaderLemmas.{fails, begins_case, begins_given, none_case, none_given, none_unless}
 
 -- ---- operands
 
@@ -132,3 +138,19 @@ to_set p = Set p.0.0 p.0.1.0 p.0.1.1 p.1.0 p.1.1.0 p.1.1.1
 pub is_set : (y : Command) → command_code y ≡ 0 → (p : SetParts × Operands) × (y ≡ to_set p)
 is_set (Set m op to a b c) e = (((m, (op, to)), (a, (b, c))), refl)
 is_set _ e = absurd (omega arith)
+
+-- ---- the fields of a command, read by its parts
+
+module _ {A : Type 0} (to : A → Command) (code : ℕ) (cover : (y : Command) → command_code y ≡ code → (p : A) × (y ≡ to p)) (bytes : List ℕ) (i : ℕ) where
+  pub fields_fails : (r : Answer (Command × ℕ) Malformed) (e : Malformed) → IsErrAnd r (λ y. y ≡ e) → NoneBegins (λ p. fields (to p)) (drop i bytes) → Finds (fields_behind code) bytes i r
+  fields_fails r e gives none =
+      fails (λ p. fields (to p)) (fields_behind code) bytes i i r e gives
+      (λ none. none_case command_code (λ y. given (IsCommand y) (fields y)) to code (drop i bytes) cover (none_given (λ p. fields (to p)) (λ p. IsCommand (to p)) (drop i bytes) none)) none
+
+  pub fields_found : (j : ℕ) (a : A) → command_code (to a) ≡ code → IsCommand (to a) → (j ≤ length bytes) × Begins (λ p. fields (to p)) (drop i bytes) a (drop j bytes) → (j ≤ length bytes) × Begins (fields_behind code) (drop i bytes) (to a) (drop j bytes)
+  fields_found j a is holds h =
+      (h.0, begins_case command_code (λ y. given (IsCommand y) (fields y)) to code (drop i bytes) (drop j bytes) a is cover (begins_given (λ p. fields (to p)) (λ p. IsCommand (to p)) (drop i bytes) (drop j bytes) a holds h.1))
+
+  -- where what is read is no command
+  pub fields_unless : (j : ℕ) (a : A) → (IsCommand (to a) → ⊥) → Begins (λ p. fields (to p)) (drop i bytes) a (drop j bytes) → NoneBegins (fields_behind code) (drop i bytes)
+  fields_unless j a never h = none_case command_code (λ y. given (IsCommand y) (fields y)) to code (drop i bytes) cover (none_unless (λ p. fields (to p)) (λ p. IsCommand (to p)) (drop i bytes) (drop j bytes) a never h)

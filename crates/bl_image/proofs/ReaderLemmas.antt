@@ -99,6 +99,16 @@ passes F B bytes i j r e gives along h = let p = err_from_is_err_and r gives in 
 pub fails : {A X : Type 0} (F : A → Spellings) (B : X → Spellings) (bytes : List ℕ) (i j : ℕ) (r : Result (X × ℕ) Malformed) (e : Malformed) → IsErrAnd r (λ y. y ≡ e) → (NoneBegins F (drop i bytes) → NoneBegins B (drop j bytes)) → NoneBegins F (drop i bytes) → Finds B bytes j r
 fails F B bytes i j r e gives along none = let p = err_from_is_err_and r gives in rw p.1 (along none)
 
+-- a thing that is read by its parts, and made up of them
+pub parts_passes : {A X : Type 0} (B : X → Spellings) (parts : X → A) (whole : A → X) (bytes : List ℕ) (i : ℕ) (r : Result (X × ℕ) ReadError) (e : ReadError) → IsErrAnd r (λ y. y ≡ e) → Refuses (λ p. B (whole p)) bytes i e → Reads (λ y. B (whole (parts y))) bytes i r
+parts_passes B parts whole bytes i r e gives h = passes (λ p. B (whole p)) (λ y. B (whole (parts y))) bytes i i r e gives (none_via (λ p. B (whole p)) (λ y. B (whole (parts y))) (drop i bytes) (λ y t h. (parts y, h))) h
+
+pub parts_fails : {A X : Type 0} (B : X → Spellings) (parts : X → A) (whole : A → X) (bytes : List ℕ) (i : ℕ) (r : Result (X × ℕ) Malformed) (e : Malformed) → IsErrAnd r (λ y. y ≡ e) → NoneBegins (λ p. B (whole p)) (drop i bytes) → Finds (λ y. B (whole (parts y))) bytes i r
+parts_fails B parts whole bytes i r e gives none = fails (λ p. B (whole p)) (λ y. B (whole (parts y))) bytes i i r e gives (none_via (λ p. B (whole p)) (λ y. B (whole (parts y))) (drop i bytes) (λ y t h. (parts y, h))) none
+
+pub parts_read : {A X : Type 0} (B : X → Spellings) (parts : X → A) (whole : A → X) (bytes : List ℕ) (i j : ℕ) (x : X) → ((y : X) → whole (parts y) ≡ y) → (j ≤ length bytes) × Begins (λ p. B (whole p)) (drop i bytes) (parts x) (drop j bytes) → (j ≤ length bytes) × Begins (λ y. B (whole (parts y))) (drop i bytes) x (drop j bytes)
+parts_read B parts whole bytes i j x back h = (h.0, begins_from (λ p. B (whole p)) parts whole (drop i bytes) (drop j bytes) x back h.1)
+
 -- a tail call: what it read, or why it read nothing
 pub reads_as : {A : Type 0} (F B : A → Spellings) (bytes : List ℕ) (i j : ℕ) (r : Result (A × ℕ) ReadError) → ((x : A) (m : List ℕ) → Begins F (drop i bytes) x m → Begins B (drop j bytes) x m) → (NoneBegins F (drop i bytes) → NoneBegins B (drop j bytes)) → Reads F bytes i r → Reads B bytes j r
 reads_as F B bytes i j (Ok found) some none h = (h.0, some found.0 (drop found.1 bytes) h.1)

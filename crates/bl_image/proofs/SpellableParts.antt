@@ -51,11 +51,14 @@ rises_few number (x ∷ xs) least most rise small le =
 row_small : (number pages reserve : ℕ) → number * 16 + 16 ≤ pages * 65536 → pages ≤ reserve → reserve ≤ 256 → number < 1048576
 row_small number pages reserve within p r = omega arith
 
+rows_rise : (one : MemoryDef) → IsMemory one → Rises (λ (row : MemRow). row.number) 0 one.rows
+rows_rise one h = rises (λ (row : MemRow). row.number) one.rows 0 h.rising (λ j d less. omega arith)
+
+pub rows_few : (one : MemoryDef) → IsMemory one → length one.rows ≤ 1048576
+rows_few one h = omega (arith, rises_few (λ (row : MemRow). row.number) one.rows 0 1048576 (rows_rise one h) (λ j d less. row_small (slice_index_or one.rows j d).number one.pages one.reserve (h.rows j d less).within h.pages h.reserve) (omega arith))
+
 pub memory_fits : (one : MemoryDef) → IsMemory one → MemoryFits one
-memory_fits one h =
-    let rise = rises (λ (row : MemRow). row.number) one.rows 0 h.rising (λ j d less. omega arith) in
-    let few = rises_few (λ (row : MemRow). row.number) one.rows 0 1048576 rise (λ j d less. row_small (slice_index_or one.rows j d).number one.pages one.reserve (h.rows j d less).within h.pages h.reserve) (omega arith) in
-    record { few = omega arith; rise = rise }
+memory_fits one h = let few = rows_few one h in record { few = omega arith; rise = rows_rise one h }
 
 -- the definitions
 pub definitions_fit : (program : Program) → IsWellFormed program → DefinitionsFit program
@@ -150,14 +153,9 @@ additions_fit program w =
 mark_fits : (program : Program) (function : ℕ) (command : Command) → Rule6 program function command → MarkFits command
 mark_fits program function (Set mark op to a b c) h = h
 mark_fits program function (Load mark kind memory to offset address) h = h.0
-mark_fits program function (Store kind memory offset address value) h = tt
-mark_fits program function (Test cond one other) h = tt
-mark_fits program function (Jump to) h = tt
 mark_fits program function (Arg mark callee index value) h = h.0
-mark_fits program function (Call callee) h = tt
 mark_fits program function (Out mark index value) h = h.0
-mark_fits program function Ret h = tt
-mark_fits program function (Trap kind) h = tt
+mark_fits program function _ h = tt
 
 pub commands_fit : (program : Program) → IsProgram program → IsWellFormed program → All CommandFits (drop 7 program.commands)
 commands_fit program facts w = λ k d less.

@@ -18,12 +18,9 @@ HasConstants (Set mark op to a b c) = HasWidth a × HasWidth b × HasWidth c
 HasConstants (Load mark kind memory to offset address) = HasWidth address
 HasConstants (Store kind memory offset address value) = HasWidth address × HasWidth value
 HasConstants (Test cond one other) = HasWidth cond
-HasConstants (Jump to) = Unit {0}
 HasConstants (Arg mark function index value) = HasWidth value
-HasConstants (Call function) = Unit {0}
 HasConstants (Out mark index value) = HasWidth value
-HasConstants Ret = Unit {0}
-HasConstants (Trap kind) = Unit {0}
+HasConstants _ = Unit {0}
 
 -- the numbers of a program that its rules bound nowhere by themselves (of listed weights they bound the sum)
 pub record HasWidths (program : Program) : Type 0 where

@@ -26,14 +26,9 @@ Rises number least (x ∷ xs) = (least ≤ number x) × Rises number (suc (numbe
 abbrev pub MarkFits : Command → Type 0
 MarkFits (Set mark op to a b c) = IsMark mark
 MarkFits (Load mark kind memory to offset address) = IsMark mark
-MarkFits (Store kind memory offset address value) = Unit {0}
-MarkFits (Test cond one other) = Unit {0}
-MarkFits (Jump to) = Unit {0}
 MarkFits (Arg mark function index value) = IsMark mark
-MarkFits (Call function) = Unit {0}
 MarkFits (Out mark index value) = IsMark mark
-MarkFits Ret = Unit {0}
-MarkFits (Trap kind) = Unit {0}
+MarkFits _ = Unit {0}
 
 -- a command can be spelled
 pub record CommandFits (command : Command) : Type 0 where

@@ -1,10 +1,12 @@
 -- What stands behind the first byte of an entry.
-use Rattle.std.proofs.Common.{◌≡◌, ℕ, List, arith, subst, sym}
+use Rattle.std.proofs.Common.{◌≡◌, ℕ, List, ◌∙◌, Result, arith, subst, sym}
+use Rattle.std.specs.Result.{IsErrAnd}
 use Rattle.bl_leb.specs.Grammar.{Spellings, byte}
 use Rattle.bl_wasm.specs.Values.{u32}
-use Rattle.bl_code.specs.ReaderAnswers.{IsAt, NoneAt}
+use Rattle.bl_code.specs.ReaderAnswers.{IsAt, NoneAt, Finds}
 use Rattle.bl_code.specs.Unique.{PrefixFree}
-use Rattle.bl_code.proofs.Places.{is_at, join, none_after, stands}
+use Rattle.bl_code.specs.declared.error.Malformed.{Malformed}
+use Rattle.bl_code.proofs.Places.{is_at, join, none_after, passes_none, stands}
 use Rattle.bl_code.proofs.Unique.{byte_same}
 use Rattle.bl_labels.specs.Entries.{entry_code, entry, named, place}
 use Rattle.bl_labels.specs.declared.entry.Entry.{Entry}
@@ -19,17 +21,20 @@ pub place_at : (bytes : List ℕ) (i j k f n : ℕ) → IsAt u32 bytes i j f →
 place_at bytes i j k f n first second =
     is_at place bytes i k (record { function = f; index = n }) (join bytes i j k (stands u32 bytes i j f first) (stands u32 bytes j k n second))
 
--- an entry by its byte and what is behind it
-pub at_entry : {A : Type 0} (F : A → Spellings) (kind : A → Entry) (y : A) (n : ℕ) (bytes : List ℕ) (i j k : ℕ) → ((t : List ℕ) → F y t → named (kind y) t) → entry_code (kind y) ≡ n → IsAt byte bytes i j n → IsAt F bytes j k y → IsAt entry bytes i k (kind y)
-at_entry F kind y n bytes i j k spells is first h =
-    let code : IsAt byte bytes i j (entry_code (kind y)) = subst (IsAt byte bytes i j) (sym is) first in
-    let behind : IsAt named bytes j k (kind y) = record { forward = h.forward; inside = h.inside; spelled = spells _ h.spelled } in
-    is_at entry bytes i k (kind y) (join bytes i j k (stands byte bytes i j (entry_code (kind y)) code) (stands named bytes j k (kind y) behind))
+module _ {A : Type 0} (F : A → Spellings) (n code : ℕ) (is : code ≡ n) (bytes : List ℕ) (i j : ℕ) (first : IsAt byte bytes i j code) where
+  -- an entry by its byte and what is behind it
+  pub at_entry : (kind : A → Entry) (y : A) (k : ℕ) → ((t : List ℕ) → F y t → named (kind y) t) → entry_code (kind y) ≡ n → IsAt F bytes j k y → IsAt entry bytes i k (kind y)
+  at_entry kind y k spells known h =
+      let code : IsAt byte bytes i j (entry_code (kind y)) = subst (IsAt byte bytes i j) (is ∙ sym known) first in
+      let behind : IsAt named bytes j k (kind y) = record { forward = h.forward; inside = h.inside; spelled = spells _ h.spelled } in
+      is_at entry bytes i k (kind y) (join bytes i j k (stands byte bytes i j (entry_code (kind y)) code) (stands named bytes j k (kind y) behind))
 
--- where what is behind the byte isn't spelled, no entry is
-pub none_entry : {A : Type 0} (F : A → Spellings) (n : ℕ) (bytes : List ℕ) (i j : ℕ) → ((x : Entry) (t : List ℕ) → entry_code x ≡ n → named x t → (y : A) × F y t) → IsAt byte bytes i j n → NoneAt F bytes j → NoneAt entry bytes i
-none_entry F n bytes i j only first none =
-    none_after entry_code bytes i j n byte_prefix_free first (λ x k h. let p = only x _ h.spelled.0 h.spelled.1 in none p.0 k (record { forward = h.forward; inside = h.inside; spelled = p.1 }))
+  -- where what is behind the byte isn't spelled, no entry is
+  pub none_entry : (r : Result (Entry × ℕ) Malformed) (e : Malformed) → ((x : Entry) (t : List ℕ) → entry_code x ≡ n → named x t → (y : A) × F y t) → IsErrAnd r (λ y. y ≡ e) → NoneAt F bytes j
+      → Finds entry bytes i r
+  none_entry r e only gives none =
+      passes_none entry bytes i r e gives (none_after entry_code bytes i j n byte_prefix_free (subst (IsAt byte bytes i j) is first)
+      (λ x k h. let p = only x _ h.spelled.0 h.spelled.1 in none p.0 k (record { forward = h.forward; inside = h.inside; spelled = p.1 })))
 
 pub only_param : (x : Entry) (t : List ℕ) → entry_code x ≡ 0 → named x t → (y : Place) × place y t
 only_param (SecretParam y) t e h = (y, h)

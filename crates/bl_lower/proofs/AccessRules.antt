@@ -14,7 +14,7 @@ use Rattle.bl_cmd.proofs.Layouts.{no_entry}
 use Rattle.bl_access.specs.Templates.{shift, mark_at, bounds, growth}
 use Rattle.bl_lower.specs.Trees.{low_tree}
 use Rattle.bl_lower.proofs.PiecePositions.{Found, bounds_of, found_other}
-use Rattle.bl_lower.proofs.PieceRules.{Access, Growing, Sort, quiet, accesses, grows, Quiet}
+use Rattle.bl_lower.proofs.PieceRules.{Access, Growing, quiet, accesses, grows, Quiet}
 use Rattle.bl_lower.proofs.CodeLayout.{HasAt}
 use Rattle.bl_lower.proofs.LawfulCommands.{no_size}
 use Rattle.bl_lower.proofs.TreeLayout.{entry_is}
@@ -223,21 +223,19 @@ module _ (tree : Tree) (linked : IsLinked tree) (facts : IsProgram (low_tree tre
   pub rule7 : (x : ℕ) (command : Command) → Holds (low_tree tree) number x → command_at (low_tree tree) x ≡ Some command → Rule7 (low_tree tree) number x command
   rule7 x command holds e =
       let p = place_at tree linked number function exists is x holds in
-      by_sort p p.good.sort
-    where
-      by_sort : (p : Place tree linked number function exists is x) → Sort tree linked number (Begin tree linked number function exists is) p.start p.piece → Rule7 (low_tree tree) number x command
-      by_sort p (quiet each) =
-          let q = there tree linked number function exists is (Quiet tree linked number (Begin tree linked number function exists is)) x p command each e in
-          subst (λ o. IfSome o (IsTested (low_tree tree) number x)) (sym q.0) tt
-      by_sort p (accesses a) = there tree linked number function exists is (λ position command. Rule7 (low_tree tree) number position command) x p command (access_rule7 x p a) e
-      by_sort p (grows g) = there tree linked number function exists is (λ position command. Rule7 (low_tree tree) number position command) x p command (growth_rule7 x p g) e
+      elim p.good.sort [
+        | quiet each ↦
+            let q = there tree linked number function exists is (Quiet tree linked number (Begin tree linked number function exists is)) x p command each e in
+            subst (λ o. IfSome o (IsTested (low_tree tree) number x)) (sym q.0) tt
+        | accesses a ↦ there tree linked number function exists is (λ position command. Rule7 (low_tree tree) number position command) x p command (access_rule7 x p a) e
+        | grows g ↦ there tree linked number function exists is (λ position command. Rule7 (low_tree tree) number position command) x p command (growth_rule7 x p g) e
+      ]
 
   pub rule8 : (x : ℕ) (command : Command) → Holds (low_tree tree) number x → command_at (low_tree tree) x ≡ Some command → Rule8 (low_tree tree) number x command
   rule8 x command holds e =
       let p = place_at tree linked number function exists is x holds in
-      by_sort p p.good.sort
-    where
-      by_sort : (p : Place tree linked number function exists is x) → Sort tree linked number (Begin tree linked number function exists is) p.start p.piece → Rule8 (low_tree tree) number x command
-      by_sort p (quiet each) = (there tree linked number function exists is (Quiet tree linked number (Begin tree linked number function exists is)) x p command each e).1
-      by_sort p (accesses a) = there tree linked number function exists is (λ position command. Rule8 (low_tree tree) number position command) x p command (access_rule8 x p a) e
-      by_sort p (grows g) = there tree linked number function exists is (λ position command. Rule8 (low_tree tree) number position command) x p command (growth_rule8 x p g) e
+      elim p.good.sort [
+        | quiet each ↦ (there tree linked number function exists is (Quiet tree linked number (Begin tree linked number function exists is)) x p command each e).1
+        | accesses a ↦ there tree linked number function exists is (λ position command. Rule8 (low_tree tree) number position command) x p command (access_rule8 x p a) e
+        | grows g ↦ there tree linked number function exists is (λ position command. Rule8 (low_tree tree) number position command) x p command (growth_rule8 x p g) e
+      ]

@@ -1,8 +1,7 @@
 -- Items that open, part and close constructs.
-use Rattle.std.proofs.Common.{◌≡◌, ℕ, zero, suc, ◌+◌, ◌<◌, ◌≤◌, List, [], ◌∷◌, ◌++◌, length, reverse, take, drop, Some, slice_get, refl, sym, ap, ◌∙◌, subst, arith, length-append, ◌⊎◌, inl, inr}
+use Rattle.std.proofs.Common.{◌≡◌, ℕ, suc, ◌+◌, ◌<◌, ◌≤◌, List, [], ◌∷◌, ◌++◌, length, reverse, take, drop, Some, slice_get, refl, sym, ◌∙◌, subst, arith, length-append, ◌⊎◌, inl, inr}
 use Rattle.std.specs.Prelude.{◌==◌, if◌then◌else◌}
-use Rattle.std.specs.List.{AllZip}
-use Rattle.std.proofs.lemmas.List.{reverse-reverse, length-reverse}
+use Rattle.std.proofs.lemmas.List.{reverse-reverse, length-reverse, take_at, drop_at}
 use Rattle.bl_base.specs.Runs.{StepsTo}
 use Rattle.bl_base.proofs.RunLemmas.{comes_then}
 use Rattle.bl_wasm.specs.declared.instruction.Instr.{Instr}
@@ -26,20 +25,8 @@ use Rattle.bl_lower.proofs.ConstructLayout.{Behind, ends_here, Second, seconds_h
 use Rattle.bl_lower.proofs.BranchSteps.{IsSmall}
 use Rattle.bl_lower.proofs.Frames.{static_low, next_low, floor_is_above, store_kept, targets_later, locals_kept, callers_kept, Reaches, Then, popping}
 use Rattle.bl_lower.proofs.StraightLineItems.{arrives, tests}
-use Rattle.bl_lower.proofs.ConstructExits.{leaves_label, zip_take, pad_is_take, taken_length}
-use Rattle.bl_lower.proofs.States.{take_front, drop_front}
+use Rattle.bl_lower.proofs.ConstructExits.{leaves_label, zip_take, zip_drop, reads_count, pad_is_take, taken_length}
 use Rattle.bl_lower.proofs.PlainRuns.{Kept, at, does, moved, held_values, holds_value, all_later}
-
-zip_drop : {A B : Type 0} (R : A → B → Type 0) (n : ℕ) (xs : List A) (ys : List B) → AllZip R xs ys → AllZip R (drop n xs) (drop n ys)
-zip_drop R zero xs ys h = h
-zip_drop R (suc n) [] [] h = tt
-zip_drop R (suc n) [] (y ∷ ys) h = absurd h
-zip_drop R (suc n) (x ∷ xs) [] h = absurd h
-zip_drop R (suc n) (x ∷ xs) (y ∷ ys) h = zip_drop R n xs ys h.1
-
-pub reads_count : (first count : ℕ) → length (reads first count) ≡ count
-reads_count first zero = refl
-reads_count first (suc count) = ap suc (reads_count (suc first) count)
 
 module _ (tree : Tree) (program : Program) (bound : ℕ) (layout : Layout program) (open_ones : List Target) where
   abbrev LaidWith : State → List Target → ℕ → List Operand → ℕ → List Instr → Type 0
@@ -167,7 +154,7 @@ module _ (tree : Tree) (program : Program) (bound : ℕ) (layout : Layout progra
         b = ends_here program bound state.frame.number t open_ones (point (suc s.position) operands (next + m)) state.frame.rest limit laid
 
         c : Second program bound state.frame.number t open_ones (next + m) (items_of_else [] state.frame.rest)
-        c = seconds_here program bound state.frame.number t second operands refl open_ones (point (suc s.position) operands (next + m)) state.frame.rest limit laid
+        c = seconds_here program bound state.frame.number t tt open_ones (point (suc s.position) operands (next + m)) state.frame.rest limit laid
 
     -- ---- loops
 
@@ -187,12 +174,12 @@ module _ (tree : Tree) (program : Program) (bound : ℕ) (layout : Layout progra
         let below = drop n stack in
         let whole_stack = reverse (reads first n) ++ below in
         let long : length (reverse (reads first n)) ≡ n = length-reverse (reads first n) ∙ reads_count first n in
-        let same : drop n whole_stack ≡ below = drop_front n (reverse (reads first n)) below long in (
+        let same : drop n whole_stack ≡ below = drop_at (reverse (reads first n)) below n long in (
           first,
           results,
           start,
           end,
-          inr (record { operands = take_front n (reverse (reads first n)) below long; jump = refl; above = above; under = subst (AllUnder first) (sym same) under }),
+          inr (record { operands = take_at (reverse (reads first n)) below n long; jump = refl; above = above; under = subst (AllUnder first) (sym same) under }),
           (l.jump, tt),
           omega (arith, length-append (reverse (reads first n)) below, long),
           l.reached,

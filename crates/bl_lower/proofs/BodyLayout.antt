@@ -18,22 +18,18 @@ use Rattle.bl_reduce.proofs.Places.{behind_item}
 use Rattle.bl_access.specs.Templates.{chain, variable, jump_to, shift, set as set_command}
 use Rattle.bl_cmd.specs.declared.command.Command.{Command}
 use Rattle.bl_cmd.specs.declared.command.Operand.{Operand}
-use Rattle.bl_lower.proofs.CodeLayout.{HasAt, Fresh, live, dead, second_of, operands_of, IsLaidOut, OutsAt, ToAt, TestsAt, SecondAt, SlotsFrom, SlotAt, flat, code_of, tests, yes_of, slot_tests}
+use Rattle.bl_lower.proofs.CodeLayout.{HasAt, Fresh, if_target, then_point, else_point, live, dead, second_of, operands_of, IsLaidOut, EndsAt, OutsAt, ToAt, TestsAt, SecondAt, SlotsFrom, SlotAt, flat, code_of, tests, yes_of, slot_tests}
 use Rattle.bl_lower.proofs.Machine.{Program}
-use Rattle.bl_emit.specs.Constructs.{pad, reads, moves, outs, top, whole, again, part, Target, as_whole, taken, first_to, mark_of, Point, point, behind, inside, branched}
-use Rattle.bl_emit.specs.Items.{arms_from, checks, check_of, check_size, check_new, left, right, after, arm_size, branch_size, branch_most, branch_mosts, size_of, most_of, left_new, left_next, left_most, to_label, arms, slot_head, slot_arm, slot_arms, template, leaving}
+use Rattle.bl_emit.specs.Constructs.{pad, reads, moves, outs, top, whole, again, Target, as_whole, taken, first_to, mark_of, Point, point, behind, inside, branched}
+use Rattle.bl_emit.specs.Items.{arms_from, checks, check_of, check_size, check_new, left, right, after, arm_size, branch_size, branch_most, branch_mosts, size_of, most_of, left_next, left_most, to_label, arms, slot_head, slot_arm, slot_arms, template, leaving}
 use Rattle.bl_emit.specs.LoweredBodies.{Body, done, step, leave, block, loop, choice, Extent, closed_size, most_in, Reached, on, off, next_in, Lowered, closed, takes_of, size_in}
 use Rattle.bl_emit.specs.Shapes.{Slot, armed, uninitialized, mistyped, Counts, Shape}
-use Rattle.bl_lower.proofs.ConstructExits.{moves_length}
-use Rattle.bl_lower.proofs.Sizes.{Low, Size, Sized, ReachedAs, sizes, part_length, padded_length, checks_length, label_length, template_length, after_position, after_next, calls, slot_arm_length, slot_head_length}
-use Rattle.bl_lower.proofs.Typings.{IsOrdinary, IsLeave, IsBody, arrow_lengths, leaves_enough, at_end, at_else, opens, stays}
+use Rattle.bl_lower.proofs.ConstructExits.{moves_length, reads_count}
+use Rattle.bl_lower.proofs.Sizes.{Low, Size, Sized, ReachedAs, sizes, left_next_is, part_length, padded_length, checks_length, label_length, template_length, after_position, after_next, calls, slot_arm_length, slot_head_length}
+use Rattle.bl_lower.proofs.Typings.{IsOrdinary, IsLeave, IsBody, arrow_lengths, leaves_enough, at_end, at_else, neither, opens, stays}
 use Rattle.bl_lower.proofs.OperandOrder.{OperandsOrdered, ordered_later, ordered_tail, ordered_new, ordered_reads, ordered_taken, ordered_looped, new_fresh, avoids_fresh, branch_fresh}
 use Rattle.bl_emit.proofs.Lists.{shift_is}
 use Rattle.bl_lower.proofs.IndexTests.{chain_length, arms_from_length, tests_are, slot_tests_are}
-
-reads_count : (first count : ℕ) → length (reads first count) ≡ count
-reads_count first zero = refl
-reads_count first (suc count) = ap suc (reads_count (suc first) count)
 
 -- the arms of slots have the numbers of the type that is wanted
 abbrev pub ArmsFit : Program → Counts → List Slot → Type 0
@@ -392,16 +388,11 @@ module _ (program : Program) (bound number : ℕ) where
       -- ---- dead code
 
       skip_item : (item : Instr) (open_ones : List Target) (depth next : ℕ) (k : List Instr) → IsOrdinary item ⊎ IsLeave item → LaidDead open_ones depth next k → LaidDead open_ones depth next (item ∷ k)
-      skip_item (Block r) open_ones depth next k (inl h) laid = absurd h
-      skip_item (Block r) open_ones depth next k (inr h) laid = absurd h
-      skip_item (Loop r) open_ones depth next k (inl h) laid = absurd h
-      skip_item (Loop r) open_ones depth next k (inr h) laid = absurd h
-      skip_item (If r) open_ones depth next k (inl h) laid = absurd h
-      skip_item (If r) open_ones depth next k (inr h) laid = absurd h
-      skip_item Else open_ones depth next k (inl h) laid = absurd h
-      skip_item Else open_ones depth next k (inr h) laid = absurd h
-      skip_item End open_ones depth next k (inl h) laid = absurd h
-      skip_item End open_ones depth next k (inr h) laid = absurd h
+      skip_item (Block r) open_ones depth next k h laid = neither h
+      skip_item (Loop r) open_ones depth next k h laid = neither h
+      skip_item (If r) open_ones depth next k h laid = neither h
+      skip_item Else open_ones depth next k h laid = neither h
+      skip_item End open_ones depth next k h laid = neither h
       skip_item item open_ones depth next k h laid = laid
 
       dead_end : (open_ones : List Target) (depth next : ℕ) (k : List Instr) → LaidDead open_ones depth next k → LaidDead open_ones (suc depth) next (End ∷ k)
@@ -462,33 +453,25 @@ module _ (program : Program) (bound number : ℕ) where
       Ended open_ones (on q) to = (length q.stack ≡ length to) × OperandsOrdered open_ones q.stack q.next
       Ended open_ones (off next) to = Unit {0}
 
+      ends_at : (t : Target) (q : Point) (open_ones : List Target) (position : ℕ) (e : Extent) (to : List WasmType) → ReachedAs blocks shapes number e position (on q) → Ended (t ∷ open_ones) (on q) to → length to ≡ t.arity → t.arity + 1 ≤ bound
+          → At (position + e.size) (closed (mark_of (t ∷ open_ones)) t (on q)) → EndsAt program bound number (mark_of (t ∷ open_ones)) t q.position q.stack
+      ends_at t q open_ones position e to is ended exact most h = record {
+        commands = has q.position (closed (mark_of (t ∷ open_ones)) t (on q)) (subst (λ n. At n (closed (mark_of (t ∷ open_ones)) t (on q))) (sym is.1) h);
+        exact = ended.0 ∙ exact;
+        fresh = avoids_fresh t q.stack ended.1.clear.0;
+        most = most;
+      }
+
       end_at : (t : Target) (reached : Reached) (open_ones : List Target) (position : ℕ) (e : Extent) (to : List WasmType) → ReachedAs blocks shapes number e position reached → Ended (t ∷ open_ones) reached to → length to ≡ t.arity → t.arity + 1 ≤ bound
           → At (position + e.size) (closed (mark_of (t ∷ open_ones)) t reached) → (k : List Instr) → SecondAt program bound number t.kind (mark_of open_ones) t
           → LaidLive open_ones (behind t (next_in reached)) k → IsLaidOut program bound number (t ∷ open_ones) (code_of reached) (End ∷ k)
-      end_at t (on q) open_ones position e to is ended exact most h k second laid = (
-        record {
-          commands = has q.position (closed (mark_of (t ∷ open_ones)) t (on q)) (subst (λ n. At n (closed (mark_of (t ∷ open_ones)) t (on q))) (sym is.1) h);
-          exact = ended.0 ∙ exact;
-          fresh = avoids_fresh t q.stack ended.1.clear.0;
-          most = most;
-        },
-        second,
-        laid,
-      )
+      end_at t (on q) open_ones position e to is ended exact most h k second laid = (ends_at t q open_ones position e to is ended exact most h, second, laid)
       end_at t (off next) open_ones position e to is ended exact most h k second laid = (second, laid)
 
       else_at : (t : Target) (reached : Reached) (open_ones : List Target) (position : ℕ) (e : Extent) (to : List WasmType) → ReachedAs blocks shapes number e position reached → Ended (t ∷ open_ones) reached to → length to ≡ t.arity → t.arity + 1 ≤ bound
           → At (position + e.size) (closed (mark_of (t ∷ open_ones)) t reached) → (k : List Instr)
           → IsLaidOut program bound number (as_whole t ∷ open_ones) (live (point (second_of t.kind) (operands_of t.kind) (next_in reached))) k → IsLaidOut program bound number (t ∷ open_ones) (code_of reached) (Else ∷ k)
-      else_at t (on q) open_ones position e to is ended exact most h k laid = (
-        record {
-          commands = has q.position (closed (mark_of (t ∷ open_ones)) t (on q)) (subst (λ n. At n (closed (mark_of (t ∷ open_ones)) t (on q))) (sym is.1) h);
-          exact = ended.0 ∙ exact;
-          fresh = avoids_fresh t q.stack ended.1.clear.0;
-          most = most;
-        },
-        laid,
-      )
+      else_at t (on q) open_ones position e to is ended exact most h k laid = (ends_at t q open_ones position e to is ended exact most h, laid)
       else_at t (off next) open_ones position e to is ended exact most h k laid = laid
 
       -- the commands of an if: where its parts stand, and what follows it
@@ -537,12 +520,8 @@ module _ (program : Program) (bound number : ℕ) where
       lays done open_ones ones p k from later are opens_are operands_ordered long room most h typing then = then from later typing (long, operands_ordered)
       lays (leave item body) open_ones ones p k from later are opens_are operands_ordered long room most h typing then =
           let b = behind_item c item (flat body k) ones from later typing in
-          left_at item open_ones ones p (flat body k) from b.behind b.to are.0 b.rule opens_are operands_ordered long (omega (arith, most)) (within item p.next room) h
+          left_at item open_ones ones p (flat body k) from b.behind b.to are.0 b.rule opens_are operands_ordered long (omega (arith, most)) (omega (arith, left_next_is blocks shapes number item p.next, room)) h
           (skips body open_ones ones 0 (left_next (calls blocks shapes number) (shapes number).wanted (shapes number).slots results item p.next) k b.to b.later are.1 (stays c item ones (flat body k) from (inr are.0) b) (λ to later typing. then to later typing tt))
-        where
-          within : (item : Instr) (next : ℕ) → next + left_new (calls blocks shapes number) (shapes number).wanted (shapes number).slots results item ≤ limit → left_next (calls blocks shapes number) (shapes number).wanted (shapes number).slots results item next ≤ limit
-          within (BrTable default ls) next le = le
-          within item next le = omega (arith, le)
       lays (step item body) open_ones ones p k from later are opens_are operands_ordered long room most h typing then =
           let b = behind_item c item (flat body k) ones from later typing in
           let q = Behind_item open_ones item p in
@@ -655,27 +634,25 @@ module _ (program : Program) (bound number : ℕ) where
           let one = opened then_part type lower in
           let e = size_in blocks shapes number (m ∷ takes_of open_ones) first in
           let f = size_in blocks shapes number (m ∷ takes_of open_ones) second in
-          let middle = suc p.position + closed_size m e in
           let stack = drop 1 p.stack in
-          let operands = take n stack in
-          let t = inside (part middle operands) m (middle + closed_size m f) (drop n stack) p.next in
-          let q = point (suc p.position) operands (p.next + m) in
+          let t = if_target blocks shapes number open_ones r p first second in
+          let q = then_point blocks shapes number open_ones r p in
           let w = Low blocks shapes number (t ∷ open_ones) first q in
           let s = sizes blocks shapes number (t ∷ open_ones) first q in
-          let q' = point middle operands (next_in w.reached) in
+          let q' = else_point blocks shapes number open_ones r p first w.reached in
           let v = Low blocks shapes number (as_whole t ∷ open_ones) second q' in
           let s' = sizes blocks shapes number (as_whole t ∷ open_ones) second q' in
           let rest = Low blocks shapes number open_ones body (behind t (next_in v.reached)) in
           let mark = mark_of open_ones in
-          let cs = parts mark operands p q t e f w v rest s s' h.1 in
+          let cs = parts mark q.stack p q t e f w v rest s s' h.1 in
           let lost : length stack ≡ length lower + length type.params = omega (arith, length-drop 1 p.stack, long, ap length b.rule.before, length-append lower (type.params ++ I32 ∷ []), length-append type.params (I32 ∷ [])) in
           let enough : n ≤ length stack = omega (arith, lost, counts.0) in
           let left_over : length (drop n stack) ≡ length lower = omega (arith, length-drop n stack, lost, counts.0) in
-          let inside_long : length operands ≡ length type.params = length-take-le n stack enough ∙ counts.0 in
+          let inside_long : length q.stack ≡ length type.params = length-take-le n stack enough ∙ counts.0 in
           let above = ordered_tail open_ones 1 p.stack p.next operands_ordered in
           let under = ordered_tail open_ones n stack p.next above in (
             t.end,
-            middle,
+            q'.position,
             (h.0.0, tt),
             enough,
             omega (arith, room),
@@ -688,7 +665,7 @@ module _ (program : Program) (bound number : ℕ) where
                 (lays second (as_whole t ∷ open_ones) (another ∷ ones) q' (End ∷ flat body k) type.params o.later are.1 (record { taken_is = counts.1; leaves = counts.1 }, opens_are)
                 (ordered_taken (as_whole t) open_ones n stack p.next q'.next (omega arith) (omega (arith, s.new)) refl above) inside_long (omega (arith, room, s.new)) (omega (arith, most)) cs.second o.typing (λ to later typing ended.
                 let x = at_end c another ones (flat body k) to later typing in
-                end_at (as_whole t) v.reached open_ones middle f to s'.reached ended (ap length x.full ∙ sym counts.1) (omega (arith, most)) cs.second_end (flat body k) tt
+                end_at (as_whole t) v.reached open_ones q'.position f to s'.reached ended (ap length x.full ∙ sym counts.1) (omega (arith, most)) cs.second_end (flat body k) tt
                 (lays body open_ones ones (behind t (next_in v.reached)) k (another.lower ++ another.type.results) x.later are.2 opens_are (ordered_behind t open_ones (next_in v.reached) (omega (arith, s.new, s'.new)) under)
                 (behind_length t (length lower) another.type.results (next_in v.reached) counts.1 left_over ∙ sym (length-append another.lower (another.type.results))) (omega (arith, room, s.new, s'.new)) (omega (arith, most))
                 cs.later x.typing then)))),
@@ -703,29 +680,27 @@ module _ (program : Program) (bound number : ℕ) where
           let one = opened then_part type lower in
           let e = size_in blocks shapes number (m ∷ takes_of open_ones) first in
           let f = size_in blocks shapes number (m ∷ takes_of open_ones) done in
-          let middle = suc p.position + closed_size m e in
           let stack = drop 1 p.stack in
-          let operands = take n stack in
-          let t = inside (part middle operands) m (middle + closed_size m f) (drop n stack) p.next in
-          let q = point (suc p.position) operands (p.next + m) in
+          let t = if_target blocks shapes number open_ones r p first done in
+          let q = then_point blocks shapes number open_ones r p in
           let w = Low blocks shapes number (t ∷ open_ones) first q in
           let s = sizes blocks shapes number (t ∷ open_ones) first q in
-          let q' = point middle operands (next_in w.reached) in
+          let q' = else_point blocks shapes number open_ones r p first w.reached in
           let v = Low blocks shapes number (as_whole t ∷ open_ones) done q' in
           let s' = sizes blocks shapes number (as_whole t ∷ open_ones) done q' in
           let rest = Low blocks shapes number open_ones body (behind t (next_in v.reached)) in
           let mark = mark_of open_ones in
-          let cs = parts mark operands p q t e f w v rest s s' h.1 in
+          let cs = parts mark q.stack p q t e f w v rest s s' h.1 in
           let lost : length stack ≡ length lower + length type.params = omega (arith, length-drop 1 p.stack, long, ap length b.rule.before, length-append lower (type.params ++ I32 ∷ []), length-append type.params (I32 ∷ [])) in
           let enough : n ≤ length stack = omega (arith, lost, counts.0) in
           let left_over : length (drop n stack) ≡ length lower = omega (arith, length-drop n stack, lost, counts.0) in
-          let inside_long : length operands ≡ length type.params = length-take-le n stack enough ∙ counts.0 in
+          let inside_long : length q.stack ≡ length type.params = length-take-le n stack enough ∙ counts.0 in
           let above = ordered_tail open_ones 1 p.stack p.next operands_ordered in
           let under = ordered_tail open_ones n stack p.next above in
           let inner_neat = ordered_taken (as_whole t) open_ones n stack p.next q.next (omega arith) (omega arith) refl above in
-          let none : middle + 0 ≡ middle = omega arith in (
+          let none : q'.position + 0 ≡ q'.position = omega arith in (
             t.end,
-            middle,
+            q'.position,
             (h.0.0, tt),
             enough,
             omega (arith, room),
@@ -736,9 +711,9 @@ module _ (program : Program) (bound number : ℕ) where
                 let bare : length type.params ≡ length type.results = ap length (x.bare refl) in
                 end_at t w.reached open_ones (suc p.position) e to s.reached ended (ap length x.full ∙ sym counts.1) (omega (arith, most)) cs.first_end (flat body k)
                 (record {
-                  commands = has middle (closed mark (as_whole t) (on q')) (subst (λ n. At n (closed mark (as_whole t) (on q'))) none cs.second_end);
+                  commands = has q'.position (closed mark (as_whole t) (on q')) (subst (λ n. At n (closed mark (as_whole t) (on q'))) none cs.second_end);
                   exact = inside_long ∙ bare ∙ sym counts.1;
-                  fresh = avoids_fresh (as_whole t) operands inner_neat.clear.0;
+                  fresh = avoids_fresh (as_whole t) q.stack inner_neat.clear.0;
                   most = omega (arith, most);
                 })
                 (lays body open_ones ones (behind t (next_in w.reached)) k (one.lower ++ one.type.results) x.later are.2 opens_are (ordered_behind t open_ones (next_in w.reached) (omega (arith, s.new)) under)

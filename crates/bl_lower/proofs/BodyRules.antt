@@ -3,7 +3,6 @@ use Rattle.std.proofs.Common.{◌≡◌, ℕ, suc, ◌+◌, ◌-◌, ◌*◌, �
 use Rattle.bl_base.specs.declared.trap.Trap.TheVariants as trap_kind
 use Rattle.bl_ops.specs.OperatorTable.{row_of, row_operands}
 use Rattle.bl_wasm.specs.Linked.{IsLinked, IsFunction, context}
-use Rattle.bl_wasm.specs.Typing.{Context}
 use Rattle.bl_wasm.specs.declared.instruction.Instr.{Instr}
 use Rattle.bl_wasm.specs.declared.instruction.Instr.TheVariants.{Br, BrIf, BrTable, Return, Call, CallIndirect, Drop, Select, LocalGet, LocalSet, GlobalGet, GlobalSet, Load, Store, MemorySize, MemoryGrow, I32Const, I64Const, Integer}
 use Rattle.bl_wasm.specs.declared.linked.Function.{Function}
@@ -13,28 +12,26 @@ use Rattle.bl_cmd.specs.declared.command.Command.TheVariants as command
 use Rattle.bl_cmd.specs.declared.command.Operand.{Operand}
 use Rattle.bl_access.specs.Templates.{shift, variable, test_of, jump_to, chain}
 use Rattle.bl_emit.specs.Shapes.{Shape, bottom}
-use Rattle.bl_emit.specs.Constructs.{reads, top, pad, moves, mark_of, Target, branched, Point, point, whole, again, part, inside, as_whole, behind}
-use Rattle.bl_emit.specs.Items.{left_new, check_of, check_new, branch_size, arms_from, after, to_label, arms, template, leaving}
-use Rattle.bl_emit.specs.LoweredBodies.{takes_of, closed, Reached, on, calls_of, Body, done, step, leave, block, loop, choice, Extent, closed_size, closing, off, next_in, size_in, low, left_to}
+use Rattle.bl_emit.specs.Constructs.{top, pad, moves, mark_of, Target, branched, Point, as_whole, behind}
+use Rattle.bl_emit.specs.Items.{check_of, check_new, branch_size, arms_from, after, to_label, arms, template, leaving}
+use Rattle.bl_emit.specs.LoweredBodies.{takes_of, closed, Reached, on, Body, done, step, leave, block, loop, choice, Extent, closed_size, closing, off, next_in, size_in, low, left_to}
 use Rattle.bl_emit.specs.Numbers.{blocks, shape}
+use Rattle.bl_lower.proofs.CodeLayout.{block_target, block_point, loop_target, loop_point, if_target, then_point, else_point}
 use Rattle.bl_lower.proofs.IndexTests.{chain_length, arms_from_length}
 use Rattle.bl_lower.proofs.PieceRules.{LawfulPiece, simple_piece, readable, Ready, AllReady, ReadyFor, ready_get, branched_simple, chain_simple, moved_simple}
 use Rattle.bl_lower.proofs.ConstructExits.{moves_length}
 use Rattle.bl_lower.proofs.LawfulCommands.{mark_small, new_local, Simple, Writes, test_simple, jump_simple, trap_simple}
 use Rattle.bl_lower.proofs.Pieces.{each_both, all_of, singles, AllAt, all_at_front, all_at_back, all_at_both, closed_pieces, pieces, whole_is}
 use Rattle.bl_lower.proofs.OperandRanges.{AllRanged, ranged_later, ranged_tail, ranged_top, ranged_pad, ranged_front, ranged_reads, ranged_new}
-use Rattle.bl_lower.proofs.Sizes.{padded_length, branch_length, label_length, template_length, after_position, leaving_length, Sized, ReachedAs, sizes, closed_length, after_next}
+use Rattle.bl_lower.proofs.Sizes.{padded_length, branch_length, label_length, template_length, after_position, leaving_length, left_next_is, ReachedAs, sizes, closed_length, after_next}
 use Rattle.bl_lower.proofs.TypedItems.{Sound, EachIn}
 use Rattle.bl_emit.proofs.Lists.{shift_is}
 use Rattle.bl_lower.proofs.ItemRules.{template_good}
-use Rattle.bl_lower.proofs.Templates.{within, one_good, move_good, arms_into, arms_simple}
+use Rattle.bl_lower.proofs.Templates.{a_command, within, one_good, move_good, arms_into, arms_simple}
 
 module _ (tree : Tree) (linked : IsLinked tree) (number : ℕ) (B : ℕ → Type 0) (function : Function) (exists : slice_get tree.functions number ≡ Some function) (is : IsFunction tree function) where
   abbrev Mine : Shape
   Mine = shape tree number
-
-  abbrev c : Context
-  c = context tree is.type function
 
   abbrev Ops : ℕ → List Operand → Type 0
   Ops next stack = AllRanged (bottom Mine) next stack
@@ -46,10 +43,6 @@ module _ (tree : Tree) (linked : IsLinked tree) (number : ℕ) (B : ℕ → Type
   Begins start commands = B start
 
   -- ---- items behind which what follows is dead
-
-  a_command : (o : Option ℕ) → 1 ≤ branch_size Mine.results o
-  a_command None = omega arith
-  a_command (Some n) = omega arith
 
   branch_some : (depth : ℕ) (o : Option Target) (stack : List Operand) → 1 ≤ length (branched depth Mine.results o stack)
   branch_some depth None stack = let l = branch_length (blocks tree) (shape tree) number depth None stack in omega (arith, l)
@@ -74,7 +67,7 @@ module _ (tree : Tree) (linked : IsLinked tree) (number : ℕ) (B : ℕ → Type
       let long = leaving_length (blocks tree) (shape tree) number open_ones (BrTable default ls) p in
       let takes = takes_of open_ones in
       let size = branch_size Mine.results (slice_get takes default) in
-      let one = a_command (slice_get takes default) in
+      let one = a_command Mine.results (slice_get takes default) in
       let those = arms_from Mine.results takes (start + (2 * length ls + size)) ls in
       let many = arms_from_length Mine.results takes (start + (2 * length ls + size)) ls in
       let tests = chain (top p.stack) p.next those (start + 2 * length ls) start depth in
@@ -218,15 +211,40 @@ module _ (tree : Tree) (linked : IsLinked tree) (number : ℕ) (B : ℕ → Type
   abbrev Both : List Target → Body → Point → Type 0
   Both open_ones body p = AllAt LawfulPieceAt p.position (Pieces open_ones body p) × StackIn (End open_ones body p)
 
-  pub bodies : (body : Body) (open_ones : List Target) (p : Point) → EachIn (Sound c) body → AllReady tree linked number B open_ones → Ops p.next p.stack → bottom Mine ≤ p.next
+  -- a part with its end, and the pieces that stand behind it
+  module _ (open_ones : List Target) (t : Target) (inner : Body) (q : Point) (depth : ℕ) (rest : List (List Command)) where
+    abbrev w : Reached
+    w = End (t ∷ open_ones) inner q
+
+    abbrev part_pieces : List (List Command)
+    part_pieces = Pieces (t ∷ open_ones) inner q ++ (closed_pieces depth t w ++ rest)
+
+    abbrev end : ℕ
+    end = q.position + (Size_of (t ∷ open_ones) inner).size
+
+    reached : ReachedAs (blocks tree) (shape tree) number (Size_of (t ∷ open_ones) inner) q.position w
+    reached = (sizes (blocks tree) (shape tree) number (t ∷ open_ones) inner q).reached
+
+    parted : (to : ℕ) → to ≡ q.position + closed_size t.arity (Size_of (t ∷ open_ones) inner) → AllAt Begins q.position part_pieces → AllAt Begins q.position (Pieces (t ∷ open_ones) inner q) × EndsIn w × AllAt Begins to rest
+    parted to there h =
+        let others = all_at_back Begins q.position end (Pieces (t ∷ open_ones) inner q) (closed_pieces depth t w ++ rest) (omega (arith, pieces_length (t ∷ open_ones) inner q)) h in (
+          all_at_front Begins q.position (Pieces (t ∷ open_ones) inner q) (closed_pieces depth t w ++ rest) h,
+          closed_ends depth t w (Size_of (t ∷ open_ones) inner) q.position reached (all_at_front Begins end (closed_pieces depth t w) rest others),
+          all_at_back Begins end to (closed_pieces depth t w) rest (omega (arith, there, closed_pieces_length depth t w (Size_of (t ∷ open_ones) inner) q.position reached)) others,
+        )
+
+    part_good : (to : ℕ) → to ≡ q.position + closed_size t.arity (Size_of (t ∷ open_ones) inner) → depth ≤ 6 → Ready tree linked number B t → next_in w ≤ Mine.limit → Both (t ∷ open_ones) inner q → AllAt LawfulPieceAt to rest
+        → AllAt LawfulPieceAt q.position part_pieces
+    part_good to there small ready le good others =
+        all_at_both LawfulPieceAt q.position end (Pieces (t ∷ open_ones) inner q) (closed_pieces depth t w ++ rest) (omega (arith, pieces_length (t ∷ open_ones) inner q)) good.0
+        (all_at_both LawfulPieceAt end to (closed_pieces depth t w) rest (omega (arith, there, closed_pieces_length depth t w (Size_of (t ∷ open_ones) inner) q.position reached))
+        (closed_goods depth t w (Size_of (t ∷ open_ones) inner) q.position small reached good.1 le ready) others)
+
+  pub bodies : (body : Body) (open_ones : List Target) (p : Point) → EachIn (Sound (context tree is.type function)) body → AllReady tree linked number B open_ones → Ops p.next p.stack → bottom Mine ≤ p.next
       → p.next + (Size_of open_ones body).new ≤ Mine.limit → AllAt Begins p.position (Pieces open_ones body p) → EndsIn (End open_ones body p) → Both open_ones body p
   bodies done open_ones p sound ready ranged low room h ends = (tt, ranged)
   bodies (leave item body) open_ones p sound ready ranged low room h ends =
-      ((leaving_good item open_ones p ready ranged low (omega (arith, room)) (left item room), tt), tt)
-    where
-      left : (item : Instr) → p.next + left_new (calls_of (blocks tree) (shape tree) number) Mine.wanted Mine.slots Mine.results item ≤ Mine.limit → left_to (blocks tree) (shape tree) number item p.next ≤ Mine.limit
-      left (BrTable default ls) le = le
-      left item le = omega (arith, le)
+      ((leaving_good item open_ones p ready ranged low (omega (arith, room)) (omega (arith, left_next_is (blocks tree) (shape tree) number item p.next, room)), tt), tt)
   bodies (step item body) open_ones p sound ready ranged low room h ends =
       let t = template (shape tree) number open_ones item p in
       let q = after (shape tree) number open_ones item p in
@@ -244,47 +262,35 @@ module _ (tree : Tree) (linked : IsLinked tree) (number : ℕ) (B : ℕ → Type
   bodies (block r inner body) open_ones p sound ready ranged low room h ends =
       let n = (blocks tree r).params in
       let m = (blocks tree r).results in
-      let e = size_in (blocks tree) (shape tree) number (m ∷ takes_of open_ones) inner in
-      let t = inside whole m (suc p.position + closed_size m e) (drop n p.stack) p.next in
-      let q = point (suc p.position) (take n p.stack) (p.next + m) in
+      let t = block_target (blocks tree) (shape tree) number open_ones r p inner in
+      let q = block_point (blocks tree) (shape tree) number open_ones r p in
       let w = End (t ∷ open_ones) inner q in
       let s = sizes (blocks tree) (shape tree) number (t ∷ open_ones) inner q in
       let depth = mark_of (t ∷ open_ones) in
       let u = behind t (next_in w) in
       let one : p.position + 1 ≡ suc p.position = omega arith in
-      let i_pieces = Pieces (t ∷ open_ones) inner q in
-      let c_pieces = closed_pieces depth t w in
       let r_pieces = Pieces open_ones body u in
-      let all = subst (λ k. AllAt Begins k (i_pieces ++ (c_pieces ++ r_pieces))) one h.1 in
-      let i_long = pieces_length (t ∷ open_ones) inner q in
-      let c_long = closed_pieces_length depth t w e q.position s.reached in
-      let i_begins = all_at_front Begins q.position i_pieces (c_pieces ++ r_pieces) all in
-      let others = all_at_back Begins q.position (q.position + e.size) i_pieces (c_pieces ++ r_pieces) (omega (arith, i_long)) all in
-      let c_begins = all_at_front Begins (q.position + e.size) c_pieces r_pieces others in
-      let r_begins = all_at_back Begins (q.position + e.size) u.position c_pieces r_pieces (omega (arith, c_long)) others in
-      let i_ends = closed_ends depth t w e q.position s.reached c_begins in
-      let behind_it = begins open_ones body u r_begins ends in
+      let those = part_pieces open_ones t inner q depth r_pieces in
+      let h = parted open_ones t inner q depth r_pieces u.position (omega arith) (subst (λ k. AllAt Begins k those) one h.1) in
+      let behind_it = begins open_ones body u h.2 ends in
       let t_ready : Ready tree linked number B t = record { lands = behind_it; ends = behind_it; low_to = low; high_to = omega (arith, room); low = low; high = omega (arith, room) } in
-      let i = bodies inner (t ∷ open_ones) q sound.0 (t_ready, ready) (ranged_later (bottom Mine) p.next (p.next + m) (take n p.stack) (omega arith) (ranged_front (bottom Mine) n p.next p.stack ranged)) (omega (arith, low)) (omega (arith, room)) i_begins i_ends in
+      let i = bodies inner (t ∷ open_ones) q sound.0 (t_ready, ready) (ranged_later (bottom Mine) p.next (p.next + m) (take n p.stack) (omega arith) (ranged_front (bottom Mine) n p.next p.stack ranged)) (omega (arith, low)) (omega (arith, room)) h.0 h.1 in
       let below = ranged_tail (bottom Mine) n p.next p.stack ranged in
       let stack = ranged_reads (bottom Mine) (next_in w) m p.next (drop n p.stack) low (omega (arith, s.new)) (ranged_later (bottom Mine) p.next (next_in w) (drop n p.stack) (omega (arith, s.new)) below) in
-      let rest = bodies body open_ones u sound.1 ready stack (omega (arith, low, s.new)) (omega (arith, s.new, room)) r_begins ends in
-      let c_good = closed_goods depth t w e q.position (mark_small (t ∷ open_ones)) s.reached i.1 (omega (arith, s.new, room)) t_ready in (
+      let rest = bodies body open_ones u sound.1 ready stack (omega (arith, low, s.new)) (omega (arith, s.new, room)) h.2 ends in (
         (
-          one_good tree linked number B function exists is p.position (jump_to (suc p.position)) (jump_simple tree linked number B p.position 1 p.position (suc p.position) (inr (inl (begins (t ∷ open_ones) inner q i_begins i_ends)))),
-          subst (λ k. AllAt LawfulPieceAt k (i_pieces ++ (c_pieces ++ r_pieces))) (sym one)
-              (all_at_both LawfulPieceAt q.position (q.position + e.size) i_pieces (c_pieces ++ r_pieces) (omega (arith, i_long)) i.0
-              (all_at_both LawfulPieceAt (q.position + e.size) u.position c_pieces r_pieces (omega (arith, c_long)) c_good rest.0)),
+          one_good tree linked number B function exists is p.position (jump_to (suc p.position)) (jump_simple tree linked number B p.position 1 p.position (suc p.position) (inr (inl (begins (t ∷ open_ones) inner q h.0 h.1)))),
+          subst (λ k. AllAt LawfulPieceAt k those) (sym one)
+              (part_good open_ones t inner q depth r_pieces u.position (omega arith) (mark_small (t ∷ open_ones)) t_ready (omega (arith, s.new, room)) i rest.0),
         ),
         rest.1,
       )
   bodies (loop r inner body) open_ones p sound ready ranged low room h ends =
       let n = (blocks tree r).params in
       let m = (blocks tree r).results in
-      let e = size_in (blocks tree) (shape tree) number (n ∷ takes_of open_ones) inner in
       let start = shift n p.position in
-      let t = inside (again start n p.next) m (suc start + closed_size m e) (drop n p.stack) (p.next + n) in
-      let q = point (suc start) (reverse (reads p.next n)) (p.next + n + m) in
+      let t = loop_target (blocks tree) (shape tree) number open_ones r p inner in
+      let q = loop_point (blocks tree) (shape tree) number open_ones r p in
       let w = End (t ∷ open_ones) inner q in
       let s = sizes (blocks tree) (shape tree) number (t ∷ open_ones) inner q in
       let depth = mark_of (t ∷ open_ones) in
@@ -294,99 +300,65 @@ module _ (tree : Tree) (linked : IsLinked tree) (number : ℕ) (B : ℕ → Type
       let ops_long = padded_length n p.stack in
       let ms = singles (moves (mark_of open_ones) p.next ops) in
       let jump = jump_to (suc start) ∷ [] in
-      let i_pieces = Pieces (t ∷ open_ones) inner q in
-      let c_pieces = closed_pieces depth t w in
       let r_pieces = Pieces open_ones body u in
+      let those = part_pieces open_ones t inner q depth r_pieces in
       let one : start + 1 ≡ suc start = omega arith in
       let ms_long : length (all_of ms) ≡ n = singles_length (mark_of open_ones) p.next ops ∙ ops_long in
-      let m_begins = all_at_front Begins p.position ms (jump ∷ (i_pieces ++ (c_pieces ++ r_pieces))) h in
-      let from_jump = all_at_back Begins p.position start ms (jump ∷ (i_pieces ++ (c_pieces ++ r_pieces))) (omega (arith, ms_long, there)) h in
-      let all = subst (λ k. AllAt Begins k (i_pieces ++ (c_pieces ++ r_pieces))) one from_jump.1 in
-      let i_long = pieces_length (t ∷ open_ones) inner q in
-      let c_long = closed_pieces_length depth t w e q.position s.reached in
-      let i_begins = all_at_front Begins q.position i_pieces (c_pieces ++ r_pieces) all in
-      let others = all_at_back Begins q.position (q.position + e.size) i_pieces (c_pieces ++ r_pieces) (omega (arith, i_long)) all in
-      let c_begins = all_at_front Begins (q.position + e.size) c_pieces r_pieces others in
-      let r_begins = all_at_back Begins (q.position + e.size) u.position c_pieces r_pieces (omega (arith, c_long)) others in
-      let i_ends = closed_ends depth t w e q.position s.reached c_begins in
-      let behind_it = begins open_ones body u r_begins ends in
+      let m_begins = all_at_front Begins p.position ms (jump ∷ those) h in
+      let from_jump = all_at_back Begins p.position start ms (jump ∷ those) (omega (arith, ms_long, there)) h in
+      let h = parted open_ones t inner q depth r_pieces u.position (omega arith) (subst (λ k. AllAt Begins k those) one from_jump.1) in
+      let behind_it = begins open_ones body u h.2 ends in
       let t_ready : Ready tree linked number B t = record { lands = from_jump.0; ends = behind_it; low_to = low; high_to = omega (arith, room); low = omega (arith, low); high = omega (arith, room) } in
-      let i = bodies inner (t ∷ open_ones) q sound.0 (t_ready, ready) (ranged_new (bottom Mine) (p.next + n + m) n p.next low (omega arith)) (omega (arith, low)) (omega (arith, room)) i_begins i_ends in
+      let i = bodies inner (t ∷ open_ones) q sound.0 (t_ready, ready) (ranged_new (bottom Mine) (p.next + n + m) n p.next low (omega arith)) (omega (arith, low)) (omega (arith, room)) h.0 h.1 in
       let below = ranged_tail (bottom Mine) n p.next p.stack ranged in
       let stack = ranged_reads (bottom Mine) (next_in w) m (p.next + n) (drop n p.stack) (omega (arith, low)) (omega (arith, s.new)) (ranged_later (bottom Mine) p.next (next_in w) (drop n p.stack) (omega (arith, s.new)) below) in
-      let rest = bodies body open_ones u sound.1 ready stack (omega (arith, low, s.new)) (omega (arith, s.new, room)) r_begins ends in
-      let c_good = closed_goods depth t w e q.position (mark_small (t ∷ open_ones)) s.reached i.1 (omega (arith, s.new, room)) t_ready in
+      let rest = bodies body open_ones u sound.1 ready stack (omega (arith, low, s.new)) (omega (arith, s.new, room)) h.2 ends in
       let m_good = singles_good (mark_of open_ones) p.position p.next p.next ops (mark_small open_ones) m_begins (let same : start ≡ p.position + length ops = omega (arith, there, ops_long) in subst B same from_jump.0) (omega (arith, room))
       (ranged_pad (bottom Mine) p.next n p.stack ranged) (λ x above under. inl (new_local tree linked number B x (omega (arith, low, above)) (omega (arith, under, ops_long, room)))) in (
-        all_at_both LawfulPieceAt p.position start ms (jump ∷ (i_pieces ++ (c_pieces ++ r_pieces))) (omega (arith, ms_long, there)) m_good (
-          one_good tree linked number B function exists is start (jump_to (suc start)) (jump_simple tree linked number B start 1 start (suc start) (inr (inl (begins (t ∷ open_ones) inner q i_begins i_ends)))),
-          subst (λ k. AllAt LawfulPieceAt k (i_pieces ++ (c_pieces ++ r_pieces))) (sym one)
-              (all_at_both LawfulPieceAt q.position (q.position + e.size) i_pieces (c_pieces ++ r_pieces) (omega (arith, i_long)) i.0
-              (all_at_both LawfulPieceAt (q.position + e.size) u.position c_pieces r_pieces (omega (arith, c_long)) c_good rest.0)),
+        all_at_both LawfulPieceAt p.position start ms (jump ∷ those) (omega (arith, ms_long, there)) m_good (
+          one_good tree linked number B function exists is start (jump_to (suc start)) (jump_simple tree linked number B start 1 start (suc start) (inr (inl (begins (t ∷ open_ones) inner q h.0 h.1)))),
+          subst (λ k. AllAt LawfulPieceAt k those) (sym one)
+              (part_good open_ones t inner q depth r_pieces u.position (omega arith) (mark_small (t ∷ open_ones)) t_ready (omega (arith, s.new, room)) i rest.0),
         ),
         rest.1,
       )
   bodies (choice r first other second body) open_ones p sound ready ranged low room h ends =
       let n = (blocks tree r).params in
       let m = (blocks tree r).results in
-      let e = size_in (blocks tree) (shape tree) number (m ∷ takes_of open_ones) first in
-      let f = size_in (blocks tree) (shape tree) number (m ∷ takes_of open_ones) second in
-      let middle = suc p.position + closed_size m e in
       let stack = drop 1 p.stack in
-      let operands = take n stack in
-      let t = inside (part middle operands) m (middle + closed_size m f) (drop n stack) p.next in
+      let t = if_target (blocks tree) (shape tree) number open_ones r p first second in
       let t' = as_whole t in
-      let q = point (suc p.position) operands (p.next + m) in
+      let q = then_point (blocks tree) (shape tree) number open_ones r p in
       let w = End (t ∷ open_ones) first q in
       let s = sizes (blocks tree) (shape tree) number (t ∷ open_ones) first q in
-      let q' = point middle operands (next_in w) in
+      let q' = else_point (blocks tree) (shape tree) number open_ones r p first w in
       let v = End (t' ∷ open_ones) second q' in
       let s' = sizes (blocks tree) (shape tree) number (t' ∷ open_ones) second q' in
       let depth = mark_of open_ones in
       let u = behind t (next_in v) in
       let one : p.position + 1 ≡ suc p.position = omega arith in
-      let i_pieces = Pieces (t ∷ open_ones) first q in
-      let c_pieces = closed_pieces depth t w in
-      let j_pieces = Pieces (t' ∷ open_ones) second q' in
-      let d_pieces = closed_pieces depth t' v in
       let r_pieces = Pieces open_ones body u in
-      let back = j_pieces ++ (d_pieces ++ r_pieces) in
-      let all = subst (λ k. AllAt Begins k (i_pieces ++ (c_pieces ++ back))) one h.1 in
-      let i_long = pieces_length (t ∷ open_ones) first q in
-      let c_long = closed_pieces_length depth t w e q.position s.reached in
-      let j_long = pieces_length (t' ∷ open_ones) second q' in
-      let d_long = closed_pieces_length depth t' v f q'.position s'.reached in
-      let i_begins = all_at_front Begins q.position i_pieces (c_pieces ++ back) all in
-      let others = all_at_back Begins q.position (q.position + e.size) i_pieces (c_pieces ++ back) (omega (arith, i_long)) all in
-      let c_begins = all_at_front Begins (q.position + e.size) c_pieces back others in
-      let from_second = all_at_back Begins (q.position + e.size) middle c_pieces back (omega (arith, c_long)) others in
-      let j_begins = all_at_front Begins middle j_pieces (d_pieces ++ r_pieces) from_second in
-      let from_end = all_at_back Begins middle (middle + f.size) j_pieces (d_pieces ++ r_pieces) (omega (arith, j_long)) from_second in
-      let d_begins = all_at_front Begins (middle + f.size) d_pieces r_pieces from_end in
-      let r_begins = all_at_back Begins (middle + f.size) u.position d_pieces r_pieces (omega (arith, d_long)) from_end in
-      let i_ends = closed_ends depth t w e q.position s.reached c_begins in
-      let j_ends = closed_ends depth t' v f middle s'.reached d_begins in
-      let behind_it = begins open_ones body u r_begins ends in
+      let back = part_pieces open_ones t' second q' depth r_pieces in
+      let those = part_pieces open_ones t first q depth back in
+      let g = parted open_ones t first q depth back q'.position (omega arith) (subst (λ k. AllAt Begins k those) one h.1) in
+      let h = parted open_ones t' second q' depth r_pieces u.position (omega arith) g.2 in
+      let behind_it = begins open_ones body u h.2 ends in
       let t_ready : Ready tree linked number B t = record { lands = behind_it; ends = behind_it; low_to = low; high_to = omega (arith, room); low = low; high = omega (arith, room) } in
       let t_ready' : Ready tree linked number B t' = record { lands = behind_it; ends = behind_it; low_to = low; high_to = omega (arith, room); low = low; high = omega (arith, room) } in
       let above = ranged_tail (bottom Mine) 1 p.next p.stack ranged in
       let front = ranged_front (bottom Mine) n p.next stack above in
       let below = ranged_tail (bottom Mine) n p.next stack above in
-      let i = bodies first (t ∷ open_ones) q sound.0 (t_ready, ready) (ranged_later (bottom Mine) p.next (p.next + m) operands (omega arith) front) (omega (arith, low)) (omega (arith, room)) i_begins i_ends in
-      let j = bodies second (t' ∷ open_ones) q' sound.1 (t_ready', ready) (ranged_later (bottom Mine) p.next (next_in w) operands (omega (arith, s.new)) front) (omega (arith, low, s.new)) (omega (arith, s.new, room)) j_begins j_ends in
+      let i = bodies first (t ∷ open_ones) q sound.0 (t_ready, ready) (ranged_later (bottom Mine) p.next (p.next + m) q.stack (omega arith) front) (omega (arith, low)) (omega (arith, room)) g.0 g.1 in
+      let j = bodies second (t' ∷ open_ones) q' sound.1 (t_ready', ready) (ranged_later (bottom Mine) p.next (next_in w) q.stack (omega (arith, s.new)) front) (omega (arith, low, s.new)) (omega (arith, s.new, room)) h.0 h.1 in
       let left = ranged_reads (bottom Mine) (next_in v) m p.next (drop n stack) low (omega (arith, s.new, s'.new)) (ranged_later (bottom Mine) p.next (next_in v) (drop n stack) (omega (arith, s.new, s'.new)) below) in
-      let rest = bodies body open_ones u sound.2 ready left (omega (arith, low, s.new, s'.new)) (omega (arith, s.new, s'.new, room)) r_begins ends in
-      let c_good = closed_goods depth t w e q.position (mark_small open_ones) s.reached i.1 (omega (arith, s.new, room)) t_ready in
-      let d_good = closed_goods depth t' v f middle (mark_small open_ones) s'.reached j.1 (omega (arith, s.new, s'.new, room)) t_ready' in (
+      let rest = bodies body open_ones u sound.2 ready left (omega (arith, low, s.new, s'.new)) (omega (arith, s.new, s'.new, room)) h.2 ends in (
         (
-          one_good tree linked number B function exists is p.position (test_of (top p.stack) (suc p.position) middle)
-              (test_simple tree linked number B p.position 1 p.position (top p.stack) (suc p.position) middle (readable tree linked number B p.next (top p.stack) (omega (arith, room)) (ranged_top (bottom Mine) p.next p.stack ranged))
-              (inr (inl (begins (t ∷ open_ones) first q i_begins i_ends))) (inr (inl (begins (t' ∷ open_ones) second q' j_begins j_ends)))),
-          subst (λ k. AllAt LawfulPieceAt k (i_pieces ++ (c_pieces ++ back))) (sym one)
-              (all_at_both LawfulPieceAt q.position (q.position + e.size) i_pieces (c_pieces ++ back) (omega (arith, i_long)) i.0
-              (all_at_both LawfulPieceAt (q.position + e.size) middle c_pieces back (omega (arith, c_long)) c_good
-              (all_at_both LawfulPieceAt middle (middle + f.size) j_pieces (d_pieces ++ r_pieces) (omega (arith, j_long)) j.0
-              (all_at_both LawfulPieceAt (middle + f.size) u.position d_pieces r_pieces (omega (arith, d_long)) d_good rest.0)))),
+          one_good tree linked number B function exists is p.position (test_of (top p.stack) q.position q'.position)
+              (test_simple tree linked number B p.position 1 p.position (top p.stack) q.position q'.position (readable tree linked number B p.next (top p.stack) (omega (arith, room)) (ranged_top (bottom Mine) p.next p.stack ranged))
+              (inr (inl (begins (t ∷ open_ones) first q g.0 g.1))) (inr (inl (begins (t' ∷ open_ones) second q' h.0 h.1)))),
+          subst (λ k. AllAt LawfulPieceAt k those) (sym one)
+              (part_good open_ones t first q depth back q'.position (omega arith) (mark_small open_ones) t_ready (omega (arith, s.new, room)) i
+              (part_good open_ones t' second q' depth r_pieces u.position (omega arith) (mark_small open_ones) t_ready' (omega (arith, s.new, s'.new, room)) j rest.0)),
         ),
         rest.1,
       )

@@ -1,29 +1,30 @@
 -- Branches.
-use Rattle.std.proofs.Common.{◌≡◌, ℕ, zero, suc, ◌+◌, ◌%◌, ◌^◌, ◌<◌, ◌≤◌, Bool, true, false, List, [], ◌∷◌, ◌++◌, length, take, drop, Some, None, slice_get, refl, sym, ap, ◌∙◌, subst, arith, ◌⊎◌, inl, inr}
+use Rattle.std.proofs.Common.{◌≡◌, ℕ, zero, suc, ◌+◌, ◌%◌, ◌^◌, ◌<◌, ◌≤◌, Bool, true, false, List, [], ◌∷◌, ◌++◌, length, take, drop, Some, None, slice_get, sym, ap, ◌∙◌, subst, arith, ◌⊎◌, inl, inr}
 use Rattle.std.specs.Prelude.{◌==◌, if◌then◌else◌, unwrap_or}
 use Rattle.std.proofs.Math.Nat.{mod-eq_of_lt}
 use Rattle.std.proofs.lemmas.Bool.{eq-eqb, eqb-true, false_from_ne_true}
-use Rattle.bl_base.specs.Runs.{Next, goes, stuck}
+use Rattle.bl_base.specs.Runs.{Next, StepsTo, stuck}
 use Rattle.bl_ops.specs.Numerics.{meaning}
 use Rattle.bl_ops.specs.declared.op.Op.TheVariants as op
 use Rattle.bl_wasm.specs.declared.linked.Tree.{Tree}
 use Rattle.bl_reduce.specs.Configurations.{State, Config, go, with_values}
 use Rattle.bl_reduce.specs.Control.{branch_to, branch, branch_if, branch_by}
 use Rattle.bl_reduce.specs.Returns.{return}
-use Rattle.bl_access.specs.Templates.{variable, test_of}
+use Rattle.bl_access.specs.Templates.{test_of}
 use Rattle.bl_cmd.specs.Steps.{Registers, written, Plain, depth}
 use Rattle.bl_cmd.specs.declared.command.Operand.{Operand}
 use Rattle.bl_cmd.specs.declared.command.Operand.TheVariants.{Const}
 use Rattle.bl_lower.proofs.CodeLayout.{ToAt, TestsAt}
-use Rattle.bl_lower.proofs.Machine.{Program, value_of, plain_step}
+use Rattle.bl_lower.proofs.Machine.{Program, plain_step}
 use Rattle.bl_lower.proofs.MatchStates.{Holds, Layout, Here}
 use Rattle.bl_emit.specs.Constructs.{Target, taken, first_to, start_of, mark_of, top}
 use Rattle.bl_emit.specs.Shapes.{bottom}
 use Rattle.bl_lower.proofs.Frames.{static_low, static_next, Reaches, Then, popping, reaches_later, here_above}
 use Rattle.bl_lower.proofs.StraightLineItems.{arrives, LaidOut, tests}
 use Rattle.bl_lower.proofs.ConstructExits.{lands, ToTarget, find_target}
+use Rattle.bl_lower.proofs.OperatorSteps.{zero_test, tries}
 use Rattle.bl_lower.proofs.ReturnSteps.{return_reaches}
-use Rattle.bl_lower.proofs.PlainRuns.{Kept, at, does, sets, holds_value, holds_later, kept_written, read_written, value_is}
+use Rattle.bl_lower.proofs.PlainRuns.{Kept, at, holds_value, holds_later, kept_written}
 
 -- the topmost value, where there is one, is an i32
 abbrev pub IsSmall : List ℕ → Type 0
@@ -65,9 +66,6 @@ module _ (tree : Tree) (program : Program) (bound : ℕ) (layout : Layout progra
           (lands tree program bound layout used mark open_ones f.outer (drop (l + 1) state.frame.labels) stack next f.is.next (first_to f.t) (first_to f.t) (taken f.t) f.t.below f.label.below f.label.continuation (start_of f.t.kind f.t.end) state s h
           g.commands g.enough g.fresh g.most f.others f.is.above (omega arith) f.is.reached f.is.limit f.is.below f.is.laid))
 
-  small_head : (values vs : List ℕ) (v : ℕ) → IsSmall values → values ≡ v ∷ vs → v < 2 ^ 32
-  small_head values vs v small e = subst IsSmall e small
-
   pub branch_if_reaches : (mark l after : ℕ) (stack : List Operand) (state : State) (s : Plain) → Here program bound open_ones stack next state s → IsSmall state.frame.values
       → slice_get program.commands s.position ≡ Some (test_of (top stack) (suc s.position) after) → 1 ≤ bound
       → ToAt program bound state.frame.number mark 1 (suc s.position) (drop 1 stack) (slice_get open_ones l)
@@ -75,7 +73,7 @@ module _ (tree : Tree) (program : Program) (bound : ℕ) (layout : Layout progra
   branch_if_reaches mark l after stack state s h small command most goes_to laid =
       popping tree program bound open_ones next 0 stack state s (λ condition state. if condition == 0 then go state else branch l state) h (λ v vs e holds here.
       tests tree program bound layout 0 s (top stack) (suc s.position) after v (go (with_values vs state)) (branch l (with_values vs state)) command
-      (holds_value program s (bottom (program.shape state.frame.number)) next (top stack) v (static_low program bound layout state.frame.number) holds) (small_head state.frame.values vs v small e)
+      (holds_value program s (bottom (program.shape state.frame.number)) next (top stack) v (static_low program bound layout state.frame.number) holds) (subst IsSmall e small)
       (λ way has. arrives tree program bound layout 0 1 open_ones (drop 1 stack) next (with_values vs state) s (at after s.registers s) (omega arith) (omega (arith, most)) way
       (record { store = here.store; frame_is = here.frame_is; callers = here.callers }) laid)
       (λ way has. reaches_later tree program bound 0 1 (branch l (with_values vs state)) s (at (suc s.position) s.registers s) way
@@ -98,7 +96,7 @@ module _ (tree : Tree) (program : Program) (bound : ℕ) (layout : Layout progra
       low = bottom (program.shape state.frame.number)
 
       w : ℕ
-      w = meaning op.I32Eq (value_of program index s) j 0
+      w = meaning op.I32Eq v j 0
 
       r' : Registers
       r' = written s.registers (depth s) variable_ w
@@ -109,38 +107,28 @@ module _ (tree : Tree) (program : Program) (bound : ℕ) (layout : Layout progra
       keeps : Kept s.registers r' (depth s) variable_ 1
       keeps = kept_written s.registers (depth s) variable_ 0 w
 
-      t : Plain
-      t = at (suc s.position) r' s
-
       moved_to : (position : ℕ) → Here program bound open_ones stack next state (at position r' s)
       moved_to position = here_above program bound layout open_ones stack next variable_ 1 position r' state s le keeps h
 
-      is_w : w ≡ meaning op.I32Eq v j 0
-      is_w = ap (λ n. meaning op.I32Eq n j 0) (holds_value program s low next index v (static_low program bound layout state.frame.number) holds)
+      tried : (b : Bool) → zero_test w ≡ b → StepsTo (plain_step program) 2 s (at (if b then suc (suc s.position) else at_.0) r' s)
+      tried b e = (tries tree program bound layout s (mark_of open_ones) op.I32Eq variable_ w index (Const j) at_.0 (suc (suc s.position)) b at_.1.0 at_.1.1.0 static
+          (ap (λ n. meaning op.I32Eq n j 0) (holds_value program s low next index v (static_low program bound layout state.frame.number) holds)) e).comes
 
-      first : plain_step program s ≡ goes t
-      first = sets program s (mark_of open_ones) op.I32Eq variable_ w index (Const j) (Const 0) at_.1.0 static refl
+      reaches_on : (step : Next Config) (u : Plain) → StepsTo (plain_step program) 2 s u → Then tree program bound (suc (suc used)) step u → Then tree program bound used step s
+      reaches_on step u way h has =
+          let two : suc (suc used) ≡ used + 2 = omega arith in
+          reaches_later tree program bound used 2 step s u way (subst (λ n. Reaches tree program bound n step u) two (h has))
 
-      second : plain_step program t ≡ (if meaning op.I32Eq v j 0 % 2 ^ 32 == 0 then goes (at (suc (suc s.position)) r' s) else goes (at at_.0 r' s))
-      second = does program t (test_of (variable variable_) at_.0 (suc (suc s.position))) at_.1.1.0
-          ∙ ap (λ n. if n % 2 ^ 32 == 0 then goes (at (suc (suc s.position)) r' s) else goes (at at_.0 r' s)) (value_is program t (variable variable_) w (static, read_written s.registers (depth s) variable_ w) ∙ is_w)
-
-      reaches_on : (step : Next Config) (u : Plain) → plain_step program t ≡ goes u → Then tree program bound (suc (suc used)) step u → Then tree program bound used step s
-      reaches_on step u e h has = reaches_later tree program bound used 2 step s u (t, first, (u, e, refl)) (subst (λ n. Reaches tree program bound n step u) (two used) (h has))
-        where
-          two : (n : ℕ) → suc (suc n) ≡ n + 2
-          two n = omega arith
-
-      by_place : (m : ℕ) → v ≡ j + m → ((m : ℕ) → v ≡ j + suc m → plain_step program t ≡ goes (at (suc (suc s.position)) r' s) → Then tree program bound used (branch (unwrap_or (slice_get ls m) default) state) s)
+      by_place : (m : ℕ) → v ≡ j + m → ((m : ℕ) → v ≡ j + suc m → StepsTo (plain_step program) 2 s (at (suc (suc s.position)) r' s) → Then tree program bound used (branch (unwrap_or (slice_get ls m) default) state) s)
           → Then tree program bound used (branch (unwrap_or (slice_get (l ∷ ls) m) default) state) s
       by_place zero e more =
-          reaches_on (branch l state) (at at_.0 r' s) (second ∙ ap (λ n. if n % 2 ^ 32 == 0 then goes (at (suc (suc s.position)) r' s) else goes (at at_.0 r' s)) (equal_is_one v j (omega (arith, e))))
+          reaches_on (branch l state) (at at_.0 r' s) (tried false (ap zero_test (equal_is_one v j (omega (arith, e)))))
           (branch_reaches (suc (suc used)) (mark_of open_ones) l stack state (at at_.0 r' s) (moved_to at_.0) at_.2)
       by_place (suc m) e more =
-          more m e (second ∙ ap (λ n. if n % 2 ^ 32 == 0 then goes (at (suc (suc s.position)) r' s) else goes (at at_.0 r' s)) (above_is_zero v j small (omega (arith, e))))
+          more m e (tried true (ap zero_test (above_is_zero v j small (omega (arith, e)))))
 
   pub table_reaches : (default : ℕ) (ls : List ℕ) (stack : List Operand) (state : State) (s : Plain) → Here program bound open_ones stack next state s → IsSmall state.frame.values
       → TestsAt program bound state.frame.number 0 open_ones (drop 1 stack) (top stack) s.position next 0 ls default → Then tree program bound 0 (branch_by ls default state) s
   table_reaches default ls stack state s h small at_ =
       popping tree program bound open_ones next 0 stack state s (λ index state. branch (unwrap_or (slice_get ls index) default) state) h (λ v vs e holds here.
-      tests_reach 0 next 0 v v ls default (top stack) (drop 1 stack) (with_values vs state) s here holds (small_head state.frame.values vs v small e) (omega arith) (omega arith) at_)
+      tests_reach 0 next 0 v v ls default (top stack) (drop 1 stack) (with_values vs state) s here holds (subst IsSmall e small) (omega arith) (omega arith) at_)

@@ -25,19 +25,17 @@ use Rattle.bl_cmd.specs.declared.command.Operand.{Operand}
 use Rattle.bl_cmd.specs.declared.command.Operand.TheVariants.{Const}
 use Rattle.bl_lower.proofs.CodeLayout.{HasAt, AreNot, Fresh, live, IsLaidOut, Calls}
 use Rattle.bl_lower.proofs.Machine.{Program, states, plain_step}
-use Rattle.bl_lower.proofs.MatchStates.{Holds, AllHold, Layout, AreCallers, Here, ArgumentsAt, IsEntry, IsLowered, IsProgram}
+use Rattle.bl_lower.proofs.MatchStates.{Holds, AllHold, AreCallers, Here, ArgumentsAt, IsEntry, IsLowered, IsProgram}
 use Rattle.bl_emit.specs.Constructs.{pad, reads, moves, args, mark_of, Target, point}
 use Rattle.bl_emit.specs.Shapes.{Shape, local, param, bottom, result_reads}
-use Rattle.bl_lower.proofs.Frames.{local_value, static_low, store_kept, frame_kept, callers_kept, Reaches, Then, knowing}
+use Rattle.bl_lower.proofs.Frames.{local_value, static_low, store_kept, frame_kept, frame_rebuilt, callers_kept, Reaches, Then, knowing}
 use Rattle.bl_lower.proofs.StraightLineItems.{arrives}
-use Rattle.bl_lower.proofs.ConstructExits.{pad_is_take, zip_take, taken_length, moves_length}
+use Rattle.bl_lower.proofs.ConstructExits.{pad_is_take, zip_take, zip_drop, taken_length, moves_length}
+use Rattle.bl_lower.proofs.Sizes.{args_length}
 use Rattle.bl_lower.proofs.States.{states_are}
 use Rattle.bl_lower.proofs.PlainRuns.{Kept, at, does, Moved, moved, Value, holds_value, all_later, has_front, has_back, read_written, read_deeper, kept_written}
 
 module _ (tree : Tree) (program : Program) (bound : ℕ) (is : IsProgram tree program bound) where
-  abbrev layout : Layout program
-  layout = is.layout
-
   -- arguments were given to a deeper depth
   record Passed (called : ℕ) (s : Plain) (index count : ℕ) (vs : List ℕ) : Type 0 where
     registers : Registers
@@ -72,10 +70,6 @@ module _ (tree : Tree) (program : Program) (bound : ℕ) (is : IsProgram tree pr
   as_deep r called [] (back ∷ chain) h = absurd h
   as_deep r called (frame ∷ callers) [] h = absurd h
   as_deep r called (frame ∷ callers) (back ∷ chain) h = ap suc (as_deep r frame.number callers chain h.1)
-
-  pub args_length : (mark called index : ℕ) (ops : List Operand) → length (args mark called index ops) ≡ length ops
-  args_length mark called index [] = refl
-  args_length mark called index (a ∷ ops) = ap suc (args_length mark called (suc index) ops)
 
   pub call_at_reaches : (used f : ℕ) (type : Signature) (open_ones : List Target) (stack : List Operand) (next : ℕ) (results_at after_it : ℕ) (state : State) (s : Plain) → Here program bound open_ones stack next state s
       → (program.shape f).params ≡ length type.params
@@ -117,7 +111,7 @@ module _ (tree : Tree) (program : Program) (bound : ℕ) (is : IsProgram tree pr
       all = zip_reverse (Holds s.registers (depth s) low next) (take count stack) (take count state.frame.values) (zip_take (Holds s.registers (depth s) low next) count stack state.frame.values h.frame_is.values)
 
       p : Passed f s 0 count (operands count state)
-      p = subst (λ n. Passed f s 0 n (operands count state)) long (args_run mark f s ops (operands count state) 0 low next (has_front program.commands s.position (args mark f 0 ops) back commands) (static_low program bound layout state.frame.number) all)
+      p = subst (λ n. Passed f s 0 n (operands count state)) long (args_run mark f s ops (operands count state) 0 low next (has_front program.commands s.position (args mark f 0 ops) back commands) (static_low program bound is.layout state.frame.number) all)
 
       t : Plain
       t = at (shift count s.position) p.registers s
@@ -137,7 +131,7 @@ module _ (tree : Tree) (program : Program) (bound : ℕ) (is : IsProgram tree pr
             comes_to_end (plain_step program) count 1 s t (trapped StackExhausted state.store.memories) p.comes
                 (last t (trapped StackExhausted state.store.memories) (does program t (CallOf f) behind.0
                 ∙ ap (λ b. if b then goes (record t { position = (program.shape f).entry; chain = suc t.position ∷ t.chain }) else ends (trapped StackExhausted (states program t))) (le-ltb (depth t) most_calls (omega (arith, same_depth, le)))
-                ∙ ap (λ m. ends (trapped StackExhausted m)) (states_are program t state.store (store_kept program bound layout s.registers p.registers s state.store (λ x lt. p.kept 0 x (λ same above below. omega (arith, same))) h.store)))),
+                ∙ ap (λ m. ends (trapped StackExhausted m)) (states_are program t state.store (store_kept program bound is.layout s.registers p.registers s state.store (λ x lt. p.kept 0 x (λ same above below. omega (arith, same))) h.store)))),
           )
 
       u : Plain
@@ -161,7 +155,7 @@ module _ (tree : Tree) (program : Program) (bound : ℕ) (is : IsProgram tree pr
               refl,
             ),
             record {
-              store_is = store_kept program bound layout s.registers p.registers s state.store (λ x lt. before 0 x (omega arith)) h.store;
+              store_is = store_kept program bound is.layout s.registers p.registers s state.store (λ x lt. before 0 x (omega arith)) h.store;
               position = refl;
               count = sym (zip_length (Holds s.registers (depth s) low next) ops (operands count state) all) ∙ long;
               arguments_are = p.arguments;
@@ -170,32 +164,20 @@ module _ (tree : Tree) (program : Program) (bound : ℕ) (is : IsProgram tree pr
                   open_ones = open_ones;
                   stack = drop count stack;
                   next = results_at;
-                  frame_is = frame_kept program bound layout s.registers p.registers (depth s) open_ones (drop count stack) results_at (caller count state) (λ x own side. before (depth s) x (omega arith)) (record {
-                    arity = h.frame_is.arity;
-                    size = h.frame_is.size;
-                    locals = h.frame_is.locals;
-                    labels = h.frame_is.labels;
-                    values = all_later s.registers s.registers (depth s) low next low results_at (drop count stack) (drop count state.frame.values) (λ x up down. refl) (omega arith) later (zip_drop (Holds s.registers (depth s) low next) count stack state.frame.values h.frame_is.values);
-                    above = omega (arith, h.frame_is.above, later);
-                    limit = omega (arith, limit);
-                  });
+                  frame_is = frame_kept program bound is.layout s.registers p.registers (depth s) open_ones (drop count stack) results_at (caller count state) (λ x own side. before (depth s) x (omega arith)) (
+                      frame_rebuilt tree program bound s.registers (depth s) open_ones stack (drop count stack) next results_at (drop count state.frame.values) state.frame.rest state.frame h.frame_is
+                      (all_later s.registers s.registers (depth s) low next low results_at (drop count stack) (drop count state.frame.values) (λ x up down. refl) (omega arith) later
+                      (zip_drop (Holds s.registers (depth s) low next) count stack state.frame.values h.frame_is.values)) (omega (arith, h.frame_is.above, later)) (omega (arith, limit)));
                   moves_are = behind.1;
                   room = limit;
                   after_it = after_it;
                   jumps = jumps;
                   laid = laid;
                 },
-                callers_kept program bound layout s.registers p.registers state.frame.number state.callers s.chain (λ e x some le. before e x (omega (arith, le))) h.callers,
+                callers_kept program bound is.layout s.registers p.registers state.frame.number state.callers s.chain (λ e x some le. before e x (omega (arith, le))) h.callers,
               );
             },
           )
-        where
-          zip_drop : {A B : Type 0} (R : A → B → Type 0) (n : ℕ) (xs : List A) (ys : List B) → AllZip R xs ys → AllZip R (drop n xs) (drop n ys)
-          zip_drop R zero xs ys h = h
-          zip_drop R (suc n) [] [] h = tt
-          zip_drop R (suc n) [] (y ∷ ys) h = absurd h
-          zip_drop R (suc n) (x ∷ xs) [] h = absurd h
-          zip_drop R (suc n) (x ∷ xs) (y ∷ ys) h = zip_drop R n xs ys h.1
 
   -- the type of a function of the tree
   pub record HasType (f : ℕ) (type : Signature) : Type 0 where
@@ -266,10 +248,10 @@ module _ (tree : Tree) (program : Program) (bound : ℕ) (is : IsProgram tree pr
       begins : (function : Function) (type : Signature) → IsLowered program bound number function type
           → Reaches tree program bound 0 (go (record { store = store; frame = entered number function type arguments; callers = callers })) s
       begins function type l =
-          arrives tree program bound layout 0 (count + 1) [] [] (bottom shape) (record { store = store; frame = entered number function type arguments; callers = callers }) s u (omega arith) (omega (arith, l.most))
+          arrives tree program bound is.layout 0 (count + 1) [] [] (bottom shape) (record { store = store; frame = entered number function type arguments; callers = callers }) s u (omega arith) (omega (arith, l.most))
           (comes_then (plain_step program) count 1 s t u m.comes (u, does program t (jump_to (suc (shift count shape.entry))) jump.0, refl))
           (record {
-            store = store_kept program bound layout s.registers m.registers s store (λ x lt. m.kept 0 x (λ same above below. omega (arith, same))) h.store_is;
+            store = store_kept program bound is.layout s.registers m.registers s store (λ x lt. m.kept 0 x (λ same above below. omega (arith, same))) h.store_is;
             frame_is = record {
               arity = sym l.results;
               size = omega (arith, length-append arguments (replicate (length (locals_of function.code)) 0), length-replicate {A = ℕ} (length (locals_of function.code)) 0, h.count, l.locals);
@@ -277,9 +259,9 @@ module _ (tree : Tree) (program : Program) (bound : ℕ) (is : IsProgram tree pr
               labels = tt;
               values = tt;
               above = omega arith;
-              limit = layout.room number;
+              limit = is.layout.room number;
             };
-            callers = callers_kept program bound layout s.registers m.registers number callers s.chain (λ e x some le. m.kept e x (λ same above below. omega (arith, same, le))) h.callers_are;
+            callers = callers_kept program bound is.layout s.registers m.registers number callers s.chain (λ e x some le. m.kept e x (λ same above below. omega (arith, same, le))) h.callers_are;
           }) l.body
         where
           shape : Shape
@@ -300,7 +282,7 @@ module _ (tree : Tree) (program : Program) (bound : ℕ) (is : IsProgram tree pr
           m : Moved program s first count (replicate count 0)
           m = moved program s 0 (replicate count (Const 0)) (replicate count 0) first count long
               (has_front program.commands s.position (moves 0 first (replicate count (Const 0))) (jump_to (suc (shift count shape.entry)) ∷ []) commands)
-              (let a = layout.above number in omega (arith, a)) (zeros_fresh first count) (zeros_hold s.registers program.statics (depth s) count)
+              (let a = is.layout.above number in omega (arith, a)) (zeros_fresh first count) (zeros_hold s.registers program.statics (depth s) count)
 
           t : Plain
           t = at (shift count s.position) m.registers s

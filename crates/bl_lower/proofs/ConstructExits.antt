@@ -1,7 +1,7 @@
 -- Branches, returns and the ends of constructs.
 use Rattle.std.proofs.Common.{◌≡◌, ℕ, zero, suc, ◌+◌, ◌≤◌, List, [], ◌∷◌, ◌++◌, length, reverse, take, drop, Some, None, slice_get, refl, ap, ◌∙◌, subst, arith, ◌⊎◌, inl, inr}
 use Rattle.std.specs.List.{AllZip}
-use Rattle.std.proofs.lemmas.List.{reverse-reverse, length-reverse, length-take-le}
+use Rattle.std.proofs.lemmas.List.{reverse-reverse, length-reverse, length-take-le, take_all}
 use Rattle.bl_base.specs.Runs.{StepsTo}
 use Rattle.bl_base.proofs.RunLemmas.{comes_then}
 use Rattle.bl_wasm.specs.declared.instruction.Instr.{Instr}
@@ -27,6 +27,17 @@ zip_take R (suc n) [] [] h = tt
 zip_take R (suc n) [] (y ∷ ys) h = absurd h
 zip_take R (suc n) (x ∷ xs) [] h = absurd h
 zip_take R (suc n) (x ∷ xs) (y ∷ ys) h = (h.0, zip_take R n xs ys h.1)
+
+pub zip_drop : {A B : Type 0} (R : A → B → Type 0) (n : ℕ) (xs : List A) (ys : List B) → AllZip R xs ys → AllZip R (drop n xs) (drop n ys)
+zip_drop R zero xs ys h = h
+zip_drop R (suc n) [] [] h = tt
+zip_drop R (suc n) [] (y ∷ ys) h = absurd h
+zip_drop R (suc n) (x ∷ xs) [] h = absurd h
+zip_drop R (suc n) (x ∷ xs) (y ∷ ys) h = zip_drop R n xs ys h.1
+
+pub reads_count : (first count : ℕ) → length (reads first count) ≡ count
+reads_count first zero = refl
+reads_count first (suc count) = ap suc (reads_count (suc first) count)
 
 pub moves_length : (mark first : ℕ) (operands : List Operand) → length (moves mark first operands) ≡ length operands
 moves_length mark first [] = refl
@@ -114,16 +125,10 @@ module _ (tree : Tree) (program : Program) (bound : ℕ) (layout : Layout progra
   leaves_label mark t outer [] rest stack next state s h targets e to le limit laid has = absurd has
   leaves_label mark t outer (label ∷ labels) rest stack next state s h targets e to le limit laid has =
       let whole : take t.arity state.frame.values ≡ state.frame.values =
-      take-all state.frame.values t.arity (omega (arith, zip_length (Holds s.registers (depth s) (bottom (program.shape state.frame.number)) next) stack state.frame.values h.frame_is.values, e.exact)) in
+      take_all t.arity state.frame.values (omega (arith, zip_length (Holds s.registers (depth s) (bottom (program.shape state.frame.number)) next) stack state.frame.values h.frame_is.values, e.exact)) in
       subst (λ values. Reaches tree program bound 0 (go (record state { frame = record state.frame { labels = labels; values = values ++ label.below; rest = rest } })) s) whole
       (lands 0 mark (t ∷ outer) outer labels stack next to (first_to t) t.first t.arity t.below label.below rest t.end state s h e.commands (omega (arith, e.exact)) e.fresh (omega (arith, e.most))
       targets.1 targets.0.above targets.0.order le limit targets.0.below laid)
-    where
-      take-all : (values : List ℕ) (n : ℕ) → length values ≡ n → take n values ≡ values
-      take-all [] zero e = refl
-      take-all [] (suc n) e = refl
-      take-all (v ∷ vs) zero e = absurd (omega (arith, e))
-      take-all (v ∷ vs) (suc n) e = ap (λ l. v ∷ l) (take-all vs n (omega (arith, e)))
 
   -- ---- branches
 

@@ -4,6 +4,7 @@ use Rattle.std.proofs.lemmas.Bool.{lt-ltb, le-ltb, cases_lt}
 use Rattle.std.proofs.lemmas.Option.{slice_get_within}
 use Rattle.bl_base.specs.Runs.{Next, HasStep, goes, ends, stuck, StepsTo, EndsAfter}
 use Rattle.bl_base.proofs.RunLemmas.{comes_then, comes_to_end}
+use Rattle.bl_wasm.specs.declared.instruction.Instr.{Instr}
 use Rattle.bl_wasm.specs.declared.linked.Tree.{Tree}
 use Rattle.bl_reduce.specs.Configurations.{Store, ControlLabel, Frame, State, Config, known, pop, pop_from, with_values}
 use Rattle.bl_reduce.specs.TypedConfigurations.{IsMemoryState}
@@ -165,13 +166,9 @@ module _ (program : Program) (bound : ℕ) (layout : Layout program) where
       record {
         store = store_kept s.registers r' s state.store (λ x lt. kept 0 x (λ same above below. omega (arith, same))) h.store;
         frame_is = frame_kept s.registers r' (depth s) open_ones stack next state.frame
-            (λ x own side. kept (depth s) x (λ same above below. under x side (omega (arith, above, le)) low)) h.frame_is;
+            (λ x own side. kept (depth s) x (λ same above below. elim side [ inl lt ↦ omega (arith, lt, above, le, low, h.frame_is.above) | inr lt ↦ omega (arith, lt, above, le) ])) h.frame_is;
         callers = callers_kept s.registers r' state.frame.number state.callers s.chain (λ e x some below. kept e x (λ same above under. omega (arith, same, below))) h.callers;
       }
-    where
-      under : (x : ℕ) → x < bottom (program.shape state.frame.number) ⊎ x < next → next ≤ x → bottom (program.shape state.frame.number) ≤ floor program bound state.frame.number open_ones → ⊥
-      under x (inl lt) above low = omega (arith, lt, above, low, h.frame_is.above)
-      under x (inr lt) above low = omega (arith, lt, above)
 
 -- ---- what the plain machine reaches
 
@@ -194,22 +191,30 @@ module _ (tree : Tree) (program : Program) (bound : ℕ) where
 
   -- ---- values that are taken off
 
+  pub frame_rebuilt : (r : Registers) (d : ℕ) (open_ones : List Target) (stack stack' : List Operand) (next to : ℕ) (values : List ℕ) (rest : List Instr) (frame : Frame) → IsFrame program bound r d open_ones stack next frame
+      → AllHold r d (bottom (program.shape frame.number)) to stack' values → floor program bound frame.number open_ones ≤ to → to ≤ (program.shape frame.number).limit
+      → IsFrame program bound r d open_ones stack' to (record frame { values = values; rest = rest })
+  frame_rebuilt r d open_ones stack stack' next to values rest frame h all above limit = record {
+    arity = h.arity;
+    size = h.size;
+    locals = h.locals;
+    labels = h.labels;
+    values = all;
+    above = above;
+    limit = limit;
+  }
+
   module _ (open_ones : List Target) (next : ℕ) where
+    -- other operands and items, below another variable
+    pub rebuilt : (stack stack' : List Operand) (to : ℕ) (values : List ℕ) (rest : List Instr) (state : State) (s : Plain) → Here program bound open_ones stack next state s
+        → AllHold s.registers (depth s) (bottom (program.shape state.frame.number)) to stack' values → floor program bound state.frame.number open_ones ≤ to → to ≤ (program.shape state.frame.number).limit
+        → Here program bound open_ones stack' to (record state { frame = record state.frame { values = values; rest = rest } }) s
+    rebuilt stack stack' to values rest state s h all above limit =
+        record { store = h.store; frame_is = frame_rebuilt s.registers (depth s) open_ones stack stack' next to values rest state.frame h.frame_is all above limit; callers = h.callers }
+
     pub with_stack : (stack stack' : List Operand) (values : List ℕ) (state : State) (s : Plain) → Here program bound open_ones stack next state s
         → AllHold s.registers (depth s) (bottom (program.shape state.frame.number)) next stack' values → Here program bound open_ones stack' next (with_values values state) s
-    with_stack stack stack' values state s h all = record {
-      store = h.store;
-      frame_is = record {
-        arity = h.frame_is.arity;
-        size = h.frame_is.size;
-        locals = h.frame_is.locals;
-        labels = h.frame_is.labels;
-        values = all;
-        above = h.frame_is.above;
-        limit = h.frame_is.limit;
-      };
-      callers = h.callers;
-    }
+    with_stack stack stack' values state s h all = rebuilt stack stack' next values state.frame.rest state s h all h.frame_is.above h.frame_is.limit
 
     pub popping : (used : ℕ) (stack : List Operand) (state : State) (s : Plain) (step : ℕ → State → Next Config) → Here program bound open_ones stack next state s
         → ((v : ℕ) (vs : List ℕ) → state.frame.values ≡ v ∷ vs → Holds s.registers (depth s) (bottom (program.shape state.frame.number)) next (top stack) v

@@ -1,5 +1,5 @@
 -- The pieces of a whole function keep the rules as far as they go themselves.
-use Rattle.std.proofs.Common.{◌≡◌, ℕ, zero, suc, ◌+◌, ◌-◌, ◌≤◌, List, [], ◌∷◌, ◌++◌, length, reverse, replicate, Some, slice_get, refl, sym, ap, ap₂, ◌∙◌, subst, arith, append_assoc, inl, inr}
+use Rattle.std.proofs.Common.{◌≡◌, ℕ, zero, suc, ◌+◌, ◌-◌, ◌≤◌, List, [], ◌∷◌, ◌++◌, length, reverse, replicate, Some, slice_get, refl, sym, ap, ap₂, ◌∙◌, subst, arith, inl, inr}
 use Rattle.std.proofs.lemmas.List.{length-replicate}
 use Rattle.bl_wasm.specs.Linked.{IsLinked, IsFunction, context}
 use Rattle.bl_wasm.specs.Typing.{Context}
@@ -22,31 +22,23 @@ use Rattle.bl_lower.proofs.PieceRules.{LawfulPiece, simple_piece, readables}
 use Rattle.bl_lower.proofs.LawfulCommands.{Simple, own_local, reads_const, AllReadable, moves_simple, outs_simple, jump_simple}
 use Rattle.bl_lower.proofs.ConstructExits.{moves_length}
 use Rattle.bl_lower.proofs.NestedItems.{nested_is}
-use Rattle.bl_lower.proofs.Pieces.{all_of, AllAt, each_both, all_at_front, all_at_back, all_at_both, pieces, whole_is}
+use Rattle.bl_lower.proofs.Pieces.{all_append, all_of, AllAt, each_both, all_at_front, all_at_back, all_at_both, pieces, whole_is}
 use Rattle.bl_lower.proofs.FunctionPlaces.{first_point, opens, opens_length, room_of, extent_is, results_are, counts_are, locals_are, total_some}
 use Rattle.bl_lower.proofs.OperandRanges.{ranged_pad}
 use Rattle.bl_lower.proofs.Sizes.{Size, Sized, ReachedAs, sizes, padded_length, outs_length}
 use Rattle.bl_lower.proofs.TypedItems.{Sound, Each, EachIn, all_sound, each_in}
 use Rattle.bl_lower.proofs.Templates.{within}
 use Rattle.bl_lower.proofs.Typings.{nested_body}
-use Rattle.bl_emit.proofs.Lists.{shift_is}
+use Rattle.bl_emit.proofs.Lists.{append_none, shift_is}
 
 -- the end of a function, where it is reached
 abbrev last_pieces : ℕ → Reached → List (List Command)
 last_pieces results (on q) = last results (on q) ∷ []
 last_pieces results (off next) = []
 
-append_nil : (l : List Command) → l ++ [] ≡ l
-append_nil [] = refl
-append_nil (x ∷ l) = ap (λ r. x ∷ r) (append_nil l)
-
 last_same : (results : ℕ) (reached : Reached) → all_of (last_pieces results reached) ≡ last results reached
-last_same results (on q) = append_nil (last results (on q))
+last_same results (on q) = append_none (last results (on q))
 last_same results (off next) = refl
-
-all_append : (a b : List (List Command)) → all_of (a ++ b) ≡ all_of a ++ all_of b
-all_append [] b = refl
-all_append (piece ∷ a) b = ap (λ l. piece ++ l) (all_append a b) ∙ sym (append_assoc piece (all_of a) (all_of b))
 
 module _ (tree : Tree) (linked : IsLinked tree) (number : ℕ) (function : Function) (exists : slice_get tree.functions number ≡ Some function) (is : IsFunction tree function) where
   abbrev Mine : Shape
@@ -174,8 +166,5 @@ module _ (tree : Tree) (linked : IsLinked tree) (number : ℕ) (function : Funct
     prologue_good,
     subst (λ n. AllAt LawfulPieceAt n (body_pieces ++ last_pieces Mine.results reached)) (sym start_there)
         (all_at_both LawfulPieceAt (start_at tree number) (start_at tree number + e.size) body_pieces (last_pieces Mine.results reached) (omega (arith, body_long)) body_good.0
-        (last_good reached sized.reached body_good.1 (reached_next reached sized.new))),
+        (last_good reached sized.reached body_good.1 (omega (arith, sized.new, room)))),
   )
-    where
-      reached_next : (r : Reached) → next_in r ≡ at_first.next + e.new → next_in r ≤ Mine.limit
-      reached_next r h = omega (arith, h, room)

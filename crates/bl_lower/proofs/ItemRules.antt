@@ -1,11 +1,10 @@
 -- Each piece of a body keeps the rules as far as it goes itself.
-use Rattle.std.proofs.Common.{◌≡◌, ℕ, suc, ◌+◌, ◌*◌, ◌<◌, ◌≤◌, List, [], ◌∷◌, ◌++◌, length, drop, reverse, Some, slice_get, refl, sym, ap, ◌∙◌, subst, arith, length-append, inl, inr}
+use Rattle.std.proofs.Common.{◌≡◌, ℕ, suc, ◌+◌, ◌*◌, ◌<◌, ◌≤◌, List, [], ◌∷◌, ◌++◌, length, drop, reverse, Some, slice_get, sym, ap, ◌∙◌, subst, arith, length-append, inl, inr}
 use Rattle.bl_ops.specs.OperatorTable.{row_of, row_operands}
 use Rattle.bl_ops.specs.declared.op.Op.{Op}
 use Rattle.bl_ops.specs.declared.op.Op.TheVariants as op
 use Rattle.bl_ops.specs.declared.op.OpRow.{OpRow}
 use Rattle.bl_wasm.specs.Linked.{IsLinked, IsFunction, context}
-use Rattle.bl_wasm.specs.Typing.{Context}
 use Rattle.bl_wasm.specs.declared.instruction.Instr.{Instr}
 use Rattle.bl_wasm.specs.declared.instruction.Instr.TheVariants.{BrIf, Call, CallIndirect, Select, LocalGet, LocalSet, LocalTee, GlobalGet, GlobalSet, Load, Store, MemorySize, MemoryGrow, I32Const, I64Const, Integer}
 use Rattle.bl_wasm.specs.declared.linked.Function.{Function}
@@ -27,19 +26,12 @@ use Rattle.bl_lower.proofs.FunctionPlaces.{arms_at}
 use Rattle.bl_lower.proofs.OperandRanges.{Ranged, AllRanged, ranged_tail, ranged_top, ranged_left, ranged_right}
 use Rattle.bl_lower.proofs.Sizes.{slot_head_length, template_length, after_position, checks_length}
 use Rattle.bl_lower.proofs.TypedItems.{Sound}
-use Rattle.bl_emit.proofs.Lists.{shift_is}
+use Rattle.bl_emit.proofs.Lists.{append_none, shift_is}
 use Rattle.bl_lower.proofs.Templates.{row_padded, check_fits, arms_exist, spans, local_own, local_read, functions_number, globals_number, size_static, checks_simple, called_simple, hits_into, slots_simple, one_good, move_good, load_good, store_good, grow_good}
-
-append_nil : (l : List Command) → l ++ [] ≡ l
-append_nil [] = refl
-append_nil (x ∷ l) = ap (λ r. x ∷ r) (append_nil l)
 
 module _ (tree : Tree) (linked : IsLinked tree) (number : ℕ) (B : ℕ → Type 0) (function : Function) (exists : slice_get tree.functions number ≡ Some function) (is : IsFunction tree function) where
   abbrev Mine : Shape
   Mine = shape tree number
-
-  abbrev c : Context
-  c = context tree is.type function
 
   abbrev Ops : ℕ → List Operand → Type 0
   Ops next stack = AllRanged (bottom Mine) next stack
@@ -127,7 +119,7 @@ module _ (tree : Tree) (linked : IsLinked tree) (number : ℕ) (B : ℕ → Type
       chain_simple tree linked number B start size stop goes start depth x 0 4 index hits small (omega arith) (omega (arith, room, long)) low (omega (arith, high, long)) reads_
       (hits_into tree linked number B function exists is start size stop goes at_ (slot ∷ those) (omega arith) (omega (arith, room))) (λ some. inl (omega arith))
 
-  pub template_good : (item : Instr) (open_ones : List Target) (p : Point) → Sound c item → AllReady tree linked number B open_ones → Ops p.next p.stack → bottom Mine ≤ p.next
+  pub template_good : (item : Instr) (open_ones : List Target) (p : Point) → Sound (context tree is.type function) item → AllReady tree linked number B open_ones → Ops p.next p.stack → bottom Mine ≤ p.next
       → p.next ≤ Mine.limit → (after (shape tree) number open_ones item p).next ≤ Mine.limit → B (after (shape tree) number open_ones item p).position → LawfulPieceAt p.position (Template open_ones item p)
   template_good (I32Const n) open_ones p sound ready ranged low le room ends =
       move_good tree linked number B function exists is p.position (mark_of open_ones) p.next (Const n) (mark_small open_ones) (reads_const tree linked number B n) (new p.next low (omega (arith, room))) ends
@@ -180,7 +172,7 @@ module _ (tree : Tree) (linked : IsLinked tree) (number : ℕ) (B : ℕ → Type
       let given = args depth f 0 (reverse (pad (shape tree f).params p.stack)) in
       let back = moves depth p.next (result_reads (shape tree f) 0 (shape tree f).results) in
       simple_piece tree linked number B p.position t (omega (arith, long))
-      (subst (EachAt (Simple tree linked number B p.position n) p.position) (ap (λ l. given ++ command.Call f ∷ l) (append_nil back))
+      (subst (EachAt (Simple tree linked number B p.position n) p.position) (ap (λ l. given ++ command.Call f ∷ l) (append_none back))
       (called_simple tree linked number B function exists is p.position n (p.position + n) (spans tree linked number B function exists is p.position n (ends_there open_ones (Call f) p ends)) p.position depth f p.next p.next p.stack []
       (mark_small open_ones) (omega arith) (omega (arith, long)) (functions_number tree linked number B function exists is f sound) low room le ranged tt))
   template_good (CallIndirect i) open_ones p sound ready ranged low le room ends =

@@ -108,19 +108,16 @@ module _ (tree : Tree) (linked : IsLinked tree) (number : ℕ) (B : ℕ → Type
   writable x (inr g) = inl (omega (arith, g, globals_number))
 
   module _ (start size : ℕ) where
+    simply : (position : ℕ) (command : Command) → IsCommand command → Rule4 (low_tree tree) number command → Rule6 (low_tree tree) number command → ((t : ℕ) → GoesTo command t → Goes start size t)
+        → Leaves command ⊎ Goes start size (suc position) → reach_of command ≡ None → Rule8 (low_tree tree) number position command → Simple start size position command
+    simply position command is rule4 rule6 targets falls reach rule8 = record { lawful = record { is = is; rule4 = rule4; rule6 = rule6; targets = targets; falls = falls }; reach = reach; rule8 = rule8 }
+
     pub set_simple : (position depth : ℕ) (o : Op) (x : ℕ) (a b c : Operand) → depth ≤ 6 → ArePadded o b c → Readable a → Readable b → Readable c → Writes x → Goes start size (suc position)
         → Simple start size position (set_of depth o x a b c)
-    set_simple position depth o x a b c small padded ra rb rc writes falls = record {
-      lawful = record {
-        is = padded;
-        rule4 = record { reads = λ y h. elim h [ inl e ↦ ra y e | inr i ↦ elim i [ inl e ↦ rb y e | inr j ↦ elim j [ inl e ↦ rc y e | inr k ↦ absurd k ] ] ]; writes = writable x writes };
-        rule6 = small;
-        targets = λ t h. absurd h;
-        falls = inr falls;
-      };
-      reach = refl;
-      rule8 = λ memory lt e. absurd (no_size x writes memory lt e);
-    }
+    set_simple position depth o x a b c small padded ra rb rc writes falls =
+        simply position (set_of depth o x a b c) padded
+        (record { reads = λ y h. elim h [ inl e ↦ ra y e | inr i ↦ elim i [ inl e ↦ rb y e | inr j ↦ elim j [ inl e ↦ rc y e | inr k ↦ absurd k ] ] ]; writes = writable x writes })
+        small (λ t h. absurd h) (inr falls) refl (λ memory lt e. absurd (no_size x writes memory lt e))
 
     pub two_padded : (o : Op) (b : Operand) → arity o ≡ 2 → ArePadded o b (Const 0)
     two_padded o b e = (λ lt. absurd (omega (arith, lt, e)), λ lt. refl)
@@ -133,72 +130,29 @@ module _ (tree : Tree) (linked : IsLinked tree) (number : ℕ) (B : ℕ → Type
         set_simple position depth op.Move x a (Const 0) (Const 0) small (one_padded op.Move) ra (reads_const 0) (reads_const 0) writes falls
 
     pub test_simple : (position : ℕ) (a : Operand) (one other : ℕ) → Readable a → Goes start size one → Goes start size other → Simple start size position (test_of a one other)
-    test_simple position a one other ra g h = record {
-      lawful = record {
-        is = tt;
-        rule4 = record { reads = λ y i. elim i [ inl e ↦ ra y e | inr k ↦ absurd k ]; writes = tt };
-        rule6 = tt;
-        targets = λ t i. elim i [ inl e ↦ subst (Goes start size) e g | inr e ↦ subst (Goes start size) e h ];
-        falls = inl tt;
-      };
-      reach = refl;
-      rule8 = tt;
-    }
+    test_simple position a one other ra g h =
+        simply position (test_of a one other) tt (record { reads = λ y i. elim i [ inl e ↦ ra y e | inr k ↦ absurd k ]; writes = tt }) tt (λ t i. elim i [ inl e ↦ subst (Goes start size) e g | inr e ↦ subst (Goes start size) e h ]) (inl tt) refl tt
 
     pub jump_simple : (position to : ℕ) → Goes start size to → Simple start size position (jump_to to)
-    jump_simple position to g = record {
-      lawful = record { is = tt; rule4 = record { reads = λ y i. absurd i; writes = tt }; rule6 = tt; targets = λ t e. subst (Goes start size) e g; falls = inl tt };
-      reach = refl;
-      rule8 = tt;
-    }
+    jump_simple position to g = simply position (jump_to to) tt (record { reads = λ y i. absurd i; writes = tt }) tt (λ t e. subst (Goes start size) e g) (inl tt) refl tt
 
     pub arg_simple : (position depth f index : ℕ) (a : Operand) → depth ≤ 6 → f < length (low_tree tree).functions → index < (shape tree f).params → Readable a → Goes start size (suc position)
         → Simple start size position (arg_of depth f index a)
-    arg_simple position depth f index a small lt within ra falls = record {
-      lawful = record {
-        is = tt;
-        rule4 = record { reads = λ y i. elim i [ inl e ↦ ra y e | inr k ↦ absurd k ]; writes = tt };
-        rule6 = (small, lt, omega (arith, within, params_number tree linked f));
-        targets = λ t h. absurd h;
-        falls = inr falls;
-      };
-      reach = refl;
-      rule8 = tt;
-    }
+    arg_simple position depth f index a small lt within ra falls =
+        simply position (arg_of depth f index a) tt (record { reads = λ y i. elim i [ inl e ↦ ra y e | inr k ↦ absurd k ]; writes = tt }) (small, lt, omega (arith, within, params_number tree linked f)) (λ t h. absurd h) (inr falls) refl tt
 
     pub call_simple : (position f : ℕ) → f < length (low_tree tree).functions → Goes start size (suc position) → Simple start size position (Call f)
-    call_simple position f lt falls = record {
-      lawful = record { is = tt; rule4 = record { reads = λ y i. absurd i; writes = tt }; rule6 = lt; targets = λ t h. absurd h; falls = inr falls };
-      reach = refl;
-      rule8 = tt;
-    }
+    call_simple position f lt falls = simply position (Call f) tt (record { reads = λ y i. absurd i; writes = tt }) lt (λ t h. absurd h) (inr falls) refl tt
 
     pub out_simple : (position depth index : ℕ) (a : Operand) → depth ≤ 6 → index < mine.results → Readable a → Goes start size (suc position) → Simple start size position (out_of depth index a)
-    out_simple position depth index a small within ra falls = record {
-      lawful = record {
-        is = tt;
-        rule4 = record { reads = λ y i. elim i [ inl e ↦ ra y e | inr k ↦ absurd k ]; writes = tt };
-        rule6 = (small, omega (arith, within, results_number tree number));
-        targets = λ t h. absurd h;
-        falls = inr falls;
-      };
-      reach = refl;
-      rule8 = tt;
-    }
+    out_simple position depth index a small within ra falls =
+        simply position (out_of depth index a) tt (record { reads = λ y i. elim i [ inl e ↦ ra y e | inr k ↦ absurd k ]; writes = tt }) (small, omega (arith, within, results_number tree number)) (λ t h. absurd h) (inr falls) refl tt
 
     pub ret_simple : (position : ℕ) → Simple start size position Ret
-    ret_simple position = record {
-      lawful = record { is = tt; rule4 = record { reads = λ y i. absurd i; writes = tt }; rule6 = tt; targets = λ t h. absurd h; falls = inl tt };
-      reach = refl;
-      rule8 = tt;
-    }
+    ret_simple position = simply position Ret tt (record { reads = λ y i. absurd i; writes = tt }) tt (λ t h. absurd h) (inl tt) refl tt
 
     pub trap_simple : (position : ℕ) (kind : TrapKind) → Simple start size position (Trap kind)
-    trap_simple position kind = record {
-      lawful = record { is = tt; rule4 = record { reads = λ y i. absurd i; writes = tt }; rule6 = tt; targets = λ t h. absurd h; falls = inl tt };
-      reach = refl;
-      rule8 = tt;
-    }
+    trap_simple position kind = simply position (Trap kind) tt (record { reads = λ y i. absurd i; writes = tt }) tt (λ t h. absurd h) (inl tt) refl tt
 
     -- ---- lists of them; the piece's positions up to one can be come to
 

@@ -2,7 +2,8 @@
 use Rattle.std.proofs.Common.{◌≡◌, ℕ, zero, suc, ◌+◌, ◌-◌, ◌*◌, ◌≤◌, Bool, true, false, cond, List, [], ◌∷◌, ◌++◌, length, map, take, drop, replicate, refl, sym, ap, ap₂, ◌∙◌, arith, length-append, length-drop, append_assoc}
 use Rattle.std.specs.Prelude.{◌/◌}
 use Rattle.std.specs.List.{fold, filter, range_with_len}
-use Rattle.std.proofs.lemmas.List.{length-replicate, length-take-le}
+use Rattle.std.proofs.Math.Seq.{drop-append-add}
+use Rattle.std.proofs.lemmas.List.{append-nil, drop-replicate, drop-take, length-replicate, length-take-le, replicate-append-replicate, take-append-drop, take-take, take_all, take_at}
 use Rattle.bl_cmd.specs.Outcomes.{with_row}
 use Rattle.bl_cmd.specs.declared.definitions.MemRow.{MemRow}
 use Rattle.bl_lower.specs.Trees.{memory_row_at, is_filled, rows_of}
@@ -19,42 +20,8 @@ unfilled (suc byte ∷ bytes) e = absurd (cc e)
 abbrev begun : List ℕ → ℕ → List ℕ
 begun bytes n = take n bytes ++ zeros (length bytes - n)
 
-abbrev nothing : List ℕ
-nothing = []
-
 take_more : (m n : ℕ) (bytes : List ℕ) → take (m + n) bytes ≡ take m bytes ++ take n (drop m bytes)
-take_more zero n bytes = let e : 0 + n ≡ n = omega arith in ap (λ k. take k bytes) e
-take_more (suc m) zero [] = let e : suc m + 0 ≡ suc m = omega arith in ap (λ k. take k nothing) e
-take_more (suc m) (suc n) [] = let e : suc m + suc n ≡ suc (m + suc n) = omega arith in ap (λ k. take k nothing) e
-take_more (suc m) n (b ∷ bytes) = let e : suc m + n ≡ suc (m + n) = omega arith in ap (λ k. take k (b ∷ bytes)) e ∙ ap (λ l. b ∷ l) (take_more m n bytes)
-
-zeros_more : (m n : ℕ) → zeros (m + n) ≡ zeros m ++ zeros n
-zeros_more zero n = let e : 0 + n ≡ n = omega arith in ap zeros e
-zeros_more (suc m) n = let e : suc m + n ≡ suc (m + n) = omega arith in ap zeros e ∙ ap (λ l. 0 ∷ l) (zeros_more m n)
-
-take_front : {X : Type 0} (n : ℕ) (xs ys : List X) → length xs ≡ n → take n (xs ++ ys) ≡ xs
-take_front zero [] ys e = refl
-take_front (suc n) [] ys e = absurd (omega (arith, e))
-take_front zero (x ∷ xs) ys e = absurd (omega (arith, e))
-take_front (suc n) (x ∷ xs) ys e = ap (λ l. x ∷ l) (take_front n xs ys (omega (arith, e)))
-
-drop_past : {X : Type 0} (m n : ℕ) (xs ys : List X) → length xs ≡ m → drop (m + n) (xs ++ ys) ≡ drop n ys
-drop_past zero n [] ys e = let same : 0 + n ≡ n = omega arith in ap (λ k. drop k ys) same
-drop_past (suc m) n [] ys e = absurd (omega (arith, e))
-drop_past zero n (x ∷ xs) ys e = absurd (omega (arith, e))
-drop_past (suc m) n (x ∷ xs) ys e = let same : suc m + n ≡ suc (m + n) = omega arith in ap (λ k. drop k (x ∷ xs ++ ys)) same ∙ drop_past m n xs ys (omega (arith, e))
-
-drop_zeros : (m n : ℕ) → drop m (zeros (m + n)) ≡ zeros n
-drop_zeros m n = ap (drop m) (zeros_more m n) ∙ past (zeros m) (length-replicate {A = ℕ} m 0)
-  where
-    past : (xs : List ℕ) → length xs ≡ m → drop m (xs ++ zeros n) ≡ zeros n
-    past xs e = let same : m ≡ m + 0 = omega arith in ap (λ k. drop k (xs ++ zeros n)) same ∙ drop_past m 0 xs (zeros n) e
-
-take_all : {X : Type 0} (n : ℕ) (xs : List X) → length xs ≤ n → take n xs ≡ xs
-take_all zero [] le = refl
-take_all zero (x ∷ xs) le = absurd (omega (arith, le))
-take_all (suc n) [] le = refl
-take_all (suc n) (x ∷ xs) le = ap (λ l. x ∷ l) (take_all n xs (omega (arith, le)))
+take_more m n bytes = sym (take-append-drop m (take (m + n) bytes)) ∙ ap₂ (λ a b. a ++ b) (take-take m (m + n) bytes (omega arith)) (drop-take m n bytes)
 
 module _ (bytes : List ℕ) where
   -- so many bytes more
@@ -80,11 +47,13 @@ module _ (bytes : List ℕ) where
       let long : length front ≡ number * 16 = length-take-le (number * 16) bytes (omega (arith, le)) in
       let left = length bytes - suc number * 16 in
       let split : length bytes - number * 16 ≡ 16 + left = omega (arith, le) in
+      let more_left : 16 + left - 16 ≡ left = omega arith in
       let all = begun bytes (number * 16) in
       let back : drop (number * 16 + length (next_row number)) all ≡ zeros left =
-      ap (λ n. drop (number * 16 + n) all) (row_length number le) ∙ drop_past (number * 16) 16 front (zeros (length bytes - number * 16)) long ∙ ap (λ n. drop 16 (zeros n)) split ∙ drop_zeros 16 left in
+      ap (λ n. drop (number * 16 + n) all) (row_length number le) ∙ ap (λ n. drop (n + 16) all) (sym long) ∙ drop-append-add front (zeros (length bytes - number * 16)) 16
+      ∙ ap (λ n. drop 16 (zeros n)) split ∙ drop-replicate {X = ℕ} 16 (16 + left) 0 ∙ ap zeros more_left in
       let whole : take (number * 16) all ++ next_row number ++ drop (number * 16 + length (next_row number)) all ≡ begun bytes (suc number * 16) =
-      ap₂ (λ a b. a ++ next_row number ++ b) (take_front (number * 16) front (zeros (length bytes - number * 16)) long) back
+      ap₂ (λ a b. a ++ next_row number ++ b) (take_at front (zeros (length bytes - number * 16)) (number * 16) long) back
       ∙ append_assoc front (next_row number) (zeros left) ∙ sym (more number le) in
       let sized : length (begun bytes (suc number * 16)) ≡ length all = begun_length (suc number * 16) (omega (arith, le)) ∙ sym (begun_length (number * 16) (omega (arith, le))) in
       ap (take (length all)) whole ∙ take_all (length all) (begun bytes (suc number * 16)) (omega (arith, sized))
@@ -94,7 +63,7 @@ module _ (bytes : List ℕ) where
   zero_row number le e =
       let left = length bytes - suc number * 16 in
       let split : length bytes - number * 16 ≡ 16 + left = omega (arith, le) in
-      ap (λ n. take (number * 16) bytes ++ zeros n) split ∙ ap (λ l. take (number * 16) bytes ++ l) (zeros_more 16 left)
+      ap (λ n. take (number * 16) bytes ++ zeros n) split ∙ ap (λ l. take (number * 16) bytes ++ l) (sym (replicate-append-replicate {A = ℕ} 16 left 0))
       ∙ ap (λ l. take (number * 16) bytes ++ (l ++ zeros left)) (sym (unfilled (next_row number) e ∙ ap zeros (row_length number le))) ∙ sym (more number le)
 
   rows_from : (count number : ℕ) → (number + count) * 16 ≡ length bytes
@@ -103,10 +72,6 @@ module _ (bytes : List ℕ) where
       let same : number * 16 ≡ length bytes = omega (arith, e) in
       let none : length bytes - number * 16 ≡ 0 = omega (arith, e) in
       ap₂ (λ a n. a ++ zeros n) (take_all (number * 16) bytes (omega (arith, same))) none ∙ append-nil bytes
-    where
-      append-nil : (l : List ℕ) → l ++ [] ≡ l
-      append-nil [] = refl
-      append-nil (x ∷ l) = ap (λ r. x ∷ r) (append-nil l)
   rows_from (suc count) number e = by_row (is_filled (next_row number)) refl (rows_from count (number + 1) (omega (arith, e)))
     where
       rest : List MemRow

@@ -1,7 +1,7 @@
 -- Reading, writing and growing a memory, in the space of all of them.
-use Rattle.std.proofs.Common.{◌≡◌, ℕ, zero, suc, ◌+◌, ◌-◌, ◌*◌, ◌≤◌, List, [], ◌∷◌, ◌++◌, length, take, drop, set, replicate, Some, slice_get, refl, sym, ap, ap₂, ◌∙◌, subst, arith, append_assoc, length-append}
+use Rattle.std.proofs.Common.{◌≡◌, ℕ, zero, suc, ◌+◌, ◌-◌, ◌*◌, ◌≤◌, List, [], ◌∷◌, ◌++◌, length, take, drop, set, replicate, Some, slice_get, refl, sym, ap, ap₂, ◌∙◌, subst, arith, append_assoc, length-append, length-drop}
 use Rattle.std.specs.List.{AllZip}
-use Rattle.std.proofs.lemmas.List.{length-replicate, take-append-le, drop-append-le}
+use Rattle.std.proofs.lemmas.List.{length-replicate, length-take-le, replicate-append-replicate, take-append-le, drop-append-le}
 use Rattle.std.proofs.Math.Seq.{take-append-add, drop-append-add}
 use Rattle.std.proofs.lemmas.Option.{none-some, same_Some}
 use Rattle.bl_base.specs.Runs.{MemoryState}
@@ -9,13 +9,6 @@ use Rattle.bl_wasm.specs.declared.linked.Memory.{Memory}
 use Rattle.bl_reduce.specs.Memory.{write, grow}
 use Rattle.bl_reduce.specs.TypedConfigurations.{IsMemoryState}
 use Rattle.bl_lower.proofs.Machine.{base, padded, space_of}
-
-abbrev zeros_of : ℕ → List ℕ
-zeros_of n = replicate n 0
-
-replicate_sum : (m n : ℕ) → zeros_of (m + n) ≡ zeros_of m ++ zeros_of n
-replicate_sum zero n = let e : 0 + n ≡ n = omega arith in ap zeros_of e
-replicate_sum (suc m) n = let e : suc m + n ≡ suc (m + n) = omega arith in ap zeros_of e ∙ ap (λ l. 0 ∷ l) (replicate_sum m n)
 
 -- no memory is larger than its reserve
 abbrev pub AreWithin : List Memory → List MemoryState → Type 0
@@ -77,12 +70,7 @@ module _ (memories : List Memory) (states : List MemoryState) (index : ℕ) (sta
   -- what is read in the memory is read in the space
   pub reads_same : (at width : ℕ) → at + width ≤ length state.bytes → take width (drop (base memories index + at) (space_of memories states)) ≡ take width (drop at state.bytes)
   reads_same at width le =
-      ap (take width) (from at (omega (arith, le))) ∙ take-append-le width (drop at state.bytes) (zeros (length state.bytes) ++ g.behind) (room at width state.bytes le)
-    where
-      room : (at width : ℕ) (bytes : List ℕ) → at + width ≤ length bytes → width ≤ length (drop at bytes)
-      room zero width bytes le = omega (arith, le)
-      room (suc at) width [] le = omega (arith, le)
-      room (suc at) width (b ∷ bytes) le = room at width bytes (omega (arith, le))
+      ap (take width) (from at (omega (arith, le))) ∙ take-append-le width (drop at state.bytes) (zeros (length state.bytes) ++ g.behind) (omega (arith, length-drop at state.bytes, le))
 
   -- what is written to the memory is written to the space
   pub writes_same : (at : ℕ) (new : List ℕ) → at + length new ≤ length state.bytes
@@ -105,18 +93,8 @@ module _ (memories : List Memory) (states : List MemoryState) (index : ℕ) (sta
       inside : (a b c d e : List ℕ) → ((a ++ b ++ c) ++ d) ++ e ≡ a ++ (b ++ (c ++ (d ++ e)))
       inside a b c d e = append_assoc (a ++ b ++ c) d e ∙ append_assoc (a ++ b) c (d ++ e) ∙ append_assoc a b (c ++ (d ++ e))
 
-      drop_length : (n : ℕ) (l : List ℕ) → length (drop n l) ≡ length l - n
-      drop_length zero l = omega arith
-      drop_length (suc n) [] = omega arith
-      drop_length (suc n) (x ∷ l) = omega (arith, drop_length n l)
-
-      take_length : (n : ℕ) (l : List ℕ) → n ≤ length l → length (take n l) ≡ n
-      take_length zero l le = refl
-      take_length (suc n) [] le = absurd (omega (arith, le))
-      take_length (suc n) (x ∷ l) le = ap suc (take_length n l (omega (arith, le)))
-
       same_length : length (write state at new).bytes ≡ length state.bytes
-      same_length = omega (arith, length-append (take at state.bytes ++ new) (drop (at + length new) state.bytes), length-append (take at state.bytes) new, take_length at state.bytes (omega (arith, le)), drop_length (at + length new) state.bytes, le)
+      same_length = omega (arith, length-append (take at state.bytes ++ new) (drop (at + length new) state.bytes), length-append (take at state.bytes) new, length-take-le at state.bytes (omega (arith, le)), length-drop (at + length new) state.bytes, le)
 
   -- growing changes no byte of the space
   pub grows_same : (delta : ℕ) → state.pages + delta ≤ g.memory.reserve → space_of memories (set states index (grow state delta)) ≡ space_of memories states
@@ -128,4 +106,4 @@ module _ (memories : List Memory) (states : List MemoryState) (index : ℕ) (sta
       same : padded g.memory (grow state delta) ≡ padded g.memory state
       same =
           append_assoc state.bytes (replicate (delta * 65536) 0) (replicate (g.memory.reserve * 65536 - length (state.bytes ++ replicate (delta * 65536) 0)) 0)
-          ∙ ap (λ l. state.bytes ++ l) (sym (replicate_sum (delta * 65536) (g.memory.reserve * 65536 - length (state.bytes ++ replicate (delta * 65536) 0))) ∙ ap (λ n. replicate n 0) (sym split))
+          ∙ ap (λ l. state.bytes ++ l) (replicate-append-replicate {A = ℕ} (delta * 65536) (g.memory.reserve * 65536 - length (state.bytes ++ replicate (delta * 65536) 0)) 0 ∙ ap (λ n. replicate n 0) (sym split))

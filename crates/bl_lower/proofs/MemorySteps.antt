@@ -1,10 +1,11 @@
 -- Loads, stores, and the sizes of memories.
-use Rattle.std.proofs.Common.{◌≡◌, ℕ, zero, suc, ◌+◌, ◌-◌, ◌*◌, ◌%◌, ◌^◌, ◌<◌, ◌≤◌, Bool, true, false, cond, List, [], ◌∷◌, ◌++◌, length, take, drop, set, Some, slice_get, refl, sym, ap, ◌∙◌, subst, arith, append_assoc, length-append, ◌⊎◌, inl, inr}
+use Rattle.std.proofs.Common.{◌≡◌, ℕ, suc, ◌+◌, ◌-◌, ◌*◌, ◌%◌, ◌^◌, ◌<◌, ◌≤◌, Bool, true, false, List, [], ◌∷◌, ◌++◌, length, take, drop, set, Some, slice_get, refl, sym, ap, ◌∙◌, subst, arith, append_assoc, length-append, ◌⊎◌, inl, inr}
 use Rattle.std.specs.Prelude.{nat_lt, if◌then◌else◌}
 use Rattle.std.specs.List.{AllZip}
 use Rattle.std.proofs.Math.Nat.{mod-eq_of_lt}
 use Rattle.std.proofs.lemmas.Bool.{lt-ltb, le-ltb, le-leb, lt-leb, cases_lt}
-use Rattle.std.proofs.lemmas.Option.{none-some, slice_get_within, same_Some}
+use Rattle.std.proofs.lemmas.List.{take_all}
+use Rattle.std.proofs.lemmas.Option.{slice_get_within, same_Some}
 use Rattle.bl_base.specs.Runs.{MemoryState, Next, StepsTo, goes}
 use Rattle.bl_base.proofs.RunLemmas.{comes_then}
 use Rattle.bl_base.specs.declared.trap.Trap.TheVariants as trap_kind
@@ -28,28 +29,17 @@ use Rattle.bl_cmd.specs.declared.command.Command.TheVariants.{Store}
 use Rattle.bl_cmd.specs.declared.command.Operand.{Operand}
 use Rattle.bl_cmd.specs.declared.command.Operand.TheVariants.{Const}
 use Rattle.bl_lower.proofs.Machine.{Program, value_of, effective, place, plain_step, base, padded, space_of}
-use Rattle.bl_lower.proofs.MatchStates.{Holds, Layout, IsStore, Here, IsProgram}
+use Rattle.bl_lower.proofs.MatchStates.{Holds, IsStore, Here, IsProgram}
 use Rattle.bl_emit.specs.Constructs.{Target, top}
 use Rattle.bl_emit.specs.Shapes.{bottom}
 use Rattle.bl_lower.proofs.BranchSteps.{IsSmall}
 use Rattle.bl_lower.proofs.Frames.{static_low, static_next, next_low, here_above, store_kept, frame_kept, callers_kept, Reaches, Then, reaches_later, popping, knowing, with_stack}
-use Rattle.bl_lower.proofs.StraightLineItems.{LaidOut, arrives, pushes, raised}
-use Rattle.bl_lower.proofs.OperatorSteps.{zero_test, tested, falls}
+use Rattle.bl_lower.proofs.StraightLineItems.{LaidOut, arrives, puts, pushes, raised, set_get}
+use Rattle.bl_lower.proofs.OperatorSteps.{told, falls}
 use Rattle.bl_lower.proofs.MemorySpace.{Segment, segment, reads_same, writes_same, grows_same, padded_length}
 use Rattle.bl_lower.proofs.States.{states_are}
-use Rattle.bl_lower.proofs.PlainRuns.{Kept, at, does, sets, holds_value, value_is, holds_later, kept_written, read_written, read_other, read_deeper, place_static, move_is}
+use Rattle.bl_lower.proofs.PlainRuns.{Kept, at, does, sets, holds_value, value_is, kept_value, kept_written, read_written, read_other, read_deeper, place_is, place_static, move_is}
 use Rattle.bl_ops.proofs.AccessLemmas.{width_small}
-
--- an element of a list in which one was replaced
-set_gets : {X : Type 0} (xs : List X) (i j : ℕ) (old w v : X) → slice_get xs i ≡ Some old → slice_get (set xs i w) j ≡ Some v → (i ≡ j) × (w ≡ v) ⊎ (i ≡ j → ⊥) × (slice_get xs j ≡ Some v)
-set_gets [] i j old w v e f = absurd (none-some old e)
-set_gets (x ∷ xs) zero zero old w v e f = inl (refl, same_Some w v f)
-set_gets (x ∷ xs) zero (suc j) old w v e f = inr (λ g. omega (arith, g), f)
-set_gets (x ∷ xs) (suc i) zero old w v e f = inr (λ g. omega (arith, g), f)
-set_gets (x ∷ xs) (suc i) (suc j) old w v e f = elim (set_gets xs i j old w v e f) [
-  | inl h ↦ inl (ap suc h.0, h.1)
-  | inr h ↦ inr (λ g. h.0 (omega (arith, g)), h.1)
-]
 
 -- the space has one length
 abbrev all_reserves : List Memory → ℕ
@@ -61,12 +51,6 @@ space_length [] [] h = refl
 space_length [] (s ∷ those) h = absurd h
 space_length (memory ∷ memories) [] h = absurd h
 space_length (memory ∷ memories) (s ∷ those) h = omega (arith, length-append (padded memory s) (space_of memories those), padded_length memory s h.0, space_length memories those h.1)
-
-take_whole : (xs : List ℕ) (n : ℕ) → n ≡ length xs → take n xs ≡ xs
-take_whole [] zero e = refl
-take_whole [] (suc n) e = refl
-take_whole (x ∷ xs) zero e = absurd (omega (arith, e))
-take_whole (x ∷ xs) (suc n) e = ap (λ l. x ∷ l) (take_whole xs n (omega (arith, e)))
 
 -- what the test of an access gives
 outside_is : (a pages reach : ℕ) → a < 2 ^ 32 → pages < 2 ^ 32 → reach < 2 ^ 34 → meaning op.Outside a pages reach ≡ (if nat_lt (pages * 65536) (a + reach) then 1 else 0)
@@ -103,9 +87,6 @@ sum_is pages delta few =
     ap (λ n. (n + delta % 2 ^ 32) % 2 ^ 32) (mod-eq_of_lt a) ∙ ap (λ n. (pages + n) % 2 ^ 32) (mod-eq_of_lt b) ∙ mod-eq_of_lt c
 
 module _ (tree : Tree) (program : Program) (bound : ℕ) (is : IsProgram tree program bound) where
-  abbrev layout : Layout program
-  layout = is.layout
-
   -- the memory that the items of a function mean
   pub record Means (state : State) (m : ℕ) (memory : MemoryState) : Type 0 where
     pub got : slice_get state.store.memories m ≡ Some memory
@@ -143,7 +124,7 @@ module _ (tree : Tree) (program : Program) (bound : ℕ) (is : IsProgram tree pr
   -- a size is read
   size_value : (state : State) (s t : Plain) (m : ℕ) (memory : MemoryState) → IsStore program t.registers t.space state.store → Means state m memory → value_of program (variable (program.shape state.frame.number).size) t ≡ memory.pages
   size_value state s t m memory stored u =
-      let l = layout.sizes in
+      let l = is.layout.sizes in
       ap (λ x. value_of program (variable x) t) u.size_is
       ∙ ap (λ d. t.registers d (program.sizes + m)) (place_static program t (program.sizes + m) (omega (arith, l, slice_get_within program.memories m u.defined u.found)))
       ∙ stored.sizes m memory u.got
@@ -172,32 +153,22 @@ module _ (tree : Tree) (program : Program) (bound : ℕ) (is : IsProgram tree pr
           sets program s mark op.Outside t w a (variable (program.shape state.frame.number).size) (Const reach) stands.0 static is_w,
           (
             at (if b then 3 else suc (suc s.position)) r' s,
-            tested tree program bound layout s' (variable t) 3 (suc (suc s.position)) w (zero_of b) stands.1.0 (value_is program s' (variable t) w (static, read_written s.registers (depth s) t w)) (zero_is b)
-                ∙ ap (λ n. goes (at n r' s)) (ways b),
+            told tree program bound is.layout s' (variable t) 3 (suc (suc s.position)) b stands.1.0 (value_is program s' (variable t) w (static, read_written s.registers (depth s) t w)),
             refl,
           ),
         );
       }
-    where
-      zero_of : Bool → Bool
-      zero_of true = false
-      zero_of false = true
-
-      zero_is : (b : Bool) → zero_test (if b then 1 else 0) ≡ zero_of b
-      zero_is true = refl
-      zero_is false = refl
-
-      ways : (b : Bool) → (if zero_of b then suc (suc s.position) else 3) ≡ (if b then 3 else suc (suc s.position))
-      ways true = refl
-      ways false = refl
 
   module _ (open_ones : List Target) (next : ℕ) where
+    abbrev low_of : State → ℕ
+    low_of state = bottom (program.shape state.frame.number)
+
     -- behind the test
     behind_test : (stack : List Operand) (state : State) (s : Plain) (w : ℕ) → Here program bound open_ones stack next state s → suc next ≤ (program.shape state.frame.number).limit
         → Here program bound open_ones stack (suc next) state (at (suc (suc s.position)) (written s.registers (depth s) next w) s)
     behind_test stack state s w h limit =
-        raised tree program bound layout open_ones next stack (suc next) state (at (suc (suc s.position)) (written s.registers (depth s) next w) s) (omega arith) limit
-        (here_above program bound layout open_ones stack next next 1 (suc (suc s.position)) (written s.registers (depth s) next w) state s (omega arith) (kept_written s.registers (depth s) next 0 w) h)
+        raised tree program bound is.layout open_ones next stack (suc next) state (at (suc (suc s.position)) (written s.registers (depth s) next w) s) (omega arith) limit
+        (here_above program bound is.layout open_ones stack next next 1 (suc (suc s.position)) (written s.registers (depth s) next w) state s (omega arith) (kept_written s.registers (depth s) next 0 w) h)
 
     -- an access beyond the end
     beyond : (used : ℕ) (stack : List Operand) (state : State) (s : Plain) → Here program bound open_ones stack next state s → used + 3 ≤ bound → (g : Guarded s next 3) → Reaches tree program bound used (trap trap_kind.OutOfBounds state) s
@@ -205,9 +176,9 @@ module _ (tree : Tree) (program : Program) (bound : ℕ) (is : IsProgram tree pr
       3,
       omega arith,
       omega (arith, most),
-      falls tree program bound layout state.store.memories s (at 3 (written s.registers (depth s) next g.w) s) 2 trap_kind.OutOfBounds g.comes layout.traps.1.1.1.0
+      falls tree program bound is.layout state.store.memories s (at 3 (written s.registers (depth s) next g.w) s) 2 trap_kind.OutOfBounds g.comes is.layout.traps.1.1.1.0
           (states_are program (at 3 (written s.registers (depth s) next g.w) s) state.store
-          (store_kept program bound layout s.registers (written s.registers (depth s) next g.w) s state.store (λ y lt. kept_written s.registers (depth s) next 0 g.w 0 y (λ same above below. omega (arith, same))) h.store)),
+          (store_kept program bound is.layout s.registers (written s.registers (depth s) next g.w) s state.store (λ y lt. kept_written s.registers (depth s) next 0 g.w 0 y (λ same above below. omega (arith, same))) h.store)),
     )
 
     -- the test decides as the rule does
@@ -218,7 +189,7 @@ module _ (tree : Tree) (program : Program) (bound : ℕ) (is : IsProgram tree pr
     accesses used state s mark v offset width m memory a stack step h stands value small near u most onward = from (cases_lt (memory.pages * 65536) (v + (offset + width)))
       where
         static : program.statics ≤ next
-        static = static_next program bound layout open_ones stack next state s h
+        static = static_next program bound is.layout open_ones stack next state s h
 
         from : (memory.pages * 65536 < v + (offset + width)) ⊎ (v + (offset + width) ≤ memory.pages * 65536) → Reaches tree program bound used (within memory (v + offset) width state step) s
         from (inl lt) =
@@ -228,50 +199,28 @@ module _ (tree : Tree) (program : Program) (bound : ℕ) (is : IsProgram tree pr
             subst (λ b. Reaches tree program bound used (if b then step else trap trap_kind.OutOfBounds state) s) (sym (le-leb (v + offset + width) (length memory.bytes) (omega (arith, le, u.within_it.size))))
             (onward (omega (arith, le, u.within_it.size)) (guarded state s mark next v (offset + width) m memory a false stands static value small near h.store u (le-ltb (memory.pages * 65536) (v + (offset + width)) le)))
 
-    -- a value is put on the stack by some step
-    put_on : (used next : ℕ) (stack : List Operand) (state : State) (s : Plain) (v : ℕ) → Here program bound open_ones stack next state s → plain_step program s ≡ goes (at (suc s.position) (written s.registers (depth s) next v) s)
-        → used + 1 ≤ bound → suc next ≤ (program.shape state.frame.number).limit
-        → LaidOut tree program bound layout state open_ones (suc s.position) (variable next ∷ stack) (suc next) → Reaches tree program bound used (push v state) s
-    put_on used next stack state s v h step most limit laid =
-        let r' = written s.registers (depth s) next v in
-        let t = at (suc s.position) r' s in
-        let above = here_above program bound layout open_ones stack next next 1 (suc s.position) r' state s (omega arith) (kept_written s.registers (depth s) next 0 v) h in
-        let high = raised tree program bound layout open_ones next stack (suc next) state t (omega arith) limit above in
-        arrives tree program bound layout used 1 open_ones (variable next ∷ stack) (suc next) (with_values (v ∷ state.frame.values) state) s t (omega arith) most (t, step, refl)
-        (with_stack tree program bound open_ones (suc next) stack (variable next ∷ stack) (v ∷ state.frame.values) state t high
-        ((next_low program bound layout open_ones stack next state s h, omega arith, read_written s.registers (depth s) next v), high.frame_is.values)) laid
-
     -- ---- loads
 
     pub load_reaches : (mark : ℕ) (kind : AccessKind) (argument : MemoryArgument) (stack : List Operand) (state : State) (s : Plain) → Here program bound open_ones stack next state s → IsSmall state.frame.values → argument.offset < 2 ^ 32
         → slice_get tree.functions state.frame.number ≡ Some state.frame.function
         → HasAt program.commands s.position (guard mark s.position next (top stack) (program.shape state.frame.number).size (argument.offset + width_of kind) ++ load_of mark kind (program.shape state.frame.number).memory (suc next) argument.offset (top stack) ∷ [])
         → 3 ≤ bound → suc (suc next) ≤ (program.shape state.frame.number).limit
-        → LaidOut tree program bound layout state open_ones (suc (shift 2 s.position)) (variable (suc next) ∷ drop 1 stack) (suc (suc next)) → Then tree program bound 0 (load kind argument state) s
+        → LaidOut tree program bound is.layout state open_ones (suc (shift 2 s.position)) (variable (suc next) ∷ drop 1 stack) (suc (suc next)) → Then tree program bound 0 (load kind argument state) s
     load_reaches mark kind argument stack state s h small near exists stands most limit laid =
         popping tree program bound open_ones next 0 stack state s (λ address state. with_memory state (load_at kind (address + argument.offset) state)) h (λ v vs e holds here.
         using 0 (with_values vs state) s (load_at kind (v + argument.offset) (with_values vs state)) here.store exists (λ m memory u has.
         loads v vs (subst IsSmall e small) holds here m memory u))
       where
-        low : ℕ
-        low = bottom (program.shape state.frame.number)
-
-        static : program.statics ≤ low
-        static = static_low program bound layout state.frame.number
-
-        w : ℕ
-        w = width_of kind
-
-        loads : (v : ℕ) (vs : List ℕ) → v < 2 ^ 32 → Holds s.registers (depth s) low next (top stack) v → Here program bound open_ones (drop 1 stack) next (with_values vs state) s → (m : ℕ) (memory : MemoryState) → Means (with_values vs state) m memory
+        loads : (v : ℕ) (vs : List ℕ) → v < 2 ^ 32 → Holds s.registers (depth s) (low_of state) next (top stack) v → Here program bound open_ones (drop 1 stack) next (with_values vs state) s → (m : ℕ) (memory : MemoryState) → Means (with_values vs state) m memory
             → Reaches tree program bound 0 (load_at kind (v + argument.offset) (with_values vs state) m memory) s
         loads v vs fits holds here m memory u =
+            let w = width_of kind in
             accesses 0 (with_values vs state) s mark v argument.offset w m memory (top stack) (drop 1 stack) (push (extended kind (number_of (read memory (v + argument.offset) w))) (with_values vs state)) here
-            (stands.0, (stands.1.0, tt)) (holds_value program s low next (top stack) v static holds) fits (omega (arith, near, width_small kind)) u (omega (arith, most)) (λ le g.
+            (stands.0, (stands.1.0, tt)) (holds_value program s (low_of state) next (top stack) v (static_low program bound is.layout state.frame.number) holds) fits (omega (arith, near, width_small kind)) u (omega (arith, most)) (λ le g.
             let r' = written s.registers (depth s) next g.w in
             let t = at (suc (suc s.position)) r' s in
             let value = extended kind (number_of (read memory (v + argument.offset) w)) in
-            let a_is : value_of program (top stack) t ≡ v = holds_value program t low next (top stack) v static
-            (holds_later s.registers r' (depth s) low next low next (top stack) v (λ x above below. read_other s.registers (depth s) next g.w (depth s) x (λ same. omega (arith, same, below))) (omega arith) (omega arith) holds) in
+            let a_is : value_of program (top stack) t ≡ v = kept_value program s (suc (suc s.position)) r' next 1 (low_of state) next (top stack) v (static_low program bound is.layout state.frame.number) (omega arith) (kept_written s.registers (depth s) next 0 g.w) holds in
             let place_of : effective program (program.shape state.frame.number).memory argument.offset (value_of program (top stack) t) ≡ base program.memories m + (v + argument.offset) =
             ap (λ n. base program.memories n + (value_of program (top stack) t % 2 ^ 32 + argument.offset)) u.memory_is
             ∙ ap (λ n. base program.memories m + (n + argument.offset)) (ap (λ n. n % 2 ^ 32) a_is ∙ mod-eq_of_lt fits) in
@@ -281,13 +230,10 @@ module _ (tree : Tree) (program : Program) (bound : ℕ) (is : IsProgram tree pr
             let step : plain_step program t ≡ goes (at (suc (suc (suc s.position))) (written r' (depth s) (suc next) value) t) =
             does program t (load_of mark kind (program.shape state.frame.number).memory (suc next) argument.offset (top stack)) stands.1.1.0
             ∙ ap (λ d. on t (written r' d (suc next) (extended kind (number_of (take w (drop (effective program (program.shape state.frame.number).memory argument.offset (value_of program (top stack) t)) s.space))))))
-            (place_own t (suc next) (let a = static_next program bound layout open_ones (drop 1 stack) next (with_values vs state) s here in omega (arith, a)))
+            (place_is program t (suc next) (let a = static_next program bound is.layout open_ones (drop 1 stack) next (with_values vs state) s here in omega (arith, a)))
             ∙ ap (λ l. on t (written r' (depth s) (suc next) (extended kind (number_of l)))) bytes in
             reaches_later tree program bound 0 2 (push value (with_values vs state)) s t g.comes
-            (put_on (0 + 2) (suc next) (drop 1 stack) (with_values vs state) t value (behind_test (drop 1 stack) (with_values vs state) s g.w here (omega (arith, limit))) step (omega (arith, most)) limit laid))
-          where
-            place_own : (t : Plain) (x : ℕ) → program.statics ≤ x → place program x t ≡ depth t
-            place_own t x le = ap (λ b. cond b 0 (depth t)) (le-ltb x program.statics le)
+            (puts tree program bound is.layout open_ones (suc next) (0 + 2) (drop 1 stack) (with_values vs state) t value (behind_test (drop 1 stack) (with_values vs state) s g.w here (omega (arith, limit))) step (omega (arith, most)) limit laid))
 
     -- ---- stores
 
@@ -302,37 +248,29 @@ module _ (tree : Tree) (program : Program) (bound : ℕ) (is : IsProgram tree pr
         let same : take place_of space ++ new ++ drop (place_of + length new) space ≡ result =
         append_assoc (take place_of space) new (drop (place_of + length new) space) ∙ writes_same program.memories those m memory (segment program.memories those m memory stored.within u.got) at_ new le in
         ap (λ l. overlay place_of new l) stored.space_is ∙ ap (take (length space)) same
-        ∙ take_whole result (length space) (space_length program.memories those stored.within ∙ sym (space_length program.memories (set those m (write memory at_ new)) after_))
+        ∙ take_all (length space) result (omega (arith, space_length program.memories those stored.within, space_length program.memories (set those m (write memory at_ new)) after_))
 
     pub store_reaches : (mark : ℕ) (kind : AccessKind) (argument : MemoryArgument) (stack : List Operand) (state : State) (s : Plain) → Here program bound open_ones stack next state s → IsSmall (drop 1 state.frame.values) → argument.offset < 2 ^ 32
         → slice_get tree.functions state.frame.number ≡ Some state.frame.function
         → HasAt program.commands s.position (guard mark s.position next (top (drop 1 stack)) (program.shape state.frame.number).size (argument.offset + width_of kind) ++ Store kind (program.shape state.frame.number).memory argument.offset (top (drop 1 stack)) (top stack) ∷ [])
         → 3 ≤ bound → suc next ≤ (program.shape state.frame.number).limit
-        → LaidOut tree program bound layout state open_ones (suc (suc (suc s.position))) (drop 1 (drop 1 stack)) (suc next) → Then tree program bound 0 (store kind argument state) s
+        → LaidOut tree program bound is.layout state open_ones (suc (suc (suc s.position))) (drop 1 (drop 1 stack)) (suc next) → Then tree program bound 0 (store kind argument state) s
     store_reaches mark kind argument stack state s h small near exists stands most limit laid =
         popping tree program bound open_ones next 0 stack state s (λ value state. pop state (λ address state. with_memory state (store_at kind value (address + argument.offset) state))) h (λ x xs e_x holds_x here_x.
         popping tree program bound open_ones next 0 (drop 1 stack) (with_values xs state) s (λ address state. with_memory state (store_at kind x (address + argument.offset) state)) here_x (λ v vs e holds here.
         using 0 (with_values vs state) s (store_at kind x (v + argument.offset) (with_values vs state)) here.store exists (λ m memory u has.
         saves x v vs (subst IsSmall (ap (drop 1) e_x ∙ e) small) holds_x holds here m memory u)))
       where
-        low : ℕ
-        low = bottom (program.shape state.frame.number)
-
-        static : program.statics ≤ low
-        static = static_low program bound layout state.frame.number
-
-        w : ℕ
-        w = width_of kind
-
-        saves : (x v : ℕ) (vs : List ℕ) → v < 2 ^ 32 → Holds s.registers (depth s) low next (top stack) x → Holds s.registers (depth s) low next (top (drop 1 stack)) v → Here program bound open_ones (drop 1 (drop 1 stack)) next (with_values vs state) s
+        saves : (x v : ℕ) (vs : List ℕ) → v < 2 ^ 32 → Holds s.registers (depth s) (low_of state) next (top stack) x → Holds s.registers (depth s) (low_of state) next (top (drop 1 stack)) v → Here program bound open_ones (drop 1 (drop 1 stack)) next (with_values vs state) s
             → (m : ℕ) (memory : MemoryState) → Means (with_values vs state) m memory → Reaches tree program bound 0 (store_at kind x (v + argument.offset) (with_values vs state) m memory) s
         saves x v vs fits holds_x holds here m memory u =
+            let w = width_of kind in
             accesses 0 (with_values vs state) s mark v argument.offset w m memory (top (drop 1 stack)) (drop 1 (drop 1 stack)) (go (set_memory m (write memory (v + argument.offset) new) (with_values vs state))) here
-            (stands.0, (stands.1.0, tt)) (holds_value program s low next (top (drop 1 stack)) v static holds) fits (omega (arith, near, width_small kind)) u (omega (arith, most)) (λ le g.
+            (stands.0, (stands.1.0, tt)) (holds_value program s (low_of state) next (top (drop 1 stack)) v (static_low program bound is.layout state.frame.number) holds) fits (omega (arith, near, width_small kind)) u (omega (arith, most)) (λ le g.
             let r' = written s.registers (depth s) next g.w in
             let t = at (suc (suc s.position)) r' s in
-            let later : (c : Operand) (n : ℕ) → Holds s.registers (depth s) low next c n → value_of program c t ≡ n = λ c n k. holds_value program t low next c n static
-            (holds_later s.registers r' (depth s) low next low next c n (λ x above below. read_other s.registers (depth s) next g.w (depth s) x (λ same. omega (arith, same, below))) (omega arith) (omega arith) k) in
+            let later : (c : Operand) (n : ℕ) → Holds s.registers (depth s) (low_of state) next c n → value_of program c t ≡ n =
+            λ c n k. kept_value program s (suc (suc s.position)) r' next 1 (low_of state) next c n (static_low program bound is.layout state.frame.number) (omega arith) (kept_written s.registers (depth s) next 0 g.w) k in
             let there : effective program (program.shape state.frame.number).memory argument.offset (value_of program (top (drop 1 stack)) t) ≡ base program.memories m + (v + argument.offset) =
             ap (λ n. base program.memories n + (value_of program (top (drop 1 stack)) t % 2 ^ 32 + argument.offset)) u.memory_is
             ∙ ap (λ n. base program.memories m + (n + argument.offset)) (ap (λ n. n % 2 ^ 32) (later (top (drop 1 stack)) v holds) ∙ mod-eq_of_lt fits) in
@@ -345,7 +283,7 @@ module _ (tree : Tree) (program : Program) (bound : ℕ) (is : IsProgram tree pr
             let step : plain_step program t ≡ goes t2 = does program t (Store kind (program.shape state.frame.number).memory argument.offset (top (drop 1 stack)) (top stack)) stands.1.1.0
             ∙ ap (λ n. goes (record t { position = suc (suc (suc s.position)); space = overlay n (bytes_of w (narrowed kind (value_of program (top stack) t))) s.space })) there
             ∙ ap (λ n. goes (record t { position = suc (suc (suc s.position)); space = overlay (base program.memories m + (v + argument.offset)) (bytes_of w (narrowed kind n)) s.space })) (later (top stack) x holds_x) in
-            arrives tree program bound layout 0 3 open_ones (drop 1 (drop 1 stack)) (suc next) (set_memory m (write memory (v + argument.offset) new) (with_values vs state)) s t2 (omega arith) (omega (arith, most))
+            arrives tree program bound is.layout 0 3 open_ones (drop 1 (drop 1 stack)) (suc next) (set_memory m (write memory (v + argument.offset) new) (with_values vs state)) s t2 (omega arith) (omega (arith, most))
             (comes_then (plain_step program) 2 1 s t t2 g.comes (t2, step, refl))
             (record {
               store = record {
@@ -360,11 +298,11 @@ module _ (tree : Tree) (program : Program) (bound : ℕ) (is : IsProgram tree pr
             }) laid)
           where
             new : List ℕ
-            new = bytes_of w (narrowed kind x)
+            new = bytes_of (width_of kind) (narrowed kind x)
 
             sizes_after : (r' : Registers) → Here program bound open_ones (drop 1 (drop 1 stack)) (suc next) (with_values vs state) (at (suc (suc s.position)) r' s) → (m : ℕ) (memory : MemoryState) → Means (with_values vs state) m memory → (other : MemoryState)
                 → memory.pages ≡ other.pages → (i : ℕ) (one : MemoryState) → slice_get (set state.store.memories m other) i ≡ Some one → r' 0 (program.sizes + i) ≡ one.pages
-            sizes_after r' k m memory u other same i one found = elim (set_gets state.store.memories m i memory other one u.got found) [
+            sizes_after r' k m memory u other same i one found = elim (set_get state.store.memories m i memory other one u.got found) [
               | inl f ↦ subst (λ i. r' 0 (program.sizes + i) ≡ one.pages) f.0 (k.store.sizes m memory u.got ∙ same ∙ ap (λ o. o.pages) f.1)
               | inr f ↦ k.store.sizes i one f.1
             ]
@@ -373,20 +311,17 @@ module _ (tree : Tree) (program : Program) (bound : ℕ) (is : IsProgram tree pr
 
     pub size_reaches : (mark : ℕ) (stack : List Operand) (state : State) (s : Plain) → Here program bound open_ones stack next state s → slice_get tree.functions state.frame.number ≡ Some state.frame.function
         → slice_get program.commands s.position ≡ Some (move mark next (variable (program.shape state.frame.number).size)) → 1 ≤ bound → suc next ≤ (program.shape state.frame.number).limit
-        → LaidOut tree program bound layout state open_ones (suc s.position) (variable next ∷ stack) (suc next) → Then tree program bound 0 (memory_size state) s
+        → LaidOut tree program bound is.layout state open_ones (suc s.position) (variable next ∷ stack) (suc next) → Then tree program bound 0 (memory_size state) s
     size_reaches mark stack state s h exists command most limit laid =
         using 0 state s (λ number memory. push memory.pages state) h.store exists (λ m memory u has.
-        pushes tree program bound layout open_ones next 0 mark stack state s op.Move (variable (program.shape state.frame.number).size) (Const 0) (Const 0) memory.pages h command
+        pushes tree program bound is.layout open_ones next 0 mark stack state s op.Move (variable (program.shape state.frame.number).size) (Const 0) (Const 0) memory.pages h command
         (move_is (value_of program (variable (program.shape state.frame.number).size) s) 0 0 ∙ size_value state s s m memory h.store u) (omega (arith, most)) limit laid)
 
     module _ (mark : ℕ) (a : Operand) (stack : List Operand) (state : State) (s : Plain) (v m : ℕ) (memory : MemoryState)
         (stands : HasAt program.commands s.position (grows mark s.position next (program.shape state.frame.number).size (program.shape state.frame.number).reserve a)) (fits : v < 2 ^ 32)
         (holds : Holds s.registers (depth s) (bottom (program.shape state.frame.number)) next a v) (here : Here program bound open_ones stack next state s) (u : Means state m memory) (most : 6 ≤ bound)
         (limit : suc (shift 2 next) ≤ (program.shape state.frame.number).limit)
-        (laid : LaidOut tree program bound layout state open_ones (suc (shift 6 s.position)) (variable (shift 2 next) ∷ stack) (suc (shift 2 next))) where
-      abbrev low : ℕ
-      low = bottom (program.shape state.frame.number)
-
+        (laid : LaidOut tree program bound is.layout state open_ones (suc (shift 6 s.position)) (variable (shift 2 next) ∷ stack) (suc (shift 2 next))) where
       abbrev d : ℕ
       d = depth s
 
@@ -421,17 +356,16 @@ module _ (tree : Tree) (program : Program) (bound : ℕ) (is : IsProgram tree pr
       k3 = λ e y out. kept_written r2 d (suc (suc next)) 0 memory.pages e y (λ same above below. out same (omega (arith, above)) (omega (arith, below))) ∙ k2 e y (λ same above below. out same above (omega (arith, below)))
 
       static : program.statics ≤ next
-      static = static_next program bound layout open_ones stack next state s here
+      static = static_next program bound is.layout open_ones stack next state s here
 
       fewer : u.defined.reserve ≤ 256
       fewer = is.small m u.defined u.found
 
       stored : (position : ℕ) (r' : Registers) (count : ℕ) → Kept s.registers r' d next count → IsStore program r' s.space state.store
-      stored position r' count kept = store_kept program bound layout s.registers r' s state.store (λ y lt. kept 0 y (λ same above below. omega (arith, same))) here.store
+      stored position r' count kept = store_kept program bound is.layout s.registers r' s state.store (λ y lt. kept 0 y (λ same above below. omega (arith, same))) here.store
 
       value_a : (position : ℕ) (r' : Registers) (count : ℕ) → Kept s.registers r' d next count → value_of program a (at position r' s) ≡ v
-      value_a position r' count kept = holds_value program (at position r' s) low next a v (static_low program bound layout state.frame.number)
-          (holds_later s.registers r' d low next low next a v (λ x above below. kept d x (λ same up down. omega (arith, below, up))) (omega arith) (omega arith) holds)
+      value_a position r' count kept = kept_value program s position r' next count (low_of state) next a v (static_low program bound is.layout state.frame.number) (omega arith) kept holds
 
       step1 : plain_step program s ≡ goes (at (suc s.position) r1 s)
       step1 = sets program s mark op.I32Sub next room (Const (program.shape state.frame.number).reserve) (variable z) (Const 0) stands.0 static
@@ -452,37 +386,25 @@ module _ (tree : Tree) (program : Program) (bound : ℕ) (is : IsProgram tree pr
           step2,
           (
             at (if b then shift 6 s.position else shift 3 s.position) r2 s,
-            tested tree program bound layout (at (suc (suc s.position)) r2 s) (variable (suc next)) (shift 6 s.position) (shift 3 s.position) w (zero_of b) stands.1.1.0
-                (value_is program (at (suc (suc s.position)) r2 s) (variable (suc next)) w (omega (arith, static), read_written r1 d (suc next) w)) (ap (λ t. zero_test (if t then 1 else 0)) e ∙ zero_is b) ∙ ap (λ n. goes (at n r2 s)) (ways b),
+            told tree program bound is.layout (at (suc (suc s.position)) r2 s) (variable (suc next)) (shift 6 s.position) (shift 3 s.position) b stands.1.1.0
+                (value_is program (at (suc (suc s.position)) r2 s) (variable (suc next)) w (omega (arith, static), read_written r1 d (suc next) w) ∙ ap (λ t. if t then 1 else 0) e),
             refl,
           ),
         ),
       )
-        where
-          zero_of : Bool → Bool
-          zero_of true = false
-          zero_of false = true
-
-          zero_is : (b : Bool) → zero_test (if b then 1 else 0) ≡ zero_of b
-          zero_is true = refl
-          zero_is false = refl
-
-          ways : (b : Bool) → (if zero_of b then shift 3 s.position else shift 6 s.position) ≡ (if b then shift 6 s.position else shift 3 s.position)
-          ways true = refl
-          ways false = refl
 
       -- the memory doesn't grow
       refused : nat_lt room v ≡ true → Reaches tree program bound 0 (push 4294967295 state) s
       refused e =
           let t = at (shift 6 s.position) r2 s in
-          let high = raised tree program bound layout open_ones next stack (shift 2 next) state t (omega arith) (omega (arith, limit)) (here_above program bound layout open_ones stack next next 2 (shift 6 s.position) r2 state s (omega arith) k2 here) in
+          let high = raised tree program bound is.layout open_ones next stack (shift 2 next) state t (omega arith) (omega (arith, limit)) (here_above program bound is.layout open_ones stack next next 2 (shift 6 s.position) r2 state s (omega arith) k2 here) in
           reaches_later tree program bound 0 3 (push 4294967295 state) s t (to_test true e)
-          (pushes tree program bound layout open_ones (shift 2 next) (0 + 3) mark stack state t op.Move (Const 4294967295) (Const 0) (Const 0) 4294967295 high stands.1.1.1.1.1.1.0 (move_is 4294967295 0 0) (omega (arith, most)) limit laid)
+          (pushes tree program bound is.layout open_ones (shift 2 next) (0 + 3) mark stack state t op.Move (Const 4294967295) (Const 0) (Const 0) 4294967295 high stands.1.1.1.1.1.1.0 (move_is 4294967295 0 0) (omega (arith, most)) limit laid)
 
       -- it grows
       grown : nat_lt room v ≡ false → memory.pages + v ≤ u.defined.reserve → Reaches tree program bound 0 (push memory.pages (set_memory m (grow memory v) state)) s
       grown e le =
-          arrives tree program bound layout 0 6 open_ones (variable (shift 2 next) ∷ stack) (suc (shift 2 next)) (with_values (memory.pages ∷ state.frame.values) (set_memory m (grow memory v) state)) s s6 (omega arith) (omega (arith, most))
+          arrives tree program bound is.layout 0 6 open_ones (variable (shift 2 next) ∷ stack) (suc (shift 2 next)) (with_values (memory.pages ∷ state.frame.values) (set_memory m (grow memory v) state)) s s6 (omega arith) (omega (arith, most))
           (comes_then (plain_step program) 3 3 s s3 s6 (to_test false e) (s4, step4, (s5, step5, (s6, does program s5 (jump_to (shift 7 s.position)) stands.1.1.1.1.1.0, refl))))
           (record {
             store = record {
@@ -492,8 +414,8 @@ module _ (tree : Tree) (program : Program) (bound : ℕ) (is : IsProgram tree pr
               sizes = sizes_after;
               space_is = here.store.space_is ∙ sym (grows_same program.memories state.store.memories m memory seg v (subst (λ x. memory.pages + v ≤ x.reserve) (same_Some u.defined seg.memory (sym u.found ∙ seg.found)) le));
             };
-            frame_is = frame_kept program bound layout r3 r4 d open_ones (variable (shift 2 next) ∷ stack) (suc (shift 2 next)) (record state.frame { values = memory.pages ∷ state.frame.values }) (λ y own side. deeper d y (λ f. omega (arith, f))) pushed.frame_is;
-            callers = callers_kept program bound layout r3 r4 state.frame.number state.callers s.chain (λ e y some le. deeper e y (λ f. omega (arith, some, f))) pushed.callers;
+            frame_is = frame_kept program bound is.layout r3 r4 d open_ones (variable (shift 2 next) ∷ stack) (suc (shift 2 next)) (record state.frame { values = memory.pages ∷ state.frame.values }) (λ y own side. deeper d y (λ f. omega (arith, f))) pushed.frame_is;
+            callers = callers_kept program bound is.layout r3 r4 state.frame.number state.callers s.chain (λ e y some le. deeper e y (λ f. omega (arith, some, f))) pushed.callers;
           }) laid
         where
           seg : Segment program.memories state.store.memories m memory
@@ -516,7 +438,7 @@ module _ (tree : Tree) (program : Program) (bound : ℕ) (is : IsProgram tree pr
               (move_is (value_of program (variable z) s3) 0 0 ∙ size_value state s s3 m memory (stored (shift 3 s.position) r2 2 k2) u)
 
           z_is : place program z s4 ≡ 0
-          z_is = let l = layout.sizes in ap (λ x. place program x s4) u.size_is ∙ place_static program s4 (program.sizes + m) (omega (arith, l, slice_get_within program.memories m u.defined u.found))
+          z_is = let l = is.layout.sizes in ap (λ x. place program x s4) u.size_is ∙ place_static program s4 (program.sizes + m) (omega (arith, l, slice_get_within program.memories m u.defined u.found))
 
           step5 : plain_step program s4 ≡ goes s5
           step5 = does program s4 (set_command mark op.I32Add z (variable z) a) stands.1.1.1.1.0
@@ -530,15 +452,15 @@ module _ (tree : Tree) (program : Program) (bound : ℕ) (is : IsProgram tree pr
           deeper e y ne = read_deeper r3 0 (program.sizes + m) (memory.pages + v) e y ne
 
           high : Here program bound open_ones stack (suc (shift 2 next)) state (at (shift 7 s.position) r3 s)
-          high = raised tree program bound layout open_ones next stack (suc (shift 2 next)) state (at (shift 7 s.position) r3 s) (omega arith) limit
-              (here_above program bound layout open_ones stack next next 3 (shift 7 s.position) r3 state s (omega arith) k3 here)
+          high = raised tree program bound is.layout open_ones next stack (suc (shift 2 next)) state (at (shift 7 s.position) r3 s) (omega arith) limit
+              (here_above program bound is.layout open_ones stack next next 3 (shift 7 s.position) r3 state s (omega arith) k3 here)
 
           pushed : Here program bound open_ones (variable (shift 2 next) ∷ stack) (suc (shift 2 next)) (with_values (memory.pages ∷ state.frame.values) state) (at (shift 7 s.position) r3 s)
           pushed = with_stack tree program bound open_ones (suc (shift 2 next)) stack (variable (shift 2 next) ∷ stack) (memory.pages ∷ state.frame.values) state (at (shift 7 s.position) r3 s) high
-              ((let b = next_low program bound layout open_ones stack next state s here in omega (arith, b), omega arith, read_written r2 d (suc (suc next)) memory.pages), high.frame_is.values)
+              ((let b = next_low program bound is.layout open_ones stack next state s here in omega (arith, b), omega arith, read_written r2 d (suc (suc next)) memory.pages), high.frame_is.values)
 
           sizes_after : (i : ℕ) (one : MemoryState) → slice_get (set state.store.memories m (grow memory v)) i ≡ Some one → r4 0 (program.sizes + i) ≡ one.pages
-          sizes_after i one found = elim (set_gets state.store.memories m i memory (grow memory v) one u.got found) [
+          sizes_after i one found = elim (set_get state.store.memories m i memory (grow memory v) one u.got found) [
             | inl f ↦ subst (λ i. r4 0 (program.sizes + i) ≡ one.pages) f.0 (read_written r3 0 (program.sizes + m) (memory.pages + v) ∙ ap (λ o. o.pages) f.1)
             | inr f ↦ read_other r3 0 (program.sizes + m) (memory.pages + v) 0 (program.sizes + i) (λ same. f.0 (omega (arith, same))) ∙ (stored 0 r3 3 k3).sizes i one f.1
           ]
@@ -553,7 +475,7 @@ module _ (tree : Tree) (program : Program) (bound : ℕ) (is : IsProgram tree pr
 
     pub grow_reaches : (mark : ℕ) (stack : List Operand) (state : State) (s : Plain) → Here program bound open_ones stack next state s → IsSmall state.frame.values → slice_get tree.functions state.frame.number ≡ Some state.frame.function
         → HasAt program.commands s.position (grows mark s.position next (program.shape state.frame.number).size (program.shape state.frame.number).reserve (top stack)) → 6 ≤ bound → suc (shift 2 next) ≤ (program.shape state.frame.number).limit
-        → LaidOut tree program bound layout state open_ones (suc (shift 6 s.position)) (variable (shift 2 next) ∷ drop 1 stack) (suc (shift 2 next)) → Then tree program bound 0 (memory_grow tree state) s
+        → LaidOut tree program bound is.layout state open_ones (suc (shift 6 s.position)) (variable (shift 2 next) ∷ drop 1 stack) (suc (shift 2 next)) → Then tree program bound 0 (memory_grow tree state) s
     grow_reaches mark stack state s h small exists stands most limit laid =
         popping tree program bound open_ones next 0 stack state s (λ delta state. with_memory state (λ number memory. known (slice_get tree.memories number) (λ defined. grow_within defined.reserve delta number memory state))) h (λ v vs e holds here.
         using 0 (with_values vs state) s (λ number memory. known (slice_get tree.memories number) (λ defined. grow_within defined.reserve v number memory (with_values vs state))) here.store exists (λ m memory u.

@@ -176,11 +176,7 @@ outside_pad low high (suc n) (a ∷ stack) acc h g = subst (AllOutside low high)
 
 not_outside : (low high x : ℕ) (ops : List Operand) → low ≤ x → x < high → AllOutside low high ops → AreNot x ops
 not_outside low high x [] le lt h = tt
-not_outside low high x (Var y ∷ ops) le lt h = (out h.0, not_outside low high x ops le lt h.1)
-  where
-    out : (y.0 < low) ⊎ (high ≤ y.0) → y.0 ≡ x → ⊥
-    out (inl g) e = omega (arith, g, le, e)
-    out (inr g) e = omega (arith, g, lt, e)
+not_outside low high x (Var y ∷ ops) le lt h = ((λ e. elim h.0 [ inl g ↦ omega (arith, g, le, e) | inr g ↦ omega (arith, g, lt, e) ]), not_outside low high x ops le lt h.1)
 not_outside low high x (Const c ∷ ops) le lt h = (tt, not_outside low high x ops le lt h.1)
 
 pub outside_fresh : (low high first : ℕ) (ops : List Operand) → low ≤ first → first + length ops ≤ high → AllOutside low high ops → Fresh first ops

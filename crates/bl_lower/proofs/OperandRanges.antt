@@ -1,5 +1,6 @@
 -- Operands that are variables from one on and below another, or constants.
-use Rattle.std.proofs.Common.{◌≡◌, ℕ, zero, suc, ◌+◌, ◌<◌, ◌≤◌, List, [], ◌∷◌, ◌++◌, take, drop, reverse, refl, sym, ap, subst, arith}
+use Rattle.std.proofs.Common.{ℕ, zero, suc, ◌+◌, ◌<◌, ◌≤◌, List, [], ◌∷◌, ◌++◌, take, drop, reverse, sym, subst, arith}
+use Rattle.std.proofs.lemmas.List.{append-nil}
 use Rattle.bl_cmd.specs.declared.command.Operand.{Operand}
 use Rattle.bl_cmd.specs.declared.command.Operand.TheVariants.{Var, Const}
 use Rattle.bl_access.specs.Templates.{variable}
@@ -55,12 +56,8 @@ module _ (low : ℕ) where
       subst (AllRanged next) (sym (reverse_step (variable first) (reads (suc first) count) acc))
       (ranged_reads next count (suc first) (variable first ∷ acc) (omega (arith, le)) (omega (arith, most)) ((le, omega (arith, most)), h))
 
-  append_nil : (l : List Operand) → l ++ [] ≡ l
-  append_nil [] = refl
-  append_nil (x ∷ l) = ap (λ r. x ∷ r) (append_nil l)
-
   pub ranged_new : (next count first : ℕ) → low ≤ first → first + count ≤ next → AllRanged next (reverse (reads first count))
-  ranged_new next count first le most = subst (AllRanged next) (append_nil (reverse (reads first count))) (ranged_reads next count first [] le most tt)
+  ranged_new next count first le most = subst (AllRanged next) (append-nil (reverse (reads first count))) (ranged_reads next count first [] le most tt)
 
   pad_onto : (next n : ℕ) (stack acc : List Operand) → AllRanged next stack → AllRanged next acc → AllRanged next (reverse (pad n stack) ++ acc)
   pad_onto next zero stack acc h g = g
@@ -68,4 +65,4 @@ module _ (low : ℕ) where
   pad_onto next (suc n) (x ∷ stack) acc h g = subst (AllRanged next) (sym (reverse_step x (pad n stack) acc)) (pad_onto next n stack (x ∷ acc) h.1 (h.0, g))
 
   pub ranged_pad : (next n : ℕ) (stack : List Operand) → AllRanged next stack → AllRanged next (reverse (pad n stack))
-  ranged_pad next n stack h = subst (AllRanged next) (append_nil (reverse (pad n stack))) (pad_onto next n stack [] h tt)
+  ranged_pad next n stack h = subst (AllRanged next) (append-nil (reverse (pad n stack))) (pad_onto next n stack [] h tt)

@@ -27,7 +27,7 @@ use Rattle.bl_emit.specs.Shapes.{bottom}
 use Rattle.bl_lower.proofs.Frames.{static_low, store_kept, next_low, here_above, Reaches, Then, reaches_later, with_stack, knowing}
 use Rattle.bl_lower.proofs.StraightLineItems.{LaidOut, pushes, raised}
 use Rattle.bl_lower.proofs.States.{states_are}
-use Rattle.bl_lower.proofs.PlainRuns.{Kept, at, does, sets, holds_value, value_is, holds_later, kept_written, read_written}
+use Rattle.bl_lower.proofs.PlainRuns.{Kept, at, does, sets, holds_value, value_is, kept_value, kept_written, read_written}
 use Rattle.bl_emit.proofs.Lists.{shift_is}
 
 -- ---- what the tests say of the traps
@@ -44,19 +44,9 @@ TrapsBy (quotient eqz eq least ones) o = (a b : ℕ)
     × (zero_test (meaning eqz b 0 0) ≡ true → zero_test (meaning op.I32And (meaning eq a least 0) (meaning eq b ones 0) 0) ≡ false → traps o a b ≡ Some trap_kind.Overflow)
     × (zero_test (meaning eqz b 0 0) ≡ false → traps o a b ≡ Some trap_kind.DivideByZero)
 
-pub true_false : true ≡ false → ⊥
-true_false e = subst IsIt e tt
-  where
-    IsIt : Bool → Type 0
-    IsIt true = Unit {0}
-    IsIt false = ⊥
-
-false_true : false ≡ true → ⊥
-false_true e = true_false (sym e)
-
 by_zero_is : (t : Bool) → (zero_test (truth t) ≡ true → (if t then Some trap_kind.DivideByZero else None) ≡ None) × (zero_test (truth t) ≡ false → (if t then Some trap_kind.DivideByZero else None) ≡ Some trap_kind.DivideByZero)
-by_zero_is true = (λ e. absurd (false_true e), λ e. refl)
-by_zero_is false = (λ e. refl, λ e. absurd (true_false e))
+by_zero_is true = (λ e. absurd (cc e), λ e. refl)
+by_zero_is false = (λ e. refl, λ e. absurd (cc e))
 
 abbrev both : Bool → Bool → ℕ
 both u v = iand 32 (truth u % 2 ^ 32) (truth v % 2 ^ 32)
@@ -64,11 +54,11 @@ both u v = iand 32 (truth u % 2 ^ 32) (truth v % 2 ^ 32)
 undefined_is : (t u v : Bool) → let found = if t then Some trap_kind.DivideByZero else (if u && v then Some trap_kind.Overflow else None) in
     (zero_test (truth t) ≡ true → zero_test (both u v) ≡ true → found ≡ None) × (zero_test (truth t) ≡ true → zero_test (both u v) ≡ false → found ≡ Some trap_kind.Overflow) × (zero_test (truth t) ≡ false → found ≡ Some trap_kind.DivideByZero)
 unfolding iand from_bits
-undefined_is true u v = (λ e f. absurd (false_true e), λ e f. absurd (false_true e), λ e. refl)
-undefined_is false true true = (λ e f. absurd (false_true f), λ e f. refl, λ e. absurd (true_false e))
-undefined_is false true false = (λ e f. refl, λ e f. absurd (true_false f), λ e. absurd (true_false e))
-undefined_is false false true = (λ e f. refl, λ e f. absurd (true_false f), λ e. absurd (true_false e))
-undefined_is false false false = (λ e f. refl, λ e f. absurd (true_false f), λ e. absurd (true_false e))
+undefined_is true u v = (λ e f. absurd (cc e), λ e f. absurd (cc e), λ e. refl)
+undefined_is false true true = (λ e f. absurd (cc f), λ e f. refl, λ e. absurd (cc e))
+undefined_is false true false = (λ e f. refl, λ e f. absurd (cc f), λ e. absurd (cc e))
+undefined_is false false true = (λ e f. refl, λ e f. absurd (cc f), λ e. absurd (cc e))
+undefined_is false false false = (λ e f. refl, λ e f. absurd (cc f), λ e. absurd (cc e))
 
 pub traps_by : (o : Op) → TrapsBy (check_of o) o
 unfolding meaning traps
@@ -97,6 +87,12 @@ module _ (tree : Tree) (program : Program) (bound : ℕ) (layout : Layout progra
       either : (b : Bool) → (if b then goes (at other s.registers s) else goes (at one s.registers s)) ≡ goes (at (if b then other else one) s.registers s)
       either true = refl
       either false = refl
+
+  -- a test of a number that says whether something is so
+  pub told : (s : Plain) (cond : Operand) (one other : ℕ) (b : Bool) → slice_get program.commands s.position ≡ Some (test_of cond one other) → value_of program cond s ≡ (if b then 1 else 0)
+      → plain_step program s ≡ goes (at (if b then one else other) s.registers s)
+  told s cond one other true command value = tested s cond one other 1 false command value refl
+  told s cond one other false command value = tested s cond one other 0 true command value refl
 
   -- an operator's number goes to a variable, and a test of it follows
   pub record Tried (s : Plain) (x w : ℕ) (b : Bool) (one other : ℕ) : Type 0 where
@@ -131,14 +127,24 @@ module _ (tree : Tree) (program : Program) (bound : ℕ) (layout : Layout progra
 
   module _ (o : Op) (s : Plain) (mark x low va vb : ℕ) (a b : Operand) (static : program.statics ≤ low) (low_x : low ≤ x) (holds_a : Holds s.registers (depth s) low x a va) (holds_b : Holds s.registers (depth s) low x b vb)
       (memories : List MemoryState) (stored : (position : ℕ) (r' : Registers) → ((y : ℕ) → y < program.statics → r' 0 y ≡ s.registers 0 y) → states program (at position r' s) ≡ memories) where
-    values : (r' : Registers) (count : ℕ) (y v position : ℕ) (c : Operand) → Kept s.registers r' (depth s) x count → Holds s.registers (depth s) low x c v → value_of program c (at position r' s) ≡ v
-    values r' count y v position c kept h = holds_value program (at position r' s) low x c v static
-        (holds_later s.registers r' (depth s) low x low x c v (λ z above below. kept (depth s) z (λ same up down. omega (arith, below, up))) (omega arith) (omega arith) h)
-
     zero_tried : (eqz : Op) (t : Bool) → zero_test (meaning eqz vb 0 0) ≡ t → HasAt program.commands s.position (set_command mark eqz x b (Const 0) ∷ test_of (variable x) 1 (suc (suc s.position)) ∷ [])
         → Tried s x (meaning eqz vb 0 0) t 1 (suc (suc s.position))
     zero_tried eqz t e stands = tries s mark eqz x (meaning eqz vb 0 0) b (Const 0) 1 (suc (suc s.position)) t stands.0 stands.1.0 (omega (arith, static, low_x))
         (ap (λ n. meaning eqz n 0 0) (holds_value program s low x b vb static holds_b)) e
+
+    by_zero : (c : Check) (eqz : Op) → 2 ≤ check_size c → traps o va vb ≡ Some trap_kind.DivideByZero → zero_test (meaning eqz vb 0 0) ≡ false
+        → HasAt program.commands s.position (set_command mark eqz x b (Const 0) ∷ test_of (variable x) 1 (suc (suc s.position)) ∷ []) → Fell memories s c (traps o va vb)
+    by_zero c eqz size some e stands =
+        let r' = written s.registers (depth s) x (meaning eqz vb 0 0) in
+        record {
+          kind = trap_kind.DivideByZero;
+          some = some;
+          steps = 3;
+          one = omega arith;
+          most = omega (arith, size);
+          run = falls memories s (at 1 r' s) 2 trap_kind.DivideByZero (zero_tried eqz false e stands).comes layout.traps.1.0
+              (stored 1 r' (λ y lt. kept_written s.registers (depth s) x 0 (meaning eqz vb 0 0) 0 y (λ same above below. omega (arith, same))));
+        }
 
     pub check_run : (c : Check) → TrapsBy c o → HasAt program.commands s.position (checks mark c s.position x a b) → Passed s x c (traps o va vb) ⊎ Fell memories s c (traps o va vb)
     check_run free by stands = inl (record { none = by va vb; registers = s.registers; comes = refl; kept = λ e y out. refl })
@@ -151,15 +157,7 @@ module _ (tree : Tree) (program : Program) (bound : ℕ) (layout : Layout progra
           comes = (zero_tried eqz true e stands).comes;
           kept = kept_written s.registers (depth s) x 0 (meaning eqz vb 0 0);
         })
-        from false e = inr (record {
-          kind = trap_kind.DivideByZero;
-          some = (by va vb).1 e;
-          steps = 3;
-          one = omega arith;
-          most = omega arith;
-          run = falls memories s (at 1 (written s.registers (depth s) x (meaning eqz vb 0 0)) s) 2 trap_kind.DivideByZero (zero_tried eqz false e stands).comes layout.traps.1.0
-              (stored 1 (written s.registers (depth s) x (meaning eqz vb 0 0)) (λ y lt. kept_written s.registers (depth s) x 0 (meaning eqz vb 0 0) 0 y (λ same above below. omega (arith, same))));
-        })
+        from false e = inr (by_zero (nonzero eqz) eqz (omega arith) ((by va vb).1 e) e stands)
     check_run (quotient eqz eq least ones) by stands = from (zero_test z) refl
       where
         d : ℕ
@@ -217,10 +215,10 @@ module _ (tree : Tree) (program : Program) (bound : ℕ) (layout : Layout progra
         s4 = at p4 r3 s
 
         step2 : plain_step program s2 ≡ goes s3
-        step2 = sets program s2 mark eq (suc x) m a (Const least) (Const 0) stands.1.1.0 (omega (arith, static, low_x)) (ap (λ v. meaning eq v least 0) (values r1 1 x va p2 a k1 holds_a))
+        step2 = sets program s2 mark eq (suc x) m a (Const least) (Const 0) stands.1.1.0 (omega (arith, static, low_x)) (ap (λ v. meaning eq v least 0) (kept_value program s p2 r1 x 1 low x a va static (omega arith) k1 holds_a))
 
         step3 : plain_step program s3 ≡ goes s4
-        step3 = sets program s3 mark eq (suc (suc x)) n b (Const ones) (Const 0) stands.1.1.1.0 (omega (arith, static, low_x)) (ap (λ v. meaning eq v ones 0) (values r2 2 x vb (suc p2) b k2 holds_b))
+        step3 = sets program s3 mark eq (suc (suc x)) n b (Const ones) (Const 0) stands.1.1.1.0 (omega (arith, static, low_x)) (ap (λ v. meaning eq v ones 0) (kept_value program s (suc p2) r2 x 2 low x b vb static (omega arith) k2 holds_b))
 
         read_m : value_of program (variable (suc x)) s4 ≡ m
         read_m = value_is program s4 (variable (suc x)) m (omega (arith, static, low_x), kept_written r2 d (suc (suc x)) 0 n d (suc x) (λ same above below. omega (arith, above)) ∙ read_written r1 d (suc x) m)
@@ -254,15 +252,7 @@ module _ (tree : Tree) (program : Program) (bound : ℕ) (layout : Layout progra
 
         from : (t : Bool) → zero_test z ≡ t → Passed s x (quotient eqz eq least ones) (traps o va vb) ⊎ Fell memories s (quotient eqz eq least ones) (traps o va vb)
         from true e = further e (zero_test w) refl
-        from false e = inr (record {
-          kind = trap_kind.DivideByZero;
-          some = (by va vb).2 e;
-          steps = 3;
-          one = omega arith;
-          most = omega arith;
-          run = falls memories s (at 1 r1 s) 2 trap_kind.DivideByZero (zero_tried eqz false e (stands.0, (stands.1.0, tt))).comes layout.traps.1.0
-              (stored 1 r1 (λ y lt. k1 0 y (λ same above below. omega (arith, same))));
-        })
+        from false e = inr (by_zero (quotient eqz eq least ones) eqz (omega arith) ((by va vb).2 e) e (stands.0, (stands.1.0, tt)))
 
   -- ---- operators
 
@@ -309,8 +299,7 @@ module _ (tree : Tree) (program : Program) (bound : ℕ) (layout : Layout progra
                 (here_above program bound layout open_ones stack next next new (shift size s.position) p.registers state s (omega arith) p.kept h)
 
             later : (c : Operand) (v : ℕ) → Holds s.registers (depth s) low next c v → value_of program c t ≡ v
-            later c v holds = holds_value program t low next c v static
-                (holds_later s.registers p.registers (depth s) low next low next c v (λ x above below. p.kept (depth s) x (λ same up down. omega (arith, below, up))) (omega arith) (omega arith) holds)
+            later c v holds = kept_value program s (shift size s.position) p.registers next new low next c v static (omega arith) p.kept holds
 
     pub operate_reaches : (o : Op) (mark : ℕ) (stack : List Operand) (state : State) (s : Plain) → Here program bound open_ones stack next state s → Operates program bound state.frame.number mark o (point s.position stack next)
         → suc (shift (check_new (check_of o)) next) ≤ (program.shape state.frame.number).limit

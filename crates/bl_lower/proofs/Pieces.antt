@@ -1,14 +1,17 @@
 -- The commands of a body in pieces: what each item becomes, and what opens and ends a construct. A loop's moves are a piece each,
 -- since a branch comes to its Jump.
-use Rattle.std.proofs.Common.{◌≡◌, ℕ, zero, suc, ◌+◌, ◌≤◌, ◌<◌, List, [], ◌∷◌, ◌++◌, length, take, drop, reverse, Option, Some, None, slice_get, refl, sym, ap, ap₂, ◌∙◌, subst, arith, length-append, append_assoc, ◌⊎◌, inl, inr}
+use Rattle.std.proofs.Common.{◌≡◌, ℕ, suc, ◌+◌, ◌≤◌, ◌<◌, List, [], ◌∷◌, ◌++◌, length, reverse, Some, slice_get, refl, sym, ap, ap₂, ◌∙◌, subst, arith, length-append, append_assoc, inl, inr}
+use Rattle.std.proofs.lemmas.Bool.{cases_lt}
+use Rattle.std.proofs.lemmas.Option.{same_Some}
 use Rattle.bl_wasm.specs.declared.types.BlockType.{BlockType}
 use Rattle.bl_cmd.specs.declared.command.Command.{Command}
-use Rattle.bl_access.specs.Templates.{shift, test_of, jump_to}
+use Rattle.bl_access.specs.Templates.{test_of, jump_to}
 use Rattle.bl_emit.specs.Shapes.{Counts, Shape}
-use Rattle.bl_emit.specs.Constructs.{reads, top, pad, moves, whole, again, part, Target, inside, as_whole, mark_of, Point, point, behind}
+use Rattle.bl_emit.specs.Constructs.{top, pad, moves, Target, as_whole, mark_of, Point, behind}
 use Rattle.bl_emit.specs.Items.{after, template, leaving}
-use Rattle.bl_emit.specs.LoweredBodies.{Body, done, step, leave, block, loop, choice, closed_size, Reached, on, off, next_in, closed, takes_of, size_in, low}
-use Rattle.bl_lower.proofs.CodeLayout.{HasAt}
+use Rattle.bl_emit.specs.LoweredBodies.{Body, done, step, leave, block, loop, choice, Reached, on, off, next_in, closed, low}
+use Rattle.bl_emit.proofs.Lists.{append_none}
+use Rattle.bl_lower.proofs.CodeLayout.{HasAt, block_target, block_point, loop_target, loop_point, if_target, then_point, else_point}
 
 -- ---- lists of pieces
 
@@ -20,7 +23,7 @@ abbrev pub singles : List Command → List (List Command)
 singles [] = []
 singles (command ∷ commands) = (command ∷ []) ∷ singles commands
 
-all_append : (a b : List (List Command)) → all_of (a ++ b) ≡ all_of a ++ all_of b
+pub all_append : (a b : List (List Command)) → all_of (a ++ b) ≡ all_of a ++ all_of b
 all_append [] b = refl
 all_append (piece ∷ a) b = ap (λ l. piece ++ l) (all_append a b) ∙ sym (append_assoc piece (all_of a) (all_of b))
 
@@ -69,23 +72,12 @@ each_both K position to (command ∷ a) b e h i = (h.0, each_both K (suc positio
 pub each_got : (K : ℕ → Command → Type 0) (code : List Command) (position place : ℕ) (commands : List Command) (command : Command) → EachAt K position commands → HasAt code position commands
     → position ≤ place → place < position + length commands → slice_get code place ≡ Some command → K place command
 each_got K code position place [] command h has low high e = absurd (omega (arith, low, high))
-each_got K code position place (first ∷ commands) command h has low high e =
-    by_place (λ later. each_got K code (suc position) place commands command h.1 has.1 later (omega (arith, high)) e) (cases_le position place low)
-  where
-    cases_le : (m n : ℕ) → m ≤ n → (m ≡ n) ⊎ (suc m ≤ n)
-    cases_le zero zero le = inl refl
-    cases_le zero (suc n) le = inr (omega arith)
-    cases_le (suc m) zero le = absurd (omega (arith, le))
-    cases_le (suc m) (suc n) le = elim (cases_le m n (omega (arith, le))) [ inl e ↦ inl (ap suc e) | inr lt ↦ inr (omega (arith, lt)) ]
-
-    IsThat : Option Command → Type 0
-    IsThat None = ⊥
-    IsThat (Some other) = first ≡ other
-
-    by_place : (suc position ≤ place → K place command) → (position ≡ place) ⊎ (suc position ≤ place) → K place command
-    by_place rest (inl same) =
-        subst (λ n. K n command) same (subst (K position) (subst IsThat (sym has.0 ∙ ap (slice_get code) same ∙ e) refl) h.0)
-    by_place rest (inr later) = rest later
+each_got K code position place (first ∷ commands) command h has low high e = elim (cases_lt position place) [
+  | inl lt ↦ each_got K code (suc position) place commands command h.1 has.1 (omega (arith, lt)) (omega (arith, high)) e
+  | inr le ↦
+      let same : position ≡ place = omega (arith, low, le) in
+      subst (λ n. K n command) same (subst (K position) (same_Some first command (sym has.0 ∙ ap (slice_get code) same ∙ e)) h.0)
+]
 
 -- ---- the pieces of a body
 
@@ -95,11 +87,7 @@ closed_pieces depth t (on p) = closed depth t (on p) ∷ []
 closed_pieces depth t (off next) = []
 
 closed_same : (depth : ℕ) (t : Target) (reached : Reached) → all_of (closed_pieces depth t reached) ≡ closed depth t reached
-closed_same depth t (on p) = append_nil (closed depth t (on p))
-  where
-    append_nil : (l : List Command) → l ++ [] ≡ l
-    append_nil [] = refl
-    append_nil (x ∷ l) = ap (λ r. x ∷ r) (append_nil l)
+closed_same depth t (on p) = append_none (closed depth t (on p))
 closed_same depth t (off next) = refl
 
 module _ (blocks : BlockType → Counts) (shapes : ℕ → Shape) (number : ℕ) where
@@ -108,37 +96,25 @@ module _ (blocks : BlockType → Counts) (shapes : ℕ → Shape) (number : ℕ)
   pieces open_ones (leave item body) p = leaving shapes number open_ones item p ∷ []
   pieces open_ones (step item body) p = template shapes number open_ones item p ∷ pieces open_ones body (after shapes number open_ones item p)
   pieces open_ones (block r inner body) p =
-      let n = (blocks r).params in
-      let m = (blocks r).results in
-      let i = size_in blocks shapes number (m ∷ takes_of open_ones) inner in
-      let t = inside whole m (suc p.position + closed_size m i) (drop n p.stack) p.next in
-      let q = point (suc p.position) (take n p.stack) (p.next + m) in
+      let t = block_target blocks shapes number open_ones r p inner in
+      let q = block_point blocks shapes number open_ones r p in
       let within = low blocks shapes number (t ∷ open_ones) inner q in
-      (jump_to (suc p.position) ∷ []) ∷ (pieces (t ∷ open_ones) inner q
+      (jump_to q.position ∷ []) ∷ (pieces (t ∷ open_ones) inner q
       ++ (closed_pieces (mark_of (t ∷ open_ones)) t within.reached ++ pieces open_ones body (behind t (next_in within.reached))))
   pieces open_ones (loop r inner body) p =
       let n = (blocks r).params in
-      let m = (blocks r).results in
-      let i = size_in blocks shapes number (n ∷ takes_of open_ones) inner in
-      let start = shift n p.position in
-      let t = inside (again start n p.next) m (suc start + closed_size m i) (drop n p.stack) (p.next + n) in
-      let q = point (suc start) (reverse (reads p.next n)) (p.next + n + m) in
+      let t = loop_target blocks shapes number open_ones r p inner in
+      let q = loop_point blocks shapes number open_ones r p in
       let within = low blocks shapes number (t ∷ open_ones) inner q in
-      singles (moves (mark_of open_ones) p.next (reverse (pad n p.stack))) ++ ((jump_to (suc start) ∷ []) ∷ (pieces (t ∷ open_ones) inner q
+      singles (moves (mark_of open_ones) p.next (reverse (pad n p.stack))) ++ ((jump_to q.position ∷ []) ∷ (pieces (t ∷ open_ones) inner q
       ++ (closed_pieces (mark_of (t ∷ open_ones)) t within.reached ++ pieces open_ones body (behind t (next_in within.reached)))))
   pieces open_ones (choice r first other second body) p =
-      let n = (blocks r).params in
-      let m = (blocks r).results in
-      let i = size_in blocks shapes number (m ∷ takes_of open_ones) first in
-      let j = size_in blocks shapes number (m ∷ takes_of open_ones) second in
-      let middle = suc p.position + closed_size m i in
-      let operands = take n (drop 1 p.stack) in
-      let t = inside (part middle operands) m (middle + closed_size m j) (drop n (drop 1 p.stack)) p.next in
-      let q = point (suc p.position) operands (p.next + m) in
+      let t = if_target blocks shapes number open_ones r p first second in
+      let q = then_point blocks shapes number open_ones r p in
       let within = low blocks shapes number (t ∷ open_ones) first q in
-      let q' = point middle operands (next_in within.reached) in
+      let q' = else_point blocks shapes number open_ones r p first within.reached in
       let others = low blocks shapes number (as_whole t ∷ open_ones) second q' in
-      (test_of (top p.stack) (suc p.position) middle ∷ []) ∷ (pieces (t ∷ open_ones) first q ++ (closed_pieces (mark_of open_ones) t within.reached
+      (test_of (top p.stack) q.position q'.position ∷ []) ∷ (pieces (t ∷ open_ones) first q ++ (closed_pieces (mark_of open_ones) t within.reached
       ++ (pieces (as_whole t ∷ open_ones) second q' ++ (closed_pieces (mark_of open_ones) (as_whole t) others.reached
       ++ pieces open_ones body (behind t (next_in others.reached))))))
 
@@ -158,52 +134,36 @@ module _ (blocks : BlockType → Counts) (shapes : ℕ → Shape) (number : ℕ)
   -- one after another they are the commands
   pub whole_is : (open_ones : List Target) (body : Body) (p : Point) → all_of (pieces open_ones body p) ≡ Lows open_ones body p
   whole_is open_ones done p = refl
-  whole_is open_ones (leave item body) p = append_nil (leaving shapes number open_ones item p)
-    where
-      append_nil : (l : List Command) → l ++ [] ≡ l
-      append_nil [] = refl
-      append_nil (x ∷ l) = ap (λ r. x ∷ r) (append_nil l)
+  whole_is open_ones (leave item body) p = append_none (leaving shapes number open_ones item p)
   whole_is open_ones (step item body) p = ap (λ l. template shapes number open_ones item p ++ l) (whole_is open_ones body (after shapes number open_ones item p))
   whole_is open_ones (block r inner body) p =
-      let n = (blocks r).params in
-      let m = (blocks r).results in
-      let i = size_in blocks shapes number (m ∷ takes_of open_ones) inner in
-      let t = inside whole m (suc p.position + closed_size m i) (drop n p.stack) p.next in
-      let q = point (suc p.position) (take n p.stack) (p.next + m) in
+      let t = block_target blocks shapes number open_ones r p inner in
+      let q = block_point blocks shapes number open_ones r p in
       let within = low blocks shapes number (t ∷ open_ones) inner q in
       let later = behind t (next_in within.reached) in
-      around ((jump_to (suc p.position) ∷ []) ∷ []) (jump_to (suc p.position) ∷ []) (pieces (t ∷ open_ones) inner q) (closed_pieces (mark_of (t ∷ open_ones)) t within.reached) (pieces open_ones body later)
+      around ((jump_to q.position ∷ []) ∷ []) (jump_to q.position ∷ []) (pieces (t ∷ open_ones) inner q) (closed_pieces (mark_of (t ∷ open_ones)) t within.reached) (pieces open_ones body later)
       within.commands (closed (mark_of (t ∷ open_ones)) t within.reached) (Lows open_ones body later) refl (whole_is (t ∷ open_ones) inner q) (closed_same (mark_of (t ∷ open_ones)) t within.reached) (whole_is open_ones body later)
   whole_is open_ones (loop r inner body) p =
       let n = (blocks r).params in
-      let m = (blocks r).results in
-      let i = size_in blocks shapes number (n ∷ takes_of open_ones) inner in
-      let start = shift n p.position in
-      let t = inside (again start n p.next) m (suc start + closed_size m i) (drop n p.stack) (p.next + n) in
-      let q = point (suc start) (reverse (reads p.next n)) (p.next + n + m) in
+      let t = loop_target blocks shapes number open_ones r p inner in
+      let q = loop_point blocks shapes number open_ones r p in
       let within = low blocks shapes number (t ∷ open_ones) inner q in
       let later = behind t (next_in within.reached) in
       let ms = moves (mark_of open_ones) p.next (reverse (pad n p.stack)) in
       let rest = pieces (t ∷ open_ones) inner q ++ (closed_pieces (mark_of (t ∷ open_ones)) t within.reached ++ pieces open_ones body later) in
-      ap all_of (sym (append_assoc (singles ms) ((jump_to (suc start) ∷ []) ∷ []) rest))
-      ∙ around (singles ms ++ (jump_to (suc start) ∷ []) ∷ []) (ms ++ jump_to (suc start) ∷ []) (pieces (t ∷ open_ones) inner q) (closed_pieces (mark_of (t ∷ open_ones)) t within.reached) (pieces open_ones body later)
+      ap all_of (sym (append_assoc (singles ms) ((jump_to q.position ∷ []) ∷ []) rest))
+      ∙ around (singles ms ++ (jump_to q.position ∷ []) ∷ []) (ms ++ jump_to q.position ∷ []) (pieces (t ∷ open_ones) inner q) (closed_pieces (mark_of (t ∷ open_ones)) t within.reached) (pieces open_ones body later)
       within.commands (closed (mark_of (t ∷ open_ones)) t within.reached) (Lows open_ones body later)
-      (all_append (singles ms) ((jump_to (suc start) ∷ []) ∷ []) ∙ ap (λ l. l ++ jump_to (suc start) ∷ []) (all_singles ms))
+      (all_append (singles ms) ((jump_to q.position ∷ []) ∷ []) ∙ ap (λ l. l ++ jump_to q.position ∷ []) (all_singles ms))
       (whole_is (t ∷ open_ones) inner q) (closed_same (mark_of (t ∷ open_ones)) t within.reached) (whole_is open_ones body later)
   whole_is open_ones (choice r first other second body) p =
-      let n = (blocks r).params in
-      let m = (blocks r).results in
-      let i = size_in blocks shapes number (m ∷ takes_of open_ones) first in
-      let j = size_in blocks shapes number (m ∷ takes_of open_ones) second in
-      let middle = suc p.position + closed_size m i in
-      let operands = take n (drop 1 p.stack) in
-      let t = inside (part middle operands) m (middle + closed_size m j) (drop n (drop 1 p.stack)) p.next in
-      let q = point (suc p.position) operands (p.next + m) in
+      let t = if_target blocks shapes number open_ones r p first second in
+      let q = then_point blocks shapes number open_ones r p in
       let within = low blocks shapes number (t ∷ open_ones) first q in
-      let q' = point middle operands (next_in within.reached) in
+      let q' = else_point blocks shapes number open_ones r p first within.reached in
       let others = low blocks shapes number (as_whole t ∷ open_ones) second q' in
       let later = behind t (next_in others.reached) in
-      let test = test_of (top p.stack) (suc p.position) middle ∷ [] in
+      let test = test_of (top p.stack) q.position q'.position ∷ [] in
       let ends = closed (mark_of open_ones) t within.reached in
       let second_ends = closed (mark_of open_ones) (as_whole t) others.reached in
       let back = pieces (as_whole t ∷ open_ones) second q' ++ (closed_pieces (mark_of open_ones) (as_whole t) others.reached ++ pieces open_ones body later) in

@@ -1,5 +1,5 @@
 -- Ways of the plain machine.
-use Rattle.std.proofs.Common.{◌≡◌, ◌≢◌, ℕ, suc, ◌+◌, ◌<◌, ◌≤◌, Bool, true, false, cond, ◌&&◌, List, [], ◌∷◌, ◌++◌, length, Some, slice_get, nat_eq, refl, ap, ◌∙◌, subst, arith}
+use Rattle.std.proofs.Common.{◌≡◌, ◌≢◌, ℕ, suc, ◌+◌, ◌<◌, ◌≤◌, Bool, true, false, cond, ◌&&◌, List, [], ◌∷◌, ◌++◌, length, Some, slice_get, nat_eq, refl, ap, ap₂, ◌∙◌, subst, arith}
 use Rattle.std.proofs.lemmas.Bool.{eq-eqb, eqb-true, false_from_ne_true, le-ltb, lt-ltb}
 use Rattle.std.specs.List.{AllZip}
 use Rattle.bl_base.proofs.Lists.{zip_each}
@@ -17,19 +17,13 @@ use Rattle.bl_lower.proofs.Machine.{Program, place, value_of, perform, plain_ste
 use Rattle.bl_lower.proofs.MatchStates.{Holds, AllHold}
 use Rattle.bl_emit.specs.Constructs.{reads, moves}
 
-both_true : (a b : Bool) (x y : ℕ) → a ≡ true → b ≡ true → cond (a && b) x y ≡ x
-both_true a b x y e f = ap (λ c. cond (c && b) x y) e ∙ ap (λ c. cond c x y) f
-
-first_false : (a b : Bool) (x y : ℕ) → a ≡ false → cond (a && b) x y ≡ y
-first_false a b x y e = ap (λ c. cond (c && b) x y) e
-
 second_false : (a b : Bool) (x y : ℕ) → b ≡ false → cond (a && b) x y ≡ y
 second_false true b x y e = ap (λ c. cond c x y) e
 second_false false b x y e = refl
 
 -- what was written is read there
 pub read_written : (r : Registers) (d v n : ℕ) → written r d v n d v ≡ n
-read_written r d v n = both_true (nat_eq d d) (nat_eq v v) n (r d v) (eq-eqb d d refl) (eq-eqb v v refl)
+read_written r d v n = ap₂ (λ a b. cond (a && b) n (r d v)) (eq-eqb d d refl) (eq-eqb v v refl)
 
 -- another variable keeps its number
 pub read_other : (r : Registers) (d v n e w : ℕ) → w ≢ v → written r d v n e w ≡ r e w
@@ -37,7 +31,7 @@ read_other r d v n e w ne = second_false (nat_eq e d) (nat_eq w v) n (r e w) (fa
 
 -- and so does each variable at another depth
 pub read_deeper : (r : Registers) (d v n e w : ℕ) → e ≢ d → written r d v n e w ≡ r e w
-read_deeper r d v n e w ne = first_false (nat_eq e d) (nat_eq w v) n (r e w) (false_from_ne_true (nat_eq e d) (λ t. ne (eqb-true e d t)))
+read_deeper r d v n e w ne = ap (λ a. cond (a && nat_eq w v) n (r e w)) (false_from_ne_true (nat_eq e d) (λ t. ne (eqb-true e d t)))
 
 pub has_front : {X : Type 0} (code : List X) (pc : ℕ) (a b : List X) → HasAt code pc (a ++ b) → HasAt code pc a
 has_front code pc [] b h = tt
@@ -100,7 +94,7 @@ pub kept_written : (r : Registers) (d first count w : ℕ) → Kept r (written r
 kept_written r d first count w e x out = by_depth (nat_eq e d) (nat_eq x first) refl refl
   where
     by_depth : (a b : Bool) → nat_eq e d ≡ a → nat_eq x first ≡ b → written r d first w e x ≡ r e x
-    by_depth false b f g = first_false (nat_eq e d) (nat_eq x first) w (r e x) f
+    by_depth false b f g = ap (λ a. cond (a && nat_eq x first) w (r e x)) f
     by_depth true false f g = second_false (nat_eq e d) (nat_eq x first) w (r e x) g
     by_depth true true f g =
         let same : x ≡ first = eqb-true x first g in
@@ -120,6 +114,12 @@ module _ (program : Program) where
   pub holds_value : (s : Plain) (low next : ℕ) (a : Operand) (v : ℕ) → program.statics ≤ low → Holds s.registers (depth s) low next a v → value_of program a s ≡ v
   holds_value s low next (Var x) v le h = value_is s (Var x) v (omega (arith, h.0, le), h.2)
   holds_value s low next (Const c) v le h = h
+
+  -- an operand below the variables that have changed reads as before
+  pub kept_value : (s : Plain) (position : ℕ) (r' : Registers) (first count low next : ℕ) (a : Operand) (v : ℕ) → program.statics ≤ low → next ≤ first → Kept s.registers r' (depth s) first count → Holds s.registers (depth s) low next a v
+      → value_of program a (at position r' s) ≡ v
+  kept_value s position r' first count low next a v static le kept h = holds_value (at position r' s) low next a v static
+      (holds_later s.registers r' (depth s) low next low next a v (λ x above below. kept (depth s) x (λ same up down. omega (arith, below, le, up))) (omega arith) (omega arith) h)
 
   -- a command that stands there is done
   pub does : (s : Plain) (command : Command) → slice_get program.commands s.position ≡ Some command → plain_step program s ≡ perform program (Some command) s

@@ -12,14 +12,15 @@ use Rattle.bl_access.specs.Templates.{jump_to, out_of, shift}
 use Rattle.bl_cmd.specs.Steps.{Registers, written, Plain, depth, on}
 use Rattle.bl_cmd.specs.declared.command.Command.TheVariants.{Ret}
 use Rattle.bl_cmd.specs.declared.command.Operand.{Operand}
-use Rattle.bl_lower.proofs.CodeLayout.{HasAt, AreNot, Fresh, floor, OutsAt, LeavesAt}
+use Rattle.bl_lower.proofs.CodeLayout.{HasAt, AreNot, Fresh, OutsAt, LeavesAt}
 use Rattle.bl_lower.proofs.Machine.{Program, value_of, results_from, states, plain_step, ret}
 use Rattle.bl_lower.proofs.MatchStates.{Holds, AllHold, Layout, IsStore, IsFrame, AreCallers, Here}
 use Rattle.bl_emit.specs.Constructs.{reads, moves, mark_of, Target}
 use Rattle.bl_emit.specs.Shapes.{Shape, result, bottom, result_reads}
-use Rattle.bl_lower.proofs.Frames.{floor_is_above, static_low, store_kept, frame_kept, callers_kept, Reaches, reaches_later}
+use Rattle.bl_lower.proofs.Frames.{floor_is_above, static_low, store_kept, frame_kept, frame_rebuilt, callers_kept, Reaches, reaches_later}
 use Rattle.bl_lower.proofs.StraightLineItems.{arrives}
 use Rattle.bl_lower.proofs.ConstructExits.{pad_is_take, zip_take, taken_length}
+use Rattle.bl_lower.proofs.Sizes.{reads_length}
 use Rattle.bl_lower.proofs.States.{states_are}
 use Rattle.bl_lower.proofs.PlainRuns.{Kept, at, does, Moved, moved, Value, holds_value, all_later, read_written, read_deeper, kept_written}
 
@@ -90,17 +91,9 @@ module _ (tree : Tree) (program : Program) (bound : ℕ) (layout : Layout progra
       → IsFrame program bound r d open_ones (operands ++ stack) (next + count) (record frame { values = vs ++ frame.values })
   frame_put r d open_ones stack operands next count vs frame h over limit all =
       let low = bottom (program.shape frame.number) in
-      record {
-        arity = h.arity;
-        size = h.size;
-        locals = h.locals;
-        labels = h.labels;
-        values = zip_append (Holds r d low (next + count)) operands stack vs frame.values
-            (all_later r r d next (next + count) low (next + count) operands vs (λ x above below. refl) over (omega arith) all)
-            (all_later r r d low next low (next + count) stack frame.values (λ x above below. refl) (omega arith) (omega arith) h.values);
-        above = omega (arith, h.above);
-        limit = limit;
-      }
+      frame_rebuilt tree program bound r d open_ones stack (operands ++ stack) next (next + count) (vs ++ frame.values) frame.rest frame h
+      (zip_append (Holds r d low (next + count)) operands stack vs frame.values (all_later r r d next (next + count) low (next + count) operands vs (λ x above below. refl) over (omega arith) all)
+      (all_later r r d low next low (next + count) stack frame.values (λ x above below. refl) (omega arith) (omega arith) h.values)) (omega (arith, h.above)) limit
 
   -- the results, topmost first, are on the caller's operands
   resumes : (used number count : ℕ) (callers : List Frame) (chain : List ℕ) (vs : List ℕ) (store : Store) (r : Registers) (s : Plain) → s.chain ≡ chain → IsStore program s.registers s.space store
@@ -145,7 +138,7 @@ module _ (tree : Tree) (program : Program) (bound : ℕ) (layout : Layout progra
         store = store_kept program bound layout r m.registers s store (λ x lt. m.kept 0 x (λ same above below. omega (arith, same)) ∙ before 0 x (g.kept 0 x (λ same above below. omega (arith, same, up)))) (subst (λ q. IsStore program q s.space store) same memories);
         frame_is = frame_put m.registers (suc (length chain)) w.open_ones w.stack (reverse (reads w.next k)) w.next k vs caller
             (frame_kept program bound layout g.registers m.registers (suc (length chain)) w.open_ones w.stack w.next caller
-            (λ x own side. m.kept (suc (length chain)) x (λ same above below. under x side above low f.above)) f) (omega (arith, low, f.above)) w.room
+            (λ x own side. m.kept (suc (length chain)) x (λ same above below. elim side [ inl lt ↦ omega (arith, lt, above, low, f.above) | inr lt ↦ omega (arith, lt, above) ])) f) (omega (arith, low, f.above)) w.room
             (subst (AllHold m.registers (suc (length chain)) w.next (w.next + k) (reverse (reads w.next k))) (reverse-reverse vs)
             (zip_reverse (Holds m.registers (suc (length chain)) w.next (w.next + k)) (reads w.next k) (reverse vs) m.holds));
         callers = callers_kept program bound layout g.registers m.registers caller.number callers chain (λ d x some le. m.kept d x (λ same above below. omega (arith, same, le)))
@@ -158,11 +151,6 @@ module _ (tree : Tree) (program : Program) (bound : ℕ) (layout : Layout progra
       jumped to t t2 t3 k step way (inr jump) =
           (suc k + 1, omega arith, omega arith, comes_then (plain_step program) (suc k) 1 t t3 (at to t3.registers t3) (t2, step, way) (at to t3.registers t3, does program t3 (jump_to to) jump, refl))
 
-      under : (x : ℕ) → x < bottom (program.shape caller.number) ⊎ x < h.0.next → h.0.next ≤ x → bottom (program.shape caller.number) ≤ floor program bound caller.number h.0.open_ones
-          → floor program bound caller.number h.0.open_ones ≤ h.0.next → ⊥
-      under x (inl lt) above low over = omega (arith, lt, above, low, over)
-      under x (inr lt) above low over = omega (arith, lt, above)
-
       moved_results : (mark : ℕ) (shape : Shape) (t : Plain) (next : ℕ) (vs : List ℕ) → length vs ≡ shape.results → program.statics ≤ shape.first → program.statics ≤ next
           → ((i x : ℕ) → i < shape.results → next ≤ x → x < next + shape.results → result shape i ≡ x → ⊥)
           → HasAt program.commands t.position (moves mark next (result_reads shape 0 shape.results)) → ResultsAt t.registers (depth t) shape 0 (reverse vs) → Moved program t next shape.results (reverse vs)
@@ -172,10 +160,6 @@ module _ (tree : Tree) (program : Program) (bound : ℕ) (layout : Layout progra
           (results_fresh shape next next (next + shape.results) 0 shape.results (omega arith) (omega arith) (λ i x lt. apart i x (omega (arith, lt))))
           (subst (λ n. AllZip (Value t.registers program.statics (depth t)) (result_reads shape 0 n) (reverse vs)) all
           (results_reads t.registers program.statics (depth t) shape 0 (reverse vs) own results))
-        where
-          reads_length : (shape : Shape) (index count : ℕ) → length (result_reads shape index count) ≡ count
-          reads_length shape index zero = refl
-          reads_length shape index (suc count) = ap suc (reads_length shape (suc index) count)
 
   pub return_reaches : (used mark : ℕ) (open_ones : List Target) (stack : List Operand) (next : ℕ) (state : State) (s : Plain) → Here program bound open_ones stack next state s
       → LeavesAt program bound state.frame.number mark used s.position stack → Reaches tree program bound used (return state) s

@@ -11,7 +11,7 @@ use Rattle.bl_cmd.specs.Layout.{entry_of, command_at, Holds}
 use Rattle.bl_cmd.specs.Programs.{IsCommand, IsProgram}
 use Rattle.bl_cmd.specs.Rules.{Rule4, Rule5, Rule6, GoesTo, Reach, reach_of}
 use Rattle.bl_cmd.specs.declared.command.Command.{Command}
-use Rattle.bl_cmd.specs.declared.command.Command.TheVariants.{Set, Load, Store, Test, Jump, Arg, Call, Out, Ret, Trap}
+use Rattle.bl_cmd.specs.declared.command.Command.TheVariants.{Test, Jump, Trap}
 use Rattle.bl_cmd.proofs.Layouts.{holds_apart, held_by}
 use Rattle.bl_lower.specs.Trees.{low_tree, low_function, function_def, step_bound}
 use Rattle.bl_emit.specs.Numbers.{shape, function_size}
@@ -27,16 +27,9 @@ use Rattle.bl_lower.proofs.FunctionPlaces.{shaped, stands_at, low_length, total_
 
 -- an access goes nowhere
 pub access_stays : (last : Command) (r : Reach) (y : ℕ) → reach_of last ≡ Some r → GoesTo last y → ⊥
-access_stays (Set mark o to a b c) r y e h = h
-access_stays (Load mark kind memory to offset address) r y e h = h
-access_stays (Store kind memory offset address value) r y e h = h
 access_stays (Test condition one other) r y e h = absurd (none-some r e)
 access_stays (Jump to) r y e h = absurd (none-some r e)
-access_stays (Arg mark f index value) r y e h = h
-access_stays (Call f) r y e h = h
-access_stays (Out mark index value) r y e h = h
-access_stays Ret r y e h = h
-access_stays (Trap kind) r y e h = h
+access_stays _ r y e h = h
 
 module _ (tree : Tree) (linked : IsLinked tree) where
   -- ---- one function
@@ -135,7 +128,7 @@ module _ (tree : Tree) (linked : IsLinked tree) where
         → command_at (low_tree tree) from ≡ Some command → GoesTo command y → K from command
     inner y start piece found above K each from command holds e goes =
         let p = place_at from holds in
-        elim (l_targets p) [
+        elim ((lawful_at from p command e).targets y goes) [
           | inl small ↦ absurd (let b = bounds_of entry those y start piece found in omega (arith, small, b.low, above))
           | inr more ↦ elim more [
             | inl begin ↦ let f = starts_hold y begin in absurd (let same = found_same entry those y start y piece f.0 found f.1 in omega (arith, same.0, above))
@@ -145,9 +138,6 @@ module _ (tree : Tree) (linked : IsLinked tree) where
                 there K from p command (subst (λ n. EachAt K n p.piece) same.0 (subst (EachAt K start) same.1 each)) e
           ]
         ]
-      where
-        l_targets : (p : Place from) → Goes tree linked number Begin p.start (length p.piece) y
-        l_targets p = (lawful_at from p command e).targets y goes
 
   -- ---- all functions
 

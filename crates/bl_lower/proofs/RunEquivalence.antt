@@ -13,6 +13,7 @@ use Rattle.bl_wasm.specs.declared.instruction.Instr.TheVariants.{If, BrIf, BrTab
 use Rattle.bl_wasm.specs.declared.types.WasmType.{WasmType}
 use Rattle.bl_wasm.specs.declared.types.WasmType.TheVariants.{I32}
 use Rattle.bl_wasm.specs.declared.linked.Tree.{Tree}
+use Rattle.bl_reduce.proofs.Places.{behind_item}
 use Rattle.bl_reduce.specs.Configurations.{Config, entering, running}
 use Rattle.bl_reduce.specs.Steps.{source_step}
 use Rattle.bl_reduce.specs.TypedConfigurations.{IsTyped, IsTypedStep, IsValue}
@@ -42,20 +43,13 @@ module _ (c : Context) where
   tested : (open_ones : List Open) (items : List Instr) (stack : List WasmType) (later : List (List WasmType)) (values : List ℕ) → Types c open_ones items (stack ∷ later)
       → AllZip IsValue (reverse stack) values → Tested items values
   tested open_ones [] stack later values h all = tt
-  tested open_ones (If r ∷ items) stack [] values h all = absurd h
-  tested open_ones (If r ∷ items) stack (to ∷ later) values h all = topmost stack h.1.lower h.1.type.params values h.1.before all
-  tested open_ones (BrIf l ∷ items) stack [] values h all = absurd h
-  tested open_ones (BrIf l ∷ items) stack (to ∷ later) values h all = topmost stack h.1.rule.2.lower h.1.rule.0 values h.1.rule.2.before all
-  tested open_ones (BrTable default ls ∷ items) stack [] values h all = absurd h
-  tested open_ones (BrTable default ls ∷ items) stack (to ∷ later) values h all = topmost stack h.1.rule.2.lower h.1.rule.0 values h.1.rule.2.before all
-  tested open_ones (Load kind argument ∷ items) stack [] values h all = absurd h
-  tested open_ones (Load kind argument ∷ items) stack (to ∷ later) values h all = topmost stack h.1.rule.3.lower [] values h.1.rule.3.before all
-  tested open_ones (Store kind argument ∷ items) stack [] values h all = absurd h
-  tested open_ones (Store kind argument ∷ items) stack (to ∷ later) values h all = second stack h.1.rule.3.lower (integer (access_type kind)) values h.1.rule.3.before all
-  tested open_ones (MemoryGrow ∷ items) stack [] values h all = absurd h
-  tested open_ones (MemoryGrow ∷ items) stack (to ∷ later) values h all = topmost stack h.1.rule.1.lower [] values h.1.rule.1.before all
-  tested open_ones (CallIndirect i ∷ items) stack [] values h all = absurd h
-  tested open_ones (CallIndirect i ∷ items) stack (to ∷ later) values h all = topmost stack h.1.rule.3.lower h.1.rule.0.params values h.1.rule.3.before all
+  tested open_ones (If r ∷ items) stack later values h all = let b = (behind_item c (If r) items open_ones stack later h).rule in topmost stack b.lower b.type.params values b.before all
+  tested open_ones (BrIf l ∷ items) stack later values h all = let b = (behind_item c (BrIf l) items open_ones stack later h).rule in topmost stack b.rule.2.lower b.rule.0 values b.rule.2.before all
+  tested open_ones (BrTable default ls ∷ items) stack later values h all = let b = (behind_item c (BrTable default ls) items open_ones stack later h).rule in topmost stack b.rule.2.lower b.rule.0 values b.rule.2.before all
+  tested open_ones (Load kind argument ∷ items) stack later values h all = let b = (behind_item c (Load kind argument) items open_ones stack later h).rule in topmost stack b.rule.3.lower [] values b.rule.3.before all
+  tested open_ones (Store kind argument ∷ items) stack later values h all = let b = (behind_item c (Store kind argument) items open_ones stack later h).rule in second stack b.rule.3.lower (integer (access_type kind)) values b.rule.3.before all
+  tested open_ones (MemoryGrow ∷ items) stack later values h all = let b = (behind_item c MemoryGrow items open_ones stack later h).rule in topmost stack b.rule.1.lower [] values b.rule.1.before all
+  tested open_ones (CallIndirect i ∷ items) stack later values h all = let b = (behind_item c (CallIndirect i) items open_ones stack later h).rule in topmost stack b.rule.3.lower b.rule.0.params values b.rule.3.before all
   tested open_ones (item ∷ items) stack later values h all = tt
 
 module _ (tree : Tree) (linked : IsLinked tree) (program : Program) (bound : ℕ) (is : IsProgram tree program bound) (some : 1 ≤ bound) (results : List ValueType) where

@@ -23,7 +23,7 @@ use Rattle.bl_lower.proofs.MemorySteps.{load_reaches, store_reaches, size_reache
 use Rattle.bl_lower.proofs.Blocks.{block_reaches, loop_reaches, if_reaches, end_reaches, else_reaches}
 use Rattle.bl_lower.proofs.BranchSteps.{IsSmall, branch_reaches, branch_if_reaches, table_reaches}
 use Rattle.bl_lower.proofs.CallSteps.{call_reaches, enter_reaches}
-use Rattle.bl_lower.proofs.Frames.{Then, knowing}
+use Rattle.bl_lower.proofs.Frames.{Then, knowing, rebuilt}
 use Rattle.bl_lower.proofs.IndirectCalls.{indirect_reaches}
 use Rattle.bl_lower.proofs.StraightLineItems.{pushes, get_reaches, global_get_reaches, local_set_reaches, local_tee_reaches, global_set_reaches, jumps_on, drop_reaches, select_reaches}
 use Rattle.bl_lower.proofs.OperatorSteps.{operate_reaches}
@@ -105,22 +105,8 @@ module _ (tree : Tree) (program : Program) (bound : ℕ) (is : IsProgram tree pr
   frame_reaches : (items : List Instr) (open_ones : List Target) (stack : List Operand) (next : ℕ) (state : State) (s : Plain) → Here program bound open_ones stack next state s
       → Tested items state.frame.values → Immediate items → slice_get tree.functions state.frame.number ≡ Some state.frame.function → IsLaidOut program bound state.frame.number open_ones (live (point s.position stack next)) items → Then tree program bound 0 (frame_step tree items state) s
   frame_reaches [] open_ones stack next state s h small near exists laid has = return_reaches tree program bound is.layout 0 0 open_ones stack next state s h laid.1
-  frame_reaches (item ∷ items) open_ones stack next state s h small near exists laid has = item_reaches item open_ones stack next (with_rest items state) s (behind_it h) small near exists laid has
-    where
-      behind_it : Here program bound open_ones stack next state s → Here program bound open_ones stack next (with_rest items state) s
-      behind_it h = record {
-        store = h.store;
-        frame_is = record {
-          arity = h.frame_is.arity;
-          size = h.frame_is.size;
-          locals = h.frame_is.locals;
-          labels = h.frame_is.labels;
-          values = h.frame_is.values;
-          above = h.frame_is.above;
-          limit = h.frame_is.limit;
-        };
-        callers = h.callers;
-      }
+  frame_reaches (item ∷ items) open_ones stack next state s h small near exists laid has =
+      item_reaches item open_ones stack next (with_rest items state) s (rebuilt tree program bound open_ones next stack stack next state.frame.values items state s h h.frame_is.values h.frame_is.above h.frame_is.limit) small near exists laid has
 
   -- a tested value of a configuration is an i32
   abbrev pub TestedIn : Config → Type 0

@@ -1,6 +1,7 @@
 -- The memories that a plain state stands for.
-use Rattle.std.proofs.Common.{◌≡◌, ℕ, zero, suc, ◌+◌, ◌-◌, ◌*◌, List, [], ◌∷◌, ◌++◌, length, take, drop, replicate, Some, slice_get, refl, sym, ap, ap₂, ◌∙◌, arith, length-append, append_assoc}
+use Rattle.std.proofs.Common.{◌≡◌, ℕ, suc, ◌+◌, ◌-◌, ◌*◌, List, [], ◌∷◌, ◌++◌, length, take, drop, replicate, Some, slice_get, refl, sym, ap, ap₂, ◌∙◌, arith, length-append, append_assoc}
 use Rattle.std.specs.List.{AllZip}
+use Rattle.std.proofs.lemmas.List.{take_at, drop_at}
 use Rattle.bl_base.specs.Runs.{MemoryState}
 use Rattle.bl_wasm.specs.declared.linked.Memory.{Memory}
 use Rattle.bl_reduce.specs.Configurations.{Store}
@@ -9,18 +10,6 @@ use Rattle.bl_cmd.specs.Steps.{Registers, Plain}
 use Rattle.bl_lower.proofs.Machine.{Program, states_from, states, padded, space_of}
 use Rattle.bl_lower.proofs.MatchStates.{IsStore}
 use Rattle.bl_lower.proofs.MemorySpace.{padded_length}
-
-pub take_front : {X : Type 0} (n : ℕ) (xs ys : List X) → length xs ≡ n → take n (xs ++ ys) ≡ xs
-take_front zero [] ys e = refl
-take_front (suc n) [] ys e = absurd (omega (arith, e))
-take_front zero (x ∷ xs) ys e = absurd (omega (arith, e))
-take_front (suc n) (x ∷ xs) ys e = ap (λ l. x ∷ l) (take_front n xs ys (omega (arith, e)))
-
-pub drop_front : {X : Type 0} (n : ℕ) (xs ys : List X) → length xs ≡ n → drop n (xs ++ ys) ≡ ys
-drop_front zero [] ys e = refl
-drop_front (suc n) [] ys e = absurd (omega (arith, e))
-drop_front zero (x ∷ xs) ys e = absurd (omega (arith, e))
-drop_front (suc n) (x ∷ xs) ys e = drop_front n xs ys (omega (arith, e))
 
 same_state : (a : MemoryState) (pages : ℕ) (bytes : List ℕ) → pages ≡ a.pages → bytes ≡ a.bytes → record { pages = pages; bytes = bytes } ≡ a
 same_state a pages bytes e f = ap₂ (λ p b. record { pages = p; bytes = b }) e f
@@ -40,8 +29,8 @@ made r space (memory ∷ memories) (state ∷ those) size from before long h siz
 
     bytes : take (r 0 size * 65536) (drop from space) ≡ state.bytes
     bytes =
-        ap (λ s. take (r 0 size * 65536) (drop from s)) e ∙ ap (take (r 0 size * 65536)) (drop_front from before (padded memory state ++ space_of memories those) long ∙ append_assoc state.bytes (replicate (memory.reserve * 65536 - length state.bytes) 0) (space_of memories those))
-        ∙ take_front (r 0 size * 65536) state.bytes (replicate (memory.reserve * 65536 - length state.bytes) 0 ++ space_of memories those) (h.0.size ∙ ap (λ n. n * 65536) (sym pages))
+        ap (λ s. take (r 0 size * 65536) (drop from s)) e ∙ ap (take (r 0 size * 65536)) (drop_at before (padded memory state ++ space_of memories those) from long ∙ append_assoc state.bytes (replicate (memory.reserve * 65536 - length state.bytes) 0) (space_of memories those))
+        ∙ take_at state.bytes (replicate (memory.reserve * 65536 - length state.bytes) 0 ++ space_of memories those) (r 0 size * 65536) (h.0.size ∙ ap (λ n. n * 65536) (sym pages))
 
 pub states_are : (program : Program) (s : Plain) (store : Store) → IsStore program s.registers s.space store → states program s ≡ store.memories
 states_are program s store h = made s.registers s.space program.memories store.memories program.sizes 0 [] refl h.within h.sizes h.space_is

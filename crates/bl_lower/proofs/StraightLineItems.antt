@@ -20,11 +20,11 @@ use Rattle.bl_lower.proofs.Machine.{Program, value_of, plain_step}
 use Rattle.bl_lower.proofs.MatchStates.{Layout, LocalsAt, Here}
 use Rattle.bl_emit.specs.Constructs.{Target, top, point}
 use Rattle.bl_emit.specs.Shapes.{bottom, local}
-use Rattle.bl_lower.proofs.Frames.{is_local, locals_apart, frame_kept, static_low, static_next, next_low, store_kept, frame_later, callers_kept, here_above, Reaches, Then, with_stack, popping, knowing}
+use Rattle.bl_lower.proofs.Frames.{is_local, locals_apart, frame_kept, static_low, static_next, next_low, store_kept, frame_later, callers_kept, here_above, Reaches, Then, rebuilt, with_stack, popping, knowing}
 use Rattle.bl_lower.proofs.PlainRuns.{at, does, sets, place_static, value_is, holds_value, all_later, kept_written, read_written, read_other, read_deeper, move_is}
 
 -- an element of a list in which one was replaced
-pub set_get : (xs : List ℕ) (i j old w v : ℕ) → slice_get xs i ≡ Some old → slice_get (set xs i w) j ≡ Some v → (i ≡ j) × (w ≡ v) ⊎ (i ≡ j → ⊥) × (slice_get xs j ≡ Some v)
+pub set_get : {X : Type 0} (xs : List X) (i j : ℕ) (old w v : X) → slice_get xs i ≡ Some old → slice_get (set xs i w) j ≡ Some v → (i ≡ j) × (w ≡ v) ⊎ (i ≡ j → ⊥) × (slice_get xs j ≡ Some v)
 set_get [] i j old w v e f = absurd (none-some old e)
 set_get (x ∷ xs) zero zero old w v e f = inl (refl, same_Some w v f)
 set_get (x ∷ xs) zero (suc j) old w v e f = inr (λ g. omega (arith, g), f)
@@ -50,34 +50,28 @@ module _ (tree : Tree) (program : Program) (bound : ℕ) (layout : Layout progra
         → Here program bound open_ones stack next state s → Here program bound open_ones stack to state s
     raised stack to state s le limit h =
         let low = bottom (program.shape state.frame.number) in
-        record {
-          store = h.store;
-          frame_is = record {
-            arity = h.frame_is.arity;
-            size = h.frame_is.size;
-            locals = h.frame_is.locals;
-            labels = h.frame_is.labels;
-            values = all_later s.registers s.registers (depth s) low next low to stack state.frame.values (λ x above below. refl) (omega arith) le h.frame_is.values;
-            above = omega (arith, h.frame_is.above, le);
-            limit = limit;
-          };
-          callers = h.callers;
-        }
+        rebuilt tree program bound open_ones next stack stack to state.frame.values state.frame.rest state s h
+        (all_later s.registers s.registers (depth s) low next low to stack state.frame.values (λ x above below. refl) (omega arith) le h.frame_is.values) (omega (arith, h.frame_is.above, le)) limit
 
-    -- a value is put on the stack: a new variable takes it
+    -- a value is put on the stack by some step: a new variable takes it
+    pub puts : (used : ℕ) (stack : List Operand) (state : State) (s : Plain) (v : ℕ) → Here program bound open_ones stack next state s → plain_step program s ≡ goes (at (suc s.position) (written s.registers (depth s) next v) s)
+        → used + 1 ≤ bound → suc next ≤ (program.shape state.frame.number).limit
+        → LaidOut state open_ones (suc s.position) (variable next ∷ stack) (suc next) → Reaches tree program bound used (push v state) s
+    puts used stack state s v h step most limit laid =
+        let r' = written s.registers (depth s) next v in
+        let t = at (suc s.position) r' s in
+        let above = here_above program bound layout open_ones stack next next 1 (suc s.position) r' state s (omega arith) (kept_written s.registers (depth s) next 0 v) h in
+        let high = raised stack (suc next) state t (omega arith) limit above in
+        arrives used 1 open_ones (variable next ∷ stack) (suc next) (with_values (v ∷ state.frame.values) state) s t (omega arith) most (t, step, refl)
+        (with_stack tree program bound open_ones (suc next) stack (variable next ∷ stack) (v ∷ state.frame.values) state t high
+        ((next_low program bound layout open_ones stack next state s h, omega arith, read_written s.registers (depth s) next v), high.frame_is.values)) laid
+
     pub pushes : (used mark : ℕ) (stack : List Operand) (state : State) (s : Plain) (o : Op) (a b c : Operand) (v : ℕ) → Here program bound open_ones stack next state s
         → slice_get program.commands s.position ≡ Some (set_of mark o next a b c) → meaning o (value_of program a s) (value_of program b s) (value_of program c s) ≡ v
         → used + 1 ≤ bound → suc next ≤ (program.shape state.frame.number).limit
         → LaidOut state open_ones (suc s.position) (variable next ∷ stack) (suc next) → Reaches tree program bound used (push v state) s
     pushes used mark stack state s o a b c v h command value most limit laid =
-        let r' = written s.registers (depth s) next v in
-        let t = at (suc s.position) r' s in
-        let above = here_above program bound layout open_ones stack next next 1 (suc s.position) r' state s (omega arith) (kept_written s.registers (depth s) next 0 v) h in
-        let high = raised stack (suc next) state t (omega arith) limit above in
-        arrives used 1 open_ones (variable next ∷ stack) (suc next) (with_values (v ∷ state.frame.values) state) s t (omega arith) most
-        (t, sets program s mark o next v a b c command (static_next program bound layout open_ones stack next state s h) value, refl)
-        (with_stack tree program bound open_ones (suc next) stack (variable next ∷ stack) (v ∷ state.frame.values) state t high
-        ((next_low program bound layout open_ones stack next state s h, omega arith, read_written s.registers (depth s) next v), high.frame_is.values)) laid
+        puts used stack state s v h (sets program s mark o next v a b c command (static_next program bound layout open_ones stack next state s h) value) most limit laid
 
     pub get_reaches : (x mark : ℕ) (stack : List Operand) (state : State) (s : Plain) → Here program bound open_ones stack next state s
         → slice_get program.commands s.position ≡ Some (move mark next (variable (local (program.shape state.frame.number) x))) → 1 ≤ bound → suc next ≤ (program.shape state.frame.number).limit

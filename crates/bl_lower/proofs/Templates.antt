@@ -59,12 +59,12 @@ row_padded o row stack e =
 
 -- a variable below another isn't it
 not_new : (low next x : ℕ) (a : Operand) → next ≤ x → Ranged low next a → a ≢ variable x
-not_new low next x (Var y) le h e = omega (arith, h.1, le, ap number e)
-  where
-    number : Operand → ℕ
-    number (Var z) = z.0
-    number (Const c) = 0
+not_new low next x (Var y) le h e = let same : y.0 ≡ x = cc e in omega (arith, h.1, le, same)
 not_new low next x (Const c) le h e = absurd (cc e)
+
+pub a_command : (results : ℕ) (o : Option ℕ) → 1 ≤ branch_size results o
+a_command results None = omega arith
+a_command results (Some n) = omega arith
 
 abbrev pub ArmsExist : Tree → List Slot → Type 0
 ArmsExist tree [] = Unit {0}
@@ -180,48 +180,34 @@ module _ (tree : Tree) (linked : IsLinked tree) (number : ℕ) (B : ℕ → Type
     two position depth o x a b small padded ra rb low high from to_ =
         set_simple tree linked number B start size position depth o x a b (Const 0) small padded ra rb (reads_const tree linked number B 0) (new_one x low high) (goes (suc position) (omega (arith, from)) to_)
 
+    -- the test whether a divisor is zero
+    zero_simple : (eqz : Op) (position depth x : ℕ) (a b : Operand) → depth ≤ 6 → bottom Mine ≤ x → x < Mine.limit → Readable tree linked number B b → start ≤ position → position + 2 ≤ stop
+        → SimpleAt position (checks depth (nonzero eqz) position x a b)
+    zero_simple eqz position depth x a b small low high rb from to_ =
+        let is_zero = two position depth eqz x b (Const 0) small (one_padded tree linked number B start size eqz) rb (reads_const tree linked number B 0) low high from (omega (arith, to_)) in
+        let test = test_simple tree linked number B start size (suc position) (variable x) 1 (suc (suc position)) (new_read x low high) (inl (omega arith)) (goes (suc (suc position)) (omega (arith, from)) (omega (arith, to_))) in
+        (is_zero, (test, tt))
+
     pub checks_simple : (check : Check) (position depth x : ℕ) (a b : Operand) → CheckFits check → depth ≤ 6 → bottom Mine ≤ x → x + check_new check ≤ Mine.limit → Readable tree linked number B a → Readable tree linked number B b
         → start ≤ position → position + check_size check ≤ stop → SimpleAt position (checks depth check position x a b)
     checks_simple free position depth x a b fits small low high ra rb from to_ = tt
-    checks_simple (nonzero eqz) position depth x a b fits small low high ra rb from to_ = (
-      two position depth eqz x b (Const 0) small (one_padded tree linked number B start size eqz) rb (reads_const tree linked number B 0) low (omega (arith, high)) from (omega (arith, to_)),
-      (
-        test_simple tree linked number B start size (suc position) (variable x) 1 (suc (suc position)) (new_read x low (omega (arith, high))) (inl (omega arith)) (goes (suc (suc position)) (omega (arith, from)) (omega (arith, to_))),
-        tt,
-      ),
-    )
-    checks_simple (quotient eqz eq least ones) position depth x a b fits small low high ra rb from to_ = (
-      two position depth eqz x b (Const 0) small (one_padded tree linked number B start size eqz) rb (reads_const tree linked number B 0) low (omega (arith, high)) from (omega (arith, to_)),
-      (
-        test_simple tree linked number B start size (suc position) (variable x) 1 (suc (suc position)) (new_read x low (omega (arith, high))) (inl (omega arith)) (goes (suc (suc position)) (omega (arith, from)) (omega (arith, to_))),
-        (
-          two (suc (suc position)) depth eq (suc x) a (Const least) small (two_padded tree linked number B start size eq (Const least) fits) ra (reads_const tree linked number B least) (omega (arith, low)) (omega (arith, high)) (omega (arith, from)) (omega (arith, to_)),
-          (
-            two (suc (suc (suc position))) depth eq (suc (suc x)) b (Const ones) small (two_padded tree linked number B start size eq (Const ones) fits) rb (reads_const tree linked number B ones) (omega (arith, low)) (omega (arith, high)) (omega (arith, from)) (omega (arith, to_)),
-            (
-              two (suc (suc (suc (suc position)))) depth op.I32And (suc (suc (suc x))) (variable (suc x)) (variable (suc (suc x))) small (two_padded tree linked number B start size op.I32And (variable (suc (suc x))) refl)
-                  (new_read (suc x) (omega (arith, low)) (omega (arith, high))) (new_read (suc (suc x)) (omega (arith, low)) (omega (arith, high))) (omega (arith, low)) (omega (arith, high)) (omega (arith, from)) (omega (arith, to_)),
-              (
-                test_simple tree linked number B start size (suc (suc (suc (suc (suc position))))) (variable (suc (suc (suc x)))) 2 (suc (suc (suc (suc (suc (suc position))))))
-                    (new_read (suc (suc (suc x))) (omega (arith, low)) (omega (arith, high))) (inl (omega arith)) (goes (suc (suc (suc (suc (suc (suc position)))))) (omega (arith, from)) (omega (arith, to_))),
-                tt,
-              ),
-            ),
-          ),
-        ),
-      ),
-    )
+    checks_simple (nonzero eqz) position depth x a b fits small low high ra rb from to_ = zero_simple eqz position depth x a b small low (omega (arith, high)) rb from (omega (arith, to_))
+    checks_simple (quotient eqz eq least ones) position depth x a b fits small low high ra rb from to_ =
+        let zero_test = zero_simple eqz position depth x a b small low (omega (arith, high)) rb from (omega (arith, to_)) in
+        let is_least = two (suc (suc position)) depth eq (suc x) a (Const least) small (two_padded tree linked number B start size eq (Const least) fits) ra (reads_const tree linked number B least) (omega (arith, low)) (omega (arith, high)) (omega (arith, from)) (omega (arith, to_)) in
+        let is_ones = two (suc (suc (suc position))) depth eq (suc (suc x)) b (Const ones) small (two_padded tree linked number B start size eq (Const ones) fits) rb (reads_const tree linked number B ones) (omega (arith, low)) (omega (arith, high)) (omega (arith, from)) (omega (arith, to_)) in
+        let are_both = two (suc (suc (suc (suc position)))) depth op.I32And (suc (suc (suc x))) (variable (suc x)) (variable (suc (suc x))) small (two_padded tree linked number B start size op.I32And (variable (suc (suc x))) refl)
+        (new_read (suc x) (omega (arith, low)) (omega (arith, high))) (new_read (suc (suc x)) (omega (arith, low)) (omega (arith, high))) (omega (arith, low)) (omega (arith, high)) (omega (arith, from)) (omega (arith, to_)) in
+        let test = test_simple tree linked number B start size (suc (suc (suc (suc (suc position))))) (variable (suc (suc (suc x)))) 2 (suc (suc (suc (suc (suc (suc position))))))
+        (new_read (suc (suc (suc x))) (omega (arith, low)) (omega (arith, high))) (inl (omega arith)) (goes (suc (suc (suc (suc (suc (suc position)))))) (omega (arith, from)) (omega (arith, to_))) in
+        (zero_test.0, (zero_test.1.0, (is_least, (is_ones, (are_both, (test, tt))))))
 
     -- arms of a table, one behind another
     pub arms_into : (position : ℕ) (takes ls : List ℕ) → start < position → position + branch_sizes Mine.results takes ls ≤ suc stop → AllInto tree linked number B start size stop goes (arms_from Mine.results takes position ls)
     arms_into position takes [] low high = tt
     arms_into position takes (l ∷ ls) low high =
-        let some = a_command (slice_get takes l) in
+        let some = a_command Mine.results (slice_get takes l) in
         (goes position low (omega (arith, high, some)), arms_into (position + branch_size Mine.results (slice_get takes l)) takes ls (omega (arith, low)) (omega (arith, high)))
-      where
-        a_command : (o : Option ℕ) → 1 ≤ branch_size Mine.results o
-        a_command None = omega arith
-        a_command (Some n) = omega arith
 
     pub arms_simple : (position next : ℕ) (open_ones : List Target) (stack : List Operand) (ls : List ℕ) → start ≤ position → position + branch_sizes Mine.results (takes_of open_ones) ls ≤ suc stop → next ≤ Mine.limit
         → AllReady tree linked number B open_ones → Ops next stack → SimpleAt position (arms (shape tree) number open_ones stack ls)
@@ -347,54 +333,44 @@ module _ (tree : Tree) (linked : IsLinked tree) (number : ℕ) (B : ℕ → Type
 
   pub grow_good : (start depth next : ℕ) (delta : Operand) → depth ≤ 6 → 1 ≤ c.memories → bottom Mine ≤ next → suc (suc next) < Mine.limit → Ranged (bottom Mine) next delta → B (shift 7 start)
       → LawfulPieceAt start (growth Mine.size Mine.reserve delta next (shift 1 next) (shift 2 next) start depth)
-  grow_good start depth next delta small some low high ranged ends = record {
-    each = (
-      (inner_set start op.I32Sub next (Const Mine.reserve) (variable Mine.size) (two_padded tree linked number B start 7 op.I32Sub (variable Mine.size) refl) (reads_const tree linked number B Mine.reserve) size_read (new next (omega arith) (omega (arith, high))) (omega arith) (omega arith)).lawful,
-      (
-        (inner_set (suc start) op.I32GtU (suc next) delta (variable next) (two_padded tree linked number B start 7 op.I32GtU (variable next) refl) delta_read (reads_own tree linked number B next (omega (arith, low)) (omega (arith, high))) (new (suc next) (omega arith) (omega (arith, high))) (omega arith) (omega arith)).lawful,
-        (
-          (test_simple tree linked number B start 7 (shift 2 start) (variable (suc next)) (shift 6 start) (shift 3 start) (reads_own tree linked number B (suc next) (omega (arith, low)) (omega (arith, high))) (inside (omega arith) (omega arith)) (inside (omega arith) (omega arith))).lawful,
-          (
-            (move_simple tree linked number B start 7 (shift 3 start) depth (suc (suc next)) (variable Mine.size) small size_read (new (suc (suc next)) (omega arith) high) (inside (omega arith) (omega arith))).lawful,
-            (
-              record {
-                is = two_padded tree linked number B start 7 op.I32Add delta refl;
-                rule4 = record {
-                  reads = λ y i. elim i [ inl e ↦ size_read y e | inr j ↦ elim j [ inl e ↦ delta_read y e | inr k ↦ elim k [ inl e ↦ absurd e | inr l ↦ absurd l ] ] ];
-                  writes = inl (omega (arith, size_static some, length-map tree.globals global_def, length-map tree.memories memory_def));
-                };
-                rule6 = small;
-                targets = λ q h. absurd h;
-                falls = inr (inside (omega arith) (omega arith));
-              },
-              (
-                (jump_simple tree linked number B start 7 (shift 5 start) (shift 7 start) (inr (inl ends))).lawful,
-                ((move_simple tree linked number B start 7 (shift 6 start) depth (suc (suc next)) (Const 4294967295) small (reads_const tree linked number B 4294967295) (new (suc (suc next)) (omega arith) high) (inr (inl ends))).lawful, tt),
-              ),
-            ),
-          ),
-        ),
-      ),
-    );
-    some = omega arith;
-    sort = grows (record {
-      depth = depth;
-      next = next;
-      delta = delta;
-      memory = Mine.memory;
-      size = Mine.size;
-      size_is = omega (arith, length-map tree.globals global_def);
-      reserve = Mine.reserve;
-      reserved = reserved_is;
-      are = refl;
-      own_r = new_local tree linked number B next low (omega (arith, high));
-      own_t = new_local tree linked number B (suc next) (omega (arith, low)) (omega (arith, high));
-      own_v = new_local tree linked number B (suc (suc next)) (omega (arith, low)) high;
-      apart_r = not_new (bottom Mine) next next delta (omega arith) ranged;
-      apart_t = not_new (bottom Mine) next (suc next) delta (omega arith) ranged;
-      apart_v = not_new (bottom Mine) next (suc (suc next)) delta (omega arith) ranged;
-    });
-  }
+  grow_good start depth next delta small some low high ranged ends =
+      let room = inner_set start op.I32Sub next (Const Mine.reserve) (variable Mine.size) (two_padded tree linked number B start 7 op.I32Sub (variable Mine.size) refl) (reads_const tree linked number B Mine.reserve) size_read (new next (omega arith) (omega (arith, high))) (omega arith) (omega arith) in
+      let exceeds = inner_set (suc start) op.I32GtU (suc next) delta (variable next) (two_padded tree linked number B start 7 op.I32GtU (variable next) refl) delta_read (reads_own tree linked number B next (omega (arith, low)) (omega (arith, high))) (new (suc next) (omega arith) (omega (arith, high))) (omega arith) (omega arith) in
+      let test = test_simple tree linked number B start 7 (shift 2 start) (variable (suc next)) (shift 6 start) (shift 3 start) (reads_own tree linked number B (suc next) (omega (arith, low)) (omega (arith, high))) (inside (omega arith) (omega arith)) (inside (omega arith) (omega arith)) in
+      let old = move_simple tree linked number B start 7 (shift 3 start) depth (suc (suc next)) (variable Mine.size) small size_read (new (suc (suc next)) (omega arith) high) (inside (omega arith) (omega arith)) in
+      let added : Lawful tree linked number B start 7 (shift 4 start) (set_command depth op.I32Add Mine.size (variable Mine.size) delta) = record {
+        is = two_padded tree linked number B start 7 op.I32Add delta refl;
+        rule4 = record {
+          reads = λ y i. elim i [ inl e ↦ size_read y e | inr j ↦ elim j [ inl e ↦ delta_read y e | inr k ↦ elim k [ inl e ↦ absurd e | inr l ↦ absurd l ] ] ];
+          writes = inl (omega (arith, size_static some, length-map tree.globals global_def, length-map tree.memories memory_def));
+        };
+        rule6 = small;
+        targets = λ q h. absurd h;
+        falls = inr (inside (omega arith) (omega arith));
+      } in
+      let jump = jump_simple tree linked number B start 7 (shift 5 start) (shift 7 start) (inr (inl ends)) in
+      let refused = move_simple tree linked number B start 7 (shift 6 start) depth (suc (suc next)) (Const 4294967295) small (reads_const tree linked number B 4294967295) (new (suc (suc next)) (omega arith) high) (inr (inl ends)) in
+      record {
+        each = (room.lawful, (exceeds.lawful, (test.lawful, (old.lawful, (added, (jump.lawful, (refused.lawful, tt)))))));
+        some = omega arith;
+        sort = grows (record {
+          depth = depth;
+          next = next;
+          delta = delta;
+          memory = Mine.memory;
+          size = Mine.size;
+          size_is = omega (arith, length-map tree.globals global_def);
+          reserve = Mine.reserve;
+          reserved = reserved_is;
+          are = refl;
+          own_r = new_local tree linked number B next low (omega (arith, high));
+          own_t = new_local tree linked number B (suc next) (omega (arith, low)) (omega (arith, high));
+          own_v = new_local tree linked number B (suc (suc next)) (omega (arith, low)) high;
+          apart_r = not_new (bottom Mine) next next delta (omega arith) ranged;
+          apart_t = not_new (bottom Mine) next (suc next) delta (omega arith) ranged;
+          apart_v = not_new (bottom Mine) next (suc (suc next)) delta (omega arith) ranged;
+        });
+      }
     where
       size_read : Readable tree linked number B (variable Mine.size)
       size_read = reads_static tree linked number B Mine.size (size_static some)

@@ -1,9 +1,9 @@
 -- The parts of the program of a linked tree: where they stand, and what its memories are at first.
-use Rattle.std.proofs.Common.{◌≡◌, ℕ, zero, suc, ◌+◌, List, [], ◌∷◌, length, map, Option, Some, None, slice_get, unwrap_or, refl, sym, ap, ap₂, ◌∙◌, subst}
+use Rattle.std.proofs.Common.{◌≡◌, ℕ, zero, suc, ◌+◌, List, [], ◌∷◌, length, map, Option, Some, None, slice_get, unwrap_or, refl, sym, ap, ap₂, ◌∙◌}
 use Rattle.std.specs.Prelude.{option_map, option_and_then}
 use Rattle.std.specs.List.{zip}
 use Rattle.std.proofs.lemmas.List.{length-map}
-use Rattle.std.proofs.lemmas.Option.{slice_get-map}
+use Rattle.std.proofs.lemmas.Option.{same_Some, slice_get-map}
 use Rattle.std.proofs.lemmas.Slice.Zip.{firsts-zip}
 use Rattle.bl_base.proofs.Lists.{all_get}
 use Rattle.bl_base.specs.declared.names.Label.{Label}
@@ -59,14 +59,7 @@ module _ (tree : Tree) where
     pub params_of_type : (function : Function) (type : Signature) → IsFunction tree function → slice_get tree.types function.type_index ≡ Some type
         → map (λ p. p.kind) (function_def tree function).params ≡ type.params
     params_of_type function type is typed =
-        ap (λ o. map (λ p. p.kind) (params_by o function.labels)) typed ∙ kinds_are type function.labels (is.labels ∙ ap length (some_type is))
-      where
-        IsThat : Option Signature → Type 0
-        IsThat None = ⊥
-        IsThat (Some t) = t ≡ type
-
-        some_type : (is : IsFunction tree function) → is.type.params ≡ type.params
-        some_type is = ap (λ t. t.params) (subst IsThat (sym typed ∙ is.exists) refl)
+        ap (λ o. map (λ p. p.kind) (params_by o function.labels)) typed ∙ kinds_are type function.labels (is.labels ∙ ap (λ t. length t.params) (same_Some is.type type (sym is.exists ∙ typed)))
 
     pub params_number : (number : ℕ) → params_of (low_tree tree) number ≡ (shape tree number).params
     params_number number =

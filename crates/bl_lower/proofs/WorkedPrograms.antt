@@ -1,5 +1,5 @@
 -- Worked programs.
-use Rattle.std.proofs.Common.{◌≡◌, ℕ, zero, suc, List, [], ◌∷◌, ◌++◌, length, map, drop, replicate, true, Some, None, slice_get, refl}
+use Rattle.std.proofs.Common.{◌≡◌, ℕ, zero, suc, List, [], ◌∷◌, ◌++◌, length, map, drop, replicate, true, Some, None, refl}
 use Rattle.bl_base.specs.declared.names.ValueType.TheVariants as value
 use Rattle.bl_ops.specs.declared.op.Op.TheVariants as op
 use Rattle.bl_wasm.specs.declared.instruction.Instr.{Instr}
@@ -48,23 +48,12 @@ swapped = refl
 abbrev count : Tree
 count = one (record { params = value.I32 ∷ []; results = value.I32 ∷ [] }) (LocalGet 0 ∷ Loop (Index 0) ∷ I32Const 4294967295 ∷ Integer op.I32Add ∷ LocalTee 0 ∷ LocalGet 0 ∷ BrIf 0 ∷ End ∷ [])
 
-counted : length (commands count) ≡ 22
-counted = refl
-
-entry_set : slice_get (commands count) 9 ≡ Some (move 0 3 (variable 2))
-entry_set = refl
-
-loop_jump : slice_get (commands count) 10 ≡ Some (jump_to 11)
-loop_jump = refl
-
-branch_set : slice_get (commands count) 16 ≡ Some (move 1 3 (variable 6))
-branch_set = refl
-
-branch_jump : slice_get (commands count) 17 ≡ Some (jump_to 10)
-branch_jump = refl
-
-end_set : slice_get (commands count) 18 ≡ Some (move 1 4 (variable 6))
-end_set = refl
+count_commands : drop 7 (commands count)
+    ≡ jump_to 8 ∷ move 0 2 (variable 0) ∷ move 0 3 (variable 2) ∷ jump_to 11
+    ∷ move 1 5 (Const 4294967295) ∷ set 1 op.I32Add 6 (variable 3) (variable 5) ∷ move 1 0 (variable 6) ∷ move 1 7 (variable 0)
+    ∷ test_of (variable 7) 16 18 ∷ move 1 3 (variable 6) ∷ jump_to 10
+    ∷ move 1 4 (variable 6) ∷ jump_to 20 ∷ out_of 0 0 (variable 4) ∷ command.Ret ∷ []
+count_commands = refl
 
 -- k: the returns run 2 * 1 + 2 commands
 bound : step_bound count ≡ 4
@@ -100,15 +89,6 @@ at_offset offset = record { alignment = 2; offset = offset }
 abbrev twice : Tree
 twice = with_memory (i32 1) [] (LocalGet 0 ∷ Load access.I32Load (at_offset 0) ∷ Load access.I32Load (at_offset 0) ∷ [])
 
-twice_size : length (commands twice) ≡ 17
-twice_size = refl
-
-first_load : slice_get (commands twice) 11 ≡ Some (load_of 0 access.I32Load 0 5 0 (variable 3))
-first_load = refl
-
-second_load : slice_get (commands twice) 14 ≡ Some (load_of 0 access.I32Load 0 7 0 (variable 5))
-second_load = refl
-
 -- three loads: 22 commands
 three_loads : length (commands (with_memory (i32 2) [] (LocalGet 0 ∷ Load access.I32Load (at_offset 0) ∷ LocalGet 1 ∷ Load access.I32Load (at_offset 0) ∷ Integer op.I32Add ∷ Load access.I32Load (at_offset 0) ∷ []))) ≡ 22
 three_loads = refl
@@ -132,9 +112,6 @@ ran program (suc n) next = next
 
 abbrev inc : Tree
 inc = one (i32 1) (LocalGet 0 ∷ I32Const 1 ∷ Integer op.I32Add ∷ [])
-
-inc_size : length (commands inc) ≡ 13
-inc_size = refl
 
 inc_runs : ran (low_tree inc) 6 (goes (opening (low_tree inc) 0 (record { args = 4294967295 ∷ []; patches = [] }))) ≡ ends (returned (0 ∷ []) [])
 unfolding meaning

@@ -22,7 +22,7 @@ use Rattle.bl_machine.specs.declared.machine.Machine.{Machine}
 use Rattle.bl_machine.specs.declared.machine.Progress.TheVariants.{Returned}
 use Rattle.bl_machine.proofs.BlockSimulation.{either}
 use Rattle.bl_machine.proofs.StackLemmas.{Carries, unwound, unwound_is, last_is, front_is, on_top, on_others}
-use Rattle.bl_machine.proofs.StraightLineSimulation.{Then, popping}
+use Rattle.bl_machine.proofs.StraightLineSimulation.{Then, popping, with_upper}
 
 -- ---- labels
 
@@ -203,21 +203,10 @@ module _ (tree : Tree) where
         memories = is.memories;
         globals = is.globals;
         lower = lower;
-        current = record {
-          exists = ia.exists;
-          number = ia.number;
-          place = ia.place;
-          arity = ia.arity;
-          values = ap (λ s. s ++ reverse results) ia.values ∙ sym (on_others lower.values results (values_of frame))
-              ∙ ap (λ v. lower.values ++ reverse v) (sym (append_assoc results frame.values (under frame.labels)));
-          locals = ia.locals;
-          exits = ia.exits;
-          labels = ia.labels;
-          are_exits = ia.are_exits;
-          values_below = ia.values_below;
-          locals_below = ia.locals_below;
-          labels_below = ia.labels_below;
-        };
+        current = with_upper tree frame (results ++ frame.values) a lower is.lower bare.stack ia (
+            ap (λ s. s ++ reverse results) ia.values ∙ sym (on_others lower.values results (values_of frame))
+            ∙ ap (λ v. lower.values ++ reverse v) (sym (append_assoc results frame.values (under frame.labels)))
+            );
         callers = subst (λ cs. AreActivations tree frames cs lower) (sym (reverse-reverse others)) others_are;
       }
 

@@ -20,14 +20,14 @@ use Rattle.bl_base.proofs.Lists.{zip_length}
 use Rattle.bl_machine.specs.Bodies.{body_of}
 use Rattle.bl_machine.specs.Jumps.{counted}
 use Rattle.bl_machine.specs.Machines.{trapped, most_callers, called, entered}
-use Rattle.bl_machine.specs.MatchStates.{Stacks, under, AreActivations, IsState, IsEntry, simulates}
+use Rattle.bl_machine.specs.MatchStates.{stacks_of, Stacks, under, AreActivations, IsState, IsEntry, simulates}
 use Rattle.bl_machine.specs.Transitions.{call_of, entered_at}
 use Rattle.bl_machine.specs.declared.body.Body.{Body}
 use Rattle.bl_machine.specs.declared.machine.Activation.{Activation}
 use Rattle.bl_machine.specs.declared.machine.Machine.{Machine}
 use Rattle.bl_machine.proofs.LocalCounts.{locals_counted}
 use Rattle.bl_machine.proofs.StackLemmas.{on_others, below_top, topmost_are}
-use Rattle.bl_machine.proofs.StraightLineSimulation.{Then}
+use Rattle.bl_machine.proofs.StraightLineSimulation.{Then, with_upper}
 
 module _ (tree : Tree) where
   abbrev pub bodies : List Body
@@ -131,20 +131,7 @@ module _ (tree : Tree) where
           labels = refl;
           callers_are = subst (λ others. AreActivations tree (caller params state ∷ state.callers) others upper) (sym (reverse-append m.callers (m.current ∷ []))) (
             is.lower,
-            record {
-              exists = is.current.exists;
-              number = is.current.number;
-              place = is.current.place;
-              arity = is.current.arity;
-              values = stack_below;
-              locals = is.current.locals;
-              exits = is.current.exits;
-              labels = is.current.labels;
-              are_exits = is.current.are_exits;
-              values_below = is.current.values_below;
-              locals_below = is.current.locals_below;
-              labels_below = is.current.labels_below;
-            },
+            with_upper tree state.frame (caller params state).values m.current is.lower (stacks_of m) upper.values is.current stack_below,
             is.callers,
           );
         },

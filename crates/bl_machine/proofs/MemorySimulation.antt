@@ -41,20 +41,7 @@ module _ (tree : Tree) where
     memories = ap (λ memories. set memories number memory) is.memories;
     globals = is.globals;
     lower = is.lower;
-    current = record {
-      exists = is.current.exists;
-      number = is.current.number;
-      place = is.current.place;
-      arity = is.current.arity;
-      values = is.current.values;
-      locals = is.current.locals;
-      exits = is.current.exits;
-      labels = is.current.labels;
-      are_exits = is.current.are_exits;
-      values_below = is.current.values_below;
-      locals_below = is.current.locals_below;
-      labels_below = is.current.labels_below;
-    };
+    current = is.current;
     callers = is.callers;
   }
 

@@ -8,12 +8,13 @@ use Rattle.bl_ops.specs.Numerics.{meaning, traps}
 use Rattle.bl_ops.specs.declared.op.Op.{Op}
 use Rattle.bl_ops.specs.declared.op.Op.TheVariants as op
 use Rattle.bl_wasm.specs.declared.linked.Tree.{Tree}
-use Rattle.bl_reduce.specs.Configurations.{State, Config, go, known, pop, pop_from, push as push_value, with_values}
+use Rattle.bl_reduce.specs.Configurations.{Frame, State, Config, go, known, pop, pop_from, push as push_value, with_values}
 use Rattle.bl_reduce.specs.Numeric.{give as give_value, apply}
 use Rattle.bl_reduce.specs.Variables.{local_get, local_set, local_tee, set_local, global_get, global_set, set_global}
 use Rattle.bl_machine.specs.Machines.{Stepped, running, top, popped, push, give, local_at, with_local, global_at, with_global}
-use Rattle.bl_machine.specs.MatchStates.{under, values_of, IsState, simulates}
+use Rattle.bl_machine.specs.MatchStates.{Stacks, stacks_of, under, values_of, IsActivation, IsState, simulates}
 use Rattle.bl_machine.specs.Transitions.{selected, operated_on}
+use Rattle.bl_machine.specs.declared.machine.Activation.{Activation}
 use Rattle.bl_machine.specs.declared.machine.Machine.{Machine}
 use Rattle.bl_machine.proofs.StackLemmas.{last_is, front_is, on_top}
 
@@ -22,6 +23,24 @@ module _ (tree : Tree) where
   abbrev pub Then : Stepped → Next Config → Type 0
   Then stepped next = HasStep next → simulates tree stepped next
 
+  -- a function with other values above its innermost label
+  pub with_upper : (frame : Frame) (values : List ℕ) (a : Activation) (lower upper : Stacks) (stack : List ℕ) → IsActivation tree frame a lower upper
+      → stack ≡ lower.values ++ reverse (values ++ under frame.labels) → IsActivation tree (record frame { values = values }) a lower (record upper { values = stack })
+  with_upper frame values a lower upper stack is e = record {
+    exists = is.exists;
+    number = is.number;
+    place = is.place;
+    arity = is.arity;
+    values = e;
+    locals = is.locals;
+    exits = is.exits;
+    labels = is.labels;
+    are_exits = is.are_exits;
+    values_below = is.values_below;
+    locals_below = is.locals_below;
+    labels_below = is.labels_below;
+  }
+
   -- other values above the innermost label
   pub with_stack : (m : Machine) (state : State) (is : IsState tree m state) (values stack : List ℕ) → stack ≡ is.lower.values ++ reverse (values ++ under state.frame.labels)
       → IsState tree (record m { stack = stack }) (with_values values state)
@@ -29,20 +48,7 @@ module _ (tree : Tree) where
     memories = is.memories;
     globals = is.globals;
     lower = is.lower;
-    current = record {
-      exists = is.current.exists;
-      number = is.current.number;
-      place = is.current.place;
-      arity = is.current.arity;
-      values = e;
-      locals = is.current.locals;
-      exits = is.current.exits;
-      labels = is.current.labels;
-      are_exits = is.current.are_exits;
-      values_below = is.current.values_below;
-      locals_below = is.current.locals_below;
-      labels_below = is.current.labels_below;
-    };
+    current = with_upper state.frame values m.current is.lower (stacks_of m) stack is.current e;
     callers = is.callers;
   }
 
@@ -194,20 +200,7 @@ module _ (tree : Tree) where
     memories = is.memories;
     globals = ap (λ globals. set globals x value) is.globals;
     lower = is.lower;
-    current = record {
-      exists = is.current.exists;
-      number = is.current.number;
-      place = is.current.place;
-      arity = is.current.arity;
-      values = is.current.values;
-      locals = is.current.locals;
-      exits = is.current.exits;
-      labels = is.current.labels;
-      are_exits = is.current.are_exits;
-      values_below = is.current.values_below;
-      locals_below = is.current.locals_below;
-      labels_below = is.current.labels_below;
-    };
+    current = is.current;
     callers = is.callers;
   }
 

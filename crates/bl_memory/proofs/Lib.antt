@@ -1,2 +1,1 @@
 pub mod PatchLemmas
-pub mod Writes

@@ -10,11 +10,11 @@ use Rattle.bl_base.specs.Fits.{LiesIn, PatchFits}
 use Rattle.bl_base.specs.Runs.{MemoryState}
 use Rattle.bl_base.specs.declared.start.Patch.{Patch}
 use Rattle.bl_base.proofs.Lists.{zip_get, zip_set, zip_map, zip_images}
+use Rattle.bl_bytes.proofs.OverlayLemmas.{length_write}
 use Rattle.bl_wasm.specs.Linked.{IsMemory}
 use Rattle.bl_wasm.specs.declared.linked.Memory.{Memory}
 use Rattle.bl_reduce.specs.Outcomes.{first_memory}
 use Rattle.bl_memory.specs.Spaces.{no_memory, space_at, patched_once, patched_all}
-use Rattle.bl_memory.proofs.Writes.{over_length}
 
 -- a memory has exactly the bytes of so many pages
 abbrev Sized : ℕ → MemoryState → Type 0
@@ -43,7 +43,7 @@ module _ (sizes : List ℕ) where
           let ruled : patched states patch ≡ set states patch.memory new = ap (λ o. patch_over o states patch) found.1 in
           record {
             same = once ∙ sym ruled;
-            sized = subst (AllZip Sized sizes) (sym ruled) (zip_set Sized sizes states patch.memory pages new h e (over_length patch.offset patch.bytes state.bytes le ∙ size));
+            sized = subst (AllZip Sized sizes) (sym ruled) (zip_set Sized sizes states patch.memory pages new h e (length_write state patch.offset patch.bytes le ∙ size));
           }
 
   all_patched : (patches : List Patch) (states : List MemoryState) → All (PatchFits sizes) patches → AllZip Sized sizes states → patched_all states patches ≡ fold patched states patches

@@ -1,5 +1,5 @@
 -- Bytes of memories that are read and written where they exist.
-use Rattle.std.specs.Prelude.{ℕ, ◌+◌, nat_le, if◌then◌else◌, List, [], ◌++◌, length, take, drop, set, slice_index_or}
+use Rattle.std.specs.Prelude.{ℕ, ◌+◌, nat_le, if◌then◌else◌, List, [], length, set, slice_index_or}
 use Rattle.std.specs.List.{fold}
 use Rattle.bl_base.specs.Bytes.{bytes_of, number_of, write}
 use Rattle.bl_base.specs.Runs.{MemoryState}
@@ -7,10 +7,6 @@ use Rattle.bl_base.specs.declared.start.Patch.{Patch}
 use Rattle.bl_ops.specs.Access.{extended, narrowed, width_of}
 use Rattle.bl_ops.specs.declared.access.AccessKind.{AccessKind}
 use Rattle.bl_reduce.specs.Memory.{read}
-
--- bytes with others over them from a place on
-abbrev pub over : ℕ → List ℕ → List ℕ → List ℕ
-over from new bytes = take from bytes ++ new ++ drop (from + length new) bytes
 
 -- a memory of no page, where no memory is
 abbrev pub no_memory : MemoryState

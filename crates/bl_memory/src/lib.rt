@@ -2,7 +2,6 @@
 //! start.
 #![tactic(auto)]
 
-mod space;
 mod spaces;
 
 pub use spaces::Spaces;

@@ -9,8 +9,8 @@ ghost use Rattle.bl_reduce.specs.Outcomes.{first_memory};
 ghost use Rattle.bl_wasm.specs.Linked.{IsMemory};
 ghost use Rattle.bl_memory.specs.Spaces.{loaded_at, patched_all, patched_once, space_at, stored_at};
 
-use crate::space::Space;
 use bl_base::{List, NoMemory, Pages, Patch};
+use bl_bytes::{Bytes, Space};
 use bl_ops::AccessKind;
 use bl_wasm::Memory;
 use std::alloc::Global;
@@ -39,7 +39,8 @@ impl Spaces {
     {
         let mut cells = Vec::new(alloc);
         for memory in memories {
-            cells.push(Space::of(alloc, memory)?)?;
+            let bytes = Bytes::copy_of(alloc, memory.bytes.as_slice())?;
+            cells.push(Space::of(memory.pages, bytes))?;
         }
         Ok(Spaces { cells })
     }

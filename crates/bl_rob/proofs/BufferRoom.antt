@@ -5,7 +5,7 @@ use Rattle.std.specs.Option.{ok_or}
 use Rattle.std.proofs.lemmas.Bool.{ltb-true}
 use Rattle.std.proofs.lemmas.List.{length-append}
 use Rattle.bl_cmd.specs.declared.definitions.ProgramParts.{ProgramParts as Program}
-use Rattle.bl_rob.specs.CallResults.{ComesBy, NeedsMemory, Steps, Executes}
+use Rattle.bl_rob.specs.CallResults.{ComesBy, Steps, Executes}
 use Rattle.bl_rob.specs.Machines.{State, Fetched, Straight, Branch, Nowhere, before, fetch, guess, predict, act, turned, acted, exec_entry, retire_work, retire, has_room, directive_step}
 use Rattle.bl_rob.specs.declared.directive.Directive.{Directive}
 use Rattle.bl_rob.specs.declared.directive.Directive.TheVariants.{Fetch, Predict, Exec, Retire}
@@ -114,9 +114,6 @@ module _ (most : ℕ) where
   comes_fit step needs old new (Ok observation) fits holds h = subst (Holds Fits) h holds
   comes_fit step needs old new (Err NotEnabled) fits holds h = subst Fits (sym h.1) fits
   comes_fit step needs old new (Err Memory) fits holds h = subst Fits (sym h.1) fits
-
-  pub steps_fit : (program : Program) (old new : State) (d : Directive) (result : Result Observation StepError) → Fits old → Steps most program d old result new → Fits new
-  steps_fit program old new d result fits = comes_fit (directive_step most program old d) (NeedsMemory d) old new result fits (step_fits program old d fits)
 
   -- what executing has come to, as a step
   pub executes : (program : Program) (old new : State) (n : ℕ) (result : Option Observation) (answer : Result Observation StepError) → Executes program n old result new

@@ -7,6 +7,7 @@ use Rattle.bl_cmd.specs.declared.definitions.ProgramParts.{ProgramParts as Progr
 use Rattle.bl_rob.specs.Machines.{State, directive_step, opening}
 use Rattle.bl_rob.specs.Observations.{Rules, Observed, Observes, ObservesBy, after_by, go_on, observed, observed_by, reached, see}
 use Rattle.bl_rob.specs.declared.directive.Directive.{Directive}
+use Rattle.bl_rob.specs.declared.directive.Directive.TheVariants.{Fetch}
 use Rattle.bl_rob.specs.declared.directive.Observation.{Observation}
 
 module _ {O : Type 0} (rules : Rules O) (directives : List Directive) (old : State) where
@@ -75,6 +76,19 @@ module _ {O : Type 0} (rules : Rules O) (directives : List Directive) (old : Sta
         };
         leads = sym (ap (λ ds. after_by rules ds s) none) ∙ h.leads;
       }
+
+-- a step of a loop over directives, whose program is the one that it began with
+module _ {O : Type 0} (rules : Program → Rules O) (directives : List Directive) (old : State) (program q : Program) (same : q ≡ program) (i : ℕ) (inside : i < length directives) (made : List O) (s : State) (h : SoFar (rules program) directives old i made s) where
+  pub more_by : (t : State) (observation : O) (these : List O) → rules q s (get_or directives i Fetch) ≡ Some (t, observation) → these ≡ made ++ observation ∷ []
+      → SoFar (rules program) directives old (i + 1) these t
+  more_by t observation these step is =
+      subst (λ these. SoFar (rules program) directives old (i + 1) these t) (sym is)
+      (one_more (rules program) directives old i (get_or directives i Fetch) Fetch inside refl made s h t observation (subst (λ p. rules p s (get_or directives i Fetch) ≡ Some (t, observation)) same step))
+
+  pub refused_by : (t : State) → (rules q s (get_or directives i Fetch) ≡ None) × (t ≡ s) → ObservesBy (rules program) directives old (record { made = made; refused = Some (i + 1) }) t
+  refused_by t refused =
+      subst (ObservesBy (rules program) directives old (record { made = made; refused = Some (i + 1) })) (sym refused.1)
+      (refused_here (rules program) directives old i (get_or directives i Fetch) Fetch inside refl made s h (subst (λ p. rules p s (get_or directives i Fetch) ≡ None) same refused.0))
 
 -- what is observed of a machine from its opening is what is observed of the function's run
 pub observed_so_by : {O : Type 0} (rules : Program → Rules O) (program q : Program) (function : ℕ) (start : Start) (directives : List Directive) (old new : State) (seen : Observed O)

@@ -6,8 +6,8 @@ ghost use Rattle.bl_ops.specs.Access.{extended, is_load, width_of};
 use crate::chain::Chain;
 use crate::directive::Observation;
 use bl_base::Trap;
+use bl_bytes::Bytes;
 use bl_ops::{AccessKind, Op, extend};
-use bl_seq::Space;
 use std::marker::Model;
 
 /// A variable at a depth.
@@ -72,7 +72,7 @@ impl LoadKind {
     }
 
     /// What it loads from a place on.
-    pub fn load(&self, space: &Space, from: usize) -> u64
+    pub fn load(&self, space: &Bytes, from: usize) -> u64
         requires { from < 2 ^ 61 }
         ensures { result ≡ loaded self.now space.now from }
     {

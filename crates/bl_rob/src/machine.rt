@@ -14,8 +14,9 @@ use crate::fetch::entry_of;
 use crate::front::Front;
 use crate::visible::{guards, has_guard, has_store, visible_of};
 use bl_base::{NoMemory, Start};
+use bl_bytes::Bytes;
 use bl_ops::{AccessKind, Op, eval};
-use bl_seq::{Layout, Registers, Space, begin};
+use bl_seq::{Layout, Registers, begin};
 use std::alloc::Global;
 
 /// The machine between two steps.
@@ -28,7 +29,7 @@ pub struct Machine {
     /// The registers.
     pub registers: Registers,
     /// The bytes of all memories.
-    pub space: Space,
+    pub space: Bytes,
     /// How many entries were retired.
     pub retired: u64,
 }

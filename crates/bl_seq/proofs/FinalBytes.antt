@@ -18,7 +18,7 @@ use Rattle.bl_cmd.specs.Programs.{IsProgram}
 use Rattle.bl_cmd.specs.Rules.{IsMemory, IsWellFormed}
 use Rattle.bl_cmd.specs.Steps.{Plain, Registers, depth, effective, perform, plain_step, ret, states, states_from, to, value_of}
 use Rattle.bl_cmd.specs.declared.command.Command.{Command}
-use Rattle.bl_cmd.specs.declared.command.Command.TheVariants.{Set, Load, Store, Test, Jump, Arg, Call, Out, Ret, Trap}
+use Rattle.bl_cmd.specs.declared.command.Command.TheVariants.{Set, Load, Store, Test, Call, Ret, Trap}
 use Rattle.bl_cmd.specs.declared.definitions.MemoryDef.{MemoryDef}
 use Rattle.bl_cmd.specs.declared.definitions.ProgramParts.{ProgramParts as Program}
 use Rattle.bl_seq.specs.FinalMemories.{EndsWhole, IsWhole, memories_at, pages_at}
@@ -26,7 +26,7 @@ use Rattle.bl_seq.specs.Machines.{RunsTo}
 use Rattle.bl_seq.specs.InitialMemories.{AreSized}
 use Rattle.bl_seq.specs.OwnMemory.{IsReached}
 use Rattle.bl_seq.proofs.OwnSizes.{sized, whole}
-use Rattle.bl_seq.proofs.Spaces.{overlay_length}
+use Rattle.bl_bytes.proofs.OverlayLemmas.{overlay_length}
 use Rattle.bl_seq.proofs.InitialMachine.{lies_inside, sized_first, sized_patched}
 
 module _ (program : Program) where
@@ -46,17 +46,12 @@ module _ (program : Program) where
 
   ends_by : (s : Plain) (command : Option Command) (o : Outcome) → IsEnd (perform program command s) o → memories_at o ≡ states program s
   ends_by s None o h = absurd h
-  ends_by s (Some (Set m op x a b c)) o h = absurd h
-  ends_by s (Some (Load m kind k x offset a)) o h = absurd h
-  ends_by s (Some (Store kind k offset a b)) o h = absurd h
   ends_by s (Some (Test cond one other)) o h = absurd (tested_ends s one.0 other.0 (value_of program cond s % 2 ^ 32 == 0) o h)
-  ends_by s (Some (Jump p)) o h = absurd h
-  ends_by s (Some (Arg m callee i a)) o h = absurd h
   ends_by s (Some (Call callee)) o h =
       called_ends s (record s { position = entry_of program callee; chain = suc s.position ∷ s.chain }) (nat_lt (depth s) most_calls) o h
-  ends_by s (Some (Out m i a)) o h = absurd h
   ends_by s (Some Ret) o h = ret_ends s.chain s o h
   ends_by s (Some (Trap kind)) o h = ap memories_at (sym h)
+  ends_by s (Some _) o h = absurd h
 
   -- ---- a step keeps the number of bytes
 
@@ -78,13 +73,11 @@ module _ (program : Program) where
   kept_by s t (Some (Load m kind k x offset a)) h = ap (λ (x : Plain). length x.space) (sym h)
   kept_by s t (Some (Store kind k offset a b)) h = ap (λ (x : Plain). length x.space) (sym h) ∙ overlay_length (effective program k offset (value_of program a s)) _ s.space
   kept_by s t (Some (Test cond one other)) h = tested_keeps s t one.0 other.0 (value_of program cond s % 2 ^ 32 == 0) h
-  kept_by s t (Some (Jump p)) h = ap (λ (x : Plain). length x.space) (sym h)
-  kept_by s t (Some (Arg m callee i a)) h = ap (λ (x : Plain). length x.space) (sym h)
   kept_by s t (Some (Call callee)) h =
       called_keeps s t (record s { position = entry_of program callee; chain = suc s.position ∷ s.chain }) (trapped trap_kind.StackExhausted (states program s)) (nat_lt (depth s) most_calls) refl h
-  kept_by s t (Some (Out m i a)) h = ap (λ (x : Plain). length x.space) (sym h)
   kept_by s t (Some Ret) h = ret_keeps s.chain s t h
   kept_by s t (Some (Trap kind)) h = absurd h
+  kept_by s t (Some _) h = ap (λ (x : Plain). length x.space) (sym h)
 
   comes_keeps : (n : ℕ) (c d : Plain) → StepsTo (plain_step program) n c d → length d.space ≡ length c.space
   comes_keeps zero c d h = ap (λ (x : Plain). length x.space) (sym h)

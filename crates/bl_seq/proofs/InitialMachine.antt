@@ -5,7 +5,7 @@ use Rattle.std.specs.List.{All, fold}
 use Rattle.std.proofs.lemmas.List.Elements.{All-get_or}
 use Rattle.std.proofs.Math.Seq.{drop-cons}
 use Rattle.std.proofs.lemmas.Bool.{ltb-true, ltb-false}
-use Rattle.std.proofs.lemmas.List.{length-append, length-drop, length-take, length-replicate}
+use Rattle.std.proofs.lemmas.List.{length-replicate}
 use Rattle.bl_base.specs.Bytes.{patch_over, patched, write}
 use Rattle.bl_base.specs.Fits.{LiesIn, PatchFits}
 use Rattle.bl_base.specs.Runs.{MemoryState}
@@ -22,12 +22,9 @@ use Rattle.bl_cmd.specs.declared.definitions.ProgramParts.{ProgramParts as Progr
 use Rattle.bl_seq.specs.RegisterTrees.{File, register_at, filled}
 use Rattle.bl_seq.specs.InitialMemories.{IsSized, AreSized, LiesInside}
 use Rattle.bl_seq.proofs.RegisterWrites.{fill_before, fill_apart, fill_behind}
-use Rattle.bl_seq.proofs.Spaces.{overlay_length}
+use Rattle.bl_bytes.proofs.OverlayLemmas.{length_write, overlay_length}
 
 -- ---- memories
-
-length_write : (state : MemoryState) (address : ℕ) (new : List ℕ) → address + length new ≤ length state.bytes → length (write state address new).bytes ≡ length state.bytes
-length_write state address new le = simp (length-append, length-take, length-drop) (omega arith)
 
 length_rows : (rows : List MemRow) (bytes : List ℕ) → length (fold with_row bytes rows) ≡ length bytes
 length_rows [] bytes = refl

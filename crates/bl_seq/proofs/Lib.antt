@@ -6,7 +6,6 @@ pub mod OwnAccesses
 pub mod OwnSizes
 pub mod OwnSteps
 pub mod OwnWrites
-pub mod Spaces
 pub mod InitialMachine
 pub mod OutcomeLemmas
 pub mod WindowLemmas

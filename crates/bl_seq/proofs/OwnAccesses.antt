@@ -11,7 +11,7 @@ use Rattle.bl_cmd.specs.Programs.{IsProgram, IsCommand}
 use Rattle.bl_cmd.specs.Rules.{IsWellFormed, IsGuarded, IsTested, Reach, reach_of, variable}
 use Rattle.bl_cmd.specs.Steps.{Plain, value_of}
 use Rattle.bl_cmd.specs.declared.command.Command.{Command}
-use Rattle.bl_cmd.specs.declared.command.Command.TheVariants.{Set, Load, Store, Test, Jump, Arg, Call, Out, Ret, Trap}
+use Rattle.bl_cmd.specs.declared.command.Command.TheVariants.{Set, Load, Store, Test, Trap}
 use Rattle.bl_cmd.specs.declared.command.Operand.{Operand}
 use Rattle.bl_cmd.specs.declared.command.Operand.TheVariants.{Const}
 use Rattle.bl_cmd.specs.declared.definitions.MemoryDef.{MemoryDef}
@@ -61,7 +61,6 @@ module _ (program : Program) (facts : IsProgram program) (rules : IsWellFormed p
         record { pages = clear; space = omega arith }
 
     inside_by : (k : Command) → command_at program s.position ≡ Some k → IfSome (reach_of k) (IsInside program s)
-    inside_by (Set m op x a b c) e = tt
     inside_by (Load m kind memory x offset a) e =
         let k : Command = Load m kind memory x offset a in
         let small = (all_get IsCommand program.commands s.position k facts.commands e).1 in
@@ -72,13 +71,7 @@ module _ (program : Program) (facts : IsProgram program) (rules : IsWellFormed p
         let small = (all_get IsCommand program.commands s.position k facts.commands e).1 in
         let width = width_small kind in
         in_own (record { address = a; memory = memory; bytes = offset + width_of kind }) (rules.rule7 s.position f k holds e) (rules.rule6 s.position f k holds e) (omega arith)
-    inside_by (Test cond one other) e = tt
-    inside_by (Jump p) e = tt
-    inside_by (Arg m callee i a) e = tt
-    inside_by (Call callee) e = tt
-    inside_by (Out m i a) e = tt
-    inside_by Ret e = tt
-    inside_by (Trap kind) e = tt
+    inside_by _ e = tt
 
   -- no trap accesses a memory
   trap_inside : (s : Plain) (k : Command) → s.position < 7 → command_at program s.position ≡ Some k → IfSome (reach_of k) (IsInside program s)

@@ -15,7 +15,7 @@ use Rattle.bl_cmd.specs.Programs.{IsProgram}
 use Rattle.bl_cmd.specs.Rules.{IsWellFormed, IsFunction, IsPassed, IsGuarded, Leaves}
 use Rattle.bl_cmd.specs.Steps.{Plain, depth, value_of, states, to, ret, perform, plain_step}
 use Rattle.bl_cmd.specs.declared.command.Command.{Command}
-use Rattle.bl_cmd.specs.declared.command.Command.TheVariants.{Set, Load, Store, Test, Jump, Arg, Call, Out, Ret, Trap}
+use Rattle.bl_cmd.specs.declared.command.Command.TheVariants.{Set, Load, Test, Jump, Call, Ret, Trap}
 use Rattle.bl_cmd.specs.declared.definitions.ProgramParts.{ProgramParts as Program}
 use Rattle.bl_seq.specs.OwnMemory.{HasSizes}
 
@@ -124,16 +124,14 @@ module _ (program : Program) (facts : IsProgram program) (rules : IsWellFormed p
     stands_by None e h = absurd h
     stands_by (Some (Set m op x a b c)) e h = on _ e (λ l. l) (ap (λ (x : Plain). x.position) h) (ap (λ (x : Plain). x.chain) h)
     stands_by (Some (Load m kind k x offset a)) e h = on _ e (λ l. l) (ap (λ (x : Plain). x.position) h) (ap (λ (x : Plain). x.chain) h)
-    stands_by (Some (Store kind k offset a b)) e h = on _ e (λ l. l) (ap (λ (x : Plain). x.position) h) (ap (λ (x : Plain). x.chain) h)
     stands_by (Some (Test cond one other)) e h =
         let targets = (rules.rule5 s.position f (Test cond one other) holds e).targets in
         tested one.0 other.0 (value_of program cond s % 2 ^ 32 == 0) (placed f one.0 (targets one.0 (inl refl))) (placed f other.0 (targets other.0 (inr refl))) h
     stands_by (Some (Jump p)) e h = moved p.0 (placed f p.0 ((rules.rule5 s.position f (Jump p) holds e).targets p.0 refl)) (sym (ap (λ (x : Plain). x.position) h)) (sym (ap (λ (x : Plain). x.chain) h))
-    stands_by (Some (Arg m callee i a)) e h = on _ e (λ l. l) (ap (λ (x : Plain). x.position) h) (ap (λ (x : Plain). x.chain) h)
     stands_by (Some (Call callee)) e h = called callee (too_deep s) (nat_lt (depth s) most_calls) e h
-    stands_by (Some (Out m i a)) e h = on _ e (λ l. l) (ap (λ (x : Plain). x.position) h) (ap (λ (x : Plain). x.chain) h)
     stands_by (Some Ret) e h = returned_to s.chain returns h
     stands_by (Some (Trap kind)) e h = absurd h
+    stands_by (Some _) e h = on _ e (λ l. l) (ap (λ (x : Plain). x.position) h) (ap (λ (x : Plain). x.chain) h)
 
   -- each state stands at a position of the program
   pub stands : (t : Plain) → Reached program t → Stands program t
@@ -164,16 +162,10 @@ module _ (program : Program) (facts : IsProgram program) (rules : IsWellFormed p
     ret_steps (back ∷ chain) = tt
 
     command_steps : (k : Command) → HasStep (perform program (Some k) s)
-    command_steps (Set m op x a b c) = tt
-    command_steps (Load m kind k x offset a) = tt
-    command_steps (Store kind k offset a b) = tt
     command_steps (Test cond one other) = test_steps one.0 other.0 (value_of program cond s % 2 ^ 32 == 0)
-    command_steps (Jump p) = tt
-    command_steps (Arg m callee i a) = tt
     command_steps (Call callee) = call_steps (too_deep s) callee (nat_lt (depth s) most_calls)
-    command_steps (Out m i a) = tt
     command_steps Ret = ret_steps s.chain
-    command_steps (Trap kind) = tt
+    command_steps _ = tt
 
   pub has_step : (s : Plain) → Reached program s → HasStep (plain_step program s)
   has_step s r = elim (stands s r).position as (λ _. HasStep (plain_step program s)) [
@@ -212,15 +204,13 @@ module _ (program : Program) (facts : IsProgram program) (rules : IsWellFormed p
       came_by None e h = absurd h
       came_by (Some (Set m op x a b c)) e h = went_on (ap (λ (x : Plain). x.position) h)
       came_by (Some (Load m kind j x offset a)) e h = went_on (ap (λ (x : Plain). x.position) h)
-      came_by (Some (Store kind j offset a b)) e h = went_on (ap (λ (x : Plain). x.position) h)
       came_by (Some (Test cond one other)) e h =
           came_tested (value_of program cond s % 2 ^ 32 == 0) one.0 other.0 (λ u. guarded.others s.position (Test cond one other) e (inl u)) (λ u. guarded.others s.position (Test cond one other) e (inr u)) h
       came_by (Some (Jump p)) e h = here (guarded.others s.position (Jump p) e (ap (λ (x : Plain). x.position) h ∙ is))
-      came_by (Some (Arg m callee i a)) e h = went_on (ap (λ (x : Plain). x.position) h)
       came_by (Some (Call callee)) e h = came_called callee (too_deep s) (nat_lt (depth s) most_calls) e h
-      came_by (Some (Out m i a)) e h = went_on (ap (λ (x : Plain). x.position) h)
       came_by (Some Ret) e h = came_back s.chain returns h
       came_by (Some (Trap kind)) e h = absurd h
+      came_by (Some _) e h = went_on (ap (λ (x : Plain). x.position) h)
 
     pub came : (t : Plain) → Reached program t → t.position ≡ suc q → Came program q k t
     came t (opens _ f lt entry none sized) is = absurd (guarded.entries f lt (sym entry ∙ is))

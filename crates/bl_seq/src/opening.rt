@@ -1,7 +1,7 @@
 //! The machine before the first step.
-ghost use Rattle.std.specs.Prelude.{◌≡◌, ℕ, ◌^◌, ◌<◌, ◌≤◌, ◌+◌, ◌-◌, ◌*◌, ◌++◌, IfOk, OnOk, length, map, replicate};
+ghost use Rattle.std.specs.Prelude.{◌≡◌, ℕ, ◌^◌, ◌<◌, ◌-◌, ◌*◌, ◌++◌, IfOk, OnOk, length, map, replicate};
 ghost use Rattle.std.specs.List.{All};
-ghost use Rattle.bl_base.specs.Bytes.{patched, write};
+ghost use Rattle.bl_base.specs.Bytes.{patched};
 ghost use Rattle.bl_base.specs.Runs.{memory_of};
 ghost use Rattle.bl_cmd.specs.Outcomes.{IsStart, first_memories, first_memory, first_registers, opening, space_of};
 ghost use Rattle.bl_base.specs.Fits.{PatchFits};
@@ -13,52 +13,11 @@ ghost use Rattle.bl_seq.specs.Machines.{shown};
 use crate::chain::Chain;
 use crate::layout::Layout;
 use crate::registers::Registers;
-use crate::space::Space;
 use crate::state::Machine;
 use bl_base::{List, NoMemory, Pages, Patch, Start};
+use bl_bytes::{Bytes, Space};
 use bl_cmd::{MemoryDef, ProgramParts, WellFormed};
 use std::alloc::Global;
-use std::marker::Model;
-
-/// A memory's first contents. Contracts see them as a memory's state.
-#[derive(Debug, Drop)]
-struct Contents {
-    pages: u32,
-    space: Space,
-}
-
-impl Model for Contents {
-    ghost use Rattle.bl_base.specs.Runs.{MemoryState};
-
-    ghost Value = { MemoryState };
-
-    ghost view = { λ contents. record { pages = contents.pages; bytes = contents.space } };
-
-    ghost use Rattle.std.specs.Prelude.{◌≡◌, ◌*◌, length};
-
-    ghost invariant = { λ contents. length contents.space ≡ contents.pages * 65536 };
-}
-
-impl Contents {
-    /// Writes the bytes of a patch, which lies inside.
-    fn patch(&mut self, patch: &Patch)
-        requires { patch.now.offset + length patch.now.bytes ≤ length self.old.bytes }
-        ensures { self.new ≡ write self.old patch.now.offset patch.now.bytes }
-    {
-        self.space
-            .overlay(patch.offset as usize, patch.bytes.as_slice());
-    }
-
-    /// The contents as pages; takes no memory.
-    fn into_pages(self) -> Pages
-        ensures { memory_of result ≡ self }
-    {
-        Pages {
-            pages: self.pages,
-            bytes: self.space.into_text(),
-        }
-    }
-}
 
 /// The memories before the first step: their first contents, with the patches of the start. Linear in the memories' pages and the
 /// patches.
@@ -75,7 +34,7 @@ pub fn first_memories(
 }
 
 /// Contents as pages.
-fn pages_of(alloc: Global, contents: Vec<Contents>) -> Result<List<Pages>, NoMemory>
+fn pages_of(alloc: Global, contents: Vec<Space>) -> Result<List<Pages>, NoMemory>
     ensures { IfOk result (λ pages. map memory_of pages ≡ contents.items) }
 {
     let pages = contents
@@ -148,7 +107,7 @@ fn statics_only(alloc: Global, parts: &ProgramParts) -> Result<Registers, NoMemo
 }
 
 /// The bytes of all memories.
-fn first_space(alloc: Global, parts: &ProgramParts, start: &Start) -> Result<Space, NoMemory>
+fn first_space(alloc: Global, parts: &ProgramParts, start: &Start) -> Result<Bytes, NoMemory>
     requires { All (PatchFits (map (λ memory. memory.pages) parts.now.memories)) start.now.patches }
     ensures { IfOk result (λ space. space ≡ space_of parts.now.memories (first_memories parts.now start.now)) }
 {
@@ -175,7 +134,7 @@ fn first_contents(
     alloc: Global,
     parts: &ProgramParts,
     start: &Start,
-) -> Result<Vec<Contents>, NoMemory>
+) -> Result<Vec<Space>, NoMemory>
     requires { All (PatchFits (map (λ memory. memory.pages) parts.now.memories)) start.now.patches }
     ensures is { IfOk result (λ memories. memories.items ≡ first_memories parts.now start.now) }
     ensures count { IfOk result (λ memories. length parts.now.memories ≡ length memories.items) }
@@ -188,7 +147,7 @@ fn first_contents(
 }
 
 /// The contents of the memories before the patches.
-fn before_patches(alloc: Global, memories: &[MemoryDef]) -> Result<Vec<Contents>, NoMemory>
+fn before_patches(alloc: Global, memories: &[MemoryDef]) -> Result<Vec<Space>, NoMemory>
     ensures { IfOk result (λ contents. contents.items ≡ map first_memory memories.now) }
 {
     let mut contents = Vec::new(alloc);
@@ -199,37 +158,34 @@ fn before_patches(alloc: Global, memories: &[MemoryDef]) -> Result<Vec<Contents>
 }
 
 /// A memory before the patches.
-fn first_memory(alloc: Global, memory: &MemoryDef) -> Result<Contents, NoMemory>
+fn first_memory(alloc: Global, memory: &MemoryDef) -> Result<Space, NoMemory>
     ensures { IfOk result (λ contents. contents ≡ first_memory memory.now) }
 {
-    let mut space = Space::new(alloc);
+    let mut space = Bytes::new(alloc);
     space.push_zeros(memory.pages as usize * 65_536)?;
     for row in memory.rows.as_slice() {
         space.overlay(row.number as usize * 16, &row.bytes);
     }
-    Ok(Contents {
-        pages: memory.pages,
-        space,
-    })
+    Ok(Space::of(memory.pages, space))
 }
 
 /// Writes a patch over the memory that it names.
-fn patch_memory(memories: &mut Vec<Contents>, patch: &Patch)
+fn patch_memory(memories: &mut Vec<Space>, patch: &Patch)
     requires { LiesInside patch.now memories.old.items }
     ensures { memories.new.items ≡ patched memories.old.items patch.now }
 {
     let number = patch.memory as usize;
     if number < memories.len() {
-        memories[number].patch(patch);
+        memories[number].overlay(patch.offset as usize, patch.bytes.as_slice());
     }
 }
 
 /// The memories one after another, each with room for its reserve.
-fn space_of(alloc: Global, memories: &[MemoryDef], contents: &[Contents]) -> Result<Space, NoMemory>
+fn space_of(alloc: Global, memories: &[MemoryDef], contents: &[Space]) -> Result<Bytes, NoMemory>
     requires { length memories.now ≡ length contents.now }
     ensures { IfOk result (λ space. space ≡ space_of memories.now contents.now) }
 {
-    let mut space = Space::new(alloc);
+    let mut space = Bytes::new(alloc);
     for i in 0..memories.len() {
         push_padded(&mut space, memories[i].reserve, &contents[i])?;
     }
@@ -237,11 +193,11 @@ fn space_of(alloc: Global, memories: &[MemoryDef], contents: &[Contents]) -> Res
 }
 
 /// Appends a memory's bytes, and zeros up to so many pages.
-fn push_padded(space: &mut Space, reserve: u32, contents: &Contents) -> Result<(), NoMemory>
+fn push_padded(space: &mut Bytes, reserve: u32, contents: &Space) -> Result<(), NoMemory>
     ensures { OnOk result (space.new ≡ space.old ++ (contents.now.bytes ++ replicate (reserve * 65536 - length contents.now.bytes) 0)) }
 {
     let room = reserve as usize * 65_536;
-    space.push_all(contents.space.as_slice())?;
-    space.push_zeros(room.saturating_sub(contents.space.len()))?;
+    space.push_all(contents.as_slice())?;
+    space.push_zeros(room.saturating_sub(contents.len()))?;
     Ok(())
 }

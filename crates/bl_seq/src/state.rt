@@ -4,8 +4,8 @@ ghost use Rattle.bl_base.specs.Quantity.{most_calls};
 
 use crate::chain::Chain;
 use crate::registers::Registers;
-use crate::space::Space;
 use bl_base::Trap;
+use bl_bytes::Bytes;
 
 /// What a step has come to.
 #[derive(Clone, Copy, Debug)]
@@ -30,6 +30,6 @@ pub struct Machine {
     /// The registers.
     pub registers: Registers,
     /// The bytes of all memories.
-    pub space: Space,
+    pub space: Bytes,
     pub ghost few: { length chain < most_calls },
 }

@@ -14,7 +14,8 @@ use Rattle.bl_graph.specs.declared.facts.Graph.{Graph}
 use Rattle.bl_graph.specs.declared.facts.Use.{Use}
 use Rattle.bl_graph.proofs.Members.{first_in, in_cases, later_in, none_in}
 use Rattle.bl_graph.proofs.NameLemmas.{at_place, reads_named, sinks_named, uses_are, writes_named}
-use Rattle.bl_transient.specs.Reachability.{AreUnprotected, FirstSink, firm_loads, firm_noted, firm_one, firm_reads, kept_if, noted, noted_load, noted_read}
+use Rattle.bl_graph.specs.WrittenVariables.{AreUnprotected, noted}
+use Rattle.bl_transient.specs.Reachability.{FirstSink, firm_loads, firm_noted, firm_one, firm_reads, kept_if, noted_load, noted_read}
 use Rattle.bl_transient.specs.Transient.{Asked, PassesUnder, TransUnder, given, loaded, moved}
 use Rattle.bl_transient.specs.Verdicts.{AreBars, Bars, IsBad, IsFirstBad, load, loaded_firm, read, sink, site, sunk}
 use Rattle.bl_transient.proofs.NamedSearch.{free_back, read_back, reads, sinks, writes}
@@ -186,6 +187,13 @@ module _ (asked : Asked) (program : Program) (g : Graph) (are : IsGraph program 
 
 -- ---- the verdict
 
+-- what is transient and asked to be stable makes a bad position, where nothing is asked to be both
+pub firm_bad : (asked : Asked) (program : Program) (set : ℕ → Bool) → ((x : ℕ) → IsTrue (asked.hot x) → IsTrue (asked.firm x) → ⊥) → (x : ℕ) → IsTrue (asked.firm x)
+    → TransUnder asked program set x → (position : ℕ) × IsBad asked program set position
+firm_bad asked program set apart x is (loaded s _ load_ wrote may) = (s, load x load_ wrote may is)
+firm_bad asked program set apart x is (moved s y _ reads_ wrote may t) = (s, site y x reads_ t wrote may is)
+firm_bad asked program set apart x is (given _ hot) = absurd (apart x hot is)
+
 module _ (asked : Asked) (program : Program) (names : List ℕ) (set : ℕ → Bool) (uses : List Use) (are : AreBars asked program set names uses) (marks : List Bool)
     (exact : (i x : ℕ) → slice_get names i ≡ Some x → IsTrue (is_in marks i) ↔ TransUnder asked program set x) where
   -- a position is bad exactly where it bars a variable that is transient
@@ -219,14 +227,7 @@ module _ (asked : Asked) (program : Program) (names : List ℕ) (set : ℕ → B
       none position held.0 held.2 ((exact held.0 bar.0 held.1).1 bar.2)
 
   -- where nothing is asked to be both
-  module _ (apart : (x : ℕ) → IsTrue (asked.hot x) → IsTrue (asked.firm x) → ⊥) where
-    -- what is transient and asked to be stable makes one
-    firm_bad : (x : ℕ) → IsTrue (asked.firm x) → TransUnder asked program set x → (position : ℕ) × IsBad asked program set position
-    firm_bad x is (loaded s _ load_ wrote may) = (s, load x load_ wrote may is)
-    firm_bad x is (moved s y _ reads_ wrote may t) = (s, site y x reads_ t wrote may is)
-    firm_bad x is (given _ hot) = absurd (apart x hot is)
-
-    pub none_passes : FirstSink marks uses None → PassesUnder asked program set
-    none_passes none =
-        passes_under_if asked program set (λ position x reads_ t. none_bad none position (sink x reads_ t))
-        (λ x is t. let bad = firm_bad x is t in none_bad none bad.0 bad.1)
+  pub none_passes : ((x : ℕ) → IsTrue (asked.hot x) → IsTrue (asked.firm x) → ⊥) → FirstSink marks uses None → PassesUnder asked program set
+  none_passes apart none =
+      passes_under_if asked program set (λ position x reads_ t. none_bad none position (sink x reads_ t))
+      (λ x is t. let bad = firm_bad asked program set apart x is t in none_bad none bad.0 bad.1)

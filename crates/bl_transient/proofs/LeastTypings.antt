@@ -1,6 +1,6 @@
 -- The least typing, as a test, and what passes, also where something is asked of variables.
 use Rattle.std.proofs.Common.{◌≡◌, ◌⊎◌, ℕ, ◌<◌, Bool, true, refl, subst, inl, inr, not}
-use Rattle.std.specs.Prelude.{IsTrue}
+use Rattle.std.specs.Prelude.{IsTrue, ◌↔◌}
 use Rattle.std.proofs.lemmas.Bool.{cases_eq, not_from_false, false_from_ne_true, false≢true}
 use Rattle.bl_base.proofs.BoolLemmas.{never_both}
 use Rattle.bl_cmd.specs.Sites.{IsLoad, Loads, SinkReads, Writes}
@@ -9,7 +9,7 @@ use Rattle.bl_graph.specs.Ranges.{commands}
 use Rattle.bl_graph.proofs.Closures.{Reached, decided_reached, reached_least, reached_on}
 use Rattle.bl_graph.proofs.CommandLists.{decided_load, decided_write, stands_below}
 use Rattle.bl_graph.proofs.Decisions.{Decided, decided_as, decided_below, decided_either, decided_three, decided_true, holds, holds_if, if_holds}
-use Rattle.bl_transient.specs.Transient.{Asked, nothing, AssignsUnder, PassesUnder, Passes, TransUnder, Trans, loaded, moved, given, IsFedUnder}
+use Rattle.bl_transient.specs.Transient.{Asked, nothing, AssignsUnder, FlowsUnder, PassesUnder, Passes, TransUnder, Trans, loaded, moved, given, IsFedUnder}
 
 -- the least set is contained in each typing
 pub trans_least : (asked : Asked) (program : Program) (typing set : ℕ → Bool) (x : ℕ) → AssignsUnder asked program typing set → TransUnder asked program set x
@@ -81,23 +81,29 @@ module _ (asked : Asked) (program : Program) (set : ℕ → Bool) where
   unfolding least_typing
   is_trans x t = holds_if (decided_trans x) t
 
+  -- a typing by which exactly these are transient keeps the rules
+  module _ (typing : ℕ → Bool) (exact : (x : ℕ) → IsTrue (typing x) ↔ TransUnder asked program set x) where
+    exact_assigns : AssignsUnder asked program typing set
+    exact_assigns = record {
+      loads = λ s x load writes may. (exact x).1 (loaded s x load writes may);
+      moves = λ s x y reads writes may h. (exact y).1 (moved s x y reads writes may ((exact x).0 h));
+      given = λ x hot. (exact x).1 (given x hot);
+    }
+
+    pub exact_flows : ((position x : ℕ) → SinkReads program position x → TransUnder asked program set x → ⊥) → ((x : ℕ) → IsTrue (asked.firm x) → TransUnder asked program set x → ⊥)
+        → FlowsUnder asked program typing set
+    exact_flows sinks firm = record {
+      assigns = exact_assigns;
+      sinks = λ position x sink. not_from_false _ (false_from_ne_true _ (λ h. sinks position x sink ((exact x).0 h)));
+      firm = λ x is. not_from_false _ (false_from_ne_true _ (λ h. firm x is ((exact x).0 h)));
+    }
+
   pub least_assigns : AssignsUnder asked program least_typing set
-  least_assigns = record {
-    loads = λ s x load writes may. is_trans x (loaded s x load writes may);
-    moves = λ s x y reads writes may h. is_trans y (moved s x y reads writes may (typing_trans x h));
-    given = λ x hot. is_trans x (given x hot);
-  }
+  least_assigns = exact_assigns least_typing (λ x. (typing_trans x, is_trans x))
 
   pub passes_under_if : ((position x : ℕ) → SinkReads program position x → TransUnder asked program set x → ⊥)
       → ((x : ℕ) → IsTrue (asked.firm x) → TransUnder asked program set x → ⊥) → PassesUnder asked program set
-  passes_under_if sinks firm = (
-    least_typing,
-    record {
-      assigns = least_assigns;
-      sinks = λ position x sink. not_from_false _ (false_from_ne_true _ (λ h. sinks position x sink (typing_trans x h)));
-      firm = λ x is. not_from_false _ (false_from_ne_true _ (λ h. firm x is (typing_trans x h)));
-    },
-  )
+  passes_under_if sinks firm = (least_typing, exact_flows least_typing (λ x. (typing_trans x, is_trans x)) sinks firm)
 
 -- where nothing is asked
 pub passes_if : (program : Program) (set : ℕ → Bool) → ((position x : ℕ) → SinkReads program position x → Trans program set x → ⊥) → Passes program set

@@ -1,23 +1,22 @@
 -- The search over names finds the transient variables.
-use Rattle.std.proofs.Common.{◌≡◌, ℕ, ◌<◌, ◌++◌, Bool, List, inl, inr, length, map, Option, Some, None, slice_get, sym, ap, subst, ◌∙◌, arith}
+use Rattle.std.proofs.Common.{◌≡◌, ℕ, ◌<◌, Bool, List, length, not, map, Option, Some, None, slice_get, sym, ap, subst, ◌∙◌, arith}
 use Rattle.std.specs.Prelude.{IsTrue, ◌↔◌}
 use Rattle.std.specs.List.{Contains, All}
-use Rattle.std.proofs.lemmas.List.Elements.{Contains-append_cases, Contains-append_left, Contains-append_right}
 use Rattle.std.proofs.lemmas.Option.{slice_get_within, same_Some}
-use Rattle.bl_cmd.specs.Sites.{SinkReads}
+use Rattle.bl_cmd.specs.Sites.{SinkReads, Writes}
 use Rattle.bl_cmd.specs.declared.definitions.ProgramParts.{ProgramParts as Program}
 use Rattle.bl_graph.specs.Graphs.{use_of, IsGraph}
 use Rattle.bl_graph.specs.Ranges.{commands, AreInRange}
 use Rattle.bl_graph.specs.declared.facts.Graph.{Graph}
 use Rattle.bl_graph.specs.declared.facts.Use.{Use}
-use Rattle.bl_graph.specs.Arcs.{is_in, row_at, RowsOf}
+use Rattle.bl_graph.specs.Arcs.{is_in}
 use Rattle.bl_graph.proofs.ChainLemmas.{all_from}
 use Rattle.bl_graph.proofs.RangeLemmas.{writes_one}
 use Rattle.bl_graph.specs.Names.{AreNames, place_of, numbered}
-use Rattle.bl_transient.specs.Reachability.{Reached, root, step, FirstSink, AreUnprotected, noted, roots_from, moves_from}
+use Rattle.bl_graph.specs.WrittenVariables.{AreUnprotected, noted}
+use Rattle.bl_transient.specs.Reachability.{FirstSink, Spread, begun, filled, led}
 use Rattle.bl_transient.specs.Transient.{Asked, Passes, Trans, TransUnder, loaded, moved, given}
 use Rattle.bl_transient.specs.Verdicts.{IsFirstSink}
-use Rattle.bl_transient.proofs.UnprotectedWrites.{root_from, root_in, move_from, move_in}
 use Rattle.bl_graph.proofs.NameLemmas.{uses_are, at_place, place_back, reads_named, sinks_named, writes_named}
 use Rattle.bl_transient.proofs.LeastTypings.{passes_if}
 
@@ -50,79 +49,46 @@ module _ (program : Program) (g : Graph) (lists : IsGraph program g) (names : Li
     pub read_back : (s i : ℕ) → Contains reads (use_of s i) → (x : ℕ) × (slice_get names i ≡ Some x) × Contains g.reads (use_of s x)
     read_back s i h = (uses_are names named.rise g.reads (reads_named program g names lists named) s i).0 h
 
-    pub moves_within : All (λ move. move.from < length names) (moves_from written reads)
-    moves_within = all_from (λ move. move.from < length names) (moves_from written reads) (λ m h.
-        let found = move_from written reads m.from m.to h in
-        let x = read_back found.0 m.from found.1 in
-        slice_get_within names m.from x.0 x.1)
+    pub written_within : (s i : ℕ) → noted written s ≡ Some i → i < length names
+    written_within s i e = let x = free_back s i e in slice_get_within names i x.0 x.1
 
-    module _ (rows : List (List ℕ)) (hold : RowsOf (moves_from written reads) rows) where
-      pub rows_within : (u v : ℕ) → Contains (row_at rows u) v → v < length names
-      rows_within u v h =
-          let found = move_from written reads u v (hold.sound u v h) in
-          let x = free_back found.0 v found.2 in
-          slice_get_within names v x.0 x.1
+    -- with variables that are asked to be transient
+    module _ (asked : Asked) (hots : List ℕ) (back : (i : ℕ) → Contains hots i → (x : ℕ) × (slice_get names i ≡ Some x) × IsTrue (asked.hot x))
+        (there : (i x : ℕ) → slice_get names i ≡ Some x → IsTrue (asked.hot x) → Contains hots i) where
+      spread_trans : (i : ℕ) → Spread written hots g.loads reads i → (x : ℕ) × (slice_get names i ≡ Some x) × TransUnder asked program set x
+      spread_trans i (begun _ hot) = let x = back i hot in (x.0, x.1, given x.0 x.2)
+      spread_trans i (filled s _ load e) =
+          let x = free_back s i e in
+          (x.0, x.1, loaded s x.0 ((lists.loads s).0 load) ((lists.writes.each s x.0).0 x.2) ((free.each s i).0 e).1)
+      spread_trans i (led s u _ read e before) =
+          let x = free_back s i e in
+          let y = read_back s u read in
+          let t = spread_trans u before in
+          let same : t.0 ≡ y.0 = same_Some t.0 y.0 (sym t.1 ∙ y.1) in
+          (x.0, x.1, moved s y.0 x.0 ((lists.reads.each s y.0).0 y.2) ((lists.writes.each s x.0).0 x.2) ((free.each s i).0 e).1 (subst (TransUnder asked program set) same t.2))
 
-  -- with variables that are asked to be transient as further roots
-  module _ (asked : Asked) (hots : List ℕ) (back : (i : ℕ) → Contains hots i → (x : ℕ) × (slice_get names i ≡ Some x) × IsTrue (asked.hot x))
-      (there : (i x : ℕ) → slice_get names i ≡ Some x → IsTrue (asked.hot x) → Contains hots i) (set : ℕ → Bool) (written : List (Option ℕ)) (free : AreUnprotected writes set written) where
-    abbrev pub roots : List ℕ
-    roots = hots ++ roots_from written g.loads
+      wrote : (s x i : ℕ) → slice_get names i ≡ Some x → Writes program s x → IsTrue (not (set s)) → noted written s ≡ Some i
+      wrote s x i e writes_ may = (free.each s i).1 ((uses_are names named.rise g.writes (writes_named program g names lists named) s i).1 (x, e, (lists.writes.each s x).1 writes_), may)
 
-    pub roots_within : All (λ v. v < length names) roots
-    roots_within = all_from (λ v. v < length names) roots (λ i h.
-        elim (Contains-append_cases hots (roots_from written g.loads) i h) as (λ _. i < length names) [
-          | inl hot ↦ let x = back i hot in slice_get_within names i x.0 x.1
-          | inr load ↦
-              let found = root_from written g.loads i load in
-              let x = free_back set written free found.0 i found.2 in
-              slice_get_within names i x.0 x.1
-        ])
-
-    module _ (rows : List (List ℕ)) (hold : RowsOf (moves_from written reads) rows) where
-      root_trans : (i : ℕ) → Contains roots i → (x : ℕ) × (slice_get names i ≡ Some x) × TransUnder asked program set x
-      root_trans i h =
-          elim (Contains-append_cases hots (roots_from written g.loads) i h) as (λ _. (x : ℕ) × (slice_get names i ≡ Some x) × TransUnder asked program set x) [
-            | inl hot ↦ let x = back i hot in (x.0, x.1, given x.0 x.2)
-            | inr load ↦
-                let found = root_from written g.loads i load in
-                let x = free_back set written free found.0 i found.2 in
-                (x.0, x.1, loaded found.0 x.0 ((lists.loads found.0).0 found.1) ((lists.writes.each found.0 x.0).0 x.2) ((free.each found.0 i).0 found.2).1)
-          ]
-
-      reached_trans : (i : ℕ) → Reached rows roots i → (x : ℕ) × (slice_get names i ≡ Some x) × TransUnder asked program set x
-      reached_trans i (root _ h) = root_trans i h
-      reached_trans i (step u _ before h) =
-          let found = move_from written reads u i (hold.sound u i h) in
-          let x = free_back set written free found.0 i found.2 in
-          let y = read_back set written free found.0 u found.1 in
-          let t = reached_trans u before in
-          let same : t.0 ≡ y.0 = same_Some t.0 y.0 (sym t.1 ∙ y.1) in (
-            x.0,
-            x.1,
-            moved found.0 y.0 x.0 ((lists.reads.each found.0 y.0).0 y.2) ((lists.writes.each found.0 x.0).0 x.2) ((free.each found.0 i).0 found.2).1
-                (subst (TransUnder asked program set) same t.2),
-          )
-
-      trans_reached : (x : ℕ) → TransUnder asked program set x → (i : ℕ) → slice_get names i ≡ Some x → Reached rows roots i
-      trans_reached x (loaded s _ load wrote may) i e =
-          root i (Contains-append_right hots (roots_from written g.loads) i (root_in written g.loads s i ((lists.loads s).1 load)
-          ((free.each s i).1 ((uses_are names named.rise g.writes (writes_named program g names lists named) s i).1 (x, e, (lists.writes.each s x).1 wrote), may))))
-      trans_reached x (moved s y _ read wrote may t) i e =
-          let held = (lists.reads.each s y).1 read in
+      trans_spread : (x : ℕ) → TransUnder asked program set x → (i : ℕ) → slice_get names i ≡ Some x → Spread written hots g.loads reads i
+      trans_spread x (loaded s _ load writes_ may) i e = filled s i ((lists.loads s).1 load) (wrote s x i e writes_ may)
+      trans_spread x (moved s y _ read writes_ may t) i e =
           let at = at_place names y named.rise (named.reads s y read) in
-          step (place_of names y) i (trans_reached y t (place_of names y) at)
-          (hold.full (place_of names y) i (move_in written reads s (place_of names y) i
-          ((uses_are names named.rise g.reads (reads_named program g names lists named) s (place_of names y)).1 (y, at, held))
-          ((free.each s i).1 ((uses_are names named.rise g.writes (writes_named program g names lists named) s i).1 (x, e, (lists.writes.each s x).1 wrote), may))))
-      trans_reached x (given _ hot) i e = root i (Contains-append_left hots (roots_from written g.loads) i (there i x e hot))
+          led s (place_of names y) i ((uses_are names named.rise g.reads (reads_named program g names lists named) s (place_of names y)).1 (y, at, (lists.reads.each s y).1 read))
+          (wrote s x i e writes_ may) (trans_spread y t (place_of names y) at)
+      trans_spread x (given _ hot) i e = begun i (there i x e hot)
 
-      pub marks_are : (marks : List Bool) → ((v : ℕ) → IsTrue (is_in marks v) ↔ Reached rows roots v)
+      pub marks_are : (marks : List Bool) → ((i : ℕ) → IsTrue (is_in marks i) ↔ Spread written hots g.loads reads i)
           → (i x : ℕ) → slice_get names i ≡ Some x → IsTrue (is_in marks i) ↔ TransUnder asked program set x
       marks_are marks exact i x e = (
-        (λ h. let t = reached_trans i ((exact i).0 h) in subst (TransUnder asked program set) (same_Some t.0 x (sym t.1 ∙ e)) t.2),
-        (λ t. (exact i).1 (trans_reached x t i e)),
+        (λ h. let t = spread_trans i ((exact i).0 h) in subst (TransUnder asked program set) (same_Some t.0 x (sym t.1 ∙ e)) t.2),
+        (λ t. (exact i).1 (trans_spread x t i e)),
       )
+
+  pub reads_within : All (λ r. r.var.0 < length names) reads
+  reads_within = all_from (λ r. r.var.0 < length names) reads (λ r h.
+      let x = (uses_are names named.rise g.reads (reads_named program g names lists named) r.at.0 r.var.0).0 h in
+      slice_get_within names r.var.0 x.0 x.1)
 
   pub sinks_within : All (λ s. s.var.0 < length names) sinks
   sinks_within = all_from (λ s. s.var.0 < length names) sinks (λ s h.

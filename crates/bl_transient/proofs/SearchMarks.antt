@@ -1,9 +1,10 @@
 -- A search of a graph by rows, one visit at a time.
-use Rattle.std.proofs.Common.{◌≡◌, ℕ, ◌+◌, ◌<◌, ◌≤◌, Bool, true, false, List, [], ◌∷◌, ◌++◌, length, set, cond, refl, sym, ap, subst, ◌∙◌, arith, ◌⊎◌, inl, inr, not, slice_index, take, replicate, length-append, length-set}
+use Rattle.std.proofs.Common.{◌≡◌, ℕ, ◌+◌, ◌<◌, ◌≤◌, Bool, true, false, List, [], ◌∷◌, ◌++◌, length, set, cond, sym, ap, subst, ◌∙◌, arith, ◌⊎◌, inl, inr, not, slice_index, take, replicate, length-append, length-set}
 use Rattle.std.specs.Prelude.{IsTrue, ◌↔◌}
 use Rattle.std.specs.List.{Contains}
 use Rattle.std.proofs.lemmas.Bool.{cases_lt, cases_eq, false≢true}
-use Rattle.std.proofs.lemmas.List.{get_or-set_same, get_or-set_other, get_or_append_left, length-replicate, append_assoc, append-nil, get_or_default}
+use Rattle.std.proofs.lemmas.List.{get_or-set_same, get_or-set_other, get_or_append_left, length-replicate, append_assoc, get_or_default}
+use Rattle.std.proofs.Math.Seq.{take-append_seam}
 use Rattle.std.proofs.lemmas.List.Sums.{sum_by-set}
 use Rattle.std.proofs.lemmas.List.Elements.{Contains-push_cases, Contains-append_left, Contains-push, Contains-get_or}
 use Rattle.bl_base.proofs.Lists.{replicate_or}
@@ -13,23 +14,7 @@ use Rattle.bl_graph.proofs.Members.{none_in}
 
 -- the marks that a slice of a vector leaves
 pub given_back : (new rest : List Bool) (n : ℕ) → n ≡ length new → take n (new ++ rest) ≡ new
-given_back new rest n e = ap (λ m. take m (new ++ rest)) e ∙ take_front new rest
-  where
-    take_front : (xs ys : List Bool) → take (length xs) (xs ++ ys) ≡ xs
-    take_front [] ys = refl
-    take_front (x ∷ xs) ys = ap (λ l. x ∷ l) (take_front xs ys)
-
-pub visited_none : (marks : List Bool) (queue : List ℕ) → IsVisited [] marks marks queue queue
-visited_none marks queue = record {
-  places = refl;
-  kept = λ v h. h;
-  taken = λ v h. absurd (none_in v h);
-  from = λ v h. inl h;
-  front = ([], sym (append-nil queue));
-  queued = λ all v h. all v h;
-  back = λ all v h. all v h;
-  counts = refl;
-}
+given_back new rest n e = ap (λ m. take m (new ++ rest)) e ∙ take-append_seam new rest
 
 -- 1 for what is not marked
 abbrev missing : Bool → ℕ

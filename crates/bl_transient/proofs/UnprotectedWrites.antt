@@ -1,96 +1,18 @@
--- What sites that aren't protected write, and the roots and moves that it gives.
-use Rattle.std.proofs.Common.{◌≡◌, ℕ, zero, suc, ◌+◌, ◌<◌, Bool, true, not, List, [], ◌∷◌, ◌++◌, length, take, set, get_or, replicate, Option, Some, None, refl, sym, ap, subst, ◌∙◌, arith, inl, inr}
+-- From what sites that aren't protected write to roots and moves, and where these lead.
+use Rattle.std.proofs.Common.{◌≡◌, ℕ, ◌<◌, Bool, List, [], ◌∷◌, ◌++◌, Option, Some, None, ap, subst, ◌∙◌, inl, inr}
 use Rattle.std.specs.Prelude.{◌↔◌, IsTrue}
-use Rattle.std.specs.List.{Contains, slice_index_or}
-use Rattle.std.proofs.lemmas.Bool.{cases_eq, cases_lt}
+use Rattle.std.specs.List.{All, Contains}
 use Rattle.std.proofs.lemmas.Option.{none-some, same_Some}
-use Rattle.std.proofs.lemmas.List.{take_more, get_or-set_same, get_or-set_other, get_or-replicate, get_or_past, length-replicate}
-use Rattle.std.proofs.lemmas.List.Elements.{Contains-append_left, Contains-append_right, Contains-append_cases, Contains-push, Contains-push_cases, Contains-get_or}
+use Rattle.std.proofs.lemmas.List.Elements.{All-append, All-contains, Contains-append_left, Contains-append_right, Contains-append_cases}
 use Rattle.bl_base.specs.declared.number.Pos.{Pos}
-use Rattle.bl_base.proofs.BoolLemmas.{never_both}
+use Rattle.bl_graph.specs.Arcs.{RowsOf, is_in, row_at}
 use Rattle.bl_graph.specs.Graphs.{use_of}
+use Rattle.bl_graph.specs.WrittenVariables.{noted}
 use Rattle.bl_graph.specs.declared.facts.Use.{Use}
+use Rattle.bl_graph.proofs.ChainLemmas.{all_from}
 use Rattle.bl_graph.proofs.Members.{first_in, later_in, in_cases, none_in}
-use Rattle.bl_transient.specs.Reachability.{AreUnprotected, noted, listed, moved_to, roots_from, moves_from}
+use Rattle.bl_transient.specs.Reachability.{Reached, Spread, begun, filled, led, listed, moved_to, moves_from, root, roots_from, step}
 use Rattle.bl_graph.specs.declared.arcs.Arc.{Arc}
-
-noted_or : (written : List (Option ℕ)) (v : ℕ) → noted written v ≡ get_or written v None
-noted_or [] v = refl
-noted_or (w ∷ written) zero = refl
-noted_or (w ∷ written) (suc v) = noted_or written v
-
-in_take : (xs : List Use) (i : ℕ) (u : Use) → Contains (take i xs) u → Contains xs u
-in_take [] zero u h = h
-in_take [] (suc i) u h = h
-in_take (x ∷ xs) zero u h = absurd (none_in u h)
-in_take (x ∷ xs) (suc i) u h =
-    elim (in_cases x u (take i xs) h) as (λ _. Contains (x ∷ xs) u) [
-      | inl same ↦ subst (Contains (x ∷ xs)) same (first_in x xs)
-      | inr rest ↦ later_in x u xs (in_take xs i u rest)
-    ]
-
-pub free_none : (writes : List Use) (chosen : ℕ → Bool) (count : ℕ) (written : List (Option ℕ)) → written ≡ replicate count None → AreUnprotected (take 0 writes) chosen written
-free_none writes chosen count written e = record {
-  each = λ s x. (
-    (λ h. absurd (none-some x (sym (nothing s) ∙ h))),
-    (λ h. absurd (none_in (use_of s x) h.0)),
-  );
-}
-  where
-    nothing : (s : ℕ) → noted written s ≡ None
-    nothing s =
-        noted_or written s ∙ (ap (λ l. get_or l s None) e ∙ elim (cases_lt s count) as (λ _. get_or {A = Option ℕ} (replicate count None) s None ≡ None) [
-          | inl lt ↦ get_or-replicate count s None None lt
-          | inr past ↦ get_or_past (replicate count None) s None (let e = length-replicate {A = Option ℕ} count None in omega arith)
-        ])
-
-module _ (writes : List Use) (chosen : ℕ → Bool) (i : ℕ) (d : Use) (lt : i < length writes) (written : List (Option ℕ)) (so_far : AreUnprotected (take i writes) chosen written) where
-  abbrev next : Use
-  next = slice_index_or writes i d
-
-  more : take (i + 1) writes ≡ take i writes ++ next ∷ []
-  more = take_more writes i d lt
-
-  -- the next one is protected
-  pub free_no : chosen next.at.0 ≡ true → AreUnprotected (take (i + 1) writes) chosen written
-  free_no e = record {
-    each = λ s x. (
-      (λ h. let had = (so_far.each s x).0 h in (subst (λ l. Contains l (use_of s x)) (sym more) (Contains-append_left (take i writes) (next ∷ []) (use_of s x) had.0), had.1)),
-      (λ h. elim (Contains-push_cases (take i writes) next (use_of s x) (subst (λ l. Contains l (use_of s x)) more h.0)) as (λ _. noted written s ≡ Some x) [
-        | inl there ↦ (so_far.each s x).1 (there, h.1)
-        | inr same ↦ absurd (never_both (chosen s) (sym (ap (λ (u : Use). chosen u.at.0) same) ∙ e) h.1)
-      ]),
-    );
-  }
-
-  -- it isn't
-  pub free_yes : not (chosen next.at.0) ≡ true → next.at.0 < length written → ((s x y : ℕ) → Contains writes (use_of s x) → Contains writes (use_of s y) → x ≡ y)
-      → AreUnprotected (take (i + 1) writes) chosen (set written next.at.0 (Some next.var.0))
-  free_yes e within one = record {
-    each = λ s x.
-        elim (cases_eq s next.at.0) as (λ _. (noted (set written next.at.0 (Some next.var.0)) s ≡ Some x) ↔ (Contains (take (i + 1) writes) (use_of s x) × IsTrue (not (chosen s)))) [
-          | inl same ↦
-              let value : noted (set written next.at.0 (Some next.var.0)) s ≡ Some next.var.0 =
-              noted_or (set written next.at.0 (Some next.var.0)) s ∙ (ap (λ k. get_or (set written next.at.0 (Some next.var.0)) k None) same ∙ get_or-set_same written next.at.0 (Some next.var.0) None within) in (
-                (λ h.
-                    let var : next.var.0 ≡ x = same_Some next.var.0 x (sym value ∙ h) in (
-                      subst (λ l. Contains l (use_of s x)) (sym more) (subst (λ v. Contains (take i writes ++ next ∷ []) (use_of s v)) var
-                          (subst (λ p. Contains (take i writes ++ next ∷ []) (use_of p next.var.0)) (sym same) (Contains-push (take i writes) next))),
-                      ap (λ p. not (chosen p)) same ∙ e,
-                    )),
-                (λ h. value ∙ ap Some (one s next.var.0 x (subst (λ p. Contains writes (use_of p next.var.0)) (sym same) (Contains-get_or writes i d lt)) (in_take writes (i + 1) (use_of s x) h.0))),
-              )
-          | inr other ↦
-              let value : noted (set written next.at.0 (Some next.var.0)) s ≡ noted written s =
-              noted_or (set written next.at.0 (Some next.var.0)) s ∙ (get_or-set_other written next.at.0 s (Some next.var.0) None other ∙ sym (noted_or written s)) in (
-                (λ h. let had = (so_far.each s x).0 (sym value ∙ h) in (subst (λ l. Contains l (use_of s x)) (sym more) (Contains-append_left (take i writes) (next ∷ []) (use_of s x) had.0), had.1)),
-                (λ h. value ∙ elim (Contains-push_cases (take i writes) next (use_of s x) (subst (λ l. Contains l (use_of s x)) more h.0)) as (λ _. noted written s ≡ Some x) [
-                  | inl there ↦ (so_far.each s x).1 (there, h.1)
-                  | inr same ↦ absurd (other (sym (ap (λ (u : Use). u.at.0) same)))
-                ]),
-              )
-        ];
-  }
 
 -- ---- roots and moves
 
@@ -151,3 +73,40 @@ move_in written (read ∷ reads) s u v h e =
           (in_moved read.var.0 (noted written read.at.0) v (ap (λ (w : Use). noted written w.at.0) same ∙ e)))
       | inr rest ↦ Contains-append_right (moved_to read.var.0 (noted written read.at.0)) (moves_from written reads) (record { from = u; to = v }) (move_in written reads s u v rest e)
     ]
+
+-- ---- where they lead
+
+module _ (written : List (Option ℕ)) (hot : List ℕ) (loads : List Pos) (reads : List Use) where
+  abbrev pub roots : List ℕ
+  roots = hot ++ roots_from written loads
+
+  pub moves_within : (n : ℕ) → All (λ r. r.var.0 < n) reads → All (λ move. move.from < n) (moves_from written reads)
+  moves_within n all = all_from (λ move. move.from < n) (moves_from written reads) (λ m h.
+      let found = move_from written reads m.from m.to h in
+      All-contains (λ r. r.var.0 < n) reads (use_of found.0 m.from) all found.1)
+
+  module _ (n : ℕ) (within : (s x : ℕ) → noted written s ≡ Some x → x < n) where
+    pub roots_within : All (λ x. x < n) hot → All (λ x. x < n) roots
+    roots_within all =
+        All-append (λ x. x < n) hot (roots_from written loads) all
+        (all_from (λ x. x < n) (roots_from written loads) (λ x h. let found = root_from written loads x h in within found.0 x found.2))
+
+    pub rows_within : (rows : List (List ℕ)) → RowsOf (moves_from written reads) rows → (u v : ℕ) → Contains (row_at rows u) v → v < n
+    rows_within rows hold u v h = let found = move_from written reads u v (hold.sound u v h) in within found.0 v found.2
+
+  module _ (rows : List (List ℕ)) (hold : RowsOf (moves_from written reads) rows) where
+    reached_spread : (x : ℕ) → Reached rows roots x → Spread written hot loads reads x
+    reached_spread x (root _ h) =
+        elim (Contains-append_cases hot (roots_from written loads) x h) as (λ _. Spread written hot loads reads x) [
+          | inl there ↦ begun x there
+          | inr load ↦ let found = root_from written loads x load in filled found.0 x found.1 found.2
+        ]
+    reached_spread x (step u _ before h) = let found = move_from written reads u x (hold.sound u x h) in led found.0 u x found.1 found.2 (reached_spread u before)
+
+    spread_reached : (x : ℕ) → Spread written hot loads reads x → Reached rows roots x
+    spread_reached x (begun _ h) = root x (Contains-append_left hot (roots_from written loads) x h)
+    spread_reached x (filled s _ h e) = root x (Contains-append_right hot (roots_from written loads) x (root_in written loads s x h e))
+    spread_reached x (led s y _ h e t) = step y x (spread_reached y t) (hold.full y x (move_in written reads s y x h e))
+
+    pub spread_are : (marks : List Bool) → ((x : ℕ) → IsTrue (is_in marks x) ↔ Reached rows roots x) → (x : ℕ) → IsTrue (is_in marks x) ↔ Spread written hot loads reads x
+    spread_are marks exact x = ((λ h. reached_spread x ((exact x).0 h)), (λ t. (exact x).1 (spread_reached x t)))

@@ -1,11 +1,12 @@
 -- What a list of roots reaches by rows, and a search for it.
-use Rattle.std.specs.Prelude.{◌≡◌, ◌↔◌, ℕ, ◌+◌, ◌<◌, ◌≤◌, ◌⊎◌, Bool, true, false, not, List, [], ◌∷◌, ◌++◌, length, slice_index, IsTrue, min, Option, Some, None, slice_get, unwrap_or, if◌then◌else◌}
+use Rattle.std.specs.Prelude.{◌≡◌, ℕ, ◌+◌, ◌<◌, ◌≤◌, ◌⊎◌, Bool, true, false, List, [], ◌∷◌, ◌++◌, length, slice_index, IsTrue, min, Option, Some, None, if◌then◌else◌}
 use Rattle.std.specs.List.{Contains}
 use Rattle.bl_base.specs.declared.names.Flow.{Flow}
 use Rattle.bl_base.specs.declared.names.Flow.TheVariants.{Stable, Transient}
 use Rattle.bl_base.specs.declared.number.Pos.{Pos}
 use Rattle.bl_graph.specs.Arcs.{is_in, unmarked, row_at}
 use Rattle.bl_graph.specs.Graphs.{use_of}
+use Rattle.bl_graph.specs.WrittenVariables.{noted}
 use Rattle.bl_graph.specs.declared.arcs.Arc.{Arc}
 use Rattle.bl_graph.specs.declared.facts.Use.{Use}
 
@@ -53,10 +54,6 @@ IsLower (Some first) position result = result ≡ min first position
 
 -- ---- from a graph's lists to roots and moves
 
--- what is noted for a position
-abbrev pub noted : List (Option ℕ) → ℕ → Option ℕ
-noted written s = unwrap_or (slice_get written s) None
-
 -- the variable, where there is one
 abbrev pub listed : Option ℕ → List ℕ
 listed None = []
@@ -77,9 +74,11 @@ abbrev pub moves_from : List (Option ℕ) → List Use → List Arc
 moves_from written [] = []
 moves_from written (read ∷ reads) = moved_to read.var.0 (noted written read.at.0) ++ moves_from written reads
 
--- for each position the variable that the site there writes, where it isn't in the set
-pub record AreUnprotected (writes : List Use) (set : ℕ → Bool) (written : List (Option ℕ)) : Type 0 where
-  pub each : (s x : ℕ) → (noted written s ≡ Some x) ↔ (Contains writes (use_of s x) × IsTrue (not (set s)))
+-- one of these variables, or what a load writes, or what a site writes that reads such a one, where so is noted what sites write
+pub data Spread (written : List (Option ℕ)) (hot : List ℕ) (loads : List Pos) (reads : List Use) : ℕ → Type 0 where
+  begun : (x : ℕ) → Contains hot x → Spread written hot loads reads x
+  filled : (s x : ℕ) → Contains loads (record { 0 = s }) → noted written s ≡ Some x → Spread written hot loads reads x
+  led : (s x y : ℕ) → Contains reads (use_of s x) → noted written s ≡ Some y → Spread written hot loads reads x → Spread written hot loads reads y
 
 -- the flow type of a mark
 abbrev pub flow_type : Bool → Flow

@@ -8,11 +8,11 @@ ghost use Rattle.bl_transient.specs.Reachability.{firm_loads, firm_noted, firm_r
 ghost use Rattle.bl_transient.specs.Verdicts.{AreBars, JudgesUnder, asked_of};
 
 use crate::asked::{AskedOf, marked, names_under, numbers_of};
-use crate::moves::{noted_at, written_free};
+use crate::moves::written_named;
 use crate::transient::{first_sink, named_transients};
 use bl_base::{NoMemory, Pos, SiteSet, Var};
 use bl_cmd::WellFormed;
-use bl_graph::{Graph, Names, Read, Use, ranges};
+use bl_graph::{Graph, Names, Read, Use, noted_at, ranges};
 use std::alloc::Global;
 
 /// None where the set passes under what is asked. Else the least position of a sink that reads a transient variable, or of a site
@@ -57,11 +57,9 @@ fn barred_uses(
     ensures { IfOk result (λ uses. AreBars (asked_of asked.now) program.now (fin.contains protects.now) names.now uses.items) }
 {
     ranges(program);
-    let count = program.program().parts().commands.len();
-    let writes = names.numbered(alloc, graph.writes.as_slice())?;
+    let written = written_named(alloc, program, graph, names, protects)?;
     let reads = names.numbered(alloc, graph.reads.as_slice())?;
     let sinks = names.numbered(alloc, graph.sinks.as_slice())?;
-    let written = written_free(alloc, count, &writes, protects)?;
     let numbers = numbers_of(alloc, names, asked.firm.as_slice())?;
     let firm = marked(alloc, names.len(), &numbers)?;
     let mut uses = Vec::new(alloc);

@@ -1,52 +1,58 @@
-//! From a graph's lists to roots and moves of transient values.
-ghost use Rattle.std.specs.Prelude.{◌≡◌, ◌++◌, ◌<◌, ℕ, All, Contains, IfOk, None, OnOk, length, replicate};
+//! From a graph's lists to roots and moves of transient values, and where these lead.
+ghost use Rattle.std.specs.Prelude.{◌≡◌, ◌++◌, ◌<◌, ◌↔◌, ℕ, All, IfOk, IsTrue, OnOk, Some, length, map};
 ghost use Rattle.std.specs.FinSet as fin;
-ghost use Rattle.bl_graph.specs.Graphs.{use_of};
-ghost use Rattle.bl_transient.specs.Reachability.{AreUnprotected, listed, moved_to, moves_from, noted, roots_from};
+ghost use Rattle.bl_graph.specs.Arcs.{is_in};
+ghost use Rattle.bl_graph.specs.Graphs.{IsGraph};
+ghost use Rattle.bl_graph.specs.Names.{AreNames, numbered};
+ghost use Rattle.bl_graph.specs.WrittenVariables.{AreUnprotected, noted};
+ghost use Rattle.bl_transient.specs.Reachability.{Spread, listed, moved_to, moves_from, roots_from};
 
+use crate::search::reached;
 use bl_base::{NoMemory, Pos, SiteSet, Var};
-use bl_graph::{Arc, Read, Write};
+use bl_cmd::WellFormed;
+use bl_graph::{Arc, Graph, Names, Read, noted_at, ranges, rows_of, written_free};
 use std::alloc::Global;
 
-/// For each position the variable that the site there writes, where it isn't protected.
-pub(crate) fn written_free(
+/// For each position the number of the variable that the site there writes, where it isn't protected.
+pub(crate) fn written_named(
     alloc: Global,
-    count: usize,
-    writes: &[Write],
+    program: &WellFormed,
+    graph: &Graph,
+    names: &Names,
     protects: &SiteSet,
 ) -> Result<Vec<Option<u32>>, NoMemory>
-    requires within { All (λ w. w.at.0 < count) writes.now }
-    requires one { (s x y : ℕ) → Contains writes.now (use_of s x) → Contains writes.now (use_of s y) → x ≡ y }
-    ensures { IfOk result (λ written. AreUnprotected writes.now (fin.contains protects.now) written.items) }
+    requires graph { IsGraph program.now graph.now }
+    requires names { AreNames program.now names.now }
+    ensures { IfOk result (λ written. AreUnprotected (map (numbered names.now) graph.now.writes) (fin.contains protects.now) written.items) }
 {
-    let mut written = no_variables(alloc, count)?;
-    for write in writes {
-        if !protects.contains(write.at) {
-            written[write.at.0 as usize] = Some(write.var.0);
-        }
-    }
+    ranges(program);
+    let count = program.program().parts().commands.len();
+    let writes = names.numbered(alloc, graph.writes.as_slice())?;
+    let written = written_free(alloc, count, &writes, protects)?;
     Ok(written)
 }
 
-/// No variable for so many positions.
-fn no_variables(alloc: Global, count: usize) -> Result<Vec<Option<u32>>, NoMemory>
-    ensures { IfOk result (λ written. written.items ≡ replicate count None) }
+/// For each of so many variables whether it is one of these, or a load that isn't protected writes it, or sites that aren't
+/// protected write it and read such a one.
+pub(crate) fn spread(
+    alloc: Global,
+    count: u32,
+    hot: &[u32],
+    loads: &[Pos],
+    reads: &[Read],
+    written: &[Option<u32>],
+) -> Result<Vec<bool>, NoMemory>
+    requires hot { All (λ x. x < count) hot.now }
+    requires reads { All (λ r. r.var.0 < count) reads.now }
+    requires written { (s x : ℕ) → noted written.now s ≡ Some x → x < count }
+    ensures places { IfOk result (λ marks. length marks.items ≡ count) }
+    ensures exact { IfOk result (λ marks. (x : ℕ) → IsTrue (is_in marks.items x) ↔ Spread written.now hot.now loads.now reads.now x) }
 {
-    let mut written = Vec::new(alloc);
-    for done in 0..count {
-        written.push(None)?;
-    }
-    Ok(written)
-}
-
-/// What is noted for a position.
-pub(crate) fn noted_at(written: &[Option<u32>], at: Pos) -> Option<u32>
-    ensures { result ≡ noted written.now at.0 }
-{
-    match written.get(at.0 as usize) {
-        Some(var) => *var,
-        None => None,
-    }
+    let roots = roots_of(alloc, hot, loads, written)?;
+    let moves = moves_of(alloc, reads, written)?;
+    let rows = rows_of(alloc, &moves, count)?;
+    let marks = reached(alloc, &rows, &roots)?;
+    Ok(marks)
 }
 
 /// These variables, and what the loads that aren't protected write.

@@ -10,11 +10,10 @@ ghost use Rattle.bl_transient.specs.Transient.{Trans, TransUnder};
 ghost use Rattle.bl_transient.specs.Verdicts.{IsFirstLeak, Judges, asked_of};
 
 use crate::asked::{AskedOf, numbers_of};
-use crate::moves::{moves_of, roots_of, written_free};
-use crate::search::reached;
+use crate::moves::{spread, written_named};
 use bl_base::{Flow, List, NoMemory, Pos, SiteSet};
 use bl_cmd::WellFormed;
-use bl_graph::{Graph, Names, SinkUse, graph, names_of, ranges, rows_of, variables};
+use bl_graph::{Graph, Names, SinkUse, graph, names_of, ranges, variables, written_free};
 use std::alloc::Global;
 
 /// Whether a set of protected sites keeps transient values from every sink.
@@ -97,15 +96,11 @@ pub(crate) fn named_transients(
     ensures exact { IfOk result (λ marks. (i x : ℕ) → slice_get names.now i ≡ Some x → IsTrue (is_in marks.items i) ↔ TransUnder (asked_of asked.now) program.now (fin.contains protects.now) x) }
 {
     ranges(program);
-    let count = program.program().parts().commands.len();
-    let writes = names.numbered(alloc, graph.writes.as_slice())?;
+    let written = written_named(alloc, program, graph, names, protects)?;
     let reads = names.numbered(alloc, graph.reads.as_slice())?;
-    let written = written_free(alloc, count, &writes, protects)?;
     let hot = numbers_of(alloc, names, asked.hot.as_slice())?;
-    let roots = roots_of(alloc, &hot, graph.loads.as_slice(), &written)?;
-    let moves = moves_of(alloc, &reads, &written)?;
-    let rows = rows_of(alloc, &moves, names.len())?;
-    let marks = reached(alloc, &rows, &roots)?;
+    let loads = graph.loads.as_slice();
+    let marks = spread(alloc, names.len(), &hot, loads, &reads, &written)?;
     Ok(marks)
 }
 
@@ -120,12 +115,12 @@ fn transients(
     ensures places { IfOk result (λ marks. length marks.items ≡ variables program.now) }
     ensures exact { IfOk result (λ marks. (x : ℕ) → IsTrue (is_in marks.items x) ↔ Trans program.now (fin.contains protects.now) x) }
 {
+    ranges(program);
     let count = program.program().parts().commands.len();
     let written = written_free(alloc, count, graph.writes.as_slice(), protects)?;
-    let roots = roots_of(alloc, &[], graph.loads.as_slice(), &written)?;
-    let moves = moves_of(alloc, graph.reads.as_slice(), &written)?;
-    let rows = rows_of(alloc, &moves, variables(program))?;
-    let marks = reached(alloc, &rows, &roots)?;
+    let loads = graph.loads.as_slice();
+    let reads = graph.reads.as_slice();
+    let marks = spread(alloc, variables(program), &[], loads, reads, &written)?;
     Ok(marks)
 }
 

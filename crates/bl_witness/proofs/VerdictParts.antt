@@ -6,35 +6,13 @@ use Rattle.bl_cmd.specs.Sites.{is_protected, site_weight, weight_of}
 use Rattle.bl_cmd.specs.declared.definitions.ProgramParts.{ProgramParts as Program}
 use Rattle.bl_graph.specs.Certificates.{Certifies, flow_of, flow_through}
 use Rattle.bl_graph.specs.Ranges.{AreInRange, commands}
-use Rattle.bl_graph.specs.declared.certificate.FlowPath.{FlowPath}
 use Rattle.bl_graph.specs.declared.certificate.Certificate.{Certificate}
 use Rattle.bl_graph.proofs.ChainLemmas.{none_lighter}
 use Rattle.bl_transient.proofs.ChainsMet.{chain_met}
-use Rattle.bl_witness.specs.LookupAnswers.{JudgesLoads, JudgesPaths}
-use Rattle.bl_witness.specs.Verdicts.{ArePaths, Breaks, Checks, Fits, Means, at_path, at_position, at_sums}
+use Rattle.bl_witness.specs.LookupAnswers.{JudgesLoads}
+use Rattle.bl_witness.specs.Verdicts.{ArePaths, Breaks, Checks, Fits, Means, at_position, at_sums}
 use Rattle.bl_witness.specs.declared.verdict.CertVerdict.{CertVerdict}
 use Rattle.bl_witness.specs.declared.verdict.CertVerdict.TheVariants.{Yes, No}
-
--- ---- from what the code holds to the program and its certificate
-
-module _ (program parts : Program) (same : parts ≡ program) (c : Certificate) (paths : List FlowPath) (are : paths ≡ c.paths) where
-  pub breaks_path : (rule index : ℕ) → JudgesPaths parts paths (Some (rule, index)) → Breaks program c rule index
-  breaks_path rule index judged =
-      let found : JudgesPaths program c.paths (Some (rule, index)) = subst (λ p. JudgesPaths p c.paths (Some (rule, index))) same (subst (λ l. JudgesPaths parts l (Some (rule, index))) are judged) in
-      at_path found.0 found.1 found.2 found.3
-
-  pub are_paths : JudgesPaths parts paths None → ArePaths program c.paths
-  are_paths judged = subst (λ p. ArePaths p c.paths) same (subst (ArePaths parts) are judged)
-
-  module _ (loads given : List ℕ) (value : loads ≡ given) (count : ℕ) (counted : count ≡ length parts.commands) where
-    pub places_of : length given ≡ count → length loads ≡ commands program
-    places_of places = ap length value ∙ places ∙ counted ∙ ap (λ (p : Program). length p.commands) same
-
-    pub capped_of : ((s : ℕ) → s < count → slice_index given s ≡ min (flow_through paths s) (2 ^ 64 - 1))
-        → (s : ℕ) → s < commands program → slice_index loads s ≡ min (flow_through c.paths s) (2 ^ 64 - 1)
-    capped_of flow s lt =
-        let long = ap (λ (p : Program). length p.commands) same in
-        ap (λ l. slice_index l s) value ∙ flow s (omega arith) ∙ ap (λ l. min (flow_through l s) (2 ^ 64 - 1)) are
 
 -- ---- the verdict
 

@@ -13,7 +13,7 @@ find_written-requires-clause-table c = record { rise = c.requires.table.rise; pl
 pub find_written-requires-clause-named : goal.find_written-requires-clause-named
 find_written-requires-clause-named c = λ x e.
     let x0 : SecretLoad = slice_index_or c.args.loads.now c.loop-load.load-index (record { at = 0; memory = 0 }) in
-    c.requires.named x0.at x (sym c.written_at.ensures ∙ e)
+    c.requires.named x0.at x (sym c.noted_at.ensures ∙ e)
 
 pub loop-load-preserved : goal.loop-load-preserved
 loop-load-preserved c =
@@ -22,7 +22,7 @@ loop-load-preserved c =
     let x0 : SecretLoad = slice_index_or c.args.loads.now loop.load-index (record { at = 0; memory = 0 }) in
     let more : take (loop.load-index + 1) c.args.loads.now ≡ take loop.load-index c.args.loads.now ++ x0 ∷ [] = take_more c.args.loads.now loop.load-index (record { at = 0; memory = 0 }) lt in
     rw more (visits_push c.args.names.now (λ d. IsFoundBy (entry_at c.args.written.now d.at) (cause_.Loaded d.at d.memory)) (λ d v. entry_at c.args.written.now d.at ≡ Some v) (take loop.load-index c.args.loads.now) x0 c.args.marks.now.items loop.marks.items c.find_written.new.marks.items c.args.queue.now.items loop.queue.items c.find_written.new.queue.items loop.invariant
-    (subst (λ o. Visits c.args.names.now (IsFoundBy o (cause_.Loaded x0.at x0.memory)) (λ v. o ≡ Some v) loop.marks.items c.find_written.new.marks.items loop.queue.items c.find_written.new.queue.items) c.written_at.ensures c.in_ok-find_written.ensures))
+    (subst (λ o. Visits c.args.names.now (IsFoundBy o (cause_.Loaded x0.at x0.memory)) (λ v. o ≡ Some v) loop.marks.items c.find_written.new.marks.items loop.queue.items c.find_written.new.queue.items) c.noted_at.ensures c.in_ok-find_written.ensures))
 
 pub returns : goal.returns
 returns c =

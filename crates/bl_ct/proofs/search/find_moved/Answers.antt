@@ -12,7 +12,7 @@ find_written-requires-clause-table c = record { rise = c.requires.table.rise; pl
 pub find_written-requires-clause-named : goal.find_written-requires-clause-named
 find_written-requires-clause-named c = λ x e.
     let x0 : ℕ = slice_index_or c.args.sites.now c.loop-site.site-index 0 in
-    c.requires.named x0 x (sym c.written_at.ensures ∙ e)
+    c.requires.named x0 x (sym c.noted_at.ensures ∙ e)
 
 pub loop-site-preserved : goal.loop-site-preserved
 loop-site-preserved c =
@@ -21,7 +21,7 @@ loop-site-preserved c =
     let x0 : ℕ = slice_index_or c.args.sites.now loop.site-index 0 in
     let more : take (loop.site-index + 1) c.args.sites.now ≡ take loop.site-index c.args.sites.now ++ x0 ∷ [] = take_more c.args.sites.now loop.site-index 0 lt in
     rw more (visits_push c.args.names.now (λ s. IsFoundBy (entry_at c.args.written.now s) (cause_.Moved s c.args.before)) (λ s v. entry_at c.args.written.now s ≡ Some v) (take loop.site-index c.args.sites.now) x0 c.args.marks.now.items loop.marks.items c.find_written.new.marks.items c.args.queue.now.items loop.queue.items c.find_written.new.queue.items loop.invariant
-    (subst (λ o. Visits c.args.names.now (IsFoundBy o (cause_.Moved x0 c.args.before)) (λ v. o ≡ Some v) loop.marks.items c.find_written.new.marks.items loop.queue.items c.find_written.new.queue.items) c.written_at.ensures c.in_ok-find_written.ensures))
+    (subst (λ o. Visits c.args.names.now (IsFoundBy o (cause_.Moved x0 c.args.before)) (λ v. o ≡ Some v) loop.marks.items c.find_written.new.marks.items loop.queue.items c.find_written.new.queue.items) c.noted_at.ensures c.in_ok-find_written.ensures))
 
 pub returns : goal.returns
 returns c =

@@ -5,11 +5,10 @@ use Rattle.std.proofs.lemmas.List.{get_or-map, length-replicate}
 use Rattle.std.proofs.lemmas.Option.{slice_get-get_or, slice_get_within}
 use Rattle.bl_cmd.specs.declared.definitions.ProgramParts.{ProgramParts as Program}
 use Rattle.bl_ct.specs.declared.search.Step.{Step}
-use Rattle.bl_ct.specs.declared.search.Cause.TheVariants as cause_
 use Rattle.bl_cmd.specs.Sites.{Reads}
 use Rattle.bl_graph.specs.Arcs.{rows_in, row_at}
 use Rattle.bl_graph.specs.Names.{place_of}
-use Rattle.bl_ct.specs.SecretSearch.{Visits, IsFoundBy, Some_fits, Some_asks, Has, entry_at}
+use Rattle.bl_ct.specs.SecretSearch.{Has}
 use Rattle.bl_ct.proofs.KnownRanges.{names_rise, declared_in}
 use Rattle.bl_ct.proofs.ReadRows.{elem}
 use Rattle.bl_ct.proofs.NameTables.{marked_has}
@@ -43,9 +42,7 @@ loop-next-init c =
     let names : List ℕ = c.args.known.now.names.now in
     search_begins program c.args.known.now.facts.now c.requires.is.facts names written c.requires.writes c.in_ok-marks.marks.items c.find_declared.new.marks.items c.find_loaded.new.marks.items c.find_declared.new.queue.items c.find_loaded.new.queue.items
     (c.in_ok-marks.ensures.items_if_clones_equal (λ y e. e) ∙ ap (λ n. replicate n false) c.requires.places)
-    (subst (λ q. Visits names (Some_fits c.args.known.now.facts.now.declared (λ d step. step ≡ record { var = d.var; cause = cause_.Declared d.origin })) (Some_asks c.args.known.now.facts.now.declared (λ d v. v ≡ d.var)) c.in_ok-marks.marks.items c.find_declared.new.marks.items q c.find_declared.new.queue.items) c.new-queue.ensures.items
-    (subst (λ l. Visits names (Some_fits l (λ d step. step ≡ record { var = d.var; cause = cause_.Declared d.origin })) (Some_asks l (λ d v. v ≡ d.var)) c.in_ok-marks.marks.items c.find_declared.new.marks.items c.new-queue.result.items c.find_declared.new.queue.items) c.as_slice-declared.ensures c.in_ok-find_declared.ensures))
-    (subst (λ l. Visits names (Some_fits l (λ d. IsFoundBy (entry_at written d.at) (cause_.Loaded d.at d.memory))) (Some_asks l (λ d v. entry_at written d.at ≡ Some v)) c.find_declared.new.marks.items c.find_loaded.new.marks.items c.find_declared.new.queue.items c.find_loaded.new.queue.items) c.as_slice-loads.ensures c.in_ok-find_loaded.ensures)
+    (rw (c.new-queue.ensures.items, c.as_slice-declared.ensures) at c.in_ok-find_declared.ensures) (rw c.as_slice-loads.ensures at c.in_ok-find_loaded.ensures)
 
 pub number_of-place-requires-clause-has : goal.number_of-place-requires-clause-has
 number_of-place-requires-clause-has c =

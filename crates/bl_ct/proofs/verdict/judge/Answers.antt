@@ -1,19 +1,17 @@
-use Rattle.std.proofs.Common.{ℕ, List, Bool, length, sym, subst, ap, ◌∙◌, map}
+use Rattle.std.proofs.Common.{ℕ, length, sym, subst, ap, ◌∙◌, map}
 use Rattle.std.specs.Prelude.{◌↔◌, IsTrue}
 use Rattle.std.specs.List.{slice_index_or}
-use Rattle.std.specs.declared.option.Option.TheVariants as option_
-use Rattle.bl_cmd.specs.declared.definitions.ProgramParts.{ProgramParts as Program}
 use Rattle.bl_graph.specs.SecretChains.{IsSecretChain}
 use Rattle.bl_graph.specs.Secrets.{Demands}
 use Rattle.bl_ct.specs.declared.search.Step.{Step}
-use Rattle.bl_ct.specs.SecretSearch.{AreEnds, Searched, Has, IsLeak, AreJustified, mark_of}
-use Rattle.bl_ct.specs.Leaks.{LeakFound}
+use Rattle.bl_ct.specs.SecretSearch.{AreEnds, Searched, AreJustified, mark_of}
 use Rattle.bl_ct.proofs.ChainExclusion.{chain_not}
 use Rattle.bl_ct.proofs.CtVerdicts.{are_secrets, demanded_exact, leaks, steps_small}
 use Rattle.bl_ct.proofs.KnownRanges.{demanded_in, names_few, names_rise, secret_in, secrets_in_range}
 use Rattle.bl_ct.proofs.ReadRows.{elem}
 use Rattle.bl_ct.proofs.SearchVisits.{step_found}
 use Rattle.bl_ct.proofs.verdict.judge.Goals as goal
+use Rattle.bl_ct.proofs.verdict.judge.Goals.{In_ok-demanded}
 
 pub marked-requires-clause-rise : goal.marked-requires-clause-rise
 marked-requires-clause-rise c = names_rise c.args.known.now c.requires
@@ -29,12 +27,12 @@ marked-requires-clause-named c = λ k d lt.
 pub ends_of-requires-clause-is : goal.ends_of-requires-clause-is
 ends_of-requires-clause-is c = c.requires
 
+exact : (c : In_ok-demanded) → (x : ℕ) → IsTrue (mark_of c.args.known.now.names.now c.in_ok-demanded.demanded.items x) ↔ Demands c.args.known.now.program.now x
+exact c =
+    demanded_exact c.args.known.now.program.now c.args.known.now.facts.now c.requires.facts c.args.known.now.names.now c.in_ok-demanded.demanded.items c.as_slice.result.now c.as_slice.ensures c.in_ok-demanded.ensures.exact
+
 pub ends_of-requires-clause-exact : goal.ends_of-requires-clause-exact
-ends_of-requires-clause-exact c =
-    let program : Program = c.args.known.now.program.now in
-    let names : List ℕ = c.args.known.now.names.now in
-    subst (λ l. (x : ℕ) → IsTrue (mark_of names l x) ↔ Demands program x) (sym c.deref.ensures.value)
-    (demanded_exact program c.args.known.now.facts.now c.requires.facts names c.in_ok-demanded.demanded.items c.as_slice.result.now c.as_slice.ensures c.in_ok-demanded.ensures.exact)
+ends_of-requires-clause-exact c = rw c.deref.ensures.value (exact (goal.at.ends_of-requires-clause-exact c).In_ok-demanded)
 
 pub secret_variables-requires : goal.secret_variables-requires
 secret_variables-requires c = c.requires
@@ -62,21 +60,10 @@ chain_to-requires-clause-stands c =
 
 pub chain_to-requires-clause-leak : goal.chain_to-requires-clause-leak
 chain_to-requires-clause-leak c =
-    let program : Program = c.args.known.now.program.now in
-    let names : List ℕ = c.args.known.now.names.now in
-    let searched : Searched program c.in_ok-queue.queue.items = c.in_ok-queue.ensures in
-    let table : AreEnds program names c.in_ok-ends.ends.items = c.in_ok-ends.ensures in
-    let demanded : List Bool = c.in_ok-demanded.demanded.items in
-    let exact : (x : ℕ) → IsTrue (mark_of names demanded x) ↔ Demands program x =
-    demanded_exact program c.args.known.now.facts.now c.requires.facts names demanded c.as_slice.result.now c.as_slice.ensures c.in_ok-demanded.ensures.exact in
-    let found : LeakFound names c.in_ok-queue.queue.items c.in_ok-ends.ends.items demanded (option_.Some c.in-Some.leak) =
-    subst (λ q. LeakFound names q c.in_ok-ends.ends.items demanded (option_.Some c.in-Some.leak)) c.deref-2.ensures.value
-    (subst (λ e. LeakFound names c.deref-2.result.now e demanded (option_.Some c.in-Some.leak)) c.deref-3.ensures.value
-    (subst (λ m. LeakFound names c.deref-2.result.now c.deref-3.result.now m (option_.Some c.in-Some.leak)) c.deref-4.ensures.value
-    (subst (LeakFound names c.deref-2.result.now c.deref-3.result.now c.deref-4.result.now) c.in-Some.is c.first_leak.ensures))) in
-    subst (λ q. (step : Step) × Has q c.in-Some.leak.place step × IsLeak program step c.in-Some.leak.end) (sym c.deref-in-Some.ensures.value)
-    (leaks program (secrets_in_range program c.requires.is_program c.requires.rules) names demanded
-    c.in_ok-queue.queue.items c.in_ok-ends.ends.items searched table exact c.in-Some.leak found)
+    rw c.deref-in-Some.ensures.value
+    (leaks c.args.known.now.program.now (secrets_in_range c.args.known.now.program.now c.requires.is_program c.requires.rules) c.args.known.now.names.now c.in_ok-demanded.demanded.items
+    c.in_ok-queue.queue.items c.in_ok-ends.ends.items c.in_ok-queue.ensures c.in_ok-ends.ensures (exact (goal.at.chain_to-requires-clause-leak c).In_ok-demanded) c.in-Some.leak
+    (rw (c.deref-2.ensures.value, c.deref-3.ensures.value, c.deref-4.ensures.value, c.in-Some.is) at c.first_leak.ensures))
 
 pub returns-in-Some : goal.returns-in-Some
 returns-in-Some c =
@@ -86,17 +73,6 @@ returns-in-Some c =
 
 pub returns : goal.returns
 returns c =
-    let program : Program = c.args.known.now.program.now in
-    let names : List ℕ = c.args.known.now.names.now in
-    let searched : Searched program c.in_ok-queue.queue.items = c.in_ok-queue.ensures in
-    let table : AreEnds program names c.in_ok-ends.ends.items = c.in_ok-ends.ensures in
-    let demanded : List Bool = c.in_ok-demanded.demanded.items in
-    let exact : (x : ℕ) → IsTrue (mark_of names demanded x) ↔ Demands program x =
-    demanded_exact program c.args.known.now.facts.now c.requires.facts names demanded c.as_slice.result.now c.as_slice.ensures c.in_ok-demanded.ensures.exact in
-    let found : LeakFound names c.in_ok-queue.queue.items c.in_ok-ends.ends.items demanded option_.None =
-    subst (λ q. LeakFound names q c.in_ok-ends.ends.items demanded option_.None) c.deref-2.ensures.value
-    (subst (λ e. LeakFound names c.deref-2.result.now e demanded option_.None) c.deref-3.ensures.value
-    (subst (λ m. LeakFound names c.deref-2.result.now c.deref-3.result.now m option_.None) c.deref-4.ensures.value
-    (subst (LeakFound names c.deref-2.result.now c.deref-3.result.now c.deref-4.result.now) c.in-None.is c.first_leak.ensures))) in
-    are_secrets program (secrets_in_range program c.requires.is_program c.requires.rules) names demanded
-    c.in_ok-queue.queue.items c.in_ok-ends.ends.items searched table exact found (steps_small c.args.known.now c.requires c.in_ok-queue.queue.items searched)
+    are_secrets c.args.known.now.program.now (secrets_in_range c.args.known.now.program.now c.requires.is_program c.requires.rules) c.args.known.now.names.now c.in_ok-demanded.demanded.items
+    c.in_ok-queue.queue.items c.in_ok-ends.ends.items c.in_ok-queue.ensures c.in_ok-ends.ensures (exact (goal.at.returns c).In_ok-demanded)
+    (rw (c.deref-2.ensures.value, c.deref-3.ensures.value, c.deref-4.ensures.value, c.in-None.is) at c.first_leak.ensures) (steps_small c.args.known.now c.requires c.in_ok-queue.queue.items c.in_ok-queue.ensures)

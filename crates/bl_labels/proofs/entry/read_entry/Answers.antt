@@ -1,7 +1,6 @@
-use Rattle.std.proofs.Common.{ℕ, refl, subst, rules}
+use Rattle.std.proofs.Common.{refl, rules}
 use Rattle.bl_leb.specs.Grammar.{byte}
 use Rattle.bl_wasm.specs.Values.{u32}
-use Rattle.bl_code.specs.ReaderAnswers.{IsAt}
 use Rattle.bl_code.proofs.Places.{none_first, passes_none}
 use Rattle.bl_labels.specs.Entries.{entry_code, entry, named, place}
 use Rattle.bl_labels.specs.declared.entry.Entry.TheVariants.{SecretParam, SecretGlobal, SecretMemory, PublicResult, PublicGlobal}
@@ -14,49 +13,34 @@ returns-in_err-code c =
     (none_first {F = byte} {S = named} entry_code c.args.bytes.now c.args.at c.in_err-code.ensures)
 
 pub returns-in_err-param-in-0 : goal.returns-in_err-param-in-0
-returns-in_err-param-in-0 c =
-    passes_none entry c.args.bytes.now c.args.at c.from_residual-in_err-param-in-0.result _ c.from_residual-in_err-param-in-0.ensures.1
-    (none_entry place 0 c.args.bytes.now c.args.at c.in_ok-code.next only_param (subst (λ (n : ℕ). IsAt byte c.args.bytes.now c.args.at c.in_ok-code.next n) c.in-0.is c.in_ok-code.ensures) c.in_err-param-in-0.ensures)
+returns-in_err-param-in-0 c = none_entry place 0 c.in_ok-code.code c.in-0.is c.args.bytes.now c.args.at c.in_ok-code.next c.in_ok-code.ensures c.from_residual-in_err-param-in-0.result _ only_param c.from_residual-in_err-param-in-0.ensures.1 c.in_err-param-in-0.ensures
 
 pub returns-in_ok-param-in-0 : goal.returns-in_ok-param-in-0
-returns-in_ok-param-in-0 c =
-    at_entry place SecretParam c.in_ok-param-in-0.param 0 c.args.bytes.now c.args.at c.in_ok-code.next c.in_ok-param-in-0.end (λ t h. h) refl (subst (λ (n : ℕ). IsAt byte c.args.bytes.now c.args.at c.in_ok-code.next n) c.in-0.is c.in_ok-code.ensures) c.in_ok-param-in-0.ensures
+returns-in_ok-param-in-0 c = at_entry place 0 c.in_ok-code.code c.in-0.is c.args.bytes.now c.args.at c.in_ok-code.next c.in_ok-code.ensures SecretParam c.in_ok-param-in-0.param c.in_ok-param-in-0.end (λ t h. h) refl c.in_ok-param-in-0.ensures
 
 pub returns-in_err-global-in-1 : goal.returns-in_err-global-in-1
-returns-in_err-global-in-1 c =
-    passes_none entry c.args.bytes.now c.args.at c.from_residual-in_err-global-in-1.result _ c.from_residual-in_err-global-in-1.ensures.1
-    (none_entry u32 1 c.args.bytes.now c.args.at c.in_ok-code.next only_global (subst (λ (n : ℕ). IsAt byte c.args.bytes.now c.args.at c.in_ok-code.next n) c.in-1.is c.in_ok-code.ensures) c.in_err-global-in-1.ensures)
+returns-in_err-global-in-1 c = none_entry u32 1 c.in_ok-code.code c.in-1.is c.args.bytes.now c.args.at c.in_ok-code.next c.in_ok-code.ensures c.from_residual-in_err-global-in-1.result _ only_global c.from_residual-in_err-global-in-1.ensures.1 c.in_err-global-in-1.ensures
 
 pub returns-in_ok-global-in-1 : goal.returns-in_ok-global-in-1
-returns-in_ok-global-in-1 c =
-    at_entry u32 SecretGlobal c.in_ok-global-in-1.global 1 c.args.bytes.now c.args.at c.in_ok-code.next c.in_ok-global-in-1.end (λ t h. h) refl (subst (λ (n : ℕ). IsAt byte c.args.bytes.now c.args.at c.in_ok-code.next n) c.in-1.is c.in_ok-code.ensures) c.in_ok-global-in-1.ensures
+returns-in_ok-global-in-1 c = at_entry u32 1 c.in_ok-code.code c.in-1.is c.args.bytes.now c.args.at c.in_ok-code.next c.in_ok-code.ensures SecretGlobal c.in_ok-global-in-1.global c.in_ok-global-in-1.end (λ t h. h) refl c.in_ok-global-in-1.ensures
 
 pub returns-in_err-memory-in-2 : goal.returns-in_err-memory-in-2
-returns-in_err-memory-in-2 c =
-    passes_none entry c.args.bytes.now c.args.at c.from_residual-in_err-memory-in-2.result _ c.from_residual-in_err-memory-in-2.ensures.1
-    (none_entry u32 2 c.args.bytes.now c.args.at c.in_ok-code.next only_memory (subst (λ (n : ℕ). IsAt byte c.args.bytes.now c.args.at c.in_ok-code.next n) c.in-2.is c.in_ok-code.ensures) c.in_err-memory-in-2.ensures)
+returns-in_err-memory-in-2 c = none_entry u32 2 c.in_ok-code.code c.in-2.is c.args.bytes.now c.args.at c.in_ok-code.next c.in_ok-code.ensures c.from_residual-in_err-memory-in-2.result _ only_memory c.from_residual-in_err-memory-in-2.ensures.1 c.in_err-memory-in-2.ensures
 
 pub returns-in_ok-memory-in-2 : goal.returns-in_ok-memory-in-2
-returns-in_ok-memory-in-2 c =
-    at_entry u32 SecretMemory c.in_ok-memory-in-2.memory 2 c.args.bytes.now c.args.at c.in_ok-code.next c.in_ok-memory-in-2.end (λ t h. h) refl (subst (λ (n : ℕ). IsAt byte c.args.bytes.now c.args.at c.in_ok-code.next n) c.in-2.is c.in_ok-code.ensures) c.in_ok-memory-in-2.ensures
+returns-in_ok-memory-in-2 c = at_entry u32 2 c.in_ok-code.code c.in-2.is c.args.bytes.now c.args.at c.in_ok-code.next c.in_ok-code.ensures SecretMemory c.in_ok-memory-in-2.memory c.in_ok-memory-in-2.end (λ t h. h) refl c.in_ok-memory-in-2.ensures
 
 pub returns-in_err-found-in-3 : goal.returns-in_err-found-in-3
-returns-in_err-found-in-3 c =
-    passes_none entry c.args.bytes.now c.args.at c.from_residual-in_err-found-in-3.result _ c.from_residual-in_err-found-in-3.ensures.1
-    (none_entry place 3 c.args.bytes.now c.args.at c.in_ok-code.next only_result (subst (λ (n : ℕ). IsAt byte c.args.bytes.now c.args.at c.in_ok-code.next n) c.in-3.is c.in_ok-code.ensures) c.in_err-found-in-3.ensures)
+returns-in_err-found-in-3 c = none_entry place 3 c.in_ok-code.code c.in-3.is c.args.bytes.now c.args.at c.in_ok-code.next c.in_ok-code.ensures c.from_residual-in_err-found-in-3.result _ only_result c.from_residual-in_err-found-in-3.ensures.1 c.in_err-found-in-3.ensures
 
 pub returns-in_ok-found-in-3 : goal.returns-in_ok-found-in-3
-returns-in_ok-found-in-3 c =
-    at_entry place PublicResult c.in_ok-found-in-3.found 3 c.args.bytes.now c.args.at c.in_ok-code.next c.in_ok-found-in-3.end (λ t h. h) refl (subst (λ (n : ℕ). IsAt byte c.args.bytes.now c.args.at c.in_ok-code.next n) c.in-3.is c.in_ok-code.ensures) c.in_ok-found-in-3.ensures
+returns-in_ok-found-in-3 c = at_entry place 3 c.in_ok-code.code c.in-3.is c.args.bytes.now c.args.at c.in_ok-code.next c.in_ok-code.ensures PublicResult c.in_ok-found-in-3.found c.in_ok-found-in-3.end (λ t h. h) refl c.in_ok-found-in-3.ensures
 
 pub returns-in_err-public-in-4 : goal.returns-in_err-public-in-4
-returns-in_err-public-in-4 c =
-    passes_none entry c.args.bytes.now c.args.at c.from_residual-in_err-public-in-4.result _ c.from_residual-in_err-public-in-4.ensures.1
-    (none_entry u32 4 c.args.bytes.now c.args.at c.in_ok-code.next only_public (subst (λ (n : ℕ). IsAt byte c.args.bytes.now c.args.at c.in_ok-code.next n) c.in-4.is c.in_ok-code.ensures) c.in_err-public-in-4.ensures)
+returns-in_err-public-in-4 c = none_entry u32 4 c.in_ok-code.code c.in-4.is c.args.bytes.now c.args.at c.in_ok-code.next c.in_ok-code.ensures c.from_residual-in_err-public-in-4.result _ only_public c.from_residual-in_err-public-in-4.ensures.1 c.in_err-public-in-4.ensures
 
 pub returns-in_ok-public-in-4 : goal.returns-in_ok-public-in-4
-returns-in_ok-public-in-4 c =
-    at_entry u32 PublicGlobal c.in_ok-public-in-4.public 4 c.args.bytes.now c.args.at c.in_ok-code.next c.in_ok-public-in-4.end (λ t h. h) refl (subst (λ (n : ℕ). IsAt byte c.args.bytes.now c.args.at c.in_ok-code.next n) c.in-4.is c.in_ok-code.ensures) c.in_ok-public-in-4.ensures
+returns-in_ok-public-in-4 c = at_entry u32 4 c.in_ok-code.code c.in-4.is c.args.bytes.now c.args.at c.in_ok-code.next c.in_ok-code.ensures PublicGlobal c.in_ok-public-in-4.public c.in_ok-public-in-4.end (λ t h. h) refl c.in_ok-public-in-4.ensures
 
 pub returns-in_default : goal.returns-in_default
 returns-in_default c =

@@ -1,25 +1,16 @@
-use Rattle.std.proofs.Common.{◌≡◌, ◌∙◌, ap, subst, sym}
-use Rattle.bl_cmd.specs.Outcomes.{IsStart}
+use Rattle.std.proofs.Common.{◌≡◌, ◌∙◌, ap}
 use Rattle.bl_rob.specs.CallResults.{shown}
 use Rattle.bl_rob.specs.Machines.{directive_step, opening}
-use Rattle.bl_rob.proofs.InitialMachine.{begun_fits}
-use Rattle.bl_rob.proofs.ReachabilityLemmas.{opened}
+use Rattle.bl_rob.proofs.ReachabilityLemmas.{begun_kept}
 use Rattle.bl_rob.proofs.rob.Rob.begin.Goals as goal
 
 pub invariant_of-result : goal.invariant_of-result
 invariant_of-result g c =
-    let parts = c.in_ok-layout.layout.parts.now in
-    let same : parts ≡ c.args.program.now = c.in_ok-layout.ensures.0 ∙ c.parts.ensures.same ∙ c.program.ensures.same in
-    let fits = subst (λ p. IsStart p c.args.function c.args.start.now) (sym same) c.requires.start in
-    let machine = shown c.in_ok-machine.machine in (
-      c.in_ok-layout.ensures.1,
-      begun_fits parts c.args.function c.args.start.now g.row.W machine c.in_ok-machine.ensures,
-      c.requires.room.1,
-      opened (directive_step g.row.W parts) parts c.args.function c.args.start.now machine fits c.in_ok-machine.ensures,
-    )
+    let same = c.in_ok-layout.ensures.0 ∙ c.parts.ensures.same ∙ c.program.ensures.same in
+    let kept = begun_kept (directive_step g.row.W) g.row.W c.in_ok-layout.layout.parts.now c.args.program.now c.args.function c.args.start.now (shown c.in_ok-machine.machine) same c.requires.start c.in_ok-machine.ensures in
+    (c.in_ok-layout.ensures.1, kept.0, c.requires.room.1, kept.1)
 
 pub returns : goal.returns
 returns g c =
-    let parts = c.in_ok-layout.layout.parts.now in
-    let same : parts ≡ c.args.program.now = c.in_ok-layout.ensures.0 ∙ c.parts.ensures.same ∙ c.program.ensures.same in
+    let same : c.in_ok-layout.layout.parts.now ≡ c.args.program.now = c.in_ok-layout.ensures.0 ∙ c.parts.ensures.same ∙ c.program.ensures.same in
     (same, c.in_ok-machine.ensures ∙ ap (λ p. opening p c.args.function c.args.start.now) same)

@@ -1,17 +1,9 @@
-use Rattle.bl_rob.specs.CallResults.{NeedsMemory, shown}
-use Rattle.bl_rob.specs.Machines.{directive_step}
+use Rattle.bl_rob.specs.CallResults.{shown}
 use Rattle.bl_rob.specs.declared.directive.Directive.TheVariants.{Fetch}
-use Rattle.bl_rob.proofs.ReachabilityLemmas.{steps_reach}
-use Rattle.bl_rob.proofs.BufferRoom.{steps_fit}
+use Rattle.bl_rob.proofs.ReachabilityLemmas.{steps_kept}
 use Rattle.bl_rob.proofs.rob.Rob.fetch.Goals as goal
 
 pub invariant_of-self : goal.invariant_of-self
 invariant_of-self g c =
-    let parts = c.self.inside.layout.parts.now in
-    let old = shown c.self.inside.machine in
-    let new = shown c.fetch.new.self in (
-      c.self.invariant.0,
-      steps_fit g.row.W parts old new Fetch c.fetch.result c.self.invariant.1 c.fetch.ensures,
-      c.self.invariant.2,
-      steps_reach (directive_step g.row.W parts) parts old new Fetch (NeedsMemory Fetch) c.fetch.result c.self.invariant.3 c.fetch.ensures,
-    )
+    let kept = steps_kept g.row.W c.self.inside.layout.parts.now (shown c.self.inside.machine) (shown c.fetch.new.self) Fetch c.fetch.result c.self.invariant.1 c.self.invariant.3 c.fetch.ensures in
+    (c.self.invariant.0, kept.0, c.self.invariant.2, kept.1)
