@@ -1,13 +1,14 @@
 -- The command `forward` keeps the laws and answers all contents that are there.
 use Rattle.std.proofs.Common.{◌≡◌, ◌↔◌, ◌++◌, ℕ, Bool, true, false, List, get_or, refl, ap, sym, ◌∙◌, arith, inl, inr, IsTrue}
 use Rattle.std.proofs.lemmas.Bool.{false≢true}
-use Rattle.bl_forward.proofs.ForwardPairs.{forwards_equal}
-use Rattle.bl_forward.specs.ForwardMachines.{forward_step}
+use Rattle.bl_forward.proofs.ForwardPairs.{forwards_equal, forwards_hide}
+use Rattle.bl_forward.specs.ForwardMachines.{HasEqualForwarding, forward_step}
 use Rattle.bl_forward.specs.SameSights.{seen_decided}
 use Rattle.bl_forward.specs.SightTexts.{are_same, seen_text}
 use Rattle.bl_forward.specs.Verdicts.{AssessesForward}
 use Rattle.bl_forward.specs.declared.verdict.ForwardVerdict.{ForwardVerdict}
 use Rattle.bl_forward.specs.declared.verdict.ForwardVerdict.TheVariants.{Safe, NotConstantTime, NotStable}
+use Rattle.bl_sct.specs.OtherSecrets.{HidesGlobalsBy}
 use Rattle.bl_twin.specs.TwinComparisons.{agreement_text, comparison_text, twin_text_by}
 use Rattle.bl_twin.proofs.Comparisons.{never_by, told_by}
 use Rattle.bl_twin.specs.declared.comparison.Comparison.TheVariants as compared
@@ -76,9 +77,15 @@ module _ (t : Twinned) (plan : Plan) (h : ForwardPlans t plan) where
   assessed_so (NotConstantTime chain) a = (λ e. absurd cc, λ begins. absurd (a.1 (is_safe_by begins).0))
   assessed_so (NotStable position) a = (λ e. absurd cc, λ begins. absurd (a.passes_not (is_safe_by begins).1))
 
+  equal_so : IsOfImage t → IsSafe (entry_of t).program → HasEqualForwarding (entry_of t).program
+  equal_so of safe = forwards_equal (entry_of t).program of.facts of.rules safe.0 safe.1
+
+  hides_so : IsOfImage t → IsSafe (entry_of t).program → HidesGlobalsBy forward_step (entry_of t).program
+  hides_so of safe = forwards_hide (entry_of t).program of.facts of.rules safe.0 safe.1
+
   forwards_alike : IsOfImage t → IsSafe (entry_of t).program → StartsAgree t → forward_comparison t ≡ compared.Differ → ⊥
   forwards_alike of safe agree differ =
-      never_by are_same seen_decided forward_step (entry_of t).program (forwards_equal (entry_of t).program of.facts of.rules safe.0 safe.1) 32 (omega arith) (omega arith)
+      never_by are_same seen_decided forward_step (entry_of t).program (equal_so of safe) 32 (omega arith) (omega arith)
       (entry_of t).function t.speculated.directives t.speculated.entered.start t.other agree differ
 
   never_no : IsOfImage t → BeginsWith (safe_text true ++ agreement_text true) plan.text → plan.status ≡ No → ⊥
@@ -96,10 +103,13 @@ forward_staged_is request = record {
   one_status = λ t p q h k. ap (λ plan. plan.status) (one_forward_plan t p q h k);
   status_of_deed = λ t plan h. ap (λ p. kind_of p.status) h.is_plan ∙ deed_of_twin (forward_comparison t);
   keeps_named = λ t plan h. inr (ap (λ p. p.keeps) h.is_plan);
-  means = λ image trace start other t prepared plan h. record {
-    tells = told_by are_same seen_decided forward_step 32 (entry_of t).program (entry_of t).function t.speculated.directives t.speculated.entered.start t.other;
-    assessed = assessed_so t plan h;
-    safe = never_no t plan h (of_image request.export trace start other image t prepared);
-  };
+  means = λ image trace start other t prepared plan h.
+      let of = of_image request.export trace start other image t prepared in record {
+        tells = told_by are_same seen_decided forward_step 32 (entry_of t).program (entry_of t).function t.speculated.directives t.speculated.entered.start t.other;
+        assessed = assessed_so t plan h;
+        equal = λ begins. equal_so t plan h of (is_safe_by t plan h begins);
+        hides = λ begins. hides_so t plan h of (is_safe_by t plan h begins);
+        safe = never_no t plan h of;
+      };
   planned = λ image trace start other t prepared. some_forward_plan t;
 }

@@ -5,7 +5,7 @@ use Rattle.std.specs.List.{All, flat_map}
 use Rattle.std.proofs.lemmas.Bool.{false≢true}
 use Rattle.std.proofs.lemmas.Fmt.{decimal_by_steps}
 use Rattle.std.proofs.lemmas.List.{length-append}
-use Rattle.std.proofs.lemmas.List.Elements.{All-head, All-tail}
+use Rattle.std.proofs.lemmas.List.Elements.{All-head, All-tail, length_all_zip}
 use Rattle.std.proofs.Math.Seq.{drop-append_seam}
 use Rattle.bl_base.specs.Fits.{Fits}
 use Rattle.bl_base.specs.Quantity.{limit_of}
@@ -16,17 +16,22 @@ use Rattle.bl_cmd.specs.Outcomes.{Agree, IsStart, opening as plain_opening, plai
 use Rattle.bl_cmd.specs.Programs.{IsProgram}
 use Rattle.bl_cmd.specs.Rules.{IsWellFormed}
 use Rattle.bl_cmd.specs.declared.definitions.ProgramParts.{ProgramParts as Program}
-use Rattle.bl_predict.specs.Drives.{DriveState, IsDriven}
+use Rattle.bl_predict.specs.Drives.{AreSame, DriveState, IsDriven, begun, driven}
 use Rattle.bl_predict.specs.declared.driver.Driven.{Driven}
 use Rattle.bl_predict.specs.DriveDirectives.{IsNear, IsTaken}
-use Rattle.bl_predict.proofs.DrivePairs.{two_drives}
+use Rattle.bl_predict.specs.Outlines.{none as no_entries}
+use Rattle.bl_predict.proofs.DrivePairs.{drives_from, driven_same, two_drives}
 use Rattle.bl_predict.proofs.EnabledChoices.{each_taken}
 use Rattle.bl_rob.specs.CallResults.{outcome_in}
-use Rattle.bl_rob.specs.Observations.{IsConsistent, reached}
+use Rattle.bl_rob.specs.Machines.{State, opening, directive_step}
+use Rattle.bl_rob.specs.Observations.{IsConsistent, observed, reached}
 use Rattle.bl_rob.specs.declared.directive.Directive.{Directive}
 use Rattle.bl_rob.specs.declared.directive.Directive.TheVariants.{Fetch, Predict, Exec, Retire}
 use Rattle.bl_rob.proofs.BufferInvariant.{consistent}
 use Rattle.bl_sct.proofs.EqualObservations.{equal}
+use Rattle.bl_sct.proofs.OtherGlobals.{with_globals, step_same, observed_same}
+use Rattle.bl_sct.proofs.OtherSecrets.{hides}
+use Rattle.bl_sct.specs.OtherSecrets.{IsOtherGlobal, HasOtherSecrets, HidesGlobals}
 use Rattle.bl_sct.specs.Verdicts.{Assesses}
 use Rattle.bl_sct.specs.declared.verdict.Verdict.{Verdict}
 use Rattle.bl_sct.specs.declared.verdict.Verdict.TheVariants.{Safe, NotConstantTime, NotStable}
@@ -161,6 +166,21 @@ module _ (turns : ℕ) (word : List ℕ) (entered : Entered) (plan : Plan) (h : 
 taken : (turns : ℕ) (entered : Entered) → IsTaken entered.entry.program entered.entry.function entered.start turns (driven_of turns entered)
 taken turns entered = each_taken entered.entry.program entered.entry.function entered.start turns
 
+-- a drive of the same program with other first values of secret globals
+hidden_drive : (program : Program) → HidesGlobals program → (other : Program) → HasOtherSecrets program other → (function : ℕ) (a b : Start) → Agree program function a b → (most : ℕ)
+    → AreSame (driven program most (begun program function a)) (driven other most (begun other function b))
+hidden_drive program hidden other differs function a b agree most =
+    let same = sym (length_all_zip IsOtherGlobal program.globals other.globals differs.globals) in
+    let beside = with_globals program other.globals same in
+    let step : (s : State) (d : Directive) → directive_step 64 beside s d ≡ directive_step 64 program s d = step_same program other.globals same 64 in
+    let future : (directives : List Directive) → observed 64 program function a directives ≡ observed 64 beside function b directives =
+    subst (λ p. (directives : List Directive) → observed 64 program function a directives ≡ observed 64 p function b directives) differs.is
+    (λ directives. (hidden other differs 64 (omega arith) (omega arith) function directives a b agree).observed) in
+    subst (λ p. AreSame (driven program most (begun program function a)) (driven p most (begun p function b))) (sym differs.is)
+    (subst (λ d. AreSame (driven program most (begun program function a)) d) (sym (driven_same beside program step most (begun beside function b)))
+    (drives_from program (opening program function a) (opening beside function b) (record { entries = no_entries; front = refl })
+    (λ directives. future directives ∙ observed_same (directive_step 64 beside) (directive_step 64 program) step 1 directives (opening beside function b)) most))
+
 predict_means : (export start image : List ℕ) (turns : ℕ) (word : List ℕ) (entered : Entered) → (entering export start).Passes image entered → (plan : Plan)
     → PredictPlans turns word entered plan → PredictMeans turns entered plan
 predict_means export start image turns word entered prepared plan h =
@@ -172,6 +192,9 @@ predict_means export start image turns word entered prepared plan h =
       alike = λ begins other agree.
           let safe = safe_by turns word entered plan h begins in
           two_drives program (equal program (facts export start image entered prepared) (rules export start image entered prepared) safe.0 safe.1) function entered.start other agree turns;
+      hides = λ begins beside differs other agree.
+          let safe = safe_by turns word entered plan h begins in
+          hidden_drive program (hides program (facts export start image entered prepared) (rules export start image entered prepared) safe.0 safe.1) beside differs function entered.start other agree turns;
     }
 
 -- ---- the command

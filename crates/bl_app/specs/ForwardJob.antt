@@ -1,7 +1,7 @@
 -- `forward`: its job, and what is said where it is done.
 use Rattle.std.specs.Prelude.{◌≡◌, ◌↔◌, ℕ, Bool, true, false, IsTrue, List, ◌++◌, codes}
 use Rattle.bl_cmd.specs.declared.definitions.ProgramParts.{ProgramParts as Program}
-use Rattle.bl_forward.specs.ForwardMachines.{observed_forwarding}
+use Rattle.bl_forward.specs.ForwardMachines.{HasEqualForwarding, forward_step, observed_forwarding}
 use Rattle.bl_forward.specs.SightTexts.{are_same, seen_text}
 use Rattle.bl_forward.specs.Verdicts.{AssessesForward}
 use Rattle.bl_forward.specs.declared.seen.Seen.{Seen}
@@ -10,6 +10,7 @@ use Rattle.bl_forward.specs.declared.verdict.ForwardVerdict.TheVariants.{Safe, N
 use Rattle.bl_graph.specs.Labels.{ConstantTime}
 use Rattle.bl_outcome.specs.Lines.{line}
 use Rattle.bl_rob.specs.Observations.{Observed}
+use Rattle.bl_sct.specs.OtherSecrets.{HidesGlobalsBy}
 use Rattle.bl_sct.specs.Verdicts.{IsStable}
 use Rattle.bl_twin.specs.TwinComparisons.{TellsBy, agreement_text, comparison_by, twin_text_by}
 use Rattle.bl_twin.specs.declared.comparison.Comparison.{Comparison}
@@ -68,11 +69,15 @@ abbrev pub BeginsWith : List ℕ → List ℕ → Type 0
 BeginsWith front text = (rest : List ℕ) × (text ≡ front ++ rest)
 
 -- the text says what is observed of the two runs, each from its own start, and where they differ. It begins with `safe yes` exactly where any
--- verdict on the program is that it is safe; and where it begins with `safe yes` and `public agree`, the runs don't differ
+-- verdict on the program is that it is safe; and there two runs from starts that agree in public are observed alike, whatever the directives and the
+-- size of the buffer, also where one of them is of the same program with other first values of its secret globals. Where it begins with `safe yes` and
+-- `public agree`, the runs don't differ
 pub record ForwardMeans (twinned : Twinned) (plan : Plan) : Type 0 where
   pub tells : TellsBy are_same (forwarded_of twinned) (other_forwarded twinned)
   pub assessed : (verdict : ForwardVerdict) → AssessesForward (entry_of twinned).program verdict
       → verdict ≡ Safe ↔ BeginsWith (safe_text true) plan.text
+  pub equal : BeginsWith (safe_text true) plan.text → HasEqualForwarding (entry_of twinned).program
+  pub hides : BeginsWith (safe_text true) plan.text → HidesGlobalsBy forward_step (entry_of twinned).program
   pub safe : BeginsWith (safe_text true ++ agreement_text true) plan.text → plan.status ≡ No → ⊥
 
 -- the files of `twin` are read, and whether the program is safe and how the runs compare is printed

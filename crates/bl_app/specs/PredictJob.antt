@@ -6,10 +6,12 @@ use Rattle.bl_base.specs.Runs.{Outcome}
 use Rattle.bl_base.specs.declared.quantity.Quantity.TheVariants as quantity
 use Rattle.bl_base.specs.declared.start.Start.{Start}
 use Rattle.bl_cmd.specs.Outcomes.{Agree, plain}
+use Rattle.bl_cmd.specs.declared.definitions.ProgramParts.{ProgramParts as Program}
 use Rattle.bl_outcome.specs.Lines.{line}
 use Rattle.bl_predict.specs.Drives.{AreSame, DriveState, begun, driven}
 use Rattle.bl_predict.specs.declared.driver.Driven.{Driven}
 use Rattle.bl_rob.specs.CallResults.{outcome_in}
+use Rattle.bl_sct.specs.OtherSecrets.{HasOtherSecrets}
 use Rattle.bl_sct.specs.Verdicts.{Assesses}
 use Rattle.bl_sct.specs.declared.verdict.Verdict.{Verdict}
 use Rattle.bl_sct.specs.declared.verdict.Verdict.TheVariants.{Safe, NotConstantTime, NotStable}
@@ -86,7 +88,7 @@ with_start entered other = record { entry = entered.entry; start = other }
 
 -- where the machine has ended, its outcome is that of the plain run after as many commands as entries were retired. The second line is `alike yes`
 -- exactly where any verdict on the program is that it is safe; and where it is, each start that agrees in public with this one gives the same trace
--- and the same counts
+-- and the same counts, also with the same program with other first values of its secret globals
 pub record PredictMeans (turns : ℕ) (entered : Entered) (plan : Plan) : Type 0 where
   pub consistent : (outcome : Outcome) → drive_outcome turns entered ≡ Some outcome
       → plain entered.entry.program entered.entry.function entered.start (driven_of turns entered).state.retired outcome
@@ -95,6 +97,9 @@ pub record PredictMeans (turns : ℕ) (entered : Entered) (plan : Plan) : Type 0
   pub alike : BeginsWith (met (driven_of turns entered) ++ alike_text true) plan.text → (other : Start)
       → Agree entered.entry.program entered.entry.function entered.start other
       → AreSame (driven_of turns entered) (driven_of turns (with_start entered other))
+  pub hides : BeginsWith (met (driven_of turns entered) ++ alike_text true) plan.text → (program : Program) → HasOtherSecrets entered.entry.program program
+      → (other : Start) → Agree entered.entry.program entered.entry.function entered.start other
+      → AreSame (driven_of turns entered) (driven program turns (begun program entered.entry.function other))
 
 -- an image and a start file are read; the trace file of the drive is kept, and what was met and the outcome are printed
 abbrev pub predict_staged : PredictRequest → Staged Entered

@@ -32,15 +32,13 @@ use Rattle.bl_forward.specs.ForwardMachines.{found_in, filled, takes, settled, f
 use Rattle.bl_forward.specs.declared.seen.Seen.{Seen}
 use Rattle.bl_forward.specs.declared.seen.Seen.TheVariants.{Plain, Forward}
 use Rattle.bl_forward.proofs.ReadyStores.{Right, all}
-use Rattle.bl_forward.proofs.Loads.{within, reached_run, ran_reached, ran_long}
+use Rattle.bl_forward.proofs.Loads.{IsOpened, opened_by, within, reached_run, ran_reached, ran_long}
 
 pub plainly_holds : (P : State → Type 0) (o : Option (State × Observation)) → Holds P o → Holds P (plainly o)
 plainly_holds P None h = tt
 plainly_holds P (Some step) h = h
 
-module _ (program : Program) (facts : IsProgram program) (rules : IsWellFormed program) (function : ℕ) (start : Start) (fits : IsStart program function start) where
-  abbrev from : PlainState
-  from = plain_opening program function start
+module _ (program : Program) (facts : IsProgram program) (rules : IsWellFormed program) (from : PlainState) (opened : IsOpened program from) where
 
   -- a load that the plain run comes to lies in the memories
   lies_by : (c : Config) (protect : Bool) (kind : AccessKind) (memory : ℕ) (to : Register) (offset : ℕ) (address : Source) (x : Fetched)
@@ -82,10 +80,10 @@ module _ (program : Program) (facts : IsProgram program) (rules : IsWellFormed p
     room_at d is t =
         let running = is_running program d.front (stands_there load (before program d.front) t.0) in
         let reached = subst (λ (x : Config). x.front.end ≡ None → Reached program (plain_of program x)) (sym is)
-        (reached_run program facts rules (length pre) k.config (ran_reached program facts rules function start fits s.retired k.config k.ran)) in
+        (reached_run program facts rules (length pre) k.config (ran_reached program facts rules from opened s.retired k.config k.ran)) in
         let lies = lies_by d protect kind memory to offset source (before program d.front) t.0 (inside_from program facts rules d (reached running) d.front.end) in
         let w = within program facts rules memory _ (width_of kind) lies in
-        let long = ran_long program facts rules function start fits s.retired k.config k.ran in
+        let long = ran_long program facts rules from opened s.retired k.config k.ran in
         omega arith
 
     -- what is loaded there fills the entry
@@ -171,5 +169,5 @@ pub consistent : (program : Program) → IsProgram program → IsWellFormed prog
 consistent program facts rules function start fits most directives =
     let from = plain_opening program function start in
     kept_consistent program from (after_by (forward_step most program) directives (opening program function start))
-    (all_kept program from (forward_step most program) (forward_ok program facts rules function start fits most) directives (opening program function start)
+    (all_kept program from (forward_step most program) (forward_ok program facts rules from (opened_by program facts rules function start fits) most) directives (opening program function start)
     (opening_kept program function start))

@@ -1,16 +1,18 @@
 -- Two machines that forward stores, under the same directives: each directive keeps them alike, and is observed alike.
-use Rattle.std.proofs.Common.{◌≡◌, ℕ, suc, Bool, true, false, List, take, drop, Option, Some, None, refl, sym, ap, ◌∙◌, subst}
+use Rattle.std.proofs.Common.{◌≡◌, ℕ, suc, Bool, true, false, List, length, take, drop, Option, Some, None, refl, sym, ap, ◌∙◌, subst}
 use Rattle.std.specs.Prelude.{◌&&◌, ◌||◌, nat_eq, if◌then◌else◌, slice_get, IsTrue}
 use Rattle.bl_ops.specs.Access.{narrowed, width_of}
 use Rattle.bl_ops.specs.declared.access.AccessKind.{AccessKind}
+use Rattle.bl_cmd.specs.Outcomes.{opening as plain_opening}
 use Rattle.bl_cmd.specs.Programs.{IsProgram}
 use Rattle.bl_cmd.specs.Rules.{IsWellFormed}
 use Rattle.bl_cmd.specs.Sites.{is_protected}
 use Rattle.bl_cmd.specs.Steps.{Plain, effective}
+use Rattle.bl_cmd.specs.declared.definitions.GlobalDef.{GlobalDef}
 use Rattle.bl_cmd.specs.declared.definitions.ProgramParts.{ProgramParts as Program}
 use Rattle.bl_graph.specs.Labels.{KeepsLabelRules, ConstantTime}
 use Rattle.bl_transient.specs.Transient.{Flows, Passes}
-use Rattle.bl_rob.specs.Machines.{State, directive_step, is_pending, has_pending, valued}
+use Rattle.bl_rob.specs.Machines.{State, directive_step, is_pending, has_pending, valued, visible_of}
 use Rattle.bl_rob.specs.declared.directive.Directive.{Directive}
 use Rattle.bl_rob.specs.declared.directive.Directive.TheVariants.{Fetch, Predict, Exec, Retire}
 use Rattle.bl_rob.specs.declared.directive.Observation.{Observation}
@@ -27,12 +29,16 @@ use Rattle.bl_sct.proofs.Relation.{Rel, Twin, SameGet, no_entry, an_entry, same_
 use Rattle.bl_sct.proofs.Rules.{Keeps, clear}
 use Rattle.bl_sct.proofs.LockstepLemmas.{Twins}
 use Rattle.bl_sct.proofs.EqualObservations.{equal_by}
+use Rattle.bl_sct.proofs.OtherGlobals.{with_globals, step_same}
+use Rattle.bl_sct.proofs.OtherSecrets.{hides_by}
+use Rattle.bl_sct.specs.OtherSecrets.{HidesGlobalsBy}
 use Rattle.bl_forward.specs.declared.find.Found.{Found}
 use Rattle.bl_forward.specs.declared.find.Found.TheVariants.{Memory, Stored, Blocked}
 use Rattle.bl_forward.specs.ForwardMachines.{meets, supplied, found_from, filled, takes, settled, fills, plainly, exec_work, exec_at, forward_step, HasEqualForwarding}
 use Rattle.bl_forward.specs.declared.seen.Seen.{Seen}
 use Rattle.bl_forward.specs.declared.seen.Seen.TheVariants.{Plain as Shown, Forward}
 use Rattle.bl_forward.proofs.ForwardInvariant.{forward_ok}
+use Rattle.bl_forward.proofs.Loads.{opened_by}
 
 -- ---- entries that differ in values alone forward alike
 
@@ -207,7 +213,51 @@ module _ (program : Program) (facts : IsProgram program) (rules : IsWellFormed p
 pub forwards_equal : (program : Program) → IsProgram program → IsWellFormed program → ConstantTime program → Passes program (is_protected program) → HasEqualForwarding program
 forwards_equal program facts rules =
     equal_by forward_step program facts rules (λ most. record {
-      keeps = λ function start fits s d k. forward_ok program facts rules function start fits most s d k;
+      keeps = λ function start fits s d k. forward_ok program facts rules (plain_opening program function start) (opened_by program facts rules function start fits) most s d k;
       twins = λ typing labelling flows ok from beside twins s t d i j r.
           forward_twins program facts rules typing labelling flows ok from beside twins most s t i j r d;
+    })
+
+-- ---- other first values of globals
+
+module _ (program : Program) (globals : List GlobalDef) (same : length globals ≡ length program.globals) where
+  abbrev other : Program
+  other = with_globals program globals same
+
+  plain_same : (most : ℕ) (s : State) (d : Directive) → plainly (directive_step most other s d) ≡ plainly (directive_step most program s d)
+  plain_same most s d = ap plainly (step_same program globals same most s d)
+
+  fills_same : (s : State) (n position : ℕ) (protect : Bool) (kind : AccessKind) (memory : ℕ) (to : Register) (offset : ℕ) (o : Option ℕ)
+      → fills other s n position protect kind memory to offset o ≡ fills program s n position protect kind memory to offset o
+  fills_same s n position protect kind memory to offset None = refl
+  fills_same s n position protect kind memory to offset (Some address) = refl
+
+  work_same : (most : ℕ) (s : State) (n position : ℕ) (e : Work) → exec_work most other s n position e ≡ exec_work most program s n position e
+  work_same most s n position (Load protect kind memory to offset address) = fills_same s n position protect kind memory to offset (visible_of s.registers (take n s.buffer) address)
+  work_same most s n position Nop = plain_same most s (Exec n)
+  work_same most s n position (Assign protect op to a b c) = plain_same most s (Exec n)
+  work_same most s n position (Held to value) = plain_same most s (Exec n)
+  work_same most s n position (Done to value) = plain_same most s (Exec n)
+  work_same most s n position (Store kind memory offset address value) = plain_same most s (Exec n)
+  work_same most s n position (Ready kind memory offset address value) = plain_same most s (Exec n)
+  work_same most s n position (Guard cond predicted branch chain) = plain_same most s (Exec n)
+  work_same most s n position (Fail kind) = plain_same most s (Exec n)
+
+  exec_same : (most : ℕ) (s : State) (n : ℕ) (o : Option Entry) → exec_at most other s n o ≡ exec_at most program s n o
+  exec_same most s n None = refl
+  exec_same most s n (Some e) = work_same most s n e.position e.work
+
+  forward_same : (most : ℕ) (s : State) (d : Directive) → forward_step most other s d ≡ forward_step most program s d
+  forward_same most s Fetch = plain_same most s Fetch
+  forward_same most s (Predict predicted) = plain_same most s (Predict predicted)
+  forward_same most s (Exec n) = exec_same most s n (slice_get s.buffer n)
+  forward_same most s Retire = plain_same most s Retire
+
+pub forwards_hide : (program : Program) → IsProgram program → IsWellFormed program → ConstantTime program → Passes program (is_protected program) → HidesGlobalsBy forward_step program
+forwards_hide program facts rules =
+    hides_by forward_step program facts rules (λ most. record {
+      keeps = λ from r l s d k. forward_ok program facts rules from (record { reached = r; long = l }) most s d k;
+      twins = λ typing labelling flows ok from beside twins s t d i j r.
+          forward_twins program facts rules typing labelling flows ok from beside twins most s t i j r d;
+      same = λ globals same s d. forward_same program globals same most s d;
     })

@@ -7,6 +7,7 @@ use Rattle.bl_base.proofs.BoolLemmas.{each_true}
 use Rattle.bl_ops.specs.Access.{narrowed, width_of}
 use Rattle.bl_ops.specs.declared.access.AccessKind.{AccessKind}
 use Rattle.bl_ops.proofs.Fits.{store_fits}
+use Rattle.bl_cmd.specs.Outcomes.{opening as plain_opening}
 use Rattle.bl_cmd.specs.Programs.{IsProgram}
 use Rattle.bl_cmd.specs.Rules.{IsWellFormed}
 use Rattle.bl_cmd.specs.Steps.{effective}
@@ -36,6 +37,7 @@ use Rattle.bl_forward.specs.declared.load.Turn.{Turn}
 use Rattle.bl_forward.specs.declared.load.Turn.TheVariants as turn
 use Rattle.bl_forward.specs.declared.seen.Seen.{Seen}
 use Rattle.bl_forward.proofs.ForwardInvariant.{forward_ok, plainly_holds}
+use Rattle.bl_forward.proofs.Loads.{opened_by}
 
 -- ---- the step of an entry
 
@@ -172,7 +174,7 @@ module _ (most : ℕ) (program : Program) where
 
   -- each directive keeps the buffer along the plain run
   pub forward_keeps : IsProgram program → IsWellFormed program → KeepAll (forward_step most program) program
-  forward_keeps facts rules function start fits s d = forward_ok program facts rules function start fits most s d
+  forward_keeps facts rules function start fits s d = forward_ok program facts rules (plain_opening program function start) (opened_by program facts rules function start fits) most s d
 
 -- ---- forwarded numbers
 

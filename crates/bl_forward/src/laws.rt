@@ -11,6 +11,7 @@ ghost use Rattle.bl_rob.specs.Machines.{opening};
 ghost use Rattle.bl_rob.specs.Observations.{IsConsistent, after_by};
 ghost use Rattle.bl_rob.specs.declared.directive.Directive.{Directive};
 ghost use Rattle.bl_rob.specs.declared.entry.Entry.{Entry};
+ghost use Rattle.bl_sct.specs.OtherSecrets.{HidesGlobalsBy};
 ghost use Rattle.bl_transient.specs.Transient.{Passes};
 ghost use Rattle.bl_twin.specs.TwinComparisons.{comparison_by};
 ghost use Rattle.bl_twin.specs.declared.comparison.Comparison.TheVariants as comparison_is;
@@ -41,6 +42,13 @@ pub fn consistency()
 pub fn equal_observations()
     ensures { (program : ProgramParts) → IsProgram program → IsWellFormed program → ConstantTime program
         → Passes program (is_protected program) → HasEqualForwarding program }
+{}
+
+/// Secret globals: where a program has a labelling and its own marks pass the transient rules, a run of it and one of the same program with
+/// other first values of secret globals, from starts that agree in public, are observed alike where stores are forwarded.
+pub fn secret_globals()
+    ensures { (program : ProgramParts) → IsProgram program → IsWellFormed program → ConstantTime program
+        → Passes program (is_protected program) → HidesGlobalsBy forward_step program }
 {}
 
 /// Where runs of a program from starts that agree in public are observed alike, no comparison of two of them says `Differ`,

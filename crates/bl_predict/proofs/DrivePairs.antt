@@ -1,11 +1,11 @@
 -- Two drives of starts that are observed alike.
-use Rattle.std.proofs.Common.{◌≡◌, ℕ, zero, suc, ◌+◌, ◌%◌, List, [], ◌∷◌, ◌++◌, set, Option, Some, None, refl, sym, ap, ◌∙◌, subst, arith}
+use Rattle.std.proofs.Common.{◌≡◌, ℕ, zero, suc, ◌+◌, ◌%◌, List, [], ◌∷◌, ◌++◌, replicate, set, Option, Some, None, refl, sym, ap, ◌∙◌, subst, arith}
 use Rattle.std.specs.Prelude.{if◌then◌else◌, slice_get, get_or}
 use Rattle.bl_base.specs.declared.start.Start.{Start}
 use Rattle.bl_cmd.specs.Outcomes.{Agree}
 use Rattle.bl_cmd.specs.declared.definitions.ProgramParts.{ProgramParts as Program}
 use Rattle.bl_rob.specs.CallResults.{is_some, position_of}
-use Rattle.bl_rob.specs.Machines.{State, directive_step, end_of, end_in}
+use Rattle.bl_rob.specs.Machines.{State, opening, directive_step, end_of, end_in}
 use Rattle.bl_rob.specs.Observations.{Observed, see, observed_from, HasEqualObservations}
 use Rattle.bl_rob.specs.declared.directive.Directive.{Directive}
 use Rattle.bl_rob.specs.declared.directive.Directive.TheVariants.{Fetch, Predict, Exec, Retire}
@@ -177,13 +177,17 @@ module _ (Q : Program) where
       subst (λ end. Same (driven Q (suc most) d) (unless_ended end (driven Q most (turn Q e)) e)) (same_end d.state e.state d.state.buffer e.state.buffer m.outline.front m.outline.entries)
       (unless_both (end_in d.state) (driven Q most (turn Q d)) (driven Q most (turn Q e)) d e (driven_both most (turn Q d) (turn Q e) (turn_both d e m)) m)
 
-  pub two_drives : HasEqualObservations Q → (function : ℕ) (a b : Start) → Agree Q function a b → (most : ℕ)
-      → AreSame (driven Q most (begun Q function a)) (driven Q most (begun Q function b))
-  two_drives equal function a b agree most =
-      let m = driven_both most (begun Q function a) (begun Q function b) (record {
+  -- a drive that begins with the machine in a state
+  abbrev pub begun_in : State → DriveState
+  begun_in s = record { state = s; counters = replicate 1024 1; sets = replicate 64 []; trace = []; rollbacks = 0; hits = 0; misses = 0 }
+
+  pub drives_from : (s t : State) → Outline s t → ((directives : List Directive) → observed_from 64 Q 1 directives s ≡ observed_from 64 Q 1 directives t) → (most : ℕ)
+      → AreSame (driven Q most (begun_in s)) (driven Q most (begun_in t))
+  drives_from s t outline future most =
+      let m = driven_both most (begun_in s) (begun_in t) (record {
         place = 1;
-        outline = record { entries = none; front = refl };
-        future = λ directives. (equal 64 (omega arith) (omega arith) function directives a b agree).observed;
+        outline = outline;
+        future = future;
         counters = refl;
         sets = refl;
         trace = refl;
@@ -192,3 +196,26 @@ module _ (Q : Program) where
         misses = refl;
       }) in
       record { trace = m.trace; rollbacks = m.rollbacks; hits = m.hits; misses = m.misses }
+
+  pub two_drives : HasEqualObservations Q → (function : ℕ) (a b : Start) → Agree Q function a b → (most : ℕ)
+      → AreSame (driven Q most (begun Q function a)) (driven Q most (begun Q function b))
+  two_drives equal function a b agree =
+      drives_from (opening Q function a) (opening Q function b) (record { entries = none; front = refl })
+      (λ directives. (equal 64 (omega arith) (omega arith) function directives a b agree).observed)
+
+-- ---- drives of programs of which each step is the same
+
+module _ (one other : Program) (same : (s : State) (d : Directive) → directive_step 64 one s d ≡ directive_step 64 other s d) where
+  chosen_same : (counters : List ℕ) (s : State) → chosen one counters s ≡ chosen other counters s
+  chosen_same counters s = λ i. first_of (λ x. is_some (same s x i)) (λ n. shows_read (same s (Exec n) i)) (guess_at counters (position_of s.front)) 64
+
+  turn_by_same : (d : DriveState) (o : Option Directive) → turn_by one d o ≡ turn_by other d o
+  turn_by_same d None = refl
+  turn_by_same d (Some directive) = ap (stepped d directive) (same d.state directive)
+
+  turn_same : (d : DriveState) → turn one d ≡ turn other d
+  turn_same d = turn_by_same d (chosen one d.counters d.state) ∙ ap (turn_by other d) (chosen_same d.counters d.state)
+
+  pub driven_same : (most : ℕ) (d : DriveState) → driven one most d ≡ driven other most d
+  driven_same zero d = refl
+  driven_same (suc most) d = ap (λ next. unless_ended (end_in d.state) next d) (driven_same most (turn one d) ∙ ap (driven other most) (turn_same d))

@@ -11,11 +11,10 @@ use Rattle.bl_cmd.specs.declared.command.Operand.TheVariants as operand
 use Rattle.bl_cmd.specs.declared.definitions.GlobalDef.{GlobalDef}
 use Rattle.bl_cmd.specs.declared.definitions.ProgramParts.{ProgramParts as Program}
 use Rattle.bl_rob.specs.Machines.{State, Fetched, Straight, Branch, at_position, moved, register_of, source_of, fetched, fetched_from, before, fetch, predict, has_room, visible_of, guards, has_store, loads, stores, act, acted, exec_entry, retire_work, retire, directive_step}
-use Rattle.bl_rob.specs.Observations.{go_on, after, Observed, see, observed_from}
+use Rattle.bl_rob.specs.Observations.{Rules, go_on, after_by, Observed, see, observed_by}
 use Rattle.bl_rob.specs.declared.directive.Directive.{Directive}
 use Rattle.bl_rob.specs.declared.directive.Directive.TheVariants.{Fetch, Predict, Exec, Retire}
 use Rattle.bl_rob.specs.declared.directive.End.{End}
-use Rattle.bl_rob.specs.declared.directive.Observation.{Observation}
 use Rattle.bl_rob.specs.declared.entry.Entry.{Entry}
 use Rattle.bl_rob.specs.declared.entry.Register.{Register}
 use Rattle.bl_rob.specs.declared.entry.Source.{Source}
@@ -128,31 +127,32 @@ module _ (program : Program) (globals : List GlobalDef) (same : length globals �
 
   -- ---- directives
 
-  step_same : (most : ℕ) (s : State) (d : Directive) → directive_step most with_globals s d ≡ directive_step most program s d
+  pub step_same : (most : ℕ) (s : State) (d : Directive) → directive_step most with_globals s d ≡ directive_step most program s d
   step_same most s Fetch = ap (fetch (has_room most s) s) (before_by s.front s.front.end)
   step_same most s (Predict predicted) = ap (predict (has_room most s) predicted s) (before_by s.front s.front.end)
   step_same most s (Exec n) = exec_same n s (slice_get s.buffer n)
   step_same most s Retire = retire_same s s.buffer
 
-  module _ (most : ℕ) where
-    go_same : (f g : State → State) (s : State) (o : Option (State × Observation)) → ((t : State) → f t ≡ g t) → go_on f s o ≡ go_on g s o
-    go_same f g s None h = refl
-    go_same f g s (Some step) h = h step.0
+-- ---- lists of directives, by rules of which each step is the same
 
-    pub after_same : (directives : List Directive) (s : State) → after most with_globals directives s ≡ after most program directives s
-    after_same [] s = refl
-    after_same (d ∷ directives) s =
-        ap (go_on (after most with_globals directives) s) (step_same most s d)
-        ∙ go_same (after most with_globals directives) (after most program directives) s (directive_step most program s d) (after_same directives)
+module _ {O : Type 0} (one other : Rules O) (same_step : (s : State) (d : Directive) → one s d ≡ other s d) where
+  go_same : (f g : State → State) (s : State) (o : Option (State × O)) → ((t : State) → f t ≡ g t) → go_on f s o ≡ go_on g s o
+  go_same f g s None h = refl
+  go_same f g s (Some step) h = h step.0
 
-    see_same : (f g : State → Observed Observation) (place : ℕ) (o : Option (State × Observation)) → ((t : State) → f t ≡ g t) → see f place o ≡ see g place o
-    see_same f g place None h = refl
-    see_same f g place (Some step) h = ap (λ (x : Observed Observation). let y : Observed Observation = record { made = step.1 ∷ x.made; refused = x.refused } in y) (h step.0)
+  pub after_same : (directives : List Directive) (s : State) → after_by one directives s ≡ after_by other directives s
+  after_same [] s = refl
+  after_same (d ∷ directives) s =
+      ap (go_on (after_by one directives) s) (same_step s d)
+      ∙ go_same (after_by one directives) (after_by other directives) s (other s d) (after_same directives)
 
-    pub observed_same : (place : ℕ) (directives : List Directive) (s : State)
-        → observed_from most with_globals place directives s ≡ observed_from most program place directives s
-    observed_same place [] s = refl
-    observed_same place (d ∷ directives) s =
-        ap (see (observed_from most with_globals (suc place) directives) place) (step_same most s d)
-        ∙ see_same (observed_from most with_globals (suc place) directives) (observed_from most program (suc place) directives) place
-        (directive_step most program s d) (observed_same (suc place) directives)
+  see_same : (f g : State → Observed O) (place : ℕ) (o : Option (State × O)) → ((t : State) → f t ≡ g t) → see f place o ≡ see g place o
+  see_same f g place None h = refl
+  see_same f g place (Some step) h = ap (λ (x : Observed O). let y : Observed O = record { made = step.1 ∷ x.made; refused = x.refused } in y) (h step.0)
+
+  pub observed_same : (place : ℕ) (directives : List Directive) (s : State) → observed_by one place directives s ≡ observed_by other place directives s
+  observed_same place [] s = refl
+  observed_same place (d ∷ directives) s =
+      ap (see (observed_by one (suc place) directives) place) (same_step s d)
+      ∙ see_same (observed_by one (suc place) directives) (observed_by other (suc place) directives) place
+      (other s d) (observed_same (suc place) directives)

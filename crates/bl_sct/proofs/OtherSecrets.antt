@@ -7,31 +7,44 @@ use Rattle.std.specs.Prelude.{not, nat_lt, if◌then◌else◌, slice_index, IsT
 use Rattle.bl_base.specs.declared.names.Label.{Label}
 use Rattle.bl_base.specs.declared.names.Label.TheVariants.{Public, Secret}
 use Rattle.bl_base.specs.declared.start.Start.{Start}
-use Rattle.bl_cmd.specs.Layout.{size_of}
+use Rattle.bl_cmd.specs.Layout.{base, size_of}
 use Rattle.bl_cmd.specs.Outcomes.{first_registers, opening as plain_opening, Agree}
 use Rattle.bl_cmd.specs.Programs.{IsProgram}
 use Rattle.bl_cmd.specs.Rules.{IsWellFormed}
 use Rattle.bl_cmd.specs.Sites.{is_protected}
+use Rattle.bl_cmd.specs.Steps.{Plain}
 use Rattle.bl_cmd.specs.declared.definitions.GlobalDef.{GlobalDef}
 use Rattle.bl_cmd.specs.declared.definitions.ProgramParts.{ProgramParts as Program}
 use Rattle.bl_graph.specs.Labels.{KeepsLabelRules, ConstantTime}
 use Rattle.bl_graph.specs.declared.secret.Origin.TheVariants.{Global}
-use Rattle.bl_transient.specs.Transient.{Passes}
+use Rattle.bl_transient.specs.Transient.{Flows, Passes}
 use Rattle.bl_seq.specs.OwnMemory.{HasSizes}
 use Rattle.bl_seq.proofs.OwnSizes.{sized}
+use Rattle.bl_seq.proofs.FinalBytes.{space_long}
 use Rattle.bl_seq.proofs.OwnSteps.{Reached, opens}
-use Rattle.bl_rob.specs.Machines.{opening, end_in, directive_step}
-use Rattle.bl_rob.specs.Observations.{MeetWhereEnded, reached}
+use Rattle.bl_rob.specs.Machines.{State, opening, end_in, directive_step}
+use Rattle.bl_rob.specs.Observations.{Rules, MeetWhereEnded, after_by}
 use Rattle.bl_rob.specs.declared.directive.Directive.{Directive}
-use Rattle.bl_rob.proofs.BufferInvariant.{Kept, runs, opening_kept, step_ok}
+use Rattle.bl_rob.proofs.BufferInvariant.{Holds, Kept, runs, opening_kept, step_ok}
 use Rattle.bl_rob.proofs.FetchedRuns.{config_of}
-use Rattle.bl_sct.specs.OtherSecrets.{IsOtherGlobal, AreAlikeBeside, HidesGlobals}
+use Rattle.bl_sct.specs.OtherSecrets.{IsOtherGlobal, AreAlikeBesideBy, HidesGlobals, HidesGlobalsBy}
 use Rattle.bl_sct.proofs.InitialAgreement.{registers as first_alike, bytes as bytes_alike, opposite, reached as comes}
 use Rattle.bl_sct.proofs.Entries.{none}
-use Rattle.bl_sct.proofs.OtherGlobals.{with_globals, first_same, after_same, observed_same}
-use Rattle.bl_sct.proofs.Relation.{all_twins, step_twins}
+use Rattle.bl_sct.proofs.OtherGlobals.{with_globals, first_same, step_same, after_same, observed_same}
+use Rattle.bl_sct.proofs.Relation.{Rel, Twin, all_twins, step_twins}
 use Rattle.bl_sct.proofs.LockstepLemmas.{Twins, twins}
 use Rattle.bl_sct.proofs.EqualObservations.{demands_by}
+use Rattle.bl_sct.proofs.Rules.{clear}
+
+-- rules whose steps keep the plain run, and twins where the marks pass, and look at nothing of the globals but how many they are
+pub record IsHiding {O : Type 0} (rules_of : ℕ → Program → Rules O) (most : ℕ) (program : Program) (facts : IsProgram program) (rules : IsWellFormed program) : Type 0 where
+  pub keeps : (from : Plain) → Reached program from → length from.space ≡ base program (length program.memories) → (s : State) (d : Directive)
+      → Kept program from s → Holds (Kept program from) (rules_of most program s d)
+  pub twins : (typing labelling : ℕ → Bool) (flows : Flows program typing (is_protected program)) (ok : KeepsLabelRules program labelling) (from beside : Plain)
+      (t : Twins program facts rules labelling ok from beside) (s u : State) (d : Directive) → Kept program from s → Kept program beside u
+      → Rel (clear program typing labelling flows ok) s u → Twin (Rel (clear program typing labelling flows ok)) (rules_of most program s d) (rules_of most program u d)
+  pub same : (globals : List GlobalDef) (same : length globals ≡ length program.globals) (s : State) (d : Directive)
+      → rules_of most (with_globals program globals same) s d ≡ rules_of most program s d
 
 -- ---- first values
 
@@ -98,22 +111,37 @@ module _ (program : Program) (facts : IsProgram program) (rules : IsWellFormed p
       let from = plain_opening other function b in
       record { config = config_of from; inv = record { registers = refl; space = refl; tracks = refl }; ran = runs from refl refl }
 
-  pub beside : Passes program (is_protected program) → (most : ℕ) (directives : List Directive) → AreAlikeBeside most program other function directives a b
-  beside passes most directives =
-      let from = plain_opening program function a in
-      let afar = plain_opening other function b in
-      let two = all_twins program facts rules passes.0 labelling passes.1 ok from afar open_beside (directive_step most program)
-      (λ s d k. step_ok program from most s d k) (λ s d k. step_ok program afar most s d k)
-      (λ s t d i j r. step_twins program facts rules passes.0 labelling passes.1 ok from afar open_beside most s t d i j r) 1 directives (opening program function a) (opening other function b)
-      (record { entries = none; front = refl; retired = refl }) (opening_kept program function a) kept in
-      record {
-        observed = two.observed ∙ sym (observed_same program globals same most 1 directives (opening other function b));
-        demands = subst (λ t. MeetWhereEnded program function (reached most program function a directives) t (end_in (reached most program function a directives)) (end_in t))
-            (sym (after_same program globals same most directives (opening other function b)))
-            (demands_by program facts rules labelling ok from afar open_beside function _ _ two.rel.retired two.one two.other _ _ refl refl);
-      }
+  module _ {O : Type 0} (rules_of : ℕ → Program → Rules O) (most : ℕ) (is : IsHiding rules_of most program facts rules) where
+    pub beside : Passes program (is_protected program) → (directives : List Directive) → AreAlikeBesideBy (rules_of most) program other function directives a b
+    beside passes directives =
+        let from = plain_opening program function a in
+        let afar = plain_opening other function b in
+        let one_long = space_long program facts rules function a agree.one_fits 0 from refl in
+        let far_long = space_long program facts rules function b agree.other_fits 0 (plain_opening program function b) refl in
+        let same_step = is.same globals same in
+        let two = all_twins program facts rules passes.0 labelling passes.1 ok from afar open_beside (rules_of most program)
+        (is.keeps from (comes program facts rules labelling ok function a b agree a agree.one_fits) one_long)
+        (is.keeps afar there far_long)
+        (is.twins passes.0 labelling passes.1 ok from afar open_beside) 1 directives (opening program function a) (opening other function b)
+        (record { entries = none; front = refl; retired = refl }) (opening_kept program function a) kept in
+        record {
+          observed = two.observed ∙ sym (observed_same (rules_of most other) (rules_of most program) same_step 1 directives (opening other function b));
+          demands = subst (λ t. MeetWhereEnded program function (after_by (rules_of most program) directives (opening program function a)) t
+              (end_in (after_by (rules_of most program) directives (opening program function a))) (end_in t))
+              (sym (after_same (rules_of most other) (rules_of most program) same_step directives (opening other function b)))
+              (demands_by program facts rules labelling ok from afar open_beside function _ _ two.rel.retired two.one two.other _ _ refl refl);
+        }
+
+pub hides_by : {O : Type 0} (rules_of : ℕ → Program → Rules O) (program : Program) (facts : IsProgram program) (rules : IsWellFormed program)
+    → ((most : ℕ) → IsHiding rules_of most program facts rules) → ConstantTime program → Passes program (is_protected program) → HidesGlobalsBy rules_of program
+hides_by rules_of program facts rules is constant passes other differs most some few function directives a b agree =
+    subst (λ p. AreAlikeBesideBy (rules_of most) program p function directives a b) (sym differs.is)
+    (beside program facts rules constant.0 constant.1 other.globals differs.globals function a b agree rules_of most (is most) passes directives)
 
 pub hides : (program : Program) → IsProgram program → IsWellFormed program → ConstantTime program → Passes program (is_protected program) → HidesGlobals program
-hides program facts rules constant passes other differs most some few function directives a b agree =
-    subst (λ p. AreAlikeBeside most program p function directives a b) (sym differs.is)
-    (beside program facts rules constant.0 constant.1 other.globals differs.globals function a b agree passes most directives)
+hides program facts rules =
+    hides_by directive_step program facts rules (λ most. record {
+      keeps = λ from r l s d k. step_ok program from most s d k;
+      twins = λ typing labelling flows ok from beside t s u d i j r. step_twins program facts rules typing labelling flows ok from beside t most s u d i j r;
+      same = λ globals same s d. step_same program globals same most s d;
+    })

@@ -79,7 +79,7 @@ module _ (program : Program) where
   kept_by s t (Some (Trap kind)) h = absurd h
   kept_by s t (Some _) h = ap (λ (x : Plain). length x.space) (sym h)
 
-  comes_keeps : (n : ℕ) (c d : Plain) → StepsTo (plain_step program) n c d → length d.space ≡ length c.space
+  pub comes_keeps : (n : ℕ) (c d : Plain) → StepsTo (plain_step program) n c d → length d.space ≡ length c.space
   comes_keeps zero c d h = ap (λ (x : Plain). length x.space) (sym h)
   comes_keeps (suc n) c d h = comes_keeps n h.0 d h.2 ∙ kept_by c h.0 (command_at program c.position) (subst (λ x. IsNext x h.0) (sym h.1) refl)
 
