@@ -1,4 +1,5 @@
 -- An image runs as the modules do that it was made of.
+use Rattle.bl_reduce.specs.Runnable.{runnable}
 use Rattle.std.proofs.Common.{◌≡◌, ℕ, ◌*◌, ◌≤◌, List, [], ◌∷◌, map, cond, Option, Some, None, slice_get, refl, sym, ap, ◌∙◌, subst, arith}
 use Rattle.std.specs.Str.{bytes_eq}
 use Rattle.std.proofs.Math.Nat.{mul-le-mul_left}
@@ -103,7 +104,7 @@ module _ (request : InterpRequest) (image_name start_name start : List ℕ) (con
     )
 
     same_memories : first_memories program invoked.start ≡ (first_store invoked.tree invoked.start).memories
-    same_memories = alike.first invoked.start ∙ memories_first tree compiled.linked invoked.function invoked.start ∙ ap (λ t. (first_store t invoked.start).memories) (sym o.same_tree)
+    same_memories = alike.first invoked.start ∙ memories_first tree (runnable tree compiled.linked) invoked.function invoked.start ∙ ap (λ t. (first_store t invoked.start).memories) (sym o.same_tree)
 
     same_plan : (outcome : Outcome) (m n : ℕ) → saying (outcome_status (Some outcome)) (printed_of invoked n (Some outcome)) ≡ saying (outcome_status (Some outcome)) (plain_text entered m (Some outcome))
     same_plan outcome m n =

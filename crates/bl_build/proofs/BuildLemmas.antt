@@ -1,4 +1,5 @@
 -- Building keeps the laws of stages, and gives a program that ends as its linked tree does.
+use Rattle.bl_reduce.specs.Runnable.{IsRunnable, runnable}
 use Rattle.std.proofs.Common.{◌≡◌, ℕ, ◌-◌, ◌^◌, ◌≤◌, List, length, inl, inr, refl, ap, sym, ◌∙◌, subst, arith}
 use Rattle.std.specs.Prelude.{Result, Ok, Err, min}
 use Rattle.std.proofs.lemmas.Bool.{cases_lt}
@@ -136,7 +137,7 @@ module _ {A B C X : Type 0} (first : Stage A B) (second : Stage B C) (f : X → 
 -- ---- what it means
 
 -- a linked tree and its program end alike
-pub same_outcomes : (tree : Tree) → IsLinked tree → SameOutcomes tree (low_tree tree)
+pub same_outcomes : (tree : Tree) → IsRunnable tree → SameOutcomes tree (low_tree tree)
 same_outcomes tree linked = record {
   follows = λ function start o n h. ends_after tree linked function start h.start_fits n o h;
   comes_from = λ function start o m h. plain_ended tree linked function start m o h;
@@ -153,5 +154,5 @@ are_compiled words contents built p =
       loaded = p.1;
       linked = p.1.2.2.2.can_run;
       builds = builds;
-      same_outcomes = subst (SameOutcomes p.0) (sym builds.is_program) (same_outcomes p.0 p.1.2.2.2.can_run);
+      same_outcomes = subst (SameOutcomes p.0) (sym builds.is_program) (same_outcomes p.0 (runnable p.0 p.1.2.2.2.can_run));
     }

@@ -1,4 +1,5 @@
 -- Weighing keeps the laws of stages, a weighed program is well-formed and has an image, and ends as its linked tree does.
+use Rattle.bl_reduce.specs.Runnable.{runnable}
 use Rattle.std.proofs.Common.{◌≡◌, ℕ, ◌+◌, ◌*◌, ◌^◌, ◌<◌, ◌≤◌, ◌==◌, ◌⊎◌, inl, inr, Bool, true, false, nat_lt, List, length, Option, Some, None, refl, ap, sym, ◌∙◌, subst, arith}
 use Rattle.std.specs.Prelude.{Result, Ok, Err}
 use Rattle.std.specs.List.{All}
@@ -245,7 +246,7 @@ are_built words contents None built p =
       weighed = is;
       image = subst (λ program. Image program built.image) (sym p.2.2.is_program) p.2.2.image;
       short = p.2.2.short;
-      same_outcomes = subst (SameOutcomes p.0) (sym is) (same_outcomes p.0 linked);
+      same_outcomes = subst (SameOutcomes p.0) (sym is) (same_outcomes p.0 (runnable p.0 linked));
     }
 are_built words contents (Some bytes) built p =
     let linked = p.1.2.2.2.can_run in
@@ -260,7 +261,7 @@ are_built words contents (Some bytes) built p =
       weighed = is;
       image = subst (λ program. Image program built.image) (sym weighted.2.is_program) weighted.2.image;
       short = weighted.2.short;
-      same_outcomes = subst (SameOutcomes p.0) (sym is.is_program) (weighed_outcomes p.0 (low_tree p.0) is.counts (same_outcomes p.0 linked));
+      same_outcomes = subst (SameOutcomes p.0) (sym is.is_program) (weighed_outcomes p.0 (low_tree p.0) is.counts (same_outcomes p.0 (runnable p.0 linked)));
     }
 
 -- the program is well-formed

@@ -30,14 +30,14 @@ use Rattle.bl_link.proofs.SegmentLemmas.{data_kept, elements_kept, le_of}
 
 -- ---- results that are Ok
 
-ok_same : {A E : Type 0} (x y : A) → ◌≡◌ {A = Result A E} (Ok x) (Ok y) → x ≡ y
+pub ok_same : {A E : Type 0} (x y : A) → ◌≡◌ {A = Result A E} (Ok x) (Ok y) → x ≡ y
 ok_same x y h = cc
 
-on_ok_is : {A B E : Type 0} (r : Result A E) (next : A → Result B E) (y : B) → on_ok r next ≡ Ok y → (x : A) × (r ≡ Ok x) × (next x ≡ Ok y)
+pub on_ok_is : {A B E : Type 0} (r : Result A E) (next : A → Result B E) (y : B) → on_ok r next ≡ Ok y → (x : A) × (r ≡ Ok x) × (next x ≡ Ok y)
 on_ok_is (Ok x) next y h = (x, refl, h)
 on_ok_is (Err e) next y h = absurd (cc h)
 
-if_ok : {A E : Type 0} (b : Bool) (r : Result A E) (e : E) (y : A) → (if b then r else Err e) ≡ Ok y → (b ≡ true) × (r ≡ Ok y)
+pub if_ok : {A E : Type 0} (b : Bool) (r : Result A E) (e : E) (y : A) → (if b then r else Err e) ≡ Ok y → (b ≡ true) × (r ≡ Ok y)
 if_ok true r e y h = (refl, h)
 if_ok false r e y h = absurd (cc h)
 

@@ -1,4 +1,5 @@
 -- The functions of a program beside those of its linked tree.
+use Rattle.bl_reduce.specs.Runnable.{runnable}
 use Rattle.std.proofs.Common.{◌≡◌, ℕ, map, Option, Some, None, slice_get, refl, ap, ◌∙◌}
 use Rattle.std.specs.Prelude.{option_and_then, option_map}
 use Rattle.std.proofs.lemmas.Option.{slice_get-map}
@@ -27,7 +28,7 @@ module _ (tree : Tree) (linked : IsLinked tree) where
       by (Some function) e typed = record {
         defined = function_def tree function;
         exists = slice_get-map (function_def tree) tree.functions number ∙ ap (option_map (function_def tree)) e;
-        kinds = params_of_type tree linked function type (all_get (IsFunction tree) tree.functions number function linked.functions e) typed;
+        kinds = params_of_type tree (runnable tree linked) function type (all_get (IsFunction tree) tree.functions number function linked.functions e) typed;
         results = ap results_by typed;
       }
 

@@ -1,4 +1,5 @@
 -- Commands of a function that keep the rules as far as their piece goes.
+use Rattle.bl_reduce.specs.Runnable.{runnable}
 use Rattle.std.proofs.Common.{◌≡◌, ℕ, zero, suc, ◌+◌, ◌<◌, ◌≤◌, List, [], ◌∷◌, length, None, refl, subst, arith, ◌⊎◌, inl, inr}
 use Rattle.std.proofs.lemmas.List.{length-map}
 use Rattle.bl_ops.specs.declared.op.Op.{Op}
@@ -35,12 +36,12 @@ module _ (tree : Tree) (linked : IsLinked tree) (number : ℕ) (B : ℕ → Type
   own x low high = (omega (arith, first_is tree number, low), omega (arith, first_is tree (suc number), high))
 
   result_start : (f : ℕ) → result_of (low_tree tree) f 0 ≡ (shape tree f).first + (shape tree f).params
-  result_start f = omega (arith, first_is tree f, params_number tree linked f)
+  result_start f = omega (arith, first_is tree f, params_number tree (runnable tree linked) f)
 
   not_result : (x : ℕ) → (mine.first + mine.params ≤ x → mine.first + mine.params + mine.results ≤ x) → IsResult (low_tree tree) number x → ⊥
   not_result x above is =
       let over = above (omega (arith, result_start number, is.0)) in
-      omega (arith, over, is.1, first_is tree number, params_number tree linked number, results_number tree number)
+      omega (arith, over, is.1, first_is tree number, params_number tree (runnable tree linked) number, results_number tree number)
 
   pub own_local : (x : ℕ) → mine.first ≤ x → x < mine.limit → (mine.first + mine.params ≤ x → mine.first + mine.params + mine.results ≤ x) → IsLocal (low_tree tree) number x
   own_local x low high above = (own x low high, not_result x above)
@@ -63,7 +64,7 @@ module _ (tree : Tree) (linked : IsLinked tree) (number : ℕ) (B : ℕ → Type
   reads_static y lt x e = inl (omega (arith, e, lt, statics_are tree))
 
   pub reads_result : (f index : ℕ) → index < (shape tree f).results → Readable (variable (result (shape tree f) index))
-  reads_result f index lt x e = inr (inr (f, (omega (arith, e, result_start f), omega (arith, e, lt, first_is tree f, params_number tree linked f, results_number tree f))))
+  reads_result f index lt x e = inr (inr (f, (omega (arith, e, result_start f), omega (arith, e, lt, first_is tree f, params_number tree (runnable tree linked) f, results_number tree f))))
 
   abbrev pub AllReadable : List Operand → Type 0
   AllReadable [] = Unit {0}
@@ -139,7 +140,7 @@ module _ (tree : Tree) (linked : IsLinked tree) (number : ℕ) (B : ℕ → Type
     pub arg_simple : (position depth f index : ℕ) (a : Operand) → depth ≤ 6 → f < length (low_tree tree).functions → index < (shape tree f).params → Readable a → Goes start size (suc position)
         → Simple start size position (arg_of depth f index a)
     arg_simple position depth f index a small lt within ra falls =
-        simply position (arg_of depth f index a) tt (record { reads = λ y i. elim i [ inl e ↦ ra y e | inr k ↦ absurd k ]; writes = tt }) (small, lt, omega (arith, within, params_number tree linked f)) (λ t h. absurd h) (inr falls) refl tt
+        simply position (arg_of depth f index a) tt (record { reads = λ y i. elim i [ inl e ↦ ra y e | inr k ↦ absurd k ]; writes = tt }) (small, lt, omega (arith, within, params_number tree (runnable tree linked) f)) (λ t h. absurd h) (inr falls) refl tt
 
     pub call_simple : (position f : ℕ) → f < length (low_tree tree).functions → Goes start size (suc position) → Simple start size position (Call f)
     call_simple position f lt falls = simply position (Call f) tt (record { reads = λ y i. absurd i; writes = tt }) lt (λ t h. absurd h) (inr falls) refl tt

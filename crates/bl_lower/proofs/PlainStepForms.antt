@@ -5,7 +5,7 @@ use Rattle.bl_base.specs.Quantity.{most_calls}
 use Rattle.bl_base.specs.Runs.{MemoryState, Outcome, Next, goes, ends, returned, trapped, EndsAfter, last, more}
 use Rattle.bl_base.specs.declared.trap.Trap.TheVariants as trap_kind
 use Rattle.bl_ops.specs.Numerics.{meaning}
-use Rattle.bl_wasm.specs.Linked.{IsLinked}
+use Rattle.bl_reduce.specs.Runnable.{IsRunnable}
 use Rattle.bl_wasm.specs.declared.linked.Memory.{Memory}
 use Rattle.bl_wasm.specs.declared.linked.Tree.{Tree}
 use Rattle.bl_cmd.specs.Layout.{size_of, result as result_of, param as param_of, running, sum_before}
@@ -47,7 +47,7 @@ values_are shape r (suc count) index x e = ap₂ (λ v l. v ∷ l) (ap (r 0) e) 
 
 -- ---- steps
 
-module _ (tree : Tree) (linked : IsLinked tree) where
+module _ (tree : Tree) (linked : IsRunnable tree) where
   place_is : (s : Plain) (x : ℕ) → held (low_tree tree) (depth s) x ≡ place (shaped tree) x s
   place_is s x = ap (λ n. cond (nat_lt x n) 0 (depth s)) (statics_are tree)
 

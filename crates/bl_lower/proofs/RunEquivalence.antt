@@ -6,7 +6,8 @@ use Rattle.bl_base.specs.Runs.{Outcome, Next, EndsAfter, goes, ends, stuck}
 use Rattle.bl_base.specs.declared.names.ValueType.{ValueType}
 use Rattle.bl_base.proofs.RunLemmas.{Simulates, Follows, forward, backward}
 use Rattle.bl_ops.specs.Access.{access_type}
-use Rattle.bl_wasm.specs.Linked.{IsLinked, IsFunction, HasImmediates}
+use Rattle.bl_wasm.specs.Linked.{IsFunction, HasImmediates}
+use Rattle.bl_reduce.specs.Runnable.{IsRunnable}
 use Rattle.bl_wasm.specs.Typing.{Context, Open, Types, integer}
 use Rattle.bl_wasm.specs.declared.instruction.Instr.{Instr}
 use Rattle.bl_wasm.specs.declared.instruction.Instr.TheVariants.{If, BrIf, BrTable, CallIndirect, Load, Store, MemoryGrow}
@@ -52,7 +53,7 @@ module _ (c : Context) where
   tested open_ones (CallIndirect i ∷ items) stack later values h all = let b = (behind_item c (CallIndirect i) items open_ones stack later h).rule in topmost stack b.rule.3.lower b.rule.0.params values b.rule.3.before all
   tested open_ones (item ∷ items) stack later values h all = tt
 
-module _ (tree : Tree) (linked : IsLinked tree) (program : Program) (bound : ℕ) (is : IsProgram tree program bound) (some : 1 ≤ bound) (results : List ValueType) where
+module _ (tree : Tree) (linked : IsRunnable tree) (program : Program) (bound : ℕ) (is : IsProgram tree program bound) (some : 1 ≤ bound) (results : List ValueType) where
   -- a configuration that is typed, and a plain state that stands for it
   abbrev pub Meets : Config → Plain → Type 0
   Meets config s = IsTyped tree results config × Matches program bound config s

@@ -7,7 +7,8 @@ use Rattle.std.proofs.lemmas.Option.{same_Some, slice_get-map}
 use Rattle.std.proofs.lemmas.Slice.Zip.{firsts-zip}
 use Rattle.bl_base.proofs.Lists.{all_get}
 use Rattle.bl_base.specs.declared.names.Label.{Label}
-use Rattle.bl_wasm.specs.Linked.{IsLinked, IsFunction}
+use Rattle.bl_wasm.specs.Linked.{IsFunction}
+use Rattle.bl_reduce.specs.Runnable.{IsRunnable}
 use Rattle.bl_wasm.specs.declared.linked.Function.{Function}
 use Rattle.bl_wasm.specs.declared.linked.Signature.{Signature}
 use Rattle.bl_wasm.specs.declared.linked.Tree.{Tree}
@@ -51,7 +52,7 @@ module _ (tree : Tree) where
       by None = refl
       by (Some function) = of_type (slice_get tree.types function.type_index)
 
-  module _ (linked : IsLinked tree) where
+  module _ (linked : IsRunnable tree) where
     -- the parameters of a function are those of its type
     pub kinds_are : (type : Signature) (labels : List Label) → length labels ≡ length type.params → map (λ p. p.kind) (params_by (Some type) labels) ≡ type.params
     kinds_are type labels e = map_map param_def (λ p. p.kind) (zip type.params labels) ∙ firsts-zip type.params labels e

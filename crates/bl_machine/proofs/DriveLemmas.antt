@@ -1,4 +1,5 @@
 -- Runs of the machine, from the steps that it follows.
+use Rattle.bl_reduce.specs.Runnable.{runnable}
 use Rattle.std.proofs.Common.{◌≡◌, ℕ, ◌+◌, ◌≤◌, true, false, List, [], length, Option, Some, None, refl, sym, ap, ◌∙◌, subst, arith}
 use Rattle.std.specs.Prelude.{IfOk, Result, Ok, Err}
 use Rattle.std.specs.List.{AllZip}
@@ -66,7 +67,7 @@ begins tree function start m linked is e = subst (Reached tree function start 0 
     },
   );
   results = is.type.results;
-  typed = typed_opening tree linked function start is;
+  typed = typed_opening tree (runnable tree linked) function start is;
 })
 
 -- ---- a step
@@ -97,7 +98,7 @@ stepped tree function start steps progress m later n linked r e =
     let follows = step_simulates tree linked r.results progress m r.config r.matches r.typed in
     let P : Stepped → Type 0 = λ s. After tree function start (steps + 1) s.progress s.machine in
     let s = advanced tree (prepared_of tree) progress m in
-    subst P e (led tree function start steps r.config r.comes r.results s.progress s.machine (source_step tree r.config) refl (preservation tree linked r.results r.config r.typed) follows)
+    subst P e (led tree function start steps r.config r.comes r.results s.progress s.machine (source_step tree r.config) refl (preservation tree (runnable tree linked) r.results r.config r.typed) follows)
 
 pub goes_on : (tree : Tree) (function : ℕ) (start : Start) (steps : ℕ) (progress : Progress) (m : Machine) → has_ended progress ≡ false → After tree function start steps progress m
     → Reached tree function start steps progress m

@@ -1,4 +1,5 @@
 -- The machine follows the rules.
+use Rattle.bl_reduce.specs.Runnable.{runnable}
 use Rattle.std.proofs.Common.{◌≡◌, ℕ, ◌+◌, ◌≤◌, List, [], ◌∷◌, ◌++◌, length, map, drop, get_or, Some, slice_get, refl, sym, ap, ◌∙◌, subst, arith, length-append}
 use Rattle.std.specs.Prelude.{unwrap_or}
 use Rattle.bl_base.specs.Runs.{HasStep, trapped as trapped_with}
@@ -196,7 +197,7 @@ module _ (tree : Tree) (linked : IsLinked tree) where
   -- a step of the machine follows one of the rules
   pub step_simulates : (results : List ValueType) (progress : Progress) (m : Machine) (config : Config) → match_states tree progress m config → IsTyped tree results config
       → simulates tree (advanced tree (prepared_of tree) progress m) (source_step tree config)
-  step_simulates results Running m (running state) is typed = state_simulates results m state is typed (has_step tree linked results (running state) typed)
+  step_simulates results Running m (running state) is typed = state_simulates results m state is typed (has_step tree (runnable tree linked) results (running state) typed)
   step_simulates results (Entering called) m (entering store number arguments callers) is typed =
       subst (λ n. simulates tree (entered_at (slice_get (bodies tree) n) n m) (source_step tree (entering store number arguments callers))) (sym is.0)
       (enter_simulates tree results m store number arguments callers is.1 typed)

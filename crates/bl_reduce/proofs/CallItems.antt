@@ -10,7 +10,8 @@ use Rattle.bl_base.specs.Quantity.{most_calls}
 use Rattle.bl_base.specs.Runs.{Next, goes}
 use Rattle.bl_base.specs.declared.names.ValueType.{ValueType}
 use Rattle.bl_base.specs.declared.trap.Trap.TheVariants.{UndefinedElement, UninitializedElement, TypeMismatch, StackExhausted}
-use Rattle.bl_wasm.specs.Linked.{IsLinked, IsFunction, IsSlot, context, function_type, seen, type_of}
+use Rattle.bl_wasm.specs.Linked.{IsFunction, IsSlot, context, function_type, seen, type_of}
+use Rattle.bl_reduce.specs.Runnable.{IsRunnable}
 use Rattle.bl_wasm.specs.TypeNumbers.{is_same_type}
 use Rattle.bl_wasm.specs.Typing.{Context, Open, Arrow, HasType, IsTyping, Types, integer}
 use Rattle.bl_wasm.specs.Validity.{locals_of}
@@ -34,7 +35,7 @@ first_place : (c : Context) (body : List Instr) (places : List (List WasmType)) 
 first_place c body [] h = absurd (none-some [] h.0)
 first_place c body (first ∷ later) h = (later, subst (λ stack. Types c [] body (stack ∷ later)) (same_Some first [] h.0) h.1)
 
-module _ (tree : Tree) (linked : IsLinked tree) (results : List ValueType) where
+module _ (tree : Tree) (linked : IsRunnable tree) (results : List ValueType) where
   -- ---- entering
 
   pub enter_steps : (store : Store) (number : ℕ) (arguments : List ℕ) (callers : List Frame) → IsEntering tree results store number arguments callers

@@ -12,7 +12,8 @@ use Rattle.bl_base.specs.declared.trap.Trap.TheVariants.{OutOfBounds}
 use Rattle.bl_ops.proofs.Fits.{load_fits}
 use Rattle.bl_ops.specs.Access.{access_type, width_of, extended, narrowed}
 use Rattle.bl_ops.specs.declared.access.AccessKind.{AccessKind}
-use Rattle.bl_wasm.specs.Linked.{IsLinked, IsFunction, IsMemory, seen}
+use Rattle.bl_wasm.specs.Linked.{IsFunction, IsMemory, seen}
+use Rattle.bl_reduce.specs.Runnable.{IsRunnable}
 use Rattle.bl_wasm.specs.Typing.{Open, Arrow, integer}
 use Rattle.bl_wasm.specs.declared.instruction.MemoryArgument.{MemoryArgument}
 use Rattle.bl_wasm.specs.declared.types.WasmType.{WasmType}
@@ -72,7 +73,7 @@ grown_state defined memory delta le is = record {
   bytes = All-append (λ byte. byte < 2 ^ 8) memory.bytes (replicate (delta * 65536) 0) is.bytes (All-replicate (λ byte. byte < 2 ^ 8) (delta * 65536) 0 (omega arith));
 }
 
-module _ (tree : Tree) (linked : IsLinked tree) (results : List ValueType) (type : Signature) (open_ones : List Open) where
+module _ (tree : Tree) (linked : IsRunnable tree) (results : List ValueType) (type : Signature) (open_ones : List Open) where
   abbrev Steps : Next Config → Type 0
   Steps next = IsTypedStep tree results next
 

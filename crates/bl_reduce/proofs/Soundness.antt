@@ -10,7 +10,8 @@ use Rattle.bl_base.specs.declared.names.ValueType.{ValueType}
 use Rattle.bl_base.specs.declared.start.Patch.{Patch}
 use Rattle.bl_base.specs.declared.start.Start.{Start}
 use Rattle.bl_base.specs.declared.trap.Trap.TheVariants as kind
-use Rattle.bl_wasm.specs.Linked.{IsLinked, IsFunction, IsMemory, HasImmediates, context, function_type}
+use Rattle.bl_wasm.specs.Linked.{IsFunction, IsMemory, HasImmediates, context, function_type}
+use Rattle.bl_reduce.specs.Runnable.{IsRunnable}
 use Rattle.bl_wasm.specs.OpenConstructs.{Kind, of_block, of_loop, then_part, else_part}
 use Rattle.bl_wasm.specs.Typing.{Open, opened, labels, Begins, Rule, Plain, integer, expanded}
 use Rattle.bl_wasm.specs.declared.types.BlockType.{BlockType}
@@ -58,7 +59,7 @@ drop_head (x ∷ xs) (suc place) item rest e = drop_head xs place item rest e
 without_more : (lower params from : List WasmType) → from ≡ lower ++ (params ++ []) → from ≡ lower ++ params
 without_more lower params from e = e ∙ ap (λ types. lower ++ types) (append-nil params)
 
-module _ (tree : Tree) (linked : IsLinked tree) (results : List ValueType) where
+module _ (tree : Tree) (linked : IsRunnable tree) (results : List ValueType) where
   abbrev Steps : Next Config → Type 0
   Steps next = IsTypedStep tree results next
 
@@ -185,7 +186,7 @@ module _ (tree : Tree) (linked : IsLinked tree) (results : List ValueType) where
 
 -- ---- the start
 
-module _ (tree : Tree) (linked : IsLinked tree) where
+module _ (tree : Tree) (linked : IsRunnable tree) where
   -- a memory whose first pages stand, with patches written over them
   pub record IsOpening (memory : Memory) (state : MemoryState) : Type 0 where
     pub is : IsMemoryState memory state

@@ -1,4 +1,5 @@
 -- A linked tree with a memory, a table, calls and a loop that has a parameter: what the laws of runs ask can be met.
+use Rattle.bl_reduce.specs.Runnable.{runnable}
 use Rattle.std.proofs.Common.{◌≡◌, ℕ, ◌^◌, ◌<◌, ◌≤◌, true, false, List, [], ◌∷◌, length, drop, Some, None, refl, arith}
 use Rattle.std.specs.List.{All}
 use Rattle.std.proofs.lemmas.List.Elements.{All-nil, All-cons}
@@ -135,4 +136,4 @@ is_start = record {
 }
 
 has_step : (n : ℕ) (config : Config) → StepsTo (source_step tree) n (opening tree 0 start) config → HasStep (source_step tree config)
-has_step n config comes = never_stuck tree is_linked 0 start is_start n config comes
+has_step n config comes = never_stuck tree (runnable tree is_linked) 0 start is_start n config comes

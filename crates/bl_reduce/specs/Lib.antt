@@ -8,3 +8,4 @@ pub mod Returns
 pub mod Steps
 pub mod TypedConfigurations
 pub mod Variables
+pub mod Runnable
