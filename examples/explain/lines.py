@@ -16,11 +16,12 @@ HEADERS = (".h", ".inc", ".hpp")
 
 
 class Line(NamedTuple):
-    """A line of C: its file, its number (0 where it isn't known), and the function it stands in."""
+    """A line of C: its file, its number (0 where it isn't known), the function it stands in, and the column (0 where it isn't known)."""
 
     path: str
     number: int
     function: str
+    column: int = 0
 
     @property
     def place(self) -> str:
@@ -59,6 +60,7 @@ class Lines:
         self.tool = next((tool for tool in SYMBOLIZERS if shutil.which(tool)), None)
         self.known: Dict[Tuple[str, int], Line] = {}
         self.sources: Dict[str, List[str]] = {}
+        self.told: Dict[str, list] = {}  # what DWARF says of a module's functions, once it is asked
         self.has_lines = self.tool is not None and any(linked.module.has_lines for linked in functions)
 
     def spot(self, position: int) -> Optional[Spot]:
@@ -99,12 +101,15 @@ class Lines:
 
     def source(self, line: Line) -> str:
         """The text of a line of C, where its file is there."""
+        return self.source_as_is(line).strip()
+
+    def source_as_is(self, line: Line) -> str:
         if not line.number:
             return ""
         if line.path not in self.sources:
             self.sources[line.path] = source_of(line.path)
         texts = self.sources[line.path]
-        return texts[line.number - 1].strip() if line.number <= len(texts) else ""
+        return texts[line.number - 1] if line.number <= len(texts) else ""
 
     def place(self, position: int) -> str:
         """The line and function of a position, as far as they are known."""
@@ -126,10 +131,10 @@ def chosen(frames: Sequence[Tuple[str, str]]) -> Line:
 
 def line_of(frame: Tuple[str, str]) -> Line:
     name, where = frame
-    path, number, _ = (where.rsplit(":", 2) + ["", ""])[:3]
+    path, number, column = (where.rsplit(":", 2) + ["", ""])[:3]
     if path.startswith("??") or not number.isdigit():
         return NOWHERE
-    return Line(path, int(number), "" if name == "??" else name)
+    return Line(path, int(number), "" if name == "??" else name, int(column) if column.isdigit() else 0)
 
 
 def source_of(path: str) -> List[str]:

@@ -2,17 +2,20 @@
 from __future__ import annotations
 
 import argparse
+import os
 import sys
 from typing import List, Optional, Sequence, Tuple
 
-from . import compare, page, text
+from . import compare, diagnostics, metadata, page, text
 from .causes import Cause, add_ends, causes_of, likely
 from .flow import Findings, find
 from .image import Image, read_image
 from .lines import Lines
 from .lowering import Linked, lower
 from .protects import protects_of, read_certificate
+from .labels import is_labelled
 from .reading import Bad, read_file
+from .secrets import declared
 from .wasm import read_module
 
 DONE, DIFFERS, USAGE, UNREAD = 0, 1, 2, 3
@@ -35,6 +38,12 @@ def words_of(words: Sequence[str]) -> argparse.Namespace:
     parser.add_argument("--causes", metavar="N", type=int, default=3, help="so many causes are told in detail (3)")
     parser.add_argument("--ways", metavar="N", type=int, default=1, help="so many ends of each (1)")
     parser.add_argument("--page", metavar="FILE", help="writes a page for the browser, too")
+    parser.add_argument("--lines", action="store_true", help="tells the refused places in the form of compilers, instead of the text")
+    parser.add_argument("--limit", metavar="N", type=int, default=20, help="so many of them (20)")
+    parser.add_argument("--json", metavar="FILE", help="writes the refused places and the protects for scripts, too")
+    parser.add_argument("--sarif", metavar="FILE", help="writes them as SARIF 2.1.0, for code scanning and editors, too")
+    parser.add_argument("--root", metavar="FOLDER", default=".", help="SARIF tells files from there on (.)")
+    parser.add_argument("--annotate", metavar="FOLDER", help="writes copies of the modules there that say where the protects stand, for runtimes")
     parser.add_argument("--at", metavar="POS,..", type=positions, help="tells these positions alone: instruction, place, commands")
     parser.add_argument("--list", action="store_true", help="lists all instructions with their positions and commands; IMAGE may be a module then")
     return parser.parse_args(list(words))
@@ -98,7 +107,14 @@ def explain(words: argparse.Namespace) -> int:
     causes = causes_of(found, lines)
     judged(found, lines, causes[: detailed(found, words)], words.ways)
     lines.ask([site for protect in protects for site in [protect.position] + ([protect.reason[0][0], protect.reason[1]] if protect.reason else [])])
-    for line in text.report(found, causes, protects, lines, words.public, words.causes, words.ways):
+    for linked in {one.module.path: one for one in functions}.values():
+        if declared(linked.module) and not is_labelled(linked.module):
+            print(f"warning: {linked.module.path}: what its source declares secret by blade.h isn't in its labels: blade-label puts it there")
+    if words.annotate:
+        annotate(words, image, lines)
+    if words.lines or words.json or words.sarif:
+        tell(words, diagnostics.told_of(found, lines, causes, protects), lines)
+    for line in [] if words.lines else text.report(found, causes, protects, lines, words.public, words.causes, words.ways):
         print(line)
     if words.page:
         with open(words.page, "w", encoding="utf-8") as file:
@@ -106,6 +122,43 @@ def explain(words: argparse.Namespace) -> int:
     for one in differ:
         print(f"differs: {one}")
     return DIFFERS if differ else DONE
+
+
+def version() -> str:
+    """That of the program, which stands above this folder in a clone and in a release."""
+    try:
+        with open(os.path.join(os.path.dirname(os.path.realpath(__file__)), "../../VERSION"), encoding="utf-8") as file:
+            return file.read().strip()
+    except OSError:
+        return "0"
+
+
+def tell(words: argparse.Namespace, told: diagnostics.Told, lines: Lines) -> None:
+    """The refused places, as words ask for."""
+    written = []
+    if words.json:
+        written.append((words.json, diagnostics.as_json(told, words.image, words.modules)))
+    if words.sarif:
+        written.append((words.sarif, diagnostics.as_sarif(told, words.image, words.modules, lines, os.path.abspath(words.root), version())))
+    for path, made in written:
+        with open(path, "w", encoding="utf-8") as file:
+            file.write(made)
+    if words.lines:
+        for line in diagnostics.as_text(told, words.image, words.limit, lines):
+            print(line)
+
+
+def annotate(words: argparse.Namespace, image: Image, lines: Lines) -> None:
+    """Copies of the modules with the places of protects."""
+    os.makedirs(words.annotate, exist_ok=True)
+    for path, one in metadata.annotations(image, lines).items():
+        module = read_module(path)
+        with open(os.path.join(words.annotate, os.path.basename(path)), "wb") as file:
+            file.write(metadata.annotated(module, one))
+        for position, instruction in one.lost:
+            print(f"differs: the protect at {position} ({instruction}) is of no value of {path}")
+    for what, count in sorted(metadata.tally(image, lines).items()):
+        print(f"annotated: {count} {what}")
 
 
 def run(words: argparse.Namespace) -> int:

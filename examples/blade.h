@@ -1,0 +1,38 @@
+/* Declares secrets beside the C code that has them. Each line goes to the module's section blade.secrets, of which blade-cc and blade-label make its
+   labels; on other targets than WebAssembly the macros declare nothing. They stand at file scope. Licence: public domain (CC0).
+
+     unsigned lookup(unsigned index);
+     BLADE_SECRET_PARAM(lookup, index);    parameter index of lookup is secret: by its name, or by its number, from 0
+     BLADE_PUBLIC_RESULT(compare);         what compare returns has to be public
+     BLADE_SECRET_MEMORY;                  all of C's memory is secret: what pointers lead to, C's variables, and what C keeps in frames
+
+   A function is named behind its declaration and before its definition, in the unit that defines it, or in a header that the unit includes: the
+   macro keeps clang from inlining it, for what an inlined copy is given would not be declared secret. There is no macro for a variable of C: it
+   stands in C's memory, which has one label as a whole. */
+#ifndef BLADE_H
+#define BLADE_H
+#if defined(__wasm__) && !defined(BLADE_OFF)
+#define BLADE_TEXT_(x) #x
+#define BLADE_SPELLED_(x) BLADE_TEXT_(x)
+#define BLADE_GLUED_(x, y) x##y
+#define BLADE_NAMED_(number) BLADE_GLUED_(blade_labels_stand_at_file_scope_, number)
+/* The empty function makes a macro inside of a function an error: a section that is switched there would break the code. */
+#define BLADE_DECLARE_(kind, name, which) \
+    static inline __attribute__((unused)) void BLADE_NAMED_(__COUNTER__)(void) {} \
+    __asm__(".section .custom_section.blade.secrets,\"\",@\n.ascii \"" kind "\\t" name "\\t" which "\\t" __FILE__ ":" BLADE_SPELLED_(__LINE__) \
+            "\\t" __BASE_FILE__ "\\n\"\n.text\n")
+/* Behind the definition the attribute would come too late: that is an error then. */
+#define BLADE_KEPT_(function) \
+    _Pragma("clang diagnostic push") _Pragma("clang diagnostic error \"-Wignored-attributes\"") \
+    extern __typeof__(function) function __attribute__((noinline)); \
+    _Pragma("clang diagnostic pop")
+#define BLADE_SECRET_PARAM(function, parameter) \
+    BLADE_KEPT_(function) BLADE_DECLARE_("secret-param", BLADE_SPELLED_(function), BLADE_SPELLED_(parameter))
+#define BLADE_PUBLIC_RESULT(function) BLADE_KEPT_(function) BLADE_DECLARE_("public-result", BLADE_SPELLED_(function), "0")
+#define BLADE_SECRET_MEMORY BLADE_DECLARE_("secret-memory", "0", "-")
+#else
+#define BLADE_SECRET_PARAM(function, parameter) struct blade_labels_
+#define BLADE_PUBLIC_RESULT(function) struct blade_labels_
+#define BLADE_SECRET_MEMORY struct blade_labels_
+#endif
+#endif

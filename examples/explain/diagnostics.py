@@ -1,0 +1,448 @@
+"""What is refused, as a compiler tells it: a place in a file, a rule, and the way from what is declared secret. For editors (text), scripts (JSON) and
+code scanning (SARIF 2.1.0). Licence: public domain (CC0)."""
+from __future__ import annotations
+
+import hashlib
+import json
+import os
+import re
+from dataclasses import dataclass, field
+from typing import Dict, Iterator, List, Optional, Sequence, Tuple
+
+from .causes import LEAK, Cause, Way, add_ends, likely
+from .dwarf import subprograms
+from .flow import CONDITION, DEMANDED, DIVISION, LOAD_ADDRESS, STORE_ADDRESS, STORED, End, Findings, Origin
+from .lines import NOWHERE, Line, Lines
+from .protects import Protect
+from .secrets import declared, labels_of
+from .wasm import MEMORY
+
+MOST_JUDGED = 40  # so many causes get a likely reason
+MANY, MOST_SOURCES = 3, 4  # with more places than that it is told where to begin: so many lines
+MOST_STEPS = 12  # of a way
+PROTECT = "blade-protect"
+SCHEMA = "https://json.schemastore.org/sarif-2.1.0.json"
+CALLED = "call by a secret"
+
+
+@dataclass(frozen=True)
+class Rule:
+    """A kind of end: the rule's name, what is said of a place, and what helps."""
+
+    name: str
+    title: str
+    text: str
+    help: str
+
+
+RULES: Dict[str, Rule] = {
+    CONDITION: Rule("blade-branch", "SecretBranch", "a branch depends on a secret", "compute without a branch: both ways, and a mask that keeps one"),
+    LOAD_ADDRESS: Rule("blade-load", "SecretLoadAddress", "a secret is part of the address of a load", "read all entries, and keep one by a mask"),
+    STORE_ADDRESS: Rule("blade-store", "SecretStoreAddress", "a secret is part of the address of a store", "write all entries, by masks"),
+    DIVISION: Rule("blade-division", "SecretDivision", "a secret is an operand of a division", "divide by a constant, or by multiplications and shifts"),
+    STORED: Rule("blade-public-memory", "SecretInPublicMemory", "a secret is stored to a public memory", "keep it in a memory that is declared secret"),
+    CALLED: Rule("blade-call", "SecretCall", "a secret chooses which function is called", "call functions by their names, or keep the pointer in the ledger"),
+    DEMANDED: Rule("blade-public-demand", "SecretResult", "what has to be public depends on a secret", "drop the demand, or don't make it of the secret"),
+}
+
+
+@dataclass
+class Step:
+    """A place on a way, and what is said of it."""
+
+    line: Line
+    position: int
+    message: str
+    function: str = ""
+
+
+@dataclass
+class Problem:
+    """A refused place: its rule, its line, the way there, and the likely reason. Ends of one rule at one place are one problem."""
+
+    rule: Rule
+    line: Line
+    position: int
+    function: str
+    instruction: str
+    steps: List[Step]
+    ends: int = 1
+    likely: Optional[Tuple[str, str]] = None
+    loaded: Optional[Step] = None  # the line that loads the secret, where it comes of a memory
+    module: str = ""
+    offset: int = 0  # in the module's file
+
+
+@dataclass
+class Source:
+    """A line that loads or declares secrets, how many refused ends they reach, and the likely reason: where to mend first."""
+
+    line: Line
+    position: int
+    text: str
+    ends: int
+    likely: Optional[Tuple[str, str]]
+
+
+@dataclass
+class Told:
+    """All that is told of an image."""
+
+    found: Findings
+    problems: List[Problem]
+    protects: List[Step]
+    weights: List[int] = field(default_factory=list)
+    sources: List[Source] = field(default_factory=list)
+
+
+def rule_of(end: End, instruction: str) -> Rule:
+    """A division's test of its divisor is told as the division, the tests of an indirect call as the call."""
+    word = instruction.split(" ")[0]
+    if end.kind == CONDITION and word[3:7] in (".div", ".rem"):
+        return RULES[DIVISION]
+    return RULES[CALLED if end.kind == CONDITION and word == "call_indirect" else end.kind]
+
+
+def place_of(lines: Lines, position: int, way: Sequence[int] = ()) -> int:
+    """A position with a line of C, for one that has none (in an accessor, or made by the compiler): the last one on the way."""
+    if lines.line(position).number and lines.is_plain(position):
+        return position
+    return next((site for site in reversed(way) if lines.line(site).number), position)
+
+
+def parameter_name(lines: Lines, number: int, index: int) -> str:
+    """As C calls it, where DWARF tells of as many parameters as the module has."""
+    if number >= len(lines.functions):
+        return str(index)
+    linked = lines.functions[number]
+    if linked.module.path not in lines.told:
+        lines.told[linked.module.path] = subprograms(linked.module)
+    one = next((one for one in lines.told[linked.module.path] if one.function == linked.index), None)
+    if one is None or len(one.params) != len(linked.module.type_of(linked.index).params):
+        return str(index)
+    return one.params[index].name or str(index)
+
+
+def origin_text(origin: Origin, found: Findings, lines: Lines) -> str:
+    words = origin.declared.split()
+    if words[0] == "parameter":
+        number = int(words[1])
+        name = lines.functions[number].name if number < len(lines.functions) else f"function {number}"
+        called = parameter_name(lines, number, int(words[2]))
+        return f"parameter {called} of {name} is declared secret"
+    return f"{origin.declared} is declared secret" + (": it is loaded here" if origin.position is not None else "")
+
+
+def declared_at(lines: Lines) -> Dict[str, Line]:
+    """Of what sources declare by blade.h, the lines where: by the words that origins are told by."""
+    numbers = {(one.module.name, one.index): number for number, one in enumerate(lines.functions)}
+    found: Dict[str, Line] = {}
+    memories = 0
+    for module in {one.module.name: one.module for one in lines.functions}.values():
+        told = labels_of(module).entries if declared(module) else []
+        imported = len(module.imported(MEMORY))
+        for (kind, indices), where in told:
+            path, _, number = where.rpartition(":")
+            line = Line(path, int(number) if number.isdigit() else 0, "")
+            if kind == "secret-param" and (module.name, indices[0]) in numbers:
+                found[f"parameter {numbers[module.name, indices[0]]} {indices[1]}"] = line
+            elif kind == "secret-memory":
+                found[f"memory {memories + indices[0] - imported}"] = line
+        memories += module.memories - imported
+    return found
+
+
+def steps_of(way: Way, found: Findings, lines: Lines, known: Dict[str, Line]) -> List[Step]:
+    """The way by lines, from where a secret is declared to the end."""
+    steps = steps_between(way, found, lines)
+    line = known.get(way.origin.declared)
+    if line is not None and line.number:
+        first = steps[0]
+        declaring = Step(line, first.position, origin_text(way.origin._replace(position=None), found, lines), "")
+        loads = way.origin.position is not None and len(steps) > 1
+        steps[:1] = [declaring, first] if loads else [declaring] + ([first] if len(steps) == 1 else [])
+        if loads:
+            first.message = "it is loaded here"
+    return steps
+
+
+def steps_between(way: Way, found: Findings, lines: Lines) -> List[Step]:
+    """The way by lines, from the first one that has the secret to the end; each line once where steps follow one another there."""
+    first = way.origin.position
+    if first is None:
+        words = way.origin.declared.split()
+        first = found.image.functions[int(words[1])].entry if words[0] == "parameter" else way.sites[0] if way.sites else way.end.position
+    steps: List[Step] = []
+    for position in [first] + way.sites + [way.end.position]:
+        line, spot = lines.line(position), lines.spot(position)
+        name = line.function or (spot.linked.name if spot else "")
+        if not steps:
+            steps.append(Step(line, position, origin_text(way.origin, found, lines), name))
+        elif line is NOWHERE and lines.has_lines and position != way.end.position:
+            continue
+        elif (line.path, line.number) != (steps[-1].line.path, steps[-1].line.number) or not line.number:
+            steps.append(Step(line, position, "through here", name))
+    if len(steps) > MOST_STEPS:
+        steps[MOST_STEPS // 2 : 1 - MOST_STEPS // 2] = []
+    if len(steps) == 1 or steps[-1].position != way.end.position:
+        line, spot = lines.line(way.end.position), lines.spot(way.end.position)
+        last = Step(line, way.end.position, "", line.function or (spot.linked.name if spot else ""))
+        if steps[-1].message == "through here" and (steps[-1].line.path, steps[-1].line.number) == (line.path, line.number):
+            steps.pop()
+        steps.append(last)
+    steps[-1].message = rule_of(way.end, lines.instruction(way.end.position)).text
+    return steps
+
+
+def reasons(found: Findings, lines: Lines, causes: Sequence[Cause]) -> Dict[Origin, Tuple[str, str]]:
+    told: Dict[Origin, Tuple[str, str]] = {}
+    for cause in causes[:MOST_JUDGED]:
+        add_ends(found, cause)
+        if cause.reached:
+            reason = likely(found, lines, cause)
+            for origin in cause.origins:
+                told.setdefault(origin, reason)
+    return told
+
+
+def loaded_at(way: Way, lines: Lines) -> Optional[Step]:
+    if way.origin.position is None:
+        return None
+    at = next((site for site in [way.origin.position] + way.sites if lines.line(site).number and lines.is_plain(site)), way.origin.position)
+    return Step(lines.line(at), at, "")
+
+
+def advice(reason: Optional[Tuple[str, str]], way: Way, rule: Rule) -> Optional[Tuple[str, str]]:
+    """The likely reason; of a leak, what helps there."""
+    if reason != LEAK:
+        return reason
+    return ("a leak", rule.help) if way.origin.position is None else (reason[0], f"if that is secret this is a leak: {rule.help}")
+
+
+def told_of(found: Findings, lines: Lines, causes: Sequence[Cause], protects: Sequence[Protect]) -> Told:
+    """All problems, by file and line."""
+    reach = found.graph.reach(found.guilty, found.core)
+    ways = [Way(*reach.way(end.variable), end) for end in found.refused if end.variable in reach.depth]
+    entries = [found.image.functions[int(way.origin.declared.split()[1])].entry for way in ways if way.origin.declared.startswith("parameter")]
+    lines.ask({position for way in ways for position in way.sites + [way.end.position]} | set(entries) | {one.position for one in protects})
+    lines.ask({site for one in protects if one.reason for site in (one.reason[0][0], one.reason[1])})
+    why = reasons(found, lines, causes)
+    known = declared_at(lines)
+    problems: Dict[tuple, Problem] = {}
+    for way in ways:
+        at = place_of(lines, way.end.position, way.sites)
+        line, spot = lines.line(at), lines.spot(at)
+        rule = rule_of(way.end, lines.instruction(way.end.position))
+        key = (rule.name, line.path, line.number, line.column) if line.number else (rule.name, way.end.position)
+        if key in problems:
+            problems[key].ends += 1
+            continue
+        name = line.function or (spot.linked.name if spot else "")
+        problems[key] = Problem(
+            rule, line, way.end.position, name, lines.instruction(way.end.position), steps_of(way, found, lines, known), 1,
+            advice(why.get(way.origin), way, rule), loaded_at(way, lines), spot.linked.module.path if spot else "", spot.row.place if spot else 0)
+    ordered = sorted(problems.values(), key=lambda one: (one.line.path, one.line.number, one.line.column, one.position))
+    sources = []
+    for cause in causes:
+        at = cause.loads[0] if cause.loads else -1
+        line = lines.line(at) if at >= 0 else known.get(cause.declared, NOWHERE)
+        told = "what is loaded here" if at >= 0 else origin_text(cause.origins[0], found, lines).replace(" is declared secret", "")
+        sources.append(Source(line, at, told, cause.ends, why.get(cause.origins[0])))
+    return Told(found, ordered, [protect_step(one, lines) for one in protects], [one.weight for one in protects], sources)
+
+
+def protect_step(protect: Protect, lines: Lines) -> Step:
+    line, spot = lines.line(protect.position), lines.spot(protect.position)
+    text = f"held back until no older branch is open (weight {protect.weight})"
+    if protect.reason:
+        sites, sink = protect.reason
+        text += f": loaded at {lines.place(sites[0]) or sites[0]}, it would reach {lines.place(sink) or sink} under a wrong guess"
+    return Step(line, protect.position, text, line.function or (spot.linked.name if spot else ""))
+
+
+def shown(path: str) -> str:
+    """A path as a compiler tells it: from here where it stands below."""
+    near = os.path.relpath(path) if path else ""
+    return near if near and not near.startswith("..") else path
+
+
+def spelled(line: Line, otherwise: str) -> str:
+    if not line.number:
+        return otherwise
+    return f"{shown(line.path)}:{line.number}:{line.column}" if line.column else f"{shown(line.path)}:{line.number}"
+
+
+def of_text(one: Problem, image: str) -> str:
+    """Where the secret comes from, in short."""
+    if one.loaded is not None:
+        return f"by what {spelled(one.loaded.line, f'{image}: position {one.loaded.position}')} loads"
+    return "by " + one.steps[0].message.replace(" is declared secret", "")
+
+
+def problem_text(one: Problem) -> str:
+    return one.rule.text + (f" ({one.instruction})" if one.instruction else "") + (f", at {one.ends} places of this line" if one.ends > 1 else "")
+
+
+def as_text(told: Told, image: str, limit: int, lines: Lines) -> Iterator[str]:
+    """In the form of compilers: file:line:column: warning: .. [blade-..], with notes for the way."""
+    origins = set()
+    for one in told.problems[:limit]:
+        where = spelled(one.line, f"{image}: position {one.position} of {one.function}")
+        origin = of_text(one, image)
+        again = (origin, one.likely) in origins
+        origins.add((origin, one.likely))
+        yield f"{where}: warning: {problem_text(one)}{', ' + origin if again else ''} [{one.rule.name}]"
+        source = lines.source_as_is(one.line)
+        if source.strip():
+            yield f" {source}"
+            if one.line.column:
+                yield " " + "".join("\t" if letter == "\t" else " " for letter in source[: one.line.column - 1]) + "^"
+        if again:
+            # Its way was told with another place.
+            continue
+        for step in one.steps[:-1]:
+            yield f"{spelled(step.line, f'{image}: position {step.position}')}: note: {step.message}" + (f" [in {step.function}]" if step.function else "")
+        if one.likely:
+            yield f"{where}: note: likely {one.likely[0]}: {one.likely[1]}"
+    if len(told.problems) > limit:
+        yield f"{image}: note: and {len(told.problems) - limit} more places (--limit)"
+    if len(told.problems) > MANY:
+        yield f"{image}: note: begin with what reaches most of the {len(told.found.refused)} refused ends:"
+        for source in told.sources[:MOST_SOURCES]:
+            where = spelled(source.line, f"{image}: position {source.position}" if source.position >= 0 else image)
+            yield f"{where}: note: {source.ends} come of {source.text}" + (f", likely {source.likely[0]}: {source.likely[1]}" if source.likely else "")
+            text = lines.source_as_is(source.line)
+            if text.strip():
+                yield f" {text}"
+
+
+def line_object(line: Line) -> Optional[dict]:
+    return {"file": line.path, "line": line.number, "column": line.column} if line.number else None
+
+
+def as_json(told: Told, image: str, modules: Sequence[str]) -> str:
+    found = told.found
+    secrets = {
+        "parameters": [[number, index] for number, one in enumerate(found.image.functions) for index, secret in enumerate(one.secret_params) if secret],
+        "globals": [number for number, secret in enumerate(found.image.secret_globals) if secret],
+        "memories": [number for number, secret in enumerate(found.image.secret_memories) if secret],
+        "demands": [[function, index] for function, index in found.image.demands],
+    }
+    problems = [{
+        "rule": one.rule.name, "message": problem_text(one), "place": line_object(one.line), "function": one.function, "position": one.position,
+        "instruction": one.instruction, "module": one.module, "offset": one.offset, "ends": one.ends,
+        "likely": {"reason": one.likely[0], "remedy": one.likely[1]} if one.likely else None,
+        "way": [{"place": line_object(step.line), "position": step.position, "function": step.function, "message": step.message} for step in one.steps],
+    } for one in told.problems]
+    sources = [{"place": line_object(one.line), "position": one.position if one.position >= 0 else None, "text": one.text, "ends": one.ends,
+                "likely": {"reason": one.likely[0], "remedy": one.likely[1]} if one.likely else None} for one in told.sources]
+    protects = [{"place": line_object(step.line), "position": step.position, "function": step.function, "weight": weight, "message": step.message}
+                for step, weight in zip(told.protects, told.weights)]
+    whole = {"format": "blade-explain 1", "image": image, "modules": list(modules), "constant-time": found.is_constant_time, "declared": secrets,
+             "ends": len(found.ends), "refused": len(found.refused), "problems": problems, "sources": sources, "protects": protects}
+    return json.dumps(whole, indent=1) + "\n"
+
+
+def artifact(path: str, root: str) -> dict:
+    full = os.path.abspath(path)
+    near = os.path.relpath(full, root)
+    if near.startswith(".."):
+        return {"uri": "file://" + quoted(full)}
+    return {"uri": quoted(near), "uriBaseId": "SRCROOT"}
+
+
+def quoted(path: str) -> str:
+    return "".join(letter if letter.isascii() and (letter.isalnum() or letter in "/._-~+,") else "".join(f"%{byte:02X}" for byte in letter.encode())
+                   for letter in path)
+
+
+def location(line: Line, function: str, message: str, root: str, module: str, offset: int) -> dict:
+    if line.number:
+        region = {"startLine": line.number, **({"startColumn": line.column} if line.column else {})}
+        physical = {"artifactLocation": artifact(line.path, root), "region": region}
+    else:
+        physical = {"artifactLocation": artifact(module, root), "region": {"byteOffset": offset, "byteLength": 1}}
+    made: dict = {"physicalLocation": physical}
+    if function:
+        made["logicalLocations"] = [{"name": function, "kind": "function"}]
+    if message:
+        made["message"] = {"text": message}
+    return made
+
+
+def fingerprint(one: Problem, source: str) -> str:
+    """The same for a place whose lines move: by rule, function, instruction and the text of the line."""
+    parts = (one.rule.name, os.path.basename(one.line.path), one.function, one.instruction.split(" ")[0], source)
+    return hashlib.sha256("\0".join(parts).encode()).hexdigest()[:32]
+
+
+def rule_object(rule: Rule) -> dict:
+    return {
+        "id": rule.name, "name": rule.title, "shortDescription": {"text": rule.text[0].upper() + rule.text[1:]},
+        "fullDescription": {"text": f"{rule.text[0].upper() + rule.text[1:]}, so that who observes addresses, divisions and branches learns of it."},
+        "help": {"text": f"If what is loaded is public, make it a parameter or keep it in the ledger. If it is secret: {rule.help}."},
+        "defaultConfiguration": {"level": "warning"}, "properties": {"tags": ["security", "constant-time"], "security-severity": "6.0"},
+    }
+
+
+PROTECT_RULE = {
+    "id": PROTECT, "name": "Protect", "shortDescription": {"text": "A value is held back until no older branch is open"},
+    "fullDescription": {"text": "Of a value that is loaded under a guess, so that it can't reach an address or a branch. No lighter set of protects passes."},
+    "defaultConfiguration": {"level": "note"}, "properties": {"tags": ["speculation"]},
+}
+
+
+def as_sarif(told: Told, image: str, modules: Sequence[str], lines: Lines, root: str, version: str) -> str:
+    """The log of one run."""
+    rules = list(dict.fromkeys(RULES.values()))
+    results, seen = [], {}
+    for one in told.problems:
+        mark = fingerprint(one, lines.source(one.line))
+        seen[mark] = seen.get(mark, -1) + 1
+        flow = [{"location": location(step.line, step.function, step.message, root, *module_place(lines, step.position, image)), "nestingLevel": 0}
+                for step in one.steps]
+        text = problem_text(one) + (f". Likely {one.likely[0]}: {one.likely[1]}" if one.likely else "")
+        results.append({
+            "ruleId": one.rule.name, "ruleIndex": rules.index(one.rule), "level": "warning", "message": {"text": text},
+            "locations": [location(one.line, one.function, "", root, *module_place(lines, one.position, image))],
+            "codeFlows": [{"threadFlows": [{"locations": flow}]}],
+            "partialFingerprints": {"bladePlace/v1": f"{mark}:{seen[mark]}"},
+            "properties": {"position": one.position, "instruction": one.instruction, "ends": one.ends},
+        })
+    for step, weight in zip(told.protects, told.weights):
+        results.append({
+            "ruleId": PROTECT, "ruleIndex": len(rules), "level": "note", "message": {"text": step.message},
+            "locations": [location(step.line, step.function, "", root, *module_place(lines, step.position, image))],
+            "properties": {"position": step.position, "weight": weight},
+        })
+    run = {
+        "tool": {"driver": {"name": "blade", "version": version, "rules": [rule_object(rule) for rule in rules] + [PROTECT_RULE]}},
+        "originalUriBaseIds": {"SRCROOT": {"uri": "file://" + quoted(root.rstrip("/")) + "/"}},
+        "columnKind": "unicodeCodePoints", "invocations": [{"executionSuccessful": True}], "results": results,
+        "properties": {"constant-time": told.found.is_constant_time, "ends": len(told.found.ends), "refused": len(told.found.refused)},
+    }
+    return json.dumps({"$schema": SCHEMA, "version": "2.1.0", "runs": [run]}, indent=1) + "\n"
+
+
+ERROR = re.compile(r"(.+?):(\d+)(?::(\d+))?: error: (.*) \[(blade-[a-z-]+)\]$")
+
+
+def errors_as_sarif(lines: Sequence[str], root: str, version: str) -> str:
+    """The log of a run that came to no verdict: its errors in the form of compilers, as far as they tell a file and a rule."""
+    found = [match.groups() for match in map(ERROR.match, lines) if match]
+    names = list(dict.fromkeys(rule for *_, rule in found))
+    results = [{
+        "ruleId": rule, "ruleIndex": names.index(rule), "level": "error", "message": {"text": message},
+        "locations": [location(Line(path, int(number), "", int(column or 0)), "", "", root, "", 0)],
+    } for path, number, column, message, rule in found]
+    run = {
+        "tool": {"driver": {"name": "blade", "version": version, "rules": [{"id": name} for name in names]}},
+        "originalUriBaseIds": {"SRCROOT": {"uri": "file://" + quoted(root.rstrip("/")) + "/"}},
+        "invocations": [{"executionSuccessful": False}], "results": results,
+    }
+    return json.dumps({"$schema": SCHEMA, "version": "2.1.0", "runs": [run]}, indent=1) + "\n"
+
+
+def module_place(lines: Lines, position: int, image: str) -> Tuple[str, int]:
+    spot = lines.spot(position)
+    return (spot.linked.module.path, spot.row.place) if spot else (image, 0)
