@@ -49,6 +49,7 @@ class Function:
     length: int
     first: int = 0  # its first variable
     entry: int = 0  # the position of its first command
+    types: List[int] = field(default_factory=list)  # of its parameters, as they are spelled
 
     @property
     def params(self) -> int:
@@ -137,9 +138,9 @@ def read_memory(reader: Reader) -> Memory:
 
 
 def read_function(reader: Reader) -> Function:
-    params = [bool((reader.byte(), reader.byte())[1]) for _ in range(reader.number())]
+    params = [(reader.byte(), bool(reader.byte())) for _ in range(reader.number())]
     results = len(reader.many(reader.byte))
-    return Function(params, results, reader.number(), reader.number())
+    return Function([secret for _, secret in params], results, reader.number(), reader.number(), types=[kind for kind, _ in params])
 
 
 def read_export(reader: Reader) -> Tuple[str, int]:
