@@ -1,6 +1,7 @@
 """Whether what is told here is what the program says: its report, and the commands of the modules. Licence: public domain (CC0)."""
 from __future__ import annotations
 
+import re
 from typing import Dict, List, Optional, Sequence, Tuple
 
 from .flow import Findings, is_bounds_test
@@ -57,19 +58,20 @@ def protects_differ(protects: Sequence[Protect], text: str) -> List[str]:
     return [f"protects: `{first[0]}` here, `{first[1]}` in the report"]
 
 
-def chain_of(rest: str) -> Tuple[str, List[int], int]:
-    """The origin, the sites and the end of the line `constant-time no ..`."""
-    words = rest.split()
-    end = int(words[-1])
-    if "through" not in words:
-        return " ".join(words[1:-2]), [], end
-    at = words.index("through")
-    return " ".join(words[1:at]), [int(word) for word in words[at + 1 : -2]], end
+CHAIN = re.compile(r"no ((?:parameter \d{1,9} \d{1,9})|(?:(?:global|memory) \d{1,9}))(?: through((?: \d{1,9})+))? end (\d{1,9})")
+
+
+def chain_of(rest: str) -> Optional[Tuple[str, List[int], int]]:
+    """The origin, the sites and the end of the line `constant-time no ..`; None where it tells none."""
+    found = CHAIN.fullmatch(rest)
+    return found and (found[1], [int(word) for word in (found[2] or "").split()], int(found[3]))
 
 
 def is_chain(found: Findings, declared: str, sites: Sequence[int], end: int) -> bool:
     """Whether a secret goes that way by what was read here."""
     commands = found.graph.commands
+    if any(place >= len(commands) for place in [*sites, end]):
+        return False
     starts = [origin for origin in found.origins if origin.declared == declared and (origin.position is None or origin.position in sites[:1])]
     if not starts:
         return False
@@ -96,8 +98,9 @@ def verdict_differs(found: Findings, fields: Dict[str, str]) -> List[str]:
     if told is None:
         return ["the report has no line on constant time"]
     if (told == "yes") != found.is_constant_time:
-        return [f"constant-time {'yes' if found.is_constant_time else 'no'} here, {told.split()[0]} in the report"]
-    if told != "yes" and not is_chain(found, *chain_of(told)):
+        return [f"constant-time {'yes' if found.is_constant_time else 'no'} here, {told.partition(' ')[0]} in the report"]
+    chain = chain_of(told)
+    if told != "yes" and not (chain and is_chain(found, *chain)):
         return [f"the report's chain is none here: {told}"]
     return []
 

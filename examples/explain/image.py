@@ -2,17 +2,23 @@
 from __future__ import annotations
 
 from dataclasses import dataclass, field
-from typing import Dict, List, NamedTuple, Optional, Tuple
+from typing import Container, Dict, List, NamedTuple, Optional, Tuple
 
-from .reading import Bad, Reader
+from .reading import Bad, Reader, limited
+from .words import short
 
 TRAPS = 7  # the positions in front of the first function
+VALUE_TYPES, DEPTHS, MOST_FUNCTIONS = (0x7F, 0x7E), 6, 80_000
 # Operators by how many operands they take: all others take two.
 ONE = frozenset([0x00, 0x45, 0x50, 0x67, 0x68, 0x69, 0x79, 0x7A, 0x7B, 0xA7, 0xAC, 0xAD, 0xC0, 0xC1, 0xC2, 0xC3, 0xC4])
 OUTSIDE, SELECT = 0x01, 0x1B
 THREE = frozenset([OUTSIDE, SELECT])
 DIVISIONS = frozenset([0x6D, 0x6E, 0x6F, 0x70, 0x7F, 0x80, 0x81, 0x82])
 SITES = frozenset(["Set", "Load", "Arg", "Out"])
+LEAVING = frozenset(["Test", "Jump", "Ret", "Trap"])  # a function ends in one of them
+# The codes of a Set, a Load and a Store.
+OPERATIONS = frozenset([0x00, OUTSIDE, SELECT, 0x45, 0x50, 0xA7, 0xAC, 0xAD, *range(0x46, 0x5B), *range(0x67, 0x8B), *range(0xC0, 0xC5)])
+LOADS, STORES = frozenset([0x28, 0x29, *range(0x2C, 0x36)]), frozenset([0x36, 0x37, *range(0x3A, 0x3F)])
 
 
 class Operand(NamedTuple):
@@ -75,6 +81,7 @@ class Image:
     demands: List[Tuple[Optional[int], int]]
     weights: Dict[int, int]
     commands: List[Command] = field(default_factory=list)
+    variables: int = 0  # how many there are
 
     @property
     def secret_memories(self) -> List[bool]:
@@ -133,14 +140,34 @@ def rising(reader: Reader, rest: int) -> List[Tuple[int, bytes]]:
     return found
 
 
+def value_type(reader: Reader) -> int:
+    kind = reader.byte()
+    if kind not in VALUE_TYPES:
+        raise Bad("this is no image: a type")
+    return kind
+
+
+def read_global(reader: Reader) -> Tuple[bool, int]:
+    """Whether a global is secret, and its first value."""
+    value_type(reader)
+    return reader.bit(), reader.number()
+
+
 def read_memory(reader: Reader) -> Memory:
-    return Memory(reader.number(), reader.number(), bool(reader.byte()), rising(reader, 16))
+    memory = Memory(reader.number(), reader.number(), reader.bit(), rising(reader, 16))
+    limited("memory", memory.reserve)
+    if memory.pages > memory.reserve or memory.rows and (memory.rows[-1][0] + 1) * 16 > memory.pages * 65536:
+        raise Bad("image: rule 1 at 0")
+    return memory
 
 
 def read_function(reader: Reader) -> Function:
-    params = [(reader.byte(), bool(reader.byte())) for _ in range(reader.number())]
-    results = len(reader.many(reader.byte))
-    return Function([secret for _, secret in params], results, reader.number(), reader.number(), types=[kind for kind, _ in params])
+    params = reader.many(lambda: (value_type(reader), reader.bit()))
+    results = len(reader.many(lambda: value_type(reader)))
+    function = Function([secret for _, secret in params], results, reader.number(), reader.number(), types=[kind for kind, _ in params])
+    if not function.length or function.variables < function.params + results:
+        raise Bad("image: rule 2 at 0")
+    return function
 
 
 def read_export(reader: Reader) -> Tuple[str, int]:
@@ -161,16 +188,32 @@ def read_head(reader: Reader) -> Image:
     version = reader.byte()
     if version not in (1, 2):
         raise Bad("this is no image: its version")
-    listed = [(reader.byte(), bool(reader.byte()), reader.number()) for _ in range(reader.number())]
+    listed = reader.many(lambda: read_global(reader))
     memories = reader.many(lambda: read_memory(reader))
     functions = reader.many(lambda: read_function(reader))
     exports: Dict[int, str] = {}
     entries = dict(reader.many(lambda: read_export(reader)))
     for name, function in entries.items():
-        exports.setdefault(function, name)
+        exports.setdefault(function, short(name))
     demands = reader.many(lambda: read_demand(reader)) if version == 2 else []
     weights = dict(rising(reader, -1)) if version == 2 else {}
-    return Image([one[1] for one in listed], [one[2] for one in listed], memories, functions, exports, entries, demands, weights)
+    return Image([one[0] for one in listed], [one[1] for one in listed], memories, functions, exports, entries, demands, weights)
+
+
+def check_head(image: Image) -> None:
+    """Rules 1 to 3 and 9 of programs, as far as others take them for granted."""
+    limited("reserve", sum(memory.reserve for memory in image.memories))
+    limited("commands", TRAPS + sum(function.length for function in image.functions))
+    limited("variables", len(image.secret_globals) + len(image.memories) + sum(function.variables for function in image.functions))
+    if len(image.functions) > MOST_FUNCTIONS:
+        raise Bad("image: rule 2 at 0")
+    if any(function >= len(image.functions) for function in image.entries.values()):
+        raise Bad("image: rule 3 at 0")
+    for function, index in image.demands:
+        if function is None and index >= len(image.secret_globals):
+            raise Bad("image: rule 9 at 0")
+        if function is not None and (function >= len(image.functions) or index >= image.functions[function].results):
+            raise Bad("image: rule 9 at 0")
 
 
 def lay_out(image: Image) -> None:
@@ -179,6 +222,7 @@ def lay_out(image: Image) -> None:
     for function in image.functions:
         function.first, function.entry = variable, position
         variable, position = variable + function.variables, position + function.length
+    image.variables = variable
 
 
 def named(operands: Tuple[Operand, ...]) -> Tuple[int, ...]:
@@ -186,59 +230,84 @@ def named(operands: Tuple[Operand, ...]) -> Tuple[int, ...]:
 
 
 class CommandReader:
-    """Reads the commands of one function after another."""
+    """Reads the commands of one function after another, as far as rules 4 to 6 of programs hold."""
 
     def __init__(self, reader: Reader, image: Image) -> None:
         self.reader, self.image = reader, image
         self.readers = [self.set, self.load, self.store, self.test, self.jump, self.arg, self.call, self.out, self.ret, self.trap]
+        self.position = TRAPS
+
+    def kept(self, rule: int, holds: bool) -> None:
+        if not holds:
+            raise Bad(f"image: rule {rule} at {self.position}")
+
+    def variable(self) -> int:
+        number = self.reader.number()
+        self.kept(4, number < self.image.variables)
+        return number
 
     def operand(self) -> Operand:
-        kind = self.reader.byte()
-        if kind > 1:
-            raise Bad("this is no image: an operand")
-        return Operand(kind == 0, self.reader.number())
+        return Operand(False, self.reader.number()) if self.reader.bit() else Operand(True, self.variable())
+
+    def mark(self) -> int:
+        """The depth, and 8 where a protect stands."""
+        mark = self.reader.byte()
+        self.kept(6, mark & 7 <= DEPTHS and mark < 16)
+        return mark
+
+    def code(self, codes: Container[int]) -> int:
+        code = self.reader.byte()
+        if code not in codes:
+            raise Bad("this is no image: an operator or an access")
+        return code
+
+    def target(self, function: Function) -> int:
+        position = self.reader.number()
+        self.kept(5, position < TRAPS or function.entry <= position < function.entry + function.length)
+        return position
+
+    def number(self, most: int) -> int:
+        """The number of a memory, of a function, or of a parameter or a result."""
+        number = self.reader.number()
+        self.kept(6, number < most)
+        return number
 
     def set(self, _: Function) -> Command:
-        mark, operator, to = self.reader.byte(), self.reader.byte(), self.reader.number()
+        mark, operator, to = self.mark(), self.code(OPERATIONS), self.variable()
         count = 1 if operator in ONE else 3 if operator in THREE else 2
         operands = tuple(self.operand() for _ in range(count))
         reads = named(operands)
         return Command("Set", operands, reads, reads if operator in DIVISIONS else (), to, operator, mark=mark)
 
     def load(self, _: Function) -> Command:
-        mark, access, memory, to = self.reader.byte(), self.reader.byte(), self.reader.number(), self.reader.number()
+        mark, access, memory, to = self.mark(), self.code(LOADS), self.number(len(self.image.memories)), self.variable()
         offset = self.reader.number()
         operands = (self.operand(),)
         return Command("Load", operands, (), named(operands), to, access, memory, offset=offset, mark=mark)
 
     def store(self, _: Function) -> Command:
-        access, memory = self.reader.byte(), self.reader.number()
+        access, memory = self.code(STORES), self.number(len(self.image.memories))
         offset = self.reader.number()
         operands = (self.operand(), self.operand())
         return Command("Store", operands, (), named(operands[:1]), -1, access, memory, offset=offset)
 
-    def test(self, _: Function) -> Command:
+    def test(self, function: Function) -> Command:
         operands = (self.operand(),)
-        return Command("Test", operands, (), named(operands), targets=(self.reader.number(), self.reader.number()))
+        return Command("Test", operands, (), named(operands), targets=(self.target(function), self.target(function)))
 
-    def jump(self, _: Function) -> Command:
-        return Command("Jump", targets=(self.reader.number(),))
+    def jump(self, function: Function) -> Command:
+        return Command("Jump", targets=(self.target(function),))
 
     def arg(self, _: Function) -> Command:
-        mark, callee, index = self.reader.byte(), self.reader.number(), self.reader.number()
-        operands = (self.operand(),)
-        if callee >= len(self.image.functions):
-            raise Bad("this is no image: a function")
-        return Command("Arg", operands, named(operands), (), self.image.functions[callee].first + index, mark=mark)
+        mark, callee = self.mark(), self.image.functions[self.number(len(self.image.functions))]
+        index, operands = self.number(callee.params), (self.operand(),)
+        return Command("Arg", operands, named(operands), (), callee.first + index, mark=mark)
 
     def call(self, _: Function) -> Command:
-        callee = self.reader.number()
-        if callee >= len(self.image.functions):
-            raise Bad("this is no image: a function")
-        return Command("Call", targets=(self.image.functions[callee].entry,))
+        return Command("Call", targets=(self.image.functions[self.number(len(self.image.functions))].entry,))
 
     def out(self, function: Function) -> Command:
-        mark, index = self.reader.byte(), self.reader.number()
+        mark, index = self.mark(), self.number(function.results)
         operands = (self.operand(),)
         return Command("Out", operands, named(operands), (), function.first + function.params + index, mark=mark)
 
@@ -246,23 +315,23 @@ class CommandReader:
         return Command("Ret")
 
     def trap(self, _: Function) -> Command:
-        self.reader.number()
+        self.code(range(8))
         return Command("Trap")
 
     def all(self) -> List[Command]:
         commands = [Command("Trap")] * TRAPS
         for function in self.image.functions:
             for _ in range(function.length):
-                code = self.reader.byte()
-                if code > 9:
-                    raise Bad("this is no image: a command")
-                commands.append(self.readers[code](function))
+                self.position = len(commands)
+                commands.append(self.readers[self.code(range(10))](function))
+            self.kept(5, commands[-1].kind in LEAVING)
         return commands
 
 
 def read_image(data: bytes) -> Image:
     reader = Reader(data)
     image = read_head(reader)
+    check_head(image)
     lay_out(image)
     image.commands = CommandReader(reader, image).all()
     if reader.place != len(data):

@@ -3,15 +3,14 @@ from __future__ import annotations
 
 import bisect
 import os
-import shutil
-import subprocess
 from collections import defaultdict
 from dataclasses import dataclass
 from typing import Dict, Iterable, List, NamedTuple, Optional, Sequence, Tuple
 
 from .lowering import Linked, Row
+from .sources import Sources
+from .symbolizer import Frame, frames_of, symbolizer
 
-SYMBOLIZERS = ("llvm-symbolizer", *(f"llvm-symbolizer-{version}" for version in range(20, 13, -1)))
 HEADERS = (".h", ".inc", ".hpp")
 
 
@@ -48,7 +47,7 @@ class Spot:
 class Lines:
     """Tells positions by the modules that an image was made of; without modules nothing but numbers."""
 
-    def __init__(self, functions: Sequence[Linked]) -> None:
+    def __init__(self, functions: Sequence[Linked], sources: Optional[Sources] = None) -> None:
         self.functions = functions
         self.starts: List[int] = []
         self.rows: List[Tuple[int, Row]] = []
@@ -57,9 +56,9 @@ class Lines:
                 if row.kinds:
                     self.starts.append(row.position)
                     self.rows.append((number, row))
-        self.tool = next((tool for tool in SYMBOLIZERS if shutil.which(tool)), None)
+        self.tool = symbolizer()
         self.known: Dict[Tuple[str, int], Line] = {}
-        self.sources: Dict[str, List[str]] = {}
+        self.sources = sources or Sources()
         self.told: Dict[str, list] = {}  # what DWARF says of a module's functions, once it is asked
         self.has_lines = self.tool is not None and any(linked.module.has_lines for linked in functions)
 
@@ -87,13 +86,8 @@ class Lines:
             self.look_up(path, sorted(places))
 
     def look_up(self, path: str, places: List[int]) -> None:
-        words = [self.tool, f"--obj={path}", "--functions=short"]
-        asked = "".join(f"{place:#x}\n" for place in places)
-        answered = subprocess.run(words, input=asked, capture_output=True, text=True, check=False).stdout
-        for place, block in zip(places, answered.split("\n\n")):
-            frames = block.strip().split("\n")
-            pairs = list(zip(frames[0::2], frames[1::2]))
-            self.known[path, place] = chosen(pairs)
+        for place, frames in frames_of(self.tool, path, places):
+            self.known[path, place] = chosen(frames)
 
     def line(self, position: int) -> Line:
         spot = self.spot(position)
@@ -104,12 +98,11 @@ class Lines:
         return self.source_as_is(line).strip()
 
     def source_as_is(self, line: Line) -> str:
+        """The same with the blanks in front; a tab is one, so that columns hold."""
         if not line.number:
             return ""
-        if line.path not in self.sources:
-            self.sources[line.path] = source_of(line.path)
-        texts = self.sources[line.path]
-        return texts[line.number - 1] if line.number <= len(texts) else ""
+        texts = self.sources.lines(line.path)
+        return texts[line.number - 1].replace("\t", " ") if line.number <= len(texts) else ""
 
     def place(self, position: int) -> str:
         """The line and function of a position, as far as they are known."""
@@ -123,23 +116,7 @@ class Lines:
         return spot.row.text if spot else ""
 
 
-def chosen(frames: Sequence[Tuple[str, str]]) -> Line:
+def chosen(frames: Sequence[Frame]) -> Line:
     """The line of a place: of a helper that was inlined from a header, the line that uses it."""
-    read = [frame for frame in map(line_of, frames) if frame is not NOWHERE]
+    read = [Line(frame.path, frame.line, frame.function, frame.column) for frame in frames if frame.path]
     return next((line for line in read if not line.path.endswith(HEADERS)), read[0] if read else NOWHERE)
-
-
-def line_of(frame: Tuple[str, str]) -> Line:
-    name, where = frame
-    path, number, column = (where.rsplit(":", 2) + ["", ""])[:3]
-    if path.startswith("??") or not number.isdigit():
-        return NOWHERE
-    return Line(path, int(number), "" if name == "??" else name, int(column) if column.isdigit() else 0)
-
-
-def source_of(path: str) -> List[str]:
-    try:
-        with open(path, encoding="utf-8", errors="replace") as file:
-            return file.read().split("\n")
-    except OSError:
-        return []

@@ -3,20 +3,23 @@ from __future__ import annotations
 
 import argparse
 import os
-import sys
 from typing import List, Optional, Sequence, Tuple
 
 from . import compare, diagnostics, metadata, page, text
 from .causes import Cause, add_ends, causes_of, likely
+from .ending import ended
 from .flow import Findings, find
 from .image import Image, read_image
 from .lines import Lines
 from .lowering import Linked, lower
 from .protects import protects_of, read_certificate
 from .labels import is_labelled
-from .reading import Bad, read_file
+from .reading import read_file, read_text
 from .secrets import declared
+from .sources import Sources
 from .wasm import read_module
+from .words import say
+from .writing import write_file
 
 DONE, DIFFERS, USAGE, UNREAD = 0, 1, 2, 3
 JUDGED = 400  # so many causes of a page get a likely reason
@@ -27,19 +30,37 @@ def positions(word: str) -> List[int]:
     return [int(part) for part in word.split(",")]
 
 
+def count(word: str) -> int:
+    if not (word.isascii() and word.isdigit() and len(word) < 10):
+        raise ValueError
+    return int(word)
+
+
+def pair(word: str) -> Tuple[str, str]:
+    """OLD=NEW, as -ffile-prefix-map has it: the last = parts them."""
+    old, equals, new = word.rpartition("=")
+    if not old or not equals:
+        raise ValueError
+    return old, new
+
+
 def words_of(words: Sequence[str]) -> argparse.Namespace:
     parser = argparse.ArgumentParser(
-        prog="blade-explain", description="Tells by lines of C why an image isn't constant-time, and what its protects are for.")
+        prog="blade-explain", description="Tells by lines of C why an image isn't constant-time, and what its protects are for.",
+        epilog="It ends with 0; 1 where the program's report or the image's commands differ from what is told here; 2 for words that it doesn't know; "
+               "3 for files that it can't read or write.")
     parser.add_argument("image", metavar="IMAGE")
     parser.add_argument("modules", metavar="MODULE", nargs="*", help="the modules of the image in harden's order, best linked with -g")
     parser.add_argument("--certificate", metavar="FILE", help="the image's certificate, for the reasons of protects")
     parser.add_argument("--report", metavar="FILE", help="what harden or verify printed, to compare with (- is the standard input)")
     parser.add_argument("--public", metavar="POS,..", type=positions, default=[], help="loads by position, as if what they load were public")
-    parser.add_argument("--causes", metavar="N", type=int, default=3, help="so many causes are told in detail (3)")
-    parser.add_argument("--ways", metavar="N", type=int, default=1, help="so many ends of each (1)")
+    parser.add_argument("--source", metavar="FOLDER", action="append", help="lines are shown of sources below it alone, or of the file of that name (.)")
+    parser.add_argument("--source-map", metavar="OLD=NEW", type=pair, action="append", default=[], help="a source's path that begins with OLD begins with NEW here")
+    parser.add_argument("--causes", metavar="N", type=count, default=3, help="so many causes are told in detail (3)")
+    parser.add_argument("--ways", metavar="N", type=count, default=1, help="so many ends of each (1)")
     parser.add_argument("--page", metavar="FILE", help="writes a page for the browser, too")
     parser.add_argument("--lines", action="store_true", help="tells the refused places in the form of compilers, instead of the text")
-    parser.add_argument("--limit", metavar="N", type=int, default=20, help="so many of them (20)")
+    parser.add_argument("--limit", metavar="N", type=count, default=20, help="so many of them (20)")
     parser.add_argument("--json", metavar="FILE", help="writes the refused places and the protects for scripts, too")
     parser.add_argument("--sarif", metavar="FILE", help="writes them as SARIF 2.1.0, for code scanning and editors, too")
     parser.add_argument("--root", metavar="FOLDER", default=".", help="SARIF tells files from there on (.)")
@@ -55,10 +76,10 @@ def listing(functions: Sequence[Linked], asked: Optional[Sequence[int]]) -> None
     for number, linked in enumerate(functions):
         rows = [row for row in linked.rows if asked is None or wanted & set(range(row.position, row.position + len(row.kinds)))]
         if rows:
-            print(f"function {number} {linked.name}")
+            say(f"function {number} {linked.name}")
         for row in rows:
             first = row.position if row.kinds else "-"
-            print(f"{first:>7} {row.place:#07x} {row.place - linked.module.code:#07x}  {row.text:<20} {' '.join(row.kinds)}".rstrip())
+            say(f"{first:>7} {row.place:#07x} {row.place - linked.module.code:#07x}  {row.text:<20} {' '.join(row.kinds)}".rstrip())
 
 
 def functions_of(image: Image, paths: Sequence[str]) -> Tuple[List[Linked], List[str]]:
@@ -68,12 +89,6 @@ def functions_of(image: Image, paths: Sequence[str]) -> Tuple[List[Linked], List
     functions = lower([read_module(path) for path in paths])
     differ = compare.positions_differ(image, functions)
     return ([] if differ else functions), differ
-
-
-def read_text(path: Optional[str]) -> Optional[str]:
-    if path is None:
-        return None
-    return sys.stdin.read() if path == "-" else read_file(path).decode("utf-8", "replace")
 
 
 def judged(found: Findings, lines: Lines, causes: List[Cause], ways: int) -> None:
@@ -93,35 +108,54 @@ def detailed(found: Findings, words: argparse.Namespace) -> int:
 
 
 def explain(words: argparse.Namespace) -> int:
-    image = read_image(read_file(words.image))
+    image = read_image(read_file(words.image, "image"))
     functions, differ = functions_of(image, words.modules)
     if differ:
         differ = [f"{one}: other modules, or other options of wasm-opt? There are no lines now" for one in differ]
-    lines = Lines(functions)
-    paths = read_certificate(read_file(words.certificate)) if words.certificate else None
+    lines = Lines(functions, Sources(words.source or ["."], words.source_map))
+    paths = read_certificate(read_file(words.certificate, "certificate")) if words.certificate else None
     protects = protects_of(image, paths)
     found = find(image)
-    differ += compare.report_differs(found, protects, read_text(words.report))
+    differ += compare.report_differs(found, protects, read_text(words.report, "report") if words.report else None)
     if words.public:
         found = find(image, words.public)
     causes = causes_of(found, lines)
     judged(found, lines, causes[: detailed(found, words)], words.ways)
     lines.ask([site for protect in protects for site in [protect.position] + ([protect.reason[0][0], protect.reason[1]] if protect.reason else [])])
-    for linked in {one.module.path: one for one in functions}.values():
-        if declared(linked.module) and not is_labelled(linked.module):
-            print(f"warning: {linked.module.path}: what its source declares secret by blade.h isn't in its labels: blade-label puts it there")
-    if words.annotate:
-        annotate(words, image, lines)
-    if words.lines or words.json or words.sarif:
-        tell(words, diagnostics.told_of(found, lines, causes, protects), lines)
-    for line in [] if words.lines else text.report(found, causes, protects, lines, words.public, words.causes, words.ways):
-        print(line)
-    if words.page:
-        with open(words.page, "w", encoding="utf-8") as file:
-            file.write(page.page_of(words.image, found, causes, protects, lines))
-    for one in differ:
-        print(f"differs: {one}")
+    told = write_all(words, found, causes, protects, lines)
+    if not words.lines:
+        told += text.report(found, causes, protects, lines, words.public, words.causes, words.ways)
+    for line in [f"differs: {one}" for one in differ] + notes(words, functions, lines) + told:
+        say(line)
     return DIFFERS if differ else DONE
+
+
+def notes(words: argparse.Namespace, functions: Sequence[Linked], lines: Lines) -> List[str]:
+    """Why less is told than could be."""
+    modules = list({one.module.path: one.module for one in functions}.values())
+    told = [f"warning: {module.path}: what its source declares secret by blade.h isn't in its labels: blade-label puts it there"
+            for module in modules if declared(module) and not is_labelled(module)]
+    if not words.modules:
+        told.append("note: there are no names and lines without the modules: give them in the order of harden")
+    elif modules and not any(module.has_lines for module in modules):
+        told.append(f"note: there are no lines of C in {modules[-1].path}: compile with -g, link without -s, and let wasm-opt keep them (-g)")
+    elif modules and lines.tool is None:
+        told.append("note: there are no lines of C without llvm-symbolizer: apt-get install llvm")
+    outside = sorted(lines.sources.outside)
+    if outside:
+        told.append(f"note: lines of {outside[0]}{f' and {len(outside) - 1} others' if outside[1:] else ''} aren't shown: no such source is below "
+                    f"{', '.join(words.source or ['.'])} (--source FOLDER, --source-map OLD=NEW)")
+    return told
+
+
+def write_all(words: argparse.Namespace, found: Findings, causes: List[Cause], protects: Sequence[Protect], lines: Lines) -> List[str]:
+    """Writes what words ask for, and gives what is to be said of it."""
+    said = annotate(words, found.image, lines) if words.annotate else []
+    if words.lines or words.json or words.sarif:
+        said += tell(words, diagnostics.told_of(found, lines, causes, protects), lines)
+    if words.page:
+        write_file(words.page, page.page_of(words.image, found, causes, protects, lines).encode())
+    return said
 
 
 def version() -> str:
@@ -133,51 +167,37 @@ def version() -> str:
         return "0"
 
 
-def tell(words: argparse.Namespace, told: diagnostics.Told, lines: Lines) -> None:
+def tell(words: argparse.Namespace, told: diagnostics.Told, lines: Lines) -> List[str]:
     """The refused places, as words ask for."""
-    written = []
     if words.json:
-        written.append((words.json, diagnostics.as_json(told, words.image, words.modules)))
+        write_file(words.json, diagnostics.as_json(told, words.image, words.modules).encode())
     if words.sarif:
-        written.append((words.sarif, diagnostics.as_sarif(told, words.image, words.modules, lines, os.path.abspath(words.root), version())))
-    for path, made in written:
-        with open(path, "w", encoding="utf-8") as file:
-            file.write(made)
-    if words.lines:
-        for line in diagnostics.as_text(told, words.image, words.limit, lines):
-            print(line)
+        write_file(words.sarif, diagnostics.as_sarif(told, words.image, words.modules, lines, os.path.abspath(words.root), version()).encode())
+    return list(diagnostics.as_text(told, words.image, words.limit, lines)) if words.lines else []
 
 
-def annotate(words: argparse.Namespace, image: Image, lines: Lines) -> None:
-    """Copies of the modules with the places of protects."""
+def annotate(words: argparse.Namespace, image: Image, lines: Lines) -> List[str]:
+    """Copies of the modules with the places of protects, and what is to be said of them."""
+    said: List[str] = []
     os.makedirs(words.annotate, exist_ok=True)
     for path, one in metadata.annotations(image, lines).items():
-        module = read_module(path)
-        with open(os.path.join(words.annotate, os.path.basename(path)), "wb") as file:
-            file.write(metadata.annotated(module, one))
-        for position, instruction in one.lost:
-            print(f"differs: the protect at {position} ({instruction}) is of no value of {path}")
-    for what, count in sorted(metadata.tally(image, lines).items()):
-        print(f"annotated: {count} {what}")
+        write_file(os.path.join(words.annotate, os.path.basename(path)), metadata.annotated(read_module(path), one))
+        said += [f"differs: the protect at {position} ({instruction}) is of no value of {path}" for position, instruction in one.lost]
+    return said + [f"annotated: {number} {what}" for what, number in sorted(metadata.tally(image, lines).items())]
 
 
 def run(words: argparse.Namespace) -> int:
     if words.list or words.at is not None:
         is_module = words.image.endswith(".wasm")
         paths = [words.image] * is_module + words.modules
-        functions = lower([read_module(path) for path in paths])
+        functions = lower([read_module(path) for path in paths], True)
+        differ = [] if is_module else compare.positions_differ(read_image(read_file(words.image, "image")), functions)
+        for one in differ:
+            say(f"differs: {one}")
         listing(functions, None if words.list else words.at)
-        differ = [] if is_module else compare.positions_differ(read_image(read_file(words.image)), functions)
-        print("\n".join(f"differs: {one}" for one in differ), end="\n" if differ else "")
         return DIFFERS if differ else DONE
     return explain(words)
 
 
 def main(words: Sequence[str]) -> int:
-    try:
-        return run(words_of(words))
-    except (Bad, OSError, IndexError) as bad:
-        print(f"blade-explain: {bad or 'a file ends too early'}", file=sys.stderr)
-        return UNREAD
-    except BrokenPipeError:
-        return DONE
+    return ended("blade-explain", lambda: run(words_of(words)), UNREAD)

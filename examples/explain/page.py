@@ -1,9 +1,12 @@
 """What was found, as one page for the browser that needs nothing else. Licence: public domain (CC0)."""
 from __future__ import annotations
 
+import base64
+import hashlib
 import html
 import json
 import os
+import re
 from typing import Dict, List, Sequence
 
 from .causes import Cause
@@ -13,8 +16,10 @@ from .lines import Lines
 from .lowering import ACCESS_NAMES, KINDS
 from .protects import Protect, function_name
 from .text import by_line, declared_text, kinds_text, verdict_text
+from .words import all_shown, shown
 
 WAYS = 12  # so many ends of a cause get a way that can be clicked
+STEPS = 200  # so many sites of a way are kept, half of them at each end
 
 
 def operand_text(image: Image, operand: Operand) -> str:
@@ -58,7 +63,8 @@ def cause_data(number: int, cause: Cause, lines: Lines) -> dict:
     for same in by_line(cause, lines)[:WAYS] if cause.reach else []:
         way = cause.way(same[0])
         place = lines.place(way.end.position)
-        ways.append({"text": f"{way.end.kind} {place} {way.end.position}", "more": len(same) - 1, "sites": way.sites, "end": way.end.position})
+        sites = way.sites if len(way.sites) <= STEPS else way.sites[: STEPS // 2] + way.sites[-STEPS // 2 :]
+        ways.append({"text": f"{way.end.kind} {place} {way.end.position}", "more": len(same) - 1, "sites": sites, "end": way.end.position})
     return {
         "number": number, "ends": cause.ends, "kinds": kinds_text(cause.counts), "place": f"{cause.declared} {cause.place}".strip(),
         "source": cause.source, "loads": cause.loads, "likely": list(cause.likely or ()), "ways": ways}
@@ -82,5 +88,19 @@ def page_of(path: str, found: Findings, causes: Sequence[Cause], protects: Seque
     data["sources"] = list(sources)
     with open(os.path.join(os.path.dirname(os.path.abspath(__file__)), "page.html"), encoding="utf-8") as file:
         template = file.read()
-    spelled = json.dumps(data, separators=(",", ":")).replace("</", "<\\/")
-    return template.replace("@TITLE@", html.escape(os.path.basename(path))).replace("@DATA@", spelled)
+    words = {"TITLE": html.escape(shown(os.path.basename(path))), "DATA": spelled(data), "POLICY": policy(template)}
+    return re.sub("@([A-Z]+)@", lambda found: words[found[1]], template)
+
+
+def spelled(data: dict) -> str:
+    """JSON in which nothing ends the element that it stands in, or begins another."""
+    text = json.dumps(all_shown(data), separators=(",", ":"))
+    return text.replace("<", "\\u003c").replace(">", "\\u003e").replace("&", "\\u0026")
+
+
+def policy(template: str) -> str:
+    """Lets the browser run the page's own script, show its own style, and ask for nothing."""
+    hashes = [base64.b64encode(hashlib.sha256(found.encode()).digest()).decode() for name in ("script", "style")
+              for found in re.findall(f"<{name}>(.*?)</{name}>", template, re.DOTALL)]
+    script, style = hashes
+    return f"default-src 'none'; script-src 'sha256-{script}'; style-src 'sha256-{style}'; base-uri 'none'; form-action 'none'"

@@ -17,12 +17,19 @@ class Protect:
     reason: Optional[Tuple[List[int], int]]  # the sites of a path from a load on, and the sink
 
 
+def number(value: object) -> int:
+    """A position."""
+    if type(value) is not int or not 0 <= value < 1 << 32:
+        raise Bad("certificate: shape")
+    return value
+
+
 def read_certificate(data: bytes) -> List[Tuple[List[int], int]]:
     """The paths of a certificate: the sites and the sink of each."""
     try:
         paths = json.loads(data)["paths"]
-        return [([int(site) for site in path["sites"]], int(path["sink"])) for path in paths]
-    except (ValueError, KeyError, TypeError):
+        return [([number(site) for site in path["sites"]], number(path["sink"])) for path in paths]
+    except (ValueError, KeyError, TypeError, RecursionError):
         raise Bad("this is no certificate") from None
 
 

@@ -1,13 +1,14 @@
 """Runs of an image in the order of its program: what they execute, and traces of them. Licence: public domain (CC0)."""
 from __future__ import annotations
 
+import re
 from collections import Counter
 from dataclasses import dataclass, field
 from typing import Callable, Dict, Iterator, List, Tuple
 
 from .image import DIVISIONS, OUTSIDE, SELECT, TRAPS, Image
 from .lowering import ACCESS_NAMES, OPERATORS
-from .reading import Bad
+from .reading import MOST_CALLS, Bad
 
 PAGE = 65536
 
@@ -82,23 +83,40 @@ class Start:
     contents: List[Tuple[int, int, bytes]] = field(default_factory=list)
 
 
+ARGUMENT = re.compile(r"arg ([0-9]{1,40})")
+CONTENTS = re.compile(r"memory ([0-9]{1,40}) ([0-9]{1,40}) ((?:[0-9a-fA-F]{2})+)")
+
+
 def read_start(text: str) -> Start:
-    start = Start()
-    for line in text.splitlines():
-        words = line.split(" ")
-        if words[0] == "arg":
-            start.arguments.append(int(words[1]))
-        elif words[0] == "memory":
-            start.contents.append((int(words[1]), int(words[2]), bytes.fromhex(words[3])))
+    start, lines = Start(), text.split("\n")
+    for number, line in enumerate(lines[:-1] if lines[-1] == "" else lines, 1):
+        argument, contents = ARGUMENT.fullmatch(line), CONTENTS.fullmatch(line)
+        if argument:
+            start.arguments.append(int(argument[1]))
+        elif contents:
+            start.contents.append((int(contents[1]), int(contents[2]), bytes.fromhex(contents[3])))
         else:
-            raise Bad(f"a start file has the line {line}")
+            raise Bad(f"start: line {number}")
     return start
+
+
+def fits(image: Image, function: int, start: Start) -> None:
+    """Refuses a start that isn't one of a function."""
+    types = image.functions[function].types
+    if len(start.arguments) != len(types):
+        raise Bad(f"start: arguments {len(start.arguments)}, and the function has {len(types)}")
+    if any(value >> (32 if kind == 0x7F else 64) for kind, value in zip(types, start.arguments)):
+        raise Bad("start: an argument is too great")
+    for number, offset, data in start.contents:
+        if number >= len(image.memories) or offset + len(data) > image.memories[number].pages * PAGE:
+            raise Bad(f"start: bytes outside of the memory {number}")
 
 
 class Run:
     """A run of one function of an image."""
 
     def __init__(self, image: Image, function: int, start: Start) -> None:
+        fits(image, function, start)
         self.image, defined = image, image.functions[function]
         self.spaces = [bytearray(memory.reserve * PAGE) for memory in image.memories]
         for space, memory in zip(self.spaces, image.memories):
@@ -166,7 +184,7 @@ class Run:
             self.entering[command.writes] = self.value(command.operands[0])
         elif command.kind == "Out":
             self.frames[-2][command.writes] = self.value(command.operands[0])
-        elif command.kind == "Call":
+        elif command.kind == "Call" and len(self.returns) + 1 < MOST_CALLS:
             self.returns.append(self.position)
             self.position = command.targets[0]
             self.frames.append(self.entering)

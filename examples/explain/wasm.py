@@ -5,7 +5,8 @@ import os
 from dataclasses import dataclass, field
 from typing import Dict, List, NamedTuple, Optional, Tuple
 
-from .reading import Bad, Reader, read_file
+from .reading import Bad, Reader, limited, read_file
+from .words import short
 
 MAGIC = b"\0asm\1\0\0\0"
 FUNCTION, TABLE, MEMORY, GLOBAL = range(4)
@@ -62,21 +63,18 @@ class Module:
     global_names: Dict[int, str] = field(default_factory=dict)
     sections: List[Section] = field(default_factory=list)
     has_lines: bool = False
+    called: Dict[int, str] = field(default_factory=dict)  # functions as they are told
+    by_sort: Dict[int, List[Import]] = field(default_factory=dict)
 
     def imported(self, sort: int) -> List[Import]:
-        return [one for one in self.imports if one.sort == sort]
+        return self.by_sort.get(sort, [])
 
     def type_of(self, function: int) -> FuncType:
         return self.types[self.functions[function]]
 
     def function_name(self, function: int) -> str:
         """By the name section, else by an export, else by its number."""
-        if function in self.names:
-            return self.names[function]
-        for (sort, name), index in self.exports.items():
-            if sort == FUNCTION and index == function:
-                return name
-        return f"function {function}"
+        return self.called.get(function) or f"function {function}"
 
 
 def name_of_file(path: str) -> str:
@@ -116,16 +114,54 @@ class ModuleReader:
         self.parts.update({6: self.globals, 7: self.exports, 9: self.elements, 10: self.codes})
 
     def read(self) -> None:
-        self.module.sections = sections_of(self.module.data)
-        for section in self.module.sections:
-            reader = Reader(self.module.data, section.contents, section.end)
+        module = self.module
+        limited("module", len(module.data))
+        module.sections = sections_of(module.data)
+        numbers = [section.number for section in module.sections if section.number]
+        if len(set(numbers)) != len(numbers):
+            raise Bad("a section stands there twice")
+        for section in module.sections:
+            reader = Reader(module.data, section.contents, section.end)
             if section.number in self.parts:
                 self.parts[section.number](reader)
-            elif section.name == "name":
-                reader.text()
-                self.names(reader)
             elif section.name == ".debug_line":
-                self.module.has_lines = True
+                module.has_lines = True
+        self.check()
+        self.call()
+
+    def check(self) -> None:
+        """What others take for granted: each function has a type and, where it is defined, code; what is exported and listed exists."""
+        module = self.module
+        limited("functions", len(module.functions))
+        for kind in module.types:
+            limited("results", len(kind.results))
+        for one in module.imports:
+            module.by_sort.setdefault(one.sort, []).append(one)
+        counts = (len(module.functions), len(module.tables), module.memories, len(module.globals))
+        if any(index >= len(module.types) for index in module.functions):
+            raise Bad("a function's type isn't there")
+        if len(module.bodies) != len(module.functions) - len(module.imported(FUNCTION)):
+            raise Bad("functions and their code differ in number")
+        if any(sort > GLOBAL or index >= counts[sort] for (sort, _), index in module.exports.items()):
+            raise Bad("what is exported isn't there")
+        if any(index >= counts[FUNCTION] for element in module.elements for index in element.functions):
+            raise Bad("a function of the table isn't there")
+
+    def call(self) -> None:
+        """Names for what is told: a name section that can't be read has none."""
+        module = self.module
+        for section in module.sections:
+            if section.name == "name":
+                try:
+                    reader = Reader(module.data, section.contents, section.end)
+                    reader.text()
+                    self.names(reader)
+                except Bad:
+                    continue
+        for (sort, name), index in module.exports.items():
+            if sort == FUNCTION:
+                module.called.setdefault(index, short(name))
+        module.called.update({index: short(name) for index, name in module.names.items() if name})
 
     def types(self, reader: Reader) -> None:
         self.module.types = reader.many(lambda: (reader.byte(), FuncType(reader.block(), reader.block()))[1])
@@ -134,6 +170,8 @@ class ModuleReader:
         module = self.module
         for _ in range(reader.number()):
             one = Import(reader.text(), reader.text(), reader.byte(), -1)
+            if one.sort > GLOBAL:
+                raise Bad(f"an import of sort {one.sort}")
             if one.sort == FUNCTION:
                 one = one._replace(type_index=reader.number())
                 module.functions.append(one.type_index)
@@ -152,7 +190,7 @@ class ModuleReader:
         self.module.functions += reader.many(reader.number)
 
     def tables(self, reader: Reader) -> None:
-        self.module.tables += reader.many(lambda: (reader.byte(), limits(reader))[1])
+        self.module.tables += reader.many(lambda: (reader.byte(), limited("table", limits(reader)))[1])
 
     def memories(self, reader: Reader) -> None:
         self.module.memories += len(reader.many(lambda: limits(reader)))
@@ -211,4 +249,4 @@ def module_of(data: bytes, path: str) -> Module:
 
 
 def read_module(path: str) -> Module:
-    return module_of(read_file(path), path)
+    return module_of(read_file(path, "module"), path)

@@ -1,0 +1,57 @@
+"""How a companion ends: with a status and at most one line on what it couldn't do. Licence: public domain (CC0)."""
+from __future__ import annotations
+
+import os
+import sys
+from typing import Callable, Optional
+
+from .reading import Bad
+from .words import say
+
+DONE, UNREAD, INTERRUPTED = 0, 3, 130
+
+
+def why(fault: BaseException) -> str:
+    """A fault in words."""
+    if isinstance(fault, OSError):
+        return f"{fault.filename}: {fault.strerror}" if fault.filename and fault.strerror else str(fault)
+    if isinstance(fault, Bad):
+        return str(fault) or "a file ends too early"
+    if isinstance(fault, MemoryError):
+        return "memory ran out"
+    return f"what is read here isn't as it should be ({type(fault).__name__})"
+
+
+def leave_pipes() -> None:
+    """Nobody reads on: what is still to be written is dropped."""
+    nothing = os.open(os.devnull, os.O_WRONLY)
+    for stream in (1, 2):
+        os.dup2(nothing, stream)
+
+
+def status_of(name: str, work: Callable[[], Optional[int]], unread: int) -> int:
+    try:
+        status = work()
+    except SystemExit as end:
+        status = end.code
+    except (BrokenPipeError, KeyboardInterrupt):
+        raise
+    except Exception as fault:  # whatever a file has led to
+        say(f"{name}: {why(fault)}", sys.stderr)
+        status = unread
+    sys.stdout.flush()
+    return status or DONE
+
+
+def ended(name: str, work: Callable[[], Optional[int]], unread: int = UNREAD) -> int:
+    """The status that work comes to. A file that isn't as it should be is told in one line, with a status of its own; a pipe that is closed is no fault."""
+    for stream in (sys.stdout, sys.stderr):
+        if hasattr(stream, "reconfigure"):
+            stream.reconfigure(errors="backslashreplace")
+    try:
+        return status_of(name, work, unread)
+    except BrokenPipeError:
+        leave_pipes()
+        return DONE
+    except KeyboardInterrupt:
+        return INTERRUPTED
