@@ -1,5 +1,8 @@
 // Whether two tags of 16 bytes are equal, in constant time: all bytes are read, whatever they are.
 // Licence: public domain (CC0).
+#include "blade.h"
+
+BLADE_SECRET_MEMORY;
 
 unsigned compare(const unsigned char *one, const unsigned char *other) {
     unsigned differing = 0;

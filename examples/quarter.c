@@ -1,5 +1,8 @@
 // ChaCha20's quarter round of four words in memory.
 // Licence: public domain (CC0).
+#include "blade.h"
+
+BLADE_SECRET_MEMORY;
 
 static unsigned rotate(unsigned x, unsigned by) {
     return x << by | x >> (32 - by);

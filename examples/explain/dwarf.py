@@ -213,73 +213,83 @@ def local_of(value) -> Optional[int]:
     return None
 
 
-def subprograms(module: Module) -> List[Subprogram]:
-    """The functions that DWARF tells of; code that the linker dropped is none."""
-    units = Units(module)
-    roots = units.read()
-    imported = len(module.imported(FUNCTION))
-    starts = {start - module.code: imported + at for at, (start, _) in enumerate(module.bodies)}
-    known: Dict[int, Subprogram] = {}
+class Walk:
+    """Goes through the units of a module for its functions; code that the linker dropped is none."""
 
-    def origin(entry: Entry) -> Entry:
-        seen = 0
-        while seen < 8:
+    def __init__(self, module: Module) -> None:
+        self.units = Units(module)
+        self.roots = self.units.read()
+        imported = len(module.imported(FUNCTION))
+        self.starts = {start - module.code: imported + at for at, (start, _) in enumerate(module.bodies)}
+        self.found: Dict[int, Subprogram] = {}
+        self.path = self.unit = ""
+
+    def run(self) -> List[Subprogram]:
+        for root in self.roots:
+            folder, self.unit = str(root.values.get(FOLDER, "")), str(root.values.get(NAME, ""))
+            self.path = self.unit if self.unit.startswith("/") or not folder else f"{folder}/{self.unit}"
+            try:
+                self.visit(root)
+            except RecursionError:
+                raise Bad(f"{self.units.name}: its DWARF nests too deeply") from None
+        return list(self.found.values())
+
+    def origin(self, entry: Entry) -> Entry:
+        """The entry that has the name, of one that stands for a copy or a definition."""
+        for _ in range(8):
             other = entry.values.get(ORIGIN, entry.values.get(SPECIFICATION))
-            if other not in units.by_offset:
-                return entry
-            entry, seen = units.by_offset[other], seen + 1
+            if other not in self.units.by_offset:
+                break
+            entry = self.units.by_offset[other]
         return entry
 
-    units_of: Dict[str, str] = {}
-
-    def told(entry: Entry, path: str) -> Subprogram:
-        base = origin(entry)
-        if id(base) not in known:
-            line = base.values.get(LINE, 0)
-            known[id(base)] = Subprogram(base.values.get(NAME, ""), base.values.get(LINKAGE, ""), path, line, units_of.get(path, ""), type_of(base) in AGGREGATES)
-        return known[id(base)]
-
-    def param(entry: Entry) -> Param:
-        base = origin(entry)
-        tag = type_of(base)
-        return Param(base.values.get(NAME, ""), local_of(entry.values.get(LOCATION)), tag in POINTERS, tag in AGGREGATES)
-
-    def type_of(entry: Entry) -> int:
+    def type_of(self, entry: Entry) -> int:
         """The tag of a type behind its names and qualifiers."""
         for _ in range(64):
-            entry = units.by_offset.get(entry.values.get(TYPE))
+            entry = self.units.by_offset.get(entry.values.get(TYPE))
             if entry is None:
                 return 0
             if entry.tag not in PASSING:
                 return entry.tag
         return 0
 
-    def inside(entry: Entry, path: str, caller: str) -> None:
+    def told(self, entry: Entry) -> Subprogram:
+        base = self.origin(entry)
+        if id(base) not in self.found:
+            values = base.values
+            self.found[id(base)] = Subprogram(
+                values.get(NAME, ""), values.get(LINKAGE, ""), self.path, values.get(LINE, 0), self.unit, self.type_of(base) in AGGREGATES)
+        return self.found[id(base)]
+
+    def param(self, entry: Entry) -> Param:
+        base = self.origin(entry)
+        tag = self.type_of(base)
+        return Param(base.values.get(NAME, ""), local_of(entry.values.get(LOCATION)), tag in POINTERS, tag in AGGREGATES)
+
+    def inside(self, entry: Entry, caller: str) -> None:
+        """What was inlined into a function."""
         for child in entry.children:
             if child.tag == INLINED:
                 values = child.values
-                told(child, path).inlined.append(Call(path, values.get(CALL_LINE, 0), values.get(CALL_COLUMN, 0), caller))
+                self.told(child).inlined.append(Call(self.path, values.get(CALL_LINE, 0), values.get(CALL_COLUMN, 0), caller))
             if child.tag != SUBPROGRAM:
-                inside(child, path, caller)
+                self.inside(child, caller)
 
-    def visit(entry: Entry, path: str) -> None:
+    def visit(self, entry: Entry) -> None:
         if entry.tag != SUBPROGRAM:
             for child in entry.children:
-                visit(child, path)
+                self.visit(child)
             return
-        one, low = told(entry, path), entry.values.get(LOW_PC)
-        if isinstance(low, int) and low in starts and low < GONE:
-            one.function = starts[low]
-            params = [child for child in entry.children if child.tag == PARAMETER]
-            one.params = [param(child) for child in params]
-            inside(entry, path, one.name)
+        one, low = self.told(entry), entry.values.get(LOW_PC)
+        if isinstance(low, int) and low in self.starts and low < GONE:
+            one.function = self.starts[low]
+            one.params = [self.param(child) for child in entry.children if child.tag == PARAMETER]
+            self.inside(entry, one.name)
 
-    for root in roots:
-        folder, name = str(root.values.get(FOLDER, "")), str(root.values.get(NAME, ""))
-        path = name if name.startswith("/") or not folder else f"{folder}/{name}"
-        units_of[path] = name
-        visit(root, path)
-    return list(known.values())
+
+def subprograms(module: Module) -> List[Subprogram]:
+    """The functions that DWARF tells of."""
+    return Walk(module).run()
 
 
 def variables(module: Module) -> Set[str]:

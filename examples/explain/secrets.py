@@ -1,24 +1,25 @@
-"""The section blade.secrets, which the macros of blade.h write: what a source declares, turned into entries of blade.labels.
-Licence: public domain (CC0)."""
+"""What C declares by the macros of blade.h, which stands in the section blade.secrets, turned into entries of blade.labels. Licence: public domain (CC0)."""
 from __future__ import annotations
 
 import difflib
 import re
 from dataclasses import dataclass, field
-from typing import Dict, FrozenSet, List, NamedTuple, Sequence, Set, Tuple
+from typing import Dict, FrozenSet, List, NamedTuple, Optional, Sequence, Set, Tuple
 
-from .dwarf import Subprogram, all_contents, subprograms, variables
+from .dwarf import Call, Subprogram, all_contents, subprograms, variables
 from .labels import KINDS, Entry, check, entries_in, is_labelled, number_of, section_of, without_labels
 from .reading import Bad, read_file
 from .wasm import FUNCTION, Module
 
 NAME = "blade.secrets"
 INCLUDED = "<built-in>"  # what clang calls the unit in a file that is named by -include: that goes to all units
+NOTHING = "nothing is declared secret: BLADE_SECRET_PARAM or BLADE_SECRET_MEMORY of blade.h, or words; --unlabelled where that is meant"
+KEEP = "so keep it by __attribute__((noinline)), or declare the caller's parameter"
 
 
 @dataclass(frozen=True)
 class Declared:
-    """What a line of a source declares, the line, and the units that have it: a header may stand in several."""
+    """What a line of C declares, the line, and the units that have it: a header may stand in several."""
 
     kind: str
     name: str
@@ -28,11 +29,11 @@ class Declared:
 
 
 class Labelled(NamedTuple):
-    """Entries, each with where it was declared; what is wrong with the others; and where labelled functions were inlined."""
+    """Entries, each with where it was declared; what is wrong with the others; and what is to be known of those of words."""
 
     entries: List[Tuple[Entry, str]]
-    errors: List[Tuple[str, str]]
-    inlined: List[Tuple[str, str]]
+    errors: List[str]
+    warnings: List[str]
 
 
 def read_lines(lines: Sequence[str]) -> List[Declared]:
@@ -51,14 +52,41 @@ def declared(module: Module) -> List[Declared]:
 
 
 def in_files(paths: Sequence[str]) -> List[Declared]:
-    """The lines that stand in objects and archives, members that aren't linked included."""
+    """The lines that stand in objects and archives, members that aren't linked included. In LLVM's bitcode they can't be seen."""
     pattern = rb"(?:%s)\t[^\t\n]+\t[^\t\n]+\t[^\t\n]+:\d+\t[^\t\n]+\n" % "|".join(KINDS).encode()
     return read_lines([words.decode("utf-8", "replace").rstrip("\n") for path in paths for words in re.findall(pattern, read_file(path))])
+
+
+def left_out(module: Module, paths: Sequence[str]) -> List[str]:
+    """What stands in units that the linker left out and yet speaks of the module: it would be public in silence."""
+    kept, told = set(declared(module)), []
+    for one in in_files(paths):
+        if one in kept:
+            continue
+        if one.kind == "secret-memory":
+            told.append(f"{one.where}: error: the memory is declared secret here, in a unit of a library that isn't linked: declare it beside "
+                        "a function that is used, or by --label 'secret-memory 0' [blade-label]")
+        elif KINDS[one.kind].names[0] == "function" and named(module, one.name):
+            told.append(f"{one.where}: error: {one.name} is labelled here, in a unit of a library that isn't linked: have the unit that defines "
+                        f"{one.name} include this line [blade-label]")
+    return told
 
 
 def base(name: str) -> str:
     """A function's name without what the linker shows of a C++ function's parameters."""
     return name.partition("(")[0]
+
+
+def near(word: str, names: Sequence[str]) -> str:
+    """Asks whether a name was meant that looks like the word."""
+    found = difflib.get_close_matches(word, names, 1)
+    return f": do you mean {found[0]}?" if found else ""
+
+
+def named(module: Module, name: str) -> Set[int]:
+    """The functions of a name. wasm-opt calls the second of two static functions NAME.1."""
+    found = {index for index, told in module.names.items() if name in (told, base(told), re.sub(r"\.\d+$", "", told))}
+    return found | {index for (sort, told), index in module.exports.items() if (sort, told) == (FUNCTION, name)}
 
 
 class Resolver:
@@ -67,72 +95,74 @@ class Resolver:
     def __init__(self, module: Module) -> None:
         self.module = module
         self.told = subprograms(module)
-        self.variables = variables(module)
 
     def function(self, name: str, where: str) -> Tuple[int, List[Subprogram]]:
+        """The function, and what DWARF says of those of its name."""
         if name.isdigit():
             return int(name), []
-        module, known = self.module, [one for one in self.told if name in (one.name, one.linkage)]
-        by_code = {one.function for one in known if one.function is not None}
-        # wasm-opt calls the second of two static functions NAME.1.
-        named = {index for index, told in module.names.items() if name in (told, base(told), re.sub(r"\.\d+$", "", told))}
-        named |= {index for (sort, told), index in module.exports.items() if (sort, told) == (FUNCTION, name)}
-        found = by_code | named
+        known = [one for one in self.told if name in (one.name, one.linkage)]
+        found = {one.function for one in known if one.function is not None} | named(self.module, name)
         if len(found) > 1:
             # Static ones of several files: that of the file that the line stands in.
-            file = where.rpartition(":")[0]
-            here = {one.function for one in known if one.function in found and ("/" + one.path).endswith("/" + file)}
+            file = "/" + where.rpartition(":")[0]
+            here = {one.function for one in known if one.function in found and ("/" + one.path).endswith(file)}
             found = here if len(here) == 1 else found
         if len(found) == 1:
             return found.pop(), known
-        if len(found) > 1:
-            places = ", ".join(f"{one.path}:{one.line}" for one in known if one.function in found)
-            raise Bad(f"{len(found)} functions are called {name}{' (' + places + ')' if places else ''}: give one of them another name")
-        if any(one.inlined for one in known):
-            at = next(one.inlined[0] for one in known if one.inlined)
-            raise Bad(f"{name} isn't in the module: clang inlined it, for one at {at.path}:{at.line} in {at.caller}. Declare the parameter of the "
-                      f"caller, or put __attribute__((noinline)) before {name}")
-        if known:
-            raise Bad(f"{name} isn't in the module: nothing uses it. Export it, or drop the line")
-        if name in self.variables:
-            raise Bad(f"{name} is a variable of C, which stands in memory: BLADE_SECRET_MEMORY declares all of that")
-        near = difflib.get_close_matches(name, [base(told) for told in module.names.values()], 1)
-        raise Bad(f"there is no function {name}{': do you mean ' + near[0] + '?' if near else ' (dropped by the linker where nothing uses it)'}")
+        raise Bad(self.why_none(name, known, found))
 
-    def parameter(self, function: int, known: Sequence[Subprogram], word: str) -> int:
+    def why_none(self, name: str, known: Sequence[Subprogram], found: Set[int]) -> str:
+        """Why a name isn't that of one function."""
+        if found:
+            places = ", ".join(f"{one.path}:{one.line}" for one in known if one.function in found)
+            return f"{len(found)} functions are called {name}{' (' + places + ')' if places else ''}: give one of them another name"
+        at = next((one.inlined[0] for one in known if one.inlined), None)
+        if at:
+            return f"{name} isn't in the module: clang inlined it, for one at {at.path}:{at.line} in {at.caller}, {KEEP}"
+        if known:
+            return f"{name} isn't in the module: nothing uses it. Export it, or drop the line"
+        if name in variables(self.module):
+            return f"{name} is a variable of C, which stands in memory: BLADE_SECRET_MEMORY declares all of that"
+        asked = near(name, [base(told) for told in self.module.names.values()])
+        return f"there is no function {name}{asked or ' (nothing uses it, so the linker or clang dropped it; export it, or drop the line)'}"
+
+    def parameter(self, function: int, one: Optional[Subprogram], word: str) -> int:
+        """The number of a parameter that C calls so."""
         if word.isdigit():
             return int(word)
         name, count = self.module.function_name(function), len(self.module.type_of(function).params)
-        one = next((one for one in known if one.function == function and (one.params or not count)), None)
-        if one is None:
+        if one is None or not one.params and count:
             raise Bad(f"parameter {word} of {name}: the module doesn't say how parameters are called; compile with -g, or give its number")
         names = [told.name for told in one.params]
         if names.count(word) != 1:
-            near = difflib.get_close_matches(word, names, 1)
-            raise Bad(f"{name} has no parameter {word}{': do you mean ' + near[0] + '?' if near else ', but ' + (', '.join(names) or 'none')}")
-        at = names.index(word)
-        local = one.params[at].local
-        if one.params[at].is_pointer:
+            raise Bad(f"{name} has no parameter {word}{near(word, names) or ', but ' + (', '.join(names) or 'none')}")
+        at, told = names.index(word), one.params[names.index(word)]
+        local = told.local if told.local is not None and told.local < count else None
+        if told.is_pointer:
+            number = at if len(names) == count else "from 0"
             raise Bad(f"{word} of {name} is a pointer: this would declare the address secret, not what stands there. For that: BLADE_SECRET_MEMORY "
-                      f"(or give the number, {at if len(names) == count else 'from 0'}, where the address itself is secret)")
-        if one.params[at].is_struct and local is None:
+                      f"(or give the number, {number}, where the address itself is secret)")
+        if told.is_struct and local is None:
             # One of a single number is handed over as that.
             raise Bad(f"{word} of {name} is a struct by value, of which the module gets the address or a part: give its members as parameters, "
                       "or declare the memory by BLADE_SECRET_MEMORY")
-        if local is not None and local >= count:
-            local = None
-        if local is None and len(names) == count:
-            return at
-        if local is None and one.gives_struct and len(names) + 1 == count and not self.module.type_of(function).results:
-            return at + 1
-        if local is not None and (len(names) != count or local == at):
-            return local
-        raise Bad(f"which parameter of the module {word} of {name} is can't be told ({len(names)} in C, {count} in the module: a struct by value, "
-                  "or one that clang took apart): give its number")
+        return self.place(one, at, local, count)
 
-    def entry(self, one: Declared) -> Tuple[Entry, List[Subprogram]]:
+    def place(self, one: Subprogram, at: int, local: Optional[int], count: int) -> int:
+        """Which parameter of the module the one at a place in C is: by its local, else by order, where that can be told."""
+        if len(one.params) == count and local in (None, at):
+            return at
+        if local is not None and len(one.params) != count:
+            return local
+        if local is None and one.gives_struct and len(one.params) + 1 == count and not self.module.type_of(one.function).results:
+            # Behind the address of the result.
+            return at + 1
+        raise Bad(f"which parameter of the module {one.params[at].name} of {one.name} is can't be told ({len(one.params)} in C, {count} in the module: "
+                  "a struct by value, or one that clang took apart): give its number")
+
+    def entry(self, one: Declared) -> Entry:
         if KINDS[one.kind].names[0] != "function":
-            return (one.kind, (number_of(self.module, KINDS[one.kind].names[0], one.name),)), []
+            return one.kind, (number_of(self.module, KINDS[one.kind].names[0], one.name),)
         function, known = self.function(one.name, one.where)
         defined = next((it for it in known if it.function == function), None)
         if defined is None:
@@ -140,39 +170,52 @@ class Resolver:
         if not one.units & {defined.unit, INCLUDED}:
             raise Bad(f"{one.name} is defined in {defined.unit}, which doesn't have this line, so it may be inlined there, where nothing is declared: "
                       "have that unit include it (-include FILE.h does without a change)")
-        which = self.parameter(function, known, one.which) if one.kind == "secret-param" else int(one.which)
-        return (one.kind, (function, which)), known
+        calls = copies(self.told, function)
+        if one.kind == "secret-param" and calls:
+            raise Bad(f"{one.name} is inlined at {calls[0].path}:{calls[0].line}, and what it is given there isn't declared secret, {KEEP}")
+        return one.kind, (function, self.parameter(function, defined, one.which) if one.kind == "secret-param" else int(one.which))
+
+
+def copies(told: Sequence[Subprogram], function: int) -> List[Call]:
+    """Where a function was inlined, as far as DWARF shows it: of a copy of which no instruction is left it says nothing."""
+    return list(dict.fromkeys(call for it in told if it.function == function for call in it.inlined))
+
+
+def of_source(module: Module) -> Labelled:
+    """What the source declares."""
+    lines, found, errors = declared(module), [], []
+    resolver = Resolver(module) if lines else None
+    for one in lines:
+        try:
+            entry = resolver.entry(one)
+            if entry not in [other for other, _ in found]:
+                check(module, [other for other, _ in found] + [entry])
+                found.append((entry, one.where))
+        except Bad as bad:
+            errors.append(f"{one.where}: error: {bad} [blade-label]")
+    return Labelled(found, errors, [])
 
 
 def labels_of(module: Module, words: Sequence[str] = ()) -> Labelled:
     """What the source declares, and what words declare besides."""
-    lines = declared(module)
-    resolver = Resolver(module) if lines else None
-    found, errors, inlined = [], [], []
-    for one in lines:
-        try:
-            entry, known = resolver.entry(one)
-            if entry not in [other for other, _ in found]:
-                check(module, [other for other, _ in found] + [entry])
-                found.append((entry, one.where))
-            if one.kind == "secret-param":
-                calls = dict.fromkeys(call for it in known if it.function == entry[1][0] for call in it.inlined)
-                inlined += [(f"{call.path}:{call.line}:{call.column}", f"{one.name} is inlined here, in {call.caller}: what it is given here isn't "
-                              f"declared secret ({one.where}). Put __attribute__((noinline)) before {one.name}") for call in calls]
-        except Bad as bad:
-            errors.append((one.where, str(bad)))
+    found, errors, warnings = of_source(module)
     by_source = [entry for entry, _ in found]
-    found += [(entry, "the command line") for entry in entries_in(module, words) if entry not in by_source]
-    check(module, [entry for entry, _ in found])
-    return Labelled(found, errors, inlined)
+    by_words = [entry for entry in entries_in(module, words) if entry not in by_source]
+    check(module, by_source + by_words)
+    params = [numbers[0] for kind, numbers in by_words if kind == "secret-param"]
+    told = subprograms(module) if params else []
+    for function in dict.fromkeys(params):
+        name = module.function_name(function)
+        warnings += [f"{call.path}:{call.line}:{call.column}: warning: {name} is inlined here, in {call.caller}, and what it is given isn't declared secret, {KEEP} "
+                     "[blade-inlined]" for call in copies(told, function)]
+    return Labelled(found + [(entry, "") for entry in by_words], errors, warnings)
 
 
-def with_source(module: Module, words: Sequence[str], replace: bool) -> Tuple[bytes, List[str], int]:
-    """The module with the labels of its source and of words, what is to be said, and the status: no label is dropped in silence."""
+def with_source(module: Module, words: Sequence[str], replace: bool = False, unlabelled: bool = False) -> Tuple[bytes, Labelled]:
+    """The module with the labels of its source and of words, which stand where nothing is wrong."""
     if is_labelled(module) and not replace:
         raise Bad("the module has a section blade.labels already: --replace, or --remove it")
     found = labels_of(module, words)
-    told = [f"{where}: error: {text} [blade-label]" for where, text in found.errors]
-    told += [f"{where}: error: {text} [blade-inlined]" for where, text in found.inlined]
-    made = without_labels(module) + section_of([entry for entry, _ in found.entries])
-    return made, told, 1 if told else 0
+    if not found.entries and not found.errors and not unlabelled:
+        raise Bad(NOTHING)
+    return without_labels(module) + section_of([entry for entry, _ in found.entries]), found
