@@ -2,440 +2,239 @@
 from __future__ import annotations
 
 import os
-import re
 import shlex
 import shutil
-import subprocess
 import sys
-from dataclasses import dataclass, field
+from collections import Counter
 from typing import List, Optional, Sequence, Tuple
 
-from . import compare, diagnostics, text
+from . import compare, diagnostics, sarif, text
+from .asked import BUILD, DISAGREE, LABELS, NO, REFUSED, USAGE, YES, Asked, Stop, asked_by
+from .building import Builder
 from .causes import causes_of
-from .dwarf import all_contents
 from .flow import find
 from .image import read_image
-from .labels import leb
+from .labels import entries_of
 from .lines import Lines, chosen
 from .lowering import lower
+from .pages import pages_of, with_pages
+from .paths import shown
 from .protects import protects_of, read_certificate
-from .reading import Bad, Reader, read_file
-from .scan import refusal
-from .secrets import declared, in_files, with_source
-from .wasm import MAGIC, FUNCTION, Module, read_module
+from .reading import Bad, read_file
+from .refusals import refusal
+from .secrets import NOTHING, left_out, with_source
+from .tools import HERE, Ran, Runner, found, program, written_to
+from .wasm import FUNCTION, Module, module_of, read_module
 
-YES, NO, USAGE, BUILD, MISSING, LABELS, REFUSED, DISAGREE = range(8)
-HERE = os.path.dirname(os.path.dirname(os.path.realpath(__file__)))
-SOURCES = (".c", ".cc", ".cpp", ".cxx", ".C", ".s", ".S", ".i")
-OBJECTS = (".o", ".a", ".obj", ".bc")
-# Tools by the Debian package that has them.
-PACKAGES = {"clang": "clang", "clang++": "clang", "wasm-ld": "lld", "wasm-opt": "binaryen", "llvm-symbolizer": "llvm"}
-# wasm-opt (binaryen 108) falls over DWARF 5.
-TARGET = ["--target=wasm32", "-mcpu=mvp", "-gdwarf-4", "-fvisibility=default"]
-WITH_NEXT = frozenset("-I -D -U -include -isystem -idirafter -iquote -x -Xclang -mllvm -MF -MT -MQ -imacros -isysroot --sysroot -std".split())
-ALONE = frozenset("-c -S -E -M -MM -fsyntax-only -###".split())  # clang does all there is to do
-OTHER_MACHINE = {
-    "-mbulk-memory": "operations on whole memories", "-msimd128": "vectors", "-mrelaxed-simd": "vectors", "-mreference-types": "references",
-    "-matomics": "threads", "-pthread": "threads", "-mtail-call": "tail calls", "-mexception-handling": "exceptions",
-    "-mnontrapping-fptoint": "floats", "-mmultimemory": "several memories", "-m64": "64-bit addresses"}
-LIBRARY = ("memcpy", "memmove", "memset", "memcmp")
-
-
-class Stop(Exception):
-    """The work ends: a status, and what is said."""
-
-    def __init__(self, status: int, *lines: str) -> None:
-        super().__init__(*lines)
-        self.status, self.lines = status, lines
-
-
-@dataclass
-class Asked:
-    """What the words ask for."""
-
-    flags: List[str] = field(default_factory=list)
-    links: List[str] = field(default_factory=list)
-    sources: List[str] = field(default_factory=list)
-    objects: List[str] = field(default_factory=list)
-    labels: List[str] = field(default_factory=list)
-    out: Optional[str] = None
-    name: Optional[str] = None
-    blade: Optional[str] = None
-    way: Optional[str] = None  # ledger or vault
-    limit: int = 20
-    alone: bool = False
-    verbose: bool = False
-    unlabelled: bool = False
-    keep_going: bool = False
-
-
-def asked_by(words: Sequence[str]) -> Asked:
-    asked, rest = Asked(), list(words)
-
-    def value(word: str) -> str:
-        if not rest:
-            raise Stop(USAGE, f"blade-cc: error: {word} needs a word behind it")
-        return rest.pop(0)
-
-    while rest:
-        word = rest.pop(0)
-        if word == "-o":
-            asked.out = value(word)
-        elif word == "--label":
-            asked.labels += value(word).split()
-        elif word in ("--ledger", "--vault"):
-            asked.way = word[2:]
-        elif word == "--unlabelled":
-            asked.unlabelled = True
-        elif word == "--keep-going":
-            asked.keep_going = True
-        elif word == "--limit":
-            asked.limit = int(value(word))
-        elif word == "--name":
-            asked.name = value(word)
-        elif word == "--blade":
-            asked.blade = value(word)
-        elif word == "-v":
-            asked.verbose = True
-        elif word in ALONE or word.startswith(("-print-", "-dump")) or word == "--version":
-            asked.alone = True
-            asked.flags.append(word)
-        elif word.startswith("-Wl,"):
-            asked.links += word.split(",")[1:]
-        elif word in ("-Xlinker", "-z"):
-            asked.links += (["-z"] if word == "-z" else []) + [value(word)]
-        elif word.startswith(("--export", "--initial-memory=", "--max-memory=", "-L", "-l")):
-            asked.links.append(word)
-        elif word in WITH_NEXT:
-            asked.flags += [word, value(word)]
-        elif word.startswith("-") and word != "-":
-            refuse_machine(word)
-            asked.flags.append(word)
-        elif word.endswith(OBJECTS):
-            asked.objects.append(word)
-        elif word.endswith(SOURCES):
-            asked.sources.append(word)
-        else:
-            raise Stop(USAGE, f"blade-cc: error: {word}: neither a source nor an object")
-    return asked
-
-
-def refuse_machine(word: str) -> None:
-    if word in OTHER_MACHINE:
-        raise Stop(USAGE, f"blade-cc: error: {word}: blade takes WebAssembly 1.0, without {OTHER_MACHINE[word]}; leave it out")
-    if word.startswith(("-mcpu=", "-march=", "-mtune=")) and word != "-mcpu=mvp" or word.startswith("--target=") and not word.startswith("--target=wasm32"):
-        raise Stop(USAGE, f"blade-cc: error: {word}: blade-cc compiles for wasm32 with -mcpu=mvp; leave it out")
+STEPS = "4000000000"  # the most of a run that is counted
+MADE = ("wasm", "img", "json")  # of the module: what blade-cc makes where the verdict is yes
 
 
 class Driver:
-    """Runs the steps, and shows them."""
+    """The steps, in a folder: build/ has what is on the way, refused/ what isn't judged yet or isn't constant-time."""
 
     def __init__(self, asked: Asked) -> None:
-        self.asked = asked
-        self.folder, self.module, self.is_file = "", "", False
+        self.asked, self.runner = asked, Runner(asked.verbose)
+        self.program = program(asked.blade)
+        self.module = asked.name or asked.base
+        out = asked.out or f"{self.module}.blade/"
+        self.file = out if not out.endswith("/") and os.path.splitext(out)[1] and not os.path.isdir(out) else ""
+        self.folder = f"{os.path.splitext(out)[0]}.blade" if self.file else out.rstrip("/")
+        if self.file and not asked.name:
+            self.module = os.path.splitext(os.path.basename(out))[0]
+        self.aside = f"{self.folder}/refused"
+        self.builder = Builder(asked, self.runner, f"{self.folder}/build")
 
-    # Tools.
+    def made(self) -> List[str]:
+        """The names of what is made in the folder where the verdict is yes."""
+        return [f"{self.module}.{end}" for end in MADE] + [f"{self.asked.way}.wasm"] * bool(self.asked.way)
 
-    def tool(self, name: str) -> str:
-        for one in (name, *(f"{name}-{version}" for version in range(22, 13, -1))):
-            if shutil.which(one):
-                return one
-        raise Stop(MISSING, f"blade-cc: error: there is no {name}: apt-get install {PACKAGES[name]}")
+    def clear(self) -> None:
+        """What an earlier call wrote says nothing of this one, and make would take it for made."""
+        reports = [f"{self.module}.sarif", "report.txt", "verify.txt", "problems.json"]
+        for path in [f"{self.folder}/{name}" for name in self.made() + reports] + [f"{self.aside}/{name}" for name in self.made()] + [self.file]:
+            if path and os.path.exists(path):
+                os.remove(path)
+        for folder in (f"{self.folder}/build", self.aside):
+            os.makedirs(folder, exist_ok=True)
 
-    def program(self) -> str:
-        top = os.path.dirname(HERE)
-        beside = os.path.join(top, "blade")
-        for one in (self.asked.blade, os.environ.get("BLADE"), beside, "blade"):
-            if one and shutil.which(one):
-                if one == beside and os.path.exists(os.path.join(top, "crates.txt")) and not os.path.exists(os.path.join(top, "crates/blade/out/blade")):
-                    # It would prove itself for an hour, and say so to nobody.
-                    raise Stop(MISSING, f"blade-cc: error: {beside} isn't built yet: run it once, or give a program by --blade PROGRAM or BLADE")
-                return one
-        raise Stop(MISSING, "blade-cc: error: there is no blade: give it by --blade PROGRAM or BLADE, or install a release")
-
-    def show(self, words: Sequence[str], to: str = "") -> None:
-        if self.asked.verbose:
-            print(f" {shlex.join(words)}{' > ' + shlex.quote(to) if to else ''}", file=sys.stderr, flush=True)
-
-    def run(self, words: Sequence[str], to: str = "") -> Tuple[int, str, str]:
-        """The status, what is printed (which goes to a file, too, where one is named), and the errors."""
-        self.show(words, to)
-        done = subprocess.run(words, capture_output=True, text=True, check=False)
-        if to:
-            write(to, done.stdout.encode())
-        return done.returncode, done.stdout, done.stderr
-
-    # Compiling.
-
-    def compiler(self, source: str) -> List[str]:
-        cpp = source.endswith((".cc", ".cpp", ".cxx", ".C"))
-        words = [self.tool("clang++" if cpp else "clang"), *TARGET]
-        if not any(flag.startswith("-O") for flag in self.asked.flags):
-            words.append("-O2")
-        if self.asked.way:
-            words.append(f"-D{self.asked.way.upper()}")
-        return words + ["-isystem", HERE, "-isystem", os.path.join(HERE, "include")] + self.asked.flags
-
-    def alone(self) -> int:
-        """What clang does by itself."""
-        if self.asked.objects:
-            raise Stop(USAGE, "blade-cc: error: objects, where nothing is linked")
-        words = self.compiler((self.asked.sources or ["x.c"])[0]) + self.asked.sources + (["-o", self.asked.out] if self.asked.out else [])
-        self.show(words)
-        return BUILD if subprocess.run(words, check=False).returncode else YES
-
-    def compile(self, source: str, to: str) -> None:
-        status, told, errors = self.run(self.compiler(source) + ["-c", "-o", to, source])
-        sys.stdout.write(told)
-        sys.stderr.write(errors)
-        if status:
-            missing = re.findall(r"fatal error: '([^']+)' file not found", errors)
-            hints = [f"blade-cc: note: {one}: there is no C library; {HERE}/include has what can be had of it, and -I names more" for one in missing]
-            raise Stop(BUILD, *hints)
-
-    def library(self) -> str:
-        """memcpy and so on, which give way to those of the sources."""
-        source, to = f"{self.folder}/build/blade-libc.c", f"{self.folder}/build/blade-libc.o"
-        write(source, ("".join(f"#pragma weak {name}\n" for name in LIBRARY) + f'#include "{HERE}/libc.c"\n').encode())
-        status, _, errors = self.run([self.tool("clang"), *TARGET, "-O2", "-fno-builtin", "-fvisibility=hidden", "-c", "-o", to, source])
-        if status:
-            raise Stop(BUILD, errors)
-        return to
-
-    # Linking.
-
-    def link(self, objects: List[str]) -> Module:
-        linked = f"{self.folder}/build/linked.wasm"
-        first = [self.tool("wasm-ld"), "--no-entry", "-z", "stack-size=8192", *self.asked.links]
-        chosen_exports = any(word.startswith("--export") for word in self.asked.links)
-        extra: List[str] = []
-        while True:
-            status, _, errors = self.run([*first, "-o", linked, *objects, *extra])
-            missing = set(re.findall(r"undefined symbol: (\S+)", errors))
-            if status and not extra and missing & set(LIBRARY):
-                extra = [self.library()]
-                continue
-            if status:
-                raise Stop(BUILD, errors.rstrip(), *self.hints(errors, missing))
-            module = read_module(linked)
-            if chosen_exports or any(sort == FUNCTION for sort, _ in module.exports):
-                return module
-            # Nothing says what is exported: all that other units may call.
-            first.append("--export-dynamic")
-            chosen_exports = True
-
-    def hints(self, errors: str, missing) -> List[str]:
-        told = []
-        for name in sorted(missing):
-            if re.fullmatch(r"__(mul|div|mod|udiv|umod|ashl|ashr|lshr|multi)\w*(ti|i)\d", name):
-                told.append(f"{name} is made of __int128: use smaller products (docs/GUIDE.md, section 1)")
-            elif re.fullmatch(r"__\w+(sf|df|tf)\w*\d?", name):
-                told.append(f"{name} is made of floats, which blade doesn't take")
-            else:
-                told.append(f"{name} stands in no file that was given, and there is no C library but memcpy, memmove, memset and memcmp")
-        if "memory too small" in errors:
-            told.append("give a greater --initial-memory=BYTES, a multiple of 65536")
-        return [f"blade-cc: note: {one}" for one in told]
-
-    # From the linked module to the verdict.
-
-    def keep_labels(self, linked: Module, objects: List[str]) -> None:
-        """A memory that is declared secret where the linker left the unit out would be public in silence; one of a function goes with that."""
-        kept = set(declared(linked))
-        for one in in_files([path for path in objects if os.path.exists(path)]):
-            if one not in kept and one.kind == "secret-memory":
-                raise Stop(LABELS, f"{one.where}: error: the memory is declared secret here, in a unit of a library that isn't linked: "
-                           "declare it where a function stands that is used, or by --label 'secret-memory 0' [blade-label]")
-
-    def split(self) -> Module:
-        made = f"{self.folder}/build/{self.module}.wasm"
-        status, _, errors = self.run([self.tool("wasm-opt"), "-g", "--untee", "--ssa", f"{self.folder}/build/linked.wasm", "-o", made])
-        if status:
-            raise Stop(BUILD, *([errors.rstrip()] if errors.strip() else []), f"blade-cc: error: wasm-opt ends with status {status}"
-                       + (": it can't read DWARF 5, so compile by blade-cc -c or with -gdwarf-4" if has_dwarf_5(f"{self.folder}/build/linked.wasm") else ""))
-        return read_module(made)
+    def all(self) -> int:
+        for name in ["clang"] * bool(self.asked.sources) + ["wasm-ld", "wasm-opt", "llvm-symbolizer"]:
+            found(name)
+        self.clear()
+        objects = self.builder.objects()
+        linked = self.builder.link(objects)
+        wrong = left_out(linked, [one for one in objects + self.builder.archives() if os.path.exists(one)])
+        if wrong:
+            raise Stop(LABELS, *wrong)
+        modules = self.accessors(self.label(self.builder.split(self.module)))
+        report, verified = self.harden(modules)
+        return self.judge(modules, report, verified)
 
     def label(self, module: Module) -> str:
-        to = f"{self.folder}/{self.module}.wasm"
-        self.show([os.path.join(HERE, "blade-label"), module.path, to, *self.asked.labels])
+        asked, to = self.asked, f"{self.aside}/{self.module}.wasm"
+        # Of the vault the secrets stand in its own module; where nothing at all is declared, that is said with the verdict.
+        self.runner.show([os.path.join(HERE, "blade-label"), module.path, to, *asked.labels, "--unlabelled"])
         try:
-            made, told, status = with_source(module, self.asked.labels, False)
+            made, told = with_source(module, asked.labels, False, True)
         except Bad as bad:
             raise Stop(LABELS, f"blade-cc: error: {bad} [blade-label]") from None
-        if status:
-            raise Stop(LABELS, *told)
-        write(to, made)
+        for line in told.warnings:
+            print(line, file=sys.stderr)
+        if told.errors:
+            raise Stop(LABELS, *told.errors)
+        written_to(to, made)
         return to
 
-    def modules(self, labelled: str) -> List[str]:
+    def accessors(self, labelled: str) -> List[str]:
         """The module, and in front of it that of the accessors with as many pages."""
-        if not self.asked.way:
+        way = self.asked.way
+        if not way:
             return [labelled]
-        accessors = read_module(os.path.join(HERE, "accessors.wasm"))
-        made = with_pages(accessors, pages_of(read_module(labelled)))
-        to = f"{self.folder}/{self.asked.way}.wasm"
-        if self.asked.way == "vault":
-            made += b"\0" + leb(17) + b"\x0cblade.labels\x01\x01\x02\0"
-        if self.asked.verbose:
-            print(f" # {to} is {accessors.path} with as many pages of memory{', labelled secret-memory 0' if self.asked.way == 'vault' else ''}", file=sys.stderr)
-        write(to, made)
+        plain, to = os.path.join(HERE, "accessors.wasm"), f"{self.aside}/{way}.wasm"
+        words = ["secret-memory", "0"] if way == "vault" else []
+        self.runner.show([os.path.join(HERE, "blade-label"), plain, to, "--pages-of", labelled, "--unlabelled", *words])
+        made = with_pages(read_module(plain), pages_of(read_module(labelled)))
+        written_to(to, with_source(module_of(made, to), words, False, True)[0])
         return [to, labelled]
 
     def harden(self, modules: List[str]) -> Tuple[str, str]:
-        image, certificate = f"{self.folder}/{self.module}.img", f"{self.folder}/{self.module}.json"
-        program = self.program()
-        status, report, errors = self.run([program, "harden", image, certificate, *modules], f"{self.folder}/report.txt")
-        if status:
-            raise Stop(REFUSED, *self.refused(report.strip() or errors.strip() or f"status {status}", modules))
-        status, verified, errors = self.run([program, "verify", image, certificate], f"{self.folder}/verify.txt")
-        if status or verified.splitlines()[:2] != ["certificate yes", "stable yes"]:
-            raise Stop(DISAGREE, f"blade-cc: error: verify doesn't agree with harden: {verified.strip() or errors.strip()}")
-        return report, verified
+        """The report, and what verify says."""
+        image, certificate = f"{self.aside}/{self.module}.img", f"{self.aside}/{self.module}.json"
+        done = self.runner.run([self.program, "harden", image, certificate, *modules, *self.counts(modules)], f"{self.folder}/report.txt")
+        if done.status:
+            raise Stop(REFUSED, *self.refused(done, modules[-1]))
+        verified = self.runner.run([self.program, "verify", image, certificate], f"{self.folder}/verify.txt")
+        if verified.status or verified.out.splitlines()[:2] != ["certificate yes", "stable yes"]:
+            raise Stop(DISAGREE, f"blade-cc: error: verify doesn't agree with harden: {verified.out.strip() or verified.errors.strip()}")
+        return done.out, verified.out
 
-    def refused(self, said: str, modules: List[str]) -> List[str]:
-        module = read_module(modules[-1])
+    def counts(self, modules: List[str]) -> List[str]:
+        """The words for harden, of runs from the start files."""
+        if not self.asked.counts:
+            return []
+        image, total = f"{self.folder}/build/{self.module}.lowered.img", f"{self.folder}/build/{self.module}.counts"
+        done = self.runner.run([self.program, "lower", image, *modules])
+        if done.status:
+            raise Stop(REFUSED, *self.refused(done, modules[-1]))
+        files = [self.counted(image, one, f"{self.folder}/build/{at}.counts", modules[-1]) for at, one in enumerate(self.asked.counts)]
+        awk = '$1 == "site" { n[$2] += $3 } END { for (p in n) print "site", p, n[p] }'
+        self.runner.show_text(f"(head -1 {shlex.quote(files[0])}; awk {shlex.quote(awk)} {shlex.join(files)} | sort -k 2n) > {shlex.quote(total)}")
+        written_to(total, summed([read_file(one).decode() for one in files]).encode())
+        return ["--counts", total]
+
+    def counted(self, image: str, given: str, to: str, module: str) -> str:
+        """The count file of a run from a start file, given as EXPORT=FILE or, where there is one export, as FILE."""
+        name, _, start = given.rpartition("=")
+        exports = [told for sort, told in read_module(module).exports if sort == FUNCTION]
+        if not name and len(exports) != 1:
+            raise Stop(USAGE, f"blade-cc: error: --counts {given}: EXPORT=FILE says which function runs: {', '.join(exports[:8])}")
+        done = self.runner.run([self.program, "run", image, f"{self.module}/{name or exports[0]}", start, "--steps", STEPS, "--counts", to])
+        if done.status:
+            raise Stop(REFUSED, f"blade-cc: error: the run from {start} ends with: {done.out.splitlines()[0] if done.out else done.errors.strip()}")
+        return to
+
+    def refused(self, done: Ran, path: str) -> List[str]:
+        """What the program refused, by the line of C where that is known."""
+        module, said = read_module(path), done.out.strip() or done.errors.strip() or f"status {done.status}"
         try:
             function, place, why = refusal(module, said)
-        except (Bad, IndexError):
-            return [f"blade-cc: error: blade refuses {module.path}: {said} (docs/CLI.md, exit statuses)"]
-        line = line_of_place(module, place)
-        where = diagnostics.spelled(line, f"{diagnostics.shown(module.path)}: offset {place:#x}")
+        except (Bad, IndexError, ValueError):
+            return [f"blade-cc: error: blade refuses {path}: {said} (docs/CLI.md, exit statuses)"]
+        if function < 0:
+            return [f"blade-cc: error: {why}", f"blade-cc: note: blade says: {said}"]
+        where = diagnostics.spelled(line_of(module, place), f"{shown(path)}: offset {place:#x}")
         return [f"{where}: error: {why}", f"{where}: note: in {module.function_name(function)}; blade says: {said}"]
 
-    def explain(self, modules: List[str], report: str) -> diagnostics.Told:
-        image = f"{self.folder}/{self.module}.img"
-        certificate = f"{self.folder}/{self.module}.json"
-        self.show([os.path.join(HERE, "blade-explain"), image, *modules, "--certificate", certificate, "--report", f"{self.folder}/report.txt", "--lines",
-                   "--json", f"{self.folder}/problems.json", "--sarif", f"{self.folder}/{self.module}.sarif"])
-        read, functions = read_image(read_file(image)), lower([read_module(path) for path in modules])
-        differ = compare.positions_differ(read, functions)
-        lines = Lines([] if differ else functions)
-        found, protects = find(read), protects_of(read, read_certificate(read_file(certificate)))
-        differ += compare.report_differs(found, protects, report)
-        told = diagnostics.told_of(found, lines, causes_of(found, lines), protects)
-        write(f"{self.folder}/problems.json", diagnostics.as_json(told, image, modules).encode())
-        write(f"{self.folder}/{self.module}.sarif", diagnostics.as_sarif(told, image, modules, lines, os.getcwd(), version()).encode())
-        for one in diagnostics.as_text(told, diagnostics.shown(image), self.asked.limit, lines):
-            print(one, file=sys.stderr)
+    def judge(self, modules: List[str], report: str, verified: str) -> int:
+        """Tells the verdict and the places, and keeps what is made where it may be shipped."""
+        is_yes = verified.endswith("safe yes\n") and report.endswith("constant-time yes\n")
+        if is_yes and not self.asked.unlabelled and not is_labelled(modules):
+            raise Stop(LABELS, f"blade-cc: error: {self.module}: {NOTHING} [blade-unlabelled]")
+        is_kept = is_yes or self.asked.no_fail
+        place = self.folder if is_kept else self.aside
+        self.move(self.aside, place)
+        modules = [f"{place}/{os.path.basename(path)}" for path in modules]
+        told, lines, differ = self.explained(modules, f"{place}/{self.module}", report)
         if differ:
+            self.move(place, self.aside)
             raise Stop(DISAGREE, *(f"blade-cc: error: blade-explain doesn't agree with the program: {one}" for one in differ))
-        return told
-
-    def all(self) -> int:
-        asked = self.asked
-        if asked.alone:
-            return self.alone()
-        if not asked.sources and not asked.objects:
-            raise Stop(USAGE, "blade-cc: error: no file is given")
-        self.place()
-        for name in ["clang"] * bool(asked.sources) + ["wasm-ld", "wasm-opt", "llvm-symbolizer"]:
-            self.tool(name)
-        self.program()
-        objects = []
-        for number, source in enumerate(asked.sources):
-            objects.append(f"{self.folder}/build/{number}-{os.path.splitext(os.path.basename(source))[0]}.o")
-            self.compile(source, objects[-1])
-        self.keep_labels(self.link(objects + asked.objects), objects + asked.objects)
-        labelled = self.label(self.split())
-        modules = self.modules(labelled)
-        report, verified = self.harden(modules)
-        told = self.explain(modules, report)
-        return self.judge(told, report, verified)
-
-    def place(self) -> None:
-        out, files = self.asked.out, self.asked.sources + self.asked.objects
-        if out is None:
-            raise Stop(USAGE, "blade-cc: error: -o OUT/ or -o NAME.wasm says where to")
-        base = os.path.splitext(os.path.basename(out.rstrip("/")))[0]
-        if out.endswith("/") or os.path.isdir(out):
-            self.folder = out.rstrip("/")
-            self.module = self.asked.name or (os.path.splitext(os.path.basename(files[0]))[0] if len(files) == 1 else base)
-        else:
-            self.folder = os.path.splitext(out)[0] + ".blade"
-            self.module, self.is_file = self.asked.name or base, True
-            # make would take an old one for made.
-            if os.path.exists(out):
-                os.remove(out)
-        os.makedirs(f"{self.folder}/build", exist_ok=True)
-        # What an earlier call wrote says nothing of this one.
-        for name in [f"{self.module}.{end}" for end in ("wasm", "img", "json", "sarif")] + ["report.txt", "verify.txt", "problems.json"]:
-            if os.path.exists(f"{self.folder}/{name}"):
-                os.remove(f"{self.folder}/{name}")
-
-    def judge(self, told: diagnostics.Told, report: str, verified: str) -> int:
-        found, asked = told.found, self.asked
-        is_yes = "constant-time yes" in report.splitlines()[-1]
-        if is_yes != found.is_constant_time or is_yes != verified.rstrip().endswith("safe yes"):
-            raise Stop(DISAGREE, "blade-cc: error: harden, verify and blade-explain don't agree")
-        nothing = not found.origins and not found.image.demands and not any(found.image.secret_memories)
-        if nothing and not asked.unlabelled:
-            raise Stop(LABELS, f"blade-cc: error: {self.module} declares nothing secret, so the verdict says nothing: "
-                       "BLADE_SECRET_PARAM or BLADE_SECRET_MEMORY of blade.h, --label, or --unlabelled [blade-unlabelled]")
+        self.tell(told, lines, modules, f"{place}/{self.module}")
+        if is_kept and self.file:
+            shutil.copyfile(modules[-1], self.file)
         protects = next(line for line in report.splitlines() if line.startswith("protects "))
-        print(f"{self.module}: {text.verdict_text(found, ())}; {protects}; {text.declared_text(found).partition('. So')[0]}")
-        if not is_yes and not asked.keep_going:
-            return NO
-        if self.is_file:
-            shutil.copyfile(f"{self.folder}/{self.module}.wasm", asked.out)
-        return YES
+        print(f"{self.module}: {text.verdict_text(told.found, ())}; {protects}; {text.declared_text(told.found).partition('. So')[0]}")
+        return YES if is_kept else NO
+
+    def move(self, of: str, to: str) -> None:
+        for name in self.made() if of != to else []:
+            self.runner.show(["mv", f"{of}/{name}", f"{to}/{name}"])
+            os.replace(f"{of}/{name}", f"{to}/{name}")
+
+    def explained(self, modules: List[str], made: str, report: str) -> Tuple[diagnostics.Told, Lines, List[str]]:
+        """What is to be told of an image; and where that isn't what the program says."""
+        image, functions = read_image(read_file(f"{made}.img")), lower([read_module(path) for path in modules])
+        differ = compare.positions_differ(image, functions)
+        lines = Lines([] if differ else functions)
+        seen, protects = find(image), protects_of(image, read_certificate(read_file(f"{made}.json")))
+        differ += compare.report_differs(seen, protects, report)
+        return diagnostics.told_of(seen, lines, causes_of(seen, lines), protects), lines, differ
+
+    def tell(self, told: diagnostics.Told, lines: Lines, modules: List[str], made: str) -> None:
+        """The places: as text, as JSON and as SARIF."""
+        problems, log = f"{self.folder}/problems.json", f"{self.folder}/{self.module}.sarif"
+        self.runner.show([os.path.join(HERE, "blade-explain"), f"{made}.img", *modules, "--certificate", f"{made}.json", "--report",
+                          f"{self.folder}/report.txt", "--lines", "--json", problems, "--sarif", log])
+        written_to(problems, sarif.as_json(told, f"{made}.img", modules).encode())
+        written_to(log, sarif.as_sarif(told, f"{made}.img", modules, lines, os.getcwd(), sarif.version()).encode())
+        for line in diagnostics.as_text(told, shown(f"{made}.img"), self.asked.limit, lines):
+            print(line, file=sys.stderr)
 
 
-def write(path: str, data: bytes) -> None:
-    with open(path, "wb") as file:
-        file.write(data)
+def is_labelled(paths: Sequence[str]) -> bool:
+    return any(entries_of(read_module(path)) for path in paths)
 
 
-def version() -> str:
-    try:
-        return read_file(os.path.join(os.path.dirname(HERE), "VERSION")).decode().strip()
-    except OSError:
-        return "0"
+def summed(texts: Sequence[str]) -> str:
+    """Count files of one program as one: of each position the counts are added."""
+    total: Counter = Counter()
+    for line in (line for one in texts for line in one.splitlines() if line.startswith("site ")):
+        _, position, count = line.split()
+        total[int(position)] += int(count)
+    return "\n".join([texts[0].splitlines()[0]] + [f"site {position} {total[position]}" for position in sorted(total)]) + "\n"
 
 
-def has_dwarf_5(path: str) -> bool:
-    """Whether the first unit is of version 5."""
-    found = all_contents(read_module(path), ".debug_info")
-    return bool(found) and found[0][4:6] == b"\5\0"
-
-
-def line_of_place(module: Module, place: int):
+def line_of(module: Module, place: int):
+    """The line of C of a place in a module's file."""
     lines = Lines([])
     if lines.tool and module.has_lines:
         lines.look_up(module.path, [place - module.code])
     return lines.known.get((module.path, place - module.code), chosen([]))
 
 
-def pages_of(module: Module) -> Tuple[int, Optional[int]]:
-    """The first and the most pages of a module's memory."""
-    for section in module.sections:
-        if section.number == 5:
-            reader = Reader(module.data, section.contents, section.end)
-            reader.number()
-            flag, least = reader.byte(), reader.number()
-            return least, reader.number() if flag & 1 else None
-    return 0, None
-
-
-def with_pages(module: Module, pages: Tuple[int, Optional[int]]) -> bytes:
-    least, most = pages
-    contents = b"\1" + (b"\0" if most is None else b"\1") + leb(least) + (b"" if most is None else leb(most))
-    parts = [b"\5" + leb(len(contents)) + contents if section.number == 5 else module.data[section.start : section.end] for section in module.sections]
-    return MAGIC + b"".join(parts)
+def write_errors(driver: Optional[Driver], stop: Stop) -> None:
+    """A log of errors for editors, where the work ended before the places were told."""
+    if driver and stop.lines and os.path.isdir(driver.folder):
+        written_to(f"{driver.folder}/{driver.module}.sarif", sarif.errors_as_sarif(stop.lines, os.getcwd(), sarif.version()).encode())
 
 
 def main(words: Sequence[str], usage: str) -> int:
     if not words or words in (["--help"], ["-h"]):
-        print(usage, file=sys.stderr)
-        return USAGE
+        print(usage, file=sys.stderr if not words else sys.stdout)
+        return USAGE if not words else YES
     driver = None
     try:
-        driver = Driver(asked_by(words))
+        asked = asked_by(words)
+        if asked.alone:
+            return Builder(asked, Runner(asked.verbose), "").alone()
+        if not asked.sources and not asked.objects:
+            raise Stop(USAGE, "blade-cc: error: no file is given")
+        driver = Driver(asked)
         return driver.all()
     except Stop as stop:
-        if driver and driver.folder and stop.lines and not os.path.exists(f"{driver.folder}/{driver.module}.sarif"):
-            write(f"{driver.folder}/{driver.module}.sarif", diagnostics.errors_as_sarif(stop.lines, os.getcwd(), version()).encode())
+        write_errors(driver, stop)
         print("\n".join(stop.lines), end="\n" if stop.lines else "", file=sys.stderr)
         return stop.status
-    except (Bad, OSError, ValueError) as bad:
-        print(f"blade-cc: error: {bad}", file=sys.stderr)
+    except (Bad, OSError, ValueError, IndexError) as bad:
+        print(f"blade-cc: error: {bad or 'a file ends too early'}", file=sys.stderr)
         return BUILD

@@ -222,11 +222,13 @@ class Walk:
         imported = len(module.imported(FUNCTION))
         self.starts = {start - module.code: imported + at for at, (start, _) in enumerate(module.bodies)}
         self.found: Dict[int, Subprogram] = {}
+        self.folders: Dict[str, str] = {}  # where each unit was compiled
         self.path = self.unit = ""
 
     def run(self) -> List[Subprogram]:
         for root in self.roots:
             folder, self.unit = str(root.values.get(FOLDER, "")), str(root.values.get(NAME, ""))
+            self.folders[self.unit] = folder
             self.path = self.unit if self.unit.startswith("/") or not folder else f"{folder}/{self.unit}"
             try:
                 self.visit(root)

@@ -5,7 +5,7 @@ import argparse
 import os
 from typing import List, Optional, Sequence, Tuple
 
-from . import compare, diagnostics, metadata, page, text
+from . import compare, diagnostics, metadata, page, sarif, text
 from .causes import Cause, add_ends, causes_of, likely
 from .ending import ended
 from .flow import Findings, find
@@ -158,21 +158,12 @@ def write_all(words: argparse.Namespace, found: Findings, causes: List[Cause], p
     return said
 
 
-def version() -> str:
-    """That of the program, which stands above this folder in a clone and in a release."""
-    try:
-        with open(os.path.join(os.path.dirname(os.path.realpath(__file__)), "../../VERSION"), encoding="utf-8") as file:
-            return file.read().strip()
-    except OSError:
-        return "0"
-
-
 def tell(words: argparse.Namespace, told: diagnostics.Told, lines: Lines) -> List[str]:
     """The refused places, as words ask for."""
     if words.json:
-        write_file(words.json, diagnostics.as_json(told, words.image, words.modules).encode())
+        write_file(words.json, sarif.as_json(told, words.image, words.modules).encode())
     if words.sarif:
-        write_file(words.sarif, diagnostics.as_sarif(told, words.image, words.modules, lines, os.path.abspath(words.root), version()).encode())
+        write_file(words.sarif, sarif.as_sarif(told, words.image, words.modules, lines, os.path.abspath(words.root), sarif.version()).encode())
     return list(diagnostics.as_text(told, words.image, words.limit, lines)) if words.lines else []
 
 

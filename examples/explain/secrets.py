@@ -2,12 +2,14 @@
 from __future__ import annotations
 
 import difflib
+import os
 import re
 from dataclasses import dataclass, field
 from typing import Dict, FrozenSet, List, NamedTuple, Optional, Sequence, Set, Tuple
 
-from .dwarf import Call, Subprogram, all_contents, subprograms, variables
+from .dwarf import Call, Subprogram, Walk, all_contents, subprograms, variables
 from .labels import KINDS, Entry, check, entries_in, is_labelled, number_of, section_of, without_labels
+from .paths import shown
 from .reading import Bad, read_file
 from .wasm import FUNCTION, Module
 
@@ -94,7 +96,14 @@ class Resolver:
 
     def __init__(self, module: Module) -> None:
         self.module = module
-        self.told = subprograms(module)
+        walk = Walk(module)
+        self.told, self.folders = walk.run(), walk.folders
+
+    def place(self, one: Declared) -> str:
+        """Where a line stands: its file was named from the folder that its unit was compiled in."""
+        path, _, number = one.where.rpartition(":")
+        tried = [path] + [os.path.join(self.folders[unit], path) for unit in sorted(one.units) if unit in self.folders]
+        return f"{shown(next((it for it in tried if os.path.exists(it)), path))}:{number}"
 
     def function(self, name: str, where: str) -> Tuple[int, List[Subprogram]]:
         """The function, and what DWARF says of those of its name."""
@@ -146,9 +155,9 @@ class Resolver:
             # One of a single number is handed over as that.
             raise Bad(f"{word} of {name} is a struct by value, of which the module gets the address or a part: give its members as parameters, "
                       "or declare the memory by BLADE_SECRET_MEMORY")
-        return self.place(one, at, local, count)
+        return self.by_place(one, at, local, count)
 
-    def place(self, one: Subprogram, at: int, local: Optional[int], count: int) -> int:
+    def by_place(self, one: Subprogram, at: int, local: Optional[int], count: int) -> int:
         """Which parameter of the module the one at a place in C is: by its local, else by order, where that can be told."""
         if len(one.params) == count and local in (None, at):
             return at
@@ -190,9 +199,9 @@ def of_source(module: Module) -> Labelled:
             entry = resolver.entry(one)
             if entry not in [other for other, _ in found]:
                 check(module, [other for other, _ in found] + [entry])
-                found.append((entry, one.where))
+                found.append((entry, resolver.place(one)))
         except Bad as bad:
-            errors.append(f"{one.where}: error: {bad} [blade-label]")
+            errors.append(f"{resolver.place(one)}: error: {bad} [blade-label]")
     return Labelled(found, errors, [])
 
 

@@ -1,5 +1,7 @@
-/* What libc.c has of the C library's <string.h>, for blade-cc. Licence: public domain (CC0). */
-#ifndef BLADE_STRING_H
+/* The C library's <string.h>: wasi-libc's where it is installed, else what libc.c has. Licence: public domain (CC0). */
+#if __has_include_next(<string.h>)
+#include_next <string.h>
+#elif !defined(BLADE_STRING_H)
 #define BLADE_STRING_H
 #include <stddef.h>
 #ifdef __cplusplus
