@@ -3,18 +3,31 @@ from __future__ import annotations
 
 from collections import defaultdict
 from dataclasses import dataclass, field
-from typing import Dict, List, Optional, Sequence, Set, Tuple
+from typing import Dict, List, NamedTuple, Optional, Sequence, Set, Tuple
 
 from .flow import CONDITION, DEMANDED, STORED, End, Findings, Graph, Origin, Reach, count_ends
 from .lines import NOWHERE, Lines
 
-LEDGER = ("a public number in a secret memory", "give it as a parameter, or keep it in the ledger: PUB(x), SETPUB(x, v)")
-POINTER = ("a function pointer in a secret memory", "call the function directly, or keep the pointer in the ledger")
-SHARED = ("locals that clang shares between C variables", "wasm-opt -g --untee --ssa before labelling")
-LEAK = ("a look-up or a branch by a secret", "if what is loaded is secret this is a leak: read all entries, or compute without a branch")
-SPILL = ("a secret that is stored to a public memory",
-         "keep it in a memory that is declared secret; unroll loops over local arrays, inline what takes an address")
-DEMAND = ("a result that depends on a secret and is demanded public", "drop the demand, or don't make the result of the secret")
+
+class Reason(NamedTuple):
+    """What a cause is, and what helps: a guess, unless something showed it."""
+
+    what: str
+    remedy: str
+    is_guess: bool = True
+
+    @property
+    def text(self) -> str:
+        return f"{'likely ' if self.is_guess else ''}{self.what}: {self.remedy}"
+
+
+LEDGER = Reason("a public number in a secret memory", "give it as a parameter, or keep it in the ledger: PUB(x), SETPUB(x, v)")
+POINTER = Reason("a function pointer in a secret memory", "call the function directly, or keep the pointer in the ledger")
+SHARED = Reason("locals that clang shares between C variables", "wasm-opt -g --untee --ssa before labelling")
+LEAK = Reason("a look-up or a branch by a secret", "if what is loaded is secret this is a leak: read all entries, or compute without a branch")
+SPILL = Reason("a secret that is stored to a public memory",
+               "keep it in a memory that is declared secret; unroll loops over local arrays, inline what takes an address")
+DEMAND = Reason("a result that depends on a secret and is demanded public", "drop the demand, or don't make the result of the secret")
 # Operators by their codes: those that ciphers mix bits with, and those that cut an index out of a word.
 MIXING = frozenset([0x73, 0x77, 0x78, 0x85, 0x89, 0x8A])  # xor, rotl, rotr
 CUTTING = frozenset([0x71, 0x75, 0x76, 0x83, 0x87, 0x88])  # and, shr_s, shr_u
@@ -43,7 +56,7 @@ class Cause:
     counts: Dict[str, int] = field(default_factory=dict)
     reached: List[End] = field(default_factory=list)  # the refused ends, those first to which the way is short
     reach: Optional[Reach] = None
-    likely: Optional[Tuple[str, str]] = None
+    likely: Optional[Reason] = None
 
     @property
     def ends(self) -> int:
@@ -138,7 +151,7 @@ def add_ends(found: Findings, cause: Cause) -> None:
     cause.reached.sort(key=lambda end: (depth[end.variable], end.position))
 
 
-def likely(found: Findings, lines: Lines, cause: Cause) -> Tuple[str, str]:
+def likely(found: Findings, lines: Lines, cause: Cause) -> Reason:
     """The likely reason of a cause and its remedy, by its ways: said as likely, not as fact."""
     kinds = set(cause.counts)
     if kinds == {DEMANDED}:

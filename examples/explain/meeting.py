@@ -1,114 +1,142 @@
-"""A run in the order of the program that follows which secret bytes each value comes of, and where an observer meets one. Licence: public domain
-(CC0)."""
+"""A run in the order of the program that follows which bytes of its start each value comes of, and where an observer meets one: what one run shows,
+not what is proved. Licence: public domain (CC0)."""
 from __future__ import annotations
 
-from typing import Dict, List, Sequence, Tuple
+from typing import Dict, List, Sequence, Set, Tuple
 
-from .image import DIVISIONS, Image
-from .pairs import Range
+from .flow import Origin, demanded_variables
+from .image import DIVISIONS, Image, Operand
+from .pairs import Secret
 from .steering import Recorded
+
+Key = Tuple[int, int]  # a position and a variable, as an end has them
 
 
 class Meeting(Recorded):
-    """Of each command that an observer learns of, the secret bytes (bits of a number) that its operands came of, when they first did."""
+    """A mark of a value is a number: a bit for each byte that may change, and above these one for each cause through whose sites it came since it was
+    loaded. A cause's bit stands with the bits of bytes alone."""
 
-    def __init__(self, image: Image, function: int, start, ranges: Sequence[Range]) -> None:
-        super().__init__(image, function, start)
+    def __init__(self, image: Image, function: int, secret: Secret, causes: Sequence[Sequence[Origin]] = ()) -> None:
+        super().__init__(image, function, secret.start)
+        size = len(secret.first)
+        self.changed = (1 << size) - 1
+        self.causes = [1 << size + number for number in range(len(causes))]
+        self.through: Dict[int, int] = {}
+        declared: Dict[int, int] = {}
+        for bit, origins in zip(self.causes, causes):
+            for origin in origins:
+                to, key = (declared, origin.variable) if origin.position is None else (self.through, origin.position)
+                to[key] = to.get(key, 0) | bit
+        self.demanded = demanded_variables(image)
         self.fixed: Dict[int, int] = {}  # marks of globals
         self.marks: List[Dict[int, int]] = [{}, {}]
         self.given: Dict[int, int] = {}
         self.bytes: List[Dict[int, int]] = [{} for _ in image.memories]
-        self.met: Dict[int, int] = {}  # in the order of the run
-        self.stored: Dict[int, int] = {}  # in public memories, which nobody observes
-        self.loads: Dict[int, int] = {}  # of secret memories
-        self.executed = set()
+        self.reached: Set[int] = set()
+        self.first: Dict[Key, int] = {}  # what was met first, in the order of the run
+        self.met: Dict[Key, int] = {}  # all that was met
+        self.loads: Dict[int, int] = {}  # what each load of a secret memory loaded
         self.count = 0
-        bit = 0
-        for one in ranges:
-            for place in range(one.size):
-                if one.memory < 0:
-                    variable = image.functions[function].first - 1 - one.memory
-                    self.marks[-1][variable] = self.marks[-1].get(variable, 0) | 1 << bit
-                else:
-                    self.bytes[one.memory][one.offset + place] = 1 << bit
-                bit += 1
+        self.ways = {"Set": self.follow_set, "Test": self.follow_test, "Load": self.follow_load, "Store": self.follow_store,
+                     "Arg": self.follow_arg, "Out": self.follow_out, "Call": self.follow_call, "Ret": self.follow_ret}
+        self.begin(image.functions[function].first, secret, declared)
 
-    def mark(self, operand) -> int:
+    def begin(self, param: int, secret: Secret, declared: Dict[int, int]) -> None:
+        """The marks of the start; param is the variable of the first parameter."""
+        for one, at, data in secret.pieces(secret.first):
+            bits = (1 << at + len(data)) - (1 << at)
+            if one.memory is None:
+                variable = param + one.offset
+                self.marks[-1][variable] = bits | declared.get(variable, 0)
+            else:
+                self.bytes[one.memory].update((one.offset + place, 1 << at + place) for place in range(len(data)))
+
+    def mark(self, operand: Operand) -> int:
         if not operand[0]:
             return 0
         return (self.fixed if operand[1] < self.bound else self.marks[-1]).get(operand[1], 0)
 
-    def put(self, variable: int, mark: int) -> None:
-        to = self.fixed if variable < self.bound else self.marks[-1]
+    def put(self, to: Dict[int, int], position: int, variable: int, mark: int) -> None:
+        """A site writes a variable; one that is demanded public is met there."""
+        if mark:
+            mark |= self.through.get(position, 0)
+        if variable in self.demanded:
+            self.meet(position, variable, mark)
         if mark:
             to[variable] = mark
         else:
             to.pop(variable, None)
 
-    def meet(self, position: int, mark: int) -> None:
-        self.executed.add(position)
-        if mark and position not in self.met:
-            self.met[position] = mark
+    def meet(self, position: int, variable: int, mark: int) -> None:
+        self.reached.add(position)
+        if mark:
+            key = (position, variable)
+            self.first.setdefault(key, mark & self.changed)
+            self.met[key] = self.met.get(key, 0) | mark
+
+    def see(self, position: int, operand: Operand) -> int:
+        """An observer learns of an operand."""
+        mark = self.mark(operand)
+        self.meet(position, operand[1], mark)
+        return mark
 
     def step(self):
-        position = self.position
-        command = self.image.commands[position]
-        kind = command.kind
+        command = self.image.commands[self.position]
         self.count += 1
-        if kind == "Set":
-            mark = 0
-            for operand in command.operands:
-                mark |= self.mark(operand)
-            if command.operator in DIVISIONS:
-                self.meet(position, mark)
-            done = super().step()
-            self.put(command.writes, mark)
-            return done
-        if kind == "Test":
-            self.meet(position, self.mark(command.operands[0]))
-        elif kind in ("Load", "Store"):
-            return self.accessed(position, command)
-        elif kind == "Arg":
-            mark = self.mark(command.operands[0])
-            self.given[command.writes] = mark
-        elif kind == "Out":
-            mark = self.mark(command.operands[0])
-            if mark:
-                self.marks[-2][command.writes] = mark
-            else:
-                self.marks[-2].pop(command.writes, None)
-        elif kind == "Call":
-            self.marks.append(self.given)
-            self.given = {}
-        elif kind == "Ret" and self.returns:
-            self.marks.pop()
+        follow = self.ways.get(command.kind)
+        if follow:
+            follow(self.position, command)
         return super().step()
 
-    def accessed(self, position: int, command):
-        address = self.mark(command.operands[0])
-        self.meet(position, address)
-        at, size = (self.value(command.operands[0]) & 0xFFFFFFFF) + command.offset, self.widths[command.operator]
-        marks = self.bytes[command.memory]
-        if command.kind == "Store":
-            value = self.mark(command.operands[1]) | address
-            if value and not self.image.memories[command.memory].is_secret:
-                self.stored.setdefault(position, value)
-            done = super().step()
-            for place in range(at, at + size):
-                if value:
-                    marks[place] = value
-                else:
-                    marks.pop(place, None)
-            return done
-        for place in range(at, at + size):
-            address |= marks.get(place, 0)
+    def follow_set(self, position: int, command) -> None:
+        mark = 0
+        for operand in command.operands:
+            mark |= self.see(position, operand) if command.operator in DIVISIONS else self.mark(operand)
+        self.put(self.fixed if command.writes < self.bound else self.marks[-1], position, command.writes, mark)
+
+    def follow_test(self, position: int, command) -> None:
+        self.see(position, command.operands[0])
+
+    def touched(self, command) -> range:
+        at = (self.value(command.operands[0]) & 0xFFFFFFFF) + command.offset
+        return range(at, at + self.widths[command.operator])
+
+    def follow_load(self, position: int, command) -> None:
+        mark, marks = self.see(position, command.operands[0]), self.bytes[command.memory]
+        for place in self.touched(command):
+            mark |= marks.get(place, 0)
+        mark &= self.changed
         if self.image.memories[command.memory].is_secret:
-            self.loads[position] = self.loads.get(position, 0) | address
-        done = super().step()
-        self.put(command.writes, address)
-        return done
+            self.loads[position] = self.loads.get(position, 0) | mark
+        self.put(self.fixed if command.writes < self.bound else self.marks[-1], position, command.writes, mark)
+
+    def follow_store(self, position: int, command) -> None:
+        mark = self.see(position, command.operands[0]) | self.mark(command.operands[1])
+        if not self.image.memories[command.memory].is_secret:
+            self.see(position, command.operands[1])
+        marks = self.bytes[command.memory]
+        for place in self.touched(command):
+            if mark:
+                marks[place] = mark
+            else:
+                marks.pop(place, None)
+
+    def follow_arg(self, position: int, command) -> None:
+        self.put(self.given, position, command.writes, self.mark(command.operands[0]))
+
+    def follow_out(self, position: int, command) -> None:
+        self.put(self.marks[-2], position, command.writes, self.mark(command.operands[0]))
+
+    def follow_call(self, _: int, __) -> None:
+        self.marks.append(self.given)
+        self.given = {}
+
+    def follow_ret(self, _: int, __) -> None:
+        if self.returns:
+            self.marks.pop()
 
     def go(self, most: int) -> "Meeting":
+        """So many commands, or to the run's end."""
         for _ in range(most):
             if self.left:
                 break

@@ -1,29 +1,40 @@
-"""Traces that take wrong guesses on purpose, and where each directive of a trace stands in an image. Licence: public domain (CC0)."""
+"""Traces that take wrong guesses on purpose. Licence: public domain (CC0)."""
 from __future__ import annotations
 
 import random
 from collections import Counter, defaultdict
-from typing import Dict, List, NamedTuple, Optional, Sequence, Set, Tuple
+from typing import Dict, Iterator, List, NamedTuple, Optional, Sequence, Set, Tuple
 
-from .image import DIVISIONS, OUTSIDE, TRAPS, Image
-from .running import PAGE, Run, access_trace, freed, signed
+from .flow import is_bounds_test
+from .image import OUTSIDE, TRAPS, Command, Image, Operand
+from .running import PAGE, Run, Start, freed, signed
 
-ROOM = 64  # entries of the buffer
+ROOM, FORWARD_ROOM = 64, 32  # entries of the buffers of twin and of forward
+LINES = 1_000_000  # the most directives of a trace
 FAR = 1 << 30
-TURNS = 6
+TURNS = 6  # so many inner tests of wrong paths are guessed against their conditions, one in each trace
+TOWARDS = 0.7  # how often a guess goes towards a goal
 
 
 def bases(image: Image) -> List[int]:
-    """Where each memory begins in the space of all memories."""
-    found, at = [], 0
+    """Where each memory begins in the space of all memories, and where the last one ends."""
+    found = [0]
     for memory in image.memories:
-        found.append(at)
-        at += memory.reserve * PAGE
+        found.append(found[-1] + memory.reserve * PAGE)
     return found
 
 
+def nexts(position: int, command: Command) -> Tuple[int, ...]:
+    """Where a command leads; a call also behind itself."""
+    if command.kind in ("Ret", "Trap"):
+        return ()
+    if command.kind in ("Test", "Jump"):
+        return command.targets
+    return (*command.targets, position + 1)
+
+
 def distances(image: Image, goals: Sequence[int]) -> Dict[int, int]:
-    """How many commands each position is away from the nearest goal, calls included."""
+    """How many commands each position is away from the nearest goal."""
     back: Dict[int, List[int]] = defaultdict(list)
     for position, command in enumerate(image.commands):
         for to in nexts(position, command):
@@ -38,219 +49,218 @@ def distances(image: Image, goals: Sequence[int]) -> Dict[int, int]:
     return found
 
 
-def nexts(position: int, command) -> Tuple[int, ...]:
-    if command.kind in ("Ret", "Trap"):
-        return ()
-    if command.kind in ("Test", "Jump"):
-        return command.targets
-    return (*command.targets, position + 1)
-
-
 class Recorded(Run):
-    """A run that keeps the first address of each load."""
+    """A run that keeps the first address of each load, also of those on wrong paths."""
 
-    def __init__(self, image: Image, function: int, start) -> None:
+    def __init__(self, image: Image, function: int, start: Start) -> None:
         super().__init__(image, function, start)
         self.bases, self.reads = bases(image), {}
 
-    def access(self, command) -> None:
+    def place(self, command: Command, address: int) -> int:
+        """The place of an access in the space of all memories."""
+        return self.bases[command.memory] + (address & 0xFFFFFFFF) + command.offset
+
+    def access(self, command: Command) -> None:
         if command.kind == "Load":
-            at = self.bases[command.memory] + (self.value(command.operands[0]) & 0xFFFFFFFF) + command.offset
-            self.reads.setdefault(self.position - 1, at)
+            self.reads.setdefault(self.position - 1, self.place(command, self.value(command.operands[0])))
         super().access(command)
 
 
-class Walk:
-    """A walk on a wrong path: what is fetched there, and executed as soon as it can be."""
+class Choices(NamedTuple):
+    """How wrong paths guess: by chance, by distances to goals, and which inner test against its condition (from 1; 0 for none)."""
 
-    def __init__(self, run: Recorded, position: int, chance: random.Random, away: Dict[int, int], turn: int, forwards: bool) -> None:
-        self.room, self.forwards = (32 if forwards else ROOM), forwards
-        self.run, self.image, self.position = run, run.image, position
-        self.chance, self.away, self.turn = chance, away, turn  # the inner test that is guessed against its condition, from 1; 0 for none
-        self.bases = bases(run.image)
-        self.depth = 0  # from that of the run
-        self.chain: List[int] = list(run.returns)
-        self.written: Dict[Tuple[int, int], Optional[int]] = {}
-        self.entering: Dict[int, Optional[int]] = {}
-        self.stores = False  # whether one stands before that keeps loads waiting
-        self.hidden: List[Tuple[int, int]] = []
-        self.lines: List[str] = []
-        self.entry = 1
-        self.fresh: Set[int] = set()  # observed here: loads, stores, conditions, divisions
+    chance: random.Random
+    away: Dict[int, int]
+    turn: int
+    forwards: bool
 
-    def value(self, operand, depth: int) -> Optional[int]:
-        if not operand[0]:
-            return operand[1]
-        variable = operand[1]
-        if variable < self.run.bound:
-            return self.written.get((0, variable), self.run.statics[variable])
-        key = (depth + 1 << 20, variable)
-        if key in self.written:
-            return self.written[key]
-        at = len(self.run.frames) - 1 + depth
-        return self.run.frames[at].get(variable, 0) if 0 <= at < len(self.run.frames) else 0
-
-    def write(self, variable: int, depth: int, value: Optional[int]) -> None:
-        key = (0, variable) if variable < self.run.bound else (depth + 1 << 20, variable)
-        self.written[key] = value
-
-    def exec(self) -> None:
-        self.lines.append(f"exec {self.entry}")
-
-    def go(self) -> List[str]:
-        while self.entry < self.room and self.step():
-            self.entry += 1
-        return self.lines
-
-    def guess(self, position: int, command, known: Optional[int]) -> bool:
-        """A bounds test is guessed passed; else the way to what wasn't observed yet, or what the condition says."""
-        if self.image.commands[position + 1 if position + 1 < len(self.image.commands) else 0].kind in ("Load", "Store") and \
-                self.image.commands[position - 1].operator == OUTSIDE:
-            return False
-        yes, no = (self.away.get(to, FAR) for to in command.targets)
-        if self.away and yes != no and self.chance.random() < 0.7:
+    def guess(self, targets: Sequence[int], known: Optional[int], number: int) -> bool:
+        yes, no = (self.away.get(to, FAR) for to in targets)
+        if self.away and yes != no and self.chance.random() < TOWARDS:
             return yes < no
         if known is None:
             return self.chance.random() < 0.5
-        self.turn -= 1
-        return bool(known & 0xFFFFFFFF) ^ (self.turn == 0)
+        return bool(known & 0xFFFFFFFF) ^ (number == self.turn)
+
+
+class WrongPath:
+    """What is fetched on a wrong path, and executed as soon as it can be. None is a value that isn't known there."""
+
+    def __init__(self, run: Recorded, position: int, choices: Choices) -> None:
+        self.run, self.position, self.choices = run, position, choices
+        self.commands = run.image.commands
+        self.depth = 0  # of calls, from that of the run
+        self.chain = list(run.returns)
+        self.written: Dict[Tuple[int, int], Optional[int]] = {}
+        self.entering: Dict[int, Optional[int]] = {}
+        self.waiting = False  # whether a store stands before that keeps loads waiting
+        self.stored: List[range] = []  # places of stores that may be forwarded, whose values aren't followed
+        self.tests = 0
+        self.lines: List[str] = []
+        self.entry = 1
+
+    def key(self, variable: int, depth: int) -> Tuple[int, int]:
+        return (0 if variable < self.run.bound else depth, variable)
+
+    def value(self, operand: Operand) -> Optional[int]:
+        if not operand.is_variable:
+            return operand.value
+        variable, run = operand.value, self.run
+        key = self.key(variable, self.depth)
+        if key in self.written:
+            return self.written[key]
+        if variable < run.bound:
+            return run.statics[variable]
+        at = len(run.frames) - 1 + self.depth
+        return run.frames[at].get(variable, 0) if 0 <= at < len(run.frames) else 0
+
+    def write(self, variable: int, depth: int, value: Optional[int]) -> None:
+        self.written[self.key(variable, depth)] = value
+
+    def go(self) -> List[str]:
+        """The directives."""
+        room = FORWARD_ROOM if self.choices.forwards else ROOM
+        while self.entry < room and self.step():
+            self.entry += 1
+        return self.lines
+
+    def execute(self) -> None:
+        self.lines.append(f"exec {self.entry}")
 
     def step(self) -> bool:
-        position = self.position
-        command = self.image.commands[position]
-        kind = command.kind
-        if kind == "Trap" or position < TRAPS:
+        """One command; false where the path ends."""
+        position, command = self.position, self.commands[self.position]
+        if position < TRAPS or command.kind == "Trap" or command.kind == "Ret" and not self.chain:
             return False
-        self.position = position + 1
-        values = [self.value(operand, self.depth) for operand in command.operands]
-        known = all(value is not None for value in values)
-        if kind == "Test":
+        self.position += 1
+        values = [self.value(operand) for operand in command.operands]
+        if command.kind == "Test":
             self.test(position, command, values[0])
             return True
         self.lines.append("fetch")
-        if kind in ("Jump", "Call"):
-            self.position = command.targets[0]
-            if kind == "Call":
-                self.chain.append(position + 1)
-                self.depth += 1
-                for variable, value in self.entering.items():
-                    self.write(variable, self.depth, value)
-                self.entering = {}
-        elif kind == "Ret":
-            if not self.chain:
-                return False
-            self.position = self.chain.pop()
-            self.depth -= 1
-        elif kind == "Store":
-            # Of a store that may be forwarded the value isn't followed here: a load that meets it has none.
-            self.stores = not (self.forwards and known)
-            if known:
-                self.exec()
-                self.fresh.add(position)
-                self.hidden.append((self.bases[command.memory] + (values[0] & 0xFFFFFFFF) + command.offset, self.run.widths[command.operator]))
-        elif kind == "Load":
-            value = None
-            if known and not self.stores and not self.is_hidden(command, values[0]):
-                self.exec()
-                self.fresh.add(position)
-                value = None if command.is_protected else self.load(command, values[0])
-            self.write(command.writes, self.depth, value)
+        if command.kind in ("Jump", "Call", "Ret"):
+            self.leave(position, command)
+        elif command.kind == "Store":
+            self.store(command, values)
+        elif command.kind == "Load":
+            self.load(position, command, values[0])
         else:
-            self.assign(position, command, values, known)
+            self.assign(command, values)
         return True
 
-    def is_hidden(self, command, address: int) -> bool:
-        at, size = self.bases[command.memory] + (address & 0xFFFFFFFF) + command.offset, self.run.widths[command.operator]
-        return any(at < begin + width and begin < at + size for begin, width in self.hidden)
-
-    def test(self, position: int, command, value: Optional[int]) -> None:
-        guess = self.guess(position, command, value)
+    def test(self, position: int, command: Command, value: Optional[int]) -> None:
+        """An access is guessed to be within its bounds."""
+        guess = False
+        if not is_bounds_test(self.commands, position):
+            self.tests += value is not None
+            guess = self.choices.guess(command.targets, value, self.tests)
         self.lines.append(f"fetch {int(guess)}")
         self.position = command.targets[0 if guess else 1]
         if value is not None and bool(value & 0xFFFFFFFF) == guess:
-            self.exec()
-            self.fresh.add(position)
+            self.execute()
 
-    def assign(self, position: int, command, values, known: bool) -> None:
-        value = None
+    def leave(self, position: int, command: Command) -> None:
+        if command.kind == "Ret":
+            self.position, self.depth = self.chain.pop(), self.depth - 1
+            return
+        self.position = command.targets[0]
+        if command.kind == "Call":
+            self.chain.append(position + 1)
+            self.depth += 1
+            for variable, value in self.entering.items():
+                self.write(variable, self.depth, value)
+            self.entering = {}
+
+    def store(self, command: Command, values: Sequence[Optional[int]]) -> None:
+        known = None not in values
+        self.waiting = self.waiting or not (self.choices.forwards and known)
         if known:
-            self.exec()
-            if command.kind == "Set" and command.operator in DIVISIONS:
-                self.fresh.add(position)
-            if not command.is_protected:
-                value = self.run.meanings[command.operator](*values) if command.kind == "Set" else values[0]
-        if command.kind == "Arg":
-            self.write(command.writes, self.depth + 1, value)
-        else:
-            self.write(command.writes, self.depth - (command.kind == "Out"), value)
+            self.execute()
+            at = self.run.place(command, values[0])
+            self.stored.append(range(at, at + self.run.widths[command.operator]))
 
-    def load(self, command, address: int) -> int:
-        size = self.run.widths[command.operator]
-        at = self.bases[command.memory] + (address & 0xFFFFFFFF) + command.offset
-        self.run.reads.setdefault(self.position - 1, at)
-        data = bytes(self.byte(at + place) for place in range(size))
-        value = int.from_bytes(data, "little")
+    def load(self, position: int, command: Command, address: Optional[int]) -> None:
+        value = None
+        if address is not None and not self.waiting:
+            at = self.run.place(command, address)
+            places = range(at, at + self.run.widths[command.operator])
+            if not any(places.start < one.stop and one.start < places.stop for one in self.stored):
+                self.execute()
+                self.run.reads.setdefault(position, at)
+                value = None if command.is_protected else self.loaded(command, places)
+        self.write(command.writes, self.depth, value)
+
+    def loaded(self, command: Command, places: range) -> int:
+        value = int.from_bytes(bytes(map(self.byte, places)), "little")
         if command.operator in self.run.extends:
             narrow, wide = self.run.extends[command.operator]
             value = signed(value, narrow) & ((1 << wide) - 1)
         return value
 
     def byte(self, at: int) -> int:
-        for base, space in zip(reversed(self.bases), reversed(self.run.spaces)):
-            if at >= base:
-                return space[at - base] if at - base < len(space) else 0
+        for base, space in zip(self.run.bases, self.run.spaces):
+            if base <= at < base + len(space):
+                return space[at - base]
         return 0
 
+    def assign(self, command: Command, values: Sequence[Optional[int]]) -> None:
+        """Set, Arg and Out."""
+        value = None
+        if None not in values:
+            self.execute()
+            if not command.is_protected:
+                value = self.run.meanings[command.operator](*values) if command.kind == "Set" else values[0]
+        if command.kind == "Arg":
+            self.entering[command.writes] = value
+        else:
+            self.write(command.writes, self.depth - (command.kind == "Out"), value)
 
-class Wrongly:
-    """A run in the order of the program, with walks on wrong paths before its tests."""
 
-    def __init__(self, run: Recorded, seed: int, goals: Sequence[int], each: int, most: int, turn: int, forwards: bool = False) -> None:
-        self.forwards = forwards
-        self.run, self.each, self.most, self.turn = run, each, most, turn
-        self.chance = random.Random(seed)
-        self.away = distances(run.image, goals) if goals else {}
+class WrongGuesses:
+    """A run in the order of the program, with wrong paths before its tests, each of which ends with an empty buffer."""
+
+    def __init__(self, run: Recorded, choices: Choices, each: int) -> None:
+        self.run, self.choices, self.each = run, choices, each
         self.times: Counter = Counter()
         self.lines: List[str] = []
-        self.walks: List[Tuple[int, int]] = []  # the lines of each walk, from and behind
-        self.observed: Set[int] = set()
+        self.paths: List[Tuple[int, int]] = []  # the lines of each wrong path, from and behind
 
-    def walk(self, position: int, command, taken: bool) -> None:
-        wrong = command.targets[1 if taken else 0]
-        if self.times[position] >= self.each or wrong < TRAPS or (self.away and self.away.get(wrong, FAR) >= ROOM):
-            return
-        first, turn = len(self.lines), (self.turn + self.times[position]) % TURNS
+    def take(self, position: int, command: Command, taken: bool) -> bool:
+        """Goes the wrong way from a test, if it is worth it."""
+        wrong, away = command.targets[1 if taken else 0], self.choices.away
+        if self.times[position] >= self.each or wrong < TRAPS or (away and away.get(wrong, FAR) >= ROOM):
+            return False
+        path = WrongPath(self.run, wrong, self.choices._replace(turn=(self.choices.turn + self.times[position]) % TURNS))
         self.times[position] += 1
-        walk = Walk(self.run, wrong, self.chance, self.away, turn, self.forwards)
-        self.lines += [f"fetch {int(not taken)}", *walk.go(), "exec 0", "retire"]
-        self.walks.append((first, len(self.lines)))
-        self.observed |= walk.fresh
+        first = len(self.lines)
+        self.lines += [f"fetch {int(not taken)}", *path.go(), "exec 0", "retire"]
+        self.paths.append((first, len(self.lines)))
+        return True
 
     def trace(self) -> List[str]:
-        lines, image = self.lines, self.run.image
-        steps = self.run.steps(1 << 62)
+        """The directives, at most as many as a trace may have."""
+        steps = self.run.steps(LINES)
         for position, command, taken in steps:
-            if len(lines) > self.most:
+            if len(self.lines) > LINES:
                 break
-            kind = command.kind
-            if position < TRAPS or kind in ("Jump", "Call", "Ret", "Trap"):
-                lines += ("fetch", "retire")
-            elif kind == "Test":
-                walked = len(self.walks)
-                self.walk(position, command, taken)
-                if walked == len(self.walks):
-                    lines += (f"fetch {int(taken)}", "exec 0", "retire")
-            elif kind == "Set" and command.operator == OUTSIDE and image.commands[position + 2].kind in ("Load", "Store"):
-                self.access(position, command, steps)
+            if position < TRAPS or command.kind in ("Jump", "Call", "Ret", "Trap"):
+                self.lines += ("fetch", "retire")
+            elif command.kind == "Test":
+                if not self.take(position, command, taken):
+                    self.lines += (f"fetch {int(taken)}", "exec 0", "retire")
+            elif command.kind == "Set" and command.operator == OUTSIDE:
+                self.access(command, steps)
             else:
-                lines += ("fetch", "exec 0", *freed(0, command), "retire")
-        return lines[: self.most]
+                self.lines += ("fetch", "exec 0", *freed(0, command), "retire")
+        return self.lines[:LINES]
 
-    def access(self, position: int, bounds, steps) -> None:
-        at, test, outside = next(steps)
+    def access(self, bounds: Command, steps: Iterator[tuple]) -> None:
+        """Bounds, their test, and the access, which is executed first where it is within them."""
+        position, test, outside = next(steps, (0, None, True))
         if outside:
             self.lines += ("fetch", "exec 0", *freed(0, bounds), "retire")
-            self.walk(at, test, True)
+            if test is not None and not self.take(position, test, True):
+                self.lines += ("fetch 1", "exec 0", "retire")
             return
         _, access, _ = next(steps, (0, None, None))
         if access is not None:
@@ -258,53 +268,14 @@ class Wrongly:
                            "retire", "retire", "retire")
 
 
-class Entry(NamedTuple):
-    """An entry of the buffer: its position, what was guessed, and where a wrong guess leads back to."""
+class Choosing:
+    """How the wrong paths of one function's traces are chosen: a number for each trace."""
 
-    position: int
-    guess: Optional[bool]
-    other: int
-    chain: tuple
+    def __init__(self, image: Image, goals: Sequence[int], seed: int, forwards: bool) -> None:
+        self.seed, self.forwards = seed, forwards
+        self.away = distances(image, goals) if goals else {}
 
-
-class Places:
-    """Which command each directive of a trace is about, by what the program says was observed."""
-
-    def __init__(self, image: Image, function: int) -> None:
-        self.image = image
-        self.buffer: List[Entry] = []
-        self.front, self.chain = image.functions[function].entry, ()
-
-    def take(self, directive: str, observed: str) -> Optional[Entry]:
-        """The entry that a directive is about."""
-        word, _, rest = directive.partition(" ")
-        if word == "fetch":
-            return self.fetch(rest)
-        if word == "retire":
-            return self.buffer.pop(0)
-        entry = int(rest)
-        if entry >= len(self.buffer):
-            return None
-        found = self.buffer[entry]
-        if observed.startswith("rollback"):
-            del self.buffer[entry + 1 :]
-            self.front, self.chain = found.other, found.chain
-        return found
-
-    def fetch(self, guess: str) -> Entry:
-        command, chain = self.image.commands[self.front], self.chain
-        entry = Entry(self.front, bool(int(guess)) if guess else None, 0, chain)
-        if command.kind == "Test":
-            taken = guess == "1"
-            entry = entry._replace(other=command.targets[1 if taken else 0])
-            self.front = command.targets[0 if taken else 1]
-        elif command.kind == "Jump":
-            self.front = command.targets[0]
-        elif command.kind == "Call":
-            self.chain, self.front = (self.front + 1, chain), command.targets[0]
-        elif command.kind == "Ret" and chain:
-            self.front, self.chain = chain
-        else:
-            self.front += 1
-        self.buffer.append(entry)
-        return entry
+    def of(self, run: Recorded, number: int) -> WrongGuesses:
+        """Every second one goes towards the goals."""
+        choices = Choices(random.Random(f"{self.seed} {number}"), self.away if number % 2 else {}, number, self.forwards)
+        return WrongGuesses(run, choices, 2 + number // 2)

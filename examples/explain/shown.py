@@ -1,0 +1,152 @@
+"""What one run from a start shows of the causes of a verdict, and a witness that the program judges again: they take the place of guesses.
+Licence: public domain (CC0)."""
+from __future__ import annotations
+
+import shlex
+import tempfile
+from dataclasses import dataclass
+from typing import Dict, List, Optional, Sequence, Set, Tuple
+
+from .causes import LEAK, LEDGER, POINTER, SHARED, SPILL, Cause, Reason
+from .directives import last_of
+from .flow import Findings, find, is_bounds_test
+from .image import DIVISIONS, Image
+from .meeting import Meeting
+from .pairs import Secret, ranges_of, what_changes
+from .program import DIFFER, Difference, Program, difference_of, program_of
+from .reading import Bad, read_file
+from .running import read_start
+
+RUN = 1_000_000  # so many commands of a run are followed
+UNPROVED = "by this one run and unproved"
+REMEDIES = {LEDGER: LEDGER.remedy, POINTER: POINTER.remedy, SHARED: SHARED.remedy}
+
+
+def function_of(image: Image, export: str) -> int:
+    if export not in image.entries:
+        raise Bad(f"{export} isn't exported")
+    return image.entries[export]
+
+
+def secret_of(image: Image, export: str, path: str, asked: Sequence[str], kept: Sequence[str]) -> Secret:
+    """What changes of a start file."""
+    function, start = function_of(image, export), read_start(read_file(path).decode())
+    return Secret(image, function, start, what_changes(image, function, start, ranges_of(asked), ranges_of(kept)))
+
+
+def kind_of(image: Image, position: int) -> str:
+    """What an observer learns of a command, in the words of its end."""
+    command = image.commands[position]
+    if command.kind == "Test":
+        return "condition"
+    if command.kind in ("Load", "Store"):
+        return f"address of a {command.kind.lower()}"
+    return "division" if command.kind == "Set" and command.operator in DIVISIONS else command.kind.lower()
+
+
+def end_at(image: Image, position: int) -> int:
+    """The position of the end that an observation belongs to: of a bounds test that of its access."""
+    return position + 1 if is_bounds_test(image.commands, position) else position
+
+
+@dataclass
+class Witness:
+    """A leak that the program tells apart: where, how both runs differ, and the words that judge it again."""
+
+    position: int
+    difference: Difference
+    words: str
+
+    def end(self, image: Image) -> int:
+        return end_at(image, self.position)
+
+
+def read_witness(image: Image, path: str, prefix: str, program: Optional[str]) -> Witness:
+    """Has the program judge the files of a prefix again."""
+    again = shlex.split(read_file(f"{prefix}.again").decode())
+    if len(again) != 7 or again[1] not in ("twin", "forward"):
+        raise Bad(f"{prefix}.again: no words of twin or forward; what whole runs show is no witness")
+    judge, export = again[1], again[3]
+    files = [f"{prefix}.{end}" for end in ("trace", "a.start", "b.start")]
+    with tempfile.TemporaryDirectory() as folder:
+        called = Program(program_of(program), path, export, judge, folder)
+        status, text = called.call([judge, path, export, *files], range(256))
+    difference = difference_of(text, judge) if status == DIFFER else None
+    if difference is None:
+        raise Bad(f"{prefix}: {judge} says nothing of a leak in {path}: status {status}")
+    trace = read_file(files[0]).decode().splitlines()[: difference.directive]
+    position, _ = last_of(image, function_of(image, export), trace, difference.common)
+    return Witness(position, difference, shlex.join(["blade", judge, path, export, *files]))
+
+
+@dataclass
+class Shown:
+    """What is known of the refused ends by one run, by a witness, or by both."""
+
+    found: Findings
+    causes: List[Cause]
+    meeting: Optional[Meeting] = None
+    witness: Optional[Witness] = None
+
+    def bit(self, cause: Cause) -> int:
+        return self.meeting.causes[next(number for number, one in enumerate(self.causes) if one is cause)]
+
+    def numbers(self, cause: Cause) -> Tuple[int, int]:
+        """Of the ends that a cause reaches how many the run came to, and how many met there, by way of the cause, what may change."""
+        bit = self.bit(cause)
+        met = sum(bool(self.meeting.met.get((end.position, end.variable), 0) & bit) for end in cause.reached)
+        return sum(end.position in self.meeting.reached for end in cause.reached), met
+
+    def is_witnessed(self, cause: Cause) -> bool:
+        """Whether the witness is of an end of this cause, and the run, where there is one, doesn't say that it came another way."""
+        if self.witness is None:
+            return False
+        ends = [end for end in cause.reached if end.position == self.witness.end(self.found.image)]
+        if not ends or self.meeting is None:
+            return bool(ends)
+        marks = [self.meeting.met.get((end.position, end.variable), 0) for end in ends]
+        return not any(marks) or any(mark & self.bit(cause) for mark in marks)
+
+    def reason(self, cause: Cause, guess: Reason) -> Reason:
+        """In place of a guess, as far as something was shown."""
+        if self.is_witnessed(cause):
+            return Reason("leak witnessed", f"two runs that agree in public are told apart at position {self.witness.position}; {LEAK.remedy.split(': ')[1]}", False)
+        if self.meeting is None:
+            return guess
+        reached, met = self.numbers(cause)
+        what = f"reached {reached}, met {met}"
+        if met:
+            remedy = SPILL.remedy if guess == SPILL else "what was changed arrives there; blade-witness looks for two runs that show it"
+            return Reason(what, remedy, False)
+        if not reached:
+            return Reason(what, "this run doesn't come there: give other starts", False)
+        return Reason(what, f"looks public, {UNPROVED}: {REMEDIES.get(guess, LEDGER.remedy)}", False)
+
+    def never_loaded(self) -> List[int]:
+        """The loads of secret memories that cause something and in this run never loaded what may change."""
+        guilty = {origin.position for origin in self.found.guilty}
+        return sorted(position for position, mark in self.meeting.loads.items() if not mark and position in guilty)
+
+    def tallied(self) -> Tuple[int, int, int]:
+        """How many refused positions there are, how many the run came to, and how many met there what may change."""
+        refused: Dict[int, Set[int]] = {}
+        for end in self.found.refused:
+            refused.setdefault(end.position, set()).add(end.variable)
+        reached = [position for position in refused if position in self.meeting.reached]
+        met = sum(any((position, variable) in self.meeting.met for variable in refused[position]) for position in reached)
+        return len(refused), len(reached), met
+
+    def run_text(self) -> str:
+        refused, reached, met = self.tallied()
+        part = "" if self.meeting.left else f" in its first {self.meeting.count:,} commands"
+        return f"the run from this start comes to {reached} of {refused} refused ends{part}, to {met} of them with what was changed"
+
+    def still_refused(self, loads: Sequence[int]) -> int:
+        """How many ends would be refused, were these loads of public numbers."""
+        return len(find(self.found.image, loads).refused)
+
+
+def shown_by(found: Findings, causes: Sequence[Cause], secret: Secret, export: str, most: int) -> Shown:
+    """What the run from a start shows."""
+    meeting = Meeting(found.image, function_of(found.image, export), secret, [cause.origins for cause in causes]).go(most)
+    return Shown(found, list(causes), meeting)
