@@ -56,7 +56,7 @@ class Cause:
     counts: Dict[str, int] = field(default_factory=dict)
     reached: List[End] = field(default_factory=list)  # the refused ends, those first to which the way is short
     reach: Optional[Reach] = None
-    likely: Optional[Reason] = None
+    reason: Optional[Reason] = None
 
     @property
     def ends(self) -> int:

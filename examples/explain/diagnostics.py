@@ -4,8 +4,9 @@ from __future__ import annotations
 from dataclasses import dataclass, field
 from typing import Dict, Iterator, List, Optional, Sequence, Tuple
 
-from .causes import LEAK, Cause, Way, add_ends, likely
+from .causes import LEAK, Cause, Reason, Way, add_ends, likely
 from .dwarf import subprograms
+from .evidence import Evidence
 from .flow import CONDITION, DEMANDED, DIVISION, LOAD_ADDRESS, STORE_ADDRESS, STORED, End, Findings, Origin
 from .lines import NOWHERE, Line, Lines
 from .paths import shown
@@ -61,7 +62,8 @@ class Problem:
     instruction: str
     steps: List[Step]
     ends: int = 1
-    likely: Optional[Tuple[str, str]] = None
+    likely: Optional[Reason] = None
+    witnessed: bool = False  # the program judged that two runs are told apart here
     loaded: Optional[Step] = None  # the line that loads the secret, where it comes of a memory
     module: str = ""
     offset: int = 0  # in the module's file
@@ -75,7 +77,7 @@ class Source:
     position: int
     text: str
     ends: int
-    likely: Optional[Tuple[str, str]]
+    likely: Optional[Reason]
 
 
 @dataclass
@@ -188,12 +190,14 @@ def steps_between(way: Way, found: Findings, lines: Lines) -> List[Step]:
     return steps
 
 
-def reasons(found: Findings, lines: Lines, causes: Sequence[Cause]) -> Dict[Origin, Tuple[str, str]]:
-    told: Dict[Origin, Tuple[str, str]] = {}
+def reasons(found: Findings, lines: Lines, causes: Sequence[Cause], evidence: Optional[Evidence]) -> Dict[Origin, Reason]:
+    told: Dict[Origin, Reason] = {}
     for cause in causes[:MOST_JUDGED]:
         add_ends(found, cause)
         if cause.reached:
             reason = likely(found, lines, cause)
+            if evidence:
+                reason = evidence.reason(cause, reason)
             for origin in cause.origins:
                 told.setdefault(origin, reason)
     return told
@@ -206,21 +210,22 @@ def loaded_at(way: Way, lines: Lines) -> Optional[Step]:
     return Step(lines.line(at), at, "")
 
 
-def advice(reason: Optional[Tuple[str, str]], way: Way, rule: Rule) -> Optional[Tuple[str, str]]:
+def advice(reason: Optional[Reason], way: Way, rule: Rule) -> Optional[Reason]:
     """The likely reason; of a leak, what helps there."""
     if reason != LEAK:
         return reason
-    return ("a leak", rule.help) if way.origin.position is None else (reason[0], f"if that is secret this is a leak: {rule.help}")
+    return Reason("a leak", rule.help) if way.origin.position is None else Reason(reason.what, f"if that is secret this is a leak: {rule.help}")
 
 
-def told_of(found: Findings, lines: Lines, causes: Sequence[Cause], protects: Sequence[Protect]) -> Told:
-    """All problems, by file and line."""
+def told_of(found: Findings, lines: Lines, causes: Sequence[Cause], protects: Sequence[Protect], evidence: Optional[Evidence] = None) -> Told:
+    """All problems, by file and line; with what a run and a witness showed in place of guesses."""
     reach = found.graph.reach(found.guilty, found.core)
     ways = [Way(*reach.way(end.variable), end) for end in found.refused if end.variable in reach.depth]
     entries = [found.image.functions[int(way.origin.declared.split()[1])].entry for way in ways if way.origin.declared.startswith("parameter")]
     lines.ask({position for way in ways for position in way.sites + [way.end.position]} | set(entries) | {one.position for one in protects})
     lines.ask({site for one in protects if one.reason for site in (one.reason[0][0], one.reason[1])})
-    why = reasons(found, lines, causes)
+    why = reasons(found, lines, causes, evidence)
+    witnessed = evidence.witness.end(found.image) if evidence and evidence.witness else -1
     known = declared_at(lines)
     problems: Dict[tuple, Problem] = {}
     for way in ways:
@@ -230,11 +235,13 @@ def told_of(found: Findings, lines: Lines, causes: Sequence[Cause], protects: Se
         key = (rule.name, line.path, line.number, line.column) if line.number else (rule.name, way.end.position)
         if key in problems:
             problems[key].ends += 1
+            problems[key].witnessed |= way.end.position == witnessed
             continue
         name = line.function or (spot.linked.name if spot else "")
         problems[key] = Problem(
             rule, line, way.end.position, name, lines.instruction(way.end.position), steps_of(way, found, lines, known), 1,
-            advice(why.get(way.origin), way, rule), loaded_at(way, lines), spot.linked.module.path if spot else "", spot.row.place if spot else 0)
+            advice(why.get(way.origin), way, rule), way.end.position == witnessed, loaded_at(way, lines),
+            spot.linked.module.path if spot else "", spot.row.place if spot else 0)
     ordered = sorted(problems.values(), key=lambda one: (one.line.path, one.line.number, one.line.column, one.position))
     sources = []
     for cause in causes:
@@ -268,7 +275,7 @@ def of_text(one: Problem, image: str) -> str:
 
 
 def problem_text(one: Problem) -> str:
-    return one.rule.text + (f" ({one.instruction})" if one.instruction else "") + (f", at {one.ends} places of this line" if one.ends > 1 else "")
+    return ("leak witnessed: " if one.witnessed else "") + one.rule.text + (f" ({one.instruction})" if one.instruction else "") + (f", at {one.ends} places of this line" if one.ends > 1 else "")
 
 
 def as_text(told: Told, image: str, limit: int, lines: Lines) -> Iterator[str]:
@@ -291,14 +298,14 @@ def as_text(told: Told, image: str, limit: int, lines: Lines) -> Iterator[str]:
         for step in one.steps[:-1]:
             yield f"{spelled(step.line, f'{image}: position {step.position}')}: note: {step.message}" + (f" [in {step.function}]" if step.function else "")
         if one.likely:
-            yield f"{where}: note: likely {one.likely[0]}: {one.likely[1]}"
+            yield f"{where}: note: {one.likely.text}"
     if len(told.problems) > limit:
         yield f"{image}: note: and {len(told.problems) - limit} more places (--limit)"
     if len(told.problems) > MANY:
         yield f"{image}: note: begin with what reaches most of the {len(told.found.refused)} refused ends:"
         for source in told.sources[:MOST_SOURCES]:
             where = spelled(source.line, f"{image}: position {source.position}" if source.position >= 0 else image)
-            yield f"{where}: note: {source.ends} come of {source.text}" + (f", likely {source.likely[0]}: {source.likely[1]}" if source.likely else "")
+            yield f"{where}: note: {source.ends} come of {source.text}" + (f", {source.likely.text}" if source.likely else "")
             text = lines.source_as_is(source.line)
             if text.strip():
                 yield f" {text}"

@@ -8,6 +8,7 @@ from typing import List, Optional, Sequence, Tuple
 from . import compare, diagnostics, metadata, page, sarif, text
 from .causes import Cause, add_ends, causes_of, likely
 from .ending import ended
+from .evidence import RUN, Evidence, evidence_of_run, read_witness, secret_of
 from .flow import Findings, find
 from .image import Image, read_image
 from .lines import Lines
@@ -56,6 +57,12 @@ def words_of(words: Sequence[str]) -> argparse.Namespace:
     parser.add_argument("--public", metavar="POS,..", type=positions, default=[], help="loads by position, as if what they load were public")
     parser.add_argument("--source", metavar="FOLDER", action="append", help="lines are shown of sources below it alone, or of the file of that name (.)")
     parser.add_argument("--source-map", metavar="OLD=NEW", type=pair, action="append", default=[], help="a source's path that begins with OLD begins with NEW here")
+    parser.add_argument("--start", metavar=("EXPORT", "START"), nargs=2, help="tells what one run shows of each cause, in place of a guess")
+    parser.add_argument("--secret", metavar="M:OFFSET:SIZE", action="append", default=[], help="with --start: these bytes change, instead of START's")
+    parser.add_argument("--keep", metavar="M:OFFSET:SIZE", action="append", default=[], help="with --start: these bytes don't")
+    parser.add_argument("--run", metavar="N", type=count, default=RUN, help="with --start: so many commands are followed (1,000,000)")
+    parser.add_argument("--witness", metavar="PREFIX", help="judges what blade-witness wrote again, and marks the end")
+    parser.add_argument("--blade", metavar="PROGRAM", help="the program, for --witness (BLADE, else the one that is built here, else blade)")
     parser.add_argument("--causes", metavar="N", type=count, default=3, help="so many causes are told in detail (3)")
     parser.add_argument("--ways", metavar="N", type=count, default=1, help="so many ends of each (1)")
     parser.add_argument("--page", metavar="FILE", help="writes a page for the browser, too")
@@ -91,15 +98,30 @@ def functions_of(image: Image, paths: Sequence[str]) -> Tuple[List[Linked], List
     return ([] if differ else functions), differ
 
 
-def judged(found: Findings, lines: Lines, causes: List[Cause], ways: int) -> None:
-    """Gives causes their ends and a likely reason, and has the lines looked up that are told of them."""
+def evidence_of(words: argparse.Namespace, found: Findings, causes: Sequence[Cause]) -> Optional[Evidence]:
+    """What a run and a witness show, where words name them."""
+    if not words.start and not words.witness:
+        return None
+    evidence = Evidence(found, list(causes))
+    if words.start:
+        export, path = words.start
+        evidence = evidence_of_run(found, causes, secret_of(found.image, export, path, words.secret, words.keep), export, words.run)
+    if words.witness:
+        evidence.witness = read_witness(found.image, words.image, words.witness, words.blade)
+    return evidence
+
+
+def judged(found: Findings, lines: Lines, causes: List[Cause], ways: int, evidence: Optional[Evidence]) -> None:
+    """Gives causes their ends and a reason, likely or shown, and has the lines looked up that are told of them."""
     for cause in causes:
         add_ends(found, cause)
     lines.ask({end.position for cause in causes for end in cause.reached})
     told = [cause.way(same[0]) for cause in causes for same in text.by_line(cause, lines)[:ways]]
     lines.ask({site for way in told for site in way.sites})
     for cause in causes:
-        cause.likely = likely(found, lines, cause)
+        cause.reason = likely(found, lines, cause)
+        if evidence:
+            cause.reason = evidence.reason(cause, cause.reason)
 
 
 def detailed(found: Findings, words: argparse.Namespace) -> int:
@@ -120,11 +142,12 @@ def explain(words: argparse.Namespace) -> int:
     if words.public:
         found = find(image, words.public)
     causes = causes_of(found, lines)
-    judged(found, lines, causes[: detailed(found, words)], words.ways)
+    evidence = evidence_of(words, found, causes)
+    judged(found, lines, causes[: detailed(found, words)], words.ways, evidence)
     lines.ask([site for protect in protects for site in [protect.position] + ([protect.reason[0][0], protect.reason[1]] if protect.reason else [])])
-    told = write_all(words, found, causes, protects, lines)
+    told = write_all(words, found, causes, protects, lines, evidence)
     if not words.lines:
-        told += text.report(found, causes, protects, lines, words.public, words.causes, words.ways)
+        told += text.report(found, causes, protects, lines, words.public, words.causes, words.ways, evidence)
     for line in [f"differs: {one}" for one in differ] + notes(words, functions, lines) + told:
         say(line)
     return DIFFERS if differ else DONE
@@ -148,13 +171,14 @@ def notes(words: argparse.Namespace, functions: Sequence[Linked], lines: Lines) 
     return told
 
 
-def write_all(words: argparse.Namespace, found: Findings, causes: List[Cause], protects: Sequence[Protect], lines: Lines) -> List[str]:
+def write_all(words: argparse.Namespace, found: Findings, causes: List[Cause], protects: Sequence[Protect], lines: Lines,
+              evidence: Optional[Evidence]) -> List[str]:
     """Writes what words ask for, and gives what is to be said of it."""
     said = annotate(words, found.image, lines) if words.annotate else []
     if words.lines or words.json or words.sarif:
-        said += tell(words, diagnostics.told_of(found, lines, causes, protects), lines)
+        said += tell(words, diagnostics.told_of(found, lines, causes, protects, evidence), lines)
     if words.page:
-        write_file(words.page, page.page_of(words.image, found, causes, protects, lines).encode())
+        write_file(words.page, page.page_of(words.image, found, causes, protects, lines, evidence).encode())
     return said
 
 

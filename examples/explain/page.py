@@ -7,7 +7,7 @@ import html
 import json
 import os
 import re
-from typing import Dict, List, Sequence
+from typing import Dict, List, Optional, Sequence
 
 from .causes import Cause
 from .flow import Findings
@@ -15,7 +15,8 @@ from .image import Command, Image, Operand
 from .lines import Lines
 from .lowering import ACCESS_NAMES, KINDS
 from .protects import Protect, function_name
-from .text import by_line, declared_text, kinds_text, verdict_text
+from .evidence import Evidence
+from .text import by_line, declared_text, evidence_text, kinds_text, verdict_text
 from .words import all_shown, shown
 
 WAYS = 12  # so many ends of a cause get a way that can be clicked
@@ -67,7 +68,7 @@ def cause_data(number: int, cause: Cause, lines: Lines) -> dict:
         ways.append({"text": f"{way.end.kind} {place} {way.end.position}", "more": len(same) - 1, "sites": sites, "end": way.end.position})
     return {
         "number": number, "ends": cause.ends, "kinds": kinds_text(cause.counts), "place": f"{cause.declared} {cause.place}".strip(),
-        "source": cause.source, "loads": cause.loads, "likely": list(cause.likely or ()), "ways": ways}
+        "source": cause.source, "loads": cause.loads, "reason": cause.reason.text if cause.reason else "", "ways": ways}
 
 
 def protect_data(protect: Protect, lines: Lines) -> dict:
@@ -75,12 +76,13 @@ def protect_data(protect: Protect, lines: Lines) -> dict:
     return {"at": protect.position, "weight": protect.weight, "place": lines.place(protect.position), "sites": sites, "sink": sink}
 
 
-def page_of(path: str, found: Findings, causes: Sequence[Cause], protects: Sequence[Protect], lines: Lines) -> str:
+def page_of(path: str, found: Findings, causes: Sequence[Cause], protects: Sequence[Protect], lines: Lines, evidence: Optional[Evidence] = None) -> str:
     if lines.has_lines:
         lines.ask(range(7, len(found.image.commands)))
     sources: Dict[str, int] = {"": 0}
     data = {
-        "declared": declared_text(found), "verdict": verdict_text(found, ()),
+        "declared": declared_text(found), "verdict": verdict_text(found, (), evidence), "evidence": list(evidence_text(evidence, lines)) if evidence else [],
+        "witnessed": evidence.witness.end(found.image) if evidence and evidence.witness else None,
         "functions": listing_of(found.image, lines, sources), "sources": [],
         "causes": [cause_data(number, cause, lines) for number, cause in enumerate(causes, 1)],
         "protects": [protect_data(protect, lines) for protect in protects],

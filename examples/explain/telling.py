@@ -9,19 +9,18 @@ from .lines import Lines
 from .pairs import Secret
 from .program import STEPS
 from .search import Done, Sought
-from .shown import UNPROVED, Shown, end_at, kind_of
+from .evidence import UNPROVED, Evidence, end_at, kind_of
 from .shrinking import Found, open_guesses
 from .steering import LINES
+from .text import place_text
 
 PLACES = 6  # so many lines of C are named in a row
 BYTES = 4  # so many changed bytes are told one by one
 
 
 def where(lines: Lines, position: int) -> str:
-    """A position by its line of C and its instruction, as far as they are known."""
     lines.ask([position])
-    instruction = lines.instruction(position)
-    return f"{lines.place(position)} ({instruction + ', ' if instruction else ''}position {position})".strip()
+    return place_text(lines, position)
 
 
 def what_differs(secret: Secret, first: bytes, second: bytes) -> Iterator[str]:
@@ -94,26 +93,26 @@ def places(positions: List[int], lines: Lines) -> str:
     return ", ".join(named[:PLACES]) + (", .." if len(named) > PLACES else "")
 
 
-def of_the_run(shown: Shown, lines: Lines) -> Iterator[str]:
+def of_the_run(evidence: Evidence, lines: Lines) -> Iterator[str]:
     """What START's own run says of the ends that the labels refuse."""
-    if not shown.found.refused:
+    if not evidence.found.refused:
         yield "  the labels refuse no end"
         return
-    yield f"  {shown.run_text()}"
-    clean = shown.never_loaded()
+    yield f"  {evidence.run_text()}"
+    clean = evidence.never_loaded()
     if clean:
-        left = shown.still_refused(clean)
+        left = evidence.still_refused(clean)
         said = f"{left} ends would still be refused" if left else "none would be refused"
-        yield f"  looks public, {UNPROVED}: what these lines load never was what was changed; were it public, {said}: {places(clean, lines)}"
+        yield f"  looks public, {UNPROVED}: these lines never loaded what was changed; were it public, {said}: {places(clean, lines)}"
         yield f"    (blade-explain --public {','.join(map(str, clean))})"
-    missed = [position for position in dict.fromkeys(end.position for end in shown.found.refused) if position not in shown.meeting.reached]
+    missed = [position for position in dict.fromkeys(end.position for end in evidence.found.refused) if position not in evidence.meeting.reached]
     if missed:
         yield f"  not reached, give other starts: {places(missed, lines)}"
 
 
-def nothing(done: Done, shown: Shown, seconds: float, lines: Lines) -> Iterator[str]:
+def nothing(done: Done, evidence: Evidence, seconds: float, lines: Lines) -> Iterator[str]:
     ended = f", stopped after {seconds:g} seconds" if done.stopped else ""
     yield f"nothing found, which isn't to say that there is nothing{ended}: {done.text()}"
     if done.cut:
         yield f"  traces end at {LINES:,} directives, before the run does"
-    yield from of_the_run(shown, lines)
+    yield from of_the_run(evidence, lines)

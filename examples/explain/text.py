@@ -2,9 +2,10 @@
 from __future__ import annotations
 
 from collections import Counter
-from typing import Dict, Iterator, List, Sequence
+from typing import Dict, Iterator, List, Optional, Sequence
 
 from .causes import Cause, Way
+from .evidence import Evidence, kind_of
 from .flow import PLURALS, End, Findings
 from .lines import Lines
 from .protects import Protect, function_name, totals
@@ -33,12 +34,30 @@ def declared_text(found: Findings) -> str:
     return f"declared secret: {told}" + (f"; {counted(loads, 'load')} of secret memories" if sum(image.secret_memories) else "")
 
 
-def verdict_text(found: Findings, public: Sequence[int]) -> str:
+def verdict_text(found: Findings, public: Sequence[int], evidence: Optional[Evidence] = None) -> str:
     supposed = f" (as if what is loaded at {', '.join(map(str, public))} were public)" if public else ""
     if found.is_constant_time:
         return f"constant-time yes{supposed}: {counted(len(found.ends), 'end')}, none of them refused"
     kinds = Counter(end.kind for end in found.refused)
-    return f"constant-time no{supposed}: {len(found.refused)} of {len(found.ends)} ends are refused: {kinds_text(kinds)}"
+    witnessed = ", leak witnessed" if evidence and evidence.witness else ""
+    return f"constant-time no{witnessed}{supposed}: {len(found.refused)} of {len(found.ends)} ends are refused: {kinds_text(kinds)}"
+
+
+def place_text(lines: Lines, position: int) -> str:
+    """A position by its line of C and its instruction, as far as they are known."""
+    instruction = lines.instruction(position)
+    return f"{lines.place(position)} ({instruction + ', ' if instruction else ''}position {position})".strip()
+
+
+def evidence_text(evidence: Evidence, lines: Lines) -> Iterator[str]:
+    """What a witness and a run showed."""
+    if evidence.witness:
+        witness = evidence.witness
+        lines.ask([witness.position])
+        yield f"leak witnessed: {kind_of(evidence.found.image, witness.position)}: {place_text(lines, witness.position)}"
+        yield f"  one run shows `{witness.difference.first}`, the other `{witness.difference.second}`: {witness.words}"
+    if evidence.meeting and evidence.found.refused:
+        yield evidence.run_text()
 
 
 def table(causes: Sequence[Cause]) -> Iterator[str]:
@@ -72,8 +91,7 @@ def user_of(way: Way, lines: Lines) -> int:
 
 def way_text(way: Way, more: int, lines: Lines, shown: str) -> Iterator[str]:
     end, user = way.end.position, user_of(way, lines)
-    instruction = lines.instruction(end)
-    where = f"{lines.place(end)} ({instruction + ', ' if instruction else ''}position {end})".strip()
+    where = place_text(lines, end)
     called = f", called at {lines.place(user)}" if user != end else ""
     yield f"   -> {way.end.kind}: {where}{called}" + (f", and {more} more there" if more else "")
     source = lines.source(lines.line(user))
@@ -88,8 +106,8 @@ def cause_text(number: int, cause: Cause, ways: int, lines: Lines) -> Iterator[s
     yield f"{number:2} {cause.declared}{', ' + cause.place if cause.place else ''}{listed}: {kinds_text(cause.counts)}"
     if cause.source:
         yield f"       {cause.source}"
-    if cause.likely:
-        yield f"       likely {cause.likely[0]}: {cause.likely[1]}"
+    if cause.reason:
+        yield f"       {cause.reason.text}"
     told = by_line(cause, lines)
     for same in told[:ways]:
         yield from way_text(cause.way(same[0]), len(same) - 1, lines, cause.source)
@@ -130,10 +148,12 @@ def protect_text(protect: Protect, found: Findings, lines: Lines) -> str:
 
 
 def report(found: Findings, causes: Sequence[Cause], protects: Sequence[Protect], lines: Lines, public: Sequence[int],
-           shown: int, ways: int) -> Iterator[str]:
+           most: int, ways: int, evidence: Optional[Evidence] = None) -> Iterator[str]:
     """The whole text."""
     yield declared_text(found)
-    yield verdict_text(found, public)
+    yield verdict_text(found, public, evidence)
+    if evidence:
+        yield from evidence_text(evidence, lines)
     if causes:
         loads = {origin.position for origin in found.guilty if origin.position is not None}
         total = sum(origin.position is not None for origin in found.origins)
@@ -142,8 +162,8 @@ def report(found: Findings, causes: Sequence[Cause], protects: Sequence[Protect]
         yield f"caused by {' and '.join(told)}, in {counted(len(causes), 'place')}"
         yield ""
         yield from table(causes)
-        for number, cause in enumerate(causes[:shown], 1):
+        for number, cause in enumerate(causes[:most], 1):
             yield ""
             yield from cause_text(number, cause, ways, lines)
         yield ""
-    yield from protects_text(protects, found, lines, max(shown, 10))
+    yield from protects_text(protects, found, lines, max(most, 10))

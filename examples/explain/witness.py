@@ -5,10 +5,11 @@ import argparse
 import random
 import sys
 import tempfile
-from typing import Dict, Iterator, List, Optional, Sequence, Tuple
+from typing import Dict, Iterable, Iterator, List, Optional, Sequence, Tuple
 
 from . import telling
 from .directives import last_of
+from .ending import ended
 from .flow import find
 from .image import read_image
 from .lines import Lines
@@ -17,8 +18,10 @@ from .pairs import flipped
 from .program import Program, program_of
 from .reading import Bad, read_file
 from .search import Searched, Sought, search
-from .shown import Shown, function_of, kind_of, secret_of, shown_by
+from .evidence import Evidence, evidence_of_run, function_of, kind_of, secret_of
 from .shrinking import Found, Shrinking
+from .words import say
+from .writing import write_file
 
 NOTHING, WITNESSED, USAGE, UNREAD, SHOWN = range(5)
 RUN = 150_000  # so many commands are followed first
@@ -47,25 +50,25 @@ def words_of(words: Sequence[str]) -> argparse.Namespace:
     return parser.parse_args(list(words))
 
 
-def sought_by(words: argparse.Namespace, folder: str) -> Tuple[Sought, Shown]:
-    image = read_image(read_file(words.image))
+def say_all(lines: Iterable[str]) -> None:
+    for line in lines:
+        say(line)
+
+
+def sought_by(words: argparse.Namespace, folder: str) -> Tuple[Sought, Evidence]:
+    image = read_image(read_file(words.image, "image"))
     secret = secret_of(image, words.export, words.start, words.secret, words.keep)
     if not secret.first:
         raise Unsearchable("nothing may change: no parameter of this function is secret, and START gives no bytes of a secret memory (or --secret M:OFFSET:SIZE)")
     program = Program(program_of(words.blade), words.image, words.export, "forward" if words.forward else "twin", folder)
     findings = find(image)
-    shown = shown_by(findings, (), secret, words.export, words.run)
-    return Sought(program, image, function_of(image, words.export), secret, findings, shown.meeting, words.seed, words.public), shown
-
-
-def write(path: str, text: str) -> None:
-    with open(path, "w", encoding="ascii") as file:
-        file.write(text)
+    evidence = evidence_of_run(findings, (), secret, words.export, words.run)
+    return Sought(program, image, function_of(image, words.export), secret, findings, evidence.meeting, words.seed, words.public), evidence
 
 
 def write_starts(sought: Sought, prefix: str, first: bytes, second: bytes, arguments: Optional[Sequence[int]] = None) -> None:
-    write(f"{prefix}.a.start", sought.text(first, arguments))
-    write(f"{prefix}.b.start", sought.text(second, arguments))
+    write_file(f"{prefix}.a.start", sought.text(first, arguments).encode())
+    write_file(f"{prefix}.b.start", sought.text(second, arguments).encode())
 
 
 def position_of(sought: Sought, trace: Sequence[str], common: Sequence[str]) -> int:
@@ -105,13 +108,12 @@ def tell_found(sought: Sought, searched: Searched, words: argparse.Namespace, li
     found = Shrinking(sought, *searched.found).go()
     position = position_of(sought, found.trace, found.difference.common)
     again = telling.again(sought.program.judge, words.image, words.export, words.out)
-    write(f"{words.out}.trace", "\n".join(found.trace) + "\n")
+    write_file(f"{words.out}.trace", ("\n".join(found.trace) + "\n").encode())
     write_starts(sought, words.out, found.first, found.second, found.arguments)
-    write(f"{words.out}.again", again + "\n")
-    print("\n".join(telling.witnessed(sought, found, position, lines)))
-    print(f"again: {again}")
+    write_file(f"{words.out}.again", f"{again}\n".encode())
+    say_all([*telling.witnessed(sought, found, position, lines), f"again: {again}"])
     if words.more:
-        print("\n".join(more_text(sought, found, words.more, lines)))
+        say_all(more_text(sought, found, words.more, lines))
     return WITNESSED
 
 
@@ -119,33 +121,33 @@ def tell_shown(sought: Sought, searched: Searched, words: argparse.Namespace) ->
     attempt, tried = searched.shown
     write_starts(sought, words.out, attempt.first, tried.other)
     again = telling.runs_again(words.image, words.export, words.out, tried.shown.startswith("position"))
-    write(f"{words.out}.again", again + "\n")
-    print(f"  but whole runs of two secrets differ, though no observer was shown to see it: {tried.shown}")
-    for change in telling.what_differs(sought.secret, attempt.first, tried.other):
-        print(f"  secret changed: {change}")
-    print(f"again: {again}")
+    write_file(f"{words.out}.again", f"{again}\n".encode())
+    say(f"  but whole runs of two secrets differ, though no observer was shown to see it: {tried.shown}")
+    say_all(f"  secret changed: {change}" for change in telling.what_differs(sought.secret, attempt.first, tried.other))
+    say(f"again: {again}")
     return SHOWN
 
 
 def run(words: argparse.Namespace, folder: str) -> int:
-    sought, shown = sought_by(words, folder)
+    sought, evidence = sought_by(words, folder)
     functions, differ = functions_of(sought.image, words.modules)
-    for one in differ:
-        print(f"differs: {one}: there are no lines now")
+    say_all(f"differs: {one}: there are no lines now" for one in differ)
     lines = Lines(functions)
     searched = search(sought, words.seconds)
     if searched.found:
         return tell_found(sought, searched, words, lines)
-    print("\n".join(telling.nothing(searched.done, shown, words.seconds, lines)))
+    say_all(telling.nothing(searched.done, evidence, words.seconds, lines))
     return tell_shown(sought, searched, words) if searched.shown else NOTHING
 
 
-def main(words: Sequence[str]) -> int:
+def started(words: Sequence[str]) -> int:
     try:
         with tempfile.TemporaryDirectory() as folder:
             return run(words_of(words), folder)
-    except (Bad, OSError, IndexError, ValueError) as bad:
-        print(f"blade-witness: {bad or 'a file ends too early'}", file=sys.stderr)
-        return USAGE if isinstance(bad, Unsearchable) else UNREAD
-    except KeyboardInterrupt:
-        return 130
+    except Unsearchable as fault:
+        say(f"blade-witness: {fault}", sys.stderr)
+        return USAGE
+
+
+def main(words: Sequence[str]) -> int:
+    return ended("blade-witness", lambda: started(words), UNREAD)

@@ -14,7 +14,7 @@ from .image import DIVISIONS, Image
 from .meeting import Meeting
 from .pairs import Secret, ranges_of, what_changes
 from .program import DIFFER, Difference, Program, difference_of, program_of
-from .reading import Bad, read_file
+from .reading import Bad, read_text
 from .running import read_start
 
 RUN = 1_000_000  # so many commands of a run are followed
@@ -30,7 +30,7 @@ def function_of(image: Image, export: str) -> int:
 
 def secret_of(image: Image, export: str, path: str, asked: Sequence[str], kept: Sequence[str]) -> Secret:
     """What changes of a start file."""
-    function, start = function_of(image, export), read_start(read_file(path).decode())
+    function, start = function_of(image, export), read_start(read_text(path, "start"))
     return Secret(image, function, start, what_changes(image, function, start, ranges_of(asked), ranges_of(kept)))
 
 
@@ -63,7 +63,7 @@ class Witness:
 
 def read_witness(image: Image, path: str, prefix: str, program: Optional[str]) -> Witness:
     """Has the program judge the files of a prefix again."""
-    again = shlex.split(read_file(f"{prefix}.again").decode())
+    again = shlex.split(read_text(f"{prefix}.again", "start"))
     if len(again) != 7 or again[1] not in ("twin", "forward"):
         raise Bad(f"{prefix}.again: no words of twin or forward; what whole runs show is no witness")
     judge, export = again[1], again[3]
@@ -74,13 +74,13 @@ def read_witness(image: Image, path: str, prefix: str, program: Optional[str]) -
     difference = difference_of(text, judge) if status == DIFFER else None
     if difference is None:
         raise Bad(f"{prefix}: {judge} says nothing of a leak in {path}: status {status}")
-    trace = read_file(files[0]).decode().splitlines()[: difference.directive]
+    trace = read_text(files[0], "report").splitlines()[: difference.directive]
     position, _ = last_of(image, function_of(image, export), trace, difference.common)
     return Witness(position, difference, shlex.join(["blade", judge, path, export, *files]))
 
 
 @dataclass
-class Shown:
+class Evidence:
     """What is known of the refused ends by one run, by a witness, or by both."""
 
     found: Findings
@@ -116,11 +116,11 @@ class Shown:
         reached, met = self.numbers(cause)
         what = f"reached {reached}, met {met}"
         if met:
-            remedy = SPILL.remedy if guess == SPILL else "what was changed arrives there; blade-witness looks for two runs that show it"
+            remedy = SPILL.remedy if guess == SPILL else "what may change arrives there; blade-witness looks for two runs that show it"
             return Reason(what, remedy, False)
         if not reached:
             return Reason(what, "this run doesn't come there: give other starts", False)
-        return Reason(what, f"looks public, {UNPROVED}: {REMEDIES.get(guess, LEDGER.remedy)}", False)
+        return Reason(what, f"looks public, {UNPROVED}; {REMEDIES.get(guess, LEDGER.remedy)}", False)
 
     def never_loaded(self) -> List[int]:
         """The loads of secret memories that cause something and in this run never loaded what may change."""
@@ -139,14 +139,14 @@ class Shown:
     def run_text(self) -> str:
         refused, reached, met = self.tallied()
         part = "" if self.meeting.left else f" in its first {self.meeting.count:,} commands"
-        return f"the run from this start comes to {reached} of {refused} refused ends{part}, to {met} of them with what was changed"
+        return f"the run from this start reaches {reached} of {refused} refused ends{part}, and meets at {met} of them what may change"
 
     def still_refused(self, loads: Sequence[int]) -> int:
         """How many ends would be refused, were these loads of public numbers."""
         return len(find(self.found.image, loads).refused)
 
 
-def shown_by(found: Findings, causes: Sequence[Cause], secret: Secret, export: str, most: int) -> Shown:
+def evidence_of_run(found: Findings, causes: Sequence[Cause], secret: Secret, export: str, most: int) -> Evidence:
     """What the run from a start shows."""
     meeting = Meeting(found.image, function_of(found.image, export), secret, [cause.origins for cause in causes]).go(most)
-    return Shown(found, list(causes), meeting)
+    return Evidence(found, list(causes), meeting)
