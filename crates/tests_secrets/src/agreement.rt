@@ -1,5 +1,6 @@
 //! Starts that agree in public, and starts that don't.
 use bl_base::{List, NoMemory, Patch, Start, Text};
+use bl_cmd::WellFormed;
 use bl_image::decode_image;
 use bl_twin::agree;
 use std::alloc::Global;
@@ -39,23 +40,33 @@ fn start_of(alloc: Global, argument: u64, patches: &[(u32, u8)]) -> Result<Start
     Ok(start)
 }
 
-/// Whether two starts of an image's first function agree in public; None where the bytes are no image, or one of them doesn't fit.
+/// Whether two starts of a program's first function agree in public; None where one of them doesn't fit.
+fn agreement(
+    alloc: Global,
+    program: &WellFormed,
+    one: &Start,
+    other: &Start,
+) -> Result<Option<bool>, NoMemory> {
+    if !is_start(alloc, program, 0, one)? {
+        return Ok(None);
+    }
+    if !is_start(alloc, program, 0, other)? {
+        return Ok(None);
+    }
+    Ok(Some(agree(alloc, program, 0, one, other)?))
+}
+
+/// The same of an image's first function; None where the bytes are no image, too.
 fn answer(
     alloc: Global,
     image: &[u8],
     one: &Start,
     other: &Start,
 ) -> Result<Option<bool>, NoMemory> {
-    let Ok(program) = decode_image(alloc, image) else {
-        return Ok(None);
-    };
-    if !is_start(alloc, &program, 0, one)? {
-        return Ok(None);
+    match decode_image(alloc, image) {
+        Ok(program) => agreement(alloc, &program, one, other),
+        Err(_) => Ok(None),
     }
-    if !is_start(alloc, &program, 0, other)? {
-        return Ok(None);
-    }
-    Ok(Some(agree(alloc, &program, 0, one, other)?))
 }
 
 /// Whether two starts of an image's first function fit and agree in public, or don't agree.

@@ -40,19 +40,30 @@ fn seen_in_one(
     rob.observe(alloc, directives)
 }
 
-/// Whether so many directives are observed before the one that is refused, if any.
+/// Whether so many directives are observed of a program before the one that is refused, if any.
+fn is_seen_of(
+    alloc: Global,
+    program: &WellFormed,
+    directives: &[Directive],
+    made: usize,
+    refused: Option<u64>,
+) -> Result<bool, NoMemory> {
+    let start = start_of(alloc)?;
+    let seen = seen_in_one(alloc, program, &start, directives)?;
+    Ok(seen.made.len() == made && seen.refused == refused)
+}
+
+/// The same of the function that adds 1.
 fn is_seen(
     alloc: Global,
     directives: &[Directive],
     made: usize,
     refused: Option<u64>,
 ) -> Result<bool, NoMemory> {
-    let Ok(program) = decode_image(alloc, &INC) else {
-        return Ok(false);
-    };
-    let start = start_of(alloc)?;
-    let seen = seen_in_one(alloc, &program, &start, directives)?;
-    Ok(seen.made.len() == made && seen.refused == refused)
+    match decode_image(alloc, &INC) {
+        Ok(program) => is_seen_of(alloc, &program, directives, made, refused),
+        Err(_) => Ok(false),
+    }
 }
 
 static TWICE: [Directive; 2] = [Directive::Fetch, Directive::Fetch];
