@@ -31,7 +31,7 @@ def function_of(image: Image, export: str) -> int:
 def secret_of(image: Image, export: str, path: str, asked: Sequence[str], kept: Sequence[str]) -> Secret:
     """What changes of a start file."""
     function, start = function_of(image, export), read_start(read_text(path, "start"))
-    return Secret(image, function, start, what_changes(image, function, start, ranges_of(asked), ranges_of(kept)))
+    return Secret(image, start, what_changes(image, function, start, ranges_of(asked), ranges_of(kept)))
 
 
 def kind_of(image: Image, position: int) -> str:

@@ -6,7 +6,7 @@ from typing import Dict, Iterator, List, NamedTuple, Optional, Sequence, Set, Tu
 
 from .image import Image
 from .reading import Bad
-from .running import PAGE, Start
+from .running import PAGE, Start, fits
 
 WIDE = 0x7E  # i64
 
@@ -66,10 +66,11 @@ def joined(memory: int, places: Set[int]) -> Iterator[Range]:
 
 def what_changes(image: Image, function: int, start: Start, asked: Sequence[Range], kept: Sequence[Range]) -> List[Range]:
     """Secret parameters, and of secret memories the bytes that are asked for, else those that the start file gives; but for what is kept."""
+    fits(image, function, start)
     for one in asked:
         if one.memory < len(image.memories) and not image.memories[one.memory].is_secret:
             raise Bad(f"memory {one.memory} isn't declared secret: starts that differ there don't agree in public")
-    given = [Range(number, offset, len(data)) for number, offset, data in start.contents if number >= len(image.memories) or image.memories[number].is_secret]
+    given = [Range(number, offset, len(data)) for number, offset, data in start.contents if image.memories[number].is_secret]
     staying = places_of(image, kept)
     found = [Range(None, index, 8 if is_wide(image, function, index) else 4) for index, secret in enumerate(image.functions[function].secret_params) if secret]
     for memory, places in sorted(places_of(image, asked or given).items()):
@@ -80,9 +81,7 @@ def what_changes(image: Image, function: int, start: Start, asked: Sequence[Rang
 class Secret:
     """The bytes of starts that change, as one string of bytes; all else stays."""
 
-    def __init__(self, image: Image, function: int, start: Start, ranges: Sequence[Range]) -> None:
-        if len(start.arguments) < image.functions[function].params:
-            raise Bad(f"the start file has {len(start.arguments)} arguments, and the function {image.functions[function].params} parameters")
+    def __init__(self, image: Image, start: Start, ranges: Sequence[Range]) -> None:
         self.start, self.ranges = start, list(ranges)
         spaces = {one.memory: contents(image, one.memory, start) for one in ranges if one.memory is not None}
         self.first = b"".join(

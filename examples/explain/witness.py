@@ -13,13 +13,14 @@ from .ending import ended
 from .flow import find
 from .image import read_image
 from .lines import Lines
-from .main import functions_of
+from .main import count, functions_of, pair
 from .pairs import flipped
 from .program import Program, program_of
 from .reading import Bad, read_file
 from .search import Searched, Sought, search
 from .evidence import Evidence, evidence_of_run, function_of, kind_of, secret_of
 from .shrinking import Found, Shrinking
+from .sources import Sources
 from .words import say
 from .writing import write_file
 
@@ -41,11 +42,13 @@ def words_of(words: Sequence[str]) -> argparse.Namespace:
     parser.add_argument("--keep", metavar="M:OFFSET:SIZE", action="append", default=[], help="these bytes stay: public numbers in a secret memory")
     parser.add_argument("--public", action="store_true", help="wrong guesses are tried with other public arguments, too, the same in both starts")
     parser.add_argument("--forward", action="store_true", help="on the machine that forwards stores")
-    parser.add_argument("--more", metavar="N", type=int, default=0, help="where a leak is found, so many bytes are changed one by one, for other places")
-    parser.add_argument("--run", metavar="N", type=int, default=RUN, help="so many commands of START's run are followed first, to aim (150,000)")
+    parser.add_argument("--more", metavar="N", type=count, default=0, help="where a leak is found, so many bytes are changed one by one, for other places")
+    parser.add_argument("--run", metavar="N", type=count, default=RUN, help="so many commands of START's run are followed first, to aim (150,000)")
+    parser.add_argument("--source", metavar="FOLDER", action="append", help="lines are shown of sources below it alone, or of the file of that name (.)")
+    parser.add_argument("--source-map", metavar="OLD=NEW", type=pair, action="append", default=[], help="a source's path that begins with OLD begins with NEW here")
     parser.add_argument("--out", metavar="PREFIX", default="witness", help="writes PREFIX.trace, PREFIX.a.start, PREFIX.b.start and PREFIX.again (witness)")
     parser.add_argument("--seconds", metavar="N", type=float, default=60.0, help="ends the search, without another answer (60)")
-    parser.add_argument("--seed", metavar="N", type=int, default=1, help="the same one, the same answer (1)")
+    parser.add_argument("--seed", metavar="N", type=count, default=1, help="the same one, the same answer (1)")
     parser.add_argument("--blade", metavar="PROGRAM", help="the program (BLADE, else the one that is built here, else blade)")
     return parser.parse_args(list(words))
 
@@ -132,7 +135,7 @@ def run(words: argparse.Namespace, folder: str) -> int:
     sought, evidence = sought_by(words, folder)
     functions, differ = functions_of(sought.image, words.modules)
     say_all(f"differs: {one}: there are no lines now" for one in differ)
-    lines = Lines(functions)
+    lines = Lines(functions, Sources(words.source or ["."], words.source_map))
     searched = search(sought, words.seconds)
     if searched.found:
         return tell_found(sought, searched, words, lines)
