@@ -19,7 +19,6 @@ from .running import read_start
 
 RUN = 1_000_000  # so many commands of a run are followed
 UNPROVED = "by this one run and unproved"
-REMEDIES = {LEDGER: LEDGER.remedy, POINTER: POINTER.remedy, SHARED: SHARED.remedy}
 
 
 def function_of(image: Image, export: str) -> int:
@@ -120,7 +119,8 @@ class Evidence:
             return Reason(what, remedy, False)
         if not reached:
             return Reason(what, "this run doesn't come there: give other starts", False)
-        return Reason(what, f"looks public, {UNPROVED}; {REMEDIES.get(guess, LEDGER.remedy)}", False)
+        remedy = f"{guess.what}: {guess.remedy}" if guess in (POINTER, SHARED) else LEDGER.remedy
+        return Reason(what, f"looks public, {UNPROVED}; {remedy}", False)
 
     def never_loaded(self) -> List[int]:
         """The loads of secret memories that cause something and in this run never loaded what may change."""

@@ -8,6 +8,7 @@ import signal
 import sys
 import time
 from collections import deque
+from contextlib import closing
 from dataclasses import dataclass, field
 from itertools import islice
 from typing import Callable, Dict, Iterator, List, NamedTuple, Optional, Sequence, Tuple
@@ -347,14 +348,15 @@ def search(sought: Sought, seconds: float) -> Searched:
     progress, searched = Progress(done, seconds), Searched(done)
     try:
         sought.begin()
-        for attempt, tried in in_order(sought, progress):
-            done.add(attempt, tried)
-            progress.tell()
-            if tried.shown:
-                searched.shown = (attempt, tried)
-            if tried.other is not None and not tried.shown:
-                searched.found = (attempt, tried)
-                break
+        with closing(in_order(sought, progress)) as made:
+            for attempt, tried in made:
+                done.add(attempt, tried)
+                progress.tell()
+                if tried.shown:
+                    searched.shown = (attempt, tried)
+                elif tried.other is not None:
+                    searched.found = (attempt, tried)
+                    break
     except Over:
         done.stopped = True
     progress.end()
