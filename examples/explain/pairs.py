@@ -9,6 +9,7 @@ from .reading import Bad
 from .running import PAGE, Start, fits
 
 WIDE = 0x7E  # i64
+Pair = Tuple[bytes, bytes]
 
 
 class Range(NamedTuple):
@@ -17,14 +18,6 @@ class Range(NamedTuple):
     memory: Optional[int]
     offset: int
     size: int
-
-
-class Pair(NamedTuple):
-    """Two secrets, and how they were made."""
-
-    how: str
-    first: bytes
-    second: bytes
 
 
 def is_wide(image: Image, function: int, index: int) -> bool:
@@ -117,22 +110,22 @@ class Secret:
     def pairs(self, chance: random.Random) -> Iterator[Pair]:
         """Pairs of secrets, without end: those with that of the start file first."""
         first, size = self.first, len(self.first)
-        yield Pair("all bits", first, turned(first))
-        yield Pair("random", first, chance.randbytes(size))
-        yield Pair("ones", first, b"\xff" * size)
-        yield Pair("zeros", first, bytes(size))
-        yield Pair("one bit", first, flipped(first, chance.randrange(8 * size)))
+        yield first, turned(first)
+        yield first, chance.randbytes(size)
+        yield first, b"\xff" * size
+        yield first, bytes(size)
+        yield first, flipped(first, chance.randrange(8 * size))
         for _, at, data in self.pieces(first):
-            yield Pair("one piece", first, first[:at] + chance.randbytes(len(data)) + first[at + len(data) :])
+            yield first, first[:at] + chance.randbytes(len(data)) + first[at + len(data) :]
         yield from self.alike(chance)
         while True:
             other = chance.randbytes(size)
-            yield Pair("two random", other, chance.randbytes(size))
-            yield Pair("one bit", first, flipped(first, chance.randrange(8 * size)))
-            yield Pair("one bit of random", other, flipped(other, chance.randrange(8 * size)))
+            yield other, chance.randbytes(size)
+            yield first, flipped(first, chance.randrange(8 * size))
+            yield other, flipped(other, chance.randrange(8 * size))
             small = bytes(chance.choice((0, 0, 0, 1, 2, 0x7F, 0x80, 0xFF)) for _ in range(size))
-            yield Pair("extremes", small, bytes(chance.choice((0, 1, 0xFE, 0xFF)) for _ in range(size)))
-            yield Pair("random", first, chance.randbytes(size))
+            yield small, bytes(chance.choice((0, 1, 0xFE, 0xFF)) for _ in range(size))
+            yield first, chance.randbytes(size)
 
     def alike(self, chance: random.Random) -> Iterator[Pair]:
         """Pieces of one size made equal, and one byte of one of them changed: what compares them goes further."""
@@ -141,7 +134,7 @@ class Secret:
             for _, to, other in pieces[number + 1 :]:
                 if len(other) == len(data):
                     made = self.first[:to] + data + self.first[to + len(data) :]
-                    yield Pair("equal pieces", made, flipped(made, 8 * to + chance.randrange(8 * len(data))))
+                    yield made, flipped(made, 8 * to + chance.randrange(8 * len(data)))
 
 
 def contents(image: Image, memory: int, start: Start) -> bytearray:

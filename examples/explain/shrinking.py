@@ -12,7 +12,7 @@ from .program import Difference
 from .reading import Bad
 from .running import traced
 from .steering import LINES
-from .search import Attempt, Sought, Tried
+from .attempts import Attempt, Sought, Tried
 
 PARTS = 64  # changed bytes are left out by so many parts at most
 COMMANDS = 150_000  # a run in plain order is tried up to here

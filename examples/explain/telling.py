@@ -8,7 +8,8 @@ from .flow import Findings
 from .lines import Lines
 from .pairs import Secret
 from .program import STEPS
-from .search import Done, Sought
+from .search import Done
+from .attempts import Sought
 from .evidence import UNPROVED, Evidence, end_at, kind_of
 from .shrinking import Found, open_guesses
 from .steering import LINES

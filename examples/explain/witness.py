@@ -8,6 +8,7 @@ import tempfile
 from typing import Dict, Iterable, Iterator, List, Optional, Sequence, Tuple
 
 from . import telling
+from .attempts import Sought
 from .directives import last_of
 from .ending import ended
 from .flow import find
@@ -17,7 +18,7 @@ from .main import count, functions_of, pair
 from .pairs import flipped
 from .program import Program, program_of
 from .reading import Bad, read_file
-from .search import Searched, Sought, search
+from .search import Searched, search
 from .evidence import Evidence, evidence_of_run, function_of, kind_of, secret_of
 from .shrinking import Found, Shrinking
 from .sources import Sources
