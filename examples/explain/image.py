@@ -1,11 +1,12 @@
 """Images: the commands of a hardened program, and what it declares. The format is that of docs/CLI.md. Licence: public domain (CC0)."""
 from __future__ import annotations
 
+import os
 from dataclasses import dataclass, field
 from typing import Container, Dict, List, NamedTuple, Optional, Tuple
 
-from .reading import Bad, Reader, limited
-from .words import short
+from .reading import Bad, Reader, limited, read_file
+from .words import called
 
 TRAPS = 7  # the positions in front of the first function
 VALUE_TYPES, DEPTHS, MOST_FUNCTIONS = (0x7F, 0x7E), 6, 80_000
@@ -194,7 +195,7 @@ def read_head(reader: Reader) -> Image:
     exports: Dict[int, str] = {}
     entries = dict(reader.many(lambda: read_export(reader)))
     for name, function in entries.items():
-        exports.setdefault(function, short(name))
+        exports.setdefault(function, called(name))
     demands = reader.many(lambda: read_demand(reader)) if version == 2 else []
     weights = dict(rising(reader, -1)) if version == 2 else {}
     return Image([one[0] for one in listed], [one[1] for one in listed], memories, functions, exports, entries, demands, weights)
@@ -326,6 +327,15 @@ class CommandReader:
                 commands.append(self.readers[self.code(range(10))](function))
             self.kept(5, commands[-1].kind in LEAVING)
         return commands
+
+
+def image_at(path: str) -> Image:
+    """The image in a file."""
+    data = read_file(path, "image")
+    try:
+        return read_image(data)
+    except Bad as bad:
+        raise Bad(f"{os.path.basename(path)}: {bad}") from None
 
 
 def read_image(data: bytes) -> Image:

@@ -10,6 +10,7 @@ from typing import Dict, Iterable, List, NamedTuple, Optional, Sequence, Tuple
 from .lowering import Linked, Row
 from .sources import Sources
 from .symbolizer import Frame, frames_of, symbolizer
+from .words import shown
 
 HEADERS = (".h", ".inc", ".hpp")
 
@@ -24,7 +25,7 @@ class Line(NamedTuple):
 
     @property
     def place(self) -> str:
-        return f"{os.path.basename(self.path)}:{self.number or '?'}"
+        return f"{shown(os.path.basename(self.path))}:{self.number or '?'}"
 
 
 NOWHERE = Line("", 0, "")

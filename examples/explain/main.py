@@ -10,7 +10,7 @@ from .causes import Cause, add_ends, causes_of, likely
 from .ending import ended
 from .evidence import RUN, Evidence, evidence_of_run, read_witness, secret_of
 from .flow import Findings, find
-from .image import Image, read_image
+from .image import Image, image_at
 from .lines import Lines
 from .lowering import Linked, lower
 from .protects import protects_of, read_certificate
@@ -130,7 +130,7 @@ def detailed(found: Findings, words: argparse.Namespace) -> int:
 
 
 def explain(words: argparse.Namespace) -> int:
-    image = read_image(read_file(words.image, "image"))
+    image = image_at(words.image)
     functions, differ = functions_of(image, words.modules)
     if differ:
         differ = [f"{one}: other modules, or other options of wasm-opt? There are no lines now" for one in differ]
@@ -206,7 +206,7 @@ def run(words: argparse.Namespace) -> int:
         is_module = words.image.endswith(".wasm")
         paths = [words.image] * is_module + words.modules
         functions = lower([read_module(path) for path in paths], True)
-        differ = [] if is_module else compare.positions_differ(read_image(read_file(words.image, "image")), functions)
+        differ = [] if is_module else compare.positions_differ(image_at(words.image), functions)
         for one in differ:
             say(f"differs: {one}")
         listing(functions, None if words.list else words.at)

@@ -20,7 +20,7 @@ class Protect:
 def number(value: object) -> int:
     """A position."""
     if type(value) is not int or not 0 <= value < 1 << 32:
-        raise Bad("certificate: shape")
+        raise ValueError
     return value
 
 

@@ -11,7 +11,7 @@ import tempfile
 import threading
 from typing import IO, Iterator, List, NamedTuple, Optional, Sequence, Tuple
 
-from .words import short
+from .words import called
 
 SYMBOLIZERS = ("llvm-symbolizer", *(f"llvm-symbolizer-{version}" for version in range(22, 13, -1)))
 SECONDS = 120  # so long it may take
@@ -71,4 +71,4 @@ def answers(told: IO[bytes], places: Sequence[int]) -> Iterator[Tuple[int, List[
 
 def frame_of(one: dict) -> Frame:
     path = sys.intern(str(one["FileName"]))
-    return Frame(path if len(path) <= PATH else "", int(one["Line"]), int(one["Column"]), sys.intern(short(str(one["FunctionName"]))))
+    return Frame(path if len(path) <= PATH else "", int(one["Line"]), int(one["Column"]), sys.intern(called(str(one["FunctionName"]))))

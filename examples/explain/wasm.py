@@ -6,7 +6,7 @@ from dataclasses import dataclass, field
 from typing import Dict, List, NamedTuple, Optional, Tuple
 
 from .reading import Bad, Reader, limited, read_file
-from .words import short
+from .words import called
 
 MAGIC = b"\0asm\1\0\0\0"
 FUNCTION, TABLE, MEMORY, GLOBAL = range(4)
@@ -160,8 +160,8 @@ class ModuleReader:
                     continue
         for (sort, name), index in module.exports.items():
             if sort == FUNCTION:
-                module.called.setdefault(index, short(name))
-        module.called.update({index: short(name) for index, name in module.names.items() if name})
+                module.called.setdefault(index, called(name))
+        module.called.update({index: called(name) for index, name in module.names.items() if name})
 
     def types(self, reader: Reader) -> None:
         self.module.types = reader.many(lambda: (reader.byte(), FuncType(reader.block(), reader.block()))[1])

@@ -17,9 +17,9 @@ def spelled(letter: str) -> str:
     return letter.encode("unicode_escape").decode("ascii")
 
 
-def short(name: str) -> str:
+def called(name: str) -> str:
     """A name as it is told: of a very long one the beginning."""
-    return name if len(name) <= LONG else name[:LONG] + ".."
+    return shown(name if len(name) <= LONG else name[:LONG] + "..")
 
 
 def all_shown(value: Any) -> Any:
