@@ -4,10 +4,11 @@ from __future__ import annotations
 from dataclasses import dataclass, field
 from typing import Dict, Iterator, List, Optional, Sequence, Tuple
 
-from .causes import LEAK, Cause, Reason, Way, add_ends, likely
+from .causes import Cause, Way, add_ends
 from .dwarf import subprograms
 from .evidence import Evidence
 from .flow import CONDITION, DEMANDED, DIVISION, LOAD_ADDRESS, STORE_ADDRESS, STORED, End, Findings, Origin
+from .guesses import LEAK, Guess, Guesser, Reason, settle
 from .lines import NOWHERE, Line, Lines
 from .paths import shown
 from .protects import Protect
@@ -191,16 +192,17 @@ def steps_between(way: Way, found: Findings, lines: Lines) -> List[Step]:
 
 
 def reasons(found: Findings, lines: Lines, causes: Sequence[Cause], evidence: Optional[Evidence]) -> Dict[Origin, Reason]:
-    told: Dict[Origin, Reason] = {}
+    """Of the origins of the causes that reach most, what they are likely to be, or what was shown of them."""
+    guesser, judged = Guesser(found, lines), []
     for cause in causes[:MOST_JUDGED]:
         add_ends(found, cause)
         if cause.reached:
-            reason = likely(found, lines, cause)
-            if evidence:
-                reason = evidence.reason(cause, reason)
-            for origin in cause.origins:
-                told.setdefault(origin, reason)
-    return told
+            judged.append(cause)
+            cause.likely = guesser.likely(cause)
+    settle(judged, lines)
+    if evidence:
+        evidence.replace(judged)
+    return {origin: cause.likely for cause in reversed(judged) for origin in cause.origins}
 
 
 def loaded_at(way: Way, lines: Lines) -> Optional[Step]:
@@ -212,9 +214,11 @@ def loaded_at(way: Way, lines: Lines) -> Optional[Step]:
 
 def advice(reason: Optional[Reason], way: Way, rule: Rule) -> Optional[Reason]:
     """The likely reason; of a leak, what helps there."""
-    if reason != LEAK:
+    if not isinstance(reason, Guess) or reason.reason != LEAK.reason:
         return reason
-    return Reason("a leak", rule.help) if way.origin.position is None else Reason(reason.what, f"if that is secret this is a leak: {rule.help}")
+    if way.origin.position is None:
+        return Guess("a leak", rule.help, reason.rests)
+    return reason._replace(remedy=f"if that is secret this is a leak: {rule.help}")
 
 
 def told_of(found: Findings, lines: Lines, causes: Sequence[Cause], protects: Sequence[Protect], evidence: Optional[Evidence] = None) -> Told:
@@ -298,14 +302,14 @@ def as_text(told: Told, image: str, limit: int, lines: Lines) -> Iterator[str]:
         for step in one.steps[:-1]:
             yield f"{spelled(step.line, f'{image}: position {step.position}')}: note: {step.message}" + (f" [in {step.function}]" if step.function else "")
         if one.likely:
-            yield f"{where}: note: {one.likely.text}"
+            yield f"{where}: note: {one.likely}"
     if len(told.problems) > limit:
         yield f"{image}: note: and {len(told.problems) - limit} more places (--limit)"
     if len(told.problems) > MANY:
         yield f"{image}: note: begin with what reaches most of the {len(told.found.refused)} refused ends:"
         for source in told.sources[:MOST_SOURCES]:
             where = spelled(source.line, f"{image}: position {source.position}" if source.position >= 0 else image)
-            yield f"{where}: note: {source.ends} come of {source.text}" + (f", {source.likely.text}" if source.likely else "")
+            yield f"{where}: note: {source.ends} come of {source.text}" + (f", {source.likely}" if source.likely else "")
             text = lines.source_as_is(source.line)
             if text.strip():
                 yield f" {text}"

@@ -7,9 +7,10 @@ import tempfile
 from dataclasses import dataclass
 from typing import Dict, List, Optional, Sequence, Set, Tuple
 
-from .causes import LEAK, LEDGER, POINTER, SHARED, SPILL, Cause, Reason
+from .causes import Cause
 from .directives import last_of
 from .flow import Findings, find, is_bounds_test
+from .guesses import LEAK, LEDGER, POINTER, SHARED, SPILL, Reason, Shown
 from .image import DIVISIONS, Image
 from .meeting import Meeting
 from .pairs import Secret, ranges_of, what_changes
@@ -109,18 +110,24 @@ class Evidence:
     def reason(self, cause: Cause, guess: Reason) -> Reason:
         """In place of a guess, as far as something was shown."""
         if self.is_witnessed(cause):
-            return Reason("leak witnessed", f"two runs that agree in public are told apart at position {self.witness.position}; {LEAK.remedy.split(': ')[1]}", False)
+            return Shown("leak witnessed", f"two runs that agree in public are told apart at position {self.witness.position}; {LEAK.remedy.split(': ')[1]}")
         if self.meeting is None:
             return guess
         reached, met = self.numbers(cause)
         what = f"reached {reached}, met {met}"
         if met:
             remedy = SPILL.remedy if guess == SPILL else "what may change arrives there; blade-witness looks for two runs that show it"
-            return Reason(what, remedy, False)
+            return Shown(what, remedy)
         if not reached:
-            return Reason(what, "this run doesn't come there: give other starts", False)
-        remedy = f"{guess.what}: {guess.remedy}" if guess in (POINTER, SHARED) else LEDGER.remedy
-        return Reason(what, f"looks public, {UNPROVED}; {remedy}", False)
+            return Shown(what, "this run doesn't come there: give other starts")
+        remedy = f"{guess.reason}: {guess.remedy}" if guess in (POINTER, SHARED) else LEDGER.remedy
+        return Shown(what, f"looks public, {UNPROVED}; {remedy}")
+
+    def replace(self, causes: Sequence[Cause]) -> None:
+        """Puts what was shown of causes in the place of what they are likely to be."""
+        for cause in causes:
+            if cause.likely:
+                cause.likely = self.reason(cause, cause.likely)
 
     def never_loaded(self) -> List[int]:
         """The loads of secret memories that cause something and in this run never loaded what may change."""

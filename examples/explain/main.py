@@ -6,11 +6,9 @@ import os
 from typing import List, Optional, Sequence, Tuple
 
 from . import compare, diagnostics, metadata, page, sarif, text
-from .causes import Cause, add_ends, causes_of, likely
+from .causes import Cause, add_ends, causes_of
 from .ending import ended
 from .evidence import RUN, Evidence, evidence_of_run, read_witness, secret_of
-from .flow import Findings, find
-from .image import Image, image_at
 from .lines import Lines
 from .lowering import Linked, lower
 from .protects import protects_of, read_certificate
@@ -118,10 +116,12 @@ def judged(found: Findings, lines: Lines, causes: List[Cause], ways: int, eviden
     lines.ask({end.position for cause in causes for end in cause.reached})
     told = [cause.way(same[0]) for cause in causes for same in text.by_line(cause, lines)[:ways]]
     lines.ask({site for way in told for site in way.sites})
+    guesser = Guesser(found, lines)
     for cause in causes:
-        cause.reason = likely(found, lines, cause)
-        if evidence:
-            cause.reason = evidence.reason(cause, cause.reason)
+        cause.likely = guesser.likely(cause)
+    settle(causes, lines)
+    if evidence:
+        evidence.replace(causes)
 
 
 def detailed(found: Findings, words: argparse.Namespace) -> int:

@@ -7,8 +7,8 @@ import os
 import re
 from typing import Optional, Sequence, Tuple
 
-from .causes import Reason
 from .diagnostics import RULES, Problem, Rule, Told, problem_text
+from .guesses import Guess, Reason, Shown
 from .lines import Line, Lines
 from .reading import read_file
 from .tools import HERE
@@ -31,8 +31,7 @@ def line_object(line: Line) -> Optional[dict]:
 
 def reason_object(reason: Optional[Reason]) -> dict:
     """A guess, or what a run and a witness showed in its place."""
-    spelled_out = {"reason": reason.what, "remedy": reason.remedy} if reason else None
-    return {"likely": spelled_out if reason and reason.is_guess else None, "shown": spelled_out if reason and not reason.is_guess else None}
+    return {"likely": reason._asdict() if isinstance(reason, Guess) else None, "shown": reason._asdict() if isinstance(reason, Shown) else None}
 
 
 def as_json(told: Told, image: str, modules: Sequence[str]) -> str:
@@ -116,7 +115,7 @@ def as_sarif(told: Told, image: str, modules: Sequence[str], lines: Lines, root:
         seen[mark] = seen.get(mark, -1) + 1
         flow = [{"location": location(step.line, step.function, step.message, root, *module_place(lines, step.position, image)), "nestingLevel": 0}
                 for step in one.steps]
-        text = problem_text(one) + (f". {one.likely.text[0].upper() + one.likely.text[1:]}" if one.likely else "")
+        text = problem_text(one) + (f". It is {one.likely}" if isinstance(one.likely, Guess) else f". {one.likely}" if one.likely else "")
         results.append({
             "ruleId": one.rule.name, "ruleIndex": rules.index(one.rule), "level": "error" if one.witnessed else "warning", "message": {"text": text},
             "locations": [location(one.line, one.function, "", root, *module_place(lines, one.position, image))],
