@@ -83,6 +83,18 @@ warn() {
     done
 }
 
+# Warns of a module whose source declares secrets, by the macros of examples/blade.h, which nobody has turned into labels: they would be public.
+warn_unlabelled() {
+    local file
+    case ${1-} in harden | lower | part) ;; *) return 0 ;; esac
+    command -v grep > /dev/null || return 0
+    for file in "${@:2}"; do
+        if [ -f "$file" ] && grep -qaF $'\rblade.secrets' "$file" && ! grep -qaF $'\fblade.labels' "$file"; then
+            echo "blade: warning: $file: what its source declares secret isn't in its labels, and counts as public: examples/blade-label puts it there" >&2
+        fi
+    done
+}
+
 # Whether a program isn't there, or is older than a file or folder that it may be made from.
 is_old() {
     [ ! -x "$1" ] || [ "$here/crates.txt" -nt "$1" ] || [ -n "$(find "$here/crates" -mindepth 2 -name out -prune -o -path '*/crates/tests_*' -prune -o \

@@ -42,8 +42,11 @@ class Builder:
         for name in asked.labelled_functions:
             # What an inlined copy is given would not be declared secret.
             words += ["-mllvm", f"-force-attribute={name}:noinline"]
-        headers = [HERE, os.path.join(HERE, "include")] + [WASI_HEADERS] * os.path.isdir(WASI_HEADERS)
-        return words + [word for one in headers for word in ("-isystem", one)] + asked.flags
+        headers = ["-isystem", HERE, "-isystem", os.path.join(HERE, "include")]
+        if os.path.isdir(WASI_HEADERS):
+            # Its headers ask for the macro.
+            headers += ["-isystem", WASI_HEADERS, "-D__wasi__"]
+        return words + headers + asked.flags
 
     def alone(self) -> int:
         """What clang does by itself."""

@@ -147,8 +147,6 @@ def about_headers(errors: str) -> List[str]:
     missing = dict.fromkeys(re.findall(r"fatal error: '([^']+)' file not found", errors))
     told = [f"blade-cc: note: {name}: {HERE}/include has what blade-cc has of a C library; apt-get install wasi-libc has more, and -I names folders"
             for name in missing]
-    if "only supported on WASI" in errors:
-        told.append("blade-cc: note: this header is for programs that ask a system for files, clocks or output, which blade's haven't")
     if "No available targets" in errors or "unable to create target" in errors:
         told.append("blade-cc: note: this clang lacks WebAssembly: apt-get install clang")
     return told
