@@ -1,4 +1,4 @@
-// Calls of three routines of GNU nettle, each over buffers: what `measure` compiles beside nettle's own sources.
+// Calls of routines of GNU nettle and of mbed TLS, each over buffers: what `measure` compiles beside their own sources.
 // Licence: public domain (CC0).
 #include <stddef.h>
 #include <stdint.h>
@@ -29,5 +29,35 @@ void chacha(const uint8_t *key, const uint8_t *nonce, size_t size, const uint8_t
     chacha_set_key(&context, key);
     chacha_set_nonce(&context, nonce);
     chacha_crypt(&context, size, out, in);
+}
+#endif
+#ifdef MODEXP
+#include "mbedtls/bignum.h"
+// A heap that is never given back.
+static unsigned char heap[32768] __attribute__((aligned(16)));
+static size_t used;
+void *heap_calloc(size_t count, size_t size) {
+    unsigned char *given = heap + used;
+    used += (count * size + 15) & ~(size_t)15;
+    for (unsigned char *at = given; at < heap + used; at++)
+        *at = 0;
+    return given;
+}
+void heap_free(void *given) {
+    (void)given;
+}
+// The base to the power of the exponent modulo n, numbers of 32 bytes.
+int modexp(const uint8_t *base, const uint8_t *exponent, const uint8_t *n, uint8_t *out) {
+    mbedtls_mpi b, e, m, x;
+    mbedtls_mpi_init(&b);
+    mbedtls_mpi_init(&e);
+    mbedtls_mpi_init(&m);
+    mbedtls_mpi_init(&x);
+    mbedtls_mpi_read_binary(&b, base, 32);
+    mbedtls_mpi_read_binary(&e, exponent, 32);
+    mbedtls_mpi_read_binary(&m, n, 32);
+    int failed = mbedtls_mpi_exp_mod(&x, &b, &e, &m, NULL);
+    mbedtls_mpi_write_binary(&x, out, 32);
+    return failed;
 }
 #endif

@@ -53,6 +53,7 @@ BYTES = frozenset([0x2C, 0x2D, 0x30, 0x31])  # loads of a byte
 WALKED = 100_000  # the most commands that are looked at for one step of a way
 STEPS = 30  # the most steps of a way that are looked at
 BASES = 64  # the most variables that are looked at for an address
+ELEMENT = re.compile(r"(?:\w+(?:->|\.))*\w+\[[^]]*[A-Za-z_]")  # C's text where an element with a variable index is loaded
 LOADS = 3  # so many loads of a cause are looked at
 
 
@@ -94,6 +95,8 @@ class Guesser:
             return "a byte is loaded"
         if any(self.is_walked(load) for load in cause.loads[:LOADS]):
             return "a loop walks over where it is loaded from"
+        if ELEMENT.match(text_at(cause, self.lines)):
+            return "it is an element of an array"
         conditions, addresses, _ = cause.columns()
         if operators & CUTTING and 4 * conditions < addresses:
             return "bits are cut out of it for addresses"
@@ -233,16 +236,18 @@ def settle(causes: Sequence["Cause"], lines: Lines) -> None:
                 cause.likely = LEAK._replace(rests=f"{name} is read at {secret.place} too, and there {secret.likely.rests}")
 
 
+def text_at(cause: "Cause", lines: Lines, behind: bool = True) -> str:
+    """The text of C from the place that is loaded on, or up to it."""
+    line = next((line for line in map(lines.line, cause.loads) if line.column), None)
+    text = lines.source_as_is(line) if line else ""
+    return text[line.column - 1 :] if line and behind else text[: line.column - 1] if line else ""
+
+
 def name_of(cause: "Cause", lines: Lines) -> str:
     """The object of C that is loaded: the word at the place, with what stands before . or -> in front of it; empty of an element."""
-    load = next((load for load in cause.loads if lines.line(load).column), None)
-    if load is None:
-        return ""
-    line = lines.line(load)
-    text = lines.source_as_is(line)
-    before, word = text[: line.column - 1], re.match(r"\w+", text[line.column - 1 :])
-    whole = re.search(r"(?:\w+\s*(?:->|\.)\s*)+$", before)
-    behind = text[line.column - 1 + (word.end() if word else 0) :]
+    text = text_at(cause, lines)
+    word, whole = re.match(r"\w+", text), re.search(r"(?:\w+\s*(?:->|\.)\s*)+$", text_at(cause, lines, False))
+    behind = text[word.end() :] if word else ""
     accessed = re.match(r"\s*\(\s*&?\s*(\w+(?:(?:->|\.)\w+)+)\s*\)", behind)
     if accessed:
         # By a macro or a function that reads it: PUB(x->y), pub64(&x->y).

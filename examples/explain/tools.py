@@ -28,7 +28,7 @@ TOOLS = {
     "clang": Tool("clang", 13, "the labels of blade.h, or the lines of C"),
     "clang++": Tool("clang", 13, "the labels of blade.h, or the lines of C"),
     "wasm-ld": Tool("lld", 13, "the joined labels of blade.h"),
-    "wasm-opt": Tool("binaryen", 105, "locals split without a loss of the lines of C"),
+    "wasm-opt": Tool("binaryen", 108, "locals split without a loss of the lines of C"),
     "llvm-symbolizer": Tool("llvm", 13, "the lines of WebAssembly modules"),
 }
 
