@@ -1,1 +1,2 @@
+pub mod ReadTwice
 pub mod Shelves

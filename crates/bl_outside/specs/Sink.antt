@@ -18,3 +18,8 @@ PushFaults (Err e) old new = Rose old new × (old ≤ new)
 abbrev pub count_after_push : Result ℕ SinkFault → ℕ → ℕ
 count_after_push (Ok n) old = old
 count_after_push (Err e) old = one_more old
+
+-- what a writer holds, where it says so, and the count of faults
+pub record Writing : Type 0 where
+  pub held : Option (List ℕ)
+  pub faults : ℕ

@@ -1,15 +1,21 @@
 //! The files of the system as a shelf. It doesn't expose its contents.
-ghost use Rattle.std.specs.Prelude.{◌≡◌, ◌+◌, ◌≤◌, [], None, Option, IfOk, OnOk, OnErr, length};
-ghost use Rattle.bl_outside.specs.Faults.{one_more};
-ghost use Rattle.bl_outside.specs.Shelf.{Files as KnownFiles, FetchFaults, KeepFaults, ReadFails, Gives, GivesPart, faults_after_fetch, faults_after_keep, most_asked};
+ghost use Rattle.std.specs.Prelude.{◌≡◌, ◌+◌, ◌≤◌, [], None, Option, IfOk, OnOk, OnErr, length, ◌↔◌, Ok, Err, Some, IfSome};
+ghost use Rattle.std.specs.Option.{option_map};
+ghost use Rattle.bl_outside.specs.Opened.{fitting, is_fitting};
+ghost use Rattle.bl_outside.specs.declared.shelf.ShelfError.TheVariants.{Memory};
+ghost use Rattle.std.specs.IoError.{error_kind};
+ghost use Rattle.bl_outside.specs.Shelf.{Files as KnownFiles, FetchFaults, KeepFaults, Gives, GivesPart, faults_after_fetch, faults_after_keep, most_asked};
 
+use crate::reading::{read_on, skip};
 use crate::shelf::{Shelf, ShelfError};
 use crate::whole_file::write_file;
 use bl_base::Text;
 use std::alloc::Global;
 use std::fs::File;
-use std::io::{Error, ErrorKind, Read};
+use std::io;
+use std::io::{Error, ErrorKind};
 use std::marker::Model;
+use std::random::RandomSource;
 use std::rt::Files;
 
 /// Reads and writes the files of a runtime. Each call that answers Failed is counted, and its name
@@ -58,74 +64,82 @@ impl<'r, R: Files> FileShelf<'r, R> {
         }
     }
 
-    /// Counts a read fault at that name.
-    fn count_read_fault(&mut self, name: Text)
-        ensures fault { ReadFails self.old self.new name }
-        ensures shelf { self.new ≡ record { reads = one_more self.old.reads; writes = self.old.writes; last = name } }
+    /// What a system's error at that name means; counts a read fault but for want of memory.
+    fn read_fault(&mut self, name: Text, error: Error) -> ShelfError
+        ensures faults { FetchFaults {X = Unit {0}} (Err result) self.old self.new name }
+        ensures exact { self.new ≡ faults_after_fetch {X = Unit {0}} (Err result) self.old name }
     {
-        self.reads = self.reads.saturating_add(1);
-        self.last = name;
+        let cause = cause_of(error);
+        if cause == ShelfError::Failed {
+            self.reads = self.reads.saturating_add(1);
+            self.last = name;
+        }
+        cause
+    }
+
+    /// What a system's error at that name means; counts a write fault but for want of memory.
+    fn write_fault(&mut self, name: Text, error: Error) -> ShelfError
+        ensures faults { KeepFaults (Err result) self.old self.new name }
+        ensures exact { self.new ≡ faults_after_keep (Err result) self.old name }
+    {
+        let cause = cause_of(error);
+        if cause == ShelfError::Failed {
+            self.writes = self.writes.saturating_add(1);
+            self.last = name;
+        }
+        cause
     }
 }
 
 /// Memory for want of memory in the system, else Failed.
-fn cause_of(error: Error) -> ShelfError {
+fn cause_of(error: Error) -> ShelfError
+    ensures { (result ≡ Memory) ↔ (error_kind error ≡ ErrorKind.OutOfMemory) }
+{
     match error.kind() {
         ErrorKind::OutOfMemory => ShelfError::Memory,
         _ => ShelfError::Failed,
     }
 }
 
-/// The next bytes of a file, at most so many. Each turn takes at least one byte or ends.
-fn read_on<F: Read>(alloc: Global, file: &mut F, most: u64) -> Result<Vec<u8>, ShelfError>
-    ensures { IfOk result (λ bytes. length bytes.items ≤ most) }
-{
-    let mut bytes = Vec::new(alloc);
-    let mut piece = [0u8; 8192];
-    while (bytes.len() as u64) < most {
-        let wanted = (most - bytes.len() as u64).min(8192) as usize;
-        match file.read(&mut piece[..wanted]) {
-            Ok(0) => return Ok(bytes),
-            Ok(n) => {
-                if bytes.extend_from_slice(&piece[..n]).is_err() {
-                    return Err(ShelfError::Memory);
-                }
-            }
-            Err(e) => return Err(cause_of(e)),
-        }
-    }
-    Ok(bytes)
-}
-
-/// Reads past the next bytes of a file; says whether it has so many. Each turn takes at least one byte or ends.
-fn skip<F: Read>(file: &mut F, count: u64) -> Result<bool, ShelfError> {
-    let mut left = count;
-    let mut piece = [0u8; 8192];
-    while left > 0 {
-        let wanted = left.min(8192) as usize;
-        match file.read(&mut piece[..wanted]) {
-            Ok(0) => return Ok(false),
-            Ok(n) => left -= n as u64,
-            Err(e) => return Err(cause_of(e)),
-        }
-    }
-    Ok(true)
-}
-
-/// The file of that name, to be read from its beginning.
-fn open<R: Files>(rt: &R, name: &str) -> Result<R::File, ShelfError> {
-    match File::open(rt, name) {
-        Ok(file) => Ok(file),
-        Err(e) => Err(cause_of(e)),
-    }
-}
-
 /// The first bytes of a file, at most so many.
-fn read_file<R: Files>(alloc: Global, rt: &R, name: &str, most: u64) -> Result<Vec<u8>, ShelfError>
+fn read_file<R: Files>(alloc: Global, rt: &R, name: &str, most: u64) -> io::Result<Vec<u8>>
     ensures { IfOk result (λ bytes. length bytes.items ≤ most) }
 {
-    let mut file = open(rt, name)?;
+    let mut file = File::open(rt, name)?;
     read_on(alloc, &mut file, most)
+}
+
+/// Whether an open file can be read on at that place of that name.
+fn fits<F>(opened: &Opened<F>, name: &str, from: u64) -> bool
+    ensures { result ≡ is_fitting opened.now name.now from }
+{
+    opened.place == from && opened.name.as_slice() == name.as_bytes()
+}
+
+/// The file that is open, where it can be read on at that place of that name.
+fn fitting<F: Drop>(opened: Option<Opened<F>>, name: &str, from: u64) -> Option<F>
+    ensures { result ≡ fitting opened name.now from }
+{
+    match opened {
+        Some(opened) => {
+            if fits(&opened, name, from) {
+                Some(opened.file)
+            } else {
+                None
+            }
+        }
+        None => None,
+    }
+}
+
+/// The file of that name, opened anew, behind the bytes before a place. None where it ends before.
+fn open_behind<R: Files>(rt: &R, name: &str, from: u64) -> io::Result<Option<R::File>> {
+    let mut file = File::open(rt, name)?;
+    if skip(&mut file, from)? {
+        Ok(Some(file))
+    } else {
+        Ok(None)
+    }
 }
 
 /// The file of that name at a place: the one that is open where name and place fit, else one that is opened anew. None where it ends
@@ -135,17 +149,12 @@ fn open_at<R: Files>(
     opened: Option<Opened<R::File>>,
     name: &str,
     from: u64,
-) -> Result<Option<R::File>, ShelfError> {
-    if let Some(opened) = opened {
-        if opened.place == from && opened.name.as_slice() == name.as_bytes() {
-            return Ok(Some(opened.file));
-        }
-    }
-    let mut file = open(rt, name)?;
-    match skip(&mut file, from) {
-        Ok(true) => Ok(Some(file)),
-        Ok(false) => Ok(None),
-        Err(error) => Err(error),
+) -> io::Result<Option<R::File>>
+    ensures { IfSome (fitting opened name.now from) (λ file. result ≡ Ok (Some file)) }
+{
+    match fitting(opened, name, from) {
+        Some(file) => Ok(Some(file)),
+        None => open_behind(rt, name, from),
     }
 }
 
@@ -164,7 +173,7 @@ fn read_part<R: Files>(
     name: &str,
     from: u64,
     most: u64,
-) -> Result<Piece<R::File>, ShelfError>
+) -> io::Result<Piece<R::File>>
     ensures { IfOk result (λ piece. length piece.bytes.items ≤ most) }
 {
     let Some(mut file) = open_at(rt, opened, name, from)? else {
@@ -181,14 +190,16 @@ fn read_part<R: Files>(
 }
 
 /// A file that stays open, where it can be read on.
-fn kept_open<F: Drop>(name: Text, file: Option<F>, place: u64) -> Option<Opened<F>> {
+fn kept_open<F: Drop>(name: Text, file: Option<F>, place: u64) -> Option<Opened<F>>
+    ensures { result ≡ option_map (λ f. record { name = name; file = f; place = place }) file }
+{
     match file {
         Some(file) => Some(Opened { name, file, place }),
         None => None,
     }
 }
 
-impl<'r, R: Files> Shelf for FileShelf<'r, R> {
+impl<'r, R: Files + RandomSource> Shelf for FileShelf<'r, R> {
     ghost files = { λ _. None };
 
     ghost faults = { λ s. s };
@@ -206,11 +217,7 @@ impl<'r, R: Files> Shelf for FileShelf<'r, R> {
         let noted = Text::copy_of(self.alloc, name.as_bytes())?;
         match read_file(self.alloc, self.rt, name, most + 1) {
             Ok(bytes) => Ok(bytes),
-            Err(ShelfError::Memory) => Err(ShelfError::Memory),
-            Err(ShelfError::Failed) => {
-                self.count_read_fault(noted);
-                Err(ShelfError::Failed)
-            }
+            Err(e) => Err(self.read_fault(noted, e)),
         }
     }
 
@@ -234,11 +241,7 @@ impl<'r, R: Files> Shelf for FileShelf<'r, R> {
                 self.opened = kept_open(noted, file, place);
                 Ok(bytes)
             }
-            Err(ShelfError::Memory) => Err(ShelfError::Memory),
-            Err(ShelfError::Failed) => {
-                self.count_read_fault(noted);
-                Err(ShelfError::Failed)
-            }
+            Err(e) => Err(self.read_fault(noted, e)),
         }
     }
 
@@ -254,14 +257,7 @@ impl<'r, R: Files> Shelf for FileShelf<'r, R> {
         let noted = Text::copy_of(self.alloc, name.as_bytes())?;
         match write_file(self.alloc, self.rt, name, bytes) {
             Ok(()) => Ok(()),
-            Err(e) => match cause_of(e) {
-                ShelfError::Memory => Err(ShelfError::Memory),
-                ShelfError::Failed => {
-                    self.writes = self.writes.saturating_add(1);
-                    self.last = noted;
-                    Err(ShelfError::Failed)
-                }
-            },
+            Err(e) => Err(self.write_fault(noted, e)),
         }
     }
 }

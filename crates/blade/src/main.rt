@@ -2,9 +2,9 @@
 #![tactic(auto)]
 
 use bl_app::blade;
-use bl_outside::{FileShelf, StdSink};
+use bl_outside::{FileShelf, WriterSink};
 use std::env;
-use std::io::ErrorKind;
+use std::io::{ErrorKind, writer};
 use std::process::ExitCode;
 
 /// Where the system doesn't give the words, the status is that of want of memory, or that of no request.
@@ -17,6 +17,6 @@ fn main(rt: HostRuntime) -> ExitCode {
         Err(_) => return ExitCode::from(2),
     };
     let mut files = FileShelf::new(rt.alloc(), &rt);
-    let mut out = StdSink::new(&rt);
+    let mut out = WriterSink::new(writer(&rt));
     ExitCode::from(blade(rt.alloc(), words.as_slice(), &mut files, &mut out))
 }

@@ -1,7 +1,8 @@
 //! The sink in memory, and standard output.
 use bl_base::NoMemory;
-use bl_outside::{MemorySink, Sink, SinkFault, StdSink};
+use bl_outside::{MemorySink, Sink, SinkFault, WriterSink};
 use std::alloc::Global;
+use std::io::writer;
 use std::test::Fail;
 
 /// Whether a sink with that limit takes none of a piece before it has room, and then what its limit leaves.
@@ -46,8 +47,8 @@ fn a_narrow_sink_takes_little_at_a_push(rt: HostRuntime) -> Result<(), Fail> {
 }
 
 #[test]
-fn a_standard_sink_takes_a_short_piece(rt: HostRuntime) -> Result<(), Fail> {
-    let mut sink = StdSink::new(&rt);
+fn standard_output_takes_a_short_piece(rt: HostRuntime) -> Result<(), Fail> {
+    let mut sink = WriterSink::new(writer(&rt));
     assert_eq!(rt; sink.push(b"\n"), Ok(1));
     assert_eq!(rt; sink.push(b""), Ok(0));
     Ok(())
