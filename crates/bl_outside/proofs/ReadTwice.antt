@@ -1,5 +1,5 @@
 -- Reads one after another, where the bytes that a file has left are known.
-use Rattle.std.proofs.Common.{◌≡◌, ◌≤◌, ℕ, ◌-◌, arith, take, List, [], ◌++◌, Some, None, Option, length, refl, ap, sym, ◌∙◌}
+use Rattle.std.proofs.Common.{◌≤◌, ℕ, ◌-◌, arith, take, List, [], ◌++◌, Some, None, Option, length, refl, ap, sym, ◌∙◌}
 use Rattle.std.proofs.lemmas.List.{append_assoc, length-append, length-take-le}
 use Rattle.std.specs.Io.KnownBytes.{Consumes}
 use Rattle.bl_outside.specs.Reading.{Passes}

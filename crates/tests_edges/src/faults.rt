@@ -6,7 +6,14 @@ use bl_outside::{FileShelf, Shelf};
 use std::alloc::Global;
 use std::cell::RefCell;
 use std::io::Result;
+use std::random::RandomSource;
+use std::rt::Files;
 use std::test::Fail;
+
+/// Whether bytes are kept under the name of a file.
+fn is_kept<R: Files + RandomSource>(alloc: Global, rt: &R, bytes: &[u8]) -> bool {
+    FileShelf::new(alloc, rt).keep("file", bytes).is_ok()
+}
 
 /// Whether bytes are kept over old ones, or a fault leaves the old ones, where so many bytes are written at once; the answer is whether
 /// they are kept.
@@ -14,8 +21,7 @@ fn keeps(alloc: Global, manners: Manners, old: &[u8], new: &[u8]) -> Result<Opti
     let mut disk = Disk::new(alloc, manners);
     disk.put("file", old)?;
     let disk = RefCell::new(disk);
-    let system = System { disk: &disk };
-    let kept = FileShelf::new(alloc, &system).keep("file", new).is_ok();
+    let kept = is_kept(alloc, &System { disk: &disk }, new);
     let stands = stands_alone(&disk, "file", if kept { new } else { old });
     Ok(if stands { Some(kept) } else { None })
 }

@@ -5,6 +5,8 @@ use bl_outside::{FileShelf, Shelf};
 use std::alloc::Global;
 use std::cell::RefCell;
 use std::io::Result;
+use std::random::RandomSource;
+use std::rt::Files;
 use std::test::Fail;
 
 const TEXT: &[u8] = b"twenty bytes in all.";
@@ -29,22 +31,34 @@ pub fn stands_alone(disk: &RefCell<Disk>, name: &str, bytes: &[u8]) -> bool {
     }
 }
 
+/// Whether a file is taken off the disk.
+fn is_removed(disk: &RefCell<Disk>, name: &str) -> bool {
+    match disk.try_borrow_mut() {
+        Ok(mut disk) => disk.remove(name).is_ok(),
+        Err(_) => false,
+    }
+}
+
 /// Whether a file is kept byte for byte under its own name, over another one and where none stood.
-fn is_kept(alloc: Global, at_once: usize) -> Result<bool> {
-    let disk = disk_of(alloc, at_once)?;
-    let system = System { disk: &disk };
-    let mut shelf = FileShelf::new(alloc, &system);
+fn is_kept<R: Files + RandomSource>(alloc: Global, rt: &R, disk: &RefCell<Disk>) -> bool {
+    let mut shelf = FileShelf::new(alloc, rt);
     let over = shelf.keep("text", b"other bytes").is_ok();
-    let stands = stands_alone(&disk, "text", b"other bytes");
-    let removed = disk.try_borrow_mut()?.remove("text").is_ok();
+    let stands = stands_alone(disk, "text", b"other bytes");
+    let removed = is_removed(disk, "text");
     let made = shelf.keep("new", TEXT).is_ok();
-    Ok(over && stands && removed && made && stands_alone(&disk, "new", TEXT))
+    over && stands && removed && made && stands_alone(disk, "new", TEXT)
+}
+
+/// Whether that holds where so many bytes are written at once.
+fn is_kept_at(alloc: Global, at_once: usize) -> Result<bool> {
+    let disk = disk_of(alloc, at_once)?;
+    Ok(is_kept(alloc, &System { disk: &disk }, &disk))
 }
 
 #[test]
 fn a_file_is_kept_byte_for_byte(rt: HostRuntime) -> std::result::Result<(), Fail> {
-    assert!(rt; is_kept(rt.alloc(), 1)?);
-    assert!(rt; is_kept(rt.alloc(), 3)?);
+    assert!(rt; is_kept_at(rt.alloc(), 1)?);
+    assert!(rt; is_kept_at(rt.alloc(), 3)?);
     Ok(())
 }
 
@@ -71,20 +85,24 @@ fn is_read<F: Shelf>(shelf: &mut F) -> bool {
         && reads(shelf, 20, b"")
 }
 
-/// Whether that holds where so many bytes are read at once, and a file that is removed is read on.
-fn is_read_on(alloc: Global, at_once: usize) -> Result<bool> {
-    let disk = disk_of(alloc, at_once)?;
-    let system = System { disk: &disk };
-    let mut shelf = FileShelf::new(alloc, &system);
+/// Whether that holds, and a file that is removed is read on.
+fn is_read_on<R: Files + RandomSource>(alloc: Global, rt: &R, disk: &RefCell<Disk>) -> bool {
+    let mut shelf = FileShelf::new(alloc, rt);
     let read = is_read(&mut shelf) && reads(&mut shelf, 0, b"twenty");
-    let removed = disk.try_borrow_mut()?.remove("text").is_ok();
+    let removed = is_removed(disk, "text");
     let on = reads(&mut shelf, 6, b" bytes") && reads(&mut shelf, 12, b" in al");
-    Ok(read && removed && on && !reads(&mut shelf, 0, b"twenty"))
+    read && removed && on && !reads(&mut shelf, 0, b"twenty")
+}
+
+/// Whether that holds where so many bytes are read at once.
+fn is_read_on_at(alloc: Global, at_once: usize) -> Result<bool> {
+    let disk = disk_of(alloc, at_once)?;
+    Ok(is_read_on(alloc, &System { disk: &disk }, &disk))
 }
 
 #[test]
 fn a_file_is_read_byte_for_byte(rt: HostRuntime) -> std::result::Result<(), Fail> {
-    assert!(rt; is_read_on(rt.alloc(), 1)?);
-    assert!(rt; is_read_on(rt.alloc(), 3)?);
+    assert!(rt; is_read_on_at(rt.alloc(), 1)?);
+    assert!(rt; is_read_on_at(rt.alloc(), 3)?);
     Ok(())
 }
