@@ -6,16 +6,14 @@ use Rattle.bl_gen.proofs.Lengths.{made_short}
 use Rattle.bl_gen.proofs.ByteRanges.{of_bytes}
 use Rattle.bl_text.proofs.ModuleNames.{no_solidus}
 use Rattle.bl_words.specs.Requests.{GenRequest, IsGenInRange}
-use Rattle.bl_build.specs.BuildStages.{AreCompilable}
+use Rattle.bl_build.specs.BuildStages.{AreCompilable, Built, compiling}
 use Rattle.bl_build.specs.LoadStages.{IsLoadable}
-use Rattle.bl_build.proofs.BuildLemmas.{compiling_lawful, compiling_total}
-use Rattle.bl_build.proofs.FewestLemmas.{are_fewest}
+use Rattle.bl_build.proofs.BuildLemmas.{are_compiled, compiling_lawful, compiling_total}
 use Rattle.bl_build.proofs.HardenExists.{some_hardened}
-use Rattle.bl_build.proofs.ProgramVerdicts.{is_judged}
 use Rattle.bl_build.proofs.ModuleFiles.{HasBytes, IsShort}
-use Rattle.bl_app.specs.GenJob.{gen_staged, made_part}
+use Rattle.bl_app.specs.GenJob.{GenMeans, gen_staged, made_by, made_part}
 use Rattle.bl_job.specs.Status.{kind_of}
-use Rattle.bl_app.proofs.HardenLemmas.{own_of, wells_of}
+use Rattle.bl_app.proofs.HardenLemmas.{hardened_means, own_of, wells_of}
 use Rattle.bl_job.proofs.StagedJobLemmas.{IsStagedCommand}
 
 pub made_compilable : (request : GenRequest) → IsGenInRange request → AreCompilable (made_part request ∷ [])
@@ -29,6 +27,16 @@ made_compilable request sized = record {
   names = All-cons IsShort (made_part request) [] (omega arith) (All-nil IsShort);
 }
 
+-- it is compiled as by `lower`, and hardened as by `harden`
+gen_means : (request : GenRequest) (built : Built) → compiling.Passes (made_part request ∷ []) built → GenMeans request built
+gen_means request built passes =
+    let is = are_compiled (codes "gen" ∷ []) (made_by request ∷ []) built passes in
+    let own = own_of (made_part request ∷ []) built passes in
+    record {
+      compiled = is;
+      each = hardened_means is.tree built (wells_of (made_part request ∷ []) built passes) own is.builds.short is.same_outcomes;
+    }
+
 pub gen_staged_is : (request : GenRequest) → IsStagedCommand (IsGenInRange request) (gen_staged request)
 gen_staged_is request = record {
   small = tt;
@@ -37,10 +45,7 @@ gen_staged_is request = record {
   one_status = λ built p q d e. ap (λ plan. plan.status) d.is_plan ∙ sym (ap (λ plan. plan.status) e.is_plan);
   status_of_deed = λ built plan d. ap (λ p. kind_of p.status) d.is_plan;
   keeps_named = λ built plan d. inr (ap (λ p. p.keeps) d.is_plan);
-  means = λ built compiled plan d hardened is.
-      let wells = wells_of (made_part request ∷ []) built compiled in
-      let own = own_of (made_part request ∷ []) built compiled in
-      record { fewest = are_fewest built.program own.is_program wells hardened is; constant_time = is_judged built.program own.is_program wells hardened is };
+  means = λ built passes plan d. gen_means request built passes;
   planned = λ built compiled none.
       some_hardened built.program built.image (wells_of (made_part request ∷ []) built compiled) (own_of (made_part request ∷ []) built compiled)
       (λ hardened is. none _ (record { hardened = hardened; is_hardened = is; is_plan = refl }));

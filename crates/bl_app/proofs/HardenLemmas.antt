@@ -6,14 +6,16 @@ use Rattle.bl_base.specs.Fits.{AreBytes}
 use Rattle.std.specs.List.{AllByRecursion}
 use Rattle.bl_base.specs.Quantity.{limit_of}
 use Rattle.bl_base.specs.declared.quantity.Quantity.TheVariants as quantity
+use Rattle.bl_wasm.specs.declared.linked.Tree.{Tree}
 use Rattle.bl_cmd.specs.Rules.{IsWellFormed}
 use Rattle.bl_image.specs.Image.{Image}
 use Rattle.bl_lower.proofs.WellFormed.{rules}
 use Rattle.bl_build.specs.BuildStages.{AreCompilable, AreCompiled, Built, compiling}
+use Rattle.bl_build.specs.HardenStage.{Hardened, IsHardened}
 use Rattle.bl_build.specs.WeightStages.{compiling_by, counted_sources}
 use Rattle.bl_build.specs.LoadStages.{AreShort, Part, parts_of}
 use Rattle.bl_app.specs.CompileJobs.{AreTexts, compiling_staged, module_read}
-use Rattle.bl_app.specs.HardenJob.{HardenMeans, HardenPlans, Hardens, counts_among, counts_in, counts_read, harden_staged, sources_in}
+use Rattle.bl_app.specs.HardenJob.{HardenMeans, HardenPlans, HardenedMeans, Hardens, counts_among, counts_in, counts_read, harden_staged, sources_in}
 use Rattle.bl_job.specs.Jobs.{AreRead, IsSmall, Plan, Read}
 use Rattle.bl_app.specs.LowerJob.{LowerPlans, lower_staged}
 use Rattle.bl_build.specs.ProgramMeaning.{SameOutcomes}
@@ -150,21 +152,24 @@ compiled_is words keeps Plans Means done named means planned = record {
   planned = planned;
 }
 
+-- what is said of a program with its protects
+pub hardened_means : (tree : Tree) (built : Built) → IsWellFormed built.program → Image built.program built.image → length built.image ≤ limit_of quantity.Image
+    → SameOutcomes tree built.program → (hardened : Hardened) → IsHardened built.program hardened → HardenedMeans tree hardened
+hardened_means tree built wells own short same hardened h =
+    let long = as_long h.set built.program hardened.image built.image (subst (λ p. Image p hardened.image) h.is_program h.image) own in
+    record {
+      same_outcomes = subst (SameOutcomes tree) (sym h.is_program) (ends_alike tree built.program h.set same);
+      fewest = are_fewest built.program own.is_program wells hardened h;
+      constant_time = is_judged built.program own.is_program wells hardened h;
+      short = omega (arith, long, short);
+    }
+
 pub harden_means : (request : HardenRequest) (contents : List (List ℕ)) (built : Built) → compiling_by.Passes (sources_in request contents) built → (plan : Plan) → HardenMeans request contents built plan
 harden_means request contents built passes plan =
     let is = are_built request.modules contents (counts_in request contents) built passes in
-    let wells = are_well_formed request.modules contents (counts_in request contents) built is in
     record {
       compiled = is;
-      each = λ hardened h.
-          let long = as_long h.set built.program hardened.image built.image (subst (λ p. Image p hardened.image) h.is_program h.image) is.image in
-          let short = is.short in
-          record {
-            same_outcomes = subst (SameOutcomes is.tree) (sym h.is_program) (ends_alike is.tree built.program h.set is.same_outcomes);
-            fewest = are_fewest built.program is.image.is_program wells hardened h;
-            constant_time = is_judged built.program is.image.is_program wells hardened h;
-            short = omega (arith, long, short);
-          };
+      each = hardened_means is.tree built (are_well_formed request.modules contents (counts_in request contents) built is) is.image is.short is.same_outcomes;
     }
 
 pub harden_staged_is : (request : HardenRequest) → IsStagedCommand (AreModules request.modules) (harden_staged request)

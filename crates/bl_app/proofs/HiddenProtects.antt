@@ -1,7 +1,6 @@
 -- Protects don't show in a run of an image.
 use Rattle.std.proofs.Common.{◌≡◌, ℕ, List, [], ◌∷◌, map, Option, Some, None, slice_get, refl, sym, ap, ◌∙◌, subst, length, ◌↔◌}
 use Rattle.std.specs.List.{fold}
-use Rattle.std.proofs.lemmas.List.{length-map}
 use Rattle.bl_base.specs.Bytes.{patched}
 use Rattle.bl_base.specs.Runs.{IsWithin, Outcome}
 use Rattle.bl_base.specs.declared.start.Start.{Start}
@@ -17,8 +16,8 @@ use Rattle.bl_cut.proofs.MarkedRuns.{run_back, run_same}
 use Rattle.bl_outcome.specs.Outcomes.{outcome_text}
 use Rattle.bl_build.specs.EntryStages.{Entered, IsImaged, function_named, kinds_of, pages_of}
 use Rattle.bl_counts.specs.CountFiles.{counts_text}
-use Rattle.bl_counts.specs.RunCounts.{bare as unmarked, bare_command, counts_of}
-use Rattle.bl_counts.proofs.BarePrograms.{bare_protected, counted_alike}
+use Rattle.bl_counts.specs.RunCounts.{bare as unmarked, counts_of}
+use Rattle.bl_counts.proofs.BarePrograms.{bare_protected, counted_alike, same_length}
 use Rattle.bl_app.specs.RunJob.{RunDoes, counts_kept, counts_told, plain_text}
 use Rattle.bl_build.specs.HardenStage.{Hardened, IsHardened}
 use Rattle.bl_job.specs.Jobs.{Plan}
@@ -35,7 +34,7 @@ within_on F G each steps None h = λ n outcome ends few. h n outcome ((each n ou
 counted_too : (p q : Program) → unmarked q ≡ unmarked p → (function : ℕ) (start : Start) (steps : ℕ)
     → counts_text (length p.commands) (counts_of p function start steps) ≡ counts_text (length q.commands) (counts_of q function start steps)
 counted_too p q alike function start steps =
-    let many = sym (length-map q.commands bare_command) ∙ (ap (λ r. length r.commands) alike ∙ length-map p.commands bare_command) in
+    let many = same_length q p alike in
     let counted = counted_alike p q function start steps alike in
     λ i. counts_text (sym many i) (sym counted i)
 

@@ -5,8 +5,9 @@ use Rattle.bl_gen.specs.GeneratedModule.{made}
 use Rattle.bl_outcome.specs.Lines.{line}
 use Rattle.bl_report.specs.Reports.{summary_text}
 use Rattle.bl_words.specs.Requests.{GenRequest}
-use Rattle.bl_build.specs.BuildStages.{Built, compiling}
-use Rattle.bl_build.specs.HardenStage.{AreFewest, Hardened, IsHardened, IsJudged}
+use Rattle.bl_build.specs.BuildStages.{AreCompiled, Built, compiling}
+use Rattle.bl_build.specs.HardenStage.{Hardened, IsHardened}
+use Rattle.bl_app.specs.HardenJob.{HardenedMeans}
 use Rattle.bl_job.specs.Jobs.{Job, Plan, saying}
 use Rattle.bl_build.specs.LoadStages.{Part}
 use Rattle.bl_job.specs.StagedJobs.{Staged, all_read, staged_job}
@@ -33,10 +34,11 @@ pub record GenPlans (request : GenRequest) (built : Built) (plan : Plan) : Type 
   pub is_hardened : IsHardened built.program hardened
   pub is_plan : plan ≡ saying Done (gen_text request hardened)
 
--- its protects are the fewest, and its verdict is judged
-pub record GenMeans (hardened : Hardened) : Type 0 where
-  pub fewest : AreFewest hardened
-  pub constant_time : IsJudged hardened
+-- the module is loaded and linked to a tree, which is lowered; hardened, the program ends exactly as the tree does, its protects are the fewest, its
+-- verdict is judged, and its image is short enough
+pub record GenMeans (request : GenRequest) (built : Built) : Type 0 where
+  pub compiled : AreCompiled (codes "gen" ∷ []) (made_by request ∷ []) built
+  pub each : (hardened : Hardened) → IsHardened built.program hardened → HardenedMeans compiled.tree hardened
 
 -- no file is read; the module that is made is compiled and hardened, and its summary is printed, which is what `harden` prints of its bytes but for
 -- the lines on protects
@@ -46,7 +48,7 @@ gen_staged request = record {
   keeps = [];
   reading = all_read compiling (made_part request ∷ []);
   Plans = GenPlans request;
-  Means = λ contents built plan. (hardened : Hardened) → IsHardened built.program hardened → GenMeans hardened;
+  Means = λ contents built plan. GenMeans request built;
 }
 
 abbrev pub gen_job : GenRequest → Job

@@ -1,5 +1,6 @@
 pub mod Commands
 pub mod CompileJobs
+pub mod CountedHardening
 pub mod RunJob
 pub mod ForwardJob
 pub mod GenJob

@@ -69,7 +69,8 @@ is_verdict_alike (NotStable position) = false
 
 -- ---- the command
 
--- keeping the trace file of what was chosen under its name, and printing what was met, whether other secrets give the same, and the outcome
+-- keeping the trace file of what was chosen under its name, and printing what was met, whether the program is safe, so that other secrets give the same,
+-- and the outcome
 abbrev pub predict_plan : ℕ → List ℕ → Entered → Bool → Plan
 predict_plan turns word entered alike = record {
   status = outcome_status (drive_outcome turns entered);

@@ -1,22 +1,22 @@
 //! Laws of the definitions. Each function is its contract alone.
-ghost use Rattle.std.specs.Prelude.{◌≡◌, ◌≤◌, ◌↔◌, ◌⊎◌, ℕ, ◌*◌, Bool, List as Listed, [], ◌∷◌, Option, None, Some, slice_get};
+ghost use Rattle.std.specs.Prelude.{◌≡◌, ◌≤◌, ◌↔◌, ◌⊎◌, ℕ, ◌*◌, List as Listed, [], ◌∷◌, Option, None, Some, slice_get};
 ghost use Rattle.bl_base.specs.Quantity.{limit_of};
 ghost use Rattle.bl_base.specs.declared.quantity.Quantity.TheVariants as quantity;
-ghost use Rattle.bl_base.specs.declared.start.Start.{Start};
 ghost use Rattle.bl_outside.specs.Shelf.{Files};
 ghost use Rattle.bl_wasm.specs.Linked.{IsLinked};
 ghost use Rattle.bl_wasm.specs.declared.linked.Tree.{Tree};
 ghost use Rattle.bl_lower.specs.Trees.{low_tree, step_bound};
 ghost use Rattle.bl_cmd.specs.declared.definitions.ProgramParts.{ProgramParts as Program};
-ghost use Rattle.bl_graph.specs.Ranges.{AreSites};
-ghost use Rattle.bl_transient.specs.Transient.{Passes};
 ghost use Rattle.bl_image.specs.Image.{Image};
-ghost use Rattle.bl_counts.specs.RunCounts.{IsFewer, bare, counts_of, executed};
+ghost use Rattle.bl_counts.specs.RecordedRuns.{AreAdded, Recorded, all_executed};
+ghost use Rattle.bl_counts.specs.RunCounts.{bare};
 ghost use Rattle.bl_report.specs.Verdicts.{safe_line};
 ghost use Rattle.bl_build.specs.BuildStages.{AreCompiled, Built, command_count};
+ghost use Rattle.bl_build.specs.LoadStages.{AreShort};
 ghost use Rattle.bl_build.specs.WeightStages.{AreBuilt, IsWeighed, IsWeighedBy};
 ghost use Rattle.bl_job.specs.Causes.{Causes, NoneRose};
 ghost use Rattle.bl_app.specs.Commands.{HasOnePlan, job_of, row_of, work_of};
+ghost use Rattle.bl_app.specs.CountedHardening.{AreExecutedLeast, AreTaken, IsImageOf};
 ghost use Rattle.bl_app.specs.RunJob.{RunDoes};
 ghost use Rattle.bl_app.specs.HardenJob.{HardenDoes, harden_job};
 ghost use Rattle.bl_build.specs.HardenStage.{Hardened, IsHardened, IsYes};
@@ -24,7 +24,7 @@ ghost use Rattle.bl_app.specs.InterpJob.{InterpDoes};
 ghost use Rattle.bl_job.specs.Jobs.{AreRead, FirstRefusal, IsLawful, IsTotal, Plan};
 ghost use Rattle.bl_job.specs.Refusals.{Refusal};
 ghost use Rattle.bl_app.specs.PredictJob.{IsFollowed, predict_job};
-ghost use Rattle.bl_words.specs.Requests.{AreTurnsInRange, GenRequest, HardenRequest, InterpRequest, IsGenInRange, PredictRequest, Request, RunRequest, gen};
+ghost use Rattle.bl_words.specs.Requests.{AreInRange, AreTurnsInRange, GenRequest, HardenRequest, InterpRequest, IsGenInRange, PredictRequest, Request, RunRequest, gen};
 ghost use Rattle.bl_app.specs.VerifyJob.{IsVerified, VerifyDoes};
 ghost use Rattle.bl_job.specs.Worlds.{World};
 ghost use Rattle.bl_job.specs.declared.status.Status.{Status};
@@ -124,17 +124,24 @@ pub fn protects_do_not_show()
         → RunDoes request (built.image ∷ start ∷ []) plan ↔ RunDoes request (hardened.image ∷ start ∷ []) plan }
 {}
 
-/// Where the count file that modules are hardened by has the counts of a run of a program that is theirs but for marks and weights, the protects pass the
-/// transient rules, and no other passing set of sites was executed less in that run, or as little and has fewer sites.
+/// Where the count file that modules are hardened by has the counts of runs, added position by position, of a program that is theirs but for marks and
+/// weights, the protects pass the transient rules, and no other passing set of sites was executed less in these runs together, or as little and has
+/// fewer sites.
 pub fn protects_by_counts_are_executed_least()
-    ensures passes { (tree : Tree) (bytes : Listed ℕ) (program other : Program) (hardened : Hardened) (function : ℕ) (start : Start) (steps : ℕ)
-        → bare other ≡ bare (low_tree tree) → (weighed : IsWeighed bytes (low_tree tree) program) → weighed.counts ≡ counts_of other function start steps
-        → (h : IsHardened program hardened) → Passes (low_tree tree) h.set }
-    ensures fewest { (tree : Tree) (bytes : Listed ℕ) (program other : Program) (hardened : Hardened) (function : ℕ) (start : Start) (steps : ℕ)
-        → IsLinked tree → command_count tree ≤ limit_of quantity.Commands
-        → bare other ≡ bare (low_tree tree) → (weighed : IsWeighed bytes (low_tree tree) program) → weighed.counts ≡ counts_of other function start steps
-        → (h : IsHardened program hardened) → (rival : ℕ → Bool) → AreSites (low_tree tree) rival → Passes (low_tree tree) rival
-        → IsFewer (low_tree tree) (executed other function start steps) h.set rival }
+    ensures { (tree : Tree) (bytes : Listed ℕ) (program other : Program) (runs : Listed Recorded) (hardened : Hardened)
+        → IsLinked tree → command_count tree ≤ limit_of quantity.Commands → bare other ≡ bare (low_tree tree)
+        → (weighed : IsWeighed bytes (low_tree tree) program) → AreAdded other runs weighed.counts → IsHardened program hardened
+        → AreExecutedLeast tree (all_executed other runs) hardened.program }
+{}
+
+/// The file that `run --counts` keeps of an image of modules' program, protected or not, weighed by another count file or not, is taken by
+/// `harden --counts` of the same modules: neither its length nor its counts are refused (the image of the program that they weigh may be too long), and the
+/// protects are those that were executed least in that run.
+pub fn kept_counts_are_taken()
+    ensures { (run : RunRequest) (word image start : Listed ℕ) (told : Plan) (request : HardenRequest) (file : Listed ℕ) (modules : Listed (Listed ℕ))
+        (counts : Option (Listed ℕ)) (built : Built) → AreInRange run.steps → run.counts ≡ Some word → request.counts ≡ Some file
+        → AreShort request.modules modules → (is : AreBuilt request.modules modules counts built) → IsImageOf built image
+        → RunDoes run (image ∷ start ∷ []) told → AreTaken run word image start told request modules is.tree }
 {}
 
 /// No status but that of want of memory can be the answer to all calls: where no count of faults rises, words that are no

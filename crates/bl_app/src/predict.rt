@@ -37,8 +37,8 @@ pub fn predict_reads<'a>(alloc: Global, words: &PredictWords<'a>) -> Result<Vec<
 }
 
 /// Keeping the trace file of the directives that are chosen on an exported function of an image's program, from a start file's bytes, and
-/// printing what was met, whether other secrets give the same, and the outcome; Refused exactly where these are refused. Linear in the bytes,
-/// those of the memories and in the turns, but for what the check of a program takes.
+/// printing what was met, whether the program is safe, so that other secrets give the same, and the outcome; Refused exactly where these are
+/// refused. Linear in the bytes, those of the memories and in the turns, but for what the check of a program takes.
 pub fn predict<'a>(
     alloc: Global,
     words: &PredictWords<'a>,
@@ -131,7 +131,7 @@ fn is_verdict_alike(verdict: &Verdict) -> bool
     matches!(verdict, Verdict::Safe)
 }
 
-/// The line on whether other secrets give the same.
+/// The line on whether a program is safe: with a yes other secrets give the same trace and counts; with a no nothing is said of them.
 fn alike_line(alike: bool) -> &'static [u8]
     ensures { result.now ≡ alike_text alike }
 {

@@ -6,7 +6,6 @@ use Rattle.std.proofs.lemmas.Bool.{cases_lt}
 use Rattle.bl_base.specs.Quantity.{limit_of}
 use Rattle.bl_base.specs.declared.quantity.Quantity.TheVariants as quantity
 use Rattle.bl_base.proofs.RunLemmas.{run_unique}
-use Rattle.bl_wasm.specs.Linked.{IsLinked}
 use Rattle.bl_wasm.specs.declared.linked.Tree.{Tree}
 use Rattle.bl_reduce.specs.Outcomes.{opening as source_opening}
 use Rattle.bl_reduce.specs.Steps.{source_step}
@@ -60,7 +59,7 @@ pub sizing_lawful : IsLawfulStage sizing
 sizing_lawful = record { one_result = one_sized; one_refusal = one_long; not_both = sized_not_both }
 
 -- each linked tree is lowered, or refused
-pub lowering_total : IsTotalStage IsOfParts lowering
+pub lowering_total : {Given : Tree → Type 0} → IsTotalStage Given lowering
 lowering_total = record {
   always = λ tree given made refused.
       elim (cases_lt (limit_of quantity.Commands) (command_count tree)) as (λ _. ⊥) [

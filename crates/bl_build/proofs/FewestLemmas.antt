@@ -1,10 +1,12 @@
 -- The protects of a hardened program pass, no set of less weight does, and each one has a reason; it ends as the program without them.
-use Rattle.std.proofs.Common.{◌≡◌, sym, subst, ℕ, Bool}
+use Rattle.std.proofs.Common.{◌≡◌, ◌∙◌, ap, sym, subst, ℕ, Bool}
 use Rattle.bl_cmd.specs.Programs.{IsProgram}
 use Rattle.bl_cmd.specs.Rules.{IsWellFormed}
 use Rattle.bl_cmd.specs.Sites.{is_protected}
 use Rattle.bl_cmd.specs.declared.definitions.ProgramParts.{ProgramParts as Program}
+use Rattle.bl_graph.specs.Certificates.{Certifies}
 use Rattle.bl_graph.specs.Ranges.{AreInRange}
+use Rattle.bl_graph.specs.declared.certificate.Certificate.{Certificate}
 use Rattle.bl_graph.proofs.ChainLemmas.{none_lighter}
 use Rattle.bl_graph.proofs.RangeLemmas.{in_range}
 use Rattle.bl_transient.proofs.ChainsMet.{chain_met}
@@ -19,31 +21,40 @@ use Rattle.bl_wasm.specs.declared.linked.Tree.{Tree}
 use Rattle.bl_cut.proofs.MarkedRuns.{run_back, run_same}
 use Rattle.bl_build.specs.ProgramMeaning.{SameOutcomes}
 
-module _ (bare : Program) (facts : IsProgram bare) (rules : IsWellFormed bare) (hardened : Hardened) (is : IsHardened bare hardened) where
+-- what a certificate alone tells
+told : (program : Program) (c : Certificate) → AreInRange program → Certifies program c → AreLightest program
+told program c ranges certified = record { lightest = λ other sites p. none_lighter program ranges (is_protected program) c certified other sites (chain_met program other p) }
+
+-- its protects are those of the least choice
+module _ (bare : Program) (hardened : Hardened) (is : IsHardened bare hardened) where
   abbrev after : Program
   after = protected is.set bare
 
   same : is_protected after ≡ is.set
   same = λ i s. marks_are is.set bare is.least.sites s i
 
+  pub protects_are : is_protected hardened.program ≡ is.set
+  protects_are = ap is_protected is.is_program ∙ same
+
+module _ (bare : Program) (facts : IsProgram bare) (rules : IsWellFormed bare) (hardened : Hardened) (is : IsHardened bare hardened) where
   pub well_formed : IsWellFormed hardened.program
   well_formed = subst IsWellFormed (sym is.is_program) (is_well_formed is.set bare rules)
 
   pub ranges_are : AreInRange hardened.program
-  ranges_are = subst AreInRange (sym is.is_program) (in_range after (is_program is.set bare facts) (is_well_formed is.set bare rules))
+  ranges_are = subst AreInRange (sym is.is_program) (in_range (after bare hardened is) (is_program is.set bare facts) (is_well_formed is.set bare rules))
 
   passes : Passes hardened.program (is_protected hardened.program)
-  passes = subst (λ p. Passes p (is_protected p)) (sym is.is_program) (subst (Passes after) (sym same) (passes_on is.set bare is.set is.least.passes))
-
-  lightest : AreLightest hardened.program
-  lightest = record {
-    lightest = λ other sites p.
-        none_lighter hardened.program ranges_are (is_protected hardened.program) hardened.certificate is.certified other sites
-        (chain_met hardened.program other p);
-  }
+  passes = subst (Passes hardened.program) (sym (protects_are bare hardened is)) (subst (λ p. Passes p is.set) (sym is.is_program) (passes_on is.set bare is.set is.least.passes))
 
   pub are_fewest : AreFewest hardened
-  are_fewest = record { passes = passes; lightest = lightest; reasons = has_reason hardened.program hardened.certificate ranges_are is.certified }
+  are_fewest = record {
+    passes = passes;
+    lightest = told hardened.program hardened.certificate ranges_are is.certified;
+    reasons = has_reason hardened.program hardened.certificate ranges_are is.certified;
+    well_formed = well_formed;
+    certified = is.certified;
+    certificates_tell = λ program c facts rules. told program c (in_range program facts rules);
+  }
 
 -- what ends as the program without protects ends as the tree
 pub ends_alike : (tree : Tree) (bare : Program) (set : ℕ → Bool) → SameOutcomes tree bare → SameOutcomes tree (protected set bare)

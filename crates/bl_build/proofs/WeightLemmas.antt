@@ -1,39 +1,41 @@
 -- Weighing keeps the laws of stages, a weighed program is well-formed and has an image, and ends as its linked tree does.
 use Rattle.bl_reduce.specs.Runnable.{runnable}
-use Rattle.std.proofs.Common.{◌≡◌, ℕ, ◌+◌, ◌*◌, ◌^◌, ◌<◌, ◌≤◌, ◌==◌, ◌⊎◌, inl, inr, Bool, true, false, nat_lt, List, length, Option, Some, None, refl, ap, sym, ◌∙◌, subst, arith}
+use Rattle.std.proofs.Common.{◌≡◌, ℕ, ◌^◌, ◌<◌, ◌≤◌, ◌==◌, Bool, true, false, nat_lt, List, length, Option, Some, None, refl, ap, sym, ◌∙◌, subst, arith}
 use Rattle.std.specs.Prelude.{Result, Ok, Err}
 use Rattle.std.specs.List.{All}
-use Rattle.std.proofs.lemmas.Bool.{cases_eq, cond-true, eq-eqb, lt-ltb, le-ltb, ltb-true, ne_eqb}
+use Rattle.std.proofs.lemmas.Bool.{eq-eqb, lt-ltb, le-ltb, ltb-true, ne_eqb}
 use Rattle.bl_base.specs.declared.number.Pos.{Pos}
+use Rattle.bl_base.specs.declared.start.Start.{Start}
 use Rattle.bl_wasm.specs.declared.linked.Tree.{Tree}
 use Rattle.bl_cmd.specs.Programs.{IsProgram}
 use Rattle.bl_cmd.specs.Rules.{IsWellFormed}
 use Rattle.bl_cmd.specs.declared.definitions.ProgramParts.{ProgramParts as Program}
-use Rattle.bl_cmd.specs.declared.definitions.SiteWeight.{SiteWeight}
 use Rattle.bl_image.specs.Image.{Image}
 use Rattle.bl_image.specs.Widths.{HasWidths}
 use Rattle.bl_image.proofs.ImageExistence.{some_image}
 use Rattle.bl_lower.specs.Trees.{low_tree}
 use Rattle.bl_lower.proofs.WellFormed.{facts, rules}
 use Rattle.bl_counts.specs.WeighAnswers.{Weighs}
-use Rattle.bl_counts.specs.CountFiles.{IsCountFile, count_file_of}
-use Rattle.bl_counts.specs.RunCounts.{count_in, first_bad, total, weighed}
+use Rattle.bl_counts.specs.CountFiles.{IsCountFile, count_file_of, counts_text}
+use Rattle.bl_counts.specs.RunCounts.{bare, count_in, counts_of, first_bad, total, weighed}
 use Rattle.bl_counts.specs.declared.counts.SiteCount.{SiteCount}
 use Rattle.bl_counts.specs.declared.error.CountError.{CountError}
 use Rattle.bl_counts.specs.declared.error.CountError.TheVariants as count
 use Rattle.bl_counts.specs.declared.error.CountFileError.{CountFileError}
 use Rattle.bl_counts.specs.declared.error.CountFileError.TheVariants as file
 use Rattle.bl_counts.specs.declared.file.CountFile.{CountFile}
-use Rattle.bl_counts.proofs.BarePrograms.{runs_unweighed, runs_weighed}
+use Rattle.bl_counts.proofs.BarePrograms.{runs_unweighed, runs_weighed, same_length}
+use Rattle.bl_counts.proofs.CountTexts.{reads_back}
+use Rattle.bl_counts.proofs.RecordedCounts.{recorded as recorded_counts}
 use Rattle.bl_counts.proofs.WeightedPrograms.{is_program, is_well_formed, small_weights}
 use Rattle.bl_job.specs.Refusals.{Refusal}
-use Rattle.bl_job.specs.Stages.{Anything, IsLawfulStage, IsTotalStage, Stage, at_first, at_second, chain}
-use Rattle.bl_job.specs.WorkAnswers.{IsStaged, IsTold, Tells, refusal_in}
+use Rattle.bl_job.specs.Stages.{IsLawfulStage, IsTotalStage, at_first, at_second, chain}
+use Rattle.bl_job.specs.WorkAnswers.{IsStaged, IsTold, Tells}
 use Rattle.bl_job.specs.declared.refusal.WorkError.{WorkError}
 use Rattle.bl_job.specs.declared.refusal.WorkError.TheVariants as error
 use Rattle.bl_job.proofs.StageLemmas.{chain_lawful, chain_total, told_as, told_memory}
-use Rattle.bl_build.specs.BuildStages.{AreCompilable, Built, building, command_count, lowering, sizing}
-use Rattle.bl_build.specs.LoadStages.{Part, loading, parts_of}
+use Rattle.bl_build.specs.BuildStages.{AreCompilable, Built, lowering, sizing}
+use Rattle.bl_build.specs.LoadStages.{loading, parts_of}
 use Rattle.bl_build.specs.ProgramMeaning.{SameOutcomes}
 use Rattle.bl_build.specs.WeightStages.{AreBuilt, HasBadCounts, IsCounted, IsOfProgram, IsWeighed, Sources, bad_counts, building_by, by_commands, by_position, by_total, compiling_by, refusal_of_count_file, counts_for, refusal_of_weighing, weighing}
 use Rattle.bl_build.specs.declared.counts.CountFault.{CountFault}
@@ -90,6 +92,18 @@ counts_few program (Ok whole) counts e = by (whole.commands == length program.co
     by true same = at_position (first_bad program None whole.counts) same
     by false same = cc
 
+-- the file of a run of a program weighs each one that is equal but for marks and weights
+pub run_weighs : (program other : Program) (function : ℕ) (start : Start) (steps : ℕ) → IsWellFormed program → bare other ≡ bare program → steps < 2 ^ 32
+    → IsWeighed (counts_text (length other.commands) (counts_of other function start steps)) program (weighed (counts_of other function start steps) program)
+run_weighs program other function start steps rules same small =
+    let counts = counts_of other function start steps in
+    let recorded = recorded_counts program other function start steps rules same small in
+    let as_many = same_length other program same in
+    let few = rules.rule2.commands in
+    let sum = recorded.few in
+    let read = reads_back (length other.commands) counts (omega arith) recorded.each ∙ (λ i. Ok (record { commands = as_many i; counts = counts })) in
+    record { counts = counts; are_told = counts_told program (counts_text (length other.commands) counts) counts read recorded.are_sites (omega arith); is_program = refl }
+
 -- ---- the stage
 
 module _ (bytes : List ℕ) where
@@ -112,7 +126,7 @@ module _ (bytes : List ℕ) where
     pub rules : IsWellFormed program
     pub widths : HasWidths program
 
-  pub weighing_total : IsTotalStage IsWeighable (weighing bytes)
+  pub weighing_total : {Given : Program → Type 0} → IsTotalStage Given (weighing bytes)
   weighing_total = record { always = λ program given made refused. by program made refused (counts_for program (count_file_of bytes)) refl }
     where
       by : (program : Program) → ((weighted : Program) → IsWeighed bytes program weighted → ⊥) → ((refusal : Refusal) → HasBadCounts bytes program refusal → ⊥)

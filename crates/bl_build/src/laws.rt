@@ -26,15 +26,19 @@ ghost use Rattle.bl_job.specs.Stages.{Anything, IsLawfulStage, IsTotalStage};
 ghost use Rattle.bl_build.specs.TraceStages.{tracing};
 ghost use Rattle.bl_build.specs.WeightStages.{compiling_by, weighing};
 
-/// Each stage makes one thing of a value, or refuses it for one reason, and never both. So do chains of stages and a stage on each of a list.
+/// Each of these stages makes one thing of a value, or refuses it for one reason, and never both: those of which the commands' chains consist, and
+/// the chains that load and compile modules.
 pub fn stages_are_lawful()
     ensures decoding { IsLawfulStage decoding }
     ensures validation { IsLawfulStage validation }
     ensures labelling { IsLawfulStage labelling }
     ensures linking { IsLawfulStage linking }
+    ensures loading { IsLawfulStage loading }
     ensures lowering { IsLawfulStage lowering }
     ensures weighing { (counts : Listed ℕ) → IsLawfulStage (weighing counts) }
     ensures sizing { IsLawfulStage sizing }
+    ensures compiling { IsLawfulStage compiling }
+    ensures compiling_by { IsLawfulStage compiling_by }
     ensures invoking { (export start : Listed ℕ) → IsLawfulStage (invoking export start) }
     ensures imaging { IsLawfulStage imaging }
     ensures finding { (export : Listed ℕ) → IsLawfulStage (finding export) }
@@ -49,11 +53,17 @@ pub fn stages_are_lawful()
 {}
 
 /// Each of these stages makes something of a value, or refuses it: it can't be that neither is so. Of modules this is said where
-/// they can be loaded, of compiling them where their names are texts too, of linked trees and programs where they can be run, of sides of an
-/// interface where their programs are those of images and have all its functions, and of the bytes of other files without a condition. So do
-/// chains of stages.
+/// they can be loaded, of compiling them where their names are texts too, of invoking where the tree is linked, of programs where they are
+/// well-formed, of an image's length where there is an image, and of sides of an interface where their programs are those of images and have all
+/// its functions. Of linking it is said within loading alone.
 pub fn stages_are_total()
+    ensures decoding { IsTotalStage Anything decoding }
+    ensures validation { IsTotalStage Anything validation }
+    ensures labelling { IsTotalStage Anything labelling }
     ensures loading { IsTotalStage AreLoadable loading }
+    ensures lowering { IsTotalStage Anything lowering }
+    ensures weighing { (counts : Listed ℕ) → IsTotalStage Anything (weighing counts) }
+    ensures sizing { IsTotalStage (λ program. (image : Listed ℕ) × Image program image) sizing }
     ensures compiling { IsTotalStage AreCompilable compiling }
     ensures compiling_by { IsTotalStage (λ sources. AreCompilable sources.parts) compiling_by }
     ensures invoking { (export start : Listed ℕ) → IsTotalStage IsLinked (invoking export start) }

@@ -1,7 +1,8 @@
 -- A program without marks and weights runs as it does with them, and has the same sites.
-use Rattle.std.proofs.Common.{◌≡◌, ℕ, zero, suc, Bool, List, [], ◌∷◌, map, Option, Some, None, refl, sym, ap, subst, ◌∙◌}
+use Rattle.std.proofs.Common.{◌≡◌, ℕ, zero, suc, Bool, List, [], ◌∷◌, length, map, Option, Some, None, refl, sym, ap, subst, ◌∙◌}
 use Rattle.std.specs.Prelude.{is_some, option_map, option_and_then}
 use Rattle.std.proofs.Math.Path.{fun_ext}
+use Rattle.std.proofs.lemmas.List.{length-map}
 use Rattle.std.proofs.lemmas.Option.{slice_get-map}
 use Rattle.bl_base.specs.Runs.{EndsAfter, Next, Outcome}
 use Rattle.bl_base.specs.declared.start.Start.{Start}
@@ -11,7 +12,7 @@ use Rattle.bl_cmd.specs.Sites.{mark_of}
 use Rattle.bl_cmd.specs.Steps.{Plain, perform, plain_step, ret}
 use Rattle.bl_cmd.specs.declared.command.Mark.{Mark}
 use Rattle.bl_cmd.specs.declared.command.Command.{Command}
-use Rattle.bl_cmd.specs.declared.command.Command.TheVariants.{Set, Load, Store, Test, Jump, Arg, Call, Out, Ret, Trap}
+use Rattle.bl_cmd.specs.declared.command.Command.TheVariants.{Set, Ret}
 use Rattle.bl_cmd.specs.declared.definitions.ProgramParts.{ProgramParts as Program}
 use Rattle.bl_cut.specs.Marks.{marked, marked_from, protected}
 use Rattle.bl_counts.specs.RunCounts.{bare, bare_command, counts_from, counts_of, executed, is_site, stepped, times, weighed, with_count}
@@ -52,6 +53,10 @@ module _ (one other : Program) (same : bare one ≡ bare other) where
 
   pub is_site_same : (s : ℕ) → is_site one s ≡ is_site other s
   is_site_same s = sym (sites_same one s) ∙ ap (λ (p : Program). is_site p s) same ∙ sites_same other s
+
+-- they have as many commands
+pub same_length : (one other : Program) → bare one ≡ bare other → length one.commands ≡ length other.commands
+same_length one other same = sym (length-map one.commands bare_command) ∙ (ap (λ (p : Program). length p.commands) same ∙ length-map other.commands bare_command)
 
 -- ---- counts
 

@@ -1,13 +1,12 @@
--- The least set by counts of a run is executed least in it.
+-- The least set by the counts of runs, added, is executed least in them together.
 use Rattle.std.proofs.Common.{◌≡◌, ℕ, zero, suc, ◌+◌, ◌*◌, ◌^◌, ◌<◌, ◌≤◌, ◌⊎◌, inl, inr, Bool, true, false, List, [], ◌∷◌, length, Option, Some, None, slice_get, unwrap_or, refl, sym, ap, subst, ◌∙◌, arith}
 use Rattle.std.specs.Prelude.{◌==◌, ◌&&◌, IsSome, is_some, option_map, option_and_then, if◌then◌else◌, count_by}
 use Rattle.std.proofs.lemmas.Bool.{ne_eqb, eq-eqb, cases_lt, false≢true}
-use Rattle.std.proofs.lemmas.List.Sums.{sum_by-cons}
+use Rattle.std.proofs.lemmas.List.Sums.{sum_by-append, sum_by-cons}
 use Rattle.bl_base.specs.Sums.{sum_below}
-use Rattle.bl_base.specs.declared.start.Start.{Start}
 use Rattle.bl_base.proofs.Sums.{sum_same, sum_change, sum_none}
 use Rattle.bl_cmd.specs.Rules.{IsWellFormed}
-use Rattle.bl_cmd.specs.Sites.{mark_of, mark_at, site_weight, weight_of, IsSite}
+use Rattle.bl_cmd.specs.Sites.{mark_of, mark_at}
 use Rattle.bl_cmd.specs.declared.command.Mark.{Mark}
 use Rattle.bl_cmd.specs.declared.command.Command.{Command}
 use Rattle.bl_cmd.specs.declared.definitions.ProgramParts.{ProgramParts as Program}
@@ -15,6 +14,7 @@ use Rattle.bl_graph.specs.Ranges.{AreSites}
 use Rattle.bl_transient.specs.Transient.{Passes}
 use Rattle.bl_cut.specs.Least.{Least}
 use Rattle.bl_counts.specs.RunCounts.{IsFewer, executions, sites, bare, count_in, counts_from, counts_of, exec, executed, is_site, size_of, times, weight_by, weighed, with_count}
+use Rattle.bl_counts.specs.RecordedRuns.{AreAdded, Recorded, added_at, all_executed}
 use Rattle.bl_counts.specs.declared.counts.SiteCount.{SiteCount}
 use Rattle.bl_counts.proofs.BarePrograms.{is_site_same}
 use Rattle.bl_counts.proofs.WeightedPrograms.{counted, few, weighs, weight_is}
@@ -105,28 +105,29 @@ module _ (f : ℕ → Bool) (n : ℕ) (inside : (s : ℕ) → f s ≡ true → s
 
 -- ---- the law
 
-module _ (program other : Program) (same : bare other ≡ bare program) (function : ℕ) (start : Start) (steps : ℕ) where
-  abbrev counts : List SiteCount
-  counts = counts_of other function start steps
+module _ (program other : Program) (same : bare other ≡ bare program) where
+  -- at a site, what runs count is what they execute
+  counted_once : (run : Recorded) (s : ℕ) → is_site program s ≡ true
+      → count_in (counts_of other run.function run.start run.steps) s ≡ times (executed other run.function run.start run.steps) s
+  counted_once run s site =
+      let positions = executed other run.function run.start run.steps in
+      let none : 0 + s ≡ s = omega arith in
+      subst (λ (n : ℕ). count_in (counts_of other run.function run.start run.steps) n ≡ times positions n) none
+      (count_is (times positions) 0 s other.commands (is_site_same other program same s ∙ site))
 
-  abbrev positions : List ℕ
-  positions = executed other function start steps
+  added_is : (runs : List Recorded) (s : ℕ) → is_site program s ≡ true → added_at other runs s ≡ times (all_executed other runs) s
+  added_is [] s site = refl
+  added_is (run ∷ runs) s site =
+      let first = counted_once run s site in
+      let rest = added_is runs s site in
+      let all = sum_by-append (λ p. if p == s then 1 else 0) (executed other run.function run.start run.steps) (all_executed other runs) in
+      omega (arith, first, rest, all)
 
-  -- what the weights count is what is executed
-  counted_is : (set : ℕ → Bool) → counted (count_in counts) program set ≡ exec program set positions
-  counted_is set =
-      sum_same (length program.commands) (λ s. if set s && is_site program s then count_in counts s else 0) (λ s. if set s && is_site program s then times positions s else 0)
-      (λ s lt. each s (set s && is_site program s) refl)
-      ∙ by_position (λ s. set s && is_site program s) (length program.commands) (λ s h. within program.commands s (right_of (set s) (is_site program s) h)) positions
-    where
-      none : (s : ℕ) → 0 + s ≡ s
-      none s = omega arith
+-- the counts of a run are those of it alone
+pub one_added : (program : Program) (run : Recorded) → AreAdded program (run ∷ []) (counts_of program run.function run.start run.steps)
+one_added program run s = omega arith
 
-      each : (s : ℕ) (b : Bool) → (set s && is_site program s) ≡ b → (if b then count_in counts s else 0) ≡ (if b then times positions s else 0)
-      each s false h = refl
-      each s true h = subst (λ (n : ℕ). count_in counts n ≡ times positions n) (none s)
-          (count_is (times positions) 0 s other.commands (is_site_same other program same s ∙ right_of (set s) (is_site program s) h))
-
+module _ (program : Program) (counts : List SiteCount) where
   passes_back : (set : ℕ → Bool) → Passes (weighed counts program) set → Passes program set
   passes_back set h = (h.0, record { assigns = record { loads = h.1.assigns.loads; moves = h.1.assigns.moves; given = h.1.assigns.given }; sinks = h.1.sinks; firm = h.1.firm })
 
@@ -140,28 +141,43 @@ module _ (program other : Program) (same : bare other ≡ bare program) (functio
       by None h = h
       by (Some mark) h = refl
 
+  pub least_passes : (set : ℕ → Bool) → Least (weighed counts program) set → Passes program set
+  least_passes set h = passes_back set h.passes
+
   lighter : (e f s t : ℕ) → s ≤ 1048576 → t ≤ 1048576 → e * 2 ^ 21 + s ≤ f * 2 ^ 21 + t → (e < f) ⊎ ((e ≡ f) × (s ≤ t))
   lighter e f s t small few le = elim (cases_lt e f) as (λ _. (e < f) ⊎ ((e ≡ f) × (s ≤ t))) [
     | inl less ↦ inl less
     | inr more ↦ inr (omega arith, omega arith)
   ]
 
-  pub least_passes : (set : ℕ → Bool) → Least (weighed counts program) set → Passes program set
-  least_passes set h = passes_back set h.passes
+  module _ (other : Program) (same : bare other ≡ bare program) (runs : List Recorded) (added : AreAdded other runs counts) where
+    abbrev positions : List ℕ
+    positions = all_executed other runs
 
-  pub least_is_fewest : IsWellFormed program → (set : ℕ → Bool) → Least (weighed counts program) set
-      → (rival : ℕ → Bool) → AreSites program rival → Passes program rival → IsFewer program positions set rival
-  least_is_fewest w set h rival chosen passes =
-      let le = h.lightest rival (sites_on rival chosen) (passes_on rival passes) in
-      let one = weighs (count_in counts) program set in
-      let two = weighs (count_in counts) program rival in
-      let mine = counted_is set in
-      let its = counted_is rival in
-      let commands = w.rule2.commands in
-      let small = few (count_in counts) program set in
-      let few = few (count_in counts) program rival in
-      elim (lighter (exec program set positions) (exec program rival positions) (size_of program set) (size_of program rival) (omega arith) (omega arith) (omega arith))
-      as (λ _. IsFewer program positions set rival) [
-        | inl less ↦ executions less
-        | inr equal ↦ sites equal.0 equal.1
-      ]
+    -- what the weights count is what is executed
+    counted_is : (set : ℕ → Bool) → counted (count_in counts) program set ≡ exec program set positions
+    counted_is set =
+        sum_same (length program.commands) (λ s. if set s && is_site program s then count_in counts s else 0) (λ s. if set s && is_site program s then times positions s else 0)
+        (λ s lt. each s (set s && is_site program s) refl)
+        ∙ by_position (λ s. set s && is_site program s) (length program.commands) (λ s h. within program.commands s (right_of (set s) (is_site program s) h)) positions
+      where
+        each : (s : ℕ) (b : Bool) → (set s && is_site program s) ≡ b → (if b then count_in counts s else 0) ≡ (if b then times positions s else 0)
+        each s false h = refl
+        each s true h = added s ∙ added_is program other same runs s (right_of (set s) (is_site program s) h)
+
+    pub least_is_fewest : IsWellFormed program → (set : ℕ → Bool) → Least (weighed counts program) set
+        → (rival : ℕ → Bool) → AreSites program rival → Passes program rival → IsFewer program positions set rival
+    least_is_fewest w set h rival chosen passes =
+        let le = h.lightest rival (sites_on rival chosen) (passes_on rival passes) in
+        let one = weighs (count_in counts) program set in
+        let two = weighs (count_in counts) program rival in
+        let mine = counted_is set in
+        let its = counted_is rival in
+        let commands = w.rule2.commands in
+        let small = few (count_in counts) program set in
+        let few = few (count_in counts) program rival in
+        elim (lighter (exec program set positions) (exec program rival positions) (size_of program set) (size_of program rival) (omega arith) (omega arith) (omega arith))
+        as (λ _. IsFewer program positions set rival) [
+          | inl less ↦ executions less
+          | inr equal ↦ sites equal.0 equal.1
+        ]

@@ -1,4 +1,5 @@
 pub mod BarePrograms
+pub mod CountLengths
 pub mod CountLines
 pub mod CountTexts
 pub mod FewestExecuted

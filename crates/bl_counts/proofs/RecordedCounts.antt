@@ -17,10 +17,10 @@ use Rattle.bl_cmd.specs.Steps.{Plain, plain_step}
 use Rattle.bl_cmd.specs.declared.command.Command.{Command}
 use Rattle.bl_cmd.specs.declared.command.Mark.{Mark}
 use Rattle.bl_cmd.specs.declared.definitions.ProgramParts.{ProgramParts as Program}
-use Rattle.bl_counts.specs.RunCounts.{bare, bare_command, behind, counts_from, counts_of, executed, first_bad, is_above, is_site, stepped, times, total, with_count}
+use Rattle.bl_counts.specs.RunCounts.{bare, behind, counts_from, counts_of, executed, first_bad, is_above, is_site, stepped, times, total, with_count}
 use Rattle.bl_counts.specs.RecordedRuns.{AreRecorded, AreRising, FirstBad, IsExecuted, IsWritten, bad, none_bad}
 use Rattle.bl_counts.specs.declared.counts.SiteCount.{SiteCount}
-use Rattle.bl_counts.proofs.BarePrograms.{is_site_same}
+use Rattle.bl_counts.proofs.BarePrograms.{same_length, is_site_same}
 
 same_some : {X : Type 0} {x y : X} → Some x ≡ Some y → x ≡ y
 same_some e = cc
@@ -301,12 +301,6 @@ are_recorded program other function start steps same short small =
 pub recorded : (program other : Program) (function : ℕ) (start : Start) (steps : ℕ) → IsWellFormed program → bare other ≡ bare program → steps < 2 ^ 32
     → AreRecorded program steps (counts_of other function start steps)
 recorded program other function start steps rules same small =
-    let long = ap (λ (p : Program). length p.commands) same in
-    let one = counted_commands other.commands in
-    let two = counted_commands program.commands in
+    let as_many = same_length other program same in
     let most = rules.rule2.commands in
     are_recorded program other function start steps same (omega arith) small
-  where
-    counted_commands : (commands : List Command) → length (map bare_command commands) ≡ length commands
-    counted_commands [] = refl
-    counted_commands (command ∷ commands) = ap suc (counted_commands commands)

@@ -1,5 +1,5 @@
--- Counts of recorded runs: which commands are executed, which entries are bad, and that a run's counts have none.
-use Rattle.std.specs.Prelude.{◌≡◌, ◌≤◌, ◌<◌, ◌^◌, ℕ, true, List, [], ◌∷◌, ◌++◌, Option, Some, None}
+-- Counts of recorded runs: which commands are executed, which entries are bad, that a run's counts have none; and counts of several runs, added.
+use Rattle.std.specs.Prelude.{◌≡◌, ◌≤◌, ◌<◌, ◌+◌, ◌^◌, ℕ, true, List, [], ◌∷◌, ◌++◌, Option, Some, None}
 use Rattle.std.specs.List.{All, AllPairs}
 use Rattle.bl_base.specs.Runs.{HasStep, StepsTo}
 use Rattle.bl_base.specs.declared.number.Pos.{Pos}
@@ -7,7 +7,7 @@ use Rattle.bl_base.specs.declared.start.Start.{Start}
 use Rattle.bl_cmd.specs.Outcomes.{opening}
 use Rattle.bl_cmd.specs.Steps.{Plain, plain_step}
 use Rattle.bl_cmd.specs.declared.definitions.ProgramParts.{ProgramParts as Program}
-use Rattle.bl_counts.specs.RunCounts.{first_bad, is_site, total}
+use Rattle.bl_counts.specs.RunCounts.{count_in, counts_of, executed, first_bad, is_site, total}
 use Rattle.bl_counts.specs.declared.counts.SiteCount.{SiteCount}
 
 -- each position is a site, and they rise
@@ -41,3 +41,25 @@ pub record AreRecorded (program : Program) (most : ℕ) (counts : List SiteCount
   pub are_sites : first_bad program None counts ≡ None
   pub each : All IsWritten counts
   pub few : total counts ≤ most
+
+-- ---- several runs
+
+-- a run of a program: its function, its start, and within how many steps it is taken
+pub record Recorded : Type 0 where
+  pub function : ℕ
+  pub start : Start
+  pub steps : ℕ
+
+-- the positions of the commands that runs execute, one run after another
+abbrev pub all_executed : Program → List Recorded → List ℕ
+all_executed program [] = []
+all_executed program (run ∷ runs) = executed program run.function run.start run.steps ++ all_executed program runs
+
+-- the counts that the runs have for a position, added
+abbrev pub added_at : Program → List Recorded → ℕ → ℕ
+added_at program [] s = 0
+added_at program (run ∷ runs) s = count_in (counts_of program run.function run.start run.steps) s + added_at program runs s
+
+-- counts are those of the runs, added position by position
+abbrev pub AreAdded : Program → List Recorded → List SiteCount → Type 0
+AreAdded program runs counts = (s : ℕ) → count_in counts s ≡ added_at program runs s

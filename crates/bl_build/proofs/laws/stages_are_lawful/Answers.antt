@@ -1,11 +1,11 @@
-use Rattle.bl_build.proofs.BuildLemmas.{lowering_lawful, sizing_lawful}
+use Rattle.bl_build.proofs.BuildLemmas.{compiling_lawful, lowering_lawful, sizing_lawful}
 use Rattle.bl_build.proofs.CertificateLemmas.{certifying_lawful}
 use Rattle.bl_build.proofs.EntryStageLemmas.{finding_lawful, imaging_lawful, starting_lawful}
 use Rattle.bl_build.proofs.InterfaceLemmas.{choosing_lawful, matching_lawful, reading_lawful, typing_lawful, uniting_lawful}
 use Rattle.bl_build.proofs.InvocationLemmas.{invoking_lawful}
-use Rattle.bl_build.proofs.LoadLemmas.{decoding_lawful, labelling_lawful, linking_lawful, validation_lawful}
+use Rattle.bl_build.proofs.LoadLemmas.{decoding_lawful, labelling_lawful, linking_lawful, loading_lawful, validation_lawful}
 use Rattle.bl_build.proofs.TraceLemmas.{tracing_lawful}
-use Rattle.bl_build.proofs.WeightLemmas.{weighing_lawful}
+use Rattle.bl_build.proofs.WeightLemmas.{compiling_by_lawful, weighing_lawful}
 use Rattle.bl_build.proofs.laws.stages_are_lawful.Goals as goal
 
 pub returns-clause-decoding : goal.returns-clause-decoding
@@ -61,3 +61,12 @@ returns-clause-typing c = typing_lawful
 
 pub returns-clause-uniting : goal.returns-clause-uniting
 returns-clause-uniting c = uniting_lawful
+
+pub returns-clause-loading : goal.returns-clause-loading
+returns-clause-loading c = loading_lawful
+
+pub returns-clause-compiling : goal.returns-clause-compiling
+returns-clause-compiling c = compiling_lawful
+
+pub returns-clause-compiling_by : goal.returns-clause-compiling_by
+returns-clause-compiling_by c = compiling_by_lawful

@@ -1,8 +1,9 @@
-use Rattle.bl_build.proofs.BuildLemmas.{compiling_total}
+use Rattle.bl_build.proofs.BuildLemmas.{compiling_total, lowering_total, sizing_total}
 use Rattle.bl_build.proofs.ImagesTotal.{certifying_total, finding_total, imaging_total, starting_total, tracing_total}
 use Rattle.bl_build.proofs.InterfaceTotal.{choosing_total, matching_total, reading_total, typing_total, uniting_total}
 use Rattle.bl_build.proofs.LoadTotal.{invoking_total, loading_total}
-use Rattle.bl_build.proofs.WeightLemmas.{compiling_by_total}
+use Rattle.bl_build.proofs.ModulesTotal.{decoding_total, labelling_total, validation_total}
+use Rattle.bl_build.proofs.WeightLemmas.{compiling_by_total, weighing_total}
 use Rattle.bl_build.proofs.laws.stages_are_total.Goals as goal
 
 pub returns-clause-loading : goal.returns-clause-loading
@@ -46,3 +47,21 @@ returns-clause-typing c = typing_total
 
 pub returns-clause-uniting : goal.returns-clause-uniting
 returns-clause-uniting c = uniting_total
+
+pub returns-clause-decoding : goal.returns-clause-decoding
+returns-clause-decoding c = decoding_total
+
+pub returns-clause-validation : goal.returns-clause-validation
+returns-clause-validation c = validation_total
+
+pub returns-clause-labelling : goal.returns-clause-labelling
+returns-clause-labelling c = labelling_total
+
+pub returns-clause-sizing : goal.returns-clause-sizing
+returns-clause-sizing c = sizing_total
+
+pub returns-clause-lowering : goal.returns-clause-lowering
+returns-clause-lowering c = lowering_total
+
+pub returns-clause-weighing : goal.returns-clause-weighing
+returns-clause-weighing c = λ counts. weighing_total counts
