@@ -39,7 +39,7 @@ use Rattle.bl_app.proofs.RunLemmas.{entering_lawful}
 
 -- ---- exports
 
-same_exports : (name : List ℕ) (pairs : Pairs) → function_named name (map export_def pairs) ≡ number_of name pairs
+pub same_exports : (name : List ℕ) (pairs : Pairs) → function_named name (map export_def pairs) ≡ number_of name pairs
 same_exports name [] = refl
 same_exports name (pair ∷ pairs) = ap (cond (bytes_eq name pair.0) (Some pair.1)) (same_exports name pairs)
 

@@ -88,7 +88,7 @@ module _ (request : PartRequest) (bytes : List ℕ) (modules : List (List ℕ)) 
         short = omega (arith, long, short);
       }
 
-part_means : (request : PartRequest) (bytes : List ℕ) (modules : List (List ℕ)) (parted : Parted) → (parting request.role bytes).Passes (parts_of request.modules modules) parted
+pub part_means : (request : PartRequest) (bytes : List ℕ) (modules : List (List ℕ)) (parted : Parted) → (parting request.role bytes).Passes (parts_of request.modules modules) parted
     → (plan : Plan) → PartMeans request (bytes ∷ modules) parted plan
 part_means request bytes modules parted passes plan =
     let built : Built = passes.0 in

@@ -7,6 +7,7 @@ pub mod GenJob
 pub mod HardenJob
 pub mod InterpJob
 pub mod JoinJob
+pub mod JoinedModules
 pub mod HardenEffects
 pub mod LowerJob
 pub mod Outcomes

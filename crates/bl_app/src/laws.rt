@@ -21,6 +21,11 @@ ghost use Rattle.bl_app.specs.RunJob.{RunDoes};
 ghost use Rattle.bl_app.specs.HardenJob.{HardenDoes, harden_job};
 ghost use Rattle.bl_build.specs.HardenStage.{Hardened, IsHardened, IsYes};
 ghost use Rattle.bl_app.specs.InterpJob.{InterpDoes};
+ghost use Rattle.bl_apart.specs.LinkedApart.{IsOwn};
+ghost use Rattle.bl_app.specs.JoinedModules.{AreKept, AreLoaded, Calls, EndsAsLinked, KeepTo, Trees};
+ghost use Rattle.bl_wasm.specs.Exports.{number_of};
+ghost use Rattle.bl_iface.specs.declared.iface.Iface.{Iface};
+ghost use Rattle.bl_build.specs.InterfaceStages.{IsFileOf};
 ghost use Rattle.bl_job.specs.Jobs.{AreRead, FirstRefusal, IsLawful, IsTotal, Plan};
 ghost use Rattle.bl_job.specs.Refusals.{Refusal};
 ghost use Rattle.bl_app.specs.PredictJob.{IsFollowed, predict_job};
@@ -163,4 +168,15 @@ pub fn kept_traces_run()
 /// say yes exactly where `harden` told that the program is constant-time. The image is no longer than is read; nothing is said of the certificate's length.
 pub fn what_is_hardened_is_verified()
     ensures { (request : HardenRequest) (contents : Listed (Listed ℕ)) (plan : Plan) → (harden_job request).Does contents plan → IsVerified request plan }
+{}
+
+/// What `part` and `join` keep of modules that are hardened apart ends as `interp` of the linked modules does, by name. The client's modules are those of a stub
+/// and of its users; the library's are linked under the users' in place of the stub's. The users import of the stub nothing but functions of the interface, and
+/// two names of the interface that stand for one function of the stub stand for one of the library. Then what a module of the library or of the users exports
+/// under a name, but for a function of the stub that a user hands on, the joined image exports under it, and from each start both end alike, whichever of them
+/// ends, with any protects.
+pub fn joined_images_end_as_linked_modules()
+    ensures { (calls : Calls) (iface : Iface) (trees : Trees) (own program : Program) → AreKept calls → IsFileOf calls.iface.bytes iface → AreLoaded calls trees
+        → KeepTo calls iface trees → Image own calls.joined.bytes → bare program ≡ bare own
+        → (name : Listed ℕ) (function : ℕ) → number_of name trees.whole.exports ≡ Some function → IsOwn trees.stub trees.client name → EndsAsLinked trees iface program name function }
 {}

@@ -87,7 +87,7 @@ module _ (all : List LabelledModule) (parts : List Part) (h : AllZip IsOf all pa
       let part = zip_get IsOf all parts i one.0 h one.1 in
       (part.0, part.1, sym (ap (λ (p : LinkPart). p.name) one.2) ∙ part.2.0)
 
-  are_parts : AreParts (linked_parts all)
+  pub are_parts : AreParts (linked_parts all)
   are_parts = record {
     each = each_one IsLoadable IsPart (λ one part is known. is_part one part is known.0 known.1) all parts h given.each;
     few = omega (arith, as_many all parts h, given.few);
@@ -97,7 +97,7 @@ module _ (all : List LabelledModule) (parts : List Part) (h : AllZip IsOf all pa
         given.distinct i j first.0 second.0 first.1 second.1 (sym first.2 ∙ (same ∙ second.2));
   }
 
-  are_sound : All IsSound (linked_parts all)
+  pub are_sound : All IsSound (linked_parts all)
   are_sound = each_one (λ part. AreBytes part.bytes) IsSound is_sound all parts h given.bytes
 
 -- ---- linking

@@ -1,0 +1,9 @@
+pub mod BesideParts
+pub mod BesideSegments
+pub mod BesideImports
+pub mod BesideLinks
+pub mod BesideOffers
+pub mod UserExports
+pub mod WholeNumbers
+pub mod JoinedLinks
+pub mod JoinedExports

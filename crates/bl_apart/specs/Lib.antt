@@ -1,0 +1,4 @@
+pub mod Beside
+pub mod BesideStores
+pub mod LinkedTypes
+pub mod LinkedApart
