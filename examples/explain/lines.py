@@ -2,12 +2,12 @@
 from __future__ import annotations
 
 import bisect
-import os
 from collections import defaultdict
 from dataclasses import dataclass
 from typing import Dict, Iterable, List, NamedTuple, Optional, Sequence, Tuple
 
 from .lowering import Linked, Row
+from . import paths
 from .sources import Sources
 from .symbolizer import Frame, frames_of, symbolizer
 from .words import shown
@@ -25,7 +25,7 @@ class Line(NamedTuple):
 
     @property
     def place(self) -> str:
-        return f"{shown(os.path.basename(self.path))}:{self.number or '?'}"
+        return f"{shown(paths.shown(self.path))}:{self.number or '?'}"
 
 
 NOWHERE = Line("", 0, "")
