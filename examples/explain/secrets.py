@@ -169,6 +169,12 @@ class Resolver:
         raise Bad(f"which parameter of the module {one.params[at].name} of {one.name} is can't be told ({len(one.params)} in C, {count} in the module: "
                   "a struct by value, or one that clang took apart): give its number")
 
+    def has_line(self, defined: Subprogram, one: Declared) -> bool:
+        """Whether the unit that defines a function has a line. clang may call the unit by a whole path where it was given a part."""
+        folder = self.folders.get(defined.unit, "")
+        units = {os.path.normpath(os.path.join(folder, unit)) for unit in one.units}
+        return INCLUDED in one.units or os.path.normpath(defined.path) in units
+
     def entry(self, one: Declared) -> Entry:
         if KINDS[one.kind].names[0] != "function":
             return one.kind, (number_of(self.module, KINDS[one.kind].names[0], one.name),)
@@ -176,7 +182,7 @@ class Resolver:
         defined = next((it for it in known if it.function == function), None)
         if defined is None:
             raise Bad(f"{self.module.function_name(function)} has no DWARF, so nobody can tell whether the unit that defines it has this line: compile with -g")
-        if not one.units & {defined.unit, INCLUDED}:
+        if not self.has_line(defined, one):
             raise Bad(f"{one.name} is defined in {defined.unit}, which doesn't have this line, so it may be inlined there, where nothing is declared: "
                       "have that unit include it (-include FILE.h does without a change)")
         calls = copies(self.told, function)
