@@ -3,7 +3,6 @@ from __future__ import annotations
 
 import os
 import shlex
-import shutil
 import sys
 from collections import Counter
 from typing import List, Optional, Sequence, Tuple
@@ -12,6 +11,7 @@ from . import compare, diagnostics, sarif, text
 from .asked import BUILD, DISAGREE, LABELS, NO, REFUSED, USAGE, YES, Asked, Stop, asked_by
 from .building import Builder
 from .causes import causes_of
+from .ending import ended
 from .flow import find
 from .image import read_image
 from .labels import entries_of
@@ -23,8 +23,10 @@ from .protects import protects_of, read_certificate
 from .reading import Bad, read_file
 from .refusals import refusal
 from .secrets import NOTHING, left_out, with_source
+from .sources import Sources
 from .tools import HERE, Ran, Runner, found, program, written_to
 from .wasm import FUNCTION, Module, module_of, read_module
+from .words import say
 
 STEPS = "4000000000"  # the most of a run that is counted
 MADE = ("wasm", "img", "json")  # of the module: what blade-cc makes where the verdict is yes
@@ -80,7 +82,7 @@ class Driver:
         except Bad as bad:
             raise Stop(LABELS, f"blade-cc: error: {bad} [blade-label]") from None
         for line in told.warnings:
-            print(line, file=sys.stderr)
+            say(line, sys.stderr)
         if told.errors:
             raise Stop(LABELS, *told.errors)
         written_to(to, made)
@@ -161,7 +163,7 @@ class Driver:
             raise Stop(DISAGREE, *(f"blade-cc: error: blade-explain doesn't agree with the program: {one}" for one in differ))
         self.tell(told, lines, modules, f"{place}/{self.module}")
         if is_kept and self.file:
-            shutil.copyfile(modules[-1], self.file)
+            written_to(self.file, read_file(modules[-1], "module"))
         protects = next(line for line in report.splitlines() if line.startswith("protects "))
         print(f"{self.module}: {text.verdict_text(told.found, ())}; {protects}; {text.declared_text(told.found).partition('. So')[0]}")
         return YES if is_kept else NO
@@ -175,7 +177,7 @@ class Driver:
         """What is to be told of an image; and where that isn't what the program says."""
         image, functions = read_image(read_file(f"{made}.img")), lower([read_module(path) for path in modules])
         differ = compare.positions_differ(image, functions)
-        lines = Lines([] if differ else functions)
+        lines = Lines([] if differ else functions, Sources([".", *{os.path.dirname(os.path.abspath(one)) for one in self.asked.sources}]))
         seen, protects = find(image), protects_of(image, read_certificate(read_file(f"{made}.json")))
         differ += compare.report_differs(seen, protects, report)
         return diagnostics.told_of(seen, lines, causes_of(seen, lines), protects), lines, differ
@@ -188,7 +190,7 @@ class Driver:
         written_to(problems, sarif.as_json(told, f"{made}.img", modules).encode())
         written_to(log, sarif.as_sarif(told, f"{made}.img", modules, lines, os.getcwd(), sarif.version()).encode())
         for line in diagnostics.as_text(told, shown(f"{made}.img"), self.asked.limit, lines):
-            print(line, file=sys.stderr)
+            say(line, sys.stderr)
 
 
 def is_labelled(paths: Sequence[str]) -> bool:
@@ -218,7 +220,7 @@ def write_errors(driver: Optional[Driver], stop: Stop) -> None:
         written_to(f"{driver.folder}/{driver.module}.sarif", sarif.errors_as_sarif(stop.lines, os.getcwd(), sarif.version()).encode())
 
 
-def main(words: Sequence[str], usage: str) -> int:
+def status_of(words: Sequence[str], usage: str) -> int:
     if not words or words in (["--help"], ["-h"]):
         print(usage, file=sys.stderr if not words else sys.stdout)
         return USAGE if not words else YES
@@ -233,8 +235,10 @@ def main(words: Sequence[str], usage: str) -> int:
         return driver.all()
     except Stop as stop:
         write_errors(driver, stop)
-        print("\n".join(stop.lines), end="\n" if stop.lines else "", file=sys.stderr)
+        for line in (line for one in stop.lines for line in one.split("\n")):
+            say(line, sys.stderr)
         return stop.status
-    except (Bad, OSError, ValueError, IndexError) as bad:
-        print(f"blade-cc: error: {bad or 'a file ends too early'}", file=sys.stderr)
-        return BUILD
+
+
+def main(words: Sequence[str], usage: str) -> int:
+    return ended("blade-cc: error", lambda: status_of(words, usage), BUILD)

@@ -11,6 +11,7 @@ import sys
 from typing import NamedTuple, Sequence
 
 from .asked import MISSING, Stop
+from .writing import write_file as written_to
 
 HERE = os.path.dirname(os.path.dirname(os.path.realpath(__file__)))  # the folder of blade-cc, its headers and its libc
 NEWEST = 22  # Debian's names of tools with a version, clang-14 and so on, are looked for up to this one
@@ -31,11 +32,6 @@ TOOLS = {
     "wasm-opt": Tool("binaryen", 108, "locals split without a loss of the lines of C"),
     "llvm-symbolizer": Tool("llvm", 13, "the lines of WebAssembly modules"),
 }
-
-
-def written_to(path: str, data: bytes) -> None:
-    with open(path, "wb") as file:
-        file.write(data)
 
 
 @functools.lru_cache(None)
