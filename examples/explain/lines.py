@@ -6,8 +6,8 @@ from collections import defaultdict
 from dataclasses import dataclass
 from typing import Dict, Iterable, List, NamedTuple, Optional, Sequence, Tuple
 
-from .lowering import Linked, Row
 from . import paths
+from .lowering import Linked, Row
 from .sources import Sources
 from .symbolizer import Frame, frames_of, symbolizer
 from .words import shown
