@@ -1,5 +1,5 @@
 -- What imports are given behind two others means the same, and how long spaces are.
-use Rattle.std.proofs.Common.{◌≡◌, ◌∙◌, refl, sym, ap, subst, ℕ, ◌+◌, List, [], ◌∷◌, ◌++◌, length, map, filter_map, true, false, Bool, Option, Some, None, Result, Ok, Err, ◌⊎◌, inl, inr, arith, length-append}
+use Rattle.std.proofs.Common.{◌≡◌, ◌∙◌, refl, sym, ap, subst, ℕ, ◌+◌, List, [], ◌∷◌, ◌++◌, length, map, true, false, Bool, Option, Some, None, Ok, inl, inr, arith, length-append}
 use Rattle.std.specs.Prelude.{if◌then◌else◌, nat_eq}
 use Rattle.std.specs.List.{All, AllZip, enumerate_from, list_any, range_with_len}
 use Rattle.std.specs.Str.{bytes_eq}
@@ -17,9 +17,8 @@ use Rattle.bl_wasm.specs.declared.module.ExportKind.TheVariants as export
 use Rattle.bl_wasm.specs.declared.module.Module.{Module}
 use Rattle.bl_apart.specs.BesideStores.{EntryAlike, ExportsBeside, IsGiven, IsKnown, Setting, StoresBeside, ValueAlike}
 use Rattle.bl_link.specs.ExportNames.{qualified, value_named}
-use Rattle.bl_link.specs.ImportMatches.{all_given, given, given_of, matches, named}
+use Rattle.bl_link.specs.ImportMatches.{given, given_of, matches, named}
 use Rattle.bl_link.specs.IndexSpaces.{all_ok, of_kind, on_ok, same_kind, spaces_of}
-use Rattle.bl_link.specs.declared.error.LinkError.{LinkError}
 use Rattle.bl_link.specs.declared.error.LinkError.TheVariants.{Mismatch}
 use Rattle.bl_apart.specs.LinkedTypes.{External, Store}
 use Rattle.bl_link.specs.NamedPairs.{Values}

@@ -1,14 +1,13 @@
 -- The same parts linked behind two others stand beside one another.
-use Rattle.std.proofs.Common.{◌≡◌, ◌∙◌, refl, sym, ap, ap₂, subst, ℕ, zero, suc, ◌+◌, ◌-◌, ◌<◌, ◌≤◌, List, [], ◌∷◌, ◌++◌, length, map, replicate, true, false, Bool, Option, Some, None, slice_get, Result, Ok, Err, arith, length-append, append-nil}
+use Rattle.std.proofs.Common.{◌≡◌, ◌∙◌, refl, sym, ap, ap₂, subst, ℕ, zero, suc, ◌+◌, ◌-◌, ◌<◌, ◌≤◌, List, [], ◌∷◌, ◌++◌, length, map, replicate, Option, None, Result, Ok, Err, arith, length-append, append-nil}
 use Rattle.std.specs.Prelude.{fold, nat_le, option_map, if◌then◌else◌}
 use Rattle.std.specs.List.{All, AllZip, enumerate_from, list_all}
-use Rattle.std.proofs.lemmas.List.{append_assoc, map-append, length-map}
+use Rattle.std.proofs.lemmas.List.{append_assoc, map-append}
 use Rattle.std.proofs.lemmas.List.Elements.{All-head, All-tail}
 use Rattle.std.proofs.lemmas.List.FromFn.{length-range_with_len, length-enumerate_from}
 use Rattle.std.proofs.lemmas.Option.{same_Some, slice_get_within}
 use Rattle.bl_base.proofs.Lists.{all_get, zip_append, zip_length}
-use Rattle.bl_wasm.specs.Validity.{IsElement, IsData, IsInitial, Typed, functions_of, globals_of, imported, global_of, space_of, tables_of, memories_of}
-use Rattle.bl_wasm.specs.declared.types.Limits.{Limits}
+use Rattle.bl_wasm.specs.Validity.{IsInitial, Typed, imported, global_of, space_of}
 use Rattle.bl_wasm.specs.declared.module.DefinedGlobal.{DefinedGlobal}
 use Rattle.bl_wasm.specs.declared.module.Export.{Export}
 use Rattle.bl_wasm.specs.declared.module.ExportKind.{ExportKind}
@@ -19,7 +18,7 @@ use Rattle.bl_apart.specs.Beside.{AreBeside, Beside}
 use Rattle.bl_rename.specs.Renamings.{function_by, slots_by}
 use Rattle.bl_base.specs.Quantity.{limit_of}
 use Rattle.bl_base.specs.declared.quantity.Quantity.TheVariants.{Reserve}
-use Rattle.bl_apart.specs.BesideStores.{Agree, EntryAlike, ExportsBeside, AreGiven, IsGiven, NumberAlike, Same, Setting, SpacesAlike, StoresBeside, ValueAlike}
+use Rattle.bl_apart.specs.BesideStores.{Agree, EntryAlike, AreGiven, IsGiven, NumberAlike, Setting, SpacesAlike, StoresBeside, ValueAlike}
 use Rattle.bl_link.specs.ImportMatches.{all_given, given}
 use Rattle.bl_link.specs.IndexSpaces.{number, space, spaces_of}
 use Rattle.bl_link.specs.declared.part.Part.{Part}
@@ -27,7 +26,7 @@ use Rattle.bl_link.specs.declared.error.LinkError.{LinkError}
 use Rattle.bl_link.specs.declared.error.LinkError.TheVariants.{DataRange, ElementRange, Limit}
 use Rattle.bl_apart.specs.LinkedTypes.{External, Spaces, Store}
 use Rattle.bl_link.specs.Linkable.{IsSound}
-use Rattle.bl_link.specs.Links.{constant_value, data_fits, element_fits, exported, function, global, indexed, initialised, links, memory, nothing, reserves, table, with_given, with_next, with_part, within_reserve}
+use Rattle.bl_link.specs.Links.{constant_value, data_fits, element_fits, exported, global, indexed, initialised, links, memory, nothing, reserves, table, with_given, with_next, with_part, within_reserve}
 use Rattle.bl_link.specs.Signatures.{signature}
 use Rattle.bl_apart.proofs.BesideImports.{all_alike, functions_counted, globals_counted, memories_counted, tables_counted}
 use Rattle.bl_apart.proofs.BesideParts.{functions_alike, images, spaces_alike, zip_numbered}
@@ -117,9 +116,10 @@ module _ (s : Setting) (agree : Agree s) (stub library : Store) where
 
     entries_alike : (entries : List Export) → All (λ entry. entry.index < space_of part.wasm entry.kind) entries → AllZip (EntryAlike s) (map (exported part.name a) entries) (map (exported part.name b) entries)
     entries_alike [] h = tt
-    entries_alike (entry ∷ entries) h =
-        ((refl, record { kind = refl; number = entry_alike entry.kind entry.index (All-head (λ (entry : Export). entry.index < space_of part.wasm entry.kind) entry entries h) }),
-        entries_alike entries (All-tail (λ (entry : Export). entry.index < space_of part.wasm entry.kind) entry entries h))
+    entries_alike (entry ∷ entries) h = (
+      (refl, record { kind = refl; number = entry_alike entry.kind entry.index (All-head (λ (entry : Export). entry.index < space_of part.wasm entry.kind) entry entries h) }),
+      entries_alike entries (All-tail (λ (entry : Export). entry.index < space_of part.wasm entry.kind) entry entries h),
+    )
 
     part_beside : StoresBeside s stub (with_part here part a) library (with_part there part b)
     part_beside = record {

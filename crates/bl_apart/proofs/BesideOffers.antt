@@ -1,5 +1,5 @@
 -- What trees export is what their stores export.
-use Rattle.std.proofs.Common.{◌≡◌, ◌∙◌, refl, sym, ap, ap₂, subst, ℕ, zero, suc, ◌+◌, ◌<◌, List, [], ◌∷◌, ◌++◌, length, map, filter_map, true, false, Bool, Option, Some, None, slice_get, Result, Ok, Err, ◌⊎◌, inl, inr, arith}
+use Rattle.std.proofs.Common.{◌≡◌, ◌∙◌, refl, sym, ap, ap₂, subst, ℕ, zero, suc, ◌+◌, List, [], ◌∷◌, ◌++◌, length, map, filter_map, true, false, Bool, Option, Some, None, slice_get, Ok, inl, inr, arith}
 use Rattle.std.specs.Prelude.{fold, nat_le, if◌then◌else◌}
 use Rattle.std.specs.List.{All, Contains, cons_option, enumerate_from}
 use Rattle.std.specs.Str.{bytes_eq}
@@ -9,7 +9,6 @@ use Rattle.std.proofs.lemmas.Slice.Eq.{bytes_eq-Decides}
 use Rattle.bl_base.proofs.Lists.{all_get}
 use Rattle.bl_base.specs.Quantity.{limit_of}
 use Rattle.bl_base.specs.declared.quantity.Quantity.TheVariants.{Reserve}
-use Rattle.bl_wasm.specs.declared.module.Export.{Export}
 use Rattle.bl_wasm.specs.declared.module.ExportKind.{ExportKind}
 use Rattle.bl_wasm.specs.declared.module.ExportKind.TheVariants as export
 use Rattle.bl_wasm.specs.declared.module.Import.{Import}
@@ -19,11 +18,10 @@ use Rattle.bl_link.specs.ExportNames.{qualified, value_named}
 use Rattle.bl_link.specs.ImportMatches.{all_given as values_given}
 use Rattle.bl_link.specs.IndexSpaces.{spaces_of}
 use Rattle.bl_link.specs.declared.part.Part.{Part}
-use Rattle.bl_link.specs.declared.error.LinkError.{LinkError}
 use Rattle.bl_link.specs.declared.error.LinkError.TheVariants.{Limit}
 use Rattle.bl_apart.specs.LinkedTypes.{External, Store}
-use Rattle.bl_link.specs.Linkable.{AreParts, IsPart, IsSound, NoSolidus}
-use Rattle.bl_link.specs.Links.{exported, initialised, links, nothing, of_function, pair, reserves, with_given, with_next, with_part, within_reserve}
+use Rattle.bl_link.specs.Linkable.{AreParts, IsPart, IsSound}
+use Rattle.bl_link.specs.Links.{exported, links, nothing, of_function, pair, reserves, with_given, with_next, within_reserve}
 use Rattle.bl_link.specs.NamedPairs.{Values}
 use Rattle.bl_link.specs.Stores.{AreApart, IsStore, ValueOfPart}
 use Rattle.bl_apart.proofs.BesideLinks.{made, split_next}
@@ -154,8 +152,10 @@ all_given s stubs libraries users here there sound sounds parts others e f offer
     one_given : (one other : Store) → IsStore stubs one → IsStore libraries other → ArePairs one → ArePairs other → one.tree ≡ s.stub → other.tree ≡ s.library
         → (wanted : Import) → IsOffered s users wanted → IsGiven s one.exports other.exports wanted
     one_given one other is be p q x y wanted (inl h) =
-        inl (subst (λ (name : List ℕ). value_named (qualified name wanted.name) one.exports ≡ None) h.2 (own_value stubs users one h.0 wanted.name here is h.1),
-        subst (λ (name : List ℕ). value_named (qualified name wanted.name) other.exports ≡ None) h.2 (own_value libraries users other h.0 wanted.name there be h.1))
+        inl (
+          subst (λ (name : List ℕ). value_named (qualified name wanted.name) one.exports ≡ None) h.2 (own_value stubs users one h.0 wanted.name here is h.1),
+          subst (λ (name : List ℕ). value_named (qualified name wanted.name) other.exports ≡ None) h.2 (own_value libraries users other h.0 wanted.name there be h.1),
+        )
     one_given one other is be p q x y wanted (inr h) =
         let name : List ℕ = qualified wanted.from wanted.name in
         let v = exported_value stubs one name h.0 is p (subst (λ (t : Tree). Exports t name h.0) (sym x) h.2) in

@@ -1,38 +1,31 @@
 -- What a part defines behind two others means the same.
-use Rattle.std.proofs.Common.{◌≡◌, ◌∙◌, refl, sym, ap, ap₂, subst, ℕ, zero, suc, ◌+◌, ◌-◌, ◌<◌, ◌≤◌, List, [], ◌∷◌, ◌++◌, length, get_or, map, Option, Some, None, slice_get, arith, length-append}
-use Rattle.std.specs.Prelude.{option_map, if◌then◌else◌, unwrap_or}
-use Rattle.std.specs.List.{All, AllZip, range_with_len, enumerate_from, zip}
+use Rattle.std.proofs.Common.{◌≡◌, ◌∙◌, refl, sym, ap, ap₂, subst, ℕ, zero, suc, ◌+◌, ◌-◌, ◌<◌, List, [], ◌∷◌, length, get_or, map, Some, None, slice_get, arith, length-append}
+use Rattle.std.specs.Prelude.{option_map, if◌then◌else◌}
+use Rattle.std.specs.List.{AllZip, range_with_len, enumerate_from, zip}
 use Rattle.std.proofs.lemmas.List.{length-map}
-use Rattle.std.proofs.lemmas.List.FromFn.{length-range_with_len, length-enumerate_from}
+use Rattle.std.proofs.lemmas.List.FromFn.{length-enumerate_from}
 use Rattle.std.proofs.lemmas.Option.{same_Some, slice_get_within}
 use Rattle.std.proofs.lemmas.Slice.Zip.{length-zip}
-use Rattle.bl_base.proofs.Lists.{all_get, zip_append, zip_each, zip_length}
+use Rattle.bl_base.proofs.Lists.{zip_append, zip_each, zip_length}
 use Rattle.bl_wasm.specs.IndexMaps.{Names, renamed, renamed_block_type}
-use Rattle.bl_wasm.specs.Validity.{HasTyping, IsInitial, IsValid, Typed, context_of, functions_of, globals_of, imported, global_of}
+use Rattle.bl_wasm.specs.Validity.{HasTyping, Typed, context_of, functions_of, globals_of}
 use Rattle.bl_wasm.specs.declared.instruction.Instr.{Instr}
-use Rattle.bl_wasm.specs.declared.instruction.Instr.TheVariants.{Block, Loop, If, GlobalGet}
+use Rattle.bl_wasm.specs.declared.instruction.Instr.TheVariants.{Block, Loop, If}
 use Rattle.bl_wasm.specs.declared.types.BlockType.{BlockType}
 use Rattle.bl_wasm.specs.declared.types.BlockType.TheVariants.{Empty, Value, Index}
-use Rattle.bl_wasm.specs.declared.types.GlobalType.{GlobalType}
-use Rattle.bl_wasm.specs.declared.types.FuncType.{FuncType}
-use Rattle.bl_wasm.specs.declared.types.WasmType.{WasmType}
-use Rattle.bl_wasm.specs.declared.types.WasmType.TheVariants.{I32, I64, F32, F64}
 use Rattle.bl_wasm.specs.declared.module.Code.{Code}
-use Rattle.bl_wasm.specs.declared.module.DefinedGlobal.{DefinedGlobal}
 use Rattle.bl_wasm.specs.declared.module.ExportKind.{ExportKind}
 use Rattle.bl_wasm.specs.declared.module.ExportKind.TheVariants as export
 use Rattle.bl_wasm.specs.declared.module.Module.{Module}
-use Rattle.bl_wasm.specs.declared.linked.Function.{Function}
-use Rattle.bl_wasm.specs.declared.linked.Global.{Global}
-use Rattle.bl_apart.specs.Beside.{AreBeside, Beside}
-use Rattle.bl_rename.specs.Renamings.{Numbers, function_by, slots_by}
+use Rattle.bl_apart.specs.Beside.{Beside}
+use Rattle.bl_rename.specs.Renamings.{function_by, slots_by}
 use Rattle.bl_rename.proofs.NamedInRange.{body_same, made_same}
 use Rattle.bl_labels.specs.declared.labels.Labels.{Labels}
 use Rattle.bl_apart.specs.BesideStores.{Agree, NumberAlike, Same, Setting, SpacesAlike, StoresBeside, ValueAlike}
 use Rattle.bl_link.specs.IndexSpaces.{names, number, of_kind, same_kind, spaces_of}
 use Rattle.bl_apart.specs.LinkedTypes.{External, Spaces, Store}
-use Rattle.bl_link.specs.Links.{constant_value, function, global, indexed}
-use Rattle.bl_link.proofs.NumberedLists.{Both, get_numbered, get_right, zip_filtered}
+use Rattle.bl_link.specs.Links.{function, indexed}
+use Rattle.bl_link.proofs.NumberedLists.{Both, get_numbered, zip_filtered}
 use Rattle.bl_link.proofs.PartDefinitions.{pair_at}
 
 -- ---- lists

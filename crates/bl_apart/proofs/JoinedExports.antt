@@ -1,5 +1,5 @@
 -- What is exported of the whole tree is exported of the joined one.
-use Rattle.std.proofs.Common.{◌≡◌, ◌∙◌, refl, sym, ap, ap₂, subst, ℕ, zero, suc, ◌+◌, ◌-◌, ◌<◌, ◌≤◌, List, [], ◌∷◌, ◌++◌, length, map, filter_map, Bool, true, false, ◌||◌, Option, Some, None, slice_get, ◌⊎◌, inl, inr, arith}
+use Rattle.std.proofs.Common.{◌≡◌, ◌∙◌, refl, sym, ap, ap₂, subst, ℕ, zero, suc, ◌+◌, ◌<◌, ◌≤◌, List, [], ◌∷◌, ◌++◌, length, map, filter_map, Bool, true, false, ◌||◌, Option, Some, None, slice_get, inl, inr, arith}
 use Rattle.std.specs.Prelude.{if◌then◌else◌, not, option_map, unwrap_or, fold, Ok}
 use Rattle.std.specs.List.{All, AllZip, cons_option, enumerate_from, filter}
 use Rattle.std.specs.Str.{bytes_eq}
@@ -20,7 +20,7 @@ use Rattle.bl_iface.proofs.AppendLemmas.{get_left, get_right}
 use Rattle.bl_iface.specs.JoinedProgram.{is_named}
 use Rattle.bl_iface.specs.declared.iface.FnIface.{FnIface}
 use Rattle.bl_iface.specs.declared.iface.Iface.{Iface}
-use Rattle.bl_whole.specs.JoinedTree.{goes_among, joined_tree, kept_in}
+use Rattle.bl_whole.specs.JoinedTree.{joined_tree, kept_in}
 use Rattle.bl_apart.specs.BesideStores.{EntryAlike, Exports, NumberAlike, Setting}
 use Rattle.bl_apart.specs.LinkedApart.{AreLinked, AreUsers, IsExported, IsOwn, setting, whole_numbers}
 use Rattle.bl_apart.proofs.BesideLinks.{AreLinkedBeside, stores_beside}
@@ -122,9 +122,11 @@ module _ (iface : Iface) (stubs libraries users : List Part) (stub library clien
     of_library i e =
         let linked = library_linked stubs libraries users stub library client whole are in
         let within = all_get (λ (pair : List ℕ × ℕ). pair.1 < length library.functions) library.exports i (name, function) linked.exports e in
-        let kept = kept_in iface client.exports in
-        (length kept + i, get_right kept (map moved library.exports) (length kept + i) i refl ∙ get_mapped moved library.exports i (name, function) e
-        ∙ ap (λ (f : ℕ). Some (name, f)) (sym (low (length library.functions) (length client.functions) (length stub.functions) function within)))
+        let kept = kept_in iface client.exports in (
+          length kept + i,
+          get_right kept (map moved library.exports) (length kept + i) i refl ∙ get_mapped moved library.exports i (name, function) e
+              ∙ ap (λ (f : ℕ). Some (name, f)) (sym (low (length library.functions) (length client.functions) (length stub.functions) function within)),
+        )
 
     -- those of users that aren't the stub's are kept, under the same numbers
     of_users : (j : ℕ) → IsUsers s client whole j name function → Exports (joined_tree client library iface) name ((whole_numbers stub client library).names.function function)
@@ -135,10 +137,12 @@ module _ (iface : Iface) (stubs libraries users : List Part) (stub library clien
         let test : not (is_named iface.functions name) ≡ true =
         ap not (unnamed library name (λ g there. not_both stubs libraries users stub library client whole are name g of there) iface.functions exported) in
         let kept = filtered_at (λ pair. not (is_named iface.functions pair.0)) client.exports (length stub.exports + is.at_) (name, is.mine) is.here test in
-        let within = slice_get_within (kept_in iface client.exports) kept.0 (name, is.mine) kept.1 in
-        (kept.0, get_left (kept_in iface client.exports) (map moved library.exports) kept.0 within ∙ kept.1
-        ∙ ap (λ (f : ℕ). Some (name, f)) (sym (ap (λ o. unwrap_or (option_map (λ g. length client.functions + g) o) is.mine)
-        (stays stubs libraries users stub library client whole are is.mine (theirs_alone (where_is (length stub.functions) is.mine)) iface.functions)) ∙ is.alike))
+        let within = slice_get_within (kept_in iface client.exports) kept.0 (name, is.mine) kept.1 in (
+          kept.0,
+          get_left (kept_in iface client.exports) (map moved library.exports) kept.0 within ∙ kept.1
+              ∙ ap (λ (f : ℕ). Some (name, f)) (sym (ap (λ o. unwrap_or (option_map (λ g. length client.functions + g) o) is.mine)
+              (stays stubs libraries users stub library client whole are is.mine (theirs_alone (where_is (length stub.functions) is.mine)) iface.functions)) ∙ is.alike),
+        )
       where
         theirs_alone : Where (length stub.functions) is.mine → length stub.functions ≤ is.mine
         theirs_alone (in_users j e) = omega arith

@@ -1,5 +1,5 @@
 -- Users that are linked over a stub, and over the library.
-use Rattle.std.proofs.Common.{◌≡◌, ◌∙◌, sym, ap, ℕ, ◌+◌, ◌<◌, List, ◌++◌, length, inl, inr}
+use Rattle.std.proofs.Common.{◌∙◌, sym, ap, ℕ, ◌+◌, ◌<◌, List, ◌++◌, length, inl, inr}
 use Rattle.std.specs.Prelude.{option_map, unwrap_or}
 use Rattle.std.specs.List.{All}
 use Rattle.std.proofs.lemmas.List.Elements.{All-append, All-weaker}
@@ -33,9 +33,14 @@ module _ (iface : Iface) (stubs libraries users : List Part) (stub library clien
       let there = stands_at library.exports name h.callee h.exported in
       let linked = library_linked stubs libraries users stub library client whole are in
       let within = all_get (λ (pair : List ℕ × ℕ). pair.1 < length library.functions) library.exports there.0 (name, h.callee) linked.exports there.1 in
-      inr (h.function, h.callee, stands_at stub.exports name h.function h.stands, there,
-      ap (λ o. unwrap_or (option_map (λ g. length client.functions + g) o) h.function) h.goes
-      ∙ sym (low (length library.functions) (length client.functions) (length stub.functions) h.callee within))
+      inr (
+        h.function,
+        h.callee,
+        stands_at stub.exports name h.function h.stands,
+        there,
+        ap (λ o. unwrap_or (option_map (λ g. length client.functions + g) o) h.function) h.goes
+            ∙ sym (low (length library.functions) (length client.functions) (length stub.functions) h.callee within),
+      )
 
   pub agree : Agree (setting iface stub client library)
   agree = agrees iface stub client library (λ function behind. stays stubs libraries users stub library client whole are function behind iface.functions)

@@ -18,12 +18,11 @@ use Rattle.bl_link.specs.IndexSpaces.{spaces_of}
 use Rattle.bl_link.specs.declared.part.Part.{Part}
 use Rattle.bl_apart.specs.LinkedTypes.{Store}
 use Rattle.bl_link.specs.Linkable.{IsSound}
-use Rattle.bl_link.specs.Links.{exported, links, nothing, pair, with_given, with_next}
+use Rattle.bl_link.specs.Links.{exported, nothing, pair, with_given, with_next}
 use Rattle.bl_link.specs.Stores.{IsOfPart, OfPart}
 use Rattle.bl_link.proofs.LinkedTrees.{all_kept, linked, ok_same, on_ok_is}
 use Rattle.bl_link.proofs.NameLemmas.{came}
 use Rattle.bl_iface.specs.declared.iface.FnIface.{FnIface}
-use Rattle.bl_iface.specs.declared.iface.Iface.{Iface}
 use Rattle.bl_whole.specs.JoinedTree.{goes_among}
 use Rattle.bl_apart.specs.BesideStores.{Exports}
 use Rattle.bl_apart.specs.LinkedApart.{AreLinked}
@@ -37,8 +36,8 @@ pub append_cases : {A : Type 0} (xs ys : List A) (i : ℕ) (x : A) → slice_get
 append_cases [] ys i x e = inr (i, omega arith, e)
 append_cases (y ∷ xs) ys zero x e = inl e
 append_cases (y ∷ xs) ys (suc i) x e = elim (append_cases xs ys i x e) [
-    | inl h ↦ inl h
-    | inr h ↦ let same = h.1 in inr (h.0, omega arith, h.2)
+  | inl h ↦ inl h
+  | inr h ↦ let same = h.1 in inr (h.0, omega arith, h.2)
 ]
 
 pub stands_at : (exports : Pairs) (name : List ℕ) (function : ℕ) → number_of name exports ≡ Some function → (i : ℕ) × (slice_get exports i ≡ Some (name, function))
@@ -119,8 +118,8 @@ module _ (stubs libraries users : List Part) (stub library client whole : Tree) 
   -- what the client exports is the stub's, or named after a user
   pub whose : (name : List ℕ) (function : ℕ) → Exports client name function → Exports stub name function ⊎ IsOfPart users name
   whose name function there = elim (append_cases stub.exports client_named.more there.0 (name, function) (ap (λ (l : Pairs). slice_get l there.0) (sym client_named.behind) ∙ there.1)) [
-      | inl h ↦ inl (there.0, h)
-      | inr h ↦ inr (all_get (OfPart users) client_named.more h.0 (name, function) client_named.named h.2)
+    | inl h ↦ inl (there.0, h)
+    | inr h ↦ inr (all_get (OfPart users) client_named.more h.0 (name, function) client_named.named h.2)
   ]
 
   -- no function behind the stub's goes to the library

@@ -1,5 +1,5 @@
 -- The same parts linked behind different others.
-use Rattle.std.specs.Prelude.{◌≡◌, ℕ, ◌+◌, ◌<◌, List, ◌++◌, length, slice_get, Some, None, Ok, fold, ◌⊎◌}
+use Rattle.std.specs.Prelude.{◌≡◌, ℕ, ◌+◌, List, ◌++◌, length, slice_get, Some, None, Ok, fold, ◌⊎◌}
 use Rattle.std.specs.List.{All, AllZip, Contains, enumerate_from}
 use Rattle.bl_wasm.specs.declared.module.ExportKind.{ExportKind}
 use Rattle.bl_wasm.specs.declared.module.ExportKind.TheVariants as export

@@ -1,5 +1,5 @@
 -- Runs of a tree are runs of a tree that renames it.
-use Rattle.std.proofs.Common.{◌≡◌, ℕ, zero, suc, ◌+◌, ◌<◌, ◌≤◌, List, [], ◌∷◌, length, map, set, Option, Some, None, slice_get, refl, sym, ap, ◌∙◌, subst, arith}
+use Rattle.std.proofs.Common.{◌≡◌, ℕ, suc, ◌<◌, List, [], ◌∷◌, length, map, set, Option, Some, None, slice_get, refl, sym, ap, ◌∙◌, subst, arith}
 use Rattle.std.specs.List.{All, fold}
 use Rattle.std.proofs.lemmas.List.{length-map, length-set}
 use Rattle.std.proofs.lemmas.List.Elements.{All-drop, All-get_or}
@@ -13,7 +13,6 @@ use Rattle.bl_base.specs.declared.start.Start.{Start}
 use Rattle.bl_base.proofs.Lists.{all_from, all_get, get_mapped, mapped_get, past_end}
 use Rattle.bl_base.proofs.RunLemmas.{IsEnd, IsNext}
 use Rattle.bl_reduce.specs.Runnable.{IsRunnable}
-use Rattle.bl_wasm.specs.declared.linked.Memory.{Memory}
 use Rattle.bl_wasm.specs.declared.linked.Tree.{Tree}
 use Rattle.bl_reduce.specs.Configurations.{Config}
 use Rattle.bl_reduce.specs.Outcomes.{IsStart, first_memory, first_store, opening, source}
