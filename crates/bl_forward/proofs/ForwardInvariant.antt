@@ -39,7 +39,6 @@ plainly_holds P None h = tt
 plainly_holds P (Some step) h = h
 
 module _ (program : Program) (facts : IsProgram program) (rules : IsWellFormed program) (from : PlainState) (opened : IsOpened program from) where
-
   -- a load that the plain run comes to lies in the memories
   lies_by : (c : Config) (protect : Bool) (kind : AccessKind) (memory : ℕ) (to : Register) (offset : ℕ) (address : Source) (x : Fetched)
       → IsLoad (Load protect kind memory to offset address) x → InsideOf program c x
