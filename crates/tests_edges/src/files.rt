@@ -63,7 +63,7 @@ fn a_file_is_kept_byte_for_byte(rt: HostRuntime) -> std::result::Result<(), Fail
 }
 
 /// Whether these bytes of the file are read from a place on.
-fn reads<F: Shelf>(shelf: &mut F, from: u32, bytes: &[u8]) -> bool {
+fn reads<F: Shelf>(shelf: &mut F, from: u8, bytes: &[u8]) -> bool {
     match shelf.part("text", u64::from(from), 6) {
         Ok(piece) => piece.as_slice() == bytes,
         Err(_) => false,
