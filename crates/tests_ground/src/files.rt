@@ -4,11 +4,12 @@ use bl_base::NoMemory;
 use bl_outside::{FileShelf, Shelf};
 use std::alloc::Global;
 use std::fs::remove_file;
+use std::random::RandomSource;
 use std::rt::Files;
 use std::test::Fail;
 
 /// Whether a file is given back up to one byte beyond the limit, and its fetch fails once it is removed.
-fn is_given_back<R: Files>(alloc: Global, rt: &R, name: &str) -> bool {
+fn is_given_back<R: Files + RandomSource>(alloc: Global, rt: &R, name: &str) -> bool {
     let mut shelf = FileShelf::new(alloc, rt);
     let kept = shelf.keep(name, b"bytes").is_ok();
     let given = gives(&mut shelf, name, 3, b"byte");
@@ -32,7 +33,7 @@ fn long(alloc: Global, count: u64) -> Result<Vec<u8>, NoMemory> {
 }
 
 /// Whether a file is given back whole, and its first 15,000 bytes where one less is asked for.
-fn is_read_whole<R: Files>(alloc: Global, rt: &R, name: &str, bytes: &[u8]) -> bool {
+fn is_read_whole<R: Files + RandomSource>(alloc: Global, rt: &R, name: &str, bytes: &[u8]) -> bool {
     let mut shelf = FileShelf::new(alloc, rt);
     let kept = shelf.keep(name, bytes).is_ok();
     let whole = gives(&mut shelf, name, 20_000, bytes);
@@ -45,7 +46,7 @@ fn is_read_whole<R: Files>(alloc: Global, rt: &R, name: &str, bytes: &[u8]) -> b
 }
 
 /// Whether that holds of 20,000 bytes.
-fn are_read_whole<R: Files>(alloc: Global, rt: &R) -> Result<bool, NoMemory> {
+fn are_read_whole<R: Files + RandomSource>(alloc: Global, rt: &R) -> Result<bool, NoMemory> {
     let bytes = long(alloc, 20_000)?;
     Ok(is_read_whole(alloc, rt, "tests_basics_long", &bytes))
 }
@@ -74,7 +75,7 @@ fn is_read_in_pieces<F: Shelf>(shelf: &mut F, name: &str, other: &str, bytes: &[
 }
 
 /// Whether that holds of files of those names, which are kept before.
-fn is_kept_in_pieces<R: Files>(rt: &R, alloc: Global, bytes: &[u8]) -> bool {
+fn is_kept_in_pieces<R: Files + RandomSource>(rt: &R, alloc: Global, bytes: &[u8]) -> bool {
     let (name, other) = ("tests_basics_pieces", "tests_basics_between");
     let mut shelf = FileShelf::new(alloc, rt);
     let kept = shelf.keep(name, bytes).is_ok() && shelf.keep(other, b"other").is_ok();
@@ -84,7 +85,7 @@ fn is_kept_in_pieces<R: Files>(rt: &R, alloc: Global, bytes: &[u8]) -> bool {
 }
 
 /// Whether that holds of 20,000 bytes.
-fn are_kept_in_pieces<R: Files>(alloc: Global, rt: &R) -> Result<bool, NoMemory> {
+fn are_kept_in_pieces<R: Files + RandomSource>(alloc: Global, rt: &R) -> Result<bool, NoMemory> {
     let bytes = long(alloc, 20_000)?;
     Ok(is_kept_in_pieces(rt, alloc, &bytes))
 }
@@ -96,7 +97,7 @@ fn a_file_shelf_is_read_in_pieces(rt: HostRuntime) -> Result<(), Fail> {
 }
 
 /// Whether a file that is removed is read on, but not once it would have to be opened anew, and not on after that refusal.
-fn is_read_on<R: Files>(alloc: Global, rt: &R, name: &str) -> bool {
+fn is_read_on<R: Files + RandomSource>(alloc: Global, rt: &R, name: &str) -> bool {
     let mut shelf = FileShelf::new(alloc, rt);
     let kept = shelf.keep(name, b"two pieces").is_ok();
     let begun = reads(&mut shelf, name, 0, 3, b"two");
@@ -116,7 +117,7 @@ fn a_file_shelf_reads_on_where_name_and_place_fit(rt: HostRuntime) -> Result<(),
 }
 
 /// Whether a file is opened anew where another one stands open at that place, and where it was kept since.
-fn are_told_apart<R: Files>(alloc: Global, rt: &R, name: &str, other: &str) -> bool {
+fn are_told_apart<R: Files + RandomSource>(alloc: Global, rt: &R, name: &str, other: &str) -> bool {
     let mut shelf = FileShelf::new(alloc, rt);
     let kept = shelf.keep(name, b"ab12").is_ok() && shelf.keep(other, b"cd34").is_ok();
     let apart = reads(&mut shelf, name, 0, 2, b"ab") && reads(&mut shelf, other, 2, 2, b"34");
@@ -133,17 +134,17 @@ fn a_file_shelf_reads_on_in_one_file_alone(rt: HostRuntime) -> Result<(), Fail> 
 }
 
 /// Whether a file of that name has those bytes.
-fn has<R: Files>(alloc: Global, rt: &R, name: &str, bytes: &[u8]) -> bool {
+fn has<R: Files + RandomSource>(alloc: Global, rt: &R, name: &str, bytes: &[u8]) -> bool {
     gives(&mut FileShelf::new(alloc, rt), name, 100, bytes)
 }
 
 /// Whether these bytes are kept under that name.
-fn keeps<R: Files>(alloc: Global, rt: &R, name: &str, bytes: &[u8]) -> bool {
+fn keeps<R: Files + RandomSource>(alloc: Global, rt: &R, name: &str, bytes: &[u8]) -> bool {
     FileShelf::new(alloc, rt).keep(name, bytes).is_ok()
 }
 
 /// Whether a file is made where there is none, and replaced where there is one.
-fn is_replaced<R: Files>(alloc: Global, rt: &R, name: &str) -> bool {
+fn is_replaced<R: Files + RandomSource>(alloc: Global, rt: &R, name: &str) -> bool {
     let made = keeps(alloc, rt, name, b"old bytes") && has(alloc, rt, name, b"old bytes");
     let new = keeps(alloc, rt, name, b"new") && has(alloc, rt, name, b"new");
     let removed = remove_file(rt, name).is_ok();
