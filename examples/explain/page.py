@@ -51,9 +51,9 @@ def listing_of(image: Image, lines: Lines, sources: Dict[str, int]) -> List[dict
             spot = lines.spot(position)
             told = instruction if spot and spot.row.position == position else ""
             source = f"{line.place}  {lines.source(line)}" if line.number else ""
-            shown = source if source != former else ""
+            fresh = source if source != former else ""
             former = source or former
-            rows.append([position, command_text(image, image.commands[position]), told, sources.setdefault(shown, len(sources))])
+            rows.append([position, command_text(image, image.commands[position]), told, sources.setdefault(fresh, len(sources))])
         found.append({"name": function_name(number, image, lines), "rows": rows})
     return found
 
