@@ -138,7 +138,7 @@ def section_of(one: Annotated) -> bytes:
 
 def annotated(module: Module, one: Annotated) -> bytes:
     """The module with the section in front of its code, as the conventions ask; its code stays as it is, byte for byte."""
-    parts, done = [], False
+    parts = []
     for section in module.sections:
         if section.name == NAME:
             continue
