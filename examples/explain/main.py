@@ -9,9 +9,12 @@ from . import compare, diagnostics, metadata, page, sarif, text
 from .causes import Cause, add_ends, causes_of
 from .ending import ended
 from .evidence import RUN, Evidence, evidence_of_run, read_witness, secret_of
+from .flow import Findings, find
+from .guesses import Guesser, settle
+from .image import Image, image_at
 from .lines import Lines
 from .lowering import Linked, lower
-from .protects import protects_of, read_certificate
+from .protects import Protect, protects_of, read_certificate
 from .labels import is_labelled
 from .reading import read_file, read_text
 from .secrets import declared
