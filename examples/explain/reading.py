@@ -7,7 +7,7 @@ from typing import BinaryIO, Callable, List, TypeVar
 Item = TypeVar("Item")
 # The limits of docs/CLI.md: bytes of files, then numbers.
 LIMITS = {
-    "module": 4_194_304, "image": 134_217_728, "certificate": 268_435_456, "start": 16_777_216, "report": 268_435_456,
+    "module": 4_194_304, "image": 134_217_728, "certificate": 268_435_456, "start": 16_777_216, "report": 268_435_456, "interface": 1_048_576,
     "modules": 8, "functions": 10_000, "results": 1_024, "table": 1_024, "memory": 256, "reserve": 1_024, "locals": 4_096, "nesting": 256,
     "targets": 1_024, "commands": 1_048_576, "variables": 2_147_483_647}
 MOST_CALLS = 1_024
