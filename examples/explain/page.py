@@ -7,12 +7,12 @@ import html
 import json
 import os
 import re
-from typing import Dict, List, Optional, Sequence
+from typing import Dict, List, Optional, Sequence, Tuple
 
 from .causes import Cause
 from .flow import Findings
 from .image import Command, Image, Operand
-from .lines import Lines
+from .lines import Line, Lines
 from .lowering import ACCESS_NAMES, KINDS
 from .protects import Protect, function_name
 from .evidence import Evidence
@@ -41,19 +41,42 @@ def command_text(image: Image, command: Command) -> str:
     return " ".join([command.kind, operands, *map(str, command.targets)]).replace("  ", " ").strip()
 
 
-def listing_of(image: Image, lines: Lines, sources: Dict[str, int]) -> List[dict]:
-    """Each function with its commands: position, command, instruction, and the number of its line of C."""
+class Files:
+    """The files of lines by number, and of each the lines from the first to the last one that has code, with two before."""
+
+    def __init__(self, lines: Lines) -> None:
+        self.lines = lines
+        self.numbers: Dict[str, int] = {}
+        self.ranges: List[Tuple[int, int]] = []
+
+    def place(self, line: Line) -> Tuple[int, int]:
+        """The number of a line's file, and its own; -1 where it has none."""
+        if not line.number:
+            return -1, 0
+        at = self.numbers.setdefault(line.path, len(self.numbers))
+        if at == len(self.ranges):
+            self.ranges.append((line.number, line.number))
+        first, last = self.ranges[at]
+        self.ranges[at] = min(first, line.number), max(last, line.number)
+        return at, line.number
+
+    def data(self) -> List[dict]:
+        found = []
+        for path, (first, last) in zip(self.numbers, self.ranges):
+            first = max(1, first - 2)
+            found.append({"name": os.path.basename(path), "first": first, "lines": [text.replace("\t", "    ") for text in self.lines.sources.lines(path)[first - 1 : last]]})
+        return found
+
+
+def listing_of(image: Image, lines: Lines, files: Files) -> List[dict]:
+    """Each function with its commands: position, command, instruction, and the numbers of its file and line of C."""
     found = []
     for number, function in enumerate(image.functions):
-        rows, former = [], ""
+        rows = []
         for position in range(function.entry, function.entry + function.length):
-            line, instruction = lines.line(position), lines.instruction(position)
             spot = lines.spot(position)
-            told = instruction if spot and spot.row.position == position else ""
-            source = f"{line.place}  {lines.source(line)}" if line.number else ""
-            fresh = source if source != former else ""
-            former = source or former
-            rows.append([position, command_text(image, image.commands[position]), told, sources.setdefault(fresh, len(sources))])
+            told = lines.instruction(position) if spot and spot.row.position == position else ""
+            rows.append([position, command_text(image, image.commands[position]), told, *files.place(lines.line(position))])
         found.append({"name": function_name(number, image, lines), "rows": rows})
     return found
 
@@ -79,15 +102,14 @@ def protect_data(protect: Protect, lines: Lines) -> dict:
 def page_of(path: str, found: Findings, causes: Sequence[Cause], protects: Sequence[Protect], lines: Lines, evidence: Optional[Evidence] = None) -> str:
     if lines.has_lines:
         lines.ask(range(7, len(found.image.commands)))
-    sources: Dict[str, int] = {"": 0}
+    files = Files(lines)
     data = {
         "declared": declared_text(found), "verdict": verdict_text(found, (), evidence), "evidence": list(evidence_text(evidence, lines)) if evidence else [],
         "witnessed": evidence.witness.end(found.image) if evidence and evidence.witness else None,
-        "functions": listing_of(found.image, lines, sources), "sources": [],
+        "functions": listing_of(found.image, lines, files), "files": files.data(),
         "causes": [cause_data(number, cause, lines) for number, cause in enumerate(causes, 1)],
         "protects": [protect_data(protect, lines) for protect in protects],
         "refused": sorted({end.position for end in found.refused})}
-    data["sources"] = list(sources)
     with open(os.path.join(os.path.dirname(os.path.abspath(__file__)), "page.html"), encoding="utf-8") as file:
         template = file.read()
     words = {"TITLE": html.escape(shown(os.path.basename(path))), "DATA": spelled(data), "POLICY": policy(template)}
