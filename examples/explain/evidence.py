@@ -134,6 +134,10 @@ class Evidence:
         guilty = {origin.position for origin in self.found.guilty}
         return sorted(position for position, mark in self.meeting.loads.items() if not mark and position in guilty)
 
+    def not_reached(self) -> List[int]:
+        """The refused positions that the run doesn't come to."""
+        return [position for position in dict.fromkeys(end.position for end in self.found.refused) if position not in self.meeting.reached]
+
     def tallied(self) -> Tuple[int, int, int]:
         """How many refused positions there are, how many the run came to, and how many met there what may change."""
         refused: Dict[int, Set[int]] = {}

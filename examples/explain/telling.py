@@ -106,7 +106,7 @@ def of_the_run(evidence: Evidence, lines: Lines) -> Iterator[str]:
         said = f"{left} ends would still be refused" if left else "none would be refused"
         yield f"  looks public, {UNPROVED}: these lines never loaded what was changed; were it public, {said}: {places(clean, lines)}"
         yield f"    (blade-explain --public {','.join(map(str, clean))})"
-    missed = [position for position in dict.fromkeys(end.position for end in evidence.found.refused) if position not in evidence.meeting.reached]
+    missed = evidence.not_reached()
     if missed:
         yield f"  not reached, give other starts: {places(missed, lines)}"
 

@@ -84,7 +84,7 @@ LEAKS = [
     *(Leak("guesses.low", f"guesses/{name}", AT_16, "--public", told=("under a wrong guess", "guesses.c:")) for name in ("address", "branch", "divide", "call")),
     Leak("guesses.low", "guesses/scaled", "arg 3\narg 4\n" + VAULT, "--public", told=("under a wrong guess",)),
     Leak("guesses.low", "guesses/two", "arg 3\narg 16\narg 0\n" + VAULT, "--public", told=("under a wrong guess",)),
-    Leak("guesses.low", "guesses/loop", "arg 131064\narg 8\n" + VAULT, told=("under a wrong guess",)),
+    Leak("guesses.low", "guesses/loop", "arg 196600\narg 8\n" + VAULT, told=("under a wrong guess",)),
     Leak("guesses.low", "guesses/store", AT_16, "--public --forward", told=("under a wrong guess", "again: blade forward")),
     Leak("debug.low", "guesses/debug", "arg 3\narg 0\n", told=("under a wrong guess",)),
     Leak("debug", "guesses/debug", "arg 3\narg 0\n", told=("under a wrong guess",)),
@@ -101,7 +101,7 @@ QUIET = [
     *(Leak("guesses", f"guesses/{name}", AT_16, "--public") for name in ("address", "branch", "divide", "call", "store")),
     Leak("guesses", "guesses/scaled", "arg 3\narg 4\n" + VAULT, "--public"),
     Leak("guesses", "guesses/two", "arg 3\narg 16\narg 0\n" + VAULT, "--public"),
-    Leak("guesses", "guesses/loop", "arg 131064\narg 8\n" + VAULT, "--public"),
+    Leak("guesses", "guesses/loop", "arg 196600\narg 8\n" + VAULT, "--public"),
     Leak("guesses.low", "guesses/store", AT_16, "--public"),
     Leak("guesses", "guesses/store", AT_16, "--public --forward"),
     *(Leak("calls", f"calls/{name}", f"arg 8192\narg 4096\narg 7\nmemory 0 4096 {'0102030405060708'}\n") for name in ("copy", "move", "compare")),
@@ -116,6 +116,8 @@ def modules_of(check, image: str) -> List[str]:
     peers = {"guesses": ["vault"], "index": ["vault"], "frame": ["vault"], "address": ["vault"], "handle": ["vault"], "into": ["ledger"], "piece": ["ledger"]}
     if name in ("guesses", "debug"):
         return [f"{folder}/{'debug/' * (name == 'debug')}guesses.wasm", f"{folder}/vault.wasm"]
+    if image == "lookup":
+        return [f"{EXAMPLES}/lookup.wasm"]
     if image == "piece.g":
         return [f"{folder}/plain/piece.wasm"]
     return [f"{folder}/{peer}.wasm" for peer in peers.get(name, [])] + [f"{folder}/{name}.wasm"] if name in peers else []
@@ -125,7 +127,7 @@ def compiled(check, name: str, to: str, flags: Tuple[str, ...] = ()) -> None:
     """A module of C with lines and a memory that doesn't grow."""
     os.makedirs(os.path.dirname(to), exist_ok=True)
     clang = "clang --target=wasm32 -mcpu=mvp -O2 -ffreestanding -g".split()
-    link = "wasm-ld --no-entry -z stack-size=1024 --initial-memory=131072 --max-memory=131072".split()
+    link = "wasm-ld --no-entry --stack-first -z stack-size=65536 --initial-memory=196608 --max-memory=196608".split()
     subprocess.run([*clang, *flags, f"-I{EXAMPLES}", "-c", "-o", f"{to}.o", f"{EXAMPLES}/{name}.c"], check=True)
     subprocess.run([*link, "-o", f"{to}.linked", f"{to}.o"], check=True)
     subprocess.run(["wasm-opt", "-g", "--untee", "--ssa", f"{to}.linked", "-o", to], check=True, stderr=subprocess.DEVNULL)
