@@ -45,8 +45,8 @@ def verdict_text(found: Findings, public: Sequence[int], evidence: Optional[Evid
 
 def place_text(lines: Lines, position: int) -> str:
     """A position by its line of C and its instruction, as far as they are known."""
-    instruction = lines.instruction(position)
-    return f"{lines.place(position)} ({instruction + ', ' if instruction else ''}position {position})".strip()
+    place, instruction = lines.place(position), lines.instruction(position)
+    return f"{place} ({instruction + ', ' if instruction else ''}position {position})" if place else f"position {position}"
 
 
 def evidence_text(evidence: Evidence, lines: Lines) -> Iterator[str]:
