@@ -2,7 +2,7 @@
 // another memory is read as if it were of the table. Linked in front of a module with a secret memory.
 // Licence: public domain (CC0).
 
-static const unsigned char table[16] = {1, 2, 3, 4, 5, 6, 7, 8, 9, 10, 11, 12, 13, 14, 15, 16};
+unsigned char table[16] = {1, 2, 3, 4, 5, 6, 7, 8, 9, 10, 11, 12, 13, 14, 15, 16};
 unsigned char lines[65536];
 static volatile unsigned seen;
 
