@@ -52,6 +52,7 @@ YES = [
          HEAD + "#include <string.h>\nBLADE_SECRET_MEMORY;\nvoid fill(char *p, unsigned n) { memset(p, 0, n); }\n"),
     Case("both", ["--label", "secret-memory 0 secret-param both 0"], 0, ["1 parameter, 1 memory"],
          HEAD + "int both(int x);\nBLADE_SECRET_PARAM(both, x);\nint both(int x) { return x + 1; }\n"),
+    Case("by_name", ["--label", "secret-param by_name key"], 0, ["1 parameter"], "int by_name(int mode, int key) { return mode + key; }\n"),
     Case("meant", ["--unlabelled"], 0, ["constant-time yes"], "unsigned meant(unsigned x) { return x; }\n"),
     Case("returned", MEMORY, 0, ["1 parameter, 1 memory"],
          BIG + "big f(int n);\nBLADE_SECRET_PARAM(f, n);\nbig f(int n) { big b = {{n}}; return b; }\n"),
@@ -87,6 +88,7 @@ LABELS = [
     Case("dropped", ["-Wno-unused"], 5, ["dropped.c:3: error: there is no function g"],
          HEAD + "static int g(int x);\nBLADE_SECRET_PARAM(g, x);\nstatic int g(int x) { return x + 1; }\nint h(int y) { return y; }\n"),
     Case("unlined", ["-g0"], 5, ["unlined.c:3: error: f has no DWARF"], HEAD + "int f(int x);\nBLADE_SECRET_PARAM(f, 0);\nint f(int x) { return x * 2; }\n"),
+    Case("nothing", ["--label", "secret-param nothing kye"], 5, ["nothing has no parameter kye: do you mean key?"], "int nothing(int key) { return key; }\n"),
     Case("nobody", ["--label", "secret-param nobdy 0"], 5, ["no function is called nobdy"], "int nobody(int x) { return x; }\n"),
 ]
 REFUSALS = [

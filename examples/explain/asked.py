@@ -3,8 +3,11 @@ from __future__ import annotations
 
 import os
 import re
+import shlex
 from dataclasses import dataclass, field
 from typing import Callable, Dict, List, Optional, Sequence, Tuple
+
+from .reading import read_file
 
 YES, NO, USAGE, BUILD, MISSING, LABELS, REFUSED, DISAGREE = range(8)
 SOURCES = (".c", ".cc", ".cpp", ".cxx", ".C", ".s", ".S", ".i")
@@ -95,6 +98,10 @@ def asked_by(words: Sequence[str]) -> Asked:
     values = setters(asked)
     while rest:
         word = rest.pop(0)
+        if word.startswith("@") and os.path.isfile(word[1:]):
+            # A file of words, as CMake makes them.
+            rest[:0] = shlex.split(read_file(word[1:]).decode())
+            continue
         name, is_joined, value = word.partition("=")
         if word in values or word in WITH_NEXT:
             if not rest:

@@ -40,7 +40,9 @@ class Driver:
         self.program = program(asked.blade)
         self.module = asked.name or asked.base
         out = asked.out or f"{self.module}.blade/"
-        self.file = out if not out.endswith("/") and os.path.splitext(out)[1] and not os.path.isdir(out) else ""
+        # A linker's output is a file, and so is what has an ending.
+        is_file = not out.endswith("/") and not os.path.isdir(out) and bool(os.path.splitext(out)[1] or not asked.sources)
+        self.file = out if is_file else ""
         self.folder = f"{os.path.splitext(out)[0]}.blade" if self.file else out.rstrip("/")
         if self.file and not asked.name:
             self.module = os.path.splitext(os.path.basename(out))[0]
@@ -214,6 +216,12 @@ def line_of(module: Module, place: int):
     return lines.known.get((module.path, place - module.code), chosen([]))
 
 
+def mark(driver: Optional[Driver]) -> None:
+    """Where a folder is make's target, one that isn't made is older than all that it is made of."""
+    if driver and not driver.file and os.path.isdir(driver.folder):
+        os.utime(driver.folder, (0, 0))
+
+
 def write_errors(driver: Optional[Driver], stop: Stop) -> None:
     """A log of errors for editors, where the work ended before the places were told."""
     if driver and stop.lines and os.path.isdir(driver.folder):
@@ -232,12 +240,15 @@ def status_of(words: Sequence[str], usage: str) -> int:
         if not asked.sources and not asked.objects:
             raise Stop(USAGE, "blade-cc: error: no file is given")
         driver = Driver(asked)
-        return driver.all()
+        status = driver.all()
     except Stop as stop:
         write_errors(driver, stop)
         for line in (line for one in stop.lines for line in one.split("\n")):
             say(line, sys.stderr)
-        return stop.status
+        status = stop.status
+    if status:
+        mark(driver)
+    return status
 
 
 def main(words: Sequence[str], usage: str) -> int:

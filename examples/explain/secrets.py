@@ -211,11 +211,22 @@ def of_source(module: Module) -> Labelled:
     return Labelled(found, errors, [])
 
 
+def numbered(module: Module, words: Sequence[str]) -> List[str]:
+    """Words with the numbers of parameters in place of their names in C."""
+    made, resolver = list(words), None
+    for at in range(len(made) - 2):
+        if made[at] == "secret-param" and not made[at + 2].isdigit():
+            resolver = resolver or Resolver(module)
+            function = number_of(module, "function", made[at + 1])
+            made[at + 2] = str(resolver.parameter(function, next((one for one in resolver.told if one.function == function), None), made[at + 2]))
+    return made
+
+
 def labels_of(module: Module, words: Sequence[str] = ()) -> Labelled:
     """What the source declares, and what words declare besides."""
     found, errors, warnings = of_source(module)
     by_source = [entry for entry, _ in found]
-    by_words = [entry for entry in entries_in(module, words) if entry not in by_source]
+    by_words = [entry for entry in entries_in(module, numbered(module, words)) if entry not in by_source]
     check(module, by_source + by_words)
     params = [numbers[0] for kind, numbers in by_words if kind == "secret-param"]
     told = subprograms(module) if params else []
