@@ -63,9 +63,9 @@ class Driver:
             os.makedirs(folder, exist_ok=True)
 
     def all(self) -> int:
+        self.clear()
         for name in ["clang"] * bool(self.asked.sources) + ["wasm-ld", "wasm-opt", "llvm-symbolizer"]:
             found(name)
-        self.clear()
         objects = self.builder.objects()
         linked = self.builder.link(objects)
         wrong = left_out(linked, [one for one in objects + self.builder.archives() if os.path.exists(one)])
@@ -102,15 +102,19 @@ class Driver:
         written_to(to, with_source(module_of(made, to), words, False, True)[0])
         return [to, labelled]
 
+    def blade(self, *words: str, to: str = "") -> Ran:
+        """Runs the program. What its launcher says goes on to who asked: it may build for an hour."""
+        return self.runner.run([self.program, *words], to, None)
+
     def harden(self, modules: List[str]) -> Tuple[str, str]:
         """The report, and what verify says."""
         image, certificate = f"{self.aside}/{self.module}.img", f"{self.aside}/{self.module}.json"
-        done = self.runner.run([self.program, "harden", image, certificate, *modules, *self.counts(modules)], f"{self.folder}/report.txt")
+        done = self.blade("harden", image, certificate, *modules, *self.counts(modules), to=f"{self.folder}/report.txt")
         if done.status:
             raise Stop(REFUSED, *self.refused(done, modules[-1]))
-        verified = self.runner.run([self.program, "verify", image, certificate], f"{self.folder}/verify.txt")
+        verified = self.blade("verify", image, certificate, to=f"{self.folder}/verify.txt")
         if verified.status or verified.out.splitlines()[:2] != ["certificate yes", "stable yes"]:
-            raise Stop(DISAGREE, f"blade-cc: error: verify doesn't agree with harden: {verified.out.strip() or verified.errors.strip()}")
+            raise Stop(DISAGREE, f"blade-cc: error: verify doesn't agree with harden: {verified.out.strip() or verified.status}")
         return done.out, verified.out
 
     def counts(self, modules: List[str]) -> List[str]:
@@ -118,7 +122,7 @@ class Driver:
         if not self.asked.counts:
             return []
         image, total = f"{self.folder}/build/{self.module}.lowered.img", f"{self.folder}/build/{self.module}.counts"
-        done = self.runner.run([self.program, "lower", image, *modules])
+        done = self.blade("lower", image, *modules)
         if done.status:
             raise Stop(REFUSED, *self.refused(done, modules[-1]))
         files = [self.counted(image, one, f"{self.folder}/build/{at}.counts", modules[-1]) for at, one in enumerate(self.asked.counts)]
@@ -133,14 +137,14 @@ class Driver:
         exports = [told for sort, told in read_module(module).exports if sort == FUNCTION]
         if not name and len(exports) != 1:
             raise Stop(USAGE, f"blade-cc: error: --counts {given}: EXPORT=FILE says which function runs: {', '.join(exports[:8])}")
-        done = self.runner.run([self.program, "run", image, f"{self.module}/{name or exports[0]}", start, "--steps", STEPS, "--counts", to])
+        done = self.blade("run", image, f"{self.module}/{name or exports[0]}", start, "--steps", STEPS, "--counts", to)
         if done.status:
-            raise Stop(REFUSED, f"blade-cc: error: the run from {start} ends with: {done.out.splitlines()[0] if done.out else done.errors.strip()}")
+            raise Stop(REFUSED, f"blade-cc: error: the run from {start} ends with: {done.out.splitlines()[0] if done.out else done.status}")
         return to
 
     def refused(self, done: Ran, path: str) -> List[str]:
         """What the program refused, by the line of C where that is known."""
-        module, said = read_module(path), done.out.strip() or done.errors.strip() or f"status {done.status}"
+        module, said = read_module(path), done.out.strip() or f"status {done.status}"
         try:
             function, place, why = refusal(module, said)
         except (Bad, IndexError, ValueError):

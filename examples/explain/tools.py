@@ -8,7 +8,7 @@ import shlex
 import shutil
 import subprocess
 import sys
-from typing import NamedTuple, Sequence
+from typing import NamedTuple, Optional, Sequence
 
 from .asked import MISSING, Stop
 from .writing import write_file as written_to
@@ -80,10 +80,10 @@ class Runner:
         if self.is_shown:
             print(f" {text}", file=sys.stderr, flush=True)
 
-    def run(self, words: Sequence[str], to: str = "") -> Ran:
-        """What is printed goes to a file, too, where one is named."""
+    def run(self, words: Sequence[str], to: str = "", errors: Optional[int] = subprocess.PIPE) -> Ran:
+        """What is printed goes to a file, too, where one is named; errors are kept, or go on to who asked (None)."""
         self.show(words, to)
-        done = subprocess.run(words, capture_output=True, text=True, check=False)
+        done = subprocess.run(words, stdout=subprocess.PIPE, stderr=errors, text=True, check=False)
         if to:
             written_to(to, done.stdout.encode())
-        return Ran(done.returncode, done.stdout, done.stderr)
+        return Ran(done.returncode, done.stdout, done.stderr or "")
