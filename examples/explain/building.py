@@ -94,8 +94,10 @@ class Builder:
         return [f"--export={name}" for name in dict.fromkeys(names)]
 
     def memory(self, pages: int) -> List[str]:
+        """Words for as many pages at last as at first, as far as the words that were given don't say it."""
         asked = self.asked
-        return [word for word in (f"--initial-memory={pages * PAGE}", f"--max-memory={pages * PAGE}") if not asked.is_linked_with(word.partition("=")[0])]
+        size = next((word.partition("=")[2] for word in asked.links if word.startswith("--initial-memory=")), str(pages * PAGE))
+        return [word for word in (f"--initial-memory={size}", f"--max-memory={size}") if not asked.is_linked_with(word.partition("=")[0])]
 
     def link(self, objects: List[str]) -> Module:
         """The linked module: again with what the first attempts lack, which are a library, exports, and memory for all data."""
