@@ -1,4 +1,4 @@
-"""What is refused, for scripts (JSON, by docs/explain.schema.json) and for code scanning and editors (SARIF 2.1.0). Licence: public domain (CC0)."""
+"""What is refused, for scripts (JSON, by problems.schema.json) and for code scanning and editors (SARIF 2.1.0). Licence: public domain (CC0)."""
 from __future__ import annotations
 
 import hashlib
