@@ -94,7 +94,7 @@ def section(number: int, parts: Sequence[bytes]) -> bytes:
 
 
 def body(earlier: int) -> bytes:
-    """A body of its own behind so many functions of the type: it divides their number by 0, which no tool takes for the division of another number."""
+    """A body of its own behind so many functions of the type: it divides their number by 0, which wasm-opt doesn't take for the division of another."""
     own = b"\x41" + constant(earlier) + b"\x41\x00\x6e" if earlier else b""
     made = leb(0) + own + UNREACHABLE + END
     return leb(len(made)) + made
