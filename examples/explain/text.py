@@ -63,7 +63,7 @@ def evidence_text(evidence: Evidence, lines: Lines) -> Iterator[str]:
 def table(causes: Sequence[Cause]) -> Iterator[str]:
     yield "      ends that it reaches (conditions, addresses, others): the line that loads it"
     for number, cause in enumerate(causes, 1):
-        place = cause.place.split(" position ")[0].split(" ")[0] if cause.source and ":" in cause.place else cause.place or cause.declared
+        place = cause.place.split(" position ")[0].rsplit(" ", 1)[0] if cause.source and ":" in cause.place else cause.place or cause.declared
         columns = ", ".join(map(str, cause.columns()))
         yield f"{number:4} {cause.ends:4} ({columns})  {place}{': ' + cause.source[:WIDE] if cause.source else ''}"
 
