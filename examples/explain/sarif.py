@@ -66,7 +66,7 @@ def artifact(path: str, root: str) -> dict:
 
 
 def quoted(path: str) -> str:
-    return "".join(letter if letter.isascii() and (letter.isalnum() or letter in "/._-~+,") else "".join(f"%{byte:02X}" for byte in letter.encode())
+    return "".join(letter if letter.isascii() and (letter.isalnum() or letter in "/._-~+,") else "".join(f"%{byte:02X}" for byte in letter.encode("utf-8", "surrogateescape"))
                    for letter in path)
 
 
