@@ -53,6 +53,8 @@ YES = [
     Case("both", ["--label", "secret-memory 0 secret-param both 0"], 0, ["1 parameter, 1 memory"],
          HEAD + "int both(int x);\nBLADE_SECRET_PARAM(both, x);\nint both(int x) { return x + 1; }\n"),
     Case("by_name", ["--label", "secret-param by_name key"], 0, ["1 parameter"], "int by_name(int mode, int key) { return mode + key; }\n"),
+    Case("twice", [], 0, ["secret: 1 parameter\n"],
+         HEAD + "int f(int x);\nBLADE_SECRET_PARAM(f, x); BLADE_SECRET_PARAM(f, x);\nBLADE_SECRET_PARAM(f, 0);\nint f(int x) { return x; }\n"),
     Case("meant", ["--unlabelled"], 0, ["constant-time yes"], "unsigned meant(unsigned x) { return x; }\n"),
     Case("returned", MEMORY, 0, ["1 parameter, 1 memory"],
          BIG + "big f(int n);\nBLADE_SECRET_PARAM(f, n);\nbig f(int n) { big b = {{n}}; return b; }\n"),
