@@ -39,6 +39,7 @@ class Asked:
     objects: List[str] = field(default_factory=list)
     labels: List[str] = field(default_factory=list)
     counts: List[str] = field(default_factory=list)  # start files, by EXPORT=FILE where there are several exports
+    start: Optional[str] = None  # a start file for a search after a no, in the same way
     out: Optional[str] = None
     name: Optional[str] = None
     blade: Optional[str] = None
@@ -81,6 +82,7 @@ def setters(asked: Asked) -> Dict[str, Callable[[str], None]]:
     return {
         "-o": keep("out"), "--name": keep("name"), "--blade": keep("blade"),
         "--label": lambda value: asked.labels.extend(value.split()), "--counts": asked.counts.append,
+        "--start": keep("start"),
         "--export": lambda value: asked.links.append(f"--export={value}"),
         "--memory": lambda value: setattr(asked, "pages", number("--memory", value, 256)),
         "--limit": lambda value: setattr(asked, "limit", number("--limit", value, 1_000_000)),

@@ -13,6 +13,7 @@ from .building import Builder
 from .causes import causes_of
 from .ending import ended
 from .flow import find
+from .hunting import after_no, summary
 from .image import read_image
 from .labels import entries_of
 from .lines import Lines, chosen
@@ -47,6 +48,7 @@ class Driver:
         if self.file and not asked.name:
             self.module = os.path.splitext(os.path.basename(out))[0]
         self.aside = f"{self.folder}/refused"
+        self.explained_by: List[str] = []  # further words for blade-explain
         self.builder = Builder(asked, self.runner, f"{self.folder}/build")
 
     def made(self) -> List[str]:
@@ -167,11 +169,16 @@ class Driver:
         if differ:
             self.move(place, self.aside)
             raise Stop(DISAGREE, *(f"blade-cc: error: blade-explain doesn't agree with the program: {one}" for one in differ))
+        evidence = None
+        if self.asked.start and not is_yes:
+            evidence, self.explained_by = after_no(self, told, lines, modules, f"{place}/{self.module}")
         self.tell(told, lines, modules, f"{place}/{self.module}")
         if is_kept and self.file:
             written_to(self.file, read_file(modules[-1], "module"))
         protects = next(line for line in report.splitlines() if line.startswith("protects "))
-        print(f"{self.module}: {text.verdict_text(told.found, ())}; {protects}; {text.declared_text(told.found).partition('. So')[0]}")
+        print(f"{self.module}: {text.verdict_text(told.found, (), evidence)}; {protects}; {text.declared_text(told.found).partition('. So')[0]}")
+        for line in summary(evidence, lines) if evidence else ():
+            print(f"{self.module}: {line}")
         return YES if is_kept else NO
 
     def move(self, of: str, to: str) -> None:
@@ -192,7 +199,7 @@ class Driver:
         """The places: as text, as JSON and as SARIF."""
         problems, log = f"{self.folder}/problems.json", f"{self.folder}/{self.module}.sarif"
         self.runner.show([os.path.join(HERE, "blade-explain"), f"{made}.img", *modules, "--certificate", f"{made}.json", "--report",
-                          f"{self.folder}/report.txt", "--lines", "--json", problems, "--sarif", log])
+                          f"{self.folder}/report.txt", "--lines", "--json", problems, "--sarif", log, *self.explained_by])
         written_to(problems, sarif.as_json(told, f"{made}.img", modules).encode())
         written_to(log, sarif.as_sarif(told, f"{made}.img", modules, lines, os.getcwd(), sarif.version()).encode())
         for line in diagnostics.as_text(told, shown(f"{made}.img"), self.asked.limit, lines):

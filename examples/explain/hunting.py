@@ -2,37 +2,51 @@
 from __future__ import annotations
 
 import os
-from typing import Iterator, List, Sequence
+from typing import TYPE_CHECKING, Iterator, List, Sequence, Tuple
 
 from .asked import USAGE, Stop
-from .causes import Cause
+from .diagnostics import Told
 from .evidence import RUN, UNPROVED, Evidence, evidence_of_run, read_witness, secret_of
-from .flow import Findings
 from .lines import Lines
 from .telling import places
-from .tools import HERE, Runner
+from .tools import HERE
+from .wasm import FUNCTION, read_module
 
-SECONDS = 10  # of the search
-FOUND, SHOWN = 1, 4  # statuses of blade-witness
-ENDS = ("trace", "a.start", "b.start", "again")
+if TYPE_CHECKING:
+    from .driver import Driver
+
+SECONDS = "10"  # of the search
+FOUND, NONE = 1, (0, 4)  # statuses of blade-witness
+WRITTEN = ("trace", "a.start", "b.start", "again")
 
 
-def after_no(runner: Runner, program: str, image: str, modules: Sequence[str], found: Findings, causes: Sequence[Cause], entry: Sequence[str],
-             prefix: str) -> Evidence:
-    """Looks for a witness for some seconds, and follows the run; entry is the export and the start file."""
-    export, start = entry
-    done = runner.run([os.path.join(HERE, "blade-witness"), image, export, start, *modules, "--seconds", str(SECONDS), "--out", prefix, "--blade", program])
-    if done.status not in (0, FOUND, SHOWN):
-        raise Stop(USAGE, f"blade-cc: error: --start {start}: {done.errors.strip().removeprefix('blade-witness: ')}")
-    evidence = evidence_of_run(found, causes, secret_of(found.image, export, start, (), ()), export, RUN)
+def entry_of(given: str, module: str, path: str) -> Tuple[str, str]:
+    """The export and the start file: EXPORT=FILE or, where there is one export, FILE."""
+    name, _, start = given.rpartition("=")
+    exports = [told for sort, told in read_module(path).exports if sort == FUNCTION]
+    if not name and len(exports) != 1:
+        raise Stop(USAGE, f"blade-cc: error: --start {given}: EXPORT=FILE says which function runs: {', '.join(exports[:8])}")
+    return f"{module}/{name or exports[0]}", start
+
+
+def after_no(driver: "Driver", told: Told, lines: Lines, modules: Sequence[str], made: str) -> Tuple[Evidence, List[str]]:
+    """Looks for a witness for some seconds, and follows the run: what that shows, and the words by which blade-explain tells the same."""
+    entry, prefix = entry_of(driver.asked.start, driver.module, modules[-1]), f"{driver.folder}/witness"
+    for path in (f"{prefix}.{end}" for end in WRITTEN):
+        if os.path.exists(path):
+            os.remove(path)
+    words = [os.path.join(HERE, "blade-witness"), f"{made}.img", *entry, *modules, "--seconds", SECONDS, "--out", prefix, "--blade", driver.program]
+    done = driver.runner.run(words)
+    if done.status not in (FOUND, *NONE):
+        raise Stop(USAGE, f"blade-cc: error: --start {driver.asked.start}: {done.errors.strip()}")
+    image = told.found.image
+    evidence = evidence_of_run(told.found, (), secret_of(image, *entry, (), ()), entry[0], RUN)
+    explained = ["--start", *entry]
     if done.status == FOUND:
-        evidence.witness = read_witness(found.image, image, prefix, program)
-    return evidence
-
-
-def words_for_explain(evidence: Evidence, entry: Sequence[str], prefix: str, program: str) -> List[str]:
-    """Those by which blade-explain tells the same."""
-    return ["--start", *entry, *(["--witness", prefix, "--blade", program] if evidence.witness else [])]
+        evidence.witness = read_witness(image, f"{made}.img", prefix, driver.program)
+        explained += ["--witness", prefix, "--blade", driver.program]
+    evidence.mark_problems(told, lines)
+    return evidence, explained
 
 
 def summary(evidence: Evidence, lines: Lines) -> Iterator[str]:
@@ -41,9 +55,8 @@ def summary(evidence: Evidence, lines: Lines) -> Iterator[str]:
         yield f"leak witnessed at {places([evidence.witness.position], lines)}; again: {evidence.witness.words}"
         return
     yield f"not witnessed in {SECONDS} seconds; {evidence.run_text()}"
-    clean = evidence.never_loaded()
+    clean, missed = evidence.never_loaded(), evidence.not_reached()
     if clean:
         yield f"looks public, {UNPROVED}: {places(clean, lines)}"
-    missed = evidence.not_reached()
     if missed:
         yield f"not reached, give other starts: {places(missed, lines)}"

@@ -9,9 +9,12 @@ import time
 from collections import deque
 from contextlib import closing
 from dataclasses import dataclass, field
+from itertools import islice
+from multiprocessing.connection import Connection
 from typing import Iterator, Optional, Tuple
 
 from .attempts import Attempt, Sought, Tried
+from .reading import Bad
 
 AHEAD = 2  # so many attempts a processor are begun before the first is done
 TOLD = 5.0  # seconds between lines of progress
@@ -72,48 +75,69 @@ class Progress:
         if self.wide and sys.stderr.isatty():
             print("\r" + " " * self.wide + "\r", end="", file=sys.stderr, flush=True)
 
-    def result_of(self, result) -> Tried:
-        """The result of an attempt, when it is there."""
-        while True:
-            left = self.seconds - self.spent()
-            if left <= 0:
+    def left(self) -> float:
+        return self.seconds - self.spent()
+
+
+FORK = multiprocessing.get_context("fork")
+
+
+class Child:
+    """An attempt in a process of its own, with files of its own. It has a group, too, which ends with it."""
+
+    def __init__(self, sought: Sought, attempt: Attempt, number: int) -> None:
+        self.attempt, self.folder = attempt, f"{sought.program.folder}/{number}"
+        self.results, to = FORK.Pipe(False)
+        self.process = FORK.Process(target=self.work, args=(sought, to))
+        self.process.start()
+        to.close()
+
+    def work(self, sought: Sought, to: Connection) -> None:
+        os.setpgid(0, 0)
+        os.mkdir(self.folder)
+        sought.program.folder = self.folder
+        try:
+            to.send(sought.attempt(self.attempt, f"{self.folder}/trace"))
+        except Exception as fault:  # whatever it is, the first process tells it
+            to.send(fault)
+
+    def result(self, progress: Progress) -> Tried:
+        """What came of it, when that is there."""
+        while not self.results.poll(max(0.0, min(progress.left(), 0.2))):
+            progress.tell()
+            if progress.left() <= 0:
                 raise Over
-            try:
-                return result.get(min(left, 0.2))
-            except multiprocessing.TimeoutError:
-                self.tell()
+        try:
+            tried = self.results.recv()
+        except EOFError:
+            raise Bad("an attempt was ended from outside") from None
+        if isinstance(tried, Exception):
+            raise tried
+        return tried
 
-
-SOUGHT: Optional[Sought] = None  # of this process and of those that it begins
-
-
-def adopt() -> None:
-    """A process that makes attempts: its files are its own, and the first process ends it."""
-    signal.signal(signal.SIGINT, signal.SIG_IGN)
-    program = SOUGHT.program
-    program.folder = f"{program.folder}/{os.getpid()}"
-    os.mkdir(program.folder)
-
-
-def attempted(one: Attempt, number: int) -> Tried:
-    return SOUGHT.attempt(one, f"{SOUGHT.program.folder}/{number}.trace")
+    def end(self) -> None:
+        try:
+            os.killpg(self.process.pid, signal.SIGKILL)
+        except ProcessLookupError:
+            self.process.kill()
+        self.process.join()
+        self.results.close()
 
 
 def in_order(sought: Sought, progress: Progress) -> Iterator[Tuple[Attempt, Tried]]:
     """All attempts with what came of them, in their order, made by all processors side by side."""
-    global SOUGHT
-    SOUGHT = sought
-    count = len(os.sched_getaffinity(0))
-    with multiprocessing.get_context("fork").Pool(count, adopt) as pool:
-        waiting: deque = deque()
-        for number, one in enumerate(sought.attempts()):
-            waiting.append((one, pool.apply_async(attempted, (one, number))))
-            if len(waiting) > AHEAD * count:
-                one, result = waiting.popleft()
-                yield one, progress.result_of(result)
-        while waiting:
-            one, result = waiting.popleft()
-            yield one, progress.result_of(result)
+    ahead = AHEAD * len(os.sched_getaffinity(0))
+    attempts, children = enumerate(sought.attempts()), deque()
+    try:
+        while True:
+            children.extend(Child(sought, one, number) for number, one in islice(attempts, ahead - len(children)))
+            if not children:
+                return
+            yield children[0].attempt, children[0].result(progress)
+            children.popleft().end()
+    finally:
+        for child in children:
+            child.end()
 
 
 @dataclass
