@@ -6,7 +6,7 @@ from dataclasses import dataclass, field
 from typing import Dict, List, Optional, Sequence, Tuple
 
 from .flow import CONDITION, End, Findings, Origin, Reach, count_ends
-from .guesses import Reason
+from .guesses import Guess
 from .lines import NOWHERE, Lines
 
 
@@ -30,7 +30,8 @@ class Cause:
     counts: Dict[str, int] = field(default_factory=dict)
     reached: List[End] = field(default_factory=list)  # the refused ends, those first to which the way is short
     reach: Optional[Reach] = None
-    likely: Optional[Reason] = None
+    likely: Optional[Guess] = None
+    shown: str = ""  # what a run and a witness show, in place of what is likely
 
     @property
     def ends(self) -> int:

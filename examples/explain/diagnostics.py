@@ -6,9 +6,8 @@ from typing import Dict, Iterator, List, Optional, Sequence
 
 from .causes import Cause, Way, add_ends
 from .dwarf import subprograms
-from .evidence import Evidence
 from .flow import CONDITION, DEMANDED, DIVISION, LOAD_ADDRESS, STORE_ADDRESS, STORED, End, Findings, Origin
-from .guesses import LEAK, Guess, Guesser, Reason, settle
+from .guesses import LEAK, Guess, Guesser, settle
 from .lines import NOWHERE, Line, Lines
 from .paths import shown
 from .protects import Protect
@@ -63,8 +62,7 @@ class Problem:
     instruction: str
     steps: List[Step]
     ends: int = 1
-    likely: Optional[Reason] = None
-    witnessed: bool = False  # the program judged that two runs are told apart here
+    likely: Optional[Guess] = None
     loaded: Optional[Step] = None  # the line that loads the secret, where it comes of a memory
     module: str = ""
     offset: int = 0  # in the module's file
@@ -78,7 +76,7 @@ class Source:
     position: int
     text: str
     ends: int
-    likely: Optional[Reason]
+    likely: Optional[Guess]
 
 
 @dataclass
@@ -90,6 +88,12 @@ class Told:
     protects: List[Step]
     weights: List[int] = field(default_factory=list)
     sources: List[Source] = field(default_factory=list)
+    shown: Dict[int, str] = field(default_factory=dict)  # by the positions of problems, what a run and a witness show, in place of what is likely
+    witnessed: Optional[int] = None  # the position of the problem that a witness shows
+
+    def also(self, one: Problem) -> str:
+        """What is shown of a problem, behind its text."""
+        return f". {self.shown[one.position][0].upper()}{self.shown[one.position][1:]}" if one.position in self.shown else ""
 
 
 def rule_of(end: End, instruction: str) -> Rule:
@@ -191,8 +195,8 @@ def steps_between(way: Way, found: Findings, lines: Lines) -> List[Step]:
     return steps
 
 
-def reasons(found: Findings, lines: Lines, causes: Sequence[Cause], evidence: Optional[Evidence]) -> Dict[Origin, Reason]:
-    """Of the origins of the causes that reach most, what they are likely to be, or what was shown of them."""
+def reasons(found: Findings, lines: Lines, causes: Sequence[Cause]) -> Dict[Origin, Guess]:
+    """Of the origins of the causes that reach most, what they are likely to be."""
     guesser, judged = Guesser(found, lines), []
     for cause in causes[:MOST_JUDGED]:
         add_ends(found, cause)
@@ -200,8 +204,6 @@ def reasons(found: Findings, lines: Lines, causes: Sequence[Cause], evidence: Op
             judged.append(cause)
             cause.likely = guesser.likely(cause)
     settle(judged, lines)
-    if evidence:
-        evidence.replace(judged)
     return {origin: cause.likely for cause in reversed(judged) for origin in cause.origins}
 
 
@@ -212,24 +214,23 @@ def loaded_at(way: Way, lines: Lines) -> Optional[Step]:
     return Step(lines.line(at), at, "")
 
 
-def advice(reason: Optional[Reason], way: Way, rule: Rule) -> Optional[Reason]:
+def advice(reason: Optional[Guess], way: Way, rule: Rule) -> Optional[Guess]:
     """The likely reason; of a leak, what helps there."""
-    if not isinstance(reason, Guess) or reason.reason != LEAK.reason:
+    if reason is None or reason.reason != LEAK.reason:
         return reason
     if way.origin.position is None:
         return Guess("a leak", rule.help, reason.rests)
     return reason._replace(remedy=f"if that is secret this is a leak: {rule.help}")
 
 
-def told_of(found: Findings, lines: Lines, causes: Sequence[Cause], protects: Sequence[Protect], evidence: Optional[Evidence] = None) -> Told:
-    """All problems, by file and line; with what a run and a witness showed in place of guesses."""
+def told_of(found: Findings, lines: Lines, causes: Sequence[Cause], protects: Sequence[Protect]) -> Told:
+    """All problems, by file and line."""
     reach = found.graph.reach(found.guilty, found.core)
     ways = [Way(*reach.way(end.variable), end) for end in found.refused if end.variable in reach.depth]
     entries = [found.image.functions[int(way.origin.declared.split()[1])].entry for way in ways if way.origin.declared.startswith("parameter")]
     lines.ask({position for way in ways for position in way.sites + [way.end.position]} | set(entries) | {one.position for one in protects})
     lines.ask({site for one in protects if one.reason for site in (one.reason[0][0], one.reason[1])})
-    why = reasons(found, lines, causes, evidence)
-    witnessed = evidence.witness.end(found.image) if evidence and evidence.witness else -1
+    why = reasons(found, lines, causes)
     known = declared_at(lines)
     problems: Dict[tuple, Problem] = {}
     for way in ways:
@@ -239,13 +240,11 @@ def told_of(found: Findings, lines: Lines, causes: Sequence[Cause], protects: Se
         key = (rule.name, line.path, line.number, line.column) if line.number else (rule.name, way.end.position)
         if key in problems:
             problems[key].ends += 1
-            problems[key].witnessed |= way.end.position == witnessed
             continue
         name = line.function or (spot.linked.name if spot else "")
         problems[key] = Problem(
             rule, line, way.end.position, name, lines.instruction(way.end.position), steps_of(way, found, lines, known), 1,
-            advice(why.get(way.origin), way, rule), way.end.position == witnessed, loaded_at(way, lines),
-            spot.linked.module.path if spot else "", spot.row.place if spot else 0)
+            advice(why.get(way.origin), way, rule), loaded_at(way, lines), spot.linked.module.path if spot else "", spot.row.place if spot else 0)
     ordered = sorted(problems.values(), key=lambda one: (one.line.path, one.line.number, one.line.column, one.position))
     sources = []
     for cause in causes:
@@ -279,7 +278,7 @@ def of_text(one: Problem, image: str) -> str:
 
 
 def problem_text(one: Problem) -> str:
-    return ("leak witnessed: " if one.witnessed else "") + one.rule.text + (f" ({one.instruction})" if one.instruction else "") + (f", at {one.ends} places of this line" if one.ends > 1 else "")
+    return one.rule.text + (f" ({one.instruction})" if one.instruction else "") + (f", at {one.ends} places of this line" if one.ends > 1 else "")
 
 
 def as_text(told: Told, image: str, limit: int, lines: Lines) -> Iterator[str]:
@@ -296,6 +295,8 @@ def as_text(told: Told, image: str, limit: int, lines: Lines) -> Iterator[str]:
             yield f" {source}"
             if one.line.column:
                 yield " " + "".join("\t" if letter == "\t" else " " for letter in source[: one.line.column - 1]) + "^"
+        if one.position in told.shown:
+            yield f"{where}: note: {told.shown[one.position]}"
         if again:
             # Its way was told with another place.
             continue

@@ -5,18 +5,21 @@ from __future__ import annotations
 import shlex
 import tempfile
 from dataclasses import dataclass
-from typing import Dict, List, Optional, Sequence, Set, Tuple
+from typing import TYPE_CHECKING, Dict, Iterable, List, Optional, Sequence, Set, Tuple
 
 from .causes import Cause
 from .directives import last_of
-from .flow import Findings, find, is_bounds_test
-from .guesses import LEAK, LEDGER, POINTER, SHARED, SPILL, Reason, Shown
+from .flow import End, Findings, find, is_bounds_test
 from .image import DIVISIONS, Image
+from .lines import Line, Lines
 from .meeting import Meeting
 from .pairs import Secret, ranges_of, what_changes
 from .program import DIFFER, Difference, Program, difference_of, program_of
 from .reading import Bad, read_text
 from .running import read_start
+
+if TYPE_CHECKING:
+    from .diagnostics import Told
 
 RUN = 1_000_000  # so many commands of a run are followed
 UNPROVED = "by this one run and unproved"
@@ -79,6 +82,11 @@ def read_witness(image: Image, path: str, prefix: str, program: Optional[str]) -
     return Witness(position, difference, shlex.join(["blade", judge, path, export, *files]))
 
 
+def key_of(line: Line, position: int) -> tuple:
+    """A line of C where it is known, else the position."""
+    return (line.path, line.number) if line.number else (position,)
+
+
 @dataclass
 class Evidence:
     """What is known of the refused ends by one run, by a witness, or by both."""
@@ -88,46 +96,56 @@ class Evidence:
     meeting: Optional[Meeting] = None
     witness: Optional[Witness] = None
 
-    def bit(self, cause: Cause) -> int:
-        return self.meeting.causes[next(number for number, one in enumerate(self.causes) if one is cause)]
+    def numbers(self, ends: Iterable[End], bits: int = -1) -> Tuple[int, int]:
+        """Of some ends how many the run came to, and how many met there what may change, with a mark among some bits."""
+        met = sum(bool(self.meeting.met.get((end.position, end.variable), 0) & bits) for end in ends)
+        return sum(end.position in self.meeting.reached for end in ends), met
 
-    def numbers(self, cause: Cause) -> Tuple[int, int]:
-        """Of the ends that a cause reaches how many the run came to, and how many met there, by way of the cause, what may change."""
-        bit = self.bit(cause)
-        met = sum(bool(self.meeting.met.get((end.position, end.variable), 0) & bit) for end in cause.reached)
-        return sum(end.position in self.meeting.reached for end in cause.reached), met
-
-    def is_witnessed(self, cause: Cause) -> bool:
-        """Whether the witness is of an end of this cause, and the run, where there is one, doesn't say that it came another way."""
+    def is_witnessed(self, ends: Iterable[End], bits: int = -1) -> bool:
+        """Whether the witness is of one of some ends, and the run, where there is one, doesn't say that it came by another way."""
         if self.witness is None:
             return False
-        ends = [end for end in cause.reached if end.position == self.witness.end(self.found.image)]
+        ends = [end for end in ends if end.position == self.witness.end(self.found.image)]
         if not ends or self.meeting is None:
             return bool(ends)
         marks = [self.meeting.met.get((end.position, end.variable), 0) for end in ends]
-        return not any(marks) or any(mark & self.bit(cause) for mark in marks)
+        return not any(marks) or any(mark & bits for mark in marks)
 
-    def reason(self, cause: Cause, guess: Reason) -> Reason:
-        """In place of a guess, as far as something was shown."""
-        if self.is_witnessed(cause):
-            return Shown("leak witnessed", f"two runs that agree in public are told apart at position {self.witness.position}; {LEAK.remedy.split(': ')[1]}")
+    def text(self, ends: Sequence[End], bits: int = -1) -> str:
+        """What is shown of some ends, in place of a guess; nothing where nothing is."""
+        if self.is_witnessed(ends, bits):
+            return f"leak witnessed: two runs that agree in public are told apart at position {self.witness.position}"
         if self.meeting is None:
-            return guess
-        reached, met = self.numbers(cause)
-        what = f"reached {reached}, met {met}"
+            return ""
+        reached, met = self.numbers(ends, bits)
         if met:
-            remedy = SPILL.remedy if guess == SPILL else "what may change arrives there; blade-witness looks for two runs that show it"
-            return Shown(what, remedy)
-        if not reached:
-            return Shown(what, "this run doesn't come there: give other starts")
-        remedy = f"{guess.reason}: {guess.remedy}" if guess in (POINTER, SHARED) else LEDGER.remedy
-        return Shown(what, f"looks public, {UNPROVED}; {remedy}")
+            said = "what may change arrives there; blade-witness looks for two runs that show it"
+        elif reached:
+            said = f"looks public, {UNPROVED}: give it as a parameter, or keep it in the ledger"
+        else:
+            said = "this run doesn't come there; give other starts"
+        return f"reached {reached}, met {met}: {said}"
 
-    def replace(self, causes: Sequence[Cause]) -> None:
-        """Puts what was shown of causes in the place of what they are likely to be."""
-        for cause in causes:
-            if cause.likely:
-                cause.likely = self.reason(cause, cause.likely)
+    def mark_causes(self) -> None:
+        """Says it of the causes whose ends are known."""
+        bits = self.meeting.causes if self.meeting else [-1] * len(self.causes)
+        for cause, bit in zip(self.causes, bits):
+            cause.shown = self.text(cause.reached, bit) if cause.reached else ""
+            if cause.shown:
+                cause.likely = None
+
+    def mark_problems(self, told: "Told", lines: Lines) -> None:
+        """Says it of the refused places, by their lines."""
+        by_line: Dict[tuple, List[End]] = {}
+        for end in self.found.refused:
+            by_line.setdefault(key_of(lines.line(end.position), end.position), []).append(end)
+        for one in told.problems:
+            ends = by_line.get(key_of(one.line, one.position), [])
+            shown = self.text(ends)
+            if shown:
+                told.shown[one.position], one.likely = shown, None
+            if told.witnessed is None and self.is_witnessed(ends):
+                told.witnessed = one.position
 
     def never_loaded(self) -> List[int]:
         """The loads of secret memories that cause something and in this run never loaded what may change."""

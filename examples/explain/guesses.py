@@ -3,7 +3,7 @@ from __future__ import annotations
 
 import re
 from collections import defaultdict
-from typing import TYPE_CHECKING, Dict, List, NamedTuple, Optional, Sequence, Set, Tuple, Union
+from typing import TYPE_CHECKING, Dict, List, NamedTuple, Optional, Sequence, Set, Tuple
 
 from .flow import DEMANDED, STORED, Findings, Origin
 from .image import Command
@@ -24,17 +24,6 @@ class Guess(NamedTuple):
         return f"likely {self.reason}, since {self.rests}: {self.remedy}"
 
 
-class Shown(NamedTuple):
-    """What a run or a witness showed, in place of a guess, and what helps."""
-
-    reason: str
-    remedy: str
-
-    def __str__(self) -> str:
-        return f"{self.reason}: {self.remedy}"
-
-
-Reason = Union[Guess, Shown]
 LEDGER = Guess("a public number in a secret memory", "give it as a parameter, or keep it in the ledger: PUB(x), SETPUB(x, v)",
                "it is loaded from one place and nothing mixes it")
 POINTER = Guess("a function pointer in a secret memory", "call the function directly, or keep the pointer in the ledger", "a call goes by it")

@@ -109,11 +109,12 @@ def evidence_of(words: argparse.Namespace, found: Findings, causes: Sequence[Cau
         evidence = evidence_of_run(found, causes, secret_of(found.image, export, path, words.secret, words.keep), export, words.run)
     if words.witness:
         evidence.witness = read_witness(found.image, words.image, words.witness, words.blade)
+    evidence.mark_causes()
     return evidence
 
 
-def judged(found: Findings, lines: Lines, causes: List[Cause], ways: int, evidence: Optional[Evidence]) -> None:
-    """Gives causes their ends and a reason, likely or shown, and has the lines looked up that are told of them."""
+def judged(found: Findings, lines: Lines, causes: List[Cause], ways: int) -> None:
+    """Gives causes their ends and a likely reason, and has the lines looked up that are told of them."""
     for cause in causes:
         add_ends(found, cause)
     lines.ask({end.position for cause in causes for end in cause.reached})
@@ -123,8 +124,6 @@ def judged(found: Findings, lines: Lines, causes: List[Cause], ways: int, eviden
     for cause in causes:
         cause.likely = guesser.likely(cause)
     settle(causes, lines)
-    if evidence:
-        evidence.replace(causes)
 
 
 def detailed(found: Findings, words: argparse.Namespace) -> int:
@@ -145,8 +144,8 @@ def explain(words: argparse.Namespace) -> int:
     if words.public:
         found = find(image, words.public)
     causes = causes_of(found, lines)
+    judged(found, lines, causes[: detailed(found, words)], words.ways)
     evidence = evidence_of(words, found, causes)
-    judged(found, lines, causes[: detailed(found, words)], words.ways, evidence)
     lines.ask([site for protect in protects for site in [protect.position] + ([protect.reason[0][0], protect.reason[1]] if protect.reason else [])])
     told = write_all(words, found, causes, protects, lines, evidence)
     if not words.lines:
@@ -179,7 +178,10 @@ def write_all(words: argparse.Namespace, found: Findings, causes: List[Cause], p
     """Writes what words ask for, and gives what is to be said of it."""
     said = annotate(words, found.image, lines) if words.annotate else []
     if words.lines or words.json or words.sarif:
-        said += tell(words, diagnostics.told_of(found, lines, causes, protects, evidence), lines)
+        listed = diagnostics.told_of(found, lines, causes, protects)
+        if evidence:
+            evidence.mark_problems(listed, lines)
+        said += tell(words, listed, lines)
     if words.page:
         write_file(words.page, page.page_of(words.image, found, causes, protects, lines, evidence).encode())
     return said

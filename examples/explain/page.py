@@ -91,7 +91,7 @@ def cause_data(number: int, cause: Cause, lines: Lines) -> dict:
         ways.append({"text": f"{way.end.kind} {place} {way.end.position}", "more": len(same) - 1, "sites": sites, "end": way.end.position})
     return {
         "number": number, "ends": cause.ends, "kinds": kinds_text(cause.counts), "place": f"{cause.declared} {cause.place}".strip(),
-        "source": cause.source, "loads": cause.loads, "reason": str(cause.likely) if cause.likely else "", "ways": ways}
+        "source": cause.source, "loads": cause.loads, "reason": cause.shown or str(cause.likely or ""), "ways": ways}
 
 
 def protect_data(protect: Protect, lines: Lines) -> dict:

@@ -8,7 +8,6 @@ import re
 from typing import Optional, Sequence, Tuple
 
 from .diagnostics import RULES, Problem, Rule, Told, problem_text
-from .guesses import Guess, Reason, Shown
 from .lines import Line, Lines
 from .reading import read_file
 from .tools import HERE
@@ -29,11 +28,6 @@ def line_object(line: Line) -> Optional[dict]:
     return {"file": line.path, "line": line.number, "column": line.column} if line.number else None
 
 
-def reason_object(reason: Optional[Reason]) -> dict:
-    """A guess, or what a run and a witness showed in its place."""
-    return {"likely": reason._asdict() if isinstance(reason, Guess) else None, "shown": reason._asdict() if isinstance(reason, Shown) else None}
-
-
 def as_json(told: Told, image: str, modules: Sequence[str]) -> str:
     found = told.found
     secrets = {
@@ -45,11 +39,11 @@ def as_json(told: Told, image: str, modules: Sequence[str]) -> str:
     problems = [{
         "rule": one.rule.name, "message": problem_text(one), "place": line_object(one.line), "function": one.function, "position": one.position,
         "instruction": one.instruction, "module": one.module, "offset": one.offset, "ends": one.ends,
-        **reason_object(one.likely), "witnessed": one.witnessed,
+        "likely": one.likely._asdict() if one.likely else None, "shown": told.shown.get(one.position), "witnessed": one.position == told.witnessed,
         "way": [{"place": line_object(step.line), "position": step.position, "function": step.function, "message": step.message} for step in one.steps],
     } for one in told.problems]
     sources = [{"place": line_object(one.line), "position": one.position if one.position >= 0 else None, "text": one.text, "ends": one.ends,
-                **reason_object(one.likely)} for one in told.sources]
+                "likely": one.likely._asdict() if one.likely else None} for one in told.sources]
     protects = [{"place": line_object(step.line), "position": step.position, "function": step.function, "weight": weight, "message": step.message}
                 for step, weight in zip(told.protects, told.weights)]
     whole = {"format": "blade-explain 1", "image": image, "modules": list(modules), "constant-time": found.is_constant_time, "declared": secrets,
@@ -115,13 +109,13 @@ def as_sarif(told: Told, image: str, modules: Sequence[str], lines: Lines, root:
         seen[mark] = seen.get(mark, -1) + 1
         flow = [{"location": location(step.line, step.function, step.message, root, *module_place(lines, step.position, image)), "nestingLevel": 0}
                 for step in one.steps]
-        text = problem_text(one) + (f". It is {one.likely}" if isinstance(one.likely, Guess) else f". {one.likely}" if one.likely else "")
+        text = problem_text(one) + (f". It is {one.likely}" if one.likely else "")
         results.append({
-            "ruleId": one.rule.name, "ruleIndex": rules.index(one.rule), "level": "error" if one.witnessed else "warning", "message": {"text": text},
+            "ruleId": one.rule.name, "ruleIndex": rules.index(one.rule), "level": "error" if one.position == told.witnessed else "warning", "message": {"text": text + told.also(one)},
             "locations": [location(one.line, one.function, "", root, *module_place(lines, one.position, image))],
             "codeFlows": [{"threadFlows": [{"locations": flow}]}],
             "partialFingerprints": {"bladePlace/v1": f"{mark}:{seen[mark]}"},
-            "properties": {"position": one.position, "instruction": one.instruction, "ends": one.ends, "witnessed": one.witnessed},
+            "properties": {"position": one.position, "instruction": one.instruction, "ends": one.ends},
         })
     for step, weight in zip(told.protects, told.weights):
         results.append({

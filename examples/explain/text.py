@@ -106,8 +106,8 @@ def cause_text(number: int, cause: Cause, ways: int, lines: Lines) -> Iterator[s
     yield f"{number:2} {cause.declared}{', ' + cause.place if cause.place else ''}{listed}: {kinds_text(cause.counts)}"
     if cause.source:
         yield f"       {cause.source}"
-    if cause.likely:
-        yield f"       {cause.likely}"
+    if cause.shown or cause.likely:
+        yield f"       {cause.shown or cause.likely}"
     told = by_line(cause, lines)
     for same in told[:ways]:
         yield from way_text(cause.way(same[0]), len(same) - 1, lines, cause.source)
