@@ -10,6 +10,7 @@ from typing import TYPE_CHECKING, Dict, Iterable, List, Optional, Sequence, Set,
 from .causes import Cause
 from .directives import last_of
 from .flow import End, Findings, find, is_bounds_test
+from .guesses import POINTER, SHARED, Guess
 from .image import DIVISIONS, Image
 from .lines import Line, Lines
 from .meeting import Meeting
@@ -111,8 +112,8 @@ class Evidence:
         marks = [self.meeting.met.get((end.position, end.variable), 0) for end in ends]
         return not any(marks) or any(mark & bits for mark in marks)
 
-    def text(self, ends: Sequence[End], bits: int = -1) -> str:
-        """What is shown of some ends, in place of a guess; nothing where nothing is."""
+    def text(self, ends: Sequence[End], bits: int = -1, likely: Optional[Guess] = None) -> str:
+        """What is shown of some ends, in place of a guess; nothing where nothing is. What helps goes by the guess, where that isn't of a number."""
         if self.is_witnessed(ends, bits):
             return f"leak witnessed: two runs that agree in public are told apart at position {self.witness.position}"
         if self.meeting is None:
@@ -121,7 +122,8 @@ class Evidence:
         if met:
             said = "what may change arrives there; blade-witness looks for two runs that show it"
         elif reached:
-            said = f"looks public, {UNPROVED}: give it as a parameter, or keep it in the ledger"
+            helps = f"{likely.reason}: {likely.remedy}" if likely in (POINTER, SHARED) else "give it as a parameter, or keep it in the ledger"
+            said = f"looks public, {UNPROVED}; {helps}"
         else:
             said = "this run doesn't come there; give other starts"
         return f"reached {reached}, met {met}: {said}"
@@ -130,7 +132,7 @@ class Evidence:
         """Says it of the causes whose ends are known."""
         bits = self.meeting.causes if self.meeting else [-1] * len(self.causes)
         for cause, bit in zip(self.causes, bits):
-            cause.shown = self.text(cause.reached, bit) if cause.reached else ""
+            cause.shown = self.text(cause.reached, bit, cause.likely) if cause.reached else ""
             if cause.shown:
                 cause.likely = None
 
@@ -141,7 +143,7 @@ class Evidence:
             by_line.setdefault(key_of(lines.line(end.position), end.position), []).append(end)
         for one in told.problems:
             ends = by_line.get(key_of(one.line, one.position), [])
-            shown = self.text(ends)
+            shown = self.text(ends, likely=one.likely)
             if shown:
                 told.shown[one.position], one.likely = shown, None
             if told.witnessed is None and self.is_witnessed(ends):
