@@ -14,7 +14,7 @@ DONE, UNREAD, INTERRUPTED = 0, 3, 130
 def why(fault: BaseException) -> str:
     """A fault in words."""
     if isinstance(fault, OSError):
-        return f"{fault.filename}: {fault.strerror}" if fault.filename and fault.strerror else str(fault)
+        return f"{fault.filename}: {fault.strerror}" if fault.filename and fault.strerror else fault.strerror or str(fault)
     if isinstance(fault, Bad):
         return str(fault) or "a file ends too early"
     if isinstance(fault, MemoryError):
@@ -22,25 +22,35 @@ def why(fault: BaseException) -> str:
     return f"what is read here isn't as it should be ({type(fault).__name__})"
 
 
-def leave_pipes() -> None:
+def leave(*streams: int) -> None:
     """Nobody reads on: what is still to be written is dropped."""
     nothing = os.open(os.devnull, os.O_WRONLY)
-    for stream in (1, 2):
+    for stream in streams:
         os.dup2(nothing, stream)
+
+
+def flush() -> None:
+    if sys.stdout:  # it may be closed from the first
+        sys.stdout.flush()
 
 
 def status_of(name: str, work: Callable[[], Optional[int]], unread: int) -> int:
     try:
-        status = work()
-    except SystemExit as end:
-        status = end.code
+        try:
+            status = work()
+        except SystemExit as end:
+            status = end.code
+        flush()
+        return status or DONE
     except (BrokenPipeError, KeyboardInterrupt):
         raise
     except Exception as fault:  # whatever a file has led to
         say(f"{name}: {why(fault)}", sys.stderr)
-        status = unread
-    sys.stdout.flush()
-    return status or DONE
+    try:
+        flush()
+    except OSError:
+        leave(1)
+    return unread
 
 
 def ended(name: str, work: Callable[[], Optional[int]], unread: int = UNREAD) -> int:
@@ -51,7 +61,7 @@ def ended(name: str, work: Callable[[], Optional[int]], unread: int = UNREAD) ->
     try:
         return status_of(name, work, unread)
     except BrokenPipeError:
-        leave_pipes()
+        leave(1, 2)
         return DONE
     except KeyboardInterrupt:
         return INTERRUPTED
