@@ -243,7 +243,7 @@ def status_of(words: Sequence[str], usage: str) -> int:
     if not words or words in (["--help"], ["-h"]):
         print(usage, file=sys.stderr if not words else sys.stdout)
         return USAGE if not words else YES
-    driver = None
+    driver, status = None, BUILD
     try:
         asked = asked_by(words)
         if asked.alone:
@@ -257,10 +257,12 @@ def status_of(words: Sequence[str], usage: str) -> int:
         for line in (line for one in stop.lines for line in one.split("\n")):
             say(line, sys.stderr)
         status = stop.status
-    if status:
-        mark(driver)
+    finally:
+        if status:
+            mark(driver)
     return status
 
 
 def main(words: Sequence[str], usage: str) -> int:
-    return ended("blade-cc: error", lambda: status_of(words, usage), BUILD)
+    # Where nobody reads on, a no still isn't a yes.
+    return ended("blade-cc: error", lambda: status_of(words, usage), BUILD, BUILD)

@@ -53,8 +53,9 @@ def status_of(name: str, work: Callable[[], Optional[int]], unread: int) -> int:
     return unread
 
 
-def ended(name: str, work: Callable[[], Optional[int]], unread: int = UNREAD) -> int:
-    """The status that work comes to. A file that isn't as it should be is told in one line, with a status of its own; a pipe that is closed is no fault."""
+def ended(name: str, work: Callable[[], Optional[int]], unread: int = UNREAD, closed: int = DONE) -> int:
+    """The status that work comes to. A file that isn't as it should be is told in one line, with a status of its own; so is a pipe that is closed, which is no
+    fault unless it is said so."""
     for stream in (sys.stdout, sys.stderr):
         if hasattr(stream, "reconfigure"):
             stream.reconfigure(errors="backslashreplace")
@@ -62,6 +63,6 @@ def ended(name: str, work: Callable[[], Optional[int]], unread: int = UNREAD) ->
         return status_of(name, work, unread)
     except BrokenPipeError:
         leave(1, 2)
-        return DONE
+        return closed
     except KeyboardInterrupt:
         return INTERRUPTED
