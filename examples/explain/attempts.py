@@ -65,6 +65,7 @@ class Sought:
         return self.secret.text(secret, arguments)
 
     def recorded(self, secret: bytes, arguments: Optional[Sequence[int]] = None) -> Recorded:
+        """The run from these bytes."""
         return Recorded(self.image, self.function, read_start(self.text(secret, arguments)))
 
     def begin(self) -> None:
@@ -86,6 +87,7 @@ class Sought:
     # One attempt.
 
     def attempt(self, one: Attempt, path: str) -> Tried:
+        """What comes of one; path is for the trace that it makes."""
         if one.whole:
             return self.by_whole_runs(one)
         if one.wrong is not None:
@@ -97,6 +99,7 @@ class Sought:
         return self.first_apart(one, path)._replace(cut=cut)
 
     def first_apart(self, one: Attempt, trace: str) -> Tried:
+        """The first of the secrets that the program tells apart on a trace, which is removed where there is none."""
         for count, other in enumerate(one.others, 1):
             if self.program.told_apart(trace, self.text(one.first, one.arguments), self.text(other, one.arguments)):
                 return Tried(count, other, trace)
@@ -105,6 +108,7 @@ class Sought:
         return Tried(len(one.others))
 
     def by_wrong_guesses(self, one: Attempt, path: str) -> Tried:
+        """On a trace that takes wrong guesses."""
         made = self.wrong(one.wrong, one.arguments)
         lines = made.trace()
         with open(path, "w", encoding="ascii") as file:
@@ -112,6 +116,7 @@ class Sought:
         return self.first_apart(one, path)._replace(paths=made.paths)
 
     def wrong(self, number: int, arguments: Optional[Sequence[int]]) -> WrongGuesses:
+        """The trace with wrong guesses that has a number."""
         return self.choosing.of(self.recorded(self.secret.first, arguments), number)
 
     def by_whole_runs(self, one: Attempt) -> Tried:
@@ -124,6 +129,7 @@ class Sought:
         return Tried(len(one.others))
 
     def run_differs(self, first: Outcome, second: Outcome) -> str:
+        """How two whole runs differ, in words."""
         for index in (index for function, index in self.image.demands if function == self.function):
             if first.end == second.end == "returned" and first.results[index] != second.results[index]:
                 return f"result {index}, which is demanded public: {first.results[index]} and {second.results[index]}"
@@ -161,6 +167,7 @@ class Sought:
                 yield Attempt(one, (other,))
 
     def wrong_attempt(self, chance: random.Random, number: int, arguments: Optional[Tuple[int, ...]]) -> Attempt:
+        """One on a trace with wrong guesses."""
         first = self.secret.first
         return Attempt(first, (turned(first), chance.randbytes(len(first))), number, arguments)
 
@@ -216,6 +223,7 @@ class Sought:
                     yield (given[index] + away // slope) % wide
 
     def far(self, chance: random.Random, public: Sequence[int], targets: Sequence[int]) -> Tuple[int, ...]:
+        """Public arguments at the ends of numbers and between memories."""
         values = list(self.secret.start.arguments)
         aim = chance.choice(targets) if targets else 0
         for index in public:

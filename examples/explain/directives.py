@@ -24,6 +24,7 @@ class Buffer:
         self.front, self.chain = image.functions[function].entry, ()
 
     def take(self, directive: str, observed: str) -> None:
+        """One directive."""
         word, _, rest = directive.partition(" ")
         if word == "fetch":
             self.fetch(rest)
@@ -37,6 +38,7 @@ class Buffer:
                 self.front, self.chain = entry.other, entry.chain
 
     def fetch(self, guess: str) -> None:
+        """The next command becomes an entry."""
         position, command, chain, other = self.front, self.image.commands[self.front], self.chain, 0
         if command.kind == "Test":
             self.front, other = command.targets if guess == "1" else command.targets[::-1]

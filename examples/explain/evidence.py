@@ -27,6 +27,7 @@ UNPROVED = "by this one run and unproved"
 
 
 def function_of(image: Image, export: str) -> int:
+    """The function of an export."""
     if export not in image.entries:
         raise Bad(f"{export} isn't exported")
     return image.entries[export]
@@ -168,6 +169,7 @@ class Evidence:
         return len(refused), len(reached), met
 
     def run_text(self) -> str:
+        """How far the run came, and what it met."""
         refused, reached, met = self.tallied()
         part = "" if self.meeting.left else f" in its first {self.meeting.count:,} commands"
         return f"the run from this start reaches {reached} of {refused} refused ends{part}, and meets at {met} of them what may change"

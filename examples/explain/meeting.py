@@ -52,6 +52,7 @@ class Meeting(Recorded):
                 self.bytes[one.memory].update((one.offset + place, 1 << at + place) for place in range(len(data)))
 
     def mark(self, operand: Operand) -> int:
+        """That of an operand."""
         if not operand[0]:
             return 0
         return (self.fixed if operand[1] < self.bound else self.marks[-1]).get(operand[1], 0)
@@ -68,6 +69,7 @@ class Meeting(Recorded):
             to.pop(variable, None)
 
     def meet(self, position: int, variable: int, mark: int) -> None:
+        """What a command has in a variable when the run comes to it."""
         self.reached.add(position)
         if mark:
             key = (position, variable)
@@ -98,6 +100,7 @@ class Meeting(Recorded):
         self.see(position, command.operands[0])
 
     def touched(self, command) -> range:
+        """The bytes of an access."""
         at = (self.value(command.operands[0]) & 0xFFFFFFFF) + command.offset
         return range(at, at + self.widths[command.operator])
 

@@ -54,6 +54,7 @@ class Program:
         self.folder = folder
 
     def file(self, name: str, text: str) -> str:
+        """Writes a file, and gives its path."""
         path = f"{self.folder}/{name}"
         with open(path, "w", encoding="ascii") as file:
             file.write(text)
@@ -78,6 +79,7 @@ class Program:
         return [self.judge, self.image, self.export, trace, self.file("first", first), self.file("second", second)]
 
     def told_apart(self, trace: str, first: str, second: str) -> bool:
+        """Whether a judgement ends with 1. The starts agree in public, since nothing else changes; the last judgement reads that, too."""
         return self.call(self.judged(trace, first, second), (ALIKE, DIFFER, STUCK), False)[0] == DIFFER
 
     def compared(self, trace: str, first: str, second: str) -> Optional[Difference]:
@@ -91,6 +93,7 @@ class Program:
         return rows[1 + (self.judge == "forward") :]
 
     def run(self, start: str) -> Outcome:
+        """A whole run."""
         path = f"{self.folder}/counts"
         words = ["run", self.image, self.export, self.file("first", start), "--steps", str(STEPS), "--counts", path]
         text = self.call(words, (ALIKE, TRAPPED, SPENT))[1]
@@ -108,6 +111,7 @@ def difference_of(text: str, judge: str) -> Optional[Difference]:
 
 
 def outcome_of(text: str, counts: Dict[int, int]) -> Outcome:
+    """What a run printed, with its counts."""
     lines = [line.split() for line in text.splitlines()]
     returned = lines[0][0] == "returned"
     end = "returned" if returned else "spent" if lines[0][0] == "spent" else " ".join(lines[0])

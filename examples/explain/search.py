@@ -34,6 +34,7 @@ class Done:
     firsts: set = field(default_factory=set)  # the secrets for which predict chose a trace
 
     def add(self, attempt: Attempt, tried: Tried) -> None:
+        """Counts an attempt."""
         self.cut = self.cut or tried.cut
         if attempt.whole:
             self.runs += tried.compared
@@ -64,6 +65,7 @@ class Progress:
         return time.monotonic() - self.done.begun
 
     def tell(self) -> None:
+        """A line, if the last one is old enough."""
         now, terminal = time.monotonic(), sys.stderr.isatty()
         if now - self.last >= (0.2 if terminal else TOLD):
             self.last = now
@@ -93,6 +95,7 @@ class Child:
         to.close()
 
     def work(self, sought: Sought, to: Connection) -> None:
+        """Makes the attempt, in a process of its own, and hands over what came of it."""
         os.setpgid(0, 0)
         os.mkdir(self.folder)
         sought.program.folder = self.folder

@@ -44,6 +44,7 @@ class Shrinking:
         self.cut()
 
     def apart(self, trace: Sequence[str], first: bytes, second: bytes, arguments: Optional[Sequence[int]]) -> Optional[Difference]:
+        """Where the program tells two secrets apart on a trace."""
         sought = self.sought
         path = sought.program.file("shrinking", "\n".join(trace) + "\n")
         return sought.program.compared(path, sought.text(first, arguments), sought.text(second, arguments))
@@ -52,6 +53,7 @@ class Shrinking:
         self.found.trace = self.found.trace[: self.found.difference.directive]
 
     def go(self) -> Found:
+        """The finding, made small."""
         if self.paths:
             self.last_path_alone()
         self.fewer_bytes()
@@ -61,6 +63,7 @@ class Shrinking:
         return self.found
 
     def try_trace(self, trace: List[str]) -> bool:
+        """Takes another trace, if the runs are told apart there."""
         difference = self.apart(trace, self.found.first, self.found.second, self.found.arguments)
         if difference is not None:
             self.found.trace, self.found.difference = trace, difference
@@ -68,6 +71,7 @@ class Shrinking:
         return difference is not None
 
     def try_second(self, second: bytes) -> bool:
+        """Takes another second secret, if it is told apart."""
         difference = self.apart(self.found.trace, self.found.first, second, self.found.arguments)
         if difference is not None:
             self.found.second, self.found.difference = second, difference
@@ -107,6 +111,7 @@ class Shrinking:
         return self.try_second(bytes(second))
 
     def one_bit(self) -> None:
+        """Of one changed byte one bit."""
         changed = self.changed()
         if len(changed) == 1:
             any(self.try_second(flipped(self.found.first, 8 * changed[0] + bit)) for bit in range(8))

@@ -75,6 +75,7 @@ class Choices(NamedTuple):
     forwards: bool
 
     def guess(self, targets: Sequence[int], known: Optional[int], number: int) -> bool:
+        """Whether the condition of a test is guessed to hold; known is its value, number counts the inner tests whose values are known."""
         yes, no = (self.away.get(to, FAR) for to in targets)
         if self.away and yes != no and self.chance.random() < TOWARDS:
             return yes < no
@@ -103,6 +104,7 @@ class WrongPath:
         return (0 if variable < self.run.bound else depth, variable)
 
     def value(self, operand: Operand) -> Optional[int]:
+        """That of an operand, where it is known."""
         if not operand.is_variable:
             return operand.value
         variable, run = operand.value, self.run
@@ -160,6 +162,7 @@ class WrongPath:
             self.execute()
 
     def leave(self, position: int, command: Command) -> None:
+        """A jump, a call or a return."""
         if command.kind == "Ret":
             self.position, self.depth = self.chain.pop(), self.depth - 1
             return
@@ -172,6 +175,7 @@ class WrongPath:
             self.entering = {}
 
     def store(self, command: Command, values: Sequence[Optional[int]]) -> None:
+        """It keeps loads waiting, unless it is forwarded."""
         known = None not in values
         self.waiting = self.waiting or not (self.choices.forwards and known)
         if known:
@@ -180,6 +184,7 @@ class WrongPath:
             self.stored.append(range(at, at + self.run.widths[command.operator]))
 
     def load(self, position: int, command: Command, address: Optional[int]) -> None:
+        """It is executed where its address is known and no store waits that meets it."""
         value = None
         if address is not None and not self.waiting:
             at = self.run.place(command, address)
@@ -191,6 +196,7 @@ class WrongPath:
         self.write(command.writes, self.depth, value)
 
     def loaded(self, command: Command, places: range) -> int:
+        """The value there."""
         value = int.from_bytes(bytes(map(self.byte, places)), "little")
         if command.operator in self.run.extends:
             narrow, wide = self.run.extends[command.operator]

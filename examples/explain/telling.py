@@ -62,6 +62,7 @@ def not_refused(findings: Findings, found: Found, position: int) -> Iterator[str
 
 
 def witnessed(sought: Sought, found: Found, position: int, lines: Lines) -> Iterator[str]:
+    """A leak that the program tells apart."""
     yield f"leak witnessed: {kind_of(sought.image, position)}: {where(lines, position)}"
     source = lines.source(lines.line(position))
     if source:
@@ -89,6 +90,7 @@ def runs_again(image: str, export: str, prefix: str, counted: bool) -> str:
 
 
 def places(positions: List[int], lines: Lines) -> str:
+    """Lines of C in a row, the first few."""
     lines.ask(positions)
     named = list(dict.fromkeys(lines.place(position) or f"position {position}" for position in positions))
     return ", ".join(named[:PLACES]) + (", .." if len(named) > PLACES else "")
@@ -112,6 +114,7 @@ def of_the_run(evidence: Evidence, lines: Lines) -> Iterator[str]:
 
 
 def nothing(done: Done, evidence: Evidence, seconds: float, lines: Lines) -> Iterator[str]:
+    """Nothing found: how much was tried, and what the run says."""
     ended = f", stopped after {seconds:g} seconds" if done.stopped else ""
     yield f"nothing found, which isn't to say that there is nothing{ended}: {done.text()}"
     if done.cut:

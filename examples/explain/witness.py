@@ -46,7 +46,8 @@ def words_of(words: Sequence[str]) -> argparse.Namespace:
     parser.add_argument("--more", metavar="N", type=count, default=0, help="where a leak is found, so many bytes are changed one by one, for other places")
     parser.add_argument("--run", metavar="N", type=count, default=RUN, help="so many commands of START's run are followed first, to aim (150,000)")
     parser.add_argument("--source", metavar="FOLDER", action="append", help="lines are shown of sources below it alone, or of the file of that name (.)")
-    parser.add_argument("--source-map", metavar="OLD=NEW", type=pair, action="append", default=[], help="a source's path that begins with OLD begins with NEW here")
+    parser.add_argument("--source-map", metavar="OLD=NEW", type=pair, action="append", default=[],
+                        help="a source's path that begins with OLD begins with NEW here")
     parser.add_argument("--out", metavar="PREFIX", default="witness", help="writes PREFIX.trace, PREFIX.a.start, PREFIX.b.start and PREFIX.again (witness)")
     parser.add_argument("--seconds", metavar="N", type=float, default=60.0, help="ends the search, without another answer (60)")
     parser.add_argument("--seed", metavar="N", type=count, default=1, help="the same one, the same answer (1)")
@@ -60,10 +61,12 @@ def say_all(lines: Iterable[str]) -> None:
 
 
 def sought_by(words: argparse.Namespace, folder: str) -> Tuple[Sought, Evidence]:
+    """What words ask to look through, and what the run from START shows."""
     image = read_image(read_file(words.image, "image"))
     secret = secret_of(image, words.export, words.start, words.secret, words.keep)
     if not secret.first:
-        raise Unsearchable("nothing may change: no parameter of this function is secret, and START gives no bytes of a secret memory (or --secret M:OFFSET:SIZE)")
+        raise Unsearchable("nothing may change: no parameter of this function is secret, and START gives no bytes of a secret memory "
+                           "(or --secret M:OFFSET:SIZE)")
     program = Program(program_of(words.blade), words.image, words.export, "forward" if words.forward else "twin", folder)
     findings = find(image)
     evidence = evidence_of_run(findings, (), secret, words.export, words.run)
@@ -71,6 +74,7 @@ def sought_by(words: argparse.Namespace, folder: str) -> Tuple[Sought, Evidence]
 
 
 def write_starts(sought: Sought, prefix: str, first: bytes, second: bytes, arguments: Optional[Sequence[int]] = None) -> None:
+    """The two start files."""
     write_file(f"{prefix}.a.start", sought.text(first, arguments).encode())
     write_file(f"{prefix}.b.start", sought.text(second, arguments).encode())
 
@@ -102,6 +106,7 @@ def other_places(sought: Sought, most: int) -> Dict[int, Tuple[str, int]]:
 
 
 def more_text(sought: Sought, found: Found, most: int, lines: Lines) -> Iterator[str]:
+    """The other places, as text."""
     told = other_places(sought, most)
     told.pop(position_of(sought, found.trace, found.difference.common), None)
     for at, (name, directive) in told.items():
@@ -109,6 +114,7 @@ def more_text(sought: Sought, found: Found, most: int, lines: Lines) -> Iterator
 
 
 def tell_found(sought: Sought, searched: Searched, words: argparse.Namespace, lines: Lines) -> int:
+    """Makes it small, writes it and tells it."""
     found = Shrinking(sought, *searched.found).go()
     position = position_of(sought, found.trace, found.difference.common)
     again = telling.again(sought.program.judge, words.image, words.export, words.out)
@@ -122,6 +128,7 @@ def tell_found(sought: Sought, searched: Searched, words: argparse.Namespace, li
 
 
 def tell_shown(sought: Sought, searched: Searched, words: argparse.Namespace) -> int:
+    """Writes and tells what whole runs show."""
     attempt, tried = searched.shown
     write_starts(sought, words.out, attempt.first, tried.other)
     again = telling.runs_again(words.image, words.export, words.out, tried.shown.startswith("position"))
@@ -133,6 +140,7 @@ def tell_shown(sought: Sought, searched: Searched, words: argparse.Namespace) ->
 
 
 def run(words: argparse.Namespace, folder: str) -> int:
+    """The status."""
     sought, evidence = sought_by(words, folder)
     functions, differ = functions_of(sought.image, words.modules)
     say_all(f"differs: {one}: there are no lines now" for one in differ)

@@ -81,7 +81,8 @@ LEAKS = [
     Leak("frame", "frame/f", f"arg 4096\narg 8192\narg 16\nmemory 0 8192 {'11' * 64}\n", status=SHOWN, told=("which is public",)),
     Leak("address", "address/f", f"arg 4096\narg 8192\nmemory 0 8192 {'11' * 8}\n", status=SHOWN, told=("which is public",)),
     Leak("into", "into/f", f"arg 4096\narg 8192\nmemory 1 4096 {'11' * 20}\n", status=SHOWN, told=("which is public",)),
-    *(Leak("guesses.low", f"guesses/{name}", AT_16, "--public", told=("under a wrong guess", "guesses.c:")) for name in ("address", "branch", "divide", "call")),
+    *(Leak("guesses.low", f"guesses/{name}", AT_16, "--public", told=("under a wrong guess", "guesses.c:"))
+      for name in ("address", "branch", "divide", "call")),
     Leak("guesses.low", "guesses/scaled", "arg 3\narg 4\n" + VAULT, "--public", told=("under a wrong guess",)),
     Leak("guesses.low", "guesses/two", "arg 3\narg 16\narg 0\n" + VAULT, "--public", told=("under a wrong guess",)),
     Leak("guesses.low", "guesses/loop", "arg 196600\narg 8\n" + VAULT, told=("under a wrong guess",)),
@@ -104,7 +105,8 @@ QUIET = [
     Leak("guesses", "guesses/loop", "arg 196600\narg 8\n" + VAULT, "--public"),
     Leak("guesses.low", "guesses/store", AT_16, "--public"),
     Leak("guesses", "guesses/store", AT_16, "--public --forward"),
-    *(Leak("calls", f"calls/{name}", f"arg 8192\narg 4096\narg 7\nmemory 0 4096 {'0102030405060708'}\n") for name in ("copy", "move", "compare")),
+    *(Leak("calls", f"calls/{name}", f"arg 8192\narg 4096\narg 7\nmemory 0 4096 {'0102030405060708'}\n") for name in ("copy", "move", "set", "compare")),
+    Leak("forgotten", "forgotten/f", f"arg 4096\narg 8192\nmemory 0 4096 {'11' * 16}\nmemory 1 8192 {'22' * 16}\n"),
     Leak("mail", "mail/tag", "arg 1\narg 2\narg 4096\narg 2\nmemory 0 4096 0102030405060708\n"),
     Leak("chat", "chat/tag", "arg 1\narg 2\narg 4096\nmemory 0 4096 01020304081000000506070800000000\n"),
 ]
@@ -138,7 +140,7 @@ def make_images(check) -> None:
     folder, label = check.folder, f"{EXAMPLES}/blade-label"
     subprocess.run([label, "--replace", f"{EXAMPLES}/compare.wasm", f"{folder}/compare.wasm", "secret-memory", "0", "public-result", "0", "0"], check=True)
     check.hardened("result", [f"{folder}/compare.wasm"])
-    for name in ("lookup", "masked", "masked_ssa", "compare", "quarter"):
+    for name in ("lookup", "masked", "masked_ssa", "compare", "quarter", "list", "sample"):
         check.hardened(name, [f"{EXAMPLES}/{name}.wasm"])
     compiled(check, "piece", f"{folder}/plain/piece.g.wasm")
     subprocess.run([label, f"{folder}/plain/piece.g.wasm", f"{folder}/plain/piece.wasm", "secret-memory", "0"], check=True)
@@ -193,7 +195,8 @@ def witnesses(check) -> None:
     """Each known leak is witnessed, and replayed."""
     make_images(check)
     for number, leak in enumerate(LEAKS):
-        check.say(f"{name_of(leak)}: {'witnessed, and replayed' if leak.status == WITNESSED else 'shown by whole runs'}", fault_of(check, number, leak, "--seconds", LIMIT))
+        how = "witnessed, and replayed" if leak.status == WITNESSED else "shown by whole runs"
+        check.say(f"{name_of(leak)}: {how}", fault_of(check, number, leak, "--seconds", LIMIT))
     same(check)
     by_hand(check)
     explained(check)
@@ -258,8 +261,10 @@ def refused(check) -> None:
         check.say(f"blade-witness {' '.join(words)}", "" if done[0] == status and told in done[1] else f"{done}")
     done = searched(check, QUIET[1], "refused", "--seconds", "0")
     check.say("blade-witness --seconds 0", "" if done[0] == NOTHING and "stopped after 0 seconds" in done[1] else f"{done}")
-    done = searched(check, Leak("guesses", "guesses/address", "arg 3\narg 16\n"), "refused")
-    check.say("blade-witness where nothing may change", "" if done[0] == USAGE and "nothing may change" in done[1] else f"{done}")
+    for leak in (Leak("guesses", "guesses/address", "arg 3\narg 16\n"), Leak("list", "list/list", "arg 2048\n"),
+                 Leak("sample", "sample/sample", "arg 2048\narg 1\narg 4096\n")):
+        done = searched(check, leak, "refused")
+        check.say(f"{name_of(leak)}: nothing may change", "" if done[0] == USAGE and "nothing may change" in done[1] else f"{done}")
 
 
 # The worked routines: the folder and the function of each.
