@@ -96,7 +96,7 @@ QUIET = [
     Leak("masked_ssa", "masked_ssa/masked", "arg 3\n"),
     Leak("compare", "compare/compare", TAGS),
     Leak("quarter", "quarter/quarter", f"arg 4096\nmemory 0 4096 {'0123456789abcdef' * 2}\n"),
-    Leak("piece.g", "piece/add", PIECE, "--keep 0:4096:4", told=("looks public", "none would be refused: piece.c:11")),
+    Leak("piece.g", "piece/add", PIECE, "--keep 0:4096:4", told=("looks public", "none would be refused: examples/piece.c:11")),
     Leak("piece", "piece/add", PIECE.replace("memory 0", "memory 1") + "memory 0 4096 03000000\n"),
     Leak("handle", "handle/f", f"arg 4096\narg 255\nmemory 1 4096 0020000004000000\nmemory 0 8192 {'11' * 16}\n"),
     *(Leak("guesses", f"guesses/{name}", AT_16, "--public") for name in ("address", "branch", "divide", "call", "store")),
