@@ -190,6 +190,8 @@ IMPORTING = '(module (import "lib" {0}))'
 TOLD: List[Case] = [
     Case("a name that the stub hasn't", FG, {"lib": ELEVEN}, {}, [], {"lib": MODULE_F}, warned=["the stub exports no function lib/g, which the interface names"]),
     Case("a name that the library hasn't", FG, {"lib": MODULE_F}, {}, [], {"lib": ELEVEN}, warned=["the library exports no function lib/g, which the interface names"]),
+    Case("a name without a module", "function - s lib/f\nfunction - s lib\n", {"lib": '(module (func (export "f") (export "") (result i32) i32.const 1))'}, {}, [], {"lib": MODULE_F},
+         warned=["the library exports no function lib, which the interface names", "the stub exports no function lib, which the interface names"]),
     Case("another type in the stub", "function - s lib/f\n", {"lib": ELEVEN}, {}, [], {"lib": '(module (func (export "f") (result i64) unreachable))'},
          warned=["lib/f has another type in the stub than in the library"]),
     Case("letters for what isn't there", "function t - lib/f\n", {"lib": ELEVEN}, {}, [], {"lib": MODULE_F},

@@ -22,10 +22,10 @@ class Line(NamedTuple):
     name: str
 
     @property
-    def parts(self) -> Tuple[str, str]:
-        """The module's name, and that of the export."""
-        module, _, export = self.name.partition("/")
-        return module, export
+    def parts(self) -> Tuple[str, Optional[str]]:
+        """The module's name, and that of the export; None where the name has no solidus, and so names nothing."""
+        module, solidus, export = self.name.partition("/")
+        return module, export if solidus else None
 
 
 class Found(NamedTuple):
@@ -65,7 +65,7 @@ class Linked:
         self.modules = modules
         self.places = {module.name: place for place, module in enumerate(modules)}
 
-    def function(self, module: str, export: str) -> Optional[Found]:
+    def function(self, module: str, export: Optional[str]) -> Optional[Found]:
         """The function that a module exports under a name, where it is defined."""
         end = len(self.modules)
         while self.places.get(module, end) < end:
@@ -169,7 +169,7 @@ def merged(lines: Sequence[Line], stub: Linked, library: Linked) -> List[str]:
     return told
 
 
-def kept_from(one: Import, named: Set[Tuple[str, str]], stub: Linked, users: Set[str]) -> str:
+def kept_from(one: Import, named: Set[Tuple[str, Optional[str]]], stub: Linked, users: Set[str]) -> str:
     """What is wrong with an import of a user; nothing where it is of a user, or of a name of the interface."""
     if one.module in users or (one.module, one.name) in named:
         return ""
