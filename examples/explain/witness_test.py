@@ -17,7 +17,7 @@ from .running import Start
 TOP = os.path.dirname(os.path.dirname(os.path.dirname(os.path.realpath(__file__))))
 EXAMPLES = f"{TOP}/examples"
 NOTHING, WITNESSED, USAGE, UNREAD, SHOWN = range(5)
-LIMIT = "120"  # seconds of a search that has to end by itself
+LIMIT = "600"  # seconds of a search that has to end by itself, on a machine that does other things too
 HUNT = "6"  # seconds of one that has to find nothing
 
 
