@@ -3,6 +3,7 @@ from __future__ import annotations
 
 import argparse
 import random
+import signal
 import sys
 import tempfile
 from typing import Dict, Iterable, Iterator, List, Optional, Sequence, Tuple
@@ -162,4 +163,6 @@ def started(words: Sequence[str]) -> int:
 
 
 def main(words: Sequence[str]) -> int:
+    # So that what it began ends with it.
+    signal.signal(signal.SIGTERM, lambda *_: sys.exit(128 + signal.SIGTERM))
     return ended("blade-witness", lambda: started(words), UNREAD)
