@@ -279,12 +279,13 @@ def quiet(check) -> None:
         check.say(f"{name_of(leak)}: nothing found", fault_of(check, number, leak, "--seconds", HUNT))
     for name, export in ROUTINES.items():
         for way in ("one", "ledger", "vault"):
-            image = f"{name}/{way}/{name}"
+            source = export.split("/")[0]
+            image = f"{name}/{way}/{source}/{source}"
             if not os.path.exists(f"{check.folder}/{image}.img"):
                 if name != "x25519" or check.everything:
                     check.say(f"{name} {way}: nothing found", "there is no image: the other checks make it")
                 continue
-            with open(f"{check.folder}/{image}.start", encoding="ascii") as file:
+            with open(f"{check.folder}/{name}/{way}/{source}/{name}.start", encoding="ascii") as file:
                 leak = Leak(image, export, file.read(), status=NOTHING)
             status, text = searched(check, leak, f"{name}.{way}", "--seconds", HUNT)
             check.say(f"{name} {way}: nothing found", "" if status == NOTHING else text)
