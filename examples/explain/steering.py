@@ -3,7 +3,7 @@ from __future__ import annotations
 
 import random
 from collections import Counter, defaultdict
-from typing import Dict, Iterator, List, NamedTuple, Optional, Sequence, Set, Tuple
+from typing import Dict, Iterator, List, NamedTuple, Optional, Sequence, Tuple
 
 from .flow import is_bounds_test
 from .image import OUTSIDE, TRAPS, Command, Image, Operand
