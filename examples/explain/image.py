@@ -1,4 +1,4 @@
-"""Images: the commands of a hardened program, and what it declares. The format is that of docs/CLI.md. Licence: public domain (CC0)."""
+"""Images: the commands of a hardened program, and what it declares. The format is that of formats/FORMATS.md. Licence: public domain (CC0)."""
 from __future__ import annotations
 
 import os
