@@ -18,7 +18,7 @@ use Rattle.bl_counts.proofs.FewestExecuted.{least_is_fewest, least_passes, one_a
 use Rattle.bl_build.specs.BuildStages.{command_count}
 use Rattle.bl_build.specs.HardenStage.{Hardened, IsHardened}
 use Rattle.bl_build.specs.WeightStages.{IsWeighedBy}
-use Rattle.bl_build.proofs.FewestLemmas.{protects_are}
+use Rattle.bl_build.proofs.LeastLemmas.{protects_are}
 use Rattle.bl_build.proofs.WeightLemmas.{weighed_rules}
 use Rattle.bl_app.specs.CountedHardening.{AreExecutedLeast}
 

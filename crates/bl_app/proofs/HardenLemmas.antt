@@ -31,7 +31,7 @@ use Rattle.bl_job.proofs.StagedJobLemmas.{IsStagedCommand}
 use Rattle.bl_build.proofs.HardenExists.{some_hardened}
 use Rattle.bl_build.proofs.ModuleFiles.{are_compilable}
 use Rattle.bl_build.proofs.WeightLemmas.{are_built, are_well_formed, compiling_by_lawful, compiling_by_total}
-use Rattle.bl_build.proofs.FewestLemmas.{are_fewest, ends_alike}
+use Rattle.bl_build.proofs.LeastLemmas.{are_least, ends_alike}
 use Rattle.bl_build.proofs.ProtectedImages.{as_long}
 use Rattle.bl_build.proofs.ProgramVerdicts.{is_judged}
 use Rattle.bl_words.proofs.WordsLemmas.{request_differs}
@@ -159,7 +159,7 @@ hardened_means tree built wells own short same hardened h =
     let long = as_long h.set built.program hardened.image built.image (subst (λ p. Image p hardened.image) h.is_program h.image) own in
     record {
       same_outcomes = subst (SameOutcomes tree) (sym h.is_program) (ends_alike tree built.program h.set same);
-      fewest = are_fewest built.program own.is_program wells hardened h;
+      least = are_least built.program own.is_program wells hardened h;
       constant_time = is_judged built.program own.is_program wells hardened h;
       short = omega (arith, long, short);
     }
@@ -215,7 +215,7 @@ hardens words request old new status is did =
       compiled = means.compiled;
       is_hardened = plans.is_hardened;
       same_outcomes = each.same_outcomes;
-      fewest = each.fewest;
+      least = each.least;
       constant_time = each.constant_time;
       short = each.short;
       kept = d.kept ∙ ap (λ plan. with_files old.files plan.keeps) plans.is_plan;

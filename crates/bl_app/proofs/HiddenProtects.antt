@@ -23,7 +23,7 @@ use Rattle.bl_build.specs.HardenStage.{Hardened, IsHardened}
 use Rattle.bl_job.specs.Jobs.{Plan}
 use Rattle.bl_app.specs.Outcomes.{outcome_status}
 use Rattle.bl_words.specs.Requests.{RunRequest}
-use Rattle.bl_build.proofs.FewestLemmas.{well_formed}
+use Rattle.bl_build.proofs.LeastLemmas.{well_formed}
 
 -- the same outcome within so many steps
 within_on : (F G : ℕ → Outcome → Type 0) → ((n : ℕ) (o : Outcome) → F n o ↔ G n o) → (steps : ℕ) (outcome : Option Outcome) → IsWithin F steps outcome → IsWithin G steps outcome

@@ -187,8 +187,8 @@ pub joined_ends : (calls : Calls) (iface : Iface) (trees : Trees) (own program :
     → Image own calls.joined.bytes → bare program ≡ bare own
     → (name : List ℕ) (function : ℕ) → number_of name trees.whole.exports ≡ Some function → IsOwn trees.stub trees.client name → EndsAsLinked trees iface program name function
 joined_ends calls iface trees own program kept file loaded keep image same =
-    let c = is_part (part_call calls Client calls.client (clients calls)) calls.iface.bytes (contents_of (clients calls)) calls.client kept.client in
-    let l = is_part (part_call calls Library calls.library calls.libraries) calls.iface.bytes (contents_of calls.libraries) calls.library kept.library in
+    let c = is_part (part_call Client calls.client_iface calls.client (clients calls)) calls.client_iface.bytes (contents_of (clients calls)) calls.client kept.client in
+    let l = is_part (part_call Library calls.library_iface calls.library calls.libraries) calls.library_iface.bytes (contents_of calls.libraries) calls.library kept.library in
     let j = is_join (join_call calls) calls.iface.bytes calls.client.bytes calls.library.bytes calls.joined kept.joined in
     let is = parts_joined (words_of (clients calls)) (contents_of (clients calls)) (words_of calls.libraries) (contents_of calls.libraries) calls.client.bytes calls.library.bytes calls.iface.bytes calls.joined.bytes
     iface own c l j file image in

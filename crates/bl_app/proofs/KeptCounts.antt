@@ -1,5 +1,5 @@
 -- The count file that `run --counts` keeps is taken by `harden --counts`.
-use Rattle.std.proofs.Common.{◌≡◌, ◌<◌, ◌∙◌, ap, refl, subst, sym, ℕ, List, [], ◌∷◌, ◌++◌, Option, Some, None, arith}
+use Rattle.std.proofs.Common.{◌≡◌, ◌<◌, ◌∙◌, ap, refl, subst, sym, ℕ, Bool, List, [], ◌∷◌, ◌++◌, Option, Some, None, arith}
 use Rattle.bl_base.specs.Quantity.{limit_of}
 use Rattle.bl_base.specs.declared.quantity.Quantity.TheVariants as quantity
 use Rattle.bl_wasm.specs.declared.linked.Tree.{Tree}
@@ -9,6 +9,7 @@ use Rattle.bl_image.specs.Image.{Image}
 use Rattle.bl_image.proofs.Prefixes.{one_program}
 use Rattle.bl_lower.specs.Trees.{low_tree}
 use Rattle.bl_lower.proofs.WellFormed.{rules}
+use Rattle.bl_cut.specs.Marks.{protected}
 use Rattle.bl_counts.specs.RecordedRuns.{Recorded}
 use Rattle.bl_counts.specs.RunCounts.{bare as unmarked, counts_of}
 use Rattle.bl_counts.proofs.BarePrograms.{bare_protected}
@@ -23,7 +24,7 @@ use Rattle.bl_job.specs.Jobs.{Plan}
 use Rattle.bl_job.specs.Refusals.{Refusal}
 use Rattle.bl_job.specs.Stages.{at_first, at_second}
 use Rattle.bl_words.specs.Requests.{AreInRange, HardenRequest, RunRequest}
-use Rattle.bl_app.specs.CountedHardening.{AreExecutedLeast, AreTaken, IsImageOf, executed_by, its_own, weighed_by_run, with_protects}
+use Rattle.bl_app.specs.CountedHardening.{AreExecutedLeast, AreTaken, IsImageOf, executed_by, weighed_by_run}
 use Rattle.bl_app.specs.HardenJob.{HardenDoes, sources_in}
 use Rattle.bl_app.specs.RunJob.{RunDoes, counts_kept, counts_told}
 use Rattle.bl_app.proofs.CountLemmas.{executed_least_once}
@@ -34,24 +35,9 @@ bare_weighed : (counts : Option (List ℕ)) (program weighted : Program) → IsW
 bare_weighed None program weighted e = ap unmarked e
 bare_weighed (Some bytes) program weighted is = ap unmarked is.is_program
 
--- the program of an image
-record IsOf (low : Program) (image : List ℕ) : Type 0 where
-  program : Program
-  is_image : Image program image
-  alike : unmarked program ≡ unmarked low
-
-program_of : (words contents : List (List ℕ)) (counts : Option (List ℕ)) (built : Built) (is : AreBuilt words contents counts built) (image : List ℕ) → IsImageOf built image
-    → IsOf (low_tree is.tree) image
-program_of words contents counts built is image (its_own e) = record {
-  program = built.program;
-  is_image = subst (Image built.program) (sym e) is.image;
-  alike = bare_weighed counts (low_tree is.tree) built.program is.weighed;
-}
-program_of words contents counts built is image (with_protects hardened h e) = record {
-  program = hardened.program;
-  is_image = subst (Image hardened.program) (sym e) h.image;
-  alike = ap unmarked h.is_program ∙ bare_protected h.set built.program ∙ bare_weighed counts (low_tree is.tree) built.program is.weighed;
-}
+-- the image of a program with protects is one of the program
+pub protected_image : (built : Built) (set : ℕ → Bool) (program : Program) (image : List ℕ) → program ≡ protected set built.program → Image program image → IsImageOf built image
+protected_image built set program image e is = record { program = program; is_image = is; alike = ap unmarked e ∙ bare_protected set built.program }
 
 module _ (words modules : List (List ℕ)) (counts : Option (List ℕ)) (built : Built) (is : AreBuilt words modules counts built) (bytes : List ℕ) (weighted : Program)
     (weighs : IsWeighed bytes (low_tree is.tree) weighted) where
@@ -96,14 +82,13 @@ module _ (run : RunRequest) (word image start : List ℕ) (told : Plan) (request
   abbrev low : Program
   low = low_tree is.tree
 
-  own : IsOf low image
-  own = program_of request.modules modules counts built is image of_modules
-
   same_program : entered.entry.program ≡ d.passes.0
   same_program = ap (λ e. e.program) d.passes.2.2.same_entry ∙ d.passes.2.1.same_program
 
   alike : unmarked entered.entry.program ≡ unmarked low
-  alike = ap unmarked (same_program ∙ one_program d.passes.0 own.program image d.passes.1.image own.is_image) ∙ own.alike
+  alike =
+      ap unmarked (same_program ∙ one_program d.passes.0 of_modules.program image d.passes.1.image of_modules.is_image) ∙ of_modules.alike
+      ∙ bare_weighed counts low built.program is.weighed
 
   run_rules : IsWellFormed entered.entry.program
   run_rules = subst IsWellFormed (sym same_program) d.passes.1.rules

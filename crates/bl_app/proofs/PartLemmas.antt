@@ -23,7 +23,7 @@ use Rattle.bl_build.specs.ProgramMeaning.{SameOutcomes}
 use Rattle.bl_build.specs.StageAnswers.{parted_in}
 use Rattle.bl_build.specs.declared.part.Parted.{Parted as PartedMade}
 use Rattle.bl_build.proofs.BuildLemmas.{are_compiled}
-use Rattle.bl_build.proofs.FewestLemmas.{ends_alike}
+use Rattle.bl_build.proofs.LeastLemmas.{ends_alike}
 use Rattle.bl_build.proofs.InterfaceLemmas.{parting_lawful}
 use Rattle.bl_build.proofs.InterfaceTotal.{parting_total}
 use Rattle.bl_build.proofs.ProtectedImages.{as_long}

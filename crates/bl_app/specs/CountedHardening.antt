@@ -7,11 +7,11 @@ use Rattle.bl_cmd.specs.Sites.{is_protected}
 use Rattle.bl_cmd.specs.declared.definitions.ProgramParts.{ProgramParts as Program}
 use Rattle.bl_graph.specs.Ranges.{AreSites}
 use Rattle.bl_transient.specs.Transient.{Passes}
+use Rattle.bl_image.specs.Image.{Image}
 use Rattle.bl_lower.specs.Trees.{low_tree}
-use Rattle.bl_counts.specs.RunCounts.{IsFewer, counts_of, executed, weighed as weighed_with}
+use Rattle.bl_counts.specs.RunCounts.{IsFewer, bare, counts_of, executed, weighed as weighed_with}
 use Rattle.bl_build.specs.BuildStages.{Built, HasLongImage}
 use Rattle.bl_build.specs.EntryStages.{Entered, entering}
-use Rattle.bl_build.specs.HardenStage.{Hardened, IsHardened}
 use Rattle.bl_build.specs.WeightStages.{IsWeighed}
 use Rattle.bl_job.specs.Jobs.{Plan}
 use Rattle.bl_job.specs.Refusals.{Refusal}
@@ -26,10 +26,11 @@ pub record AreExecutedLeast (tree : Tree) (positions : List ℕ) (program : Prog
   pub fewest : (rival : ℕ → Bool) → AreSites (low_tree tree) rival → Passes (low_tree tree) rival
       → IsFewer (low_tree tree) positions (is_protected program) rival
 
--- an image of the program of modules: its own, or that of the program with its protects
-pub data IsImageOf (built : Built) (image : List ℕ) : Type 0 where
-  its_own : image ≡ built.image → IsImageOf built image
-  with_protects : (hardened : Hardened) → IsHardened built.program hardened → image ≡ hardened.image → IsImageOf built image
+-- an image of the program of modules, but for marks and weights
+pub record IsImageOf (built : Built) (image : List ℕ) : Type 0 where
+  pub program : Program
+  pub is_image : Image program image
+  pub alike : bare program ≡ bare built.program
 
 -- the positions of the commands that a run executes
 abbrev pub executed_by : RunRequest → Entered → List ℕ

@@ -34,7 +34,7 @@ pub record GenPlans (request : GenRequest) (built : Built) (plan : Plan) : Type 
   pub is_hardened : IsHardened built.program hardened
   pub is_plan : plan ≡ saying Done (gen_text request hardened)
 
--- the module is loaded and linked to a tree, which is lowered; hardened, the program ends exactly as the tree does, its protects are the fewest, its
+-- the module is loaded and linked to a tree, which is lowered; hardened, the program ends exactly as the tree does, its protects are the least, its
 -- verdict is judged, and its image is short enough
 pub record GenMeans (request : GenRequest) (built : Built) : Type 0 where
   pub compiled : AreCompiled (codes "gen" ∷ []) (made_by request ∷ []) built

@@ -16,7 +16,7 @@ use Rattle.bl_words.specs.Requests.{HardenRequest, file_named}
 use Rattle.bl_job.specs.StagedJobs.{Makes, Staged, contents_stage, others, staged_job}
 use Rattle.bl_job.specs.Worlds.{World, took}
 use Rattle.bl_job.specs.declared.status.Status.TheVariants.{Done}
-use Rattle.bl_build.specs.HardenStage.{Hardened, IsHardened, AreFewest, IsJudged}
+use Rattle.bl_build.specs.HardenStage.{Hardened, AreLeast, IsHardened, IsJudged}
 
 -- a count file that is read
 abbrev pub counts_read : List ℕ → Read
@@ -48,10 +48,10 @@ pub record HardenPlans (request : HardenRequest) (built : Built) (plan : Plan) :
   pub is_hardened : IsHardened built.program hardened
   pub is_plan : plan ≡ harden_plan request hardened
 
--- a hardened program ends exactly as the linked tree does, its protects are the fewest, and its verdict is judged
+-- a hardened program ends exactly as the linked tree does, its protects are the least, and its verdict is judged
 pub record HardenedMeans (tree : Tree) (hardened : Hardened) : Type 0 where
   pub same_outcomes : SameOutcomes tree hardened.program
-  pub fewest : AreFewest hardened
+  pub least : AreLeast hardened
   pub constant_time : IsJudged hardened
   pub short : length hardened.image ≤ limit_of quantity.Image
 
@@ -79,7 +79,7 @@ HardenDoes request = Makes (contents_stage (harden_staged request).reading) (Har
 -- ---- what is said
 
 -- the modules are read and compiled, and where a count file is named each site has the weight by its count; the program is hardened; it ends exactly as the linked tree does, and its protects are the
--- fewest; the verdict says whether it is constant-time, and where it is, two runs of it from starts that agree in public are observed
+-- least; the verdict says whether it is constant-time, and where it is, two runs of it from starts that agree in public are observed
 -- alike. The text of the certificate and the image are kept, and nothing else is changed; the report is printed
 pub record Hardens (request : HardenRequest) (old new : World) : Type 0 where
   pub contents : List (List ℕ)
@@ -89,7 +89,7 @@ pub record Hardens (request : HardenRequest) (old new : World) : Type 0 where
   pub compiled : AreBuilt request.modules contents (counts_in request contents) built
   pub is_hardened : IsHardened built.program hardened
   pub same_outcomes : SameOutcomes compiled.tree hardened.program
-  pub fewest : AreFewest hardened
+  pub least : AreLeast hardened
   pub constant_time : IsJudged hardened
   pub short : length hardened.image ≤ limit_of quantity.Image
   pub kept : new.files

@@ -46,9 +46,11 @@ contents_of files = map (λ file. file.bytes) files
 abbrev pub modules_in : List File → List Part
 modules_in files = parts_of (words_of files) (contents_of files)
 
--- the files of three calls: the interface; the modules of a stub, of its users, and of the library that the stub stands for; the images of the client, which
--- is the users over the stub, and of the library; and the image that both are joined to
+-- the files of three calls: the interface of each; the modules of a stub, of its users, and of the library that the stub stands for; the images of the client,
+-- which is the users over the stub, and of the library; and the image that both are joined to, by the interface of `join`
 pub record Calls : Type 0 where
+  pub client_iface : File
+  pub library_iface : File
   pub iface : File
   pub stubs : List File
   pub users : List File
@@ -64,9 +66,9 @@ clients calls = calls.stubs ++ calls.users
 abbrev pub wholes : Calls → List File
 wholes calls = calls.libraries ++ calls.users
 
--- `part` of modules on a side of the interface
-abbrev pub part_call : Calls → Role → File → List File → PartRequest
-part_call calls role image modules = record { role = role; image = image.word; iface = calls.iface.word; modules = words_of modules }
+-- `part` of modules on a side of an interface
+abbrev pub part_call : Role → File → File → List File → PartRequest
+part_call role iface image modules = record { role = role; image = image.word; iface = iface.word; modules = words_of modules }
 
 abbrev pub join_call : Calls → JoinRequest
 join_call calls = record { image = calls.joined.word; iface = calls.iface.word; client = calls.client.word; library = calls.library.word }
@@ -80,8 +82,8 @@ pub record Keeps (job : Job) (contents : List (List ℕ)) (file : File) : Type 0
 
 -- `part client` keeps the client's image, `part library` the library's, and `join` of both images the joined one
 pub record AreKept (calls : Calls) : Type 0 where
-  pub client : Keeps (part_job (part_call calls Client calls.client (clients calls))) (calls.iface.bytes ∷ contents_of (clients calls)) calls.client
-  pub library : Keeps (part_job (part_call calls Library calls.library calls.libraries)) (calls.iface.bytes ∷ contents_of calls.libraries) calls.library
+  pub client : Keeps (part_job (part_call Client calls.client_iface calls.client (clients calls))) (calls.client_iface.bytes ∷ contents_of (clients calls)) calls.client
+  pub library : Keeps (part_job (part_call Library calls.library_iface calls.library calls.libraries)) (calls.library_iface.bytes ∷ contents_of calls.libraries) calls.library
   pub joined : Keeps (join_job (join_call calls)) (calls.iface.bytes ∷ calls.client.bytes ∷ calls.library.bytes ∷ []) calls.joined
 
 -- ---- what the modules keep

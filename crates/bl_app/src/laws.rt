@@ -25,11 +25,12 @@ ghost use Rattle.bl_apart.specs.LinkedApart.{IsOwn};
 ghost use Rattle.bl_app.specs.JoinedModules.{AreKept, AreLoaded, Calls, EndsAsLinked, KeepTo, Trees};
 ghost use Rattle.bl_wasm.specs.Exports.{number_of};
 ghost use Rattle.bl_iface.specs.declared.iface.Iface.{Iface};
-ghost use Rattle.bl_build.specs.InterfaceStages.{IsFileOf};
+ghost use Rattle.bl_build.specs.InterfaceStages.{IsFileOf, Parted};
 ghost use Rattle.bl_job.specs.Jobs.{AreRead, FirstRefusal, IsLawful, IsTotal, Plan};
 ghost use Rattle.bl_job.specs.Refusals.{Refusal};
+ghost use Rattle.bl_app.specs.PartJob.{PartMeans};
 ghost use Rattle.bl_app.specs.PredictJob.{IsFollowed, predict_job};
-ghost use Rattle.bl_words.specs.Requests.{AreInRange, AreTurnsInRange, GenRequest, HardenRequest, InterpRequest, IsGenInRange, PredictRequest, Request, RunRequest, gen};
+ghost use Rattle.bl_words.specs.Requests.{AreInRange, AreTurnsInRange, GenRequest, HardenRequest, InterpRequest, IsGenInRange, PartRequest, PredictRequest, Request, RunRequest, gen};
 ghost use Rattle.bl_app.specs.VerifyJob.{IsVerified, VerifyDoes};
 ghost use Rattle.bl_job.specs.Worlds.{World};
 ghost use Rattle.bl_job.specs.declared.status.Status.{Status};
@@ -129,7 +130,7 @@ pub fn protects_do_not_show()
         → RunDoes request (built.image ∷ start ∷ []) plan ↔ RunDoes request (hardened.image ∷ start ∷ []) plan }
 {}
 
-/// Where the count file that modules are hardened by has the counts of runs, added position by position, of a program that is theirs but for marks and
+/// Where the count file that modules are hardened by has the counts of runs together, of a program that is theirs but for marks and
 /// weights, the protects pass the transient rules, and no other passing set of sites was executed less in these runs together, or as little and has
 /// fewer sites.
 pub fn protects_by_counts_are_executed_least()
@@ -139,7 +140,15 @@ pub fn protects_by_counts_are_executed_least()
         → AreExecutedLeast tree (all_executed other runs) hardened.program }
 {}
 
-/// The file that `run --counts` keeps of an image of modules' program, protected or not, weighed by another count file or not, is taken by
+/// The images that `lower`, `harden` and `part` keep of modules are of the modules' program, but for marks and weights.
+pub fn kept_images_are_of_the_program()
+    ensures lowered { (built : Built) → Image built.program built.image → IsImageOf built built.image }
+    ensures hardened { (built : Built) (hardened : Hardened) → IsHardened built.program hardened → IsImageOf built hardened.image }
+    ensures parted { (request : PartRequest) (contents : Listed (Listed ℕ)) (parted : Parted) (plan : Plan) (means : PartMeans request contents parted plan)
+        → IsImageOf means.built parted.image }
+{}
+
+/// The file that `run --counts` keeps of an image of modules' program, of whatever protects and weights, is taken by
 /// `harden --counts` of the same modules: neither its length nor its counts are refused (the image of the program that they weigh may be too long), and the
 /// protects are those that were executed least in that run.
 pub fn kept_counts_are_taken()
@@ -170,7 +179,7 @@ pub fn what_is_hardened_is_verified()
     ensures { (request : HardenRequest) (contents : Listed (Listed ℕ)) (plan : Plan) → (harden_job request).Does contents plan → IsVerified request plan }
 {}
 
-/// What `part` and `join` keep of modules that are hardened apart ends as `interp` of the linked modules does, by name. The client's modules are those of a stub
+/// What `part` and `join` keep of modules that are hardened apart, under an interface each, ends as `interp` of the linked modules does, by name. The client's modules are those of a stub
 /// and of its users; the library's are linked under the users' in place of the stub's. The users import of the stub nothing but functions of the interface, and
 /// two names of the interface that stand for one function of the stub stand for one of the library. Then what a module of the library or of the users exports
 /// under a name, but for a function of the stub that a user hands on, the joined image exports under it, and from each start both end alike, whichever of them

@@ -15,7 +15,7 @@ use Rattle.bl_witness.specs.declared.verdict.CertVerdict.{CertVerdict}
 use Rattle.bl_witness.specs.declared.verdict.CertVerdict.TheVariants as rules
 use Rattle.bl_build.specs.CertificateStages.{Certified, verifying}
 use Rattle.bl_build.specs.HardenStage.{Hardened, IsHardened}
-use Rattle.bl_build.proofs.FewestLemmas.{are_fewest, ranges_are, well_formed}
+use Rattle.bl_build.proofs.LeastLemmas.{are_least, ranges_are, well_formed}
 use Rattle.bl_build.proofs.CertificateVerdicts.{stable_back}
 use Rattle.bl_build.proofs.OneVerdict.{one_rules}
 
@@ -36,4 +36,4 @@ module _ (bare : Program) (facts : IsProgram bare) (wells : IsWellFormed bare) (
 
   pub no_leak : (verdict : FlowVerdict) → Judges hardened.program (is_protected hardened.program) verdict → leak_in verdict ≡ None
   no_leak (flow.Yes typing) judged = refl
-  no_leak (flow.No position) judged = absurd (stable_back hardened.program (flow.No position) judged (are_fewest bare facts wells hardened is).passes)
+  no_leak (flow.No position) judged = absurd (stable_back hardened.program (flow.No position) judged (are_least bare facts wells hardened is).passes)

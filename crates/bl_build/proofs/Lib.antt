@@ -4,7 +4,7 @@ pub mod Classical
 pub mod Constants
 pub mod EntryStageLemmas
 pub mod ExportedFunctions
-pub mod FewestLemmas
+pub mod LeastLemmas
 pub mod HardenExists
 pub mod HardenedFiles
 pub mod ImageWidths

@@ -13,7 +13,7 @@ use Rattle.bl_cut.proofs.MarkedPrograms.{is_program}
 use Rattle.bl_sct.proofs.OtherSecrets.{hides}
 use Rattle.bl_sct.proofs.EqualObservations.{equal}
 use Rattle.bl_build.specs.HardenStage.{Hardened, IsHardened, IsJudged, IsYes}
-use Rattle.bl_build.proofs.FewestLemmas.{are_fewest, well_formed}
+use Rattle.bl_build.proofs.LeastLemmas.{are_least, well_formed}
 
 -- the verdict is says exactly where some labelling keeps the rules
 pub yes_labelled : (program : Program) (verdict : CtVerdict) → Judges program verdict → IsYes verdict → ConstantTime program
@@ -38,8 +38,8 @@ module _ (bare : Program) (facts : IsProgram bare) (rules : IsWellFormed bare) (
     chain = λ chain e. chain_of hardened.program hardened.verdict chain is.judged e;
     equal = λ says.
         equal hardened.program of_program (well_formed bare facts rules hardened is) (yes_labelled hardened.program hardened.verdict is.judged says)
-        (are_fewest bare facts rules hardened is).passes;
+        (are_least bare facts rules hardened is).passes;
     hides = λ says.
         hides hardened.program of_program (well_formed bare facts rules hardened is) (yes_labelled hardened.program hardened.verdict is.judged says)
-        (are_fewest bare facts rules hardened is).passes;
+        (are_least bare facts rules hardened is).passes;
   }

@@ -1,6 +1,5 @@
--- Programs with the fewest protects: what hardening makes of a program, and what that says.
+-- Programs with the least protects: what hardening makes of a program, and what that says.
 use Rattle.std.specs.Prelude.{◌≡◌, ◌↔◌, ℕ, Bool, IsTrue, List}
-use Rattle.bl_cmd.specs.Programs.{IsProgram}
 use Rattle.bl_cmd.specs.Rules.{IsWellFormed}
 use Rattle.bl_cmd.specs.Sites.{is_protected}
 use Rattle.bl_cmd.specs.declared.definitions.ProgramParts.{ProgramParts as Program}
@@ -49,20 +48,15 @@ hardening = record {
   Refuses = compiling.Refuses;
 }
 
--- a certificate alone tells that a program's protects weigh the least: whatever certificate keeps its rules of a well-formed program, no passing set of
--- sites weighs less than the program's protects. It doesn't tell that these pass
-abbrev pub CertificatesTell : Type 0
-CertificatesTell = (program : Program) (certificate : Certificate) → IsProgram program → IsWellFormed program → Certifies program certificate → AreLightest program
-
 -- a protected program's protects pass, no set of sites of less weight does, and each one has a reason. The program is well-formed and its certificate
--- keeps its rules, which alone tells that no passing set weighs less
-pub record AreFewest (hardened : Hardened) : Type 0 where
+-- keeps its rules, and any certificate that does tells alone that no passing set weighs less; it doesn't tell that these protects pass
+pub record AreLeast (hardened : Hardened) : Type 0 where
   pub passes : Passes hardened.program (is_protected hardened.program)
   pub lightest : AreLightest hardened.program
   pub reasons : (s : ℕ) → IsTrue (is_protected hardened.program s) → HasReason hardened.program hardened.certificate s
   pub well_formed : IsWellFormed hardened.program
   pub certified : Certifies hardened.program hardened.certificate
-  pub certificates_tell : CertificatesTell
+  pub alone : (certificate : Certificate) → Certifies hardened.program certificate → AreLightest hardened.program
 
 -- the verdict says that the program is constant-time
 abbrev pub IsYes : CtVerdict → Type 0

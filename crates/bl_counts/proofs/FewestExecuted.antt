@@ -1,5 +1,5 @@
 -- The least set by the counts of runs, added, is executed least in them together.
-use Rattle.std.proofs.Common.{◌≡◌, ℕ, zero, suc, ◌+◌, ◌*◌, ◌^◌, ◌<◌, ◌≤◌, ◌⊎◌, inl, inr, Bool, true, false, List, [], ◌∷◌, length, Option, Some, None, slice_get, unwrap_or, refl, sym, ap, subst, ◌∙◌, arith}
+use Rattle.std.proofs.Common.{append-nil, ◌≡◌, ℕ, zero, suc, ◌+◌, ◌*◌, ◌^◌, ◌<◌, ◌≤◌, ◌⊎◌, inl, inr, Bool, true, false, List, [], ◌∷◌, ◌++◌, length, Option, Some, None, slice_get, unwrap_or, refl, sym, ap, subst, ◌∙◌, arith}
 use Rattle.std.specs.Prelude.{◌==◌, ◌&&◌, IsSome, is_some, option_map, option_and_then, if◌then◌else◌, count_by}
 use Rattle.std.proofs.lemmas.Bool.{ne_eqb, eq-eqb, cases_lt, false≢true}
 use Rattle.std.proofs.lemmas.List.Sums.{sum_by-append, sum_by-cons}
@@ -14,7 +14,7 @@ use Rattle.bl_graph.specs.Ranges.{AreSites}
 use Rattle.bl_transient.specs.Transient.{Passes}
 use Rattle.bl_cut.specs.Least.{Least}
 use Rattle.bl_counts.specs.RunCounts.{IsFewer, executions, sites, bare, count_in, counts_from, counts_of, exec, executed, is_site, size_of, times, weight_by, weighed, with_count}
-use Rattle.bl_counts.specs.RecordedRuns.{AreAdded, Recorded, added_at, all_executed}
+use Rattle.bl_counts.specs.RecordedRuns.{AreAdded, AreSums, Recorded, all_executed}
 use Rattle.bl_counts.specs.declared.counts.SiteCount.{SiteCount}
 use Rattle.bl_counts.proofs.BarePrograms.{is_site_same}
 use Rattle.bl_counts.proofs.WeightedPrograms.{counted, few, weighs, weight_is}
@@ -105,27 +105,32 @@ module _ (f : ℕ → Bool) (n : ℕ) (inside : (s : ℕ) → f s ≡ true → s
 
 -- ---- the law
 
-module _ (program other : Program) (same : bare other ≡ bare program) where
-  -- at a site, what runs count is what they execute
-  counted_once : (run : Recorded) (s : ℕ) → is_site program s ≡ true
-      → count_in (counts_of other run.function run.start run.steps) s ≡ times (executed other run.function run.start run.steps) s
-  counted_once run s site =
-      let positions = executed other run.function run.start run.steps in
-      let none : 0 + s ≡ s = omega arith in
-      subst (λ (n : ℕ). count_in (counts_of other run.function run.start run.steps) n ≡ times positions n) none
-      (count_is (times positions) 0 s other.commands (is_site_same other program same s ∙ site))
-
-  added_is : (runs : List Recorded) (s : ℕ) → is_site program s ≡ true → added_at other runs s ≡ times (all_executed other runs) s
-  added_is [] s site = refl
-  added_is (run ∷ runs) s site =
-      let first = counted_once run s site in
-      let rest = added_is runs s site in
-      let all = sum_by-append (λ p. if p == s then 1 else 0) (executed other run.function run.start run.steps) (all_executed other runs) in
-      omega (arith, first, rest, all)
-
 -- the counts of a run are those of it alone
 pub one_added : (program : Program) (run : Recorded) → AreAdded program (run ∷ []) (counts_of program run.function run.start run.steps)
-one_added program run s = omega arith
+one_added program run s site =
+    let positions = executed program run.function run.start run.steps in
+    let none : 0 + s ≡ s = omega arith in
+    subst (λ (n : ℕ). count_in (counts_of program run.function run.start run.steps) n ≡ times positions n) none (count_is (times positions) 0 s program.commands site)
+    ∙ ap (λ (all : List ℕ). times all s) (sym (append-nil positions))
+
+-- the counts of runs and of others, added position by position, are those of all together
+pub both_added : (program : Program) (runs others : List Recorded) (one two sums : List SiteCount) → AreAdded program runs one → AreAdded program others two
+    → AreSums program one two sums → AreAdded program (runs ++ others) sums
+both_added program runs others one two sums first second are s site =
+    let sum = are s site in
+    let ours = first s site in
+    let theirs = second s site in
+    let both = all runs in
+    omega (arith, sum, ours, theirs, both)
+  where
+    all : (runs : List Recorded) → times (all_executed program (runs ++ others)) s ≡ times (all_executed program runs) s + times (all_executed program others) s
+    all [] = omega arith
+    all (run ∷ runs) =
+        let positions = executed program run.function run.start run.steps in
+        let here = sum_by-append (λ p. if p == s then 1 else 0) positions (all_executed program (runs ++ others)) in
+        let there = sum_by-append (λ p. if p == s then 1 else 0) positions (all_executed program runs) in
+        let rest = all runs in
+        omega (arith, here, there, rest)
 
 module _ (program : Program) (counts : List SiteCount) where
   passes_back : (set : ℕ → Bool) → Passes (weighed counts program) set → Passes program set
@@ -163,7 +168,7 @@ module _ (program : Program) (counts : List SiteCount) where
       where
         each : (s : ℕ) (b : Bool) → (set s && is_site program s) ≡ b → (if b then count_in counts s else 0) ≡ (if b then times positions s else 0)
         each s false h = refl
-        each s true h = added s ∙ added_is program other same runs s (right_of (set s) (is_site program s) h)
+        each s true h = added s (is_site_same other program same s ∙ right_of (set s) (is_site program s) h)
 
     pub least_is_fewest : IsWellFormed program → (set : ℕ → Bool) → Least (weighed counts program) set
         → (rival : ℕ → Bool) → AreSites program rival → Passes program rival → IsFewer program positions set rival

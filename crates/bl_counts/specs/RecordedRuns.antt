@@ -7,7 +7,7 @@ use Rattle.bl_base.specs.declared.start.Start.{Start}
 use Rattle.bl_cmd.specs.Outcomes.{opening}
 use Rattle.bl_cmd.specs.Steps.{Plain, plain_step}
 use Rattle.bl_cmd.specs.declared.definitions.ProgramParts.{ProgramParts as Program}
-use Rattle.bl_counts.specs.RunCounts.{count_in, counts_of, executed, first_bad, is_site, total}
+use Rattle.bl_counts.specs.RunCounts.{count_in, executed, first_bad, is_site, times, total}
 use Rattle.bl_counts.specs.declared.counts.SiteCount.{SiteCount}
 
 -- each position is a site, and they rise
@@ -55,11 +55,10 @@ abbrev pub all_executed : Program → List Recorded → List ℕ
 all_executed program [] = []
 all_executed program (run ∷ runs) = executed program run.function run.start run.steps ++ all_executed program runs
 
--- the counts that the runs have for a position, added
-abbrev pub added_at : Program → List Recorded → ℕ → ℕ
-added_at program [] s = 0
-added_at program (run ∷ runs) s = count_in (counts_of program run.function run.start run.steps) s + added_at program runs s
-
--- counts are those of the runs, added position by position
+-- counts are those of the runs together: for each site, how many of the commands that they execute stand there
 abbrev pub AreAdded : Program → List Recorded → List SiteCount → Type 0
-AreAdded program runs counts = (s : ℕ) → count_in counts s ≡ added_at program runs s
+AreAdded program runs counts = (s : ℕ) → is_site program s ≡ true → count_in counts s ≡ times (all_executed program runs) s
+
+-- counts are those of two lists, added position by position
+abbrev pub AreSums : Program → List SiteCount → List SiteCount → List SiteCount → Type 0
+AreSums program one two sums = (s : ℕ) → is_site program s ≡ true → count_in sums s ≡ count_in one s + count_in two s

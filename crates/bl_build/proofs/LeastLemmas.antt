@@ -16,7 +16,7 @@ use Rattle.bl_cut.proofs.MarkedPrograms.{is_program, is_well_formed, marks_are}
 use Rattle.bl_cut.proofs.MarksAndPassing.{passes_on}
 use Rattle.bl_witness.specs.Verdicts.{AreLightest}
 use Rattle.bl_report.proofs.ProtectReasons.{has_reason}
-use Rattle.bl_build.specs.HardenStage.{AreFewest, Hardened, IsHardened}
+use Rattle.bl_build.specs.HardenStage.{AreLeast, Hardened, IsHardened}
 use Rattle.bl_wasm.specs.declared.linked.Tree.{Tree}
 use Rattle.bl_cut.proofs.MarkedRuns.{run_back, run_same}
 use Rattle.bl_build.specs.ProgramMeaning.{SameOutcomes}
@@ -46,14 +46,14 @@ module _ (bare : Program) (facts : IsProgram bare) (rules : IsWellFormed bare) (
   passes : Passes hardened.program (is_protected hardened.program)
   passes = subst (Passes hardened.program) (sym (protects_are bare hardened is)) (subst (λ p. Passes p is.set) (sym is.is_program) (passes_on is.set bare is.set is.least.passes))
 
-  pub are_fewest : AreFewest hardened
-  are_fewest = record {
+  pub are_least : AreLeast hardened
+  are_least = record {
     passes = passes;
     lightest = told hardened.program hardened.certificate ranges_are is.certified;
     reasons = has_reason hardened.program hardened.certificate ranges_are is.certified;
     well_formed = well_formed;
     certified = is.certified;
-    certificates_tell = λ program c facts rules. told program c (in_range program facts rules);
+    alone = λ other keeps. told hardened.program other ranges_are keeps;
   }
 
 -- what ends as the program without protects ends as the tree
