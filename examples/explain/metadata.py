@@ -7,8 +7,8 @@ its locals are declared), the size of the data, and the data. The data here is o
     00        the instruction's result: what it leaves on the stack (or, of local.set, local.tee and global.set, what it writes)
     01 N      its operand N, counted from 0, the deepest one first: an argument of a call, a value that a branch or an end hands on
     02 N      its result N, of a call with several
-    03 K      a condition that it makes of its operands: K is 0 that an access is in bounds, 1 that a divisor is zero, 2 that a division overflows,
-              3 that an index of a table (br_table, call_indirect) is that of an arm
+    03 K      a value that it makes inside: K is 0 that an access is in bounds, 1 that a divisor is zero, 2 that a division overflows, 3 that an index of
+              a table (br_table, call_indirect) is that of an arm, 4 that a memory has room to grow, 5 the size that it has from then on
 An entry says that the value may not be used while an older branch or bounds test is unresolved."""
 from __future__ import annotations
 
@@ -22,9 +22,10 @@ from .reading import Bad, Reader
 from .wasm import FUNCTION, Module
 
 NAME = "metadata.code.blade.protect"
-RESULT, OPERAND, MANY, TEST = range(4)
-WHAT = ("its result", "its operand", "its result", "a condition that it makes")
-TESTS = ("in bounds", "divisor is zero", "overflow", "index of an arm")
+RESULT, OPERAND, MANY, INSIDE = range(4)
+WHAT = ("its result", "its operand", "its result")
+VALUES = ("in bounds", "divisor is zero", "overflow", "index of an arm", "room to grow", "new size")
+BOUNDS, ZERO, OVERFLOW, ARM, ROOM, SIZE = range(6)
 
 
 class Held(NamedTuple):
@@ -35,9 +36,13 @@ class Held(NamedTuple):
 
     @property
     def text(self) -> str:
-        if self.what == TEST:
-            return f"a condition: {TESTS[self.number]}"
+        if self.what == INSIDE:
+            return f"inside it: {VALUES[self.number]}"
         return WHAT[self.what] + (f" {self.number}" if self.what in (OPERAND, MANY) else "")
+
+
+# Of memory.grow: what room there is, that it is too little, the old size, the new one, and -1 in place of the old one.
+GROWTH = {0: Held(INSIDE, ROOM), 1: Held(INSIDE, ROOM), 3: Held(RESULT, 0), 4: Held(INSIDE, SIZE), 6: Held(RESULT, 0)}
 
 
 def held_at(spot: Spot, position: int) -> Optional[Held]:
@@ -45,13 +50,13 @@ def held_at(spot: Spot, position: int) -> Optional[Held]:
     at, row = position - spot.row.position, spot.row
     kinds, word = row.kinds, row.text.split(" ")[0]
     if "." in word and (".load" in word or ".store" in word):
-        return Held(TEST, 0) if at == 0 else Held(RESULT, 0) if kinds[at] == "Load" else None
+        return Held(INSIDE, BOUNDS) if at == 0 else Held(RESULT, 0) if kinds[at] == "Load" else None
     if word[4:7] in ("div", "rem") and "." in word:
         if at == len(kinds) - 1:
             return Held(RESULT, 0)
-        return Held(TEST, 1 if at == 0 else 2)
+        return Held(INSIDE, ZERO if at == 0 else OVERFLOW)
     if word == "memory.grow":
-        return Held(RESULT, 0) if at == len(kinds) - 1 else None
+        return GROWTH.get(at)
     if word == "call":
         if kinds[at] == "Arg":
             return Held(OPERAND, at)
@@ -61,7 +66,7 @@ def held_at(spot: Spot, position: int) -> Optional[Held]:
     if word == "br_table":
         # First a test for each arm, then the values for each way.
         arms = next((place for place in range(0, len(kinds), 2) if kinds[place : place + 2] != ("Set", "Test")), len(kinds))
-        return Held(TEST, 3) if at < arms else Held(OPERAND, moved(kinds, at)) if kinds[at] in ("Set", "Out") else None
+        return Held(INSIDE, ARM) if at < arms else Held(OPERAND, moved(kinds, at)) if kinds[at] in ("Set", "Out") else None
     if word in ("br", "br_if", "return", "end", "else", "loop", "if"):
         return Held(OPERAND, moved(kinds, at)) if kinds[at] in ("Set", "Out") else None
     if kinds == ("Set",):
@@ -83,7 +88,7 @@ def indirect(kinds: Sequence[str], at: int) -> Optional[Held]:
     while slots + 1 < len(kinds) and kinds[slots : slots + 2] == ("Set", "Test"):
         slots += 2
     if at < slots:
-        return Held(TEST, 3)
+        return Held(INSIDE, ARM)
     start = at
     while start > slots and kinds[start - 1] != "Jump":
         start -= 1
