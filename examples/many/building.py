@@ -93,9 +93,9 @@ class Build:
         shutil.rmtree(room, ignore_errors=True)
         return run([f"{HERE}/cluster", "--workers", str(workers), "--processors", str(processors), room, *words], self.folder, during)
 
-    def over_slurm(self, jobs: int, groups: int, *words: str) -> List[str]:
-        """The command by which Snakemake gives its jobs to Slurm, of so many groups in one, and tries one again that failed."""
-        return [*SNAKEMAKE, "--cluster-sync", "srun --quiet --ntasks=1", "--jobs", str(jobs), "--group-components", f"apart={groups}", "--retries", "2",
+    def over_slurm(self, workers: int, processors: int, groups: int, *words: str) -> List[str]:
+        """The command by which Snakemake gives its jobs to Slurm, so many groups at once to a worker, and tries again what failed."""
+        return [*SNAKEMAKE, "--cluster-sync", f"srun --quiet --ntasks=1 --cpus-per-task={processors}", "--jobs", str(workers), "--group-components", f"apart={groups}", "--retries", "2",
                 "--latency-wait", "30", *words, "--config", f"blade={self.program}"]
 
     def files(self) -> Dict[str, Tuple[int, int]]:
