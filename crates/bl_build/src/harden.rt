@@ -3,7 +3,6 @@ ghost use Rattle.std.specs.Prelude.{◌≡◌, ◌≤◌, IfOk, length, map};
 ghost use Rattle.bl_base.specs.Quantity.{limit_of};
 ghost use Rattle.bl_base.specs.declared.quantity.Quantity.TheVariants as quantity;
 ghost use Rattle.bl_build.specs.HardenStage.{IsHardened, hardening};
-ghost use Rattle.bl_ct.specs.Verdicts.{Judges};
 ghost use Rattle.bl_build.specs.LoadStages.{AreShort, parts_of};
 ghost use Rattle.bl_text.specs.Names.{AreNamedApart};
 ghost use Rattle.bl_build.specs.WeightStages.{counted_sources, hardening_by};
@@ -14,7 +13,7 @@ use crate::build::{compile, compile_by};
 use bl_base::{NoMemory, Text};
 use bl_cmd::WellFormed;
 use bl_ct::{CtVerdict, constant_time};
-use bl_cut::{least_protects, protect};
+use bl_cut::{least_protects_of, protect};
 use bl_graph::{Certificate, graph};
 use bl_image::encode;
 use bl_job::{Content, WorkError};
@@ -81,15 +80,18 @@ pub fn compile_hardened_by(
     }
 }
 
-/// A program with exactly the least protects, a certificate of that, the verdict on constant time, and the image.
+/// A program with exactly the least protects, a certificate of that, the verdict on constant time, and the image. Protects change
+/// nothing of the verdict, so one graph serves both; it is given back before the search for the least ones.
+#[tactic(auto, using(crate::proofs::MarkedVerdicts::judged_on))]
 fn protect_least(alloc: Global, bare: WellFormed) -> Result<Hardened, NoMemory>
     ensures { IfOk result (λ hardened. IsHardened bare (hardened_in hardened)) }
 {
-    let choice = least_protects(alloc, &bare)?;
+    let facts = graph(alloc, &bare)?;
+    let verdict = constant_time(alloc, &bare, &facts)?;
+    let choice = least_protects_of(alloc, &bare, facts)?;
     let program = protect(bare, &choice.protects);
     let certificate = choice.certificate;
     drop(choice.protects);
-    let verdict = verdict_of(alloc, &program)?;
     let image = encode(alloc, &program)?;
     Ok(Hardened {
         program,
@@ -97,12 +99,4 @@ fn protect_least(alloc: Global, bare: WellFormed) -> Result<Hardened, NoMemory>
         verdict,
         image: Text::of(image),
     })
-}
-
-/// Whether a program is constant-time.
-fn verdict_of(alloc: Global, program: &WellFormed) -> Result<CtVerdict, NoMemory>
-    ensures { IfOk result (λ verdict. Judges program.now verdict) }
-{
-    let facts = graph(alloc, program)?;
-    constant_time(alloc, program, &facts)
 }

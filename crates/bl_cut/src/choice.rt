@@ -38,6 +38,20 @@ pub fn least_protects(alloc: Global, program: &WellFormed) -> Result<Choice, NoM
     ensures certificate { IfOk result (λ choice. Certifies (protected (fin.contains choice.protects) program.now) choice.certificate) }
 {
     let graph = graph(alloc, program)?;
+    least_protects_of(alloc, program, graph)
+}
+
+/// The same from the program's graph, which is given back before the search.
+pub fn least_protects_of(
+    alloc: Global,
+    program: &WellFormed,
+    graph: Graph,
+) -> Result<Choice, NoMemory>
+    requires { IsGraph program.now graph }
+    ensures least { IfOk result (λ choice. Least program.now (fin.contains choice.protects)) }
+    ensures weight { IfOk result (λ choice. choice.weight ≡ weight_of program.now (fin.contains choice.protects)) }
+    ensures certificate { IfOk result (λ choice. Certifies (protected (fin.contains choice.protects) program.now) choice.certificate) }
+{
     let laid = lay_out(alloc, program, &graph)?;
     // The search can take the graph's memory.
     drop(graph);
