@@ -70,8 +70,10 @@ impl Numbered for MemRow {
         Ok(())
     }
 
+    #[tactic(auto, using(crate::proofs::WriterLemmas::row_long))]
     fn length_behind(&self) -> u64 {
-        self.bytes.len() as u64
+        let bytes = self.bytes;
+        bytes.len() as u64
     }
 }
 

@@ -12,15 +12,15 @@ use Rattle.bl_image.proofs.WholeImage.{header_long}
 use Rattle.bl_image.proofs.SpellableParts.{definitions_fit, additions_fit, commands_fit}
 use Rattle.bl_image.proofs.image.image_length.Goals as goal
 
-pub length_of_definitions-requires : goal.length_of_definitions-requires
-length_of_definitions-requires c = subst DefinitionsFit (sym (c.parts-parts.ensures.same ∙ c.program.ensures.same)) (definitions_fit c.args.program.now c.program.ensures.rules)
+pub length_of_definitions-definitions-requires : goal.length_of_definitions-definitions-requires
+length_of_definitions-definitions-requires c = subst DefinitionsFit (sym (c.parts-parts.ensures.same ∙ c.program.ensures.same)) (definitions_fit c.args.program.now c.program.ensures.rules)
 
-pub length_of_additions-requires : goal.length_of_additions-requires
-length_of_additions-requires c =
+pub length_of_additions-additions-requires : goal.length_of_additions-additions-requires
+length_of_additions-additions-requires c =
     subst (λ (program : Program). AdditionsFit program.demands program.weights) (sym (c.parts-parts.ensures.same ∙ c.program.ensures.same)) (additions_fit c.args.program.now c.program.ensures.rules)
 
-pub length_of_each-requires : goal.length_of_each-requires
-length_of_each-requires c =
+pub length_of_each-commands-requires : goal.length_of_each-commands-requires
+length_of_each-commands-requires c =
     let program = c.args.program.now in
     let xs = program.commands in
     let is = c.as_slice.ensures ∙ ap (λ (p : Program). p.commands) (c.parts-parts.ensures.same ∙ c.program.ensures.same) in
