@@ -9,7 +9,7 @@ ghost use Rattle.bl_build.specs.WeightStages.{counted_sources, hardening_by};
 ghost use Rattle.bl_job.specs.WorkAnswers.{IsStaged, contents_in};
 ghost use Rattle.bl_build.specs.StageAnswers.{hardened_in};
 
-use crate::build::{compile, compile_by};
+use crate::build::{compile_program, compile_program_by};
 use bl_base::{NoMemory, Text};
 use bl_cmd::WellFormed;
 use bl_ct::{CtVerdict, constant_time};
@@ -43,8 +43,8 @@ impl Hardened {
 
 /// The program of the modules in files with these contents, with exactly the least protects, a certificate of that, the verdict on
 /// constant time, and the image; Refused exactly where `compile` refuses the modules. The length of the program's own image is judged,
-/// which is freed before the protects are chosen: the one that is made has as many bytes. Costs what `compile` does and a maximum flow
-/// in a network that is linear in the program.
+/// which isn't made: the one that is made has as many bytes. Costs what `compile` does and a maximum flow in a network that is linear in
+/// the program.
 pub fn compile_hardened(
     alloc: Global,
     words: &[&str],
@@ -55,8 +55,8 @@ pub fn compile_hardened(
     requires short { AreShort (map (λ word. word.now) words.now) (contents_in contents.items) }
     ensures { IsStaged hardening hardened_in (parts_of (map (λ word. word.now) words.now) (contents_in contents.items)) result }
 {
-    match compile(alloc, words, contents) {
-        Ok(built) => Ok(protect_least(alloc, built.into_program())?),
+    match compile_program(alloc, words, contents) {
+        Ok(program) => Ok(protect_least(alloc, program)?),
         Err(error) => Err(error),
     }
 }
@@ -74,8 +74,8 @@ pub fn compile_hardened_by(
     requires short { AreShort (map (λ word. word.now) words.now) (contents_in contents.items) }
     ensures { IsStaged hardening_by hardened_in (counted_sources (map (λ word. word.now) words.now) (contents_in contents.items) counts.now) result }
 {
-    match compile_by(alloc, words, contents, counts) {
-        Ok(built) => Ok(protect_least(alloc, built.into_program())?),
+    match compile_program_by(alloc, words, contents, counts) {
+        Ok(program) => Ok(protect_least(alloc, program)?),
         Err(error) => Err(error),
     }
 }
