@@ -124,11 +124,7 @@ fn choice_of(
 }
 
 /// The sites whose in part is near and whose out part isn't.
-pub(crate) fn cut_sites(
-    alloc: Global,
-    commands: u32,
-    cut: &LeastCut,
-) -> Result<SiteSet, NoMemory>
+pub(crate) fn cut_sites(alloc: Global, commands: u32, cut: &LeastCut) -> Result<SiteSet, NoMemory>
     requires ins { commands ≤ length cut.now.near_in }
     requires outs { commands ≤ length cut.now.near_out }
     ensures { IfOk result (λ set. (s : ℕ) → fin.contains set s ≡ (nat_lt s commands && cut_of cut.now s)) }
