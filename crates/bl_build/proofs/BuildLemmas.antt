@@ -16,7 +16,7 @@ use Rattle.bl_image.specs.Image.{Image}
 use Rattle.bl_image.proofs.Prefixes.{one_image}
 use Rattle.bl_lower.specs.Trees.{low_tree}
 use Rattle.bl_lower.proofs.InitialStates.{ends_after, plain_ended}
-use Rattle.bl_build.specs.BuildStages.{AreCompilable, AreCompiled, Builds, Built, HasLongImage, IsSized, building, command_count, compiling, lowering, sizing}
+use Rattle.bl_build.specs.BuildStages.{AreCompilable, AreCompiled, Builds, Built, HasLongImage, IsSized, building, command_count, compiling, lowering, sizing, without_image}
 use Rattle.bl_build.specs.LoadStages.{Part, loading, parts_of}
 use Rattle.bl_build.specs.ProgramMeaning.{SameOutcomes}
 use Rattle.bl_job.specs.Refusals.{Refusal, limit}
@@ -132,6 +132,33 @@ module _ {A B C X : Type 0} (first : Stage A B) (second : Stage B C) (f : X → 
   staged_behind (Ok x) passed h = (b, passed, h)
   staged_behind (Err (error.Refused refusal)) passed h = at_second b passed h
   staged_behind (Err error.Memory) passed h = tt
+
+-- ---- a program whose image isn't made
+
+-- what comes of a value that one stage passes on
+module _ {A B : Type 0} (first : Stage A B) (second : Stage B Built) (a : A) (b : B) where
+  pub unmade_behind : (result : Result Program WorkError) → first.Passes a b → IsStaged (without_image second) (λ (program : Program). program) b result
+      → IsStaged (without_image (chain first second)) (λ (program : Program). program) a result
+  unmade_behind (Ok program) passed h = (h.0, (b, passed, h.1))
+  unmade_behind (Err (error.Refused refusal)) passed h = at_second b passed h
+  unmade_behind (Err error.Memory) passed h = tt
+
+-- an image that is made is the one that was judged
+pub sized_again : (program other : Program) (image : List ℕ) (built : Built) → IsSized program (record { program = other; image = image }) → built.program ≡ other → Image built.program built.image
+    → IsSized program built
+sized_again program other image built p same made =
+    let is = same ∙ p.is_program in
+    let own = subst (λ (q : Program). Image q built.image) is made in
+    record {
+      is_program = is;
+      image = own;
+      short = subst (λ (bytes : List ℕ). length bytes ≤ limit_of quantity.Image) (one_image program image built.image p.image own) p.short;
+    }
+
+pub compiled_again : (parts : List Part) (other : Program) (built : Built) → (without_image compiling).Passes parts other → built.program ≡ other → Image built.program built.image → compiling.Passes parts built
+compiled_again parts other built p same made =
+    let made_of = p.1.2 in
+    (p.1.0, p.1.1, (made_of.0, made_of.1, sized_again made_of.0 other p.0 built made_of.2 same made))
 
 -- ---- what it means
 

@@ -12,9 +12,10 @@ use Rattle.bl_cmd.specs.declared.definitions.ProgramParts.{ProgramParts as Progr
 use Rattle.bl_image.specs.Image.{Image}
 use Rattle.bl_flow.specs.Cuts.{cut_of}
 use Rattle.bl_flow.specs.declared.network.Arc.{Arc}
+use Rattle.bl_flow.specs.declared.network.FlowResult.{FlowResult}
 use Rattle.bl_flow.specs.declared.network.Network.{Network}
-use Rattle.bl_flow.proofs.MaxFlowExistence.{SomeFlow, some_flow}
-use Rattle.bl_graph.specs.Certificates.{Certifies, flow_of}
+use Rattle.bl_flow.proofs.MaxFlowExistence.{some_flow}
+use Rattle.bl_graph.specs.Certificates.{Certifies}
 use Rattle.bl_graph.specs.Graphs.{use_of}
 use Rattle.bl_graph.specs.Names.{AreNames, place_of}
 use Rattle.bl_graph.specs.Ranges.{AreInRange, commands, variables}
@@ -221,27 +222,24 @@ module _ (program : Program) (facts : IsProgram program) (rules : IsWellFormed p
       ends = λ v. (end_kind v, end_of v);
     }
 
-    flow : SomeFlow network
-    flow = some_flow network (network_in_range nothing program names is network is_network) (bounded nothing program names is network is_network (λ x hot. absurd (false≢true hot))) (total nothing program names is network is_network)
-
-    is_flow : IsMaxFlow network flow.result
-    is_flow = record { paths = flow.paths; loads = flow.loads; cut = flow.cut; weight = flow.weight; least = flow.least; near = flow.near; nearest = flow.nearest }
+    found : (r : FlowResult) × IsMaxFlow network r
+    found = some_flow network (network_in_range nothing program names is network is_network) (bounded nothing program names is network is_network (λ x hot. absurd (false≢true hot))) (total nothing program names is network is_network)
 
     abbrev set : ℕ → Bool
-    set = cut_of flow.result
+    set = cut_of found.0.cut
 
     least : Least program set
-    least = is_least program names is network is_network flow.result is_flow
+    least = is_least program names is network is_network found.0 found.1
 
     paths : List FlowPath
-    paths = map (path_of (commands program) sink_of) flow.result.paths
+    paths = map (path_of (commands program) sink_of) found.0.paths
 
     certificate : Certificate
-    certificate = record { paths = paths; weight = flow_of paths }
+    certificate = record { paths = paths; weight = found.0.cut.weight }
 
     certifies : Certifies (protected set program) certificate
     unfolding certificate paths
-    certifies = certifies_on set program least.sites certificate (certified program names is network is_network flow.result is_flow sink_of knows)
+    certifies = certifies_on set program least.sites certificate (certified program names is network is_network found.0 found.1 sink_of knows)
 
     made : (own : List ℕ) → Image program own → (hardened : Hardened) × IsHardened program hardened
     made own image =

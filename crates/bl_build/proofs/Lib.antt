@@ -19,6 +19,7 @@ pub mod CertificateVerdicts
 pub mod ProgramVerdicts
 pub mod LabelLemmas
 pub mod LinkLemmas
+pub mod MarkedVerdicts
 pub mod LoadSteps
 pub mod LoadLemmas
 pub mod LoadTotal

@@ -34,7 +34,7 @@ use Rattle.bl_job.specs.WorkAnswers.{IsStaged, IsTold, Tells}
 use Rattle.bl_job.specs.declared.refusal.WorkError.{WorkError}
 use Rattle.bl_job.specs.declared.refusal.WorkError.TheVariants as error
 use Rattle.bl_job.proofs.StageLemmas.{chain_lawful, chain_total, told_as, told_memory}
-use Rattle.bl_build.specs.BuildStages.{AreCompilable, Built, lowering, sizing}
+use Rattle.bl_build.specs.BuildStages.{AreCompilable, Built, lowering, sizing, without_image}
 use Rattle.bl_build.specs.LoadStages.{loading, parts_of}
 use Rattle.bl_build.specs.ProgramMeaning.{SameOutcomes}
 use Rattle.bl_build.specs.WeightStages.{AreBuilt, HasBadCounts, IsCounted, IsOfProgram, IsWeighed, Sources, bad_counts, building_by, by_commands, by_position, by_total, compiling_by, refusal_of_count_file, counts_for, refusal_of_weighing, weighing}
@@ -198,15 +198,16 @@ compiling_by_total = record {
 
 -- ---- what functions answer
 
-module _ {X : Type 0} (sources : Sources) (f : X → Built) where
+module _ (sources : Sources) where
   -- what comes of the tree that is loaded
-  pub compiled_behind : (tree : Tree) (result : Result X WorkError) → loading.Passes sources.parts tree → IsStaged (building_by sources.counts) f tree result → IsStaged compiling_by f sources result
-  compiled_behind tree (Ok x) passed h = (tree, passed, h)
+  pub compiled_behind : (tree : Tree) (result : Result Program WorkError) → loading.Passes sources.parts tree
+      → IsStaged (without_image (building_by sources.counts)) (λ (program : Program). program) tree result → IsStaged (without_image compiling_by) (λ (program : Program). program) sources result
+  compiled_behind tree (Ok program) passed h = (h.0, (tree, passed, h.1))
   compiled_behind tree (Err (error.Refused refusal)) passed h = at_second tree passed h
   compiled_behind tree (Err error.Memory) passed h = tt
 
   -- what is refused of loading it
-  pub refused_behind : (e : WorkError) → Tells (loading.Refuses sources.parts) e → IsStaged compiling_by f sources (Err e)
+  pub refused_behind : (e : WorkError) → Tells (loading.Refuses sources.parts) e → IsStaged (without_image compiling_by) (λ (program : Program). program) sources (Err e)
   refused_behind (error.Refused refusal) h = at_first h
   refused_behind error.Memory h = tt
 

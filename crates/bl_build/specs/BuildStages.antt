@@ -58,6 +58,13 @@ pub record HasLongImage (program : Program) (refusal : Refusal) : Type 0 where
 abbrev pub sizing : Stage Program Built
 sizing = record { Passes = IsSized; Refuses = HasLongImage }
 
+-- the program alone of what a stage makes: there is an image as the stage wants it, which isn't made
+abbrev pub without_image : {A : Type 0} → Stage A Built → Stage A Program
+without_image stage = record {
+  Passes = λ a program. (image : List ℕ) × stage.Passes a (record { program = program; image = image });
+  Refuses = stage.Refuses;
+}
+
 -- the program of a linked tree, with its image
 abbrev pub building : Stage Tree Built
 building = chain lowering sizing

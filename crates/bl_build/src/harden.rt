@@ -3,18 +3,17 @@ ghost use Rattle.std.specs.Prelude.{◌≡◌, ◌≤◌, IfOk, length, map};
 ghost use Rattle.bl_base.specs.Quantity.{limit_of};
 ghost use Rattle.bl_base.specs.declared.quantity.Quantity.TheVariants as quantity;
 ghost use Rattle.bl_build.specs.HardenStage.{IsHardened, hardening};
-ghost use Rattle.bl_ct.specs.Verdicts.{Judges};
 ghost use Rattle.bl_build.specs.LoadStages.{AreShort, parts_of};
 ghost use Rattle.bl_text.specs.Names.{AreNamedApart};
 ghost use Rattle.bl_build.specs.WeightStages.{counted_sources, hardening_by};
 ghost use Rattle.bl_job.specs.WorkAnswers.{IsStaged, contents_in};
 ghost use Rattle.bl_build.specs.StageAnswers.{hardened_in};
 
-use crate::build::{compile, compile_by};
+use crate::build::{compile_program, compile_program_by};
 use bl_base::{NoMemory, Text};
 use bl_cmd::WellFormed;
 use bl_ct::{CtVerdict, constant_time};
-use bl_cut::{least_protects, protect};
+use bl_cut::{least_protects_of, protect};
 use bl_graph::{Certificate, graph};
 use bl_image::encode;
 use bl_job::{Content, WorkError};
@@ -44,8 +43,8 @@ impl Hardened {
 
 /// The program of the modules in files with these contents, with exactly the least protects, a certificate of that, the verdict on
 /// constant time, and the image; Refused exactly where `compile` refuses the modules. The length of the program's own image is judged,
-/// which is freed before the protects are chosen: the one that is made has as many bytes. Costs what `compile` does and a maximum flow
-/// in a network that is linear in the program.
+/// which isn't made: the one that is made has as many bytes. Costs what `compile` does and a maximum flow in a network that is linear in
+/// the program.
 pub fn compile_hardened(
     alloc: Global,
     words: &[&str],
@@ -56,8 +55,8 @@ pub fn compile_hardened(
     requires short { AreShort (map (λ word. word.now) words.now) (contents_in contents.items) }
     ensures { IsStaged hardening hardened_in (parts_of (map (λ word. word.now) words.now) (contents_in contents.items)) result }
 {
-    match compile(alloc, words, contents) {
-        Ok(built) => Ok(protect_least(alloc, built.into_program())?),
+    match compile_program(alloc, words, contents) {
+        Ok(program) => Ok(protect_least(alloc, program)?),
         Err(error) => Err(error),
     }
 }
@@ -75,21 +74,24 @@ pub fn compile_hardened_by(
     requires short { AreShort (map (λ word. word.now) words.now) (contents_in contents.items) }
     ensures { IsStaged hardening_by hardened_in (counted_sources (map (λ word. word.now) words.now) (contents_in contents.items) counts.now) result }
 {
-    match compile_by(alloc, words, contents, counts) {
-        Ok(built) => Ok(protect_least(alloc, built.into_program())?),
+    match compile_program_by(alloc, words, contents, counts) {
+        Ok(program) => Ok(protect_least(alloc, program)?),
         Err(error) => Err(error),
     }
 }
 
-/// A program with exactly the least protects, a certificate of that, the verdict on constant time, and the image.
+/// A program with exactly the least protects, a certificate of that, the verdict on constant time, and the image. Protects change
+/// nothing of the verdict, so one graph serves both; it is given back before the search for the least ones.
+#[tactic(auto, using(crate::proofs::MarkedVerdicts::judged_on))]
 fn protect_least(alloc: Global, bare: WellFormed) -> Result<Hardened, NoMemory>
     ensures { IfOk result (λ hardened. IsHardened bare (hardened_in hardened)) }
 {
-    let choice = least_protects(alloc, &bare)?;
+    let facts = graph(alloc, &bare)?;
+    let verdict = constant_time(alloc, &bare, &facts)?;
+    let choice = least_protects_of(alloc, &bare, facts)?;
     let program = protect(bare, &choice.protects);
     let certificate = choice.certificate;
     drop(choice.protects);
-    let verdict = verdict_of(alloc, &program)?;
     let image = encode(alloc, &program)?;
     Ok(Hardened {
         program,
@@ -97,12 +99,4 @@ fn protect_least(alloc: Global, bare: WellFormed) -> Result<Hardened, NoMemory>
         verdict,
         image: Text::of(image),
     })
-}
-
-/// Whether a program is constant-time.
-fn verdict_of(alloc: Global, program: &WellFormed) -> Result<CtVerdict, NoMemory>
-    ensures { IfOk result (λ verdict. Judges program.now verdict) }
-{
-    let facts = graph(alloc, program)?;
-    constant_time(alloc, program, &facts)
 }

@@ -13,7 +13,7 @@ ghost use Rattle.bl_iface.specs.InterfaceFunctions.{Matches};
 ghost use Rattle.bl_job.specs.WorkAnswers.{IsStaged, IsTold, contents_in};
 ghost use Rattle.bl_text.specs.Names.{AreNamedApart};
 
-use crate::build::compile;
+use crate::build::compile_program;
 use crate::interface::{match_all, read_interface};
 use bl_base::{NoMemory, Text};
 use bl_cmd::WellFormed;
@@ -61,8 +61,8 @@ pub fn compile_part(
     ensures staged { IsStaged (parting role iface.now) parted_in (parts_of (map (λ word. word.now) words.now) (contents_in contents.items)) result }
     ensures weight { IfOk result (λ parted. parted.weight ≡ weight_of parted.program (is_protected parted.program)) }
 {
-    match compile(alloc, words, contents) {
-        Ok(built) => part_program(alloc, role, iface, built.into_program()),
+    match compile_program(alloc, words, contents) {
+        Ok(program) => part_program(alloc, role, iface, program),
         Err(error) => Err(error),
     }
 }

@@ -27,22 +27,22 @@ module _ (set : ℕ → Bool) (program : Program) where
   abbrev after : Program
   after = protected set program
 
-  stands : (P Q : Command → Type 0) (s : ℕ) → ((b : Bool) (command : Command) → P (marked b command) ↔ Q command)
+  pub stands : (P Q : Command → Type 0) (s : ℕ) → ((b : Bool) (command : Command) → P (marked b command) ↔ Q command)
       → IsSomeAnd (command_at after s) P ↔ IsSomeAnd (command_at program s) Q
   stands P Q s same =
       subst (λ o. IsSomeAnd o P ↔ IsSomeAnd (command_at program s) Q) (sym (command_is set program s)) (some_same P Q (marked (set s)) (command_at program s) (same (set s)))
 
-  writes_same : (s x : ℕ) → Writes after s x ↔ Writes program s x
+  pub writes_same : (s x : ℕ) → Writes after s x ↔ Writes program s x
   writes_same s x = stands (λ c. written_by after s c ≡ Some x) (λ c. written_by program s c ≡ Some x) s (λ b c.
       let same = written_same set program b s c in
       (subst (λ o. o ≡ Some x) same, subst (λ o. o ≡ Some x) (sym same)))
 
-  reads_same : (s x : ℕ) → Reads after s x ↔ Reads program s x
+  pub reads_same : (s x : ℕ) → Reads after s x ↔ Reads program s x
   reads_same s x = stands (λ c. Among (moved_by c) x) (λ c. Among (moved_by c) x) s (λ b c.
       let same = moved_same b c in
       (subst (λ l. Among l x) same, subst (λ l. Among l x) (sym same)))
 
-  sinks_same : (s x : ℕ) → SinkReads after s x ↔ SinkReads program s x
+  pub sinks_same : (s x : ℕ) → SinkReads after s x ↔ SinkReads program s x
   sinks_same s x = stands (λ c. Among (sunk_by c) x) (λ c. Among (sunk_by c) x) s (λ b c.
       let same = sunk_same b c in
       (subst (λ l. Among l x) same, subst (λ l. Among l x) (sym same)))

@@ -1,5 +1,5 @@
 -- The cut nearest the starts is the least choice, also where something is asked of variables; its paths certify it where nothing is.
-use Rattle.std.proofs.Common.{◌≡◌, ℕ, ◌-◌, ◌*◌, ◌<◌, ◌≤◌, List, [], ◌∷◌, ◌++◌, length, Some, refl, sym, ap, subst, ◌∙◌, arith, ◌⊎◌, inl, inr, nat_eq, nat_lt, slice_index}
+use Rattle.std.proofs.Common.{◌≡◌, ℕ, Bool, ◌-◌, ◌*◌, ◌<◌, ◌≤◌, List, [], ◌∷◌, ◌++◌, length, Some, refl, sym, ap, subst, ◌∙◌, arith, ◌⊎◌, inl, inr, nat_eq, nat_lt, slice_index}
 use Rattle.std.specs.Prelude.{IsSome, map}
 use Rattle.std.specs.List.{All, count_by}
 use Rattle.std.proofs.lemmas.Bool.{eqb-true, false≢true, lt-ltb}
@@ -9,9 +9,10 @@ use Rattle.bl_cmd.specs.Sites.{IsLoad, SinkReads, site_weight, weight_of}
 use Rattle.bl_cmd.specs.declared.definitions.ProgramParts.{ProgramParts as Program}
 use Rattle.bl_flow.specs.declared.network.NodePath.{NodePath}
 use Rattle.bl_flow.specs.declared.network.FlowResult.{FlowResult}
+use Rattle.bl_flow.specs.declared.network.LeastCut.{LeastCut}
 use Rattle.bl_flow.specs.declared.network.Network.{Network}
-use Rattle.bl_flow.specs.Networks.{IsPath, load, carried}
-use Rattle.bl_flow.specs.Cuts.{cut_of, cut_weight}
+use Rattle.bl_flow.specs.Networks.{IsPath, load}
+use Rattle.bl_flow.specs.Cuts.{IsLeastCut, cut_of, cut_weight}
 use Rattle.bl_graph.specs.Certificates.{sites_of, flow_through, flow_of, IsFlowPath, CertifiesSet}
 use Rattle.bl_graph.specs.Chains.{IsChain}
 use Rattle.bl_graph.specs.Ranges.{commands, AreSites, AreInRange}
@@ -41,35 +42,38 @@ pub numbers_back : (xs : List ℕ) → map (λ (s : Pos). s.0) (positions xs) �
 numbers_back [] = refl
 numbers_back (x ∷ xs) = ap (λ l. x ∷ l) (numbers_back xs)
 
-module _ (asked : Asked) (program : Program) (names : List ℕ) (is : AreInRange program) (n : Network) (net : IsNetworkUnder asked program names n) (r : FlowResult) (flow : IsMaxFlow n r) where
-  pub nearest_sites : AreSites program (cut_of r)
-  nearest_sites = cut_sites asked program names is n net (cut_of r) flow.cut
+module _ (asked : Asked) (program : Program) (names : List ℕ) (is : AreInRange program) (n : Network) (net : IsNetworkUnder asked program names n) (c : LeastCut) (found : IsLeastCut n c) where
+  pub nearest_sites : AreSites program (cut_of c)
+  nearest_sites = cut_sites asked program names is n net (cut_of c) found.cut
 
-  pub nearest_weighs : weight_of program (cut_of r) ≡ carried r.paths
-  nearest_weighs = sym (cut_weighs asked program names is n net (cut_of r)) ∙ flow.weight
+  pub nearest_weighs : weight_of program (cut_of c) ≡ c.weight
+  nearest_weighs = sym (cut_weighs asked program names is n net (cut_of c)) ∙ found.weight
 
   -- the cut is the least choice
-  pub nearest_least : LeastUnder asked program (cut_of r)
+  pub nearest_least : LeastUnder asked program (cut_of c)
   nearest_least =
       let worth = nearest_weighs in
       record {
         sites = nearest_sites;
-        passes = cut_passes asked program names is n net (cut_of r) flow.cut;
+        passes = cut_passes asked program names is n net (cut_of c) found.cut;
         lightest = λ other are passes.
             let theirs = cut_weighs asked program names is n net other in
-            let most = flow.least other (passing_cut asked program names is n net other are passes) in
+            let most = found.least other (passing_cut asked program names is n net other are passes) in
             omega arith;
         nearest = λ other are passes same x t.
             let theirs = cut_weighs asked program names is n net other in
-            let weighs : cut_weight n other ≡ carried r.paths = omega arith in
-            let lies = flow.nearest other (passing_cut asked program names is n net other are passes) weighs in
-            near_var asked program names is n net other x (named_trans asked program names net.named net.hot_named (cut_of r) x t)
-            (lies.in_parts (node_of program names x) ((flow.near.in_parts (node_of program names x)).1 (near_trans asked program names is n net (cut_of r) nearest_sites x t)));
+            let weighs : cut_weight n other ≡ c.weight = omega arith in
+            let lies = found.nearest other (passing_cut asked program names is n net other are passes) weighs in
+            near_var asked program names is n net other x (named_trans asked program names net.named net.hot_named (cut_of c) x t)
+            (lies.in_parts (node_of program names x) ((found.near.in_parts (node_of program names x)).1 (near_trans asked program names is n net (cut_of c) nearest_sites x t)));
       }
 
 module _ (program : Program) (names : List ℕ) (is : AreInRange program) (n : Network) (net : IsNetwork program names n) (r : FlowResult) (flow : IsMaxFlow n r) where
-  pub is_least : Least program (cut_of r)
-  is_least = nearest_least nothing program names is n net r flow
+  abbrev cut : ℕ → Bool
+  cut = cut_of r.cut
+
+  pub is_least : Least program cut
+  is_least = nearest_least nothing program names is n net r.cut flow.cut
 
   -- where nothing is asked, starts are loads and ends are variables that sinks read
   start_load : (s : ℕ) → IsFirstSite nothing program s ⊎ IsAskedNode nothing program names s → IsLoad program s
@@ -120,8 +124,8 @@ module _ (program : Program) (names : List ℕ) (is : AreInRange program) (n : N
         ∙ ap (λ c. path.amount * c)
         (count_filter (λ t. nat_eq t s) (λ v. nat_lt v (commands program)) (λ v e. let same = eqb-true v s e in lt-ltb v (commands program) (omega arith)) path.nodes)) r.paths
 
-    pub same_flow : flow_of paths ≡ carried r.paths
-    same_flow = sum_map (λ p. p.amount) back r.paths
+    same_flow : flow_of paths ≡ r.cut.weight
+    same_flow = sum_map (λ p. p.amount) back r.paths ∙ flow.weight
 
     fits : (s w : ℕ) → site_weight program s ≡ Some w → flow_through paths s ≤ w
     fits s w e =
@@ -133,35 +137,35 @@ module _ (program : Program) (names : List ℕ) (is : AreInRange program) (n : N
     within : All (λ p. All (λ s. s < commands program) (sites_of p)) paths
     within = each_back (λ p. All (λ s. s < commands program) (sites_of p)) (λ path p. chain_sites program is (sites_of (back path)) (back path).sink.0 (back_chain path p))
 
-    met : All (λ p. 1 ≤ count_by (cut_of r) (sites_of p)) paths
-    met = each_back (λ p. 1 ≤ count_by (cut_of r) (sites_of p)) (λ path p.
-        any_counted (cut_of r) (sites_of (back path))
-        (chain_met program (cut_of r) (cut_passes nothing program names is n net (cut_of r) flow.cut) (sites_of (back path)) (back path).sink.0 (back_chain path p)))
+    met : All (λ p. 1 ≤ count_by cut (sites_of p)) paths
+    met = each_back (λ p. 1 ≤ count_by cut (sites_of p)) (λ path p.
+        any_counted cut (sites_of (back path))
+        (chain_met program cut (cut_passes nothing program names is n net cut flow.cut.cut) (sites_of (back path)) (back path).sink.0 (back_chain path p)))
 
     some : All (λ p. 0 < p.amount) paths
     some = each_back (λ p. 0 < p.amount) (λ path p. p.amount)
 
-    worth : weight_of program (cut_of r) ≡ flow_of paths
-    worth = nearest_weighs nothing program names is n net r flow ∙ sym same_flow
+    worth : weight_of program cut ≡ flow_of paths
+    worth = nearest_weighs nothing program names is n net r.cut flow.cut ∙ sym same_flow
 
-    once : All (λ p. count_by (cut_of r) (sites_of p) ≡ 1) paths
+    once : All (λ p. count_by cut (sites_of p) ≡ 1) paths
     once =
-        let most = crossed_most program (cut_of r) (nearest_sites nothing program names is n net r flow) paths fits within in
+        let most = crossed_most program cut (nearest_sites nothing program names is n net r.cut flow.cut) paths fits within in
         let same = worth in
-        crossed_once amount_of sites_of (cut_of r) paths some met (omega arith)
+        crossed_once amount_of sites_of cut paths some met (omega arith)
 
     -- the paths read back certify the cut
-    pub certified : CertifiesSet program (cut_of r) (record { paths = paths; weight = flow_of paths })
+    pub certified : CertifiesSet program cut (record { paths = paths; weight = r.cut.weight })
     certified = record {
-      paths = all_from (IsFlowPath program (cut_of r)) paths (λ q h.
+      paths = all_from (IsFlowPath program cut) paths (λ q h.
           let found = from_map back r.paths q h in
           let p = All-contains (IsPath n) r.paths found.0 flow.paths found.1 in
           record {
             chain = subst (λ q. IsChain program (sites_of q) q.sink.0) found.2 (back_chain found.0 p);
             amount = All-contains (λ p. 0 < p.amount) paths q some h;
-            once = All-contains (λ p. count_by (cut_of r) (sites_of p) ≡ 1) paths q once h;
+            once = All-contains (λ p. count_by cut (sites_of p) ≡ 1) paths q once h;
           });
       fits = fits;
       flow = sym worth;
-      weight = refl;
+      weight = same_flow;
     }

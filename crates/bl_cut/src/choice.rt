@@ -1,8 +1,8 @@
 //! The least choice of protects.
-ghost use Rattle.std.specs.Prelude.{◌≡◌, ◌≤◌, ◌&&◌, ℕ, IfOk, length, nat_lt, not};
+ghost use Rattle.std.specs.Prelude.{◌≡◌, ◌≤◌, ◌&&◌, ℕ, IfOk, length, nat_lt};
 ghost use Rattle.std.specs.FinSet as fin;
 ghost use Rattle.bl_cmd.specs.Sites.{weight_of};
-ghost use Rattle.bl_flow.specs.Cuts.{at_place};
+ghost use Rattle.bl_flow.specs.Cuts.{cut_of};
 ghost use Rattle.bl_graph.specs.Certificates.{Certifies};
 ghost use Rattle.bl_graph.specs.Graphs.{IsGraph};
 ghost use Rattle.bl_cut.specs.Choices.{IsFlowOf, KnowsSinks};
@@ -14,8 +14,8 @@ use crate::network::network;
 use crate::walks::{read_back, sinks_by_variable};
 use bl_base::{List, NoMemory, Pos, SiteSet};
 use bl_cmd::WellFormed;
-use bl_flow::{FlowResult, Network, max_flow_of};
-use bl_graph::{Certificate, Graph, Names, flow_sum, graph, names_of, ranges};
+use bl_flow::{FlowResult, LeastCut, Network, max_flow_of};
+use bl_graph::{Certificate, Graph, Names, graph, names_of, ranges};
 use std::alloc::Global;
 
 /// A set of sites to protect, its weight, and a flow that shows that no set of less weight passes.
@@ -31,13 +31,28 @@ pub struct Choice {
 
 /// The passing set of least weight whose transient variables are contained in those of every other one of that weight. Marks
 /// that stand in the program are ignored. Costs a maximum flow in a network that is linear in the program's commands; where these
-/// name few of its variables, a sort of what they write and read too. Want of memory is the only error.
+/// name few of its variables, a sort of what they write and read too. The certificate takes memory for each site on each of its paths.
+/// Want of memory is the only error.
 pub fn least_protects(alloc: Global, program: &WellFormed) -> Result<Choice, NoMemory>
     ensures least { IfOk result (λ choice. Least program.now (fin.contains choice.protects)) }
     ensures weight { IfOk result (λ choice. choice.weight ≡ weight_of program.now (fin.contains choice.protects)) }
     ensures certificate { IfOk result (λ choice. Certifies (protected (fin.contains choice.protects) program.now) choice.certificate) }
 {
     let graph = graph(alloc, program)?;
+    least_protects_of(alloc, program, graph)
+}
+
+/// The same from the program's graph, which is given back before the search.
+pub fn least_protects_of(
+    alloc: Global,
+    program: &WellFormed,
+    graph: Graph,
+) -> Result<Choice, NoMemory>
+    requires { IsGraph program.now graph }
+    ensures least { IfOk result (λ choice. Least program.now (fin.contains choice.protects)) }
+    ensures weight { IfOk result (λ choice. choice.weight ≡ weight_of program.now (fin.contains choice.protects)) }
+    ensures certificate { IfOk result (λ choice. Certifies (protected (fin.contains choice.protects) program.now) choice.certificate) }
+{
     let laid = lay_out(alloc, program, &graph)?;
     // The search can take the graph's memory.
     drop(graph);
@@ -110,13 +125,8 @@ fn choice_of(
     ranges(program);
     let commands = program.program().parts().commands.len() as u32;
     let paths = read_back(alloc, commands, sink_of, flow.paths.as_slice())?;
-    let weight = flow_sum(&paths);
-    let protects = cut_sites(
-        alloc,
-        commands,
-        flow.near_in.as_slice(),
-        flow.near_out.as_slice(),
-    )?;
+    let weight = flow.cut.weight;
+    let protects = cut_sites(alloc, commands, &flow.cut)?;
     Ok(Choice {
         protects,
         weight,
@@ -128,16 +138,13 @@ fn choice_of(
 }
 
 /// The sites whose in part is near and whose out part isn't.
-pub(crate) fn cut_sites(
-    alloc: Global,
-    commands: u32,
-    near_in: &[bool],
-    near_out: &[bool],
-) -> Result<SiteSet, NoMemory>
-    requires ins { commands ≤ length near_in.now }
-    requires outs { commands ≤ length near_out.now }
-    ensures { IfOk result (λ set. (s : ℕ) → fin.contains set s ≡ (nat_lt s commands && (at_place near_in.now s && not (at_place near_out.now s)))) }
+pub(crate) fn cut_sites(alloc: Global, commands: u32, cut: &LeastCut) -> Result<SiteSet, NoMemory>
+    requires ins { commands ≤ length cut.now.near_in }
+    requires outs { commands ≤ length cut.now.near_out }
+    ensures { IfOk result (λ set. (s : ℕ) → fin.contains set s ≡ (nat_lt s commands && cut_of cut.now s)) }
 {
+    let near_in = cut.near_in.as_slice();
+    let near_out = cut.near_out.as_slice();
     let mut set = SiteSet::new(alloc);
     for s in 0..commands {
         if near_in[s as usize] && !near_out[s as usize] {

@@ -9,6 +9,6 @@ mod network;
 mod under;
 mod walks;
 
-pub use choice::{Choice, least_protects};
+pub use choice::{Choice, least_protects, least_protects_of};
 pub use marks::protect;
 pub use under::{ChoiceUnder, least_under_of};

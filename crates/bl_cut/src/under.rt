@@ -1,9 +1,8 @@
 //! The least choice of protects where something is asked of variables.
-ghost use Rattle.std.specs.Prelude.{◌≡◌, ◌-◌, ◌<◌, ◌^◌, ℕ, All, Contains, IfOk, min};
+ghost use Rattle.std.specs.Prelude.{◌≡◌, ◌<◌, ℕ, All, Contains, IfOk};
 ghost use Rattle.std.specs.FinSet as fin;
 ghost use Rattle.bl_cmd.specs.Sites.{SinkReads, weight_of};
 ghost use Rattle.bl_cut.specs.Least.{LeastUnder};
-ghost use Rattle.bl_flow.specs.Networks.{carried};
 ghost use Rattle.bl_graph.specs.Graphs.{IsGraph};
 ghost use Rattle.bl_graph.specs.Ranges.{variables};
 ghost use Rattle.bl_transient.specs.Verdicts.{asked_of};
@@ -12,7 +11,7 @@ use crate::choice::cut_sites;
 use crate::network::network;
 use bl_base::{NoMemory, SiteSet};
 use bl_cmd::WellFormed;
-use bl_flow::{NodePath, max_flow_of};
+use bl_flow::least_cut_of;
 use bl_graph::{Graph, ranges};
 use bl_transient::{AskedOf, names_under};
 use std::alloc::Global;
@@ -27,9 +26,9 @@ pub struct ChoiceUnder {
 }
 
 /// The set of least weight that passes under what is asked, whose transient variables are contained in those of every other one
-/// of that weight. Marks that stand in the program are ignored. Costs a maximum flow in a network that is linear in the program's
-/// commands and in what is asked; where these name few of its variables, a sort of what they write and read too. Want of memory is
-/// the only error.
+/// of that weight. Marks that stand in the program are ignored. Costs the time of a maximum flow in a network that is linear in the
+/// program's commands and in what is asked; where these name few of its variables, a sort of what they write and read too. Its memory
+/// is linear in the same: no path is kept. Want of memory is the only error.
 pub fn least_under_of(
     alloc: Global,
     program: &WellFormed,
@@ -49,25 +48,11 @@ pub fn least_under_of(
     let firm = asked.firm.as_slice();
     let names = names_under(alloc, program, graph, asked)?;
     let network = network(alloc, program, graph, &names, hot, firm)?;
-    let flow = max_flow_of(alloc, network)?;
+    let cut = least_cut_of(alloc, network)?;
     let commands = program.program().parts().commands.len() as u32;
-    let protects = cut_sites(
-        alloc,
-        commands,
-        flow.near_in.as_slice(),
-        flow.near_out.as_slice(),
-    )?;
-    let weight = amount_of(flow.paths.as_slice());
-    Ok(ChoiceUnder { protects, weight })
-}
-
-/// How much paths carry in all, at most 2^64 - 1.
-fn amount_of(paths: &[NodePath]) -> u64
-    ensures { result ≡ min (carried paths.now) (2 ^ 64 - 1) }
-{
-    let mut sum: u64 = 0;
-    for path in paths {
-        sum = sum.saturating_add(path.amount);
-    }
-    sum
+    let protects = cut_sites(alloc, commands, &cut)?;
+    Ok(ChoiceUnder {
+        protects,
+        weight: cut.weight,
+    })
 }

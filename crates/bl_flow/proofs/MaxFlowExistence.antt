@@ -1,7 +1,7 @@
 -- Some flow is a maximum: unit after unit goes along trails with residual capacity, until none leads to the end; and it is split into walks.
 use Rattle.std.proofs.Common.{◌≡◌, ℕ, zero, suc, ◌+◌, ◌-◌, ◌^◌, ◌<◌, ◌≤◌, Bool, true, false, List, [], ◌∷◌, ◌++◌, length, drop, cond, reverse, set, length-set, length-drop, Some, refl, sym, ap, subst, ◌∙◌, arith, ◌⊎◌, inl, inr, slice_get, slice_index, nat_lt, ◌&&◌}
 use Rattle.std.specs.Prelude.{IsSome, filter_map, unwrap_or}
-use Rattle.std.specs.List.{All, Contains}
+use Rattle.std.specs.List.{Contains}
 use Rattle.std.proofs.lemmas.Bool.{cases_Bool, cases_lt, cases_eq, false≢true, lt-ltb, le-ltb, ltb-true, and_from, and_parts}
 use Rattle.std.proofs.lemmas.Option.{get_or_from_slice_get}
 use Rattle.std.proofs.lemmas.List.{get_or-set_same, get_or-set_other, get_or-drop}
@@ -10,10 +10,11 @@ use Rattle.bl_flow.specs.declared.network.FlowResult.{FlowResult}
 use Rattle.bl_flow.specs.declared.network.Network.{Network}
 use Rattle.bl_flow.specs.declared.network.NodePath.{NodePath}
 use Rattle.bl_flow.specs.declared.split.Link.{Link}
-use Rattle.bl_flow.specs.Cuts.{IsCut, IsNearSide, LiesNear, Meets, at_place, cut_of, cut_weight}
+use Rattle.bl_flow.specs.Cuts.{Meets, at_place}
+use Rattle.bl_flow.specs.MaxFlow.{IsMaxFlow}
 use Rattle.bl_flow.specs.Flows.{AreReverse, HasCapacities, IsCarried, IsFlow, IsPushed, IsTaken, LeadsBack, amount_if, link_count}
 use Rattle.bl_flow.specs.FullFlows.{IsPathTaken}
-use Rattle.bl_flow.specs.Networks.{InRange, IsPath, carried, load, size, total_weight, weight_at}
+use Rattle.bl_flow.specs.Networks.{InRange, carried, load, size, total_weight, weight_at}
 use Rattle.bl_flow.specs.AdjacencyLists.{reverse_place}
 use Rattle.bl_flow.specs.Searches.{IsClosed, IsTrail}
 use Rattle.bl_flow.specs.Split.{both_ways, entered, full_capacity, in_part, link_at, links_of, out_part}
@@ -325,17 +326,6 @@ module _ (n : Network) (range : InRange n) where
 
 -- ---- the whole
 
--- a maximum flow, and the near side of the cut of that weight nearest the starts
-pub record SomeFlow (n : Network) : Type 0 where
-  pub result : FlowResult
-  pub paths : All (IsPath n) result.paths
-  pub loads : (v w : ℕ) → weight_at n v ≡ Some w → load result.paths v ≤ w
-  pub cut : IsCut n (cut_of result)
-  pub weight : cut_weight n (cut_of result) ≡ carried result.paths
-  pub least : (cut : ℕ → Bool) → IsCut n cut → carried result.paths ≤ cut_weight n cut
-  pub near : IsNearSide n (cut_of result) result.near_in result.near_out
-  pub nearest : (cut : ℕ → Bool) → IsCut n cut → cut_weight n cut ≡ carried result.paths → LiesNear n cut result.near_in result.near_out
-
 module _ (n : Network) (range : InRange n) (bounded : Meets n (λ v. IsSome (weight_at n v))) (small : total_weight n < 2 ^ 63) where
   found : Full n range
   found = full n range bounded
@@ -364,7 +354,8 @@ module _ (n : Network) (range : InRange n) (bounded : Meets n (λ v. IsSome (wei
   near_out : List Bool
   near_out = table (size n) (λ v. there (out_part v))
 
-  pub some_flow : SomeFlow n
+  -- a maximum flow with the least cut
+  pub some_flow : (r : FlowResult) × IsMaxFlow n r
   unfolding near_in near_out
   some_flow =
       let a = found.amount in
@@ -376,15 +367,19 @@ module _ (n : Network) (range : InRange n) (bounded : Meets n (λ v. IsSome (wei
       let in_length = table_length (size n) (λ v. there (in_part v)) in
       let out_length = table_length (size n) (λ v. there (out_part v)) in
       let is_closed = closed n range found.capacities in
-      let worth : carried split.0 ≡ a = let sum = split.2.sum in omega arith in
-      record {
-        result = record { paths = split.0; near_in = near_in; near_out = near_out };
-        paths = split.2.walks;
-        loads = λ v w e. load_fits n found.capacities a v w (load split.0 v) found.flow e (λ lt. let less = split.2.loads v lt in let same = carried_at (link_count n) v (sym found.flow.places) in omega arith);
-        cut = is_cut n found.capacities a found.flow range few there begins found.last is_closed near_in near_out in_length out_length ins outs;
-        weight = weighs n found.capacities a found.flow range few there begins found.last is_closed near_in near_out in_length out_length ins outs ∙ sym worth;
-        least = λ cut is. let most = worth_at_most n found.capacities a found.flow range cut is in omega arith;
-        near = near_side n found.capacities a found.flow range few there begins found.last is_closed near_in near_out in_length out_length ins outs (least n range found.capacities);
-        nearest = λ cut is e.
-            lies_near n found.capacities a found.flow range few there begins found.last is_closed near_in near_out in_length out_length ins outs (least n range found.capacities) cut is (omega arith);
-      }
+      let worth : carried split.0 ≡ a = let sum = split.2.sum in omega arith in (
+        record { paths = split.0; cut = record { near_in = near_in; near_out = near_out; weight = a } },
+        record {
+          paths = split.2.walks;
+          loads = λ v w e. load_fits n found.capacities a v w (load split.0 v) found.flow e (λ lt. let less = split.2.loads v lt in let same = carried_at (link_count n) v (sym found.flow.places) in omega arith);
+          cut = record {
+            cut = is_cut n found.capacities a found.flow range few there begins found.last is_closed near_in near_out in_length out_length ins outs;
+            weight = weighs n found.capacities a found.flow range few there begins found.last is_closed near_in near_out in_length out_length ins outs;
+            least = λ other is. worth_at_most n found.capacities a found.flow range other is;
+            near = near_side n found.capacities a found.flow range few there begins found.last is_closed near_in near_out in_length out_length ins outs (least n range found.capacities);
+            nearest = λ other is e.
+                lies_near n found.capacities a found.flow range few there begins found.last is_closed near_in near_out in_length out_length ins outs (least n range found.capacities) other is (omega arith);
+          };
+          weight = worth;
+        },
+      )

@@ -2,15 +2,16 @@
 use Rattle.std.proofs.Common.{◌≡◌, ℕ, suc, ◌+◌, ◌*◌, ◌^◌, ◌<◌, Bool, true, false, List, length, Option, None, is_some, refl, sym, ap, subst, ◌∙◌, arith}
 use Rattle.std.proofs.lemmas.Bool.{false≢true}
 use Rattle.bl_flow.specs.declared.network.Network.{Network}
-use Rattle.bl_flow.specs.declared.network.FlowResult.{FlowResult}
+use Rattle.bl_flow.specs.declared.network.LeastCut.{LeastCut}
 use Rattle.bl_flow.specs.declared.split.Link.{Link}
 use Rattle.bl_flow.specs.Networks.{size, InRange}
-use Rattle.bl_flow.specs.Cuts.{IsCut, cut_weight, LiesNear, IsNearSide, at_place, cut_of}
+use Rattle.bl_flow.specs.Cuts.{IsLeastCut, at_place}
 use Rattle.bl_flow.specs.Split.{in_part, out_part, links_of, both_ways, link_at}
 use Rattle.bl_flow.specs.Searches.{IsClosed}
 use Rattle.bl_flow.specs.Levels.{IsReached, here, onward, level_at, AreLevels}
 use Rattle.bl_flow.specs.FullFlows.{IsFull}
 use Rattle.bl_flow.proofs.CutWorth.{is_cut, weighs, lies_near, near_side}
+use Rattle.bl_flow.proofs.Duality.{worth_at_most}
 use Rattle.bl_flow.proofs.LevelSearch.{some_of}
 
 -- whether a part has a level
@@ -39,21 +40,16 @@ module _ (links : List Link) (capacities : List ℕ) (root end : ℕ) where
         ap is_some (are.least (link_at links k).to (suc level.0) (onward level.0 (link_at links k).to k lt capacity (are.sound (link_at links k).from level.0 level.1) goes refl)).1
 
 -- what the levels show of the answer
-pub record IsNearest (n : Network) (r : FlowResult) (amount : ℕ) : Type 0 where
-  pub cut : IsCut n (cut_of r)
-  pub weight : cut_weight n (cut_of r) ≡ amount
-  pub near : IsNearSide n (cut_of r) r.near_in r.near_out
-  pub nearest : (other : ℕ → Bool) → IsCut n other → cut_weight n other ≡ amount → LiesNear n other r.near_in r.near_out
-
-pub is_nearest : (n : Network) (capacities : List ℕ) (levels seen_in seen_out : List (Option ℕ)) (amount nodes : ℕ) (r : FlowResult) → InRange n → amount < 2 ^ 63 → IsFull n capacities levels amount
+pub is_nearest : (n : Network) (capacities : List ℕ) (levels seen_in seen_out : List (Option ℕ)) (nodes : ℕ) (r : LeastCut) → InRange n → r.weight < 2 ^ 63 → IsFull n capacities levels r.weight
     → nodes ≡ size n → seen_in ≡ levels → seen_out ≡ levels → length r.near_in ≡ nodes → length r.near_out ≡ nodes
     → ((v : ℕ) → v < nodes → at_place r.near_in v ≡ has_level seen_in (2 * v + 0)) → ((v : ℕ) → v < nodes → at_place r.near_out v ≡ has_level seen_out (2 * v + 1))
-    → IsNearest n r amount
-is_nearest n capacities levels seen_in seen_out amount nodes r range small full len same_in same_out in_length out_length ins outs = record {
-  cut = is_cut n capacities amount full.flow range small marked root last closed r.near_in r.near_out in_size out_size in_marks out_marks;
-  weight = weighs n capacities amount full.flow range small marked root last closed r.near_in r.near_out in_size out_size in_marks out_marks;
-  near = near_side n capacities amount full.flow range small marked root last closed r.near_in r.near_out in_size out_size in_marks out_marks in_each;
-  nearest = λ other is weight. lies_near n capacities amount full.flow range small marked root last closed r.near_in r.near_out in_size out_size in_marks out_marks in_each other is (omega arith);
+    → IsLeastCut n r
+is_nearest n capacities levels seen_in seen_out nodes r range small full len same_in same_out in_length out_length ins outs = record {
+  cut = is_cut n capacities r.weight full.flow range small marked root last closed r.near_in r.near_out in_size out_size in_marks out_marks;
+  weight = weighs n capacities r.weight full.flow range small marked root last closed r.near_in r.near_out in_size out_size in_marks out_marks;
+  least = λ other is. worth_at_most n capacities r.weight full.flow range other is;
+  near = near_side n capacities r.weight full.flow range small marked root last closed r.near_in r.near_out in_size out_size in_marks out_marks in_each;
+  nearest = λ other is weight. lies_near n capacities r.weight full.flow range small marked root last closed r.near_in r.near_out in_size out_size in_marks out_marks in_each other is (omega arith);
 }
   where
     marked : ℕ → Bool

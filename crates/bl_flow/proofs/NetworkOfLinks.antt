@@ -12,7 +12,6 @@ use Rattle.bl_base.proofs.Sums.{sum_term}
 use Rattle.bl_flow.specs.declared.network.Arc.{Arc}
 use Rattle.bl_flow.specs.declared.layout.Layout.{Layout}
 use Rattle.bl_flow.specs.declared.layout.Split.{Split}
-use Rattle.bl_flow.specs.declared.network.FlowResult.{FlowResult}
 use Rattle.bl_flow.specs.declared.network.Network.{Network}
 use Rattle.bl_flow.specs.declared.split.Link.{Link}
 use Rattle.bl_flow.specs.Networks.{InRange, size, weight_at, total_weight}
@@ -21,7 +20,7 @@ use Rattle.bl_flow.specs.Flows.{link_count, IsFlow}
 use Rattle.bl_flow.specs.Levels.{level_at, AreLevels, HasRisen}
 use Rattle.bl_flow.specs.Cuts.{Meets}
 use Rattle.bl_flow.specs.Searches.{AreRows}
-use Rattle.bl_flow.specs.MaxFlow.{IsSplit, IsSorted, IsLaidOut, IsMaxFlow}
+use Rattle.bl_flow.specs.MaxFlow.{IsSplit, IsSorted, IsLaidOut}
 use Rattle.bl_flow.specs.PackedNetworks.{IsPacked, IsAdvanced}
 use Rattle.bl_flow.proofs.Links.{count_of, nodes_part, outer_part, nodes_length}
 use Rattle.bl_flow.proofs.LinksWithin.{from_within}
@@ -243,11 +242,7 @@ laid_out_is n layout laid = is_rebuilt n layout.nodes layout.links layout.rows l
 pub laid_out_again : (n : Network) (layout : Layout) → IsLaidOut n layout → IsLaidOut (network_of layout.nodes layout.links layout.capacities) layout
 laid_out_again n layout laid = subst (λ m. IsLaidOut m layout) (laid_out_is n layout laid) laid
 
-pub greatest_again : {E : Type 0} (n : Network) (layout : Layout) (result : Result FlowResult E) → IsLaidOut n layout
-    → IfOk result (IsMaxFlow (network_of layout.nodes layout.links layout.capacities)) → IfOk result (IsMaxFlow n)
-greatest_again n layout result laid told = subst (λ m. IfOk result (IsMaxFlow m)) (sym (laid_out_is n layout laid)) told
-
--- what a maximum flow has, a result that is one has
-pub of_greatest : {E : Type 0} (n : Network) (P : FlowResult → Type 0) (result : Result FlowResult E) → ((r : FlowResult) → IsMaxFlow n r → P r) → IfOk result (IsMaxFlow n) → IfOk result P
-of_greatest n P (Err e) each told = tt
-of_greatest n P (Ok r) each told = each r told
+-- what is told of the network that was laid out where it is told of the rebuilt one
+pub told_again : {A E : Type 0} (P : Network → A → Type 0) (n : Network) (layout : Layout) (result : Result A E) → IsLaidOut n layout
+    → IfOk result (P (network_of layout.nodes layout.links layout.capacities)) → IfOk result (P n)
+told_again P n layout result laid told = subst (λ m. IfOk result (P m)) (sym (laid_out_is n layout laid)) told

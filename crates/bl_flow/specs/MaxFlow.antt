@@ -1,25 +1,22 @@
 -- What a maximum flow is, and what a search for one is given.
-use Rattle.std.specs.Prelude.{◌≡◌, ℕ, ◌≤◌, ◌+◌, ◌*◌, ◌^◌, ◌<◌, Bool, Some, All, length}
+use Rattle.std.specs.Prelude.{◌≡◌, ℕ, ◌≤◌, ◌+◌, ◌*◌, ◌^◌, ◌<◌, Some, All, length}
 use Rattle.bl_flow.specs.declared.layout.Layout.{Layout}
 use Rattle.bl_flow.specs.declared.layout.Split.{Split}
 use Rattle.bl_flow.specs.declared.network.FlowResult.{FlowResult}
 use Rattle.bl_flow.specs.declared.network.Network.{Network}
 use Rattle.bl_flow.specs.Networks.{size, weight_at, IsPath, load, carried}
-use Rattle.bl_flow.specs.Cuts.{IsCut, IsNearSide, LiesNear, cut_of, cut_weight}
+use Rattle.bl_flow.specs.Cuts.{IsLeastCut}
 use Rattle.bl_flow.specs.PackedNetworks.{IsPacked}
 use Rattle.bl_flow.specs.Split.{both_ways, links_of}
 use Rattle.bl_flow.specs.Flows.{IsFlow}
 use Rattle.bl_flow.specs.Searches.{AreRows}
 
--- a maximum flow with the cut nearest the starts
+-- a maximum flow with the least cut: as much flows as that weighs
 pub record IsMaxFlow (n : Network) (r : FlowResult) : Type 0 where
   pub paths : All (IsPath n) r.paths
   pub loads : (v w : ℕ) → weight_at n v ≡ Some w → load r.paths v ≤ w
-  pub cut : IsCut n (cut_of r)
-  pub weight : cut_weight n (cut_of r) ≡ carried r.paths
-  pub least : (cut : ℕ → Bool) → IsCut n cut → carried r.paths ≤ cut_weight n cut
-  pub near : IsNearSide n (cut_of r) r.near_in r.near_out
-  pub nearest : (cut : ℕ → Bool) → IsCut n cut → cut_weight n cut ≡ carried r.paths → LiesNear n cut r.near_in r.near_out
+  pub cut : IsLeastCut n r.cut
+  pub weight : carried r.paths ≡ r.cut.weight
 
 -- a network's links both ways, with what each can take before anything flows
 pub record IsSplit (n : Network) (split : Split) : Type 0 where

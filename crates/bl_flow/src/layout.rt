@@ -47,6 +47,20 @@ pub fn lay_out(alloc: Global, n: &Network) -> Result<Layout, NoMemory>
     Ok(layout)
 }
 
+/// The same of a network that the caller has no more use for: its memory is given back before the links are
+/// sorted.
+pub fn lay_out_of(alloc: Global, n: Network) -> Result<Layout, NoMemory>
+    requires in_range { InRange n }
+    requires bounded { Meets n (λ v. IsSome (weight_at n v)) }
+    requires total { total_weight n < 2 ^ 63 }
+    ensures { IfOk result (IsLaidOut n) }
+{
+    let split = split_of(alloc, &n);
+    drop(n);
+    let layout = with_rows(alloc, split?)?;
+    Ok(layout)
+}
+
 /// A network's links, and what each can take before anything flows.
 pub fn split_of(alloc: Global, n: &Network) -> Result<Split, NoMemory>
     requires { InRange n.now }

@@ -55,8 +55,8 @@ impl From<NoMemory> for UnderError {
 /// The set of sites of least weight that passes on that side of an interface, whose transient variables are contained in those of every other
 /// such set. For the library, parameters that the interface calls transient are so, and results that it calls stable have to be; for the
 /// client it is the results and the parameters. Marks that stand in the program are ignored. Sink exactly where a sink reads directly what is
-/// so made transient: no set of sites passes then. Costs a maximum flow in a network that is linear in the program's commands and the
-/// interface.
+/// so made transient: no set of sites passes then. Costs the time of a maximum flow in a network that is linear in the program's commands
+/// and the interface, and memory linear in these.
 pub fn least_under(
     alloc: Global,
     p: &WellFormed,

@@ -1,3 +1,4 @@
+pub mod LengthLemmas
 pub mod WriterLemmas
 pub mod ReaderLemmas
 pub mod CodeCases

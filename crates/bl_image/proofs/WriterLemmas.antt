@@ -3,7 +3,9 @@ use Rattle.std.proofs.Common.{◌≡◌, ◌<◌, ◌+◌, ℕ, suc, List, [], �
 use Rattle.std.proofs.Math.Seq.{take-suc}
 use Rattle.bl_leb.specs.Grammar.{Spellings, ◌⨾◌}
 use Rattle.bl_image.specs.Grammar.{each_after}
-use Rattle.bl_image.specs.WriterAnswers.{Adds}
+use Rattle.bl_cmd.specs.declared.definitions.MemRow.{MemRow}
+use Rattle.bl_image.specs.Image.{row}
+use Rattle.bl_image.specs.WriterAnswers.{Adds, HasLength}
 use Rattle.bl_image.proofs.Chains.{behind, one_more}
 
 -- a part, and another behind it
@@ -13,6 +15,10 @@ seq {old} p q = record {
   spelled = record { front = p.bytes; rest = q.bytes; whole = refl; first = p.spelled; second = q.spelled };
   appended = q.appended ∙ ap (λ t. t ++ q.bytes) p.appended ∙ append_assoc old p.bytes q.bytes;
 }
+
+-- what is spelled of a row behind its number has sixteen bytes
+pub row_long : (one : MemRow) → length one.bytes ≡ 16 → HasLength (row one) 16
+row_long one sixteen = record { bytes = one.bytes; spelled = (sixteen, refl); counted = omega (arith, sixteen) }
 
 -- what spells the one spells the other
 pub adds_as : {S T : Spellings} {old new : List ℕ} → ((t : List ℕ) → S t → T t) → Adds S old new → Adds T old new

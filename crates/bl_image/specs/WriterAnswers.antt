@@ -1,5 +1,5 @@
--- What a writer of a part of an image does.
-use Rattle.std.specs.Prelude.{◌≡◌, ◌≤◌, ◌<◌, ◌^◌, ℕ, suc, All, List, [], ◌∷◌, ◌++◌, length}
+-- What a writer of a part of an image does, and how many bytes it writes.
+use Rattle.std.specs.Prelude.{◌≡◌, ◌≤◌, ◌<◌, ◌-◌, ◌^◌, ℕ, suc, All, List, [], ◌∷◌, ◌++◌, length, min}
 use Rattle.bl_cmd.specs.Programs.{IsCommand}
 use Rattle.bl_cmd.specs.Rules.{IsMark}
 use Rattle.bl_cmd.specs.declared.command.Command.{Command}
@@ -16,6 +16,12 @@ pub record Adds (Spelled : Spellings) (old new : List ℕ) : Type 0 where
   pub bytes : List ℕ
   pub spelled : Spelled bytes
   pub appended : new ≡ old ++ bytes
+
+-- there is a spelling, and it has so many bytes; of more than 64 bits count the greatest number of these is told
+pub record HasLength (Spelled : Spellings) (count : ℕ) : Type 0 where
+  pub bytes : List ℕ
+  pub spelled : Spelled bytes
+  pub counted : count ≡ min (length bytes) (2 ^ 64 - 1)
 
 -- numbers rise from a least one on
 abbrev pub Rises : {A : Type 0} → (A → ℕ) → ℕ → List A → Type 0

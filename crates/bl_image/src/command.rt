@@ -3,11 +3,11 @@ ghost use Rattle.std.specs.Prelude.{◌≡◌, ◌≤◌, [], ◌∷◌, take, l
 ghost use Rattle.bl_image.specs.Grammar.{each};
 ghost use Rattle.bl_image.specs.Image.{command, command_code, fields, operand};
 ghost use Rattle.bl_image.specs.ReaderAnswers.{Finds, fields_behind, operands_of};
-ghost use Rattle.bl_image.specs.WriterAnswers.{Adds, CommandFits};
+ghost use Rattle.bl_image.specs.WriterAnswers.{Adds, CommandFits, HasLength};
 
 use crate::error::Malformed;
 use crate::read::{Find, read_byte, read_u32};
-use crate::write::{Write, write_byte};
+use crate::write::{Write, length_of_u32, write_byte};
 use bl_base::{NoMemory, Pos, Trap, Var};
 use bl_cmd::{Command, Mark, Operand, arity};
 use bl_ops::{AccessKind, Op};
@@ -250,6 +250,66 @@ fn write_fields(one: Command, to: &mut Vec<u8>) -> Result<(), NoMemory>
     }
 }
 
+/// How many bytes the operands of a Set have: as many operands as its operator takes.
+fn length_of_operands(count: u8, a: Operand, b: Operand, c: Operand) -> u64
+    requires some { 1 ≤ count }
+    requires most { count ≤ 3 }
+    ensures { HasLength (each operand (take count (a ∷ b ∷ c ∷ []))) result }
+{
+    match count {
+        1 => a.spelled_length(),
+        2 => (a, b).spelled_length(),
+        _ => (a, (b, c)).spelled_length(),
+    }
+}
+
+/// How many bytes the fields of a command have.
+fn length_of_fields(one: Command) -> u64
+    requires { CommandFits one }
+    ensures { HasLength (fields one) result }
+{
+    match one {
+        Command::Set {
+            mark,
+            op,
+            to: variable,
+            a,
+            b,
+            c,
+        } => {
+            let front = (mark, (op, variable)).spelled_length();
+            front.saturating_add(length_of_operands(arity(op), a, b, c))
+        }
+        Command::Load {
+            mark,
+            kind,
+            memory,
+            to: variable,
+            offset,
+            address,
+        } => (mark, (kind, (memory, (variable, (offset, address))))).spelled_length(),
+        Command::Store {
+            kind,
+            memory,
+            offset,
+            address,
+            value,
+        } => (kind, (memory, (offset, (address, value)))).spelled_length(),
+        Command::Test { cond, yes, no } => (cond, (yes, no)).spelled_length(),
+        Command::Jump { to: position } => length_of_u32(position.0),
+        Command::Arg {
+            mark,
+            function,
+            index,
+            value,
+        } => (mark, (function, (index, value))).spelled_length(),
+        Command::Call { function } => length_of_u32(function),
+        Command::Out { mark, index, value } => (mark, (index, value)).spelled_length(),
+        Command::Ret => 0,
+        Command::Trap { kind } => kind.spelled_length(),
+    }
+}
+
 /// The code of a command.
 fn code_of(one: Command) -> u8
     ensures { result ≡ command_code one }
@@ -277,5 +337,9 @@ impl Write for Command {
         write_byte(code_of(*self), to)?;
         write_fields(*self, to)?;
         Ok(())
+    }
+
+    fn spelled_length(&self) -> u64 {
+        length_of_fields(*self).saturating_add(1)
     }
 }

@@ -1,11 +1,11 @@
 //! The parts in front of the commands.
-ghost use Rattle.bl_image.specs.WriterAnswers.{FunctionFits, MemoryFits};
-ghost use Rattle.bl_image.specs.Image.{global, memory, param, function, export, exports, demand};
+ghost use Rattle.bl_image.specs.WriterAnswers.{FunctionFits, HasLength, MemoryFits};
+ghost use Rattle.bl_image.specs.Image.{global, memory, param, function, export, exports, demand, demand_fields};
 
 use crate::error::{Malformed, ReadError};
 use crate::read::{Find, Read, read_byte, read_each, read_found, read_u32, read_u64};
-use crate::rising::{Rows, write_numbered};
-use crate::write::{Write, write_byte, write_u64};
+use crate::rising::{Rows, length_of_numbered, write_numbered};
+use crate::write::{Write, length_of_u32, length_of_u64, write_byte, write_u64};
 use bl_base::{Label, List, NoMemory, Text, ValueType};
 use bl_cmd::{Demand, ExportDef, FunctionDef, GlobalDef, MemoryDef, ParamDef};
 use std::alloc::Global;
@@ -140,6 +140,13 @@ impl Write for GlobalDef {
         write_u64(self.first, to)?;
         Ok(())
     }
+
+    fn spelled_length(&self) -> u64 {
+        let kind = self.kind.spelled_length();
+        let label = self.label.spelled_length();
+        let first = length_of_u64(self.first);
+        kind.saturating_add(label).saturating_add(first)
+    }
 }
 
 impl Write for ParamDef {
@@ -151,6 +158,11 @@ impl Write for ParamDef {
         self.kind.write(to)?;
         self.label.write(to)?;
         Ok(())
+    }
+
+    fn spelled_length(&self) -> u64 {
+        let kind = self.kind.spelled_length();
+        kind.saturating_add(self.label.spelled_length())
     }
 }
 
@@ -166,6 +178,17 @@ impl Write for FunctionDef {
         self.length.write(to)?;
         Ok(())
     }
+
+    fn spelled_length(&self) -> u64 {
+        let params = self.params.spelled_length();
+        let results = self.results.spelled_length();
+        let vars = length_of_u32(self.vars);
+        let length = length_of_u32(self.length);
+        params
+            .saturating_add(results)
+            .saturating_add(vars)
+            .saturating_add(length)
+    }
 }
 
 impl Write for ExportDef {
@@ -177,6 +200,11 @@ impl Write for ExportDef {
         self.name.write(to)?;
         self.function.write(to)?;
         Ok(())
+    }
+
+    fn spelled_length(&self) -> u64 {
+        let name = self.name.spelled_length();
+        name.saturating_add(length_of_u32(self.function))
     }
 }
 
@@ -191,6 +219,27 @@ impl Write for MemoryDef {
         self.label.write(to)?;
         write_numbered(&self.rows, to)?;
         Ok(())
+    }
+
+    fn spelled_length(&self) -> u64 {
+        let pages = length_of_u32(self.pages);
+        let reserve = length_of_u32(self.reserve);
+        let label = self.label.spelled_length();
+        let rows = length_of_numbered(&self.rows);
+        pages
+            .saturating_add(reserve)
+            .saturating_add(label)
+            .saturating_add(rows)
+    }
+}
+
+/// How many bytes a demand has behind its code.
+fn length_of_demand(one: Demand) -> u64
+    ensures { HasLength (demand_fields one) result }
+{
+    match one {
+        Demand::Result { function, index } => (function, index).spelled_length(),
+        Demand::Global(global) => length_of_u32(global),
     }
 }
 
@@ -211,5 +260,9 @@ impl Write for Demand {
             }
         }
         Ok(())
+    }
+
+    fn spelled_length(&self) -> u64 {
+        length_of_demand(*self).saturating_add(1)
     }
 }

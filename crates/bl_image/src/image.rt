@@ -1,15 +1,18 @@
-//! The image writer: a program to its bytes.
+//! The image writer: a program to its bytes, and how many these are.
 ghost use Rattle.std.specs.Prelude.{◌≡◌, ◌<◌, ◌^◌, All, IfOk, OnOk, length, drop};
 ghost use Rattle.bl_image.specs.Grammar.{each};
 ghost use Rattle.bl_image.specs.Image.{Image, header, definitions, additions, exports, command};
-ghost use Rattle.bl_image.specs.WriterAnswers.{Adds, CommandFits, DefinitionsFit, AdditionsFit};
+ghost use Rattle.bl_image.specs.WriterAnswers.{Adds, CommandFits, DefinitionsFit, AdditionsFit, HasLength};
 
 use crate::decode::{MAGIC, version_of};
-use crate::rising::write_numbered;
-use crate::write::{Write, write_byte, write_each, write_u64};
+use crate::rising::{length_of_numbered, write_numbered};
+use crate::write::{Write, length_of_count, length_of_each, write_byte, write_each, write_u64};
 use bl_base::{List, NoMemory};
 use bl_cmd::{Demand, ExportDef, ProgramParts, SiteWeight, WellFormed};
 use std::alloc::Global;
+
+/// How many bytes the magic and the version have.
+const HEADER: u64 = 5;
 
 /// Appends the magic and the version.
 fn write_header(version: u8, to: &mut Vec<u8>) -> Result<(), NoMemory>
@@ -70,4 +73,53 @@ pub fn encode(alloc: Global, program: &WellFormed) -> Result<Vec<u8>, NoMemory>
     write_additions(&parts.demands, &parts.weights, &mut bytes)?;
     write_each(&parts.commands.as_slice()[7..], &mut bytes)?;
     Ok(bytes)
+}
+
+/// How many bytes the exports have, behind their count.
+fn length_of_exports(these: &List<ExportDef>) -> u64
+    ensures { HasLength (exports these.now) result }
+{
+    let count = length_of_count(these);
+    count.saturating_add(length_of_each(these.as_slice()))
+}
+
+/// How many bytes globals, memories, functions and exports have.
+fn length_of_definitions(program: &ProgramParts) -> u64
+    requires { DefinitionsFit program.now }
+    ensures { HasLength (definitions program.now) result }
+{
+    let globals = program.globals.spelled_length();
+    let memories = program.memories.spelled_length();
+    let functions = program.functions.spelled_length();
+    let exports = length_of_exports(&program.exports);
+    globals
+        .saturating_add(memories)
+        .saturating_add(functions)
+        .saturating_add(exports)
+}
+
+/// How many bytes demands and weights have, where there are any.
+fn length_of_additions(demands: &List<Demand>, weights: &List<SiteWeight>) -> u64
+    requires { AdditionsFit demands.now weights.now }
+    ensures { HasLength (additions demands.now weights.now) result }
+{
+    if version_of(demands.as_slice(), weights.as_slice()) == 1 {
+        return 0;
+    }
+    let demanded = demands.spelled_length();
+    demanded.saturating_add(length_of_numbered(weights))
+}
+
+/// How many bytes the image of a program has, or the greatest number of 64 bits where it has more. Takes no memory. Linear in the program.
+pub fn image_length(program: &WellFormed) -> u64
+    ensures { HasLength (Image program.now) result }
+{
+    let parts = program.program().parts();
+    let definitions = length_of_definitions(parts);
+    let additions = length_of_additions(&parts.demands, &parts.weights);
+    let commands = length_of_each(&parts.commands.as_slice()[7..]);
+    definitions
+        .saturating_add(additions)
+        .saturating_add(commands)
+        .saturating_add(HEADER)
 }

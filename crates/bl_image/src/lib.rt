@@ -14,4 +14,4 @@ mod write;
 
 pub use decode::decode_image;
 pub use error::ImageError;
-pub use image::encode;
+pub use image::{encode, image_length};

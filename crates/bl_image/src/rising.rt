@@ -4,11 +4,11 @@ ghost use Rattle.bl_leb.specs.Grammar.{◌⨾◌, exactly, given};
 ghost use Rattle.bl_image.specs.Grammar.{u32, gap, rising};
 ghost use Rattle.bl_image.specs.Image.{row, rows, weight, weights};
 ghost use Rattle.bl_image.specs.ReaderAnswers.{Finds, Reads};
-ghost use Rattle.bl_image.specs.WriterAnswers.{Adds, Rises};
+ghost use Rattle.bl_image.specs.WriterAnswers.{Adds, HasLength, Rises};
 
 use crate::error::{Malformed, ReadError};
 use crate::read::{Read, read_u32, read_u64};
-use crate::write::write_u64;
+use crate::write::{length_of_count, length_of_u64, write_u64};
 use bl_base::{List, NoMemory, Pos};
 use bl_cmd::{MemRow, SiteWeight};
 use std::alloc::Global;
@@ -33,6 +33,10 @@ pub trait Numbered: Drop {
     /// Appends what stands behind its number.
     fn write_behind(&self, to: &mut Vec<u8>) -> Result<(), NoMemory>
         ensures { OnOk result (Adds (behind self.now) to.old.items to.new.items) };
+
+    /// How many bytes that has.
+    fn length_behind(&self) -> u64
+        ensures { HasLength (behind self.now) result };
 }
 
 /// Reads sixteen bytes as they stand.
@@ -65,6 +69,12 @@ impl Numbered for MemRow {
         to.extend_from_slice(&bytes)?;
         Ok(())
     }
+
+    #[tactic(auto, using(crate::proofs::WriterLemmas::row_long))]
+    fn length_behind(&self) -> u64 {
+        let bytes = self.bytes;
+        bytes.len() as u64
+    }
 }
 
 impl Numbered for SiteWeight {
@@ -87,6 +97,10 @@ impl Numbered for SiteWeight {
 
     fn write_behind(&self, to: &mut Vec<u8>) -> Result<(), NoMemory> {
         write_u64(self.weight, to)
+    }
+
+    fn length_behind(&self) -> u64 {
+        length_of_u64(self.weight)
     }
 }
 
@@ -160,6 +174,33 @@ pub fn write_numbered<T: Numbered>(things: &List<T>, to: &mut Vec<u8>) -> Result
     write_u64(things.len() as u64, to)?;
     write_rising(things.as_slice(), to)?;
     Ok(())
+}
+
+/// How many bytes things have, each behind its number.
+fn length_of_rising<T: Numbered>(things: &[T]) -> u64
+    requires { Rises T.numbered 0 things.now }
+    ensures { HasLength (rising T.numbered T.behind things.now) result }
+{
+    let mut length: u64 = 0;
+    let mut least = 0;
+    for thing in things {
+        let number = u64::from(thing.number());
+        let gap = length_of_u64(number - least);
+        let here = gap.saturating_add(thing.length_behind());
+        length = length.saturating_add(here);
+        least = number + 1;
+    }
+    length
+}
+
+/// How many bytes the number of things has, and each behind its number.
+pub fn length_of_numbered<T: Numbered>(things: &List<T>) -> u64
+    requires few { length things.now < 2 ^ 32 }
+    requires rise { Rises T.numbered 0 things.now }
+    ensures { HasLength (u32 (length things.now) ⨾ rising T.numbered T.behind things.now) result }
+{
+    let count = length_of_count(things);
+    count.saturating_add(length_of_rising(things.as_slice()))
 }
 
 /// The rows of a memory.

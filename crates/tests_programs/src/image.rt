@@ -1,7 +1,7 @@
 use crate::seq::program_of;
 use bl_base::{NoMemory, Pos, SiteSet};
 use bl_cmd::{WellFormed, weight};
-use bl_image::{ImageError, decode_image, encode};
+use bl_image::{ImageError, decode_image, encode, image_length};
 use std::alloc::Global;
 use std::test::Fail;
 
@@ -75,6 +75,71 @@ fn read_again(alloc: Global) -> Result<u32, NoMemory> {
 #[test]
 fn an_image_is_read_and_written_again(rt: HostRuntime) -> Result<(), Fail> {
     assert_eq!(rt; read_again(rt.alloc())?, 6);
+    Ok(())
+}
+
+/// The image of a memory of one page with one row that isn't zero.
+static ROW: [u8; 30] = [
+    0x42, 0x4C, 0x49, 0x4D, 0x01, 0x00, 0x01, 0x01, 0x01, 0x00, 0x01, 0x00, 0x05, 0x00, 0x00, 0x00,
+    0x00, 0x00, 0x00, 0x00, 0x00, 0x00, 0x00, 0x00, 0x00, 0x00, 0x00, 0x00, 0x00, 0x00,
+];
+
+/// What stands before the name of an export of 128 letters, whose length takes two bytes, in an image of a function that returns at once.
+static BEFORE_NAME: [u8; 14] = [
+    0x42, 0x4C, 0x49, 0x4D, 0x01, 0x00, 0x00, 0x01, 0x00, 0x00, 0x00, 0x01, 0x01, 0x80,
+];
+
+/// That image.
+fn long_name(alloc: Global) -> Result<Vec<u8>, NoMemory> {
+    let mut bytes = BEFORE_NAME.to_vec(alloc)?;
+    bytes.push(0x01)?;
+    bytes.extend_from_slice(&[0x6D; 128])?;
+    bytes.extend_from_slice(&[0x00, 0x08])?;
+    Ok(bytes)
+}
+
+/// The length that is told of the image of the program that the bytes are the image of.
+fn length_told(alloc: Global, image: &[u8]) -> Result<u64, NoMemory> {
+    let program = program_of(alloc, image)?;
+    Ok(image_length(&program))
+}
+
+/// How many of the images have the length that is told before the first that hasn't.
+fn lengths_told(alloc: Global) -> Result<u32, NoMemory> {
+    let images: [(&[u8], u64); 7] = [
+        (&EMPTY, 9),
+        (&INC, 53),
+        (&LOADS, 86),
+        (&GROWTH, 78),
+        (&VAULT, 13),
+        (&DEMANDED, 41),
+        (&ROW, 30),
+    ];
+    let mut passed = 0u32;
+    for (image, length) in images {
+        if length_told(alloc, image)? != length {
+            break;
+        }
+        passed = passed.wrapping_add(1);
+    }
+    Ok(passed)
+}
+
+#[test]
+fn the_length_of_an_image_is_told_before_it_is_made(rt: HostRuntime) -> Result<(), Fail> {
+    assert_eq!(rt; lengths_told(rt.alloc())?, 7);
+    Ok(())
+}
+
+/// The length that is told of an image with a long name.
+fn length_of_long_name(alloc: Global) -> Result<u64, NoMemory> {
+    let image = long_name(alloc)?;
+    length_told(alloc, image.as_slice())
+}
+
+#[test]
+fn a_name_of_128_letters_has_a_length_of_two_bytes(rt: HostRuntime) -> Result<(), Fail> {
+    assert_eq!(rt; length_of_long_name(rt.alloc())?, 145);
     Ok(())
 }
 

@@ -1,8 +1,9 @@
-use Rattle.bl_build.specs.BuildStages.{compiling}
+use Rattle.bl_cmd.specs.declared.definitions.ProgramParts.{ProgramParts as Program}
+use Rattle.bl_build.specs.BuildStages.{compiling, without_image}
 use Rattle.bl_build.specs.HardenStage.{hardening}
-use Rattle.bl_build.specs.StageAnswers.{built_in, hardened_in}
+use Rattle.bl_build.specs.StageAnswers.{hardened_in}
 use Rattle.bl_build.proofs.BuildLemmas.{still_refused}
 use Rattle.bl_build.proofs.harden.compile_hardened.Goals as goal
 
 pub returns-in-Err : goal.returns-in-Err
-returns-in-Err c = still_refused compiling hardening built_in hardened_in _ (λ refusal r. r) c.in-Err.error c.in-Err.ensures
+returns-in-Err c = still_refused (without_image compiling) hardening (λ (program : Program). program) hardened_in _ (λ refusal r. r) c.in-Err.error c.in-Err.ensures

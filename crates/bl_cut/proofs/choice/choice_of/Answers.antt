@@ -1,4 +1,4 @@
-use Rattle.std.proofs.Common.{◌≡◌, ◌∙◌, ap, sym, length, map}
+use Rattle.std.proofs.Common.{◌≡◌, ◌∙◌, ap, length, map}
 use Rattle.bl_cmd.specs.declared.definitions.ProgramParts.{ProgramParts}
 use Rattle.bl_graph.specs.Ranges.{commands}
 use Rattle.bl_cut.specs.Choices.{path_of}
@@ -9,8 +9,8 @@ use Rattle.bl_cut.proofs.choice.choice_of.Goals.{After-as_slice, After-of}
 count_is : (c : After-as_slice) → c.len-commands.result ≡ commands c.args.program.now
 count_is c = c.len-commands.ensures ∙ ap (λ (p : ProgramParts). commands p) (c.parts.ensures.same ∙ c.program.ensures.same)
 
-backs : (c : After-of) → c.deref.result.now ≡ map (path_of c.len-commands.result c.args.sink_of.now) c.args.flow.now.paths
-backs c = c.deref.ensures.value ∙ c.in_ok-paths.ensures ∙ ap (map (path_of c.len-commands.result c.args.sink_of.now)) c.as_slice.ensures
+backs : (c : After-of) → c.of.result ≡ map (path_of c.len-commands.result c.args.sink_of.now) c.args.flow.now.paths
+backs c = c.of.ensures ∙ c.in_ok-paths.ensures ∙ ap (map (path_of c.len-commands.result c.args.sink_of.now)) c.as_slice.ensures
 
 pub read_back-requires : goal.read_back-requires
 read_back-requires c =
@@ -19,16 +19,14 @@ read_back-requires c =
 pub returns-clause-least : goal.returns-clause-least
 returns-clause-least c =
     answer_least c.args.program.now c.args.names.now c.ranges-2.ensures c.args.flow.now c.requires.flow c.len-commands.result (count_is (goal.at.returns-clause-least c).After-as_slice)
-    c.args.sink_of.now c.requires.knows c.deref.result.now (backs c) c.in_ok-protects.protects (rw (c.as_slice-2.ensures, c.as_slice-3.ensures) at c.in_ok-protects.ensures)
+    c.in_ok-protects.protects c.in_ok-protects.ensures
 
 pub returns-clause-weight : goal.returns-clause-weight
 returns-clause-weight c =
     answer_weight c.args.program.now c.args.names.now c.ranges-2.ensures c.args.flow.now c.requires.flow c.len-commands.result (count_is (goal.at.returns-clause-weight c).After-as_slice)
-    c.args.sink_of.now c.requires.knows c.deref.result.now (backs c) c.in_ok-protects.protects (rw (c.as_slice-2.ensures, c.as_slice-3.ensures) at c.in_ok-protects.ensures)
-    c.flow_sum-weight.result c.flow_sum-weight.ensures
+    c.in_ok-protects.protects c.in_ok-protects.ensures
 
 pub returns-clause-certificate : goal.returns-clause-certificate
 returns-clause-certificate c =
     answer_certificate c.args.program.now c.args.names.now c.ranges-2.ensures c.args.flow.now c.requires.flow c.len-commands.result (count_is (goal.at.returns-clause-certificate c).After-as_slice)
-    c.args.sink_of.now c.requires.knows c.deref.result.now (backs c) c.in_ok-protects.protects (rw (c.as_slice-2.ensures, c.as_slice-3.ensures) at c.in_ok-protects.ensures)
-    c.of.result c.flow_sum-weight.result (c.of.ensures ∙ sym c.deref.ensures.value) c.flow_sum-weight.ensures
+    c.in_ok-protects.protects c.in_ok-protects.ensures c.args.sink_of.now c.requires.knows c.of.result (backs (goal.at.returns-clause-certificate c).After-of)

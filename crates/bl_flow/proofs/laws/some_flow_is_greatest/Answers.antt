@@ -2,6 +2,4 @@ use Rattle.bl_flow.proofs.MaxFlowExistence.{some_flow}
 use Rattle.bl_flow.proofs.laws.some_flow_is_greatest.Goals as goal
 
 pub returns : goal.returns
-returns c = λ n range bounded small.
-    let f = some_flow n range bounded small in
-    (f.result, f.paths, f.loads, f.cut, f.weight, f.least, f.near, f.nearest)
+returns c = λ n range bounded small. some_flow n range bounded small
