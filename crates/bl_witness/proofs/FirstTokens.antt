@@ -1,7 +1,7 @@
 -- What a value is, by its first token.
 use Rattle.std.proofs.Common.{◌≡◌, ◌∙◌, ap, sym, refl, ℕ, zero, suc, List, ◌∷◌, Option, Some, None, arith, nat_lt, lt-ltb, ◌<◌}
 use Rattle.std.specs.Prelude.{option_and_then, option_map, if◌then◌else◌}
-use Rattle.json.specs.Json.{items, members, value}
+use Rattle.json.specs.Json.{value}
 use Rattle.json.specs.Reads.{token_of}
 use Rattle.json.specs.Token as spec
 use Rattle.json.specs.declared.token.Token.{Token}

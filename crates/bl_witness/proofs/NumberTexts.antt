@@ -1,9 +1,9 @@
 -- What a number's text is.
-use Rattle.std.proofs.Common.{◌≡◌, ◌∙◌, ◌&&◌, ◌==◌, ◌^◌, ap, refl, ℕ, Bool, true, false, Float, ℤ, length, Some, None, nat_lt}
-use Rattle.std.specs.Prelude.{if◌then◌else◌, option_and_then, not, nat_le}
+use Rattle.std.proofs.Common.{◌≡◌, ◌&&◌, ◌^◌, refl, Bool, true, false, Float, ℤ, Some, None, nat_lt}
+use Rattle.std.specs.Prelude.{if◌then◌else◌, option_and_then, nat_le}
 use Rattle.std.specs.Float.{binary64, float_is_finite}
 use Rattle.fast_float.specs.Text.{Parts, digits_of, nearest, with_sign}
-use Rattle.serde_json.specs.Data.{Num, float, negative}
+use Rattle.serde_json.specs.Data.{float, negative}
 use Rattle.serde_json.specs.Find.{as_u64}
 use Rattle.serde_json.specs.Read.{float_of, is_integer, number_from}
 

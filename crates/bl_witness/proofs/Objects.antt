@@ -1,5 +1,5 @@
 -- What an object is, by the last value of each key.
-use Rattle.std.proofs.Common.{◌≡◌, ◌∙◌, ◌^◌, ◌<◌, ◌+◌, ◌==◌, ap, sym, refl, ℕ, Bool, true, false, not, List, [], ◌∷◌, Option, Some, None, bytes_eq, arith, codes, eq-eqb, ne_eqb, is_some, cond, subst}
+use Rattle.std.proofs.Common.{◌≡◌, ◌∙◌, ◌^◌, ◌==◌, ap, sym, refl, ℕ, Bool, true, false, not, List, Option, Some, None, bytes_eq, arith, codes, eq-eqb, ne_eqb, is_some, cond, subst}
 use Rattle.std.specs.Prelude.{if◌then◌else◌, option_and_then, option_map}
 use Rattle.std.proofs.lemmas.Slice.Eq.{bytes_eq-Decides}
 use Rattle.serde_json.specs.Data.{Data, Members, no_members, object, put}

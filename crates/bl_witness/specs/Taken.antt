@@ -1,5 +1,5 @@
 -- What readers take of a text's tokens; for private clauses.
-use Rattle.std.specs.Prelude.{◌≡◌, ℕ, List, length, Some, None, option_and_then}
+use Rattle.std.specs.Prelude.{◌≡◌, ℕ, List, length, Some, None}
 use Rattle.json.specs.Token.{Token}
 use Rattle.json.specs.Json.{items, members, value}
 use Rattle.serde_json.specs.Data.{Data, Items, Members, no_members}

@@ -1,9 +1,8 @@
-use Rattle.std.proofs.Common.{◌≡◌, ◌∙◌, ◌-◌, ◌<◌, [], ◌∷◌, length, Some, None, ap, ap₂, sym, refl, arith}
-use Rattle.json.specs.Token.{Token}
-use Rattle.json.specs.Json.{after_end_array, items, members, read_key, value}
+use Rattle.std.proofs.Common.{◌≡◌, ◌∙◌, ◌-◌, ◌<◌, [], ◌∷◌, length, Some, None, ap, ap₂, refl, arith}
+use Rattle.json.specs.Json.{after_end_array, items, read_key, value}
 use Rattle.json.specs.Reads.{token_of}
 use Rattle.json.proofs.Grammar.{read_key-shorter, value_is}
-use Rattle.serde_json.specs.Data.{Data, array, boolean, no_members, null, number, object, put, string}
+use Rattle.serde_json.specs.Data.{array, boolean, no_members, null, number, object, put, string}
 use Rattle.serde_json.specs.Read.{converted, number_of, of_items, of_json}
 use Rattle.bl_witness.proofs.Arrays.{parsed, unparsed}
 use Rattle.bl_witness.proofs.Turns.{if_ok, in_range, item_lacks, item_read, items_over, key_lacks, lacks_array, lacks_number, lacks_object, member_lacks, member_read, members_over, out_of_range, passed, passed_item, takes_array, takes_boolean, takes_null, takes_number, takes_object, takes_string}
