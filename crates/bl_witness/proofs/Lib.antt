@@ -1,5 +1,4 @@
 pub mod CertificateVerdicts
-pub mod ArrayItems
 pub mod VerdictParts
 pub mod ChainLinks
 pub mod ProtectedWeights
@@ -8,3 +7,9 @@ pub mod ReadBack
 pub mod RoundTrip
 pub mod Texts
 pub mod Tokens
+pub mod Arrays
+pub mod FirstTokens
+pub mod Members
+pub mod NumberTexts
+pub mod Objects
+pub mod Turns

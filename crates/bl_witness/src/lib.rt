@@ -3,10 +3,15 @@
 
 mod chains;
 mod error;
+mod fault;
+mod fields;
 pub mod laws;
 mod loads;
+mod numbers;
+mod pass;
 mod protects;
 mod read;
+mod scan;
 mod verdict;
 mod write;
 

@@ -1,168 +1,115 @@
 //! Certificates read from JSON.
-ghost use Rattle.std.specs.Prelude.{◌≡◌, ◌^◌, IfOk, option_map};
-ghost use Rattle.serde_json.specs.View.{items_view, view};
-ghost use Rattle.bl_witness.specs.Shapes.{ReadsCertificate, certificate_of, each_item, field, has_members, list_of, path_of, position_of, whole_below};
+ghost use Rattle.std.specs.Prelude.{◌≡◌, ◌<◌, Err, IfOk, IsUtf8, OnOk, length};
+ghost use Rattle.json.specs.Lex.{tokens};
+ghost use Rattle.serde_json.specs.Data.{Data, Members};
+ghost use Rattle.serde_json.specs.Read.{read};
+ghost use Rattle.bl_witness.specs.Fields.{IsCertificateMembers, with_certificate_member};
+ghost use Rattle.bl_witness.specs.Shapes.{IsJson, ReadsCertificate, certificate_of};
+ghost use Rattle.bl_witness.specs.Taken.{LacksMembers, LacksValue, TakesMembers, TakesValue};
 
 use crate::error::CertError;
-use bl_base::{List, NoMemory, Pos};
-use bl_graph::{Certificate, FlowPath};
-use serde_json::Value;
+use crate::fault::Fault;
+use crate::fields::CertificateFields;
+use crate::pass::pass;
+use crate::scan::{opens_object, read_amount, read_paths};
+use bl_graph::Certificate;
+use json::{Reader, Scratch};
 use std::alloc::Global;
 
-/// The certificate that bytes are the text of. It is judged on the value that `serde_json` gives, so of a key that stands twice
-/// the last value alone counts. Takes some 18 bytes of memory for a byte of text in arrays of numbers, and some 125 in arrays of
-/// small objects.
+/// How deep arrays and objects may nest, as in `serde_json`.
+const MAX_DEPTH: usize = 127;
+
+/// The certificate that bytes are the text of. It is judged while its tokens pass: what no certificate has is checked and not
+/// kept. Of a key that stands twice the last value alone counts, as in `serde_json`. Linear in the text, in time and memory: one
+/// byte of memory for each of its bytes, and the certificate.
 pub fn from_json(alloc: Global, bytes: &[u8]) -> Result<Certificate, CertError>
     ensures { ReadsCertificate bytes.now result }
 {
-    let value = match Value::from_slice(alloc, bytes) {
-        Ok(value) => value,
-        Err(error) if error.is_memory() => return Err(CertError::Memory),
-        Err(_) => return Err(CertError::NotJson),
+    let Ok(text) = std::str::from_utf8(bytes) else {
+        return Err(CertError::NotJson);
     };
-    match read_certificate(alloc, &value) {
+    match read_text(alloc, text) {
         Ok(Some(certificate)) => Ok(certificate),
         Ok(None) => Err(CertError::Shape),
-        Err(_) => Err(CertError::Memory),
+        Err(Fault::NotJson) => Err(CertError::NotJson),
+        Err(Fault::Memory) => Err(CertError::Memory),
     }
 }
 
-/// The certificate that a value is.
-fn read_certificate(alloc: Global, value: &Value) -> Result<Option<Certificate>, NoMemory>
-    ensures { IfOk result (λ found. found ≡ certificate_of (view value.now)) }
+/// The certificate that a text is.
+fn read_text(alloc: Global, text: &str) -> Result<Option<Certificate>, Fault>
+    ensures ok { IfOk result (λ found. (d : Data) × (read text.now ≡ Some d) × (found ≡ certificate_of d)) }
+    ensures err { result ≡ Err Fault.NotJson → read text.now ≡ None }
 {
-    if !has_members(value, 2) {
+    let mut scratch = Scratch::new(alloc);
+    let Ok(mut reader) = Reader::new(text, &mut scratch) else {
+        return Err(Fault::Memory);
+    };
+    let found = read_certificate(alloc, &mut reader, MAX_DEPTH)?;
+    if reader.next().is_some() {
+        return Err(Fault::NotJson);
+    }
+    Ok(found)
+}
+
+/// The certificate that the next value is.
+fn read_certificate(
+    alloc: Global,
+    reader: &mut Reader<'_>,
+    depth: usize,
+) -> Result<Option<Certificate>, Fault>
+    requires { 3 < depth }
+    ensures ok { IfOk result (λ found. (d : Data) × TakesValue depth reader.old d reader.new × (found ≡ certificate_of d)) }
+    ensures err { result ≡ Err Fault.NotJson → LacksValue depth reader.old }
+{
+    if !opens_object(reader, depth)? {
         return Ok(None);
     }
-    let Some(weight) = amount_at(value, "weight") else {
-        return Ok(None);
-    };
-    let Some(paths) = paths_at(alloc, value, "paths")? else {
-        return Ok(None);
-    };
-    Ok(Some(Certificate { paths, weight }))
+    let fields = read_certificate_members(alloc, reader, depth - 1)?;
+    Ok(fields.into_certificate())
 }
 
-/// Whether a value is an object of so many members.
-fn has_members(value: &Value, count: usize) -> bool
-    ensures { result ≡ has_members count (view value.now) }
+/// What an object's members are for a certificate. Takes the object's end too.
+fn read_certificate_members(
+    alloc: Global,
+    reader: &mut Reader<'_>,
+    depth: usize,
+) -> Result<CertificateFields, Fault>
+    requires { 2 < depth }
+    ensures ok { IfOk result (λ fields. (ms : Members) × TakesMembers depth reader.old ms reader.new × IsCertificateMembers ms fields) }
+    ensures err { result ≡ Err Fault.NotJson → LacksMembers depth reader.old }
 {
-    match value.as_object() {
-        Some(members) => members.len() == count,
-        None => false,
+    let mut fields = CertificateFields {
+        paths: None,
+        weight: None,
+        others: false,
+    };
+    'members: while let Some(key) = reader.next_key()? {
+        read_certificate_member(alloc, reader, depth, key, &mut fields)?;
     }
+    Ok(fields)
 }
 
-/// The paths that stand under a key.
-fn paths_at(alloc: Global, value: &Value, key: &str) -> Result<Option<List<FlowPath>>, NoMemory>
-    ensures { IfOk result (λ found. found ≡ field key.now (list_of path_of) (view value.now)) }
+/// Reads the member of a key for what it is for a certificate.
+fn read_certificate_member(
+    alloc: Global,
+    reader: &mut Reader<'_>,
+    depth: usize,
+    key: &str,
+    fields: &mut CertificateFields,
+) -> Result<(), Fault>
+    requires { 2 < depth }
+    ensures ok { IfOk result (λ _. (d : Data) × TakesValue depth reader.old d reader.new × (fields.new ≡ with_certificate_member key.now d fields.old)) }
+    ensures shorter { OnOk result (length reader.new < length reader.old) }
+    ensures err { result ≡ Err Fault.NotJson → LacksValue depth reader.old }
 {
-    let Some(inner) = value.get(key) else {
-        return Ok(None);
-    };
-    let Some(values) = inner.as_array() else {
-        return Ok(None);
-    };
-    paths(alloc, values.as_slice())
-}
-
-/// Paths, of an array's values.
-fn paths(alloc: Global, values: &[Value]) -> Result<Option<List<FlowPath>>, NoMemory>
-    ensures { IfOk result (λ found. found ≡ each_item path_of (items_view values.now)) }
-{
-    let mut found = List::new(alloc);
-    for value in values {
-        let Some(path) = read_path(alloc, value)? else {
-            return Ok(None);
-        };
-        found.push(path)?;
+    if key == "paths" {
+        fields.paths = read_paths(alloc, reader, depth)?;
+    } else if key == "weight" {
+        fields.weight = read_amount(reader, depth)?;
+    } else {
+        pass(reader, depth)?;
+        fields.others = true;
     }
-    Ok(Some(found))
-}
-
-/// The path that a value is.
-fn read_path(alloc: Global, value: &Value) -> Result<Option<FlowPath>, NoMemory>
-    ensures { IfOk result (λ found. found ≡ path_of (view value.now)) }
-{
-    if !has_members(value, 3) {
-        return Ok(None);
-    }
-    let Some(amount) = amount_at(value, "amount") else {
-        return Ok(None);
-    };
-    let Some(sink) = position_at(value, "sink") else {
-        return Ok(None);
-    };
-    let Some(sites) = positions_at(alloc, value, "sites")? else {
-        return Ok(None);
-    };
-    Ok(Some(FlowPath {
-        sites,
-        sink,
-        amount,
-    }))
-}
-
-/// The positions that stand under a key.
-fn positions_at(alloc: Global, value: &Value, key: &str) -> Result<Option<List<Pos>>, NoMemory>
-    ensures { IfOk result (λ found. found ≡ field key.now (list_of position_of) (view value.now)) }
-{
-    let Some(inner) = value.get(key) else {
-        return Ok(None);
-    };
-    let Some(values) = inner.as_array() else {
-        return Ok(None);
-    };
-    positions(alloc, values.as_slice())
-}
-
-/// Positions, of an array's values.
-fn positions(alloc: Global, values: &[Value]) -> Result<Option<List<Pos>>, NoMemory>
-    ensures { IfOk result (λ found. found ≡ each_item position_of (items_view values.now)) }
-{
-    let mut found = List::new(alloc);
-    for value in values {
-        let Some(position) = position(value) else {
-            return Ok(None);
-        };
-        found.push(position)?;
-    }
-    Ok(Some(found))
-}
-
-/// The position that stands under a key.
-fn position_at(value: &Value, key: &str) -> Option<Pos>
-    ensures { result ≡ field key.now position_of (view value.now) }
-{
-    match value.get(key) {
-        Some(inner) => position(inner),
-        None => None,
-    }
-}
-
-/// The position that a value is.
-fn position(value: &Value) -> Option<Pos>
-    ensures { result ≡ position_of (view value.now) }
-{
-    match u32::try_from(value.as_u64()?) {
-        Ok(position) => Some(Pos(position)),
-        Err(_) => None,
-    }
-}
-
-/// The number that stands under a key.
-fn amount_at(value: &Value, key: &str) -> Option<u64>
-    ensures { result ≡ field key.now (whole_below (2 ^ 64)) (view value.now) }
-{
-    match value.get(key) {
-        Some(inner) => amount(inner),
-        None => None,
-    }
-}
-
-/// The whole number that a value is.
-fn amount(value: &Value) -> Option<u64>
-    ensures { result ≡ whole_below (2 ^ 64) (view value.now) }
-{
-    value.as_u64()
+    Ok(())
 }

@@ -141,16 +141,50 @@ fn fails(alloc: Global, text: &str, error: CertError) -> bool {
 }
 
 /// Texts that are no certificates, and what is answered.
-static NO_CERTIFICATES: [(&str, CertError); 7] = [
+static NO_CERTIFICATES: [(&str, CertError); 26] = [
+    ("", CertError::NotJson),
     ("{", CertError::NotJson),
     ("{\"paths\":[],\"weight\":01}", CertError::NotJson),
+    ("{\"paths\":[],\"weight\":0} 0", CertError::NotJson),
+    ("{\"paths\":[],\"weight\":0]", CertError::NotJson),
+    ("{\"paths\":[],\"weight\":0,}", CertError::NotJson),
+    ("{\"paths\":[{\"\":0},{\"\":0},", CertError::NotJson),
+    ("{\"paths\":[],\"weight\":1e999}", CertError::NotJson),
+    ("{\"more\":[{\"\":-1e999}]}", CertError::NotJson),
+    ("{\"more\":\"\\ud800\"}", CertError::NotJson),
     ("{}", CertError::Shape),
+    ("[]", CertError::Shape),
+    ("0", CertError::Shape),
     ("{\"paths\":[],\"weight\":1.0}", CertError::Shape),
+    ("{\"paths\":[],\"weight\":1e2}", CertError::Shape),
+    ("{\"paths\":[],\"weight\":-0}", CertError::Shape),
     (
         "{\"paths\":[],\"weight\":18446744073709551616}",
         CertError::Shape,
     ),
     ("{\"paths\":[],\"weight\":0,\"more\":0}", CertError::Shape),
+    ("{\"paths\":{},\"weight\":0}", CertError::Shape),
+    ("{\"paths\":[[],null],\"weight\":0}", CertError::Shape),
+    (
+        "{\"paths\":[{\"\":0},{\"\":0}],\"weight\":0}",
+        CertError::Shape,
+    ),
+    (
+        "{\"paths\":[{\"amount\":1,\"sink\":1}],\"weight\":1}",
+        CertError::Shape,
+    ),
+    (
+        "{\"paths\":[{\"amount\":1,\"sink\":1,\"sites\":[1],\"\":[1]}],\"weight\":1}",
+        CertError::Shape,
+    ),
+    (
+        "{\"paths\":[{\"amount\":1,\"sink\":1,\"sites\":[1,-1]}],\"weight\":1}",
+        CertError::Shape,
+    ),
+    (
+        "{\"paths\":[{\"amount\":1,\"sink\":1,\"sites\":[4294967296]}],\"weight\":1}",
+        CertError::Shape,
+    ),
     (
         "{\"paths\":[{\"amount\":1,\"sink\":4294967296,\"sites\":[]}],\"weight\":1}",
         CertError::Shape,
@@ -171,7 +205,7 @@ fn refused_rightly(alloc: Global) -> u32 {
 
 #[test]
 fn a_text_that_is_no_certificate(rt: HostRuntime) -> Result<(), Fail> {
-    assert_eq!(rt; refused_rightly(rt.alloc()), 7);
+    assert_eq!(rt; refused_rightly(rt.alloc()), 26);
     Ok(())
 }
 
@@ -184,5 +218,41 @@ fn weight_in(alloc: Global, text: &str) -> Result<u64, NoMemory> {
 fn of_a_key_that_stands_twice_the_last_counts(rt: HostRuntime) -> Result<(), Fail> {
     let text = " {\"weight\":\"x\", \"paths\":[], \"\\u0077eight\":9} ";
     assert_eq!(rt; weight_in(rt.alloc(), text)?, 9);
+    Ok(())
+}
+
+#[test]
+fn of_a_paths_key_that_stands_twice_the_last_counts(rt: HostRuntime) -> Result<(), Fail> {
+    let text =
+        "{\"paths\":[{\"\":0}],\"weight\":{},\"paths\":[{\"sites\":[1,1.5],\"sink\":[],\"amount\":0,\"sink\":14,\"amount\":1,\"sites\":[11]}],\"weight\":1}";
+    assert_eq!(rt;
+        verdict_on(rt.alloc(), LOADS, &[11], text)?,
+        CertVerdict::Yes
+    );
+    Ok(())
+}
+
+/// A text of so many arrays, one within the other.
+fn nested(alloc: Global, depth: usize) -> Result<Vec<u8>, NoMemory> {
+    let mut text = Vec::new(alloc);
+    for _ in 0..depth {
+        text.push(b'[')?;
+    }
+    for _ in 0..depth {
+        text.push(b']')?;
+    }
+    Ok(text)
+}
+
+/// Whether a text of so many arrays is answered with that error.
+fn nests(alloc: Global, depth: usize, error: CertError) -> Result<bool, NoMemory> {
+    let text = nested(alloc, depth)?;
+    Ok(matches!(&from_json(alloc, text.as_slice()), Err(other) if *other == error))
+}
+
+#[test]
+fn arrays_nest_127_deep_at_most(rt: HostRuntime) -> Result<(), Fail> {
+    assert!(rt; nests(rt.alloc(), 127, CertError::Shape)?);
+    assert!(rt; nests(rt.alloc(), 128, CertError::NotJson)?);
     Ok(())
 }

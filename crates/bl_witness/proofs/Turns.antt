@@ -1,0 +1,175 @@
+-- The grammar's loops, a turn at a time, as what they read becomes data.
+use Rattle.std.proofs.Common.{◌≡◌, ◌∙◌, ◌<◌, ◌≤◌, ◌-◌, ap, refl, ℕ, zero, suc, Bool, true, false, List, [], ◌∷◌, length, Option, Some, None, is_some}
+use Rattle.std.specs.Prelude.{Err, IfOk, Ok, Result, option_and_then, option_map, ⊤}
+use Rattle.json.specs.Token.{Token}
+use Rattle.json.specs.Json as json
+use Rattle.json.specs.Json.{Parse, after_end_array, if_last, items, items_step, members, parse_map, read_key, value}
+use Rattle.json.proofs.Grammar.{items_end, items_more, members_end, members_more, members_no_key, value_is, value-begin_array, value-begin_object}
+use Rattle.serde_json.specs.Data.{Data, Items, Members, Num, array, boolean, item, no_items, no_members, null, number, object, put, string}
+use Rattle.serde_json.specs.Read.{converted, number_of, of_items, of_json, of_members}
+use Rattle.bl_witness.specs.Taken.{LacksItems, LacksMembers, LacksValue, TakesItems, TakesMembers, TakesValue}
+
+-- ---- conversions
+
+abbrev pick : {A : Type 0} → A → Option A → A
+pick d None = d
+pick d (Some a) = a
+
+found : {B : Type 0} (r s : List Token) (x : Option B) (b : B) → option_map {U = B × List Token} (λ y. (y, r)) x ≡ Some (b, s) → (r ≡ s) × (x ≡ Some b)
+found r s None b e = absurd (cc)
+found r s (Some y) b e = let same = ap (pick (y, r)) e in (ap (λ p. p.1) same, ap (λ p. Some p.0) same)
+
+pub converted_some : {A B : Type 0} (f : A → Option B) (o : Option (A × List Token)) (b : B) (r : List Token) → converted f o ≡ Some (b, r) → (a : A) × (o ≡ Some (a, r)) × (f a ≡ Some b)
+converted_some f None b r e = absurd (cc)
+converted_some f (Some p) b r e = let both = found p.1 r (f p.0) b e in (p.0, ap (λ s. Some (p.0, s)) both.0, both.1)
+
+refused : {B : Type 0} (r : List Token) (x : Option B) → option_map {U = B × List Token} (λ y. (y, r)) x ≡ None → x ≡ None
+refused r None e = refl
+refused r (Some y) e = absurd (cc)
+
+twice : {A B : Type 0} (g : A → B) (r : List Token) (x : Option A) → option_map (λ b. (b, r)) (option_map g x) ≡ parse_map g (option_map (λ a. (a, r)) x)
+twice g r None = refl
+twice g r (Some a) = refl
+
+of_array : (o : Option (json.Items × List Token)) → converted of_json (parse_map json.array o) ≡ parse_map array (converted of_items o)
+of_array None = refl
+of_array (Some p) = twice array p.1 (of_items p.0)
+
+of_object : (o : Option (json.Members × List Token)) → converted of_json (parse_map json.object o) ≡ parse_map object (converted (λ ms. of_members ms no_members) o)
+of_object None = refl
+of_object (Some p) = twice object p.1 (of_members p.0 no_members)
+
+with_item : (j : json.Json) (d : Data) → of_json j ≡ Some d → (o : Option (json.Items × List Token)) → converted of_items (parse_map (json.item j) o) ≡ parse_map (item d) (converted of_items o)
+with_item j d e None = refl
+with_item j d e (Some p) = rw e (twice (item d) p.1 (of_items p.0))
+
+without_item : (j : json.Json) → of_json j ≡ None → (o : Option (json.Items × List Token)) → converted of_items (parse_map (json.item j) o) ≡ None
+without_item j e None = refl
+without_item j e (Some p) = rw e
+
+with_member : (k : List ℕ) (j : json.Json) (d : Data) (old : Members) → of_json j ≡ Some d → (o : Option (json.Members × List Token))
+    → converted (λ ms. of_members ms old) (parse_map (json.member k j) o) ≡ converted (λ ms. of_members ms (put k d old)) o
+with_member k j d old e None = refl
+with_member k j d old e (Some p) = rw e
+
+without_member : (k : List ℕ) (j : json.Json) (old : Members) → of_json j ≡ None → (o : Option (json.Members × List Token)) → converted (λ ms. of_members ms old) (parse_map (json.member k j) o) ≡ None
+without_member k j old e None = refl
+without_member k j old e (Some p) = rw e
+
+-- ---- turns
+
+module _ (p : Parse json.Json) where
+  pub item_read : (n : ℕ) (ts r : List Token) (d : Data) → 0 < n → after_end_array ts ≡ None → converted of_json (p ts) ≡ Some (d, r)
+      → converted of_items (items p n ts) ≡ parse_map (item d) (converted of_items (items p (n - 1) r))
+  item_read n ts r d some going e = let j = converted_some of_json (p ts) d r e in ap (converted of_items) (items_more p n ts r j.0 some going j.1) ∙ with_item j.0 d j.2 _
+
+  no_item : (more : Parse json.Items) (o : Option (json.Json × List Token)) → converted of_json o ≡ None → converted of_items (option_and_then (λ q. parse_map (json.item q.0) (more q.1)) o) ≡ None
+  no_item more None e = refl
+  no_item more (Some q) e = without_item q.0 (refused q.1 (of_json q.0) e) (more q.1)
+
+  pub item_lacks : (n : ℕ) (ts : List Token) → after_end_array ts ≡ None → converted of_json (p ts) ≡ None → converted of_items (items p n ts) ≡ None
+  unfolding items
+  item_lacks zero ts going e = refl
+  item_lacks (suc n) ts going e = ap (λ o. converted of_items (items_step p (items p n) ts o)) going ∙ no_item (items p n) (p ts) e
+
+  pub items_over : (n : ℕ) (ts r : List Token) → length ts ≤ n → after_end_array ts ≡ Some r → converted of_items (items p n ts) ≡ Some (no_items, r)
+  items_over n ts r enough e = ap (converted of_items) (items_end p n ts r enough e)
+
+  module _ (old : Members) where
+    pub member_read : (n : ℕ) (k : List ℕ) (ts s r : List Token) (d : Data) → 0 < n → read_key ts ≡ Some (Some k, s) → converted of_json (p s) ≡ Some (d, r)
+        → converted (λ ms. of_members ms old) (members p n ts) ≡ converted (λ ms. of_members ms (put k d old)) (members p (n - 1) r)
+    member_read n k ts s r d some key e =
+        let j = converted_some of_json (p s) d r e in
+        ap (converted (λ ms. of_members ms old)) (members_more p n k ts s r j.0 some key j.1) ∙ with_member k j.0 d old j.2 _
+
+    no_member : (k : List ℕ) (more : Parse json.Members) (o : Option (json.Json × List Token)) → converted of_json o ≡ None
+        → converted (λ ms. of_members ms old) (option_and_then (λ q. parse_map (json.member k q.0) (more q.1)) o) ≡ None
+    no_member k more None e = refl
+    no_member k more (Some q) e = without_member k q.0 old (refused q.1 (of_json q.0) e) (more q.1)
+
+    pub member_lacks : (n : ℕ) (k : List ℕ) (ts s : List Token) → read_key ts ≡ Some (Some k, s) → converted of_json (p s) ≡ None → converted (λ ms. of_members ms old) (members p n ts) ≡ None
+    unfolding members
+    member_lacks zero k ts s key e = refl
+    member_lacks (suc n) k ts s key e = rw key (no_member k (members p n) (p s) e)
+
+    pub key_lacks : (n : ℕ) (ts : List Token) → read_key ts ≡ None → converted (λ ms. of_members ms old) (members p n ts) ≡ None
+    key_lacks n ts e = ap (converted (λ ms. of_members ms old)) (members_no_key p n ts e)
+
+    pub members_over : (n : ℕ) (ts r : List Token) → length ts ≤ n → read_key ts ≡ Some (None, r) → converted (λ ms. of_members ms old) (members p n ts) ≡ Some (old, r)
+    members_over n ts r enough e = ap (converted (λ ms. of_members ms old)) (members_end p n ts r enough e)
+
+-- ---- values by their first token
+
+module _ (depth : ℕ) (ts : List Token) (some : 0 < depth) where
+  pub array_is : converted of_json (value depth (Token.begin_array ∷ ts)) ≡ parse_map array (converted of_items (items (value (depth - 1)) (length ts) ts))
+  array_is = ap (converted of_json) (value-begin_array depth ts some) ∙ of_array (items (value (depth - 1)) (length ts) ts)
+
+  pub object_is : converted of_json (value depth (Token.begin_object ∷ ts)) ≡ parse_map object (converted (λ ms. of_members ms no_members) (members (value (depth - 1)) (length ts) ts))
+  object_is = ap (converted of_json) (value-begin_object depth ts some) ∙ of_object (members (value (depth - 1)) (length ts) ts)
+
+  pub takes_array : (ds : Items) (new : List Token) → TakesItems (depth - 1) ts ds new → TakesValue depth (Token.begin_array ∷ ts) (array ds) new
+  takes_array ds new h = array_is ∙ ap (parse_map array) h
+
+  pub lacks_array : LacksItems (depth - 1) ts → LacksValue depth (Token.begin_array ∷ ts)
+  lacks_array h = array_is ∙ ap (parse_map array) h
+
+  pub takes_object : (ms : Members) (new : List Token) → TakesMembers (depth - 1) ts ms new → TakesValue depth (Token.begin_object ∷ ts) (object ms) new
+  takes_object ms new h = object_is ∙ ap (parse_map object) h
+
+  pub lacks_object : LacksMembers (depth - 1) ts → LacksValue depth (Token.begin_object ∷ ts)
+  lacks_object h = object_is ∙ ap (parse_map object) h
+
+module _ (depth : ℕ) (ts : List Token) where
+  pub takes_string : (s : List ℕ) → TakesValue depth (Token.string s ∷ ts) (string s) ts
+  takes_string s = ap (converted of_json) (value_is depth (Token.string s ∷ ts))
+
+  pub takes_boolean : (b : Bool) → TakesValue depth (Token.boolean b ∷ ts) (boolean b) ts
+  takes_boolean b = ap (converted of_json) (value_is depth (Token.boolean b ∷ ts))
+
+  pub takes_null : TakesValue depth (Token.null ∷ ts) null ts
+  takes_null = ap (converted of_json) (value_is depth (Token.null ∷ ts))
+
+  pub takes_number : (s : List ℕ) (x : Num) → number_of s ≡ Some x → TakesValue depth (Token.number s ∷ ts) (number x) ts
+  takes_number s x e = ap (converted of_json) (value_is depth (Token.number s ∷ ts)) ∙ ap (λ o. option_map (λ d. (d, ts)) (option_map number o)) e
+
+  pub lacks_number : (s : List ℕ) → number_of s ≡ None → LacksValue depth (Token.number s ∷ ts)
+  lacks_number s e = ap (converted of_json) (value_is depth (Token.number s ∷ ts)) ∙ ap (λ o. option_map (λ d. (d, ts)) (option_map number o)) e
+
+pub in_range : (o : Option Num) → true ≡ is_some o → (x : Num) × (o ≡ Some x)
+in_range None e = absurd (cc)
+in_range (Some x) e = (x, refl)
+
+pub out_of_range : (o : Option Num) → false ≡ is_some o → o ≡ None
+out_of_range None e = refl
+out_of_range (Some x) e = absurd (cc)
+
+-- ---- what is passed
+
+abbrev pub passed : {A : Type 0} → Option (A × List Token) → Option (⊤ × List Token)
+passed o = parse_map (λ _. tt) o
+
+pub passed_item : (d : Data) (o : Option (Items × List Token)) → passed (parse_map (item d) o) ≡ passed o
+passed_item d None = refl
+passed_item d (Some p) = refl
+
+-- ---- results
+
+pub if_ok : {T E : Type 0} {P Q : T → Type 0} (r : Result T E) → ((x : T) → P x → Q x) → IfOk r P → IfOk r Q
+if_ok (Ok x) f h = f x h
+if_ok (Err e) f h = h
+
+-- ---- the whole text
+
+abbrev whole : Option (json.Json × List Token) → Option Data
+whole o = option_and_then of_json (option_and_then (λ p. if_last p.0 p.1) o)
+
+pub whole_read : (o : Option (json.Json × List Token)) (d : Data) → converted of_json o ≡ Some (d, []) → whole o ≡ Some d
+whole_read o d e = let j = converted_some of_json o d [] e in ap whole j.1 ∙ j.2
+
+pub whole_and_more : (o : Option (json.Json × List Token)) (d : Data) (t : Token) (r : List Token) → converted of_json o ≡ Some (d, t ∷ r) → whole o ≡ None
+whole_and_more o d t r e = ap whole (converted_some of_json o d (t ∷ r) e).1
+
+pub whole_lacks : (o : Option (json.Json × List Token)) → converted of_json o ≡ None → whole o ≡ None
+whole_lacks None e = refl
+whole_lacks (Some (j, [])) e = refused [] (of_json j) e
+whole_lacks (Some (j, t ∷ r)) e = refl
