@@ -1,6 +1,6 @@
 -- Each directive of the machine that forwards stores keeps the buffer along the plain run.
 use Rattle.std.proofs.Common.{◌≡◌, ℕ, suc, ◌+◌, ◌≤◌, Bool, true, false, List, ◌∷◌, length, take, drop, Option, Some, None, refl, sym, ap, ◌∙◌, subst, arith}
-use Rattle.std.specs.Prelude.{slice_get}
+use Rattle.std.specs.Prelude.{if◌then◌else◌, slice_get}
 use Rattle.bl_base.specs.Bytes.{number_of}
 use Rattle.bl_base.specs.declared.start.Start.{Start}
 use Rattle.bl_ops.specs.Access.{extended, width_of}
@@ -28,7 +28,9 @@ use Rattle.bl_rob.proofs.PlainTracks.{Config, value_in, run_on, IsLoad, stands_t
 use Rattle.bl_sct.proofs.StepAgreement.{LiesIn, InsideOf, inside_from, plain_of}
 use Rattle.bl_forward.specs.declared.find.Found.{Found}
 use Rattle.bl_forward.specs.declared.find.Found.TheVariants.{Memory, Stored, Blocked}
-use Rattle.bl_forward.specs.ForwardMachines.{found_in, filled, takes, settled, fills, plainly, exec_work, exec_at, forward_step}
+use Rattle.bl_forward.specs.ForwardMachines.{found_in, turned_by, turned_from, turned, plainly, stepped, exec_work, exec_at, forward_step}
+use Rattle.bl_forward.specs.declared.load.Turn.{Turn}
+use Rattle.bl_forward.specs.declared.load.Turn.TheVariants as turn
 use Rattle.bl_forward.specs.declared.seen.Seen.{Seen}
 use Rattle.bl_forward.specs.declared.seen.Seen.TheVariants.{Plain, Forward}
 use Rattle.bl_forward.proofs.ReadyStores.{Right, all}
@@ -63,7 +65,10 @@ module _ (program : Program) (facts : IsProgram program) (rules : IsWellFormed p
   lies_by c protect kind memory to offset address (Branch cond one other) h i = absurd h
   lies_by c protect kind memory to offset address Nowhere h i = absurd h
 
-  module _ (s : State) (k : Kept program from s) (n position : ℕ) (protect : Bool) (kind : AccessKind) (memory : ℕ) (to : Register) (offset : ℕ) (source : Source) where
+  module _ (plain : Option (State × Seen)) (s : State) (k : Kept program from s) (n position : ℕ) (protect : Bool) (kind : AccessKind) (memory : ℕ) (to : Register) (offset : ℕ) (source : Source) where
+    abbrev turns : Turn → Option (State × Seen)
+    turns = stepped plain s n position
+
     abbrev load : Work
     load = Load protect kind memory to offset source
 
@@ -91,7 +96,7 @@ module _ (program : Program) (facts : IsProgram program) (rules : IsWellFormed p
         → ((d : Config) → Along program pre (committed s.registers) k.config d
         → effective program memory offset address + width_of kind ≤ length k.config.space
         → value ≡ loaded kind d.space (effective program memory offset address))
-        → Holds (Stays program k.config s.retired) (filled s n position protect to value seen)
+        → Holds (Stays program k.config s.retired) (turns (turn.Fills (valued protect to value) seen))
     fill_ok address value seen at shows is =
         acted_ok program k.config s k.inv n pre post (entry_at position load) (Becomes (valued protect to value) observation.Nothing) refl refl
         (subst (λ b. Tracks program b k.config s.front) (split s.buffer n (entry_at position load) at) k.inv.tracks)
@@ -106,7 +111,7 @@ module _ (program : Program) (facts : IsProgram program) (rules : IsWellFormed p
 
     takes_ok : (address : ℕ) (found : Found) → slice_get s.buffer n ≡ Some (entry_at position load) → visible_of s.registers pre source ≡ Some address
         → has_pending pre ≡ false → found_in program (effective program memory offset address) (width_of kind) pre ≡ found
-        → Holds (Stays program k.config s.retired) (takes s n position protect kind to (effective program memory offset address) (guards pre) found)
+        → Holds (Stays program k.config s.retired) (turns (turned_by s.space (guards pre) protect kind to (effective program memory offset address) (Some found)))
     takes_ok address Memory at shows q e =
         fill_ok address _ (Plain (observation.Read (effective program memory offset address) (guards pre))) at shows (λ d a room.
         let right = all (effective program memory offset address) (width_of kind) k.config.space program pre k.config.space Memory room refl in
@@ -124,18 +129,19 @@ module _ (program : Program) (facts : IsProgram program) (rules : IsWellFormed p
 
     settled_ok : (address : ℕ) (pending : Bool) → slice_get s.buffer n ≡ Some (entry_at position load) → visible_of s.registers pre source ≡ Some address
         → has_pending pre ≡ pending
-        → Holds (Stays program k.config s.retired) (settled program s n position protect kind to (effective program memory offset address) pending)
+        → Holds (Stays program k.config s.retired)
+        (turns (turned_by s.space (guards pre) protect kind to (effective program memory offset address)
+        (if pending then None else Some (found_in program (effective program memory offset address) (width_of kind) pre))))
     settled_ok address true at shows q = tt
     settled_ok address false at shows q = takes_ok address _ at shows q refl
 
     fills_ok : (o : Option ℕ) → slice_get s.buffer n ≡ Some (entry_at position load) → visible_of s.registers pre source ≡ o
-        → Holds (Stays program k.config s.retired) (fills program s n position protect kind memory to offset o)
+        → Holds (Stays program k.config s.retired) (turns (turned_from program s.space pre protect kind memory to offset o))
     fills_ok None at shows = tt
     fills_ok (Some address) at shows = settled_ok address _ at shows refl
 
-    load_ok : slice_get s.buffer n ≡ Some (entry_at position load)
-        → Holds (Kept program from) (fills program s n position protect kind memory to offset (visible_of s.registers pre source))
-    load_ok at = stays program from k.config s.retired (fills program s n position protect kind memory to offset (visible_of s.registers pre source)) k.ran (fills_ok _ at refl)
+    load_ok : slice_get s.buffer n ≡ Some (entry_at position load) → Holds (Kept program from) (turns (turned program s pre load))
+    load_ok at = stays program from k.config s.retired (turns (turned program s pre load)) k.ran (fills_ok _ at refl)
 
   plain_ok : (most : ℕ) (s : State) (d : Directive) → Kept program from s → Holds (Kept program from) (plainly (directive_step most program s d))
   plain_ok most s d k = plainly_holds (Kept program from) (directive_step most program s d) (step_ok program from most s d k)
@@ -144,7 +150,8 @@ module _ (program : Program) (facts : IsProgram program) (rules : IsWellFormed p
       → Holds (Kept program from) (exec_work most program s n position work)
   work_ok most s n position Nop k at = plain_ok most s (Exec n) k
   work_ok most s n position (Assign protect op to a b c) k at = plain_ok most s (Exec n) k
-  work_ok most s n position (Load protect kind memory to offset address) k at = load_ok s k n position protect kind memory to offset address at
+  work_ok most s n position (Load protect kind memory to offset address) k at =
+      load_ok (plainly (directive_step most program s (Exec n))) s k n position protect kind memory to offset address at
   work_ok most s n position (Held to value) k at = plain_ok most s (Exec n) k
   work_ok most s n position (Done to value) k at = plain_ok most s (Exec n) k
   work_ok most s n position (Store kind memory offset address value) k at = plain_ok most s (Exec n) k

@@ -1,11 +1,10 @@
--- What an entry comes to is the step of the rules.
+-- Steps by what an entry comes to, and the numbers that are forwarded.
 use Rattle.std.proofs.Common.{◌≡◌, ℕ, ◌*◌, ◌^◌, ◌<◌, Bool, true, false, List, [], ◌∷◌, length, take, Option, Some, None, refl, sym, ap, ◌∙◌, subst}
 use Rattle.std.proofs.lemmas.Bool.{eqb-true}
 use Rattle.std.specs.Prelude.{◌&&◌, nat_eq, if◌then◌else◌, slice_get, Result, Ok, Err}
 use Rattle.std.specs.Option.{ok_or}
 use Rattle.bl_base.proofs.BoolLemmas.{each_true}
 use Rattle.bl_ops.specs.Access.{narrowed, width_of}
-use Rattle.bl_ops.specs.declared.access.AccessKind.{AccessKind}
 use Rattle.bl_ops.proofs.Fits.{store_fits}
 use Rattle.bl_cmd.specs.Outcomes.{opening as plain_opening}
 use Rattle.bl_cmd.specs.Programs.{IsProgram}
@@ -13,7 +12,7 @@ use Rattle.bl_cmd.specs.Rules.{IsWellFormed}
 use Rattle.bl_cmd.specs.Steps.{effective}
 use Rattle.bl_cmd.specs.declared.definitions.ProgramParts.{ProgramParts as Program}
 use Rattle.bl_rob.specs.CallResults.{ComesBy, Executes, NeedsMemory, Steps, is_some}
-use Rattle.bl_rob.specs.Machines.{State, become, directive_step, exec_entry, guards, has_pending, visible_of}
+use Rattle.bl_rob.specs.Machines.{State, become, directive_step, exec_entry, has_pending}
 use Rattle.bl_rob.specs.ReachableStates.{IsReachedBy}
 use Rattle.bl_rob.specs.declared.directive.Directive.{Directive}
 use Rattle.bl_rob.specs.declared.directive.Directive.TheVariants.{Fetch, Predict, Exec, Retire}
@@ -23,14 +22,13 @@ use Rattle.bl_rob.specs.declared.directive.StepError.{StepError}
 use Rattle.bl_rob.specs.declared.directive.StepError.TheVariants.{NotEnabled, Memory as NoRoom}
 use Rattle.bl_rob.specs.declared.entry.Act.TheVariants.{Becomes}
 use Rattle.bl_rob.specs.declared.entry.Entry.{Entry}
-use Rattle.bl_rob.specs.declared.entry.Register.{Register}
 use Rattle.bl_rob.specs.declared.entry.Work.{Work}
 use Rattle.bl_rob.specs.declared.entry.Work.TheVariants.{Nop, Assign, Load, Held, Done, Store, Ready, Guard, Fail}
 use Rattle.bl_rob.proofs.BufferInvariant.{Holds}
 use Rattle.bl_rob.proofs.ReachabilityLemmas.{KeepAll, steps_reach}
 use Rattle.bl_rob.proofs.BufferRoom.{Fits, acted_fits, comes_fit, executes, step_fits, within}
-use Rattle.bl_forward.specs.ForwardCalls.{ForwardSteps, as_plain, found_behind, is_enabled, turned, turned_at, turned_by, turned_from, turned_where}
-use Rattle.bl_forward.specs.ForwardMachines.{exec_at, exec_work, fills, found_from, found_in, forward_step, plainly, settled, supplied, takes}
+use Rattle.bl_forward.specs.ForwardCalls.{ForwardSteps, as_plain, is_enabled, turned_at, turned_where}
+use Rattle.bl_forward.specs.ForwardMachines.{exec_at, found_behind, found_from, found_in, forward_step, plainly, stepped, supplied, turned}
 use Rattle.bl_forward.specs.declared.find.Found.{Found}
 use Rattle.bl_forward.specs.declared.find.Found.TheVariants.{Memory, Stored, Blocked}
 use Rattle.bl_forward.specs.declared.load.Turn.{Turn}
@@ -39,56 +37,22 @@ use Rattle.bl_forward.specs.declared.seen.Seen.{Seen}
 use Rattle.bl_forward.proofs.ForwardInvariant.{forward_ok, plainly_holds}
 use Rattle.bl_forward.proofs.Loads.{opened_by}
 
--- ---- the step of an entry
+-- ---- the step of an entry, by what it comes to
 
 module _ (most : ℕ) (program : Program) (s : State) (n : ℕ) where
-  abbrev stepped : ℕ → Turn → Option (State × Seen)
-  stepped position turn.Plain = plainly (directive_step most program s (Exec n))
-  stepped position turn.Waits = None
-  stepped position (turn.Fills work seen) = Some (become n position work s, seen)
-
-  abbrev pre : List Entry
-  pre = take n s.buffer
-
-  module _ (position : ℕ) (protect : Bool) (kind : AccessKind) (memory : ℕ) (to : Register) (offset : ℕ) where
-    takes_is : (from : ℕ) (found : Found)
-        → takes s n position protect kind to from (guards pre) found ≡ stepped position (turned_by s.space (guards pre) protect kind to from (Some found))
-    takes_is from Memory = refl
-    takes_is from (Stored number) = refl
-    takes_is from Blocked = refl
-
-    settled_is : (from : ℕ) (pending : Bool) → settled program s n position protect kind to from pending
-        ≡ stepped position (turned_by s.space (guards pre) protect kind to from (if pending then None else Some (found_in program from (width_of kind) pre)))
-    settled_is from true = refl
-    settled_is from false = takes_is from (found_in program from (width_of kind) pre)
-
-    fills_is : (o : Option ℕ) → fills program s n position protect kind memory to offset o ≡ stepped position (turned_from program s.space pre protect kind memory to offset o)
-    fills_is None = refl
-    fills_is (Some address) = settled_is (effective program memory offset address) (has_pending pre)
-
-  work_is : (position : ℕ) (work : Work) → exec_work most program s n position work ≡ stepped position (turned program s pre work)
-  work_is position Nop = refl
-  work_is position (Assign protect op to a b c) = refl
-  work_is position (Load protect kind memory to offset address) = fills_is position protect kind memory to offset (visible_of s.registers pre address)
-  work_is position (Held to value) = refl
-  work_is position (Done to value) = refl
-  work_is position (Store kind memory offset address value) = refl
-  work_is position (Ready kind memory offset address value) = refl
-  work_is position (Guard cond predicted other chain) = refl
-  work_is position (Fail kind) = refl
-
-  -- ---- by what it comes to
+  abbrev plain : Option (State × Seen)
+  plain = plainly (directive_step most program s (Exec n))
 
   plain_at : (o : Option Entry) → slice_get s.buffer n ≡ o → turned_where program s n o ≡ turn.Plain → exec_at most program s n o ≡ plainly (directive_step most program s (Exec n))
   plain_at None is e = sym (ap (λ o. plainly (exec_entry program n s o)) is)
-  plain_at (Some entry) is e = work_is entry.position entry.work ∙ ap (stepped entry.position) e
+  plain_at (Some entry) is e = ap (stepped plain s n entry.position) e
 
   pub plain_turn : turned_at program s n ≡ turn.Plain → forward_step most program s (Exec n) ≡ plainly (directive_step most program s (Exec n))
   plain_turn e = plain_at (slice_get s.buffer n) refl e
 
   waits_at : (o : Option Entry) → turned_where program s n o ≡ turn.Waits → exec_at most program s n o ≡ None
   waits_at None e = refl
-  waits_at (Some entry) e = work_is entry.position entry.work ∙ ap (stepped entry.position) e
+  waits_at (Some entry) e = ap (stepped plain s n entry.position) e
 
   pub waits_turn : turned_at program s n ≡ turn.Waits → forward_step most program s (Exec n) ≡ None
   waits_turn e = waits_at (slice_get s.buffer n) e
@@ -97,7 +61,7 @@ module _ (most : ℕ) (program : Program) (s : State) (n : ℕ) where
     fills_at : (o : Option Entry) → turned_where program s n o ≡ turn.Fills work seen
         → (entry : Entry) × (o ≡ Some entry) × (exec_at most program s n o ≡ Some (become n entry.position work s, seen))
     fills_at None e = cc
-    fills_at (Some entry) e = (entry, refl, work_is entry.position entry.work ∙ ap (stepped entry.position) e)
+    fills_at (Some entry) e = (entry, refl, ap (stepped plain s n entry.position) e)
 
     pub fills_turn : turned_at program s n ≡ turn.Fills work seen
         → (entry : Entry) × (slice_get s.buffer n ≡ Some entry) × (forward_step most program s (Exec n) ≡ Some (become n entry.position work s, seen))
@@ -148,15 +112,15 @@ module _ (most : ℕ) (program : Program) where
   plain_fits : (s : State) (d : Directive) → Fits most s → Holds (Fits most) (plainly (directive_step most program s d))
   plain_fits s d fits = plainly_holds (Fits most) (directive_step most program s d) (step_fits most program s d fits)
 
-  stepped_fits : (s : State) (n : ℕ) (entry : Entry) (t : Turn) → slice_get s.buffer n ≡ Some entry → Fits most s → Holds (Fits most) (stepped most program s n entry.position t)
+  stepped_fits : (s : State) (n : ℕ) (entry : Entry) (t : Turn) → slice_get s.buffer n ≡ Some entry → Fits most s
+      → Holds (Fits most) (stepped (plainly (directive_step most program s (Exec n))) s n entry.position t)
   stepped_fits s n entry turn.Plain is fits = plain_fits s (Exec n) fits
   stepped_fits s n entry turn.Waits is fits = tt
   stepped_fits s n entry (turn.Fills work seen) is fits = acted_fits most s n entry (Becomes work Nothing) (within most s.buffer n entry is) fits
 
   exec_fits : (s : State) (n : ℕ) (o : Option Entry) → slice_get s.buffer n ≡ o → Fits most s → Holds (Fits most) (exec_at most program s n o)
   exec_fits s n None is fits = tt
-  exec_fits s n (Some entry) is fits =
-      subst (Holds (Fits most)) (sym (work_is most program s n entry.position entry.work)) (stepped_fits s n entry (turned program s (take n s.buffer) entry.work) is fits)
+  exec_fits s n (Some entry) is fits = stepped_fits s n entry (turned program s (take n s.buffer) entry.work) is fits
 
   all_fit : (s : State) (d : Directive) → Fits most s → Holds (Fits most) (forward_step most program s d)
   all_fit s Fetch fits = plain_fits s Fetch fits

@@ -1,5 +1,5 @@
 -- The machine that forwards stores: the buffer machine but for the execution of a pending load.
-use Rattle.std.specs.Prelude.{ℕ, ◌+◌, ◌&&◌, nat_eq, nat_lt, Bool, true, false, if◌then◌else◌, List, take, Option, Some, None, slice_get}
+use Rattle.std.specs.Prelude.{ℕ, ◌+◌, ◌&&◌, nat_eq, nat_lt, Bool, if◌then◌else◌, List, take, Option, Some, None, slice_get}
 use Rattle.std.specs.List.{fold}
 use Rattle.bl_base.specs.declared.start.Start.{Start}
 use Rattle.bl_ops.specs.Access.{extended, narrowed, width_of}
@@ -18,6 +18,8 @@ use Rattle.bl_rob.specs.declared.entry.Work.{Work}
 use Rattle.bl_rob.specs.declared.entry.Work.TheVariants.{Nop, Assign, Load, Held, Done, Store, Ready, Guard, Fail}
 use Rattle.bl_forward.specs.declared.find.Found.{Found}
 use Rattle.bl_forward.specs.declared.find.Found.TheVariants.{Memory, Stored, Blocked}
+use Rattle.bl_forward.specs.declared.load.Turn.{Turn}
+use Rattle.bl_forward.specs.declared.load.Turn.TheVariants as turn
 use Rattle.bl_forward.specs.declared.seen.Seen.{Seen}
 use Rattle.bl_forward.specs.declared.seen.Seen.TheVariants.{Plain, Forward}
 
@@ -54,28 +56,37 @@ found_in program from width entries = found_from program from width entries Memo
 
 -- ---- loads
 
--- the state behind a load: its entry is done, or held where it is protected
-abbrev pub filled : State → ℕ → ℕ → Bool → Register → ℕ → Seen → Option (State × Seen)
-filled s n position protect to value seen = Some (become n position (valued protect to value) s, seen)
+-- where a load of so many bytes from a place on finds them behind entries; none where a store among them isn't ready
+abbrev pub found_behind : Program → ℕ → ℕ → List Entry → Option Found
+found_behind program from width entries = if has_pending entries then None else Some (found_in program from width entries)
 
-abbrev pub takes : State → ℕ → ℕ → Bool → AccessKind → Register → ℕ → ℕ → Found → Option (State × Seen)
-takes s n position protect kind to from mask Memory =
-    filled s n position protect to (loaded kind s.space from) (Plain (observed.Read from mask))
-takes s n position protect kind to from mask (Stored number) =
-    filled s n position protect to (extended kind number) (Forward from mask)
-takes s n position protect kind to from mask Blocked = None
+-- what a load from a place on comes to, with these guards before it, by where it finds its bytes: its entry is done, or held where it is protected,
+-- with what memory has, which is observed as a read, or with what the store has, which is observed as a forward; else it waits
+abbrev pub turned_by : List ℕ → ℕ → Bool → AccessKind → Register → ℕ → Option Found → Turn
+turned_by space mask protect kind to from None = turn.Waits
+turned_by space mask protect kind to from (Some Memory) = turn.Fills (valued protect to (loaded kind space from)) (Plain (observed.Read from mask))
+turned_by space mask protect kind to from (Some (Stored number)) = turn.Fills (valued protect to (extended kind number)) (Forward from mask)
+turned_by space mask protect kind to from (Some Blocked) = turn.Waits
 
--- every store before it is ready
-abbrev pub settled : Program → State → ℕ → ℕ → Bool → AccessKind → Register → ℕ → Bool → Option (State × Seen)
-settled program s n position protect kind to from true = None
-settled program s n position protect kind to from false =
-    takes s n position protect kind to from (guards (take n s.buffer)) (found_in program from (width_of kind) (take n s.buffer))
+-- what a load behind entries comes to, where its address is visible or isn't
+abbrev pub turned_from : Program → List ℕ → List Entry → Bool → AccessKind → ℕ → Register → ℕ → Option ℕ → Turn
+turned_from program space entries protect kind memory to offset None = turn.Waits
+turned_from program space entries protect kind memory to offset (Some address) =
+    let from = effective program memory offset address in
+    turned_by space (guards entries) protect kind to from (found_behind program from (width_of kind) entries)
 
--- its address is visible
-abbrev pub fills : Program → State → ℕ → ℕ → Bool → AccessKind → ℕ → Register → ℕ → Option ℕ → Option (State × Seen)
-fills program s n position protect kind memory to offset None = None
-fills program s n position protect kind memory to offset (Some address) =
-    settled program s n position protect kind to (effective program memory offset address) (has_pending (take n s.buffer))
+-- what work behind entries comes to: all but a pending load does what it does in the buffer machine
+abbrev pub turned : Program → State → List Entry → Work → Turn
+turned program s entries Nop = turn.Plain
+turned program s entries (Assign protect op to a b c) = turn.Plain
+turned program s entries (Load protect kind memory to offset address) =
+    turned_from program s.space entries protect kind memory to offset (visible_of s.registers entries address)
+turned program s entries (Held to value) = turn.Plain
+turned program s entries (Done to value) = turn.Plain
+turned program s entries (Store kind memory offset address value) = turn.Plain
+turned program s entries (Ready kind memory offset address value) = turn.Plain
+turned program s entries (Guard cond predicted other chain) = turn.Plain
+turned program s entries (Fail kind) = turn.Plain
 
 -- ---- directives
 
@@ -84,17 +95,15 @@ abbrev pub plainly : Option (State × Observation) → Option (State × Seen)
 plainly None = None
 plainly (Some step) = Some (step.0, Plain step.1)
 
+-- the step of an entry by what it comes to: the buffer machine's, none, or to its new work
+abbrev pub stepped : Option (State × Seen) → State → ℕ → ℕ → Turn → Option (State × Seen)
+stepped plain s n position turn.Plain = plain
+stepped plain s n position turn.Waits = None
+stepped plain s n position (turn.Fills work seen) = Some (become n position work s, seen)
+
 abbrev pub exec_work : ℕ → Program → State → ℕ → ℕ → Work → Option (State × Seen)
-exec_work most program s n position Nop = plainly (directive_step most program s (Exec n))
-exec_work most program s n position (Assign protect op to a b c) = plainly (directive_step most program s (Exec n))
-exec_work most program s n position (Load protect kind memory to offset address) =
-    fills program s n position protect kind memory to offset (visible_of s.registers (take n s.buffer) address)
-exec_work most program s n position (Held to value) = plainly (directive_step most program s (Exec n))
-exec_work most program s n position (Done to value) = plainly (directive_step most program s (Exec n))
-exec_work most program s n position (Store kind memory offset address value) = plainly (directive_step most program s (Exec n))
-exec_work most program s n position (Ready kind memory offset address value) = plainly (directive_step most program s (Exec n))
-exec_work most program s n position (Guard cond predicted other chain) = plainly (directive_step most program s (Exec n))
-exec_work most program s n position (Fail kind) = plainly (directive_step most program s (Exec n))
+exec_work most program s n position work =
+    stepped (plainly (directive_step most program s (Exec n))) s n position (turned program s (take n s.buffer) work)
 
 abbrev pub exec_at : ℕ → Program → State → ℕ → Option Entry → Option (State × Seen)
 exec_at most program s n None = None

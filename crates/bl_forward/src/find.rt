@@ -1,8 +1,7 @@
 //! Where a load finds its bytes behind ready stores.
 ghost use Rattle.std.specs.Prelude.{◌≡◌, ◌<◌, ◌≤◌, ◌^◌};
 ghost use Rattle.bl_seq.specs.Layouts.{IsLayout};
-ghost use Rattle.bl_forward.specs.ForwardCalls.{found_behind};
-ghost use Rattle.bl_forward.specs.ForwardMachines.{supplied, supplies};
+ghost use Rattle.bl_forward.specs.ForwardMachines.{found_behind, supplied, supplies};
 
 use bl_ops::narrow;
 use bl_rob::{Entry, Work, effective};

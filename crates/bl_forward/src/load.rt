@@ -3,7 +3,8 @@ ghost use Rattle.std.specs.Prelude.{◌≡◌, ◌≤◌, ◌<◌, ◌^◌, leng
 ghost use Rattle.bl_seq.specs.Layouts.{IsLayout};
 ghost use Rattle.bl_rob.specs.CallResults.{shown};
 ghost use Rattle.bl_rob.specs.declared.directive.Directive.TheVariants.{Exec};
-ghost use Rattle.bl_forward.specs.ForwardCalls.{ForwardSteps, as_plain, is_enabled, turned_at, turned_from};
+ghost use Rattle.bl_forward.specs.ForwardCalls.{ForwardSteps, as_plain, is_enabled, turned_at};
+ghost use Rattle.bl_forward.specs.ForwardMachines.{turned_from};
 
 use crate::find::{Found, found_behind};
 use crate::seen::Seen;
