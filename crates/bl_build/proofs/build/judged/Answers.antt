@@ -9,7 +9,7 @@ use Rattle.bl_build.proofs.build.judged.Goals as goal
 pub returns-then-length-limit : goal.returns-then-length-limit
 returns-then-length-limit c =
     let length_is = c.image_length-length.ensures in
-    let same : c.image_length-length.result ≡ length length_is.bytes = omega (arith, length_is.counted, c.if-length-eq-MAX.false) in
+    let same : c.image_length-length.result ≡ length length_is.bytes = omega (arith, length_is.counted, c.if-length.false) in
     told_as (limit quantity.Image c.image_length-length.result) (HasLongImage c.args.program) (record {
       bytes = length_is.bytes;
       image = length_is.spelled;

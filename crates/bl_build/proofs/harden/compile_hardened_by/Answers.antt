@@ -7,6 +7,11 @@ use Rattle.bl_job.specs.WorkAnswers.{contents_in}
 use Rattle.bl_build.proofs.BuildLemmas.{still_refused}
 use Rattle.bl_build.proofs.harden.compile_hardened_by.Goals as goal
 
+pub returns-in_ok-protect_least-in-Ok : goal.returns-in_ok-protect_least-in-Ok
+returns-in_ok-protect_least-in-Ok c =
+    let judged = c.in-Ok.ensures in
+    (record { program = c.in-Ok.program; image = judged.0 }, judged.1, c.in_ok-protect_least-in-Ok.ensures)
+
 pub returns-in-Err : goal.returns-in-Err
 returns-in-Err c =
     let words = map (λ (word : Bor (List ℕ)). word.now) c.args.words.now in
