@@ -1,7 +1,7 @@
 -- Steps by what an entry comes to, and the numbers that are forwarded.
-use Rattle.std.proofs.Common.{◌≡◌, ℕ, ◌*◌, ◌^◌, ◌<◌, Bool, true, false, List, [], ◌∷◌, length, take, Option, Some, None, refl, sym, ap, ◌∙◌, subst}
+use Rattle.std.proofs.Common.{◌≡◌, ℕ, ◌*◌, ◌^◌, ◌<◌, ◌≤◌, Bool, true, false, List, [], ◌∷◌, length, take, Option, Some, None, refl, sym, ap, ◌∙◌, subst, arith}
 use Rattle.std.proofs.lemmas.Bool.{eqb-true}
-use Rattle.std.specs.Prelude.{◌&&◌, nat_eq, if◌then◌else◌, slice_get, Result, Ok, Err}
+use Rattle.std.specs.Prelude.{◌&&◌, nat_eq, if◌then◌else◌, slice_get, Result}
 use Rattle.std.specs.Option.{ok_or}
 use Rattle.bl_base.proofs.BoolLemmas.{each_true}
 use Rattle.bl_ops.specs.Access.{narrowed, width_of}
@@ -11,29 +11,29 @@ use Rattle.bl_cmd.specs.Programs.{IsProgram}
 use Rattle.bl_cmd.specs.Rules.{IsWellFormed}
 use Rattle.bl_cmd.specs.Steps.{effective}
 use Rattle.bl_cmd.specs.declared.definitions.ProgramParts.{ProgramParts as Program}
-use Rattle.bl_rob.specs.CallResults.{ComesBy, Executes, NeedsMemory, Steps, is_some}
+use Rattle.bl_rob.specs.CallResults.{Executes, NeedsMemory, StepsBy, is_enabled_by, is_some}
+use Rattle.bl_rob.specs.LoadPolicies.{answer_as}
 use Rattle.bl_rob.specs.Machines.{State, become, directive_step, exec_entry, has_pending}
-use Rattle.bl_rob.specs.ReachableStates.{IsReachedBy}
-use Rattle.bl_rob.specs.declared.directive.Directive.{Directive}
-use Rattle.bl_rob.specs.declared.directive.Directive.TheVariants.{Fetch, Predict, Exec, Retire}
+use Rattle.bl_rob.specs.declared.directive.Directive.TheVariants.{Exec}
 use Rattle.bl_rob.specs.declared.directive.Observation.{Observation}
 use Rattle.bl_rob.specs.declared.directive.Observation.TheVariants.{Nothing}
 use Rattle.bl_rob.specs.declared.directive.StepError.{StepError}
-use Rattle.bl_rob.specs.declared.directive.StepError.TheVariants.{NotEnabled, Memory as NoRoom}
+use Rattle.bl_rob.specs.declared.directive.StepError.TheVariants.{NotEnabled}
 use Rattle.bl_rob.specs.declared.entry.Act.TheVariants.{Becomes}
 use Rattle.bl_rob.specs.declared.entry.Entry.{Entry}
 use Rattle.bl_rob.specs.declared.entry.Work.{Work}
 use Rattle.bl_rob.specs.declared.entry.Work.TheVariants.{Nop, Assign, Load, Held, Done, Store, Ready, Guard, Fail}
 use Rattle.bl_rob.proofs.BufferInvariant.{Holds}
-use Rattle.bl_rob.proofs.ReachabilityLemmas.{KeepAll, steps_reach}
+use Rattle.bl_rob.proofs.PolicyLemmas.{told_enabled, told_steps}
+use Rattle.bl_rob.proofs.ReachabilityLemmas.{KeepAll}
 use Rattle.bl_rob.proofs.BufferRoom.{Fits, acted_fits, comes_fit, executes, step_fits, within}
-use Rattle.bl_forward.specs.ForwardCalls.{ForwardSteps, as_plain, is_enabled, turned_at, turned_where}
-use Rattle.bl_forward.specs.ForwardMachines.{exec_at, found_behind, found_from, found_in, forward_step, plainly, stepped, supplied, turned}
+use Rattle.bl_forward.specs.ForwardMachines.{exec_at, found_behind, found_from, found_in, forward_step, plainly, stepped, supplied, turned, turned_at, turned_where}
 use Rattle.bl_forward.specs.declared.find.Found.{Found}
 use Rattle.bl_forward.specs.declared.find.Found.TheVariants.{Memory, Stored, Blocked}
 use Rattle.bl_forward.specs.declared.load.Turn.{Turn}
 use Rattle.bl_forward.specs.declared.load.Turn.TheVariants as turn
 use Rattle.bl_forward.specs.declared.seen.Seen.{Seen}
+use Rattle.bl_forward.specs.declared.seen.Seen.TheVariants.{Plain as Shown}
 use Rattle.bl_forward.proofs.ForwardInvariant.{forward_ok, plainly_holds}
 use Rattle.bl_forward.proofs.Loads.{opened_by}
 
@@ -75,70 +75,43 @@ module _ (most : ℕ) (program : Program) (s : State) (n : ℕ) where
         → ((entry : Entry) → slice_get s.buffer n ≡ Some entry → new ≡ become n entry.position work s) → forward_step most program s (Exec n) ≡ Some (new, seen)
     filled_step new e becomes = let at = fills_turn e in at.2 ∙ ap (λ t. Some (t, seen)) (sym (becomes at.0 at.1))
 
--- ---- what the buffer machine answers
-
-plain_comes : (step : Option (State × Observation)) (needs : Type 0) (old new : State) (r : Result Observation StepError) → ComesBy step needs old r new
-    → ComesBy (plainly step) needs old (as_plain r) new
-plain_comes step needs old new (Ok observation) h = ap plainly h
-plain_comes step needs old new (Err NotEnabled) h = (ap plainly h.0, h.1)
-plain_comes step needs old new (Err NoRoom) h = h
-
--- a step of the buffer machine is one of this machine
-pub plain_steps : (most : ℕ) (program : Program) (old new : State) (d : Directive) (r : Result Observation StepError) (result : Result Seen StepError)
-    → forward_step most program old d ≡ plainly (directive_step most program old d) → Steps most program d old r new → result ≡ as_plain r
-    → ForwardSteps most program d old result new
-plain_steps most program old new d r result is steps e =
-    subst (λ x. ComesBy x (NeedsMemory d) old result new) (sym is)
-    (subst (λ x. ComesBy (plainly (directive_step most program old d)) (NeedsMemory d) old x new) (sym e)
-    (plain_comes (directive_step most program old d) (NeedsMemory d) old new r steps))
+-- ---- what the buffer machine executes
 
 pub plain_exec : (most : ℕ) (program : Program) (old new : State) (n : ℕ) (answer : Option Observation) (r : Result Observation StepError) (result : Result Seen StepError)
-    → turned_at program old n ≡ turn.Plain → Executes program n old answer new → r ≡ ok_or answer NotEnabled → result ≡ as_plain r
-    → ForwardSteps most program (Exec n) old result new
+    → turned_at program old n ≡ turn.Plain → Executes program n old answer new → r ≡ ok_or answer NotEnabled → result ≡ answer_as Shown r
+    → StepsBy forward_step most program (Exec n) old result new
 plain_exec most program old new n answer r result e executed is =
-    plain_steps most program old new (Exec n) r result (plain_turn most program old n e) (executes most program old new n answer r executed is)
+    told_steps Shown forward_step most program (Exec n) old new r result (plain_turn most program old n e) (executes most program old new n answer r executed is)
 
-some_plainly : (o : Option (State × Observation)) → is_some (plainly o) ≡ is_some o
-some_plainly None = refl
-some_plainly (Some step) = refl
-
-pub plain_enabled : (most : ℕ) (program : Program) (s : State) (d : Directive) (b : Bool) → forward_step most program s d ≡ plainly (directive_step most program s d)
-    → b ≡ is_some (directive_step most program s d) → b ≡ is_enabled most program s d
-plain_enabled most program s d b is e = e ∙ sym (ap is_some is ∙ some_plainly (directive_step most program s d))
+pub plain_enabled : (most : ℕ) (program : Program) (s : State) (n : ℕ) (b : Bool) → turned_at program s n ≡ turn.Plain
+    → b ≡ is_some (directive_step most program s (Exec n)) → b ≡ is_enabled_by forward_step most program s (Exec n)
+plain_enabled most program s n b e = told_enabled Shown forward_step most program (Exec n) s b (plain_turn most program s n e)
 
 -- ---- the room of the buffer
 
-module _ (most : ℕ) (program : Program) where
-  plain_fits : (s : State) (d : Directive) → Fits most s → Holds (Fits most) (plainly (directive_step most program s d))
-  plain_fits s d fits = plainly_holds (Fits most) (directive_step most program s d) (step_fits most program s d fits)
-
-  stepped_fits : (s : State) (n : ℕ) (entry : Entry) (t : Turn) → slice_get s.buffer n ≡ Some entry → Fits most s
+module _ (most : ℕ) (program : Program) (s : State) (n : ℕ) (fits : Fits most s) where
+  turn_fits : (entry : Entry) (t : Turn) → slice_get s.buffer n ≡ Some entry
       → Holds (Fits most) (stepped (plainly (directive_step most program s (Exec n))) s n entry.position t)
-  stepped_fits s n entry turn.Plain is fits = plain_fits s (Exec n) fits
-  stepped_fits s n entry turn.Waits is fits = tt
-  stepped_fits s n entry (turn.Fills work seen) is fits = acted_fits most s n entry (Becomes work Nothing) (within most s.buffer n entry is) fits
+  turn_fits entry turn.Plain is = plainly_holds (Fits most) (directive_step most program s (Exec n)) (step_fits most program s (Exec n) fits)
+  turn_fits entry turn.Waits is = tt
+  turn_fits entry (turn.Fills work seen) is = acted_fits most s n entry (Becomes work Nothing) (within most s.buffer n entry is) fits
 
-  exec_fits : (s : State) (n : ℕ) (o : Option Entry) → slice_get s.buffer n ≡ o → Fits most s → Holds (Fits most) (exec_at most program s n o)
-  exec_fits s n None is fits = tt
-  exec_fits s n (Some entry) is fits = stepped_fits s n entry (turned program s (take n s.buffer) entry.work) is fits
+  exec_fits : (o : Option Entry) → slice_get s.buffer n ≡ o → Holds (Fits most) (exec_at most program s n o)
+  exec_fits None is = tt
+  exec_fits (Some entry) is = turn_fits entry (turned program s (take n s.buffer) entry.work) is
 
-  all_fit : (s : State) (d : Directive) → Fits most s → Holds (Fits most) (forward_step most program s d)
-  all_fit s Fetch fits = plain_fits s Fetch fits
-  all_fit s (Predict predicted) fits = plain_fits s (Predict predicted) fits
-  all_fit s (Exec n) fits = exec_fits s n (slice_get s.buffer n) refl fits
-  all_fit s Retire fits = plain_fits s Retire fits
+-- an entry that is executed leaves no more entries
+pub exec_few : (program : Program) (n : ℕ) (old new : State) (result : Result Seen StepError) → ((most : ℕ) → StepsBy forward_step most program (Exec n) old result new)
+    → length new.buffer ≤ length old.buffer
+exec_few program n old new result steps =
+    let most = length old.buffer in
+    comes_fit most (forward_step most program old (Exec n)) (NeedsMemory (Exec n)) old new result (omega arith)
+    (exec_fits most program old n (omega arith) (slice_get old.buffer n) refl) (steps most)
 
-  -- what a step leaves is reached and within the room
-  pub forward_kept : (old new : State) (d : Directive) (result : Result Seen StepError) → Fits most old → IsReachedBy (forward_step most program) program old → ForwardSteps most program d old result new
-      → Fits most new × IsReachedBy (forward_step most program) program new
-  forward_kept old new d result fits reached h = (
-    comes_fit most (forward_step most program old d) (NeedsMemory d) old new result fits (all_fit old d fits) h,
-    steps_reach (forward_step most program) program old new d (NeedsMemory d) result reached h,
-  )
-
-  -- each directive keeps the buffer along the plain run
-  pub forward_keeps : IsProgram program → IsWellFormed program → KeepAll (forward_step most program) program
-  forward_keeps facts rules function start fits s d = forward_ok program facts rules (plain_opening program function start) (opened_by program facts rules function start fits) most s d
+-- each directive keeps the buffer along the plain run
+pub forward_keeps : (most : ℕ) (program : Program) → IsProgram program → IsWellFormed program → KeepAll (forward_step most program) program
+forward_keeps most program facts rules function start fits s d =
+    forward_ok program facts rules (plain_opening program function start) (opened_by program facts rules function start fits) most s d
 
 -- ---- forwarded numbers
 

@@ -1,4 +1,5 @@
 -- The machine that forwards stores: the buffer machine but for the execution of a pending load.
+use Rattle.std.proofs.Common.{◌≡◌, refl}
 use Rattle.std.specs.Prelude.{ℕ, ◌+◌, ◌&&◌, nat_eq, nat_lt, Bool, if◌then◌else◌, List, take, Option, Some, None, slice_get}
 use Rattle.std.specs.List.{fold}
 use Rattle.bl_base.specs.declared.start.Start.{Start}
@@ -6,6 +7,7 @@ use Rattle.bl_ops.specs.Access.{extended, narrowed, width_of}
 use Rattle.bl_ops.specs.declared.access.AccessKind.{AccessKind}
 use Rattle.bl_cmd.specs.Steps.{effective, loaded}
 use Rattle.bl_cmd.specs.declared.definitions.ProgramParts.{ProgramParts as Program}
+use Rattle.bl_rob.specs.LoadPolicies.{IsNoExec, told_as}
 use Rattle.bl_rob.specs.Machines.{State, opening, become, directive_step, guards, has_pending, valued, visible_of}
 use Rattle.bl_rob.specs.Observations.{Rules, Observed, observed_by, HasEqualObservationsBy}
 use Rattle.bl_rob.specs.declared.directive.Directive.{Directive}
@@ -92,8 +94,7 @@ turned program s entries (Fail kind) = turn.Plain
 
 -- a step of the buffer machine
 abbrev pub plainly : Option (State × Observation) → Option (State × Seen)
-plainly None = None
-plainly (Some step) = Some (step.0, Plain step.1)
+plainly = told_as Plain
 
 -- the step of an entry by what it comes to: the buffer machine's, none, or to its new work
 abbrev pub stepped : Option (State × Seen) → State → ℕ → ℕ → Turn → Option (State × Seen)
@@ -115,6 +116,21 @@ forward_step most program s Fetch = plainly (directive_step most program s Fetch
 forward_step most program s (Predict predicted) = plainly (directive_step most program s (Predict predicted))
 forward_step most program s (Exec n) = exec_at most program s n (slice_get s.buffer n)
 forward_step most program s Retire = plainly (directive_step most program s Retire)
+
+-- all but an Exec is the buffer machine's
+pub other_steps : (most : ℕ) (program : Program) (s : State) (d : Directive) → IsNoExec d → forward_step most program s d ≡ told_as Plain (directive_step most program s d)
+other_steps most program s Fetch other = refl
+other_steps most program s (Predict predicted) other = refl
+other_steps most program s (Exec n) other = absurd other
+other_steps most program s Retire other = refl
+
+-- what the entry of an index comes to, where there is one
+abbrev pub turned_where : Program → State → ℕ → Option Entry → Turn
+turned_where program s n None = turn.Plain
+turned_where program s n (Some entry) = turned program s (take n s.buffer) entry.work
+
+abbrev pub turned_at : Program → State → ℕ → Turn
+turned_at program s n = turned_where program s n (slice_get s.buffer n)
 
 -- ---- lists of directives
 

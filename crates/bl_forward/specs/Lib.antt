@@ -1,4 +1,3 @@
-pub mod ForwardCalls
 pub mod ForwardMachines
 pub mod LastStores
 pub mod SameSights

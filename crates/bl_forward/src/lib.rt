@@ -2,15 +2,13 @@
 #![tactic(auto)]
 
 mod find;
-mod fwd;
 pub mod laws;
 mod load;
-mod observe;
 mod runs;
 mod seen;
 mod verdict;
 
-pub use fwd::Fwd;
+pub use load::{Forward, Fwd};
 pub use runs::compare_forwarding;
 pub use seen::Seen;
 pub use verdict::{ForwardVerdict, forward_safe};

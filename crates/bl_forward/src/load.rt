@@ -1,19 +1,21 @@
-//! What executing an entry comes to, where it is a pending load.
-ghost use Rattle.std.specs.Prelude.{◌≡◌, ◌≤◌, ◌<◌, ◌^◌, length, ℕ};
+//! The loads of the machine that forwards stores: what executing an entry comes to, where it is a pending load.
+ghost use Rattle.std.specs.Prelude.{◌≡◌, ◌≤◌, length};
 ghost use Rattle.bl_seq.specs.Layouts.{IsLayout};
 ghost use Rattle.bl_rob.specs.CallResults.{shown};
-ghost use Rattle.bl_rob.specs.declared.directive.Directive.TheVariants.{Exec};
-ghost use Rattle.bl_forward.specs.ForwardCalls.{ForwardSteps, as_plain, is_enabled, turned_at};
-ghost use Rattle.bl_forward.specs.ForwardMachines.{turned_from};
+ghost use Rattle.bl_rob.specs.LoadPolicies.{answer_as};
+ghost use Rattle.bl_forward.specs.ForwardMachines.{forward_step, other_steps, turned_at, turned_from};
+ghost use Rattle.bl_forward.specs.declared.seen.Seen.TheVariants.{Plain};
 
 use crate::find::{Found, found_behind};
 use crate::seen::Seen;
+use bl_base::{NoMemory, Run};
 use bl_bytes::Bytes;
 use bl_rob::{
-    Entry, LoadKind, Machine, Observation, Register, StepError, Work, effective, guards, valued,
-    visible_of,
+    Entry, LoadKind, Loads, Machine, Observation, Register, Rob, StepError, Work, effective,
+    guards, valued, visible_of,
 };
 use bl_seq::Layout;
+use std::alloc::Global;
 
 /// What executing an entry comes to.
 #[derive(Debug, Drop)]
@@ -111,8 +113,8 @@ fn turn_from(
 }
 
 /// What a step of the buffer machine shows.
-pub fn as_plain(answer: Result<Observation, StepError>) -> Result<Seen, StepError>
-    ensures { result ≡ as_plain answer }
+fn as_plain(answer: Result<Observation, StepError>) -> Result<Seen, StepError>
+    ensures { result ≡ answer_as Plain answer }
 {
     match answer {
         Ok(observation) => Ok(Seen::Plain(observation)),
@@ -120,33 +122,46 @@ pub fn as_plain(answer: Result<Observation, StepError>) -> Result<Seen, StepErro
     }
 }
 
-/// Executes the entry of that index. Takes no memory.
-pub fn exec(machine: &mut Machine, layout: &Layout, n: usize) -> Result<Seen, StepError>
-    requires layout { IsLayout layout.now }
-    requires few { length machine.old.entries.items ≤ 64 }
-    requires n { n < 2 ^ 32 }
-    ensures { (most : ℕ) → ForwardSteps most layout.now.parts.now (Exec n) (shown machine.old) result (shown machine.new) }
-{
-    match turn_at(machine, layout, n) {
-        Turn::Plain => as_plain(machine.exec(layout, n).ok_or(StepError::NotEnabled)),
-        Turn::Waits => Err(StepError::NotEnabled),
-        Turn::Fills(work, seen) => {
-            machine.replace(n, work);
-            Ok(seen)
+/// A load behind ready stores takes the value of the last one whose bytes it meets.
+#[derive(Clone, Copy, Debug)]
+pub struct Forward;
+
+/// The machine that forwards stores, of a well-formed program, with a buffer of at most W entries; W is from 1 to 64.
+pub type Fwd<'p, const W: usize> = Rob<'p, W, Forward>;
+
+impl Loads for Forward {
+    type Sight = Seen;
+
+    ghost rules = { forward_step };
+
+    ghost shows = { Plain };
+
+    ghost others = { other_steps };
+
+    fn show(observation: Observation) -> Seen {
+        Seen::Plain(observation)
+    }
+
+    fn exec(machine: &mut Machine, layout: &Layout, n: usize) -> Result<Seen, StepError> {
+        match turn_at(machine, layout, n) {
+            Turn::Plain => as_plain(machine.exec(layout, n).ok_or(StepError::NotEnabled)),
+            Turn::Waits => Err(StepError::NotEnabled),
+            Turn::Fills(work, seen) => {
+                machine.replace(n, work);
+                Ok(seen)
+            }
         }
     }
-}
 
-/// Whether the entry of that index can be executed. Takes no memory.
-pub fn may_exec(machine: &Machine, layout: &Layout, n: usize) -> bool
-    requires layout { IsLayout layout.now }
-    requires few { length machine.now.entries.items ≤ 64 }
-    requires n { n < 2 ^ 32 }
-    ensures { (most : ℕ) → result ≡ is_enabled most layout.now.parts.now (shown machine.now) (Exec n) }
-{
-    match turn_at(machine, layout, n) {
-        Turn::Plain => machine.may_exec(layout, n),
-        Turn::Waits => false,
-        Turn::Fills(_, _) => true,
+    fn may_exec(machine: &Machine, layout: &Layout, n: usize) -> bool {
+        match turn_at(machine, layout, n) {
+            Turn::Plain => machine.may_exec(layout, n),
+            Turn::Waits => false,
+            Turn::Fills(_, _) => true,
+        }
+    }
+
+    fn outcome(machine: &Machine, alloc: Global, layout: &Layout) -> Result<Option<Run>, NoMemory> {
+        machine.outcome(alloc, layout)
     }
 }

@@ -9,4 +9,5 @@ pub mod BufferRoom
 pub mod VisibleValues
 pub mod StepLemmas
 pub mod PlainTracks
+pub mod PolicyLemmas
 pub mod WorkedExamples

@@ -10,18 +10,17 @@ use Rattle.bl_cmd.specs.Rules.{IsWellFormed}
 use Rattle.bl_cmd.specs.declared.definitions.ProgramParts.{ProgramParts as Program}
 use Rattle.bl_seq.specs.FinalMemories.{IsWhole, memories_at, memories_of}
 use Rattle.bl_seq.proofs.FinalBytes.{ends_whole}
-use Rattle.bl_rob.specs.CallResults.{ComesBy, NeedsMemory, Steps}
+use Rattle.bl_rob.specs.CallResults.{ComesBy}
 use Rattle.bl_rob.specs.Machines.{State, directive_step, end_in, opening, outcome_by}
 use Rattle.bl_rob.specs.Observations.{Rules, HasEnded, IsConsistentBy}
 use Rattle.bl_rob.specs.ReachableStates.{IsReachedBy, DirectivesLead, more, stays}
 use Rattle.bl_rob.specs.declared.directive.Directive.{Directive}
 use Rattle.bl_rob.specs.declared.directive.End.{End}
 use Rattle.bl_rob.specs.declared.directive.End.TheVariants as ending
-use Rattle.bl_rob.specs.declared.directive.Observation.{Observation}
 use Rattle.bl_rob.specs.declared.directive.StepError.{StepError}
 use Rattle.bl_rob.specs.declared.directive.StepError.TheVariants.{NotEnabled, Memory}
 use Rattle.bl_rob.proofs.BufferInvariant.{Holds, Kept, kept_consistent, opening_kept, step_ok}
-use Rattle.bl_rob.proofs.BufferRoom.{Fits, comes_fit, step_fits}
+use Rattle.bl_rob.proofs.BufferRoom.{Fits}
 use Rattle.bl_rob.proofs.InitialMachine.{begun_fits}
 
 module _ {O : Type 0} (rules : Rules O) (program : Program) where
@@ -71,11 +70,3 @@ pub begun_kept : {O : Type 0} (rules : Program → Rules O) (most : ℕ) (parts 
     → s ≡ opening parts function start → Fits most s × IsReachedBy (rules parts) parts s
 begun_kept rules most parts program function start s same fits is =
     (begun_fits parts function start most s is, opened (rules parts) parts function start s (subst (λ p. IsStart p function start) (sym same) fits) is)
-
--- and so is what a step of the buffer machine leaves
-pub steps_kept : (most : ℕ) (program : Program) (old new : State) (d : Directive) (result : Result Observation StepError) → Fits most old → IsReachedBy (directive_step most program) program old
-    → Steps most program d old result new → Fits most new × IsReachedBy (directive_step most program) program new
-steps_kept most program old new d result fits reached h = (
-  comes_fit most (directive_step most program old d) (NeedsMemory d) old new result fits (step_fits most program old d fits) h,
-  steps_reach (directive_step most program) program old new d (NeedsMemory d) result reached h,
-)

@@ -8,7 +8,7 @@ use Rattle.bl_cmd.specs.declared.command.Command.{Command}
 use Rattle.bl_cmd.specs.declared.definitions.ProgramParts.{ProgramParts as Program}
 use Rattle.bl_seq.specs.RegisterTrees.{register_at}
 use Rattle.bl_rob.specs.Machines.{State, Fetched, Straight, Branch, Nowhere, has_room, act, turned, exec_entry, directive_step, end_in, outcome_by}
-use Rattle.bl_rob.specs.Observations.{Observed}
+use Rattle.bl_rob.specs.Observations.{Observed, Rules}
 use Rattle.bl_rob.specs.declared.directive.Directive.{Directive}
 use Rattle.bl_rob.specs.declared.directive.Directive.TheVariants.{Fetch, Predict, Exec, Retire}
 use Rattle.bl_rob.specs.declared.directive.End.{End}
@@ -55,8 +55,12 @@ ComesBy step needs old (Ok observation) new = step ≡ Some (new, observation)
 ComesBy step needs old (Err NotEnabled) new = (step ≡ None) × (new ≡ old)
 ComesBy step needs old (Err Memory) new = needs × (new ≡ old)
 
+abbrev pub StepsBy : {O : Type 0} → (ℕ → Program → Rules O) → ℕ → Program → Directive → State → Result O StepError → State → Type 0
+StepsBy rules most program d old result new = ComesBy (rules most program old d) (NeedsMemory d) old result new
+
+-- of the buffer machine
 abbrev pub Steps : ℕ → Program → Directive → State → Result Observation StepError → State → Type 0
-Steps most program d old result new = ComesBy (directive_step most program old d) (NeedsMemory d) old result new
+Steps = StepsBy directive_step
 
 -- what executing an entry has come to, where None says that it isn't enabled
 abbrev pub Executes : Program → ℕ → State → Option Observation → State → Type 0
@@ -101,8 +105,11 @@ abbrev pub is_some : {A : Type 0} → Option A → Bool
 is_some None = false
 is_some (Some x) = true
 
+abbrev pub is_enabled_by : {O : Type 0} → (ℕ → Program → Rules O) → ℕ → Program → State → Directive → Bool
+is_enabled_by rules most program s d = is_some (rules most program s d)
+
 abbrev pub is_enabled : ℕ → Program → State → Directive → Bool
-is_enabled most program s d = is_some (directive_step most program s d)
+is_enabled = is_enabled_by directive_step
 
 -- ---- what is told of a machine
 

@@ -1,6 +1,7 @@
 pub mod CallResults
 pub mod Effects
 pub mod LastWriters
+pub mod LoadPolicies
 pub mod Machines
 pub mod Observations
 pub mod ReachableStates

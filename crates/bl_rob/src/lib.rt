@@ -8,6 +8,7 @@ mod entry;
 mod fetch;
 mod front;
 pub mod laws;
+mod loads;
 mod machine;
 mod observe;
 mod queries;
@@ -17,6 +18,7 @@ mod visible;
 
 pub use directive::{Directive, End, Kind, Observation, StepError};
 pub use entry::{Entry, LoadKind, Register, Source, Work};
+pub use loads::{Loads, Plain};
 pub use machine::{Machine, effective, valued};
 pub use observe::Observed;
 pub use rob::Rob;

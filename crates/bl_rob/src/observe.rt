@@ -1,9 +1,10 @@
 //! Lists of directives.
 ghost use Rattle.std.specs.Prelude.{◌≡◌, IfOk};
 ghost use Rattle.bl_rob.specs.CallResults.{seen_in, shown};
-ghost use Rattle.bl_rob.specs.Observations.{Observes};
+ghost use Rattle.bl_rob.specs.Observations.{ObservesBy};
 
-use crate::directive::{Directive, Observation, StepError};
+use crate::directive::{Directive, StepError};
+use crate::loads::Loads;
 use crate::rob::Rob;
 use bl_base::{List, NoMemory};
 use std::alloc::Global;
@@ -17,20 +18,20 @@ pub struct Observed<O> {
     pub refused: Option<u64>,
 }
 
-impl<'p, const W: usize> Rob<'p, W> {
+impl<'p, const W: usize, P: Loads> Rob<'p, W, P> {
     /// Takes directives in order, up to the first one that isn't enabled.
     pub fn observe(
         &mut self,
         alloc: Global,
         directives: &[Directive],
-    ) -> Result<Observed<Observation>, NoMemory>
+    ) -> Result<Observed<P::Sight>, NoMemory>
         ensures same { self.new.program ≡ self.old.program }
-        ensures seen { IfOk result (λ seen. Observes W self.old.program directives.now (shown self.old.machine) (seen_in seen) (shown self.new.machine)) }
+        ensures seen { IfOk result (λ seen. ObservesBy (P.rules W self.old.program) directives.now (shown self.old.machine) (seen_in seen) (shown self.new.machine)) }
     {
         let mut made = List::new(alloc);
         for (i, directive) in directives.iter().enumerate() {
             match self.step(alloc, *directive) {
-                Ok(observation) => made.push(observation)?,
+                Ok(seen) => made.push(seen)?,
                 Err(StepError::NotEnabled) => {
                     return Ok(Observed {
                         made,

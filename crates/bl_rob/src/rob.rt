@@ -1,30 +1,32 @@
 //! The buffer machine as its callers see it.
 ghost use Rattle.std.specs.Prelude.{◌≡◌, ◌≤◌, IfOk, slice_get, slice_index, option_map};
 ghost use Rattle.bl_cmd.specs.Outcomes.{IsStart};
-ghost use Rattle.bl_rob.specs.CallResults.{IsEntryKind, Steps, IsRunOf, is_enabled, outcome_in, position_of, shown};
+ghost use Rattle.bl_rob.specs.CallResults.{IsEntryKind, StepsBy, IsRunOf, is_enabled_by, outcome_in, position_of, shown};
 ghost use Rattle.bl_rob.specs.Machines.{end_in, opening};
 ghost use Rattle.bl_rob.specs.declared.directive.Directive.TheVariants.{Exec, Fetch, Predict, Retire};
 
-use crate::directive::{Directive, End, Kind, Observation, StepError};
+use crate::directive::{Directive, End, Kind, StepError};
+use crate::loads::{Loads, Plain, told};
 use crate::machine::Machine;
 use bl_base::{NoMemory, Pos, Run, Start, Var};
 use bl_cmd::WellFormed;
 use bl_seq::Layout;
 use std::alloc::Global;
-use std::marker::Model;
+use std::marker::{Model, PhantomData};
 
-/// The buffer machine of a well-formed program, with a buffer of at most W entries; W is from 1 to 64.
+/// The buffer machine of a well-formed program, with a buffer of at most W entries and a kind of speculation; W is from 1 to 64.
 #[derive(Debug, Drop)]
-pub struct Rob<'p, const W: usize> {
+pub struct Rob<'p, const W: usize, P: Loads = Plain> {
     layout: Layout<'p>,
     machine: Machine,
+    loads: PhantomData<P>,
 }
 
-impl<'p, const W: usize> Model for Rob<'p, W> {
+impl<'p, const W: usize, P: Loads> Model for Rob<'p, W, P> {
     ghost use Rattle.std.specs.Prelude.{◌≤◌, length};
     ghost use Rattle.bl_seq.specs.Layouts.{IsLayout};
     ghost use Rattle.bl_rob.specs.CallResults.{shown};
-    ghost use Rattle.bl_rob.specs.ReachableStates.{IsReached};
+    ghost use Rattle.bl_rob.specs.ReachableStates.{IsReachedBy};
     ghost use Rattle.bl_rob.specs.Robs.{RobView};
 
     ghost Value = { RobView };
@@ -32,31 +34,35 @@ impl<'p, const W: usize> Model for Rob<'p, W> {
     ghost view = { λ rob. record { program = rob.layout.parts.now; machine = rob.machine } };
 
     ghost invariant = { λ rob. IsLayout rob.layout × (length rob.machine.entries.items ≤ W) × (W ≤ 64)
-        × IsReached W rob.layout.parts.now (shown rob.machine) };
+        × IsReachedBy (P.rules W rob.layout.parts.now) rob.layout.parts.now (shown rob.machine) };
 }
 
-impl<'p, const W: usize> Rob<'p, W> {
+impl<'p, const W: usize, P: Loads> Rob<'p, W, P> {
     /// The machine before its first step, at a function's entry. Linear in the program and the start.
     pub fn begin(
         alloc: Global,
         program: &'p WellFormed,
         function: u32,
         start: &Start,
-    ) -> Result<Rob<'p, W>, NoMemory>
+    ) -> Result<Rob<'p, W, P>, NoMemory>
         requires room { (1 ≤ W) × (W ≤ 64) }
         requires start { IsStart program.now function start.now }
         ensures { IfOk result (λ rob. (rob.program ≡ program.now) × (shown rob.machine ≡ opening program.now function start.now)) }
     {
         let layout = Layout::of(alloc, program.program().parts())?;
         let machine = Machine::begin(alloc, &layout, function, start)?;
-        Ok(Rob { layout, machine })
+        Ok(Rob {
+            layout,
+            machine,
+            loads: PhantomData,
+        })
     }
 
     /// One directive. NotEnabled comes exactly where the rules don't enable it; after either refusal the machine is as it was,
     /// and an Exec takes no memory.
-    pub fn step(&mut self, alloc: Global, d: Directive) -> Result<Observation, StepError>
+    pub fn step(&mut self, alloc: Global, d: Directive) -> Result<P::Sight, StepError>
         ensures same { self.new.program ≡ self.old.program }
-        ensures step { Steps W self.old.program d (shown self.old.machine) result (shown self.new.machine) }
+        ensures step { StepsBy P.rules W self.old.program d (shown self.old.machine) result (shown self.new.machine) }
     {
         match d {
             Directive::Fetch => self.fetch(),
@@ -66,34 +72,32 @@ impl<'p, const W: usize> Rob<'p, W> {
         }
     }
 
-    fn fetch(&mut self) -> Result<Observation, StepError>
+    fn fetch(&mut self) -> Result<P::Sight, StepError>
         ensures same { self.new.program ≡ self.old.program }
-        ensures step { Steps W self.old.program Fetch (shown self.old.machine) result (shown self.new.machine) }
+        ensures step { StepsBy P.rules W self.old.program Fetch (shown self.old.machine) result (shown self.new.machine) }
     {
-        self.machine.fetch(&self.layout, W)
+        told::<P>(self.machine.fetch(&self.layout, W))
     }
 
-    fn predict(&mut self, alloc: Global, predicted: bool) -> Result<Observation, StepError>
+    fn predict(&mut self, alloc: Global, predicted: bool) -> Result<P::Sight, StepError>
         ensures same { self.new.program ≡ self.old.program }
-        ensures step { Steps W self.old.program (Predict predicted) (shown self.old.machine) result (shown self.new.machine) }
+        ensures step { StepsBy P.rules W self.old.program (Predict predicted) (shown self.old.machine) result (shown self.new.machine) }
     {
-        self.machine.predict(alloc, &self.layout, W, predicted)
+        told::<P>(self.machine.predict(alloc, &self.layout, W, predicted))
     }
 
-    fn exec(&mut self, n: u32) -> Result<Observation, StepError>
+    fn exec(&mut self, n: u32) -> Result<P::Sight, StepError>
         ensures same { self.new.program ≡ self.old.program }
-        ensures step { Steps W self.old.program (Exec n) (shown self.old.machine) result (shown self.new.machine) }
+        ensures step { StepsBy P.rules W self.old.program (Exec n) (shown self.old.machine) result (shown self.new.machine) }
     {
-        self.machine
-            .exec(&self.layout, n as usize)
-            .ok_or(StepError::NotEnabled)
+        P::exec(&mut self.machine, &self.layout, n as usize)
     }
 
-    fn retire(&mut self, alloc: Global) -> Result<Observation, StepError>
+    fn retire(&mut self, alloc: Global) -> Result<P::Sight, StepError>
         ensures same { self.new.program ≡ self.old.program }
-        ensures step { Steps W self.old.program Retire (shown self.old.machine) result (shown self.new.machine) }
+        ensures step { StepsBy P.rules W self.old.program Retire (shown self.old.machine) result (shown self.new.machine) }
     {
-        self.machine.retire(alloc, &self.layout)
+        told::<P>(self.machine.retire(alloc, &self.layout))
     }
 
     /// How the machine has ended; None where it hasn't.
@@ -128,17 +132,17 @@ impl<'p, const W: usize> Rob<'p, W> {
     pub fn outcome(&self, alloc: Global) -> Result<Option<Run>, NoMemory>
         ensures { IfOk result (IsRunOf (outcome_in self.now.program (shown self.now.machine))) }
     {
-        self.machine.outcome(alloc, &self.layout)
+        P::outcome(&self.machine, alloc, &self.layout)
     }
 
     /// Whether a directive is enabled; takes no memory.
     pub fn enabled(&self, d: Directive) -> bool
-        ensures { result ≡ is_enabled W self.now.program (shown self.now.machine) d }
+        ensures { result ≡ is_enabled_by P.rules W self.now.program (shown self.now.machine) d }
     {
         match d {
             Directive::Fetch => self.machine.may_fetch(&self.layout, W),
             Directive::Predict(_) => self.machine.may_predict(&self.layout, W),
-            Directive::Exec(n) => self.machine.may_exec(&self.layout, n as usize),
+            Directive::Exec(n) => P::may_exec(&self.machine, &self.layout, n as usize),
             Directive::Retire => self.machine.may_retire(),
         }
     }

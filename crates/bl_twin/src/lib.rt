@@ -10,6 +10,6 @@ mod text;
 
 pub use agreement::agree;
 pub use comparison::Comparison;
-pub use runs::compare_runs;
+pub use runs::{compare_by, compare_runs};
 pub use sight::Sight;
 pub use text::{Compared, compare};

@@ -1,17 +1,15 @@
 use Rattle.std.proofs.Common.{◌∙◌, ap, sym}
 use Rattle.bl_rob.specs.CallResults.{is_some, shown}
-use Rattle.bl_rob.specs.declared.directive.Directive.TheVariants.{Exec}
-use Rattle.bl_forward.proofs.TurnLemmas.{fills_turn, plain_enabled, plain_turn, waits_turn}
-use Rattle.bl_forward.proofs.load.may_exec.Goals as goal
-use Rattle.bl_forward.proofs.load.may_exec.Goals.{in-Plain, in-Waits, in-Fills}
+use Rattle.bl_forward.proofs.TurnLemmas.{fills_turn, plain_enabled, waits_turn}
+use Rattle.bl_forward.proofs.load.ForwardLoads.may_exec.Goals as goal
+use Rattle.bl_forward.proofs.load.ForwardLoads.may_exec.Goals.{in-Plain, in-Waits, in-Fills}
 
 pub returns : goal.returns
 returns c = λ most.
     let program = c.args.layout.now.parts.now in
     let s = shown c.args.machine.now in
     elim c.match-turn_at.branch [
-      | in-Plain w ↦ plain_enabled most program s (Exec c.args.n) c.match-turn_at.result
-          (plain_turn most program s c.args.n (sym c.turn_at.ensures ∙ w.in-Plain.is)) (w.result-is ∙ w.may_exec.ensures most)
+      | in-Plain w ↦ plain_enabled most program s c.args.n c.match-turn_at.result (sym c.turn_at.ensures ∙ w.in-Plain.is) (w.result-is ∙ w.may_exec.ensures most)
       | in-Waits w ↦ w.result-is ∙ sym (ap is_some (waits_turn most program s c.args.n (sym c.turn_at.ensures ∙ w.in-Waits.is)))
       | in-Fills w ↦ w.result-is ∙ sym (ap is_some (fills_turn most program s c.args.n _ _ (sym c.turn_at.ensures ∙ w.in-Fills.is)).2)
     ]
