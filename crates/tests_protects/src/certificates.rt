@@ -231,28 +231,3 @@ fn of_a_paths_key_that_stands_twice_the_last_counts(rt: HostRuntime) -> Result<(
     );
     Ok(())
 }
-
-/// A text of so many arrays, one within the other.
-fn nested(alloc: Global, depth: usize) -> Result<Vec<u8>, NoMemory> {
-    let mut text = Vec::new(alloc);
-    for _ in 0..depth {
-        text.push(b'[')?;
-    }
-    for _ in 0..depth {
-        text.push(b']')?;
-    }
-    Ok(text)
-}
-
-/// Whether a text of so many arrays is answered with that error.
-fn nests(alloc: Global, depth: usize, error: CertError) -> Result<bool, NoMemory> {
-    let text = nested(alloc, depth)?;
-    Ok(matches!(&from_json(alloc, text.as_slice()), Err(other) if *other == error))
-}
-
-#[test]
-fn arrays_nest_127_deep_at_most(rt: HostRuntime) -> Result<(), Fail> {
-    assert!(rt; nests(rt.alloc(), 127, CertError::Shape)?);
-    assert!(rt; nests(rt.alloc(), 128, CertError::NotJson)?);
-    Ok(())
-}
