@@ -144,18 +144,18 @@ module _ {A B : Type 0} (first : Stage A B) (second : Stage B Built) (a : A) (b 
   unmade_behind (Err error.Memory) passed h = tt
 
 -- an image that is made is the one that was judged
-pub sized_again : (program other : Program) (image : List ℕ) (built : Built) → IsSized program (record { program = other; image = image }) → built.program ≡ other → Image built.program built.image
+pub sized_again : (program other : Program) (image : List ℕ) (built : Built) → IsSized program (record { program = other; image = image }) → built.program ≡ other → Image other built.image
     → IsSized program built
 sized_again program other image built p same made =
     let is = same ∙ p.is_program in
-    let own = subst (λ (q : Program). Image q built.image) is made in
+    let own = subst (λ (q : Program). Image q built.image) p.is_program made in
     record {
       is_program = is;
       image = own;
       short = subst (λ (bytes : List ℕ). length bytes ≤ limit_of quantity.Image) (one_image program image built.image p.image own) p.short;
     }
 
-pub compiled_again : (parts : List Part) (other : Program) (built : Built) → (without_image compiling).Passes parts other → built.program ≡ other → Image built.program built.image → compiling.Passes parts built
+pub compiled_again : (parts : List Part) (other : Program) (built : Built) → (without_image compiling).Passes parts other → built.program ≡ other → Image other built.image → compiling.Passes parts built
 compiled_again parts other built p same made =
     let made_of = p.1.2 in
     (p.1.0, p.1.1, (made_of.0, made_of.1, sized_again made_of.0 other p.0 built made_of.2 same made))
