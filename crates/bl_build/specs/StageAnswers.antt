@@ -6,6 +6,7 @@ use Rattle.bl_base.specs.declared.quantity.Quantity.TheVariants as quantity
 use Rattle.bl_base.specs.declared.start.Start.{Start}
 use Rattle.bl_cmd.specs.declared.definitions.ProgramParts.{ProgramParts as Program}
 use Rattle.bl_base.specs.declared.number.Pos.{Pos}
+use Rattle.bl_base.specs.declared.names.Role.{Role}
 use Rattle.bl_iface.specs.declared.choice.UnderError.{UnderError}
 use Rattle.bl_iface.specs.declared.choice.UnderError.TheVariants as under
 use Rattle.bl_iface.specs.declared.error.IfaceError.{IfaceError}
@@ -15,7 +16,6 @@ use Rattle.bl_iface.specs.declared.error.JoinError.TheVariants as join
 use Rattle.bl_iface.specs.declared.error.TargetsError.{TargetsError}
 use Rattle.bl_iface.specs.declared.error.TargetsError.TheVariants as targets
 use Rattle.bl_iface.specs.declared.iface.Iface.{Iface}
-use Rattle.bl_iface.specs.declared.iface.Role.{Role}
 use Rattle.bl_image.specs.declared.error.ImageError.{ImageError}
 use Rattle.bl_image.specs.declared.error.ImageError.TheVariants as image
 use Rattle.bl_decode.specs.declared.error.DecodeError.{DecodeError}

@@ -5,6 +5,7 @@ use Rattle.std.proofs.lemmas.Bool.{false≢true, ltb-true, ltb-false}
 use Rattle.bl_base.proofs.Lists.{all_get, within_get}
 use Rattle.bl_base.specs.declared.names.Flow.{Flow}
 use Rattle.bl_base.specs.declared.names.Flow.TheVariants.{Stable, Transient}
+use Rattle.bl_base.specs.declared.names.Role.TheVariants.{Client, Library}
 use Rattle.bl_cmd.specs.Layout.{first_of, statics, param, params_of, result, results_of, command_at}
 use Rattle.bl_cmd.specs.Programs.{IsProgram}
 use Rattle.bl_cmd.specs.Rules.{IsOwn, IsFunction, IsResult, IsWellFormed, Rule2}
@@ -21,7 +22,6 @@ use Rattle.bl_iface.specs.InterfaceFunctions.{IsMatched, Matches}
 use Rattle.bl_iface.specs.Roles.{FlowsAs, KeepsRole}
 use Rattle.bl_iface.specs.declared.iface.FnIface.{FnIface}
 use Rattle.bl_iface.specs.declared.iface.Iface.{Iface}
-use Rattle.bl_iface.specs.declared.iface.Role.TheVariants.{Client, Library}
 use Rattle.bl_iface.proofs.JoinedRules.{client_embeds, library_embeds}
 use Rattle.bl_iface.proofs.JoinedReads.{gone, params_alike, read_cases, result_by, results_alike, stands_for}
 use Rattle.bl_iface.proofs.ShiftedPart.{Shifted, moved_above, moved_cases, moved_own}

@@ -8,6 +8,8 @@ use Rattle.std.proofs.lemmas.Option.{slice_get_within}
 use Rattle.bl_base.proofs.BoolLemmas.{never_both}
 use Rattle.bl_base.specs.declared.names.Flow.{Flow}
 use Rattle.bl_base.specs.declared.names.Flow.TheVariants.{Stable, Transient}
+use Rattle.bl_base.specs.declared.names.Role.{Role}
+use Rattle.bl_base.specs.declared.names.Role.TheVariants.{Client, Library}
 use Rattle.bl_cmd.specs.Layout.{first_of, param, params_of, result, results_of}
 use Rattle.bl_cmd.specs.Rules.{IsOwn, Rule2, Rule3}
 use Rattle.bl_cmd.proofs.Layouts.{own_apart, result_own}
@@ -26,8 +28,6 @@ use Rattle.bl_transient.proofs.LeastTypings.{exact_flows, trans_least}
 use Rattle.bl_iface.specs.RoleTests.{asked, is_called, is_flow, params_called, results_called}
 use Rattle.bl_iface.specs.declared.iface.FnIface.{FnIface}
 use Rattle.bl_iface.specs.declared.iface.Iface.{Iface}
-use Rattle.bl_iface.specs.declared.iface.Role.{Role}
-use Rattle.bl_iface.specs.declared.iface.Role.TheVariants.{Client, Library}
 
 -- ---- tests of variables
 

@@ -2,6 +2,7 @@
 use Rattle.std.proofs.Common.{◌≡◌, ℕ, ◌<◌, Bool, sym, ap, ◌∙◌, subst}
 use Rattle.std.proofs.Math.Path.{fun_ext}
 use Rattle.std.specs.List.{All, Contains}
+use Rattle.bl_base.specs.declared.names.Role.{Role}
 use Rattle.bl_cmd.specs.Rules.{IsWellFormed}
 use Rattle.bl_cmd.specs.declared.definitions.ProgramParts.{ProgramParts as Program}
 use Rattle.bl_graph.specs.Ranges.{variables}
@@ -15,7 +16,6 @@ use Rattle.bl_iface.specs.InterfaceFunctions.{Matches}
 use Rattle.bl_iface.specs.Roles.{PassesAs}
 use Rattle.bl_iface.specs.RoleTests.{asked}
 use Rattle.bl_iface.specs.declared.iface.Iface.{Iface}
-use Rattle.bl_iface.specs.declared.iface.Role.{Role}
 use Rattle.bl_iface.proofs.RoleTestLemmas.{as_from_under, asked_apart, bad_fails, firm_small, hot_small, under_from_as}
 
 -- what asks for the same is the same
