@@ -4,10 +4,11 @@ use Rattle.std.specs.Prelude.{IsSomeAnd, if◌then◌else◌, not}
 use Rattle.std.proofs.lemmas.Bool.{false≢true}
 use Rattle.std.proofs.lemmas.Option.{none-some, same_Some, slice_get_within}
 use Rattle.bl_base.specs.declared.trap.Trap.{Trap as TrapKind}
+use Rattle.bl_ops.specs.OperatorTable.{is_division}
 use Rattle.bl_cmd.specs.Layout.{first_of, param, params_of, result, results_of, running, command_at, Holds}
 use Rattle.bl_cmd.specs.Programs.{IsProgram}
 use Rattle.bl_cmd.specs.Rules.{IsOwn, IsReadable, IsWellFormed, Rule4, Rule6, operands_of}
-use Rattle.bl_cmd.specs.Sites.{Among, Loads, is_division, moved_by, sunk_by, written_by}
+use Rattle.bl_cmd.specs.Sites.{Among, Loads, moved_by, sunk_by, written_by}
 use Rattle.bl_cmd.specs.declared.command.Command.{Command}
 use Rattle.bl_cmd.specs.declared.command.Command.TheVariants.{Set, Load, Store, Test, Arg, Out, Trap}
 use Rattle.bl_cmd.specs.declared.command.Operand.{Operand}
