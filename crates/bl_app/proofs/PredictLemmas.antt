@@ -12,6 +12,8 @@ use Rattle.bl_base.specs.Quantity.{limit_of}
 use Rattle.bl_base.specs.Runs.{Outcome, outcome_of, returned, trapped}
 use Rattle.bl_base.specs.declared.quantity.Quantity.TheVariants as quantity
 use Rattle.bl_base.specs.declared.start.Start.{Start}
+use Rattle.bl_text.proofs.LineTexts.{all_read, lines_counted}
+use Rattle.bl_text.specs.Lines.{lines_of}
 use Rattle.bl_cmd.specs.Outcomes.{Agree, IsStart, opening as plain_opening, plain}
 use Rattle.bl_cmd.specs.Programs.{IsProgram}
 use Rattle.bl_cmd.specs.Rules.{IsWellFormed}
@@ -36,9 +38,7 @@ use Rattle.bl_sct.specs.Verdicts.{Assesses}
 use Rattle.bl_sct.specs.declared.verdict.Verdict.{Verdict}
 use Rattle.bl_sct.specs.declared.verdict.Verdict.TheVariants.{Safe, NotConstantTime, NotStable}
 use Rattle.bl_trace.proofs.StartFits.{answered_fits}
-use Rattle.bl_trace.proofs.LineTexts.{all_read, lines_counted}
 use Rattle.bl_trace.proofs.WrittenTraces.{no_feeds, reads_back}
-use Rattle.bl_trace.specs.Lines.{lines_of}
 use Rattle.bl_trace.specs.Observations.{observation_text}
 use Rattle.bl_trace.specs.Traces.{IsWritten, directive_of, directive_text, trace_of, trace_text}
 use Rattle.bl_words.specs.Requests.{AreTurnsInRange, PredictRequest}

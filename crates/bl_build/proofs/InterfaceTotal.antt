@@ -12,6 +12,7 @@ use Rattle.bl_base.specs.Quantity.{limit_of}
 use Rattle.bl_base.specs.declared.quantity.Quantity.TheVariants as quantity
 use Rattle.bl_base.specs.declared.names.Role.{Role}
 use Rattle.bl_base.specs.declared.names.Role.TheVariants.{Client, Library}
+use Rattle.bl_text.specs.Lines.{lines_of}
 use Rattle.bl_cmd.specs.Rules.{IsWellFormed}
 use Rattle.bl_cmd.specs.Sites.{is_protected}
 use Rattle.bl_cmd.specs.declared.definitions.ProgramParts.{ProgramParts as Program}
@@ -34,7 +35,6 @@ use Rattle.bl_iface.proofs.AppendLemmas.{get_right, get_take}
 use Rattle.bl_iface.proofs.RoleTestLemmas.{as_from_under, asked_apart, none_passes}
 use Rattle.bl_iface.proofs.FileLines.{said_more}
 use Rattle.bl_iface.proofs.LeastChoice.{some_choice}
-use Rattle.bl_trace.specs.Lines.{lines_of}
 use Rattle.bl_build.specs.BuildStages.{AreCompilable, Built, compiling}
 use Rattle.bl_build.specs.EntryStages.{imaging}
 use Rattle.bl_build.specs.InterfaceStages.{IsGivenToSink, IsMatchable, IsParted, Parted, Side, bad_interface_line, choosing, given_sink, interfacing, matching, parting, reading, side_of, siding, unmatched_function}

@@ -1,15 +1,14 @@
 //! Count files.
 ghost use Rattle.std.specs.Prelude.{◌≡◌, ◌<◌, ◌++◌, ◌^◌, IfOk, IfSome};
 ghost use Rattle.std.specs.List.{All, flat_map};
+ghost use Rattle.bl_text.specs.Items.{items_of};
+ghost use Rattle.bl_text.specs.Lines.{lines_of};
 ghost use Rattle.bl_counts.specs.CountFiles.{IsCountFile, commands_of, count_file_of, counts_text, site_in, site_of, site_text, with_commands};
-ghost use Rattle.bl_trace.specs.Items.{items_of};
-ghost use Rattle.bl_trace.specs.Lines.{lines_of};
 
 use crate::counts::SiteCount;
 use crate::error::CountFileError;
 use bl_base::{List, NoMemory, Pos};
-use bl_text::read_decimal;
-use bl_trace::place_of;
+use bl_text::{place_of, read_decimal};
 use std::alloc::Global;
 
 /// What a count file says.

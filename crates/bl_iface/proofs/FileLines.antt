@@ -9,11 +9,11 @@ use Rattle.std.proofs.lemmas.List.Quantifiers.{all_pairs_push}
 use Rattle.std.proofs.lemmas.Option.{none-some, same_Some}
 use Rattle.std.specs.Prelude.{◌==◌, not, option_map}
 use Rattle.bl_base.specs.declared.names.Flow.{Flow}
+use Rattle.bl_text.specs.Lines.{lines_of}
+use Rattle.bl_text.proofs.LineSplits.{line_at}
 use Rattle.bl_iface.specs.Files.{IsFirstBadLine, Say, agreed, flow_before, flow_of, function_in, letters}
 use Rattle.bl_iface.specs.JoinedProgram.{is_named}
 use Rattle.bl_iface.specs.declared.iface.FnIface.{FnIface}
-use Rattle.bl_trace.specs.Lines.{lines_of}
-use Rattle.bl_trace.proofs.LineLemmas.{line_at}
 use Rattle.bl_iface.proofs.NameLemmas.{eq_itself}
 
 -- ---- where a list goes on

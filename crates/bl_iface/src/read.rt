@@ -1,12 +1,12 @@
 //! Interface files.
 ghost use Rattle.std.specs.Prelude.{◌≡◌, IfOk, MatchOption, None, Some};
+ghost use Rattle.bl_text.specs.Lines.{lines_of};
 ghost use Rattle.bl_iface.specs.Files.{IsIface, cut, flow_of, flows_of, function_of, letters, parts_of};
-ghost use Rattle.bl_trace.specs.Lines.{lines_of};
 
 use crate::error::IfaceError;
 use crate::iface::{FnIface, Iface};
 use bl_base::{Flow, List, NoMemory, Text};
-use bl_trace::place_of;
+use bl_text::place_of;
 use std::alloc::Global;
 use std::collections::BTreeSet;
 

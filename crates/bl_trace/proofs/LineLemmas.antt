@@ -1,15 +1,16 @@
 -- What lines say, line by line.
-use Rattle.std.proofs.Common.{◌≡◌, ℕ, ◌+◌, ◌-◌, ◌<◌, ◌==◌, List, [], ◌∷◌, ◌++◌, length, take, drop, Option, Some, None, Result, Ok, Err, sym, ap, ◌∙◌, arith, append_assoc, length-drop}
-use Rattle.std.proofs.lemmas.List.{length_push, take_rest, drop-drop}
-use Rattle.std.specs.List.{position_or_len, before_first, after_first}
+use Rattle.std.proofs.Common.{◌≡◌, ℕ, ◌+◌, ◌-◌, ◌<◌, ◌==◌, List, [], ◌∷◌, ◌++◌, length, take, drop, Option, Some, None, Result, Ok, Err, sym, ap, ◌∙◌, arith, append_assoc}
+use Rattle.std.proofs.lemmas.List.{length_push}
+use Rattle.std.specs.List.{position_or_len}
 use Rattle.bl_base.specs.declared.names.ValueType.{ValueType}
 use Rattle.bl_base.specs.declared.start.Start.{Start}
+use Rattle.bl_text.specs.Lines.{lines_of}
+use Rattle.bl_text.proofs.LineSplits.{line_at}
 use Rattle.bl_trace.specs.declared.entry.Entry.{Entry}
 use Rattle.bl_trace.specs.declared.entry.Entry.TheVariants.{Argument, Contents}
-use Rattle.bl_trace.specs.Lines.{lines_of, entry_of}
+use Rattle.bl_trace.specs.Lines.{entry_of}
 use Rattle.bl_trace.specs.StartFiles.{arguments_in, said_before, said}
 use Rattle.bl_trace.specs.PartialStarts.{entry_behind}
-use Rattle.bl_trace.proofs.LineSplits.{first_line}
 
 -- a start and what is said behind so many lines
 abbrev pub behind : ℕ → Start → Result Start ℕ → Result Start ℕ
@@ -51,28 +52,6 @@ bad : (params : List ValueType) (sizes : List ℕ) (number : ℕ) (start : Start
     behind number start (said params sizes (length start.args) (line ∷ lines)) ≡ Err (number + 1)
 bad params sizes number start line lines is =
     ap (λ found. behind number start (by_entry params sizes (length start.args) lines found)) (sym is)
-
--- the first line of bytes that aren't empty
-line_of_some : (bytes : List ℕ) → 0 < length bytes →
-    lines_of bytes ≡ before_first (λ b. b == 10) bytes ∷ lines_of (after_first (λ b. b == 10) bytes)
-line_of_some [] some = absurd (omega (arith, some))
-line_of_some (byte ∷ bytes) some = first_line byte bytes
-
--- the line from a place on, and the lines behind it
-pub line_at : (bytes : List ℕ) (at place : ℕ) → at < length bytes →
-    place ≡ position_or_len (λ b. b == 10) (take (length bytes - at) (drop at bytes)) →
-    lines_of (drop at bytes) ≡ take (at + place - at) (drop at bytes) ∷ lines_of (drop (at + place + 1) bytes)
-line_at bytes at place inside is =
-    let first = line_of_some (drop at bytes) (omega (arith, length-drop at bytes)) in
-    let here : position_or_len (λ b. b == 10) (drop at bytes) ≡ place =
-    ap (position_or_len (λ b. b == 10)) (sym (take_rest bytes at)) ∙ sym is in
-    let long : place ≡ at + place - at = omega arith in
-    let further : at + (place + 1) ≡ at + place + 1 = omega arith in
-    first
-    ∙ ap (λ (n : ℕ). take n (drop at bytes) ∷ lines_of (drop (n + 1) (drop at bytes))) here
-    ∙ ap (λ rest. take place (drop at bytes) ∷ lines_of rest) (drop-drop (place + 1) at bytes)
-    ∙ ap (λ (n : ℕ). take place (drop at bytes) ∷ lines_of (drop n bytes)) further
-    ∙ ap (λ (n : ℕ). take n (drop at bytes) ∷ lines_of (drop (at + place + 1) bytes)) long
 
 -- the line from a place on is bad
 pub bad_at : (params : List ValueType) (sizes bytes : List ℕ) (number : ℕ) (start : Start) (at place : ℕ) → at < length bytes →

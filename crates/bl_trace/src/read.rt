@@ -1,14 +1,15 @@
 //! A start file, read line by line.
 ghost use Rattle.std.specs.Prelude.{◌≡◌, IfOk, OnOk, slice_get};
 ghost use Rattle.bl_base.specs.Fits.{Fits};
+ghost use Rattle.bl_text.specs.Lines.{lines_of};
 ghost use Rattle.bl_trace.specs.StartFiles.{said, answer_of, IsAnswer};
-ghost use Rattle.bl_trace.specs.Lines.{lines_of};
 ghost use Rattle.bl_trace.specs.PartialStarts.{entry_behind, IsRead};
 
 use crate::entry::Entry;
 use crate::error::StartError;
-use crate::line::{place_of, read_line};
+use crate::line::read_line;
 use bl_base::{List, NoMemory, Start, ValueType};
+use bl_text::place_of;
 use std::alloc::Global;
 
 /// The type of a parameter, counted from 0; None beyond the last.

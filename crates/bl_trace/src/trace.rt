@@ -1,14 +1,13 @@
 //! A trace file, read line by line.
 ghost use Rattle.std.specs.Prelude.{◌≡◌, ◌++◌, ◌∷◌, [], IfOk, OnOk, codes, length};
 ghost use Rattle.std.specs.Fmt.{decimal};
-ghost use Rattle.bl_trace.specs.Lines.{lines_of};
+ghost use Rattle.bl_text.specs.Lines.{lines_of};
 ghost use Rattle.bl_trace.specs.Traces.{IsTrace, directive_of, directive_text, executed, trace_of, trace_text};
 
 use crate::error::TraceError;
-use crate::line::place_of;
 use bl_base::{List, NoMemory};
 use bl_rob::Directive;
-use bl_text::read_decimal;
+use bl_text::{place_of, read_decimal};
 use std::alloc::Global;
 
 /// The number of lines of a file: each ends with LF, which the last one may lack. Takes no memory.

@@ -1,8 +1,8 @@
 use Rattle.std.proofs.Common.{◌≡◌, ◌<◌, ◌+◌, ◌-◌, ◌^◌, take, drop, Some, None, rules, arith, ap, sym, subst, ◌∙◌}
 use Rattle.std.proofs.lemmas.List.Elements.{All-push}
 use Rattle.std.specs.List.{All}
+use Rattle.bl_text.proofs.ItemLemmas.{item_at, no_item_at}
 use Rattle.bl_counts.specs.CountFiles.{site_of, with_commands}
-use Rattle.bl_trace.proofs.ItemLemmas.{item_at, no_item_at}
 use Rattle.bl_counts.proofs.file.read_sites.Goals as goal
 
 pub returns-in_default-clause-file : goal.returns-in_default-clause-file

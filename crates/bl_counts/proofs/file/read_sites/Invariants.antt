@@ -1,9 +1,9 @@
 use Rattle.std.proofs.Common.{◌≡◌, ◌≤◌, ◌<◌, ◌+◌, ◌-◌, ◌^◌, length, drop}
 use Rattle.std.specs.List.{All}
+use Rattle.bl_text.specs.Items.{items_of}
+use Rattle.bl_text.specs.Lines.{lines_of}
+use Rattle.bl_text.proofs.ItemLemmas.{so_far}
 use Rattle.bl_counts.specs.CountFiles.{site_of}
-use Rattle.bl_trace.specs.Items.{items_of}
-use Rattle.bl_trace.specs.Lines.{lines_of}
-use Rattle.bl_trace.proofs.ItemLemmas.{so_far}
 use Rattle.bl_counts.proofs.file.read_sites.Given as goal
 
 -- the sites so far and those of the rest are the file's

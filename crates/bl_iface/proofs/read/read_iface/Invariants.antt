@@ -1,5 +1,5 @@
 use Rattle.std.proofs.Common.{◌≡◌, ◌≤◌, ◌+◌, ◌-◌, length, take, drop}
-use Rattle.bl_trace.specs.Lines.{lines_of}
+use Rattle.bl_text.specs.Lines.{lines_of}
 use Rattle.bl_iface.specs.Files.{Say}
 use Rattle.bl_iface.specs.Names.{AreNames}
 use Rattle.bl_iface.proofs.read.read_iface.Given as goal

@@ -1,6 +1,6 @@
 use Rattle.std.proofs.Common.{◌≡◌, ◌≤◌, ◌+◌, ◌-◌, length, drop}
+use Rattle.bl_text.specs.Lines.{lines_of}
 use Rattle.bl_trace.specs.StartFiles.{said}
-use Rattle.bl_trace.specs.Lines.{lines_of}
 use Rattle.bl_trace.proofs.LineLemmas.{behind}
 use Rattle.bl_trace.proofs.read.read_lines.Given as goal
 

@@ -1,5 +1,5 @@
 use Rattle.std.proofs.Common.{rules, arith}
-use Rattle.bl_trace.proofs.ItemLemmas.{one_line}
+use Rattle.bl_text.proofs.ItemLemmas.{one_line}
 use Rattle.bl_trace.proofs.trace.count_lines.Goals as goal
 
 pub loop-at-preserved : goal.loop-at-preserved

@@ -1,6 +1,6 @@
 use Rattle.std.proofs.Common.{◌≡◌, ◌+◌, ◌-◌, take, drop, None, Some, rules, arith, ◌∙◌}
+use Rattle.bl_text.proofs.ItemLemmas.{item_at, no_item_at}
 use Rattle.bl_trace.specs.Traces.{directive_of}
-use Rattle.bl_trace.proofs.ItemLemmas.{item_at, no_item_at}
 use Rattle.bl_trace.proofs.trace.read_trace.Goals as goal
 
 pub returns-in_default : goal.returns-in_default

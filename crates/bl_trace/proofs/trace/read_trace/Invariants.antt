@@ -1,8 +1,8 @@
 use Rattle.std.proofs.Common.{◌≡◌, ◌≤◌, ◌+◌, ◌-◌, length, drop}
-use Rattle.bl_trace.specs.Lines.{lines_of}
-use Rattle.bl_trace.specs.Items.{items_of}
+use Rattle.bl_text.specs.Lines.{lines_of}
+use Rattle.bl_text.specs.Items.{items_of}
+use Rattle.bl_text.proofs.ItemLemmas.{so_far}
 use Rattle.bl_trace.specs.Traces.{directive_of, trace_of}
-use Rattle.bl_trace.proofs.ItemLemmas.{so_far}
 use Rattle.bl_trace.proofs.trace.read_trace.Given as goal
 
 -- the directives so far and those of the rest are the file's

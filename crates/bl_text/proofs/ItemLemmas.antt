@@ -2,9 +2,9 @@
 use Rattle.std.proofs.Common.{◌≡◌, ◌↔◌, ℕ, ◌+◌, ◌-◌, ◌<◌, suc, List, [], ◌∷◌, ◌++◌, length, map, take, drop, Option, Some, None, Result, Ok, Err, refl, sym, ap, subst, ◌∙◌, arith, append_assoc}
 use Rattle.std.specs.Prelude.{◌==◌}
 use Rattle.std.specs.List.{position_or_len}
-use Rattle.bl_trace.specs.Items.{item_before, items_of, TellItems, all_say, bad_line}
-use Rattle.bl_trace.specs.Lines.{lines_of}
-use Rattle.bl_trace.proofs.LineLemmas.{line_at}
+use Rattle.bl_text.specs.Items.{item_before, items_of, TellItems, all_say, bad_line}
+use Rattle.bl_text.specs.Lines.{lines_of}
+use Rattle.bl_text.proofs.LineSplits.{line_at}
 
 -- one line more is counted
 pub one_line : (bytes : List ℕ) (at place : ℕ) → at < length bytes → place ≡ position_or_len (λ b. b == 10) (take (length bytes - at) (drop at bytes))

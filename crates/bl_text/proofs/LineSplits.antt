@@ -1,9 +1,9 @@
 -- Lines and words by the places at which they end.
-use Rattle.std.proofs.Common.{◌≡◌, ℕ, ◌+◌, ◌<◌, ◌≤◌, Bool, true, false, cond, not, List, [], ◌∷◌, length, take, drop, ◌-◌, suc, refl, sym, ap, subst, ◌∙◌, arith, ◌==◌}
-use Rattle.std.proofs.lemmas.List.{take_rest}
+use Rattle.std.proofs.Common.{◌≡◌, ℕ, ◌+◌, ◌<◌, ◌≤◌, Bool, true, false, cond, not, List, [], ◌∷◌, length, take, drop, ◌-◌, suc, refl, sym, ap, subst, ◌∙◌, arith, ◌==◌, length-drop}
+use Rattle.std.proofs.lemmas.List.{take_rest, drop-drop}
 use Rattle.std.proofs.lemmas.List.Splits.{slice_split_first}
 use Rattle.std.specs.List.{slice_split, onto_first, position_or_len, before_first, after_first}
-use Rattle.bl_trace.specs.Lines.{lines_of}
+use Rattle.bl_text.specs.Lines.{lines_of}
 
 -- where no element passes there is one part
 pub one_part : {X : Type 0} (p : X → Bool) (xs : List X) → length xs ≤ position_or_len p xs → slice_split p xs ≡ xs ∷ []
@@ -48,3 +48,25 @@ first_line byte (next ∷ bytes) =
       | true ↦ refl
       | false ↦ longer_line byte _ (next ∷ bytes) (first_line next bytes)
     ]
+
+-- the first line of bytes that aren't empty
+line_of_some : (bytes : List ℕ) → 0 < length bytes →
+    lines_of bytes ≡ before_first (λ b. b == 10) bytes ∷ lines_of (after_first (λ b. b == 10) bytes)
+line_of_some [] some = absurd (omega (arith, some))
+line_of_some (byte ∷ bytes) some = first_line byte bytes
+
+-- the line from a place on, and the lines behind it
+pub line_at : (bytes : List ℕ) (at place : ℕ) → at < length bytes →
+    place ≡ position_or_len (λ b. b == 10) (take (length bytes - at) (drop at bytes)) →
+    lines_of (drop at bytes) ≡ take (at + place - at) (drop at bytes) ∷ lines_of (drop (at + place + 1) bytes)
+line_at bytes at place inside is =
+    let first = line_of_some (drop at bytes) (omega (arith, length-drop at bytes)) in
+    let here : position_or_len (λ b. b == 10) (drop at bytes) ≡ place =
+    ap (position_or_len (λ b. b == 10)) (sym (take_rest bytes at)) ∙ sym is in
+    let long : place ≡ at + place - at = omega arith in
+    let further : at + (place + 1) ≡ at + place + 1 = omega arith in
+    first
+    ∙ ap (λ (n : ℕ). take n (drop at bytes) ∷ lines_of (drop (n + 1) (drop at bytes))) here
+    ∙ ap (λ rest. take place (drop at bytes) ∷ lines_of rest) (drop-drop (place + 1) at bytes)
+    ∙ ap (λ (n : ℕ). take place (drop at bytes) ∷ lines_of (drop n bytes)) further
+    ∙ ap (λ (n : ℕ). take n (drop at bytes) ∷ lines_of (drop (at + place + 1) bytes)) long
