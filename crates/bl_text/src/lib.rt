@@ -6,5 +6,5 @@ mod lines;
 mod names;
 
 pub use digits::read_decimal;
-pub use lines::place_of;
+pub use lines::{Lines, place_of};
 pub use names::module_name;

@@ -9,7 +9,7 @@ use crate::entry::Entry;
 use crate::error::StartError;
 use crate::line::read_line;
 use bl_base::{List, NoMemory, Start, ValueType};
-use bl_text::place_of;
+use bl_text::Lines;
 use std::alloc::Global;
 
 /// The type of a parameter, counted from 0; None beyond the last.
@@ -42,17 +42,14 @@ fn read_lines(
         args: List::new(alloc),
         patches: List::new(alloc),
     };
-    let mut at = 0;
     let mut number = 0u64;
-    while at < bytes.len() {
+    for line in Lines::of(bytes) {
         number += 1;
-        let end = at + place_of(&bytes[at..], b'\n');
         let kind = parameter(params, start.args.len());
-        let Some(entry) = read_line(alloc, &bytes[at..end], kind, sizes)? else {
+        let Some(entry) = read_line(alloc, line, kind, sizes)? else {
             return Err(StartError::Line(number));
         };
         add(&mut start, entry)?;
-        at = end + 1;
     }
     Ok(start)
 }
