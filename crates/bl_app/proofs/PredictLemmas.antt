@@ -30,8 +30,8 @@ use Rattle.bl_rob.specs.Observations.{IsConsistent, observed, reached}
 use Rattle.bl_rob.specs.declared.directive.Directive.{Directive}
 use Rattle.bl_rob.specs.declared.directive.Directive.TheVariants.{Fetch, Predict, Exec, Retire}
 use Rattle.bl_rob.proofs.BufferInvariant.{consistent}
+use Rattle.bl_rob.proofs.OtherGlobals.{with_globals, step_same, observed_same}
 use Rattle.bl_sct.proofs.EqualObservations.{equal}
-use Rattle.bl_sct.proofs.OtherGlobals.{with_globals, step_same, observed_same}
 use Rattle.bl_sct.proofs.OtherSecrets.{hides}
 use Rattle.bl_sct.specs.OtherSecrets.{IsOtherGlobal, HasOtherSecrets, HidesGlobals}
 use Rattle.bl_sct.specs.Verdicts.{Assesses}

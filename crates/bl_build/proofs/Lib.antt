@@ -1,7 +1,6 @@
 pub mod BuildLemmas
 pub mod CertificateLemmas
 pub mod Classical
-pub mod Constants
 pub mod EntryStageLemmas
 pub mod ExportedFunctions
 pub mod LeastLemmas
@@ -33,4 +32,3 @@ pub mod SpeculationLemmas
 pub mod TraceLemmas
 pub mod VerdictsTotal
 pub mod WeightLemmas
-pub mod ModuleWidths

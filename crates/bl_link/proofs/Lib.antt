@@ -21,3 +21,4 @@ pub mod SpelledParts
 pub mod QualifiedNames
 pub mod ReadElements
 pub mod TreeParts
+pub mod ModuleWidths

@@ -11,3 +11,4 @@ pub mod StepLemmas
 pub mod PlainTracks
 pub mod PolicyLemmas
 pub mod WorkedExamples
+pub mod OtherGlobals
