@@ -12,6 +12,7 @@ use Rattle.bl_base.specs.Quantity.{limit_of}
 use Rattle.bl_base.specs.Runs.{Outcome, outcome_of, returned, trapped}
 use Rattle.bl_base.specs.declared.quantity.Quantity.TheVariants as quantity
 use Rattle.bl_base.specs.declared.start.Start.{Start}
+use Rattle.bl_base.proofs.Classical.{either}
 use Rattle.bl_text.proofs.LineTexts.{all_read, lines_counted}
 use Rattle.bl_text.specs.Lines.{lines_of}
 use Rattle.bl_cmd.specs.Outcomes.{Agree, IsStart, opening as plain_opening, plain}
@@ -44,7 +45,6 @@ use Rattle.bl_trace.specs.Traces.{IsWritten, directive_of, directive_text, trace
 use Rattle.bl_words.specs.Requests.{AreTurnsInRange, PredictRequest}
 use Rattle.bl_build.specs.EntryStages.{Entered, Entry, Finds, IsImaged, Starts, entering, kinds_of, pages_of}
 use Rattle.bl_build.specs.TraceStages.{Speculated, Traced}
-use Rattle.bl_build.proofs.Classical.{either}
 use Rattle.bl_job.specs.Jobs.{Plan}
 use Rattle.bl_job.specs.Status.{kind_of}
 use Rattle.bl_job.proofs.StagedJobLemmas.{IsStagedCommand, one_done}

@@ -12,6 +12,7 @@ use Rattle.bl_base.specs.Quantity.{limit_of}
 use Rattle.bl_base.specs.declared.quantity.Quantity.TheVariants as quantity
 use Rattle.bl_base.specs.declared.names.Role.{Role}
 use Rattle.bl_base.specs.declared.names.Role.TheVariants.{Client, Library}
+use Rattle.bl_base.proofs.Classical.{all_or_first, some_first}
 use Rattle.bl_text.specs.Lines.{lines_of}
 use Rattle.bl_cmd.specs.Rules.{IsWellFormed}
 use Rattle.bl_cmd.specs.Sites.{is_protected}
@@ -45,7 +46,6 @@ use Rattle.bl_job.specs.Stages.{Anything, IsTotalStage, beside, chain}
 use Rattle.bl_lower.proofs.WellFormed.{rules}
 use Rattle.bl_job.proofs.StageLemmas.{beside_total, chain_total}
 use Rattle.bl_build.proofs.BuildLemmas.{builds_of, compiling_total, sizing_total}
-use Rattle.bl_build.proofs.Classical.{all_or_first, some_first}
 use Rattle.bl_build.proofs.ImagesTotal.{imaging_total}
 use Rattle.bl_build.proofs.JoinImages.{joined_image}
 use Rattle.bl_build.proofs.ProtectedImages.{protected_image}

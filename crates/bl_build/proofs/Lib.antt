@@ -1,6 +1,5 @@
 pub mod BuildLemmas
 pub mod CertificateLemmas
-pub mod Classical
 pub mod EntryStageLemmas
 pub mod ExportedFunctions
 pub mod LeastLemmas

@@ -11,6 +11,7 @@ use Rattle.bl_base.specs.declared.names.Flow.{Flow}
 use Rattle.bl_base.specs.declared.names.Flow.TheVariants.{Stable, Transient}
 use Rattle.bl_base.specs.declared.names.Label.{Label}
 use Rattle.bl_base.specs.declared.names.Label.TheVariants as label
+use Rattle.bl_base.proofs.Classical.{all_or_first, some_first}
 use Rattle.bl_cmd.specs.Programs.{IsProgram}
 use Rattle.bl_cmd.specs.Rules.{IsWellFormed}
 use Rattle.bl_cmd.specs.Sites.{SinkReads, is_protected}
@@ -39,7 +40,6 @@ use Rattle.bl_transient.proofs.LeastTypings.{is_trans, least_assigns, least_typi
 use Rattle.bl_witness.specs.Verdicts.{ArePaths, Breaks, BreaksPath, Checks, Fits, at_path, at_position, at_sums, no_amount, no_chain, not_once}
 use Rattle.bl_witness.specs.declared.verdict.CertVerdict.{CertVerdict}
 use Rattle.bl_witness.specs.declared.verdict.CertVerdict.TheVariants as cert
-use Rattle.bl_build.proofs.Classical.{all_or_first, some_first}
 
 -- ---- certificates
 

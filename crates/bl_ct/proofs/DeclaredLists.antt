@@ -7,6 +7,7 @@ use Rattle.bl_base.proofs.Lists.{all_get, within_get}
 use Rattle.bl_base.specs.declared.names.Label.{Label}
 use Rattle.bl_base.specs.declared.number.Var.{Var}
 use Rattle.bl_base.specs.declared.names.Label.TheVariants as label
+use Rattle.bl_base.proofs.Members.{in_map, from_map}
 use Rattle.bl_cmd.specs.Layout.{command_at, first_of, params_of, results_of, statics}
 use Rattle.bl_cmd.specs.Rules.{IsFunction, IsWellFormed}
 use Rattle.bl_cmd.specs.declared.command.Command.{Command}
@@ -22,7 +23,6 @@ use Rattle.bl_cmd.proofs.Layouts.{first_above, first_below, next_first, number_i
 use Rattle.bl_graph.specs.FirstVariables.{firsts_from}
 use Rattle.bl_graph.specs.Graphs.{use_of}
 use Rattle.bl_graph.proofs.FirstVariableLemmas.{firsts_at, firsts_length}
-use Rattle.bl_graph.proofs.Members.{in_map, from_map}
 use Rattle.bl_ct.specs.Facts.{AreFacts, DeclaresOne, Gathers, SomeAt, GlobalFits, ParamFits, FunctionFits, LoadFits, StoreFits}
 use Rattle.bl_ct.specs.declared.facts.Declared.{Declared}
 use Rattle.bl_ct.specs.declared.facts.SecretLoad.{SecretLoad}

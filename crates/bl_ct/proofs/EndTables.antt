@@ -7,6 +7,7 @@ use Rattle.std.proofs.lemmas.List.{get_or-set_same, get_or-set_other, get_or_pas
 use Rattle.std.proofs.lemmas.List.Elements.{Contains-push_cases, Contains-append_left, Contains-push}
 use Rattle.std.proofs.lemmas.Option.{same_Some}
 use Rattle.bl_base.proofs.Lists.{replicate_or}
+use Rattle.bl_base.proofs.Members.{none_in}
 use Rattle.bl_cmd.specs.declared.definitions.ProgramParts.{ProgramParts as Program}
 use Rattle.bl_graph.specs.Graphs.{use_of, IsGraph}
 use Rattle.bl_graph.specs.Names.{place_of}
@@ -18,7 +19,6 @@ use Rattle.bl_ct.specs.Facts.{AreFacts}
 use Rattle.bl_ct.specs.declared.facts.Facts.{Facts}
 use Rattle.bl_graph.specs.Arcs.{is_in}
 use Rattle.bl_ct.specs.SecretSearch.{entry_of, mark_of, IsTable, IsNoted, AreEnds, MarksWriters, KeptAt}
-use Rattle.bl_graph.proofs.Members.{none_in}
 use Rattle.bl_ct.proofs.NameTables.{at_name, at_others}
 
 pub note_none : (names : List ℕ) (ends : List (Option ℕ)) → IsNoted names [] ends ends

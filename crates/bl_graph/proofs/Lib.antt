@@ -2,7 +2,6 @@ pub mod ChainLemmas
 pub mod PathCounts
 pub mod FirstVariableLemmas
 pub mod SiteFlows
-pub mod Members
 pub mod NameLemmas
 pub mod GraphPasses
 pub mod RangeLemmas

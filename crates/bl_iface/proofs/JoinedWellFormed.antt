@@ -10,6 +10,7 @@ use Rattle.bl_base.specs.Fits.{ArgumentFits}
 use Rattle.bl_base.specs.Quantity.{limit_of}
 use Rattle.bl_base.specs.declared.quantity.Quantity.TheVariants as quantity
 use Rattle.bl_base.specs.declared.names.Label.TheVariants.{Public}
+use Rattle.bl_base.proofs.PairwiseLemmas.{Unlike, apart_from_pairs, cross, pairs_append, pairs_from_apart, pairs_map, passes, some_within}
 use Rattle.bl_ops.specs.declared.op.Op.{Op}
 use Rattle.bl_cmd.specs.Layout.{first_of, entry_of, results_of}
 use Rattle.bl_cmd.specs.Programs.{ArePadded, IsCommand, IsProgram}
@@ -29,7 +30,6 @@ use Rattle.bl_iface.specs.JoinedProgram.{CanJoin, reserve_of, Renaming, client_n
 use Rattle.bl_iface.specs.declared.iface.Iface.{Iface}
 use Rattle.bl_iface.specs.declared.limits.Sum.{Sum}
 use Rattle.bl_iface.proofs.AppendLemmas.{get_left, get_right, sum_right}
-use Rattle.bl_iface.proofs.PairwiseLemmas.{Unlike, apart_from_pairs, cross, pairs_append, pairs_from_apart, pairs_map, passes, some_within}
 use Rattle.bl_iface.proofs.ShiftedPart.{moved_above, results_same}
 use Rattle.bl_iface.proofs.JoinedWeights.{client_weight, library_weight, site_behind, weights_both}
 use Rattle.bl_iface.proofs.JoinedRules.{keeps}

@@ -15,7 +15,6 @@ pub mod MovableLemmas
 pub mod NameLemmas
 pub mod NumbersLemmas
 pub mod OneAnswer
-pub mod PairwiseLemmas
 pub mod JoinedReads
 pub mod ShiftedPart
 pub mod SideLemmas

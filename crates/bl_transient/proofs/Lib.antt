@@ -7,5 +7,4 @@ pub mod TransientTypings
 pub mod SearchMarks
 pub mod ChainsMet
 pub mod NamedSearch
-pub mod PositionSets
 pub mod LeastTypings
