@@ -12,3 +12,4 @@ pub mod AscendingLists
 pub mod PositionSets
 pub mod PairwiseLemmas
 pub mod Classical
+pub mod Decisions

@@ -17,6 +17,7 @@ use Rattle.bl_text.specs.Lines.{lines_of}
 use Rattle.bl_cmd.specs.Rules.{IsWellFormed}
 use Rattle.bl_cmd.specs.Sites.{is_protected}
 use Rattle.bl_cmd.specs.declared.definitions.ProgramParts.{ProgramParts as Program}
+use Rattle.bl_cmd.proofs.AppendLemmas.{get_right, get_take}
 use Rattle.bl_graph.specs.Ranges.{AreInRange}
 use Rattle.bl_graph.proofs.RangeLemmas.{in_range}
 use Rattle.bl_transient.specs.Verdicts.{IsBad, IsFirstBad}
@@ -32,7 +33,6 @@ use Rattle.bl_iface.specs.Roles.{PassesAs}
 use Rattle.bl_iface.specs.RoleTests.{IsGiven, asked}
 use Rattle.bl_iface.specs.declared.iface.FnIface.{FnIface}
 use Rattle.bl_iface.specs.declared.iface.Iface.{Iface}
-use Rattle.bl_iface.proofs.AppendLemmas.{get_right, get_take}
 use Rattle.bl_iface.proofs.RoleTestLemmas.{as_from_under, asked_apart, none_passes}
 use Rattle.bl_iface.proofs.FileLines.{said_more}
 use Rattle.bl_iface.proofs.LeastChoice.{some_choice}

@@ -5,7 +5,6 @@ pub mod ExportedFunctions
 pub mod LeastLemmas
 pub mod HardenExists
 pub mod HardenedFiles
-pub mod ImageWidths
 pub mod ImagesExist
 pub mod ImagesTotal
 pub mod InterfaceLemmas

@@ -20,7 +20,6 @@ use Rattle.bl_ct.specs.Verdicts.{FindsChain, IsLeastLabelling, Judges as JudgesL
 use Rattle.bl_ct.specs.declared.verdict.CtVerdict.{CtVerdict}
 use Rattle.bl_ct.specs.declared.verdict.CtVerdict.TheVariants as ct
 use Rattle.bl_ct.proofs.SecretTest.{is_tested, labelling}
-use Rattle.bl_ct.proofs.ChainExclusion.{chain_not, least}
 use Rattle.bl_ct.proofs.LabellingOrChain.{assigns, labelling_or_chain}
 use Rattle.bl_ct.proofs.KnownRanges.{secrets_in_range}
 use Rattle.bl_graph.specs.Certificates.{IsFlowPath, flow_through}
@@ -30,6 +29,7 @@ use Rattle.bl_graph.specs.declared.certificate.Certificate.{Certificate}
 use Rattle.bl_graph.specs.declared.certificate.FlowPath.{FlowPath}
 use Rattle.bl_graph.specs.declared.secret.SecretChain.{SecretChain}
 use Rattle.bl_graph.proofs.RangeLemmas.{in_range}
+use Rattle.bl_graph.proofs.ChainExclusion.{chain_not, least}
 use Rattle.bl_transient.specs.Transient.{Assigns, Passes, Trans, nothing}
 use Rattle.bl_transient.specs.Verdicts.{IsFirstLeak, IsLeastTyping, Judges as JudgesFlow, typing_of}
 use Rattle.bl_report.specs.Verdicts.{leak_in}

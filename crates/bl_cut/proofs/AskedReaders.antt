@@ -14,7 +14,7 @@ use Rattle.bl_graph.specs.Names.{place_of}
 use Rattle.bl_graph.specs.declared.facts.Graph.{Graph}
 use Rattle.bl_graph.specs.declared.facts.Use.{Use}
 use Rattle.bl_graph.proofs.NameLemmas.{Rise}
-use Rattle.bl_transient.proofs.AskedLists.{Marks, number_back, number_of}
+use Rattle.bl_graph.proofs.AskedLists.{Marks, number_back, number_of}
 use Rattle.bl_cut.specs.Network.{AreReaders, Begins, ReadsOne, var_node}
 
 module _ (old vars : List ℕ) where

@@ -18,9 +18,9 @@ use Rattle.bl_graph.specs.declared.facts.Graph.{Graph}
 use Rattle.bl_graph.proofs.ChainLemmas.{all_from}
 use Rattle.bl_graph.proofs.NameLemmas.{few_names, place_within}
 use Rattle.bl_graph.proofs.RangeLemmas.{site_writes}
+use Rattle.bl_graph.proofs.AskedLists.{asked_in, in_asked}
 use Rattle.bl_transient.specs.Transient.{Asked}
 use Rattle.bl_transient.specs.Verdicts.{asked_of}
-use Rattle.bl_transient.proofs.AskedLists.{asked_in, in_asked}
 use Rattle.bl_cut.specs.Network.{node_of, ArcKind, write, read, IsBarred, IsEndUnder, IsAskedNode, IsFirstSite, IsNetworkUnder, Begins, write_arc, read_arc, sink_node, var_node, noted}
 
 module _ (program : Program) (g : Graph) (lists : IsGraph program g) (names : List ℕ) (are : AreNames program names) where

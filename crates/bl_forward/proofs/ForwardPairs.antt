@@ -32,6 +32,7 @@ use Rattle.bl_sct.proofs.LockstepLemmas.{Twins}
 use Rattle.bl_sct.proofs.EqualObservations.{equal_by}
 use Rattle.bl_sct.proofs.OtherSecrets.{hides_by}
 use Rattle.bl_sct.specs.OtherSecrets.{HidesGlobalsBy}
+use Rattle.bl_sct.proofs.Loads.{opened_by}
 use Rattle.bl_forward.specs.declared.find.Found.{Found}
 use Rattle.bl_forward.specs.declared.find.Found.TheVariants.{Memory, Stored, Blocked}
 use Rattle.bl_forward.specs.ForwardMachines.{meets, supplied, found_from, found_in, turned_by, turned_from, turned, plainly, stepped, exec_work, exec_at, forward_step, HasEqualForwarding}
@@ -40,7 +41,6 @@ use Rattle.bl_forward.specs.declared.load.Turn.TheVariants as turn
 use Rattle.bl_forward.specs.declared.seen.Seen.{Seen}
 use Rattle.bl_forward.specs.declared.seen.Seen.TheVariants.{Plain as Shown, Forward}
 use Rattle.bl_forward.proofs.ForwardInvariant.{forward_ok}
-use Rattle.bl_forward.proofs.Loads.{opened_by}
 
 -- ---- entries that differ in values alone forward alike
 

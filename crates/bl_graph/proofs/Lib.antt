@@ -9,8 +9,10 @@ pub mod ProtectPaths
 pub mod ArcRows
 pub mod UseRows
 pub mod WrittenTables
-pub mod VariableSums
 pub mod RisingLists
 pub mod Closures
 pub mod CommandLists
-pub mod Decisions
+pub mod AskedLists
+pub mod FedSites
+pub mod VariableSinks
+pub mod ChainExclusion

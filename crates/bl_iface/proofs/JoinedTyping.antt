@@ -15,6 +15,7 @@ use Rattle.bl_cmd.specs.declared.command.Mark.{Mark}
 use Rattle.bl_cmd.specs.declared.definitions.ProgramParts.{ProgramParts as Program}
 use Rattle.bl_cmd.specs.declared.definitions.FunctionDef.{FunctionDef}
 use Rattle.bl_cmd.proofs.Layouts.{next_first, number_is, result_own}
+use Rattle.bl_cmd.proofs.VariableBounds.{own_small, readable_small}
 use Rattle.bl_transient.specs.Transient.{Flows}
 use Rattle.bl_iface.specs.JoinedProgram.{CanJoin, Renaming, client_numbers, client_shift, exported, goes, joined, library_numbers, library_shift, moved_var, owner}
 use Rattle.bl_iface.specs.declared.shift.Shift.{Shift}
@@ -27,7 +28,6 @@ use Rattle.bl_iface.proofs.JoinedReads.{gone, params_alike, read_cases, result_b
 use Rattle.bl_iface.proofs.ShiftedPart.{Shifted, moved_above, moved_cases, moved_own}
 use Rattle.bl_iface.proofs.PartPlaces.{client_stands, command_of, library_stands}
 use Rattle.bl_iface.proofs.PartTyping.{AtSite, Typed, flows_from, from_part, known, trap_keeps}
-use Rattle.bl_iface.proofs.VariableBounds.{own_small, readable_small}
 use Rattle.bl_iface.proofs.JoinedWeights.{client_mark, library_mark}
 
 -- ---- the typing of the joined program

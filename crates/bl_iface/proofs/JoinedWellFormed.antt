@@ -26,10 +26,10 @@ use Rattle.bl_cmd.specs.declared.definitions.GlobalDef.{GlobalDef}
 use Rattle.bl_cmd.specs.declared.definitions.MemoryDef.{MemoryDef}
 use Rattle.bl_cmd.specs.declared.definitions.SiteWeight.{SiteWeight}
 use Rattle.bl_cmd.specs.declared.definitions.ProgramParts.{ProgramParts as Program}
+use Rattle.bl_cmd.proofs.AppendLemmas.{get_left, get_right, sum_right}
 use Rattle.bl_iface.specs.JoinedProgram.{CanJoin, reserve_of, Renaming, client_numbers, is_result, joined, kept, library_numbers, library_shift, moved_demand, moved_position, pos_by, operand_by, renamed}
 use Rattle.bl_iface.specs.declared.iface.Iface.{Iface}
 use Rattle.bl_iface.specs.declared.limits.Sum.{Sum}
-use Rattle.bl_iface.proofs.AppendLemmas.{get_left, get_right, sum_right}
 use Rattle.bl_iface.proofs.ShiftedPart.{moved_above, results_same}
 use Rattle.bl_iface.proofs.JoinedWeights.{client_weight, library_weight, site_behind, weights_both}
 use Rattle.bl_iface.proofs.JoinedRules.{keeps}

@@ -14,11 +14,11 @@ use Rattle.bl_cmd.specs.declared.command.Command.TheVariants.{Set, Load, Store, 
 use Rattle.bl_cmd.specs.declared.command.Operand.{Operand}
 use Rattle.bl_cmd.specs.declared.definitions.ProgramParts.{ProgramParts as Program}
 use Rattle.bl_cmd.proofs.Layouts.{held_by, result_own, running_is}
+use Rattle.bl_cmd.proofs.VariableBounds.{own_small, writable_small}
 use Rattle.bl_transient.specs.Transient.{Flows}
 use Rattle.bl_iface.specs.JoinedProgram.{Renaming, moved_var, operand_by, renamed}
 use Rattle.bl_iface.specs.declared.shift.Shift.{Shift}
 use Rattle.bl_iface.proofs.EmbedLemmas.{Embeds, among_renamed}
-use Rattle.bl_iface.proofs.VariableBounds.{own_small, writable_small}
 use Rattle.bl_iface.proofs.ShiftedPart.{IsFrom, Shifted, moved_own, result_moved}
 
 -- a typing of the part agrees with one of the whole: what is transient where it is read was so, and what was so where it is written is

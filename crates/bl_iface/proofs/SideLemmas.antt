@@ -7,10 +7,10 @@ use Rattle.bl_cmd.specs.Rules.{IsWellFormed}
 use Rattle.bl_cmd.specs.declared.definitions.ProgramParts.{ProgramParts as Program}
 use Rattle.bl_graph.specs.Ranges.{variables}
 use Rattle.bl_graph.proofs.ChainLemmas.{all_from}
+use Rattle.bl_graph.proofs.AskedLists.{in_asked}
 use Rattle.bl_transient.specs.Transient.{Asked, PassesUnder}
 use Rattle.bl_transient.specs.Verdicts.{IsFirstBad, asked_of}
 use Rattle.bl_transient.specs.declared.asked.AskedOf.{AskedOf}
-use Rattle.bl_transient.proofs.AskedLists.{in_asked}
 use Rattle.bl_iface.specs.RoleLists.{AreAsked}
 use Rattle.bl_iface.specs.InterfaceFunctions.{Matches}
 use Rattle.bl_iface.specs.Roles.{PassesAs}

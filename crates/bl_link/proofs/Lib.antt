@@ -10,7 +10,6 @@ pub mod NumberedLists
 pub mod PartSteps
 pub mod PartDefinitions
 pub mod SegmentLemmas
-pub mod SpelledGlobals
 pub mod LinkedTrees
 pub mod WorkedLinks
 pub mod AddedNames

@@ -1,5 +1,4 @@
 pub mod InitialMachine
-pub mod Entries
 pub mod BufferInvariant
 pub mod Masks
 pub mod ObservationLemmas

@@ -1,8 +1,6 @@
-pub mod AskedLists
 pub mod BarredUses
 pub mod FirstSinks
 pub mod UnprotectedWrites
-pub mod OwnProtects
 pub mod TransientTypings
 pub mod SearchMarks
 pub mod ChainsMet
