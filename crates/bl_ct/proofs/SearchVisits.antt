@@ -46,9 +46,6 @@ visits_all names fits asks marks queue there = record {
   counts = refl;
 }
 
-pub visits_none : {A : Type 0} (names : List ℕ) (fits : A → Step → Type 0) (asks : A → ℕ → Type 0) (marks : List Bool) (queue : List Step) → Visits names (Some_fits [] fits) (Some_asks [] asks) marks marks queue queue
-visits_none names fits asks marks queue = visits_all names (Some_fits [] fits) (Some_asks [] asks) marks queue (λ v h. absurd (none_in h.0 h.1))
-
 -- what one more element asks for is visited
 pub visits_push : {A : Type 0} (names : List ℕ) (fits : A → Step → Type 0) (asks : A → ℕ → Type 0) (xs : List A) (x : A) (a b c : List Bool) (p q r : List Step)
     → Visits names (Some_fits xs fits) (Some_asks xs asks) a b p q → Visits names (fits x) (asks x) b c q r → Visits names (Some_fits (xs ++ x ∷ []) fits) (Some_asks (xs ++ x ∷ []) asks) a c p r
